@@ -1,0 +1,29 @@
+-- Matchers and what they say of a label set. (Alertmanager configuration reference, "Label matchers".)
+use Rattle.std.specs.Prelude.{ℕ, List, Bool, not}
+use Rattle.std.specs.List.{list_all}
+use Rattle.am_labels.specs.declared.op.Op.{Op}
+use Rattle.am_labels.specs.declared.op.Op.TheVariants.{Equal, NotEqual}
+use Rattle.am_labels.specs.Text.{same_text}
+use Rattle.am_labels.specs.LabelSet.{LabelMap, value_of}
+
+-- what a matcher states: of the value of a label, by an operator
+pub record Condition : Type 0 where
+  pub name : List ℕ
+  pub op : Op
+  pub value : List ℕ
+
+abbrev pub max_matchers : ℕ
+max_matchers = 64
+
+-- the truth of an operator and its value on a text
+abbrev pub holds : Op → List ℕ → List ℕ → Bool
+holds Equal value text = same_text text value
+holds NotEqual value text = not (same_text text value)
+
+-- the truth of a matcher on a label set: on the value of its label, the empty text where that is missing
+abbrev pub condition_holds : LabelMap → Condition → Bool
+condition_holds s m = holds m.op m.value (value_of s m.name)
+
+-- The truth of a list: each matcher is true. The empty list is true of every set.
+abbrev pub all_hold : LabelMap → List Condition → Bool
+all_hold s ms = list_all (condition_holds s) ms

@@ -1,0 +1,21 @@
+-- How a label set is written: `{`, then `name="value"` for each label that has a value, joined by `,` in declared order, then `}`.
+-- (The notation of Prometheus for label sets.)
+use Rattle.std.specs.Prelude.{ℕ, List, ◌++◌, map, codes}
+use Rattle.std.specs.List.{join_with_byte}
+use Rattle.am_labels.specs.Text.{quoted}
+use Rattle.am_labels.specs.Universe.{Label}
+use Rattle.am_labels.specs.LabelSet.{pairs_of}
+
+abbrev pub pair_text : List ℕ × List ℕ → List ℕ
+pair_text pair = pair.0 ++ codes "=" ++ quoted pair.1
+
+abbrev pub pairs_text : List (List ℕ × List ℕ) → List ℕ
+pairs_text pairs = codes "{" ++ join_with_byte 44 (map pair_text pairs) ++ codes "}"
+
+-- the set of a choice
+abbrev pub set_text : List Label → List ℕ → List ℕ
+set_text u c = pairs_text (pairs_of u c)
+
+-- its line
+abbrev pub line : List Label → List ℕ → List ℕ
+line u c = set_text u c ++ codes "\n"
