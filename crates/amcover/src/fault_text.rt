@@ -1,0 +1,78 @@
+ghost use Rattle.std.specs.Prelude.{◌≡◌, string_bytes};
+ghost use Rattle.am_labels.specs.Sink.{Writes};
+ghost use Rattle.amcover.specs.FaultText.{place_text, fault_text, where_part, pointer_part, status_of};
+
+use am_labels::{Fault, Kind, Place, Sink, put_all};
+
+/// Writes the line for a fault, as `amcover: universe: /labels/0/name: shape`.
+///
+/// The only `Err` is `Kind::Write`. No memory is taken.
+pub fn write_fault<W: Sink>(fault: &Fault, out: &mut W) -> Result<(), Kind>
+    ensures { Writes (W.taken out.old) (W.taken out.new) (W.failures out.old) (W.failures out.new)
+        (fault_text fault.now.kind fault.now.place (string_bytes fault.now.pointer)) result }
+{
+    put_all(out, b"amcover: ")?;
+    write_where(fault, out)?;
+    put_all(out, fault.kind.text().as_bytes())?;
+    put_all(out, b"\n")
+}
+
+/// Writes where a fault stands, and nothing for a fault of writing or of memory.
+fn write_where<W: Sink>(fault: &Fault, out: &mut W) -> Result<(), Kind>
+    ensures { Writes (W.taken out.old) (W.taken out.new) (W.failures out.old) (W.failures out.new)
+        (where_part fault.now.kind fault.now.place (string_bytes fault.now.pointer)) result }
+{
+    match fault.kind {
+        Kind::Write | Kind::Memory => Ok(()),
+        _ => {
+            put_all(out, name_of(fault.place).as_bytes())?;
+            put_all(out, b": ")?;
+            write_pointer(fault.pointer.as_str(), out)
+        }
+    }
+}
+
+fn write_pointer<W: Sink>(pointer: &str, out: &mut W) -> Result<(), Kind>
+    ensures { Writes (W.taken out.old) (W.taken out.new) (W.failures out.old) (W.failures out.new) (pointer_part pointer.now) result }
+{
+    if pointer.is_empty() {
+        return Ok(());
+    }
+    for byte in pointer.as_bytes() {
+        match byte {
+            b'\\' => put_all(out, b"\\\\")?,
+            b'\n' => put_all(out, b"\\n")?,
+            _ => put_all(out, &[*byte])?,
+        }
+    }
+    put_all(out, b": ")
+}
+
+fn name_of(place: Place) -> &'static str
+    ensures { result.now ≡ place_text place }
+{
+    match place {
+        Place::Universe => "universe",
+        Place::Config => "config",
+        Place::Silences => "silences",
+        Place::Alerts => "alerts",
+        Place::Instant => "instant",
+        Place::Question => "question",
+        Place::Set => "set",
+        Place::Token => "token",
+        Place::Output => "output",
+        Place::Memory => "memory",
+    }
+}
+
+/// The exit status of the program after a fault: 4 where writing failed, 3 where memory was refused,
+/// 1 where input was refused.
+pub fn status(fault: &Fault) -> u8
+    ensures { result ≡ status_of fault.now.kind }
+{
+    match fault.kind {
+        Kind::Write => 4,
+        Kind::Memory => 3,
+        _ => 1,
+    }
+}
