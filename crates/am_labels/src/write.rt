@@ -10,12 +10,11 @@ use crate::{Choice, Kind, Sink, Universe};
 /// Writes the bytes, all of them, unless a take fails: then the answer is `Kind::Write`, the bytes before
 /// it have gone out, and it is not tried again.
 pub fn put_all<W: Sink>(out: &mut W, bytes: &[u8]) -> Result<(), Kind>
-    ensures { Writes (W.taken out.old) (W.taken out.new) (W.failures out.old) (W.failures out.new) bytes.now result }
+    ensures { Writes W.taken W.failures out.old out.new bytes.now result }
 {
-    let mut rest = bytes;
-    while !rest.is_empty() {
-        let count = out.take(rest)?;
-        rest = &rest[count..];
+    let mut done = 0;
+    while done < bytes.len() {
+        done += out.take(&bytes[done..])?;
     }
     Ok(())
 }
@@ -32,7 +31,7 @@ fn escape_of(byte: u8) -> Option<&'static [u8]> {
 
 /// Writes a text between quotes, with `\` as `\\`, `"` as `\"` and a line feed as `\n`.
 pub fn write_text<W: Sink>(text: &str, out: &mut W) -> Result<(), Kind>
-    ensures { Writes (W.taken out.old) (W.taken out.new) (W.failures out.old) (W.failures out.new) (quoted text.now) result }
+    ensures { Writes W.taken W.failures out.old out.new (quoted text.now) result }
 {
     put_all(out, b"\"")?;
     write_escaped(out, text.as_bytes())?;
@@ -54,7 +53,7 @@ fn write_escaped<W: Sink>(out: &mut W, bytes: &[u8]) -> Result<(), Kind> {
 /// Writes the set of a whole choice, as `{team="db",severity="critical"}`: the labels that have a text, in declared order.
 pub fn write_set<W: Sink>(universe: &Universe, choice: &Choice, out: &mut W) -> Result<(), Kind>
     requires { IsWhole (sizes universe.now) choice.now }
-    ensures { Writes (W.taken out.old) (W.taken out.new) (W.failures out.old) (W.failures out.new) (set_text universe.now choice.now) result }
+    ensures { Writes W.taken W.failures out.old out.new (set_text universe.now choice.now) result }
 {
     put_all(out, b"{")?;
     let mut is_first = true;
