@@ -1,4 +1,5 @@
-ghost use Rattle.std.specs.Prelude.{◌≡◌, ℕ, List};
+ghost use Rattle.std.specs.Prelude.{◌≡◌, [], ◌∷◌, IfSome, IfNone};
+ghost use Rattle.std.specs.List.{flat_map};
 ghost use Rattle.am_labels.specs.Universe.{sizes};
 ghost use Rattle.am_labels.specs.Choice.{IsWhole};
 ghost use Rattle.am_labels.specs.Text.{quoted, escaped};
@@ -20,7 +21,10 @@ pub fn put_all<W: Sink>(out: &mut W, bytes: &[u8]) -> Result<(), Kind>
 }
 
 /// How a byte is written between quotes, where it does not stand for itself.
-fn escape_of(byte: u8) -> Option<&'static [u8]> {
+fn escape_of(byte: u8) -> Option<&'static [u8]>
+    ensures some { IfSome result (λ escape. escape.now ≡ escaped byte) }
+    ensures none { IfNone result (escaped byte ≡ byte ∷ []) }
+{
     match byte {
         b'\\' => Some(b"\\\\"),
         b'"' => Some(b"\\\""),
@@ -38,7 +42,10 @@ pub fn write_text<W: Sink>(text: &str, out: &mut W) -> Result<(), Kind>
     put_all(out, b"\"")
 }
 
-fn write_escaped<W: Sink>(out: &mut W, bytes: &[u8]) -> Result<(), Kind> {
+/// Writes the bytes, each as it stands between quotes.
+fn write_escaped<W: Sink>(out: &mut W, bytes: &[u8]) -> Result<(), Kind>
+    ensures { Writes W.taken W.failures out.old out.new (flat_map escaped bytes.now) result }
+{
     let mut start = 0;
     for (i, byte) in bytes.iter().enumerate() {
         if let Some(escape) = escape_of(*byte) {
