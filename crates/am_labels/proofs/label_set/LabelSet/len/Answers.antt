@@ -1,14 +1,12 @@
-use Rattle.std.proofs.Common.{rules, ◌≡◌, ◌==◌, OnOk, OnErr, IfOk, string_bytes, ℕ, ◌+◌, ◌-◌, ◌*◌, ◌<◌, ◌≤◌, length, ◌/◌, ◌%◌, Bool, true, false, nat_eq, nat_lt, List, [], ◌∷◌, ◌++◌, slice_index_or, slice_set, bit_and, bit_or, Fits, w8, w32, w64, Bor, MutBor}
+-- The keys in memory are distinct, so there is a label for each entry.
+use Rattle.std.proofs.Common.{ap, sym, ◌∙◌, subst}
 use Rattle.std.specs.FinMap as map
-use Rattle.am_labels.specs.Universe.{sizes}
-use Rattle.am_labels.specs.Choice.{IsWhole}
-use Rattle.am_labels.specs.LabelSet.{value_of, with_value, label_set_of, HasTextsAlone}
+use Rattle.am_labels.specs.LabelSet.{HasTextsAlone}
+use Rattle.am_labels.proofs.LabelMaps.{len_kept}
 use Rattle.am_labels.proofs.label_set.LabelSet.len.Goals as goal
 
--- src/label_set.rt:69:5
 pub returns-clause-len : goal.returns-clause-len
-returns-clause-len c = ?
+returns-clause-len c = c.len.ensures.len ∙ sym (len_kept c.self.inside.values c.len.ensures.ordered) ∙ ap map.len c.self.view_is
 
--- src/label_set.rt:69:5
 pub returns-clause-texts : goal.returns-clause-texts
-returns-clause-texts c = ?
+returns-clause-texts c = subst HasTextsAlone c.self.view_is c.self.invariant
