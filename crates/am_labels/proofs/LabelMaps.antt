@@ -1,5 +1,5 @@
 -- Label sets as finite maps of texts, and the entries that give them.
-use Rattle.std.proofs.Common.{◌≡◌, ◌≢◌, ℕ, ◌+◌, Bool, true, false, cond, List, [], ◌∷◌, ◌++◌, length, map, Option, Some, None, option_map, is_some, IsTrue, String, string_bytes, ap, sym, ◌∙◌, refl, subst, arith}
+use Rattle.std.proofs.Common.{◌≡◌, ◌≢◌, ℕ, ◌+◌, Bool, true, false, cond, List, [], ◌∷◌, ◌++◌, length, map, Option, Some, None, option_map, unwrap_or, is_some, IsTrue, String, string_bytes, ap, sym, ◌∙◌, refl, subst, arith}
 use Rattle.std.specs.Ordering.{nat_cmp, is_eq, eq_by_cmp}
 use Rattle.std.specs.Cmp.{eq_by_cmp_equiv}
 use Rattle.std.specs.Cmp.Lexicographic.{slice_cmp, nat_list_cmp_total}
@@ -10,6 +10,7 @@ use Rattle.std.specs.BTreeMap.{BTreeMap, UpdatesBy, get_by_text, IsOrdered}
 use Rattle.std.specs.FinMap.{FinMap, get, len, empty, insert, remove, find, contains_key, same_map, get-insert, get-remove, get-from_entries, len-insert, len-empty, nat_cmp-IsAntisymmetric, slice_cmp-IsAntisymmetric}
 use Rattle.std.specs.declared.alloc.Global.{Global}
 use Rattle.std.proofs.lemmas.Map.Keys.{IsDistinct-from_sorted, IsDistinct-head, IsDistinct-tail}
+use Rattle.std.proofs.lemmas.List.{nil_from_length}
 use Rattle.std.proofs.lemmas.Map.Text.{is_eq-slice_cmp, btree_map_updates_text}
 use Rattle.am_labels.specs.Text.{same_text}
 use Rattle.am_labels.specs.LabelSet.{LabelMap, value_of, with_value, HasTextsAlone}
@@ -86,3 +87,15 @@ len_distinct (e ∷ es) d =
 
 pub len_kept : (m : BTreeMap (String Global) (String Global)) → IsOrdered string_cmp m → len (label_map_of m.entries) ≡ length m.entries
 len_kept m o = len_distinct m.entries (IsDistinct-from_sorted string_cmp _ o)
+
+-- ---- What a call on the map in memory does.
+
+-- where the key is looked up by other bytes j, which are the same
+pub removed_with : (m n : BTreeMap (String Global) (String Global)) (j k v : List ℕ) → j ≡ k → length v ≡ 0 → UpdatesBy string_cmp (λ y. slice_cmp nat_cmp j (string_bytes y)) m n None → label_map_of n.entries ≡ with_value (label_map_of m.entries) k v
+removed_with m n j k v same e u = removed_is m n j u ∙ ap (remove (label_map_of m.entries)) same ∙ sym (with_no_text (label_map_of m.entries) k v (nil_from_length v e))
+
+pub inserted_with : (m n : BTreeMap (String Global) (String Global)) (k : List ℕ) (v : String Global) → length (string_bytes v) ≢ 0 → UpdatesBy string_cmp (λ y. slice_cmp nat_cmp k (string_bytes y)) m n (Some v) → label_map_of n.entries ≡ with_value (label_map_of m.entries) k (string_bytes v)
+inserted_with m n k v some u = inserted_is m n k v u ∙ sym (with_text (label_map_of m.entries) k (string_bytes v) (λ e. some (ap length e)))
+
+pub value_kept : (m : BTreeMap (String Global) (String Global)) (q : List ℕ) (r : Option (String Global)) → r ≡ get_by_text m q → unwrap_or (option_map string_bytes r) [] ≡ value_of (label_map_of m.entries) q
+value_kept m q r e = ap (λ o. unwrap_or (option_map string_bytes o) []) e ∙ ap (λ o. unwrap_or o []) (sym (kept_at m q))

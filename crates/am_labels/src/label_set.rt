@@ -75,7 +75,7 @@ impl LabelSet {
     pub fn is_empty(&self) -> bool
         ensures { result ≡ (map.len self.now == 0) }
     {
-        self.values.is_empty()
+        self.len() == 0
     }
 }
 
