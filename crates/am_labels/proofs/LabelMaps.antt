@@ -21,7 +21,7 @@ use Rattle.am_labels.specs.LabelSetView.{entry_texts, label_map_of}
 pub same_set : (s t : LabelMap) → ((q : List ℕ) → get s q ≡ get t q) → s ≡ t
 same_set s t is = same_map nat_list_cmp_total (slice_cmp-IsAntisymmetric nat_cmp-IsAntisymmetric) s t is
 
-flips : (a b : List ℕ) → eq_by_cmp (slice_cmp nat_cmp) a b ≡ same_text b a
+pub flips : (a b : List ℕ) → eq_by_cmp (slice_cmp nat_cmp) a b ≡ same_text b a
 flips a b = (eq_by_cmp_equiv nat_list_cmp_total).symm a b ∙ is_eq-slice_cmp b a
 
 pub removed_at : (s : LabelMap) (k q : List ℕ) → get (remove s k) q ≡ cond (same_text k q) None (get s q)
@@ -99,3 +99,8 @@ inserted_with m n k v some u = inserted_is m n k v u ∙ sym (with_text (label_m
 
 pub value_kept : (m : BTreeMap (String Global) (String Global)) (q : List ℕ) (r : Option (String Global)) → r ≡ get_by_text m q → unwrap_or (option_map string_bytes r) [] ≡ value_of (label_map_of m.entries) q
 value_kept m q r e = ap (λ o. unwrap_or (option_map string_bytes o) []) e ∙ ap (λ o. unwrap_or o []) (sym (kept_at m q))
+
+pub HasTextsAlone-of_none : (es : List (String Global × String Global)) → es ≡ [] → HasTextsAlone (label_map_of es)
+HasTextsAlone-of_none es e q h =
+    let none : get (label_map_of es) q ≡ None = ap (λ xs. get (label_map_of xs) q) e ∙ get-from_entries nat_list_cmp_total [] q in
+    cc

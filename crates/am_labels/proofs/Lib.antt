@@ -1,2 +1,4 @@
 pub mod Stored
 pub mod LabelMaps
+pub mod Wholes
+pub mod PairsOf

@@ -1,22 +1,30 @@
-use Rattle.std.proofs.Common.{rules, ◌≡◌, ◌==◌, OnOk, OnErr, IfOk, string_bytes, ℕ, ◌+◌, ◌-◌, ◌*◌, ◌<◌, ◌≤◌, length, ◌/◌, ◌%◌, Bool, true, false, nat_eq, nat_lt, List, [], ◌∷◌, ◌++◌, slice_index_or, slice_set, bit_and, bit_or, Fits, w8, w32, w64, Bor, MutBor}
-use Rattle.std.specs.FinMap as map
-use Rattle.am_labels.specs.Universe.{sizes}
-use Rattle.am_labels.specs.Choice.{IsWhole}
-use Rattle.am_labels.specs.LabelSet.{value_of, with_value, label_set_of, HasTextsAlone}
+-- Each turn adds the value of one more label.
+use Rattle.std.proofs.Common.{◌≡◌, length, string_bytes, ap, sym, ◌∙◌, rules, arith}
+use Rattle.std.specs.Option.{option_map}
+use Rattle.std.proofs.lemmas.List.{length-map, take_all}
+use Rattle.am_labels.specs.LabelSet.{with_value}
+use Rattle.am_labels.proofs.Wholes.{admitted_at}
+use Rattle.am_labels.proofs.PairsOf.{turn_with, turn_without}
 use Rattle.am_labels.proofs.label_set.set_of.Goals as goal
+use Rattle.am_labels.proofs.label_set.set_of.Goals.{in-Some+in_ok-name+in_ok-value+in_ok-put, in_default}
 
--- src/label_set.rt:88:5
-pub loop-i-init : goal.loop-i-init
-loop-i-init c = ?
-
--- src/label_set.rt:89:30
 pub value-requires-clause-value : goal.value-requires-clause-value
-value-requires-clause-value c = ?
+value-requires-clause-value c =
+    let whole : length c.args.choice.now ≡ length c.args.universe.now = c.requires.1 ∙ length-map _ _ in
+    let below = admitted_at _ c.args.choice.now c.loop-i.i c.requires.0 (omega arith) in
+    omega arith
 
--- src/label_set.rt:88:5
 pub loop-i-preserved : goal.loop-i-preserved
-loop-i-preserved c = ?
-
--- src/label_set.rt:83:1
-pub returns : goal.returns
-returns c = ?
+loop-i-preserved c =
+    let u = c.args.universe.now in
+    let whole : length c.args.choice.now ≡ length u = c.requires.1 ∙ length-map _ _ in
+    let is = c.from.ensures ∙ c.get.ensures in
+    elim c.match-value.branch [
+      | in-Some+in_ok-name+in_ok-value+in_ok-put w ↦
+          let text = sym (ap (option_map (λ t. t.now)) w.in-Some.is) ∙ c.value.ensures in
+          let put = w.in_ok-put.ensures.ok ∙ ap (λ n. with_value c.loop-i.set n (string_bytes w.in_ok-value.value)) w.in_ok-name.ensures.ok ∙ ap (with_value c.loop-i.set w.name.result.now) w.in_ok-value.ensures.ok in
+          w.set-is ∙ put ∙ turn_with u c.args.choice.now c.loop-i.i _ _ w.name.result.now w.in-Some.value.now c.len-i-end.ensures.universe whole (omega arith) is c.loop-i.invariant w.name.ensures text
+      | in_default w ↦
+          let none = sym (ap (option_map (λ t. t.now)) w.in_default.is) ∙ c.value.ensures in
+          w.set-is ∙ turn_without u c.args.choice.now c.loop-i.i _ _ c.len-i-end.ensures.universe whole (omega arith) is c.loop-i.invariant none
+    ]
