@@ -30,10 +30,18 @@ is_letter c = nat_le 65 c && nat_le c 90 || nat_le 97 c && nat_le c 122
 abbrev pub is_digit : ℕ → Bool
 is_digit c = nat_le 48 c && nat_le c 57
 
+-- `[a-zA-Z_]`, with which a label name begins
+abbrev pub starts_name : ℕ → Bool
+starts_name c = is_letter c || c == 95
+
+-- `[a-zA-Z0-9_]`, with which it goes on
+abbrev pub goes_on_name : ℕ → Bool
+goes_on_name c = starts_name c || is_digit c
+
 -- a label name of the data model: `[a-zA-Z_][a-zA-Z0-9_]*`
 abbrev pub is_label_name : List ℕ → Bool
 is_label_name [] = false
-is_label_name (c ∷ cs) = (is_letter c || c == 95) && list_all (λ d. is_letter d || is_digit d || d == 95) cs
+is_label_name (c ∷ cs) = starts_name c && list_all goes_on_name cs
 
 -- two values are the same, absence included
 abbrev pub same_value : Option (List ℕ) → Option (List ℕ) → Bool

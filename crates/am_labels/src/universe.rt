@@ -1,5 +1,5 @@
 ghost use Rattle.std.specs.Prelude.{◌≡◌, ◌≢◌, ◌<◌, ◌≤◌, ◌==◌, List, [], ◌∷◌, ◌++◌, length, map, Some, None, MatchResult, string_bytes, IfOk, IfErr, IfSome, IfNone, OnOk, OnErr, Contains, slice_get, slice_index, option_map, option_and_then};
-ghost use Rattle.am_labels.specs.Universe.{IsUniverse, max_values, names, sizes, is_label_name, name_fault, count_fault, value_fault, label_values_fault, label_fault};
+ghost use Rattle.am_labels.specs.Universe.{IsUniverse, max_values, names, sizes, starts_name, goes_on_name, is_label_name, name_fault, count_fault, value_fault, label_values_fault, label_fault};
 ghost use Rattle.am_labels.specs.UniverseView.{label_of, texts_of};
 ghost use Rattle.am_labels.specs.LabelSet.{value_at};
 ghost use Rattle.am_labels.specs.Choice.{admits};
@@ -83,7 +83,7 @@ impl Universe {
         if value == Some("") {
             return Some(Kind::Empty);
         }
-        if before.iter().any(|other| text_of(other) == value) {
+        if before.iter().any(|other| value == text_of(other)) {
             return Some(Kind::Duplicate);
         }
         None
@@ -188,6 +188,7 @@ impl Universe {
 
 /// The most labels that a universe has, and the most values of a label.
 const MAX_LABELS: usize = 64;
+
 const MAX_VALUES: usize = 128;
 
 /// The first fault in a list of values.
@@ -238,9 +239,20 @@ fn at(part: LabelPart, kind: Kind) -> LabelFault
 fn is_label_name(name: &[u8]) -> bool
     ensures { result ≡ is_label_name name.now }
 {
-    let is_start = |byte: u8| byte.is_ascii_alphabetic() || byte == b'_';
     match name {
         [] => false,
-        [first, rest @ ..] => is_start(*first) && rest.iter().all(|byte| is_start(*byte) || byte.is_ascii_digit()),
+        [first, rest @ ..] => starts_name(*first) && rest.iter().all(|byte| goes_on_name(*byte)),
     }
+}
+
+fn starts_name(byte: u8) -> bool
+    ensures { result ≡ starts_name byte }
+{
+    byte.is_ascii_alphabetic() || byte == b'_'
+}
+
+fn goes_on_name(byte: u8) -> bool
+    ensures { result ≡ goes_on_name byte }
+{
+    starts_name(byte) || byte.is_ascii_digit()
 }

@@ -1,0 +1,39 @@
+-- Universes: where a name stands, and what the faults of a label say.
+use Rattle.std.proofs.Common.{◌≡◌, ◌≢◌, ℕ, ◌+◌, ◌<◌, ◌≤◌, List, [], ◌∷◌, ◌++◌, length, map, take, drop, Bool, true, false, Option, Some, None, option_map, is_some, MatchOption, IfSome, IfNone, Contains, slice_get, get_or, refl, sym, ap, ◌∙◌, lit≤, arith}
+use Rattle.std.specs.List.{All, AllWithin, HoldsAt, IsDistinct, list_any}
+use Rattle.std.specs.Cmp.Lexicographic.{bytes_decides}
+use Rattle.std.proofs.lemmas.Option.{slice_get-map, slice_get-get_or, slice_get_within, get_or_from_slice_get}
+use Rattle.std.proofs.lemmas.List.{get_or-map, length-map}
+use Rattle.std.proofs.lemmas.List.Folds.{list_any_at, list_any_none}
+use Rattle.am_labels.specs.Text.{same_text}
+use Rattle.am_labels.specs.Universe.{Label, IsUniverse, names}
+
+-- no labels are a universe
+pub IsUniverse-empty : IsUniverse []
+unfolding IsDistinct
+IsUniverse-empty = record { at_most = lit≤ tt; labels = tt; distinct = tt }
+
+-- ---- Where a name stands.
+
+-- what `Iterator::position` answers about a name
+abbrev pub IsFirstOfName : List Label → List ℕ → Option ℕ → Type 0
+IsFirstOfName u name r = MatchOption r
+    (AllWithin (λ l. l.name ≢ name) u 0 (length u))
+    (λ i. (i < length u) × HoldsAt (λ l. l.name ≡ name) u i × AllWithin (λ l. l.name ≢ name) u 0 i)
+
+abbrev no_label : Label
+no_label = record { name = []; values = [] }
+
+name_at : (u : List Label) (name : List ℕ) (i : ℕ) → i < length u → HoldsAt (λ l. l.name ≡ name) u i → slice_get (names u) i ≡ Some name
+name_at u name i inside at =
+    slice_get-map (λ l. l.name) u i ∙ ap (option_map (λ l. l.name)) (slice_get-get_or u i no_label inside) ∙ ap Some (at no_label)
+
+pub found_name : (u : List Label) (name : List ℕ) (r : Option ℕ) → IsFirstOfName u name r → IfSome r (λ i. slice_get (names u) i ≡ Some name)
+found_name u name None h = tt
+found_name u name (Some i) h = name_at u name i h.0 h.1
+
+pub no_name : (u : List Label) (name : List ℕ) (r : Option ℕ) → IsFirstOfName u name r → IfNone r (¬ Contains (names u) name)
+no_name u name None h = λ k.
+    let inside : k.0 < length u = omega (arith, k.1, length-map u (λ (l : Label). l.name)) in
+    h k.0 no_label (omega arith) inside (sym (get_or-map (λ l. l.name) u k.0 no_label name inside) ∙ k.2)
+no_name u name (Some i) h = tt
