@@ -1,12 +1,13 @@
 -- Universes: where a name stands, and what the faults of a label say.
-use Rattle.std.proofs.Common.{◌≡◌, ◌≢◌, ℕ, ◌+◌, ◌<◌, ◌≤◌, List, [], ◌∷◌, ◌++◌, length, map, take, drop, Bool, true, false, Option, Some, None, option_map, is_some, MatchOption, IfSome, IfNone, Contains, slice_get, get_or, refl, sym, ap, ◌∙◌, lit≤, arith}
+use Rattle.std.proofs.Common.{◌≡◌, ◌≢◌, ℕ, ◌+◌, ◌<◌, ◌≤◌, List, [], ◌∷◌, ◌++◌, length, map, take, drop, Bool, true, false, ◌==◌, Option, Some, None, option_map, is_some, MatchOption, IfSome, IfNone, Contains, slice_get, get_or, refl, sym, ap, ◌∙◌, lit≤, arith}
 use Rattle.std.specs.List.{All, AllWithin, HoldsAt, IsDistinct, list_any}
 use Rattle.std.specs.Cmp.Lexicographic.{bytes_decides}
 use Rattle.std.proofs.lemmas.Option.{slice_get-map, slice_get-get_or, slice_get_within, get_or_from_slice_get}
 use Rattle.std.proofs.lemmas.List.{get_or-map, length-map}
 use Rattle.std.proofs.lemmas.List.Folds.{list_any_at, list_any_none}
 use Rattle.am_labels.specs.Text.{same_text}
-use Rattle.am_labels.specs.Universe.{Label, IsUniverse, names}
+use Rattle.am_labels.specs.declared.kind.Kind.TheVariants as kinds
+use Rattle.am_labels.specs.Universe.{Label, IsUniverse, names, is_label_name, name_fault}
 
 -- no labels are a universe
 pub IsUniverse-empty : IsUniverse []
@@ -14,6 +15,10 @@ unfolding IsDistinct
 IsUniverse-empty = record { at_most = lit≤ tt; labels = tt; distinct = tt }
 
 -- ---- Where a name stands.
+
+not_so : (b : Bool) → (b ≡ true → ⊥) → b ≡ false
+not_so true h = absurd (h refl)
+not_so false h = refl
 
 -- what `Iterator::position` answers about a name
 abbrev pub IsFirstOfName : List Label → List ℕ → Option ℕ → Type 0
@@ -37,3 +42,21 @@ no_name u name None h = λ k.
     let inside : k.0 < length u = omega (arith, k.1, length-map u (λ (l : Label). l.name)) in
     h k.0 no_label (omega arith) inside (sym (get_or-map (λ l. l.name) u k.0 no_label name inside) ∙ k.2)
 no_name u name (Some i) h = tt
+
+-- the test that `name_fault` makes of the names, and what `position` answers
+pub has_name : (u : List Label) (name : List ℕ) (r : Option ℕ) → IfSome r (λ i. slice_get (names u) i ≡ Some name) → IfNone r (¬ Contains (names u) name) → list_any (λ l. same_text l.name name) u ≡ is_some r
+has_name u name None found none = list_any_none (λ l. same_text l.name name) u (λ k d inside.
+    let apart : same_text (get_or u k d).name name ≡ true → ⊥ = λ e. none (k, omega (arith, length-map u (λ (l : Label). l.name)), get_or-map (λ l. l.name) u k d name inside ∙ (bytes_decides (get_or u k d).name name).0 e) in
+    not_so _ apart)
+has_name u name (Some i) found none =
+    let inside : i < length u = omega (arith, slice_get_within (names u) i name found, length-map u (λ (l : Label). l.name)) in
+    list_any_at (λ l. same_text l.name name) u i no_label inside
+        ((bytes_decides (get_or u i no_label).name name).1 (sym (get_or-map (λ l. l.name) u i no_label name inside) ∙ get_or_from_slice_get (names u) i name name found))
+
+-- ---- A name beside the others.
+
+pub name_fault_taken : (u : List Label) (name : List ℕ) → (length name == 0) ≡ false → is_label_name name ≡ true → list_any (λ l. same_text l.name name) u ≡ true → name_fault u name ≡ Some kinds.Duplicate
+name_fault_taken u name some form taken = rw (some, form, taken)
+
+pub name_fault_free : (u : List Label) (name : List ℕ) → (length name == 0) ≡ false → is_label_name name ≡ true → list_any (λ l. same_text l.name name) u ≡ false → name_fault u name ≡ None
+name_fault_free u name some form free = rw (some, form, free)

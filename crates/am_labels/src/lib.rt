@@ -11,7 +11,6 @@ mod history;
 mod kind;
 mod label_fault;
 mod label_set;
-pub mod laws;
 mod matcher;
 mod matchers;
 mod op;
@@ -20,6 +19,8 @@ mod place;
 mod sink;
 mod universe;
 mod write;
+
+pub mod laws;
 
 pub use choice::Choice;
 pub use fault::Fault;

@@ -1,5 +1,6 @@
 ghost use Rattle.std.specs.Prelude.{◌≡◌, ◌≢◌, ◌<◌, ◌≤◌, ◌==◌, List, [], ◌∷◌, ◌++◌, length, map, Some, None, MatchResult, string_bytes, IfOk, IfErr, IfSome, IfNone, OnOk, OnErr, Contains, slice_get, slice_index, option_map, option_and_then};
-ghost use Rattle.am_labels.specs.Universe.{IsUniverse, max_values, names, sizes, starts_name, goes_on_name, is_label_name, name_fault, count_fault, value_fault, label_values_fault, label_fault};
+ghost use Rattle.std.specs.List.{list_all, list_any};
+ghost use Rattle.am_labels.specs.Universe.{IsUniverse, max_values, names, sizes, starts_name, goes_on_name, is_label_name, same_value, name_fault, count_fault, value_fault, label_values_fault, label_fault};
 ghost use Rattle.am_labels.specs.UniverseView.{label_of, texts_of};
 ghost use Rattle.am_labels.specs.LabelSet.{value_at};
 ghost use Rattle.am_labels.specs.Choice.{admits};
@@ -83,7 +84,7 @@ impl Universe {
         if value == Some("") {
             return Some(Kind::Empty);
         }
-        if before.iter().any(|other| value == text_of(other)) {
+        if is_among(before, value) {
             return Some(Kind::Duplicate);
         }
         None
@@ -220,6 +221,13 @@ fn count_fault(count: usize) -> Option<Kind>
     }
 }
 
+/// Whether the value is one of those.
+fn is_among(others: &[Option<String>], value: Option<&str>) -> bool
+    ensures { result ≡ list_any (same_value (option_map (λ t. t.now) value.entry)) (texts_of others.now) }
+{
+    others.iter().any(|other| value == text_of(other))
+}
+
 fn text_of(value: &Option<String>) -> Option<&str>
     ensures { option_map (λ t. t.now) result ≡ option_map string_bytes value.now }
 {
@@ -239,10 +247,16 @@ fn at(part: LabelPart, kind: Kind) -> LabelFault
 fn is_label_name(name: &[u8]) -> bool
     ensures { result ≡ is_label_name name.now }
 {
-    match name {
-        [] => false,
-        [first, rest @ ..] => starts_name(*first) && rest.iter().all(|byte| goes_on_name(*byte)),
+    match name.split_first() {
+        Some((first, rest)) => starts_name(*first) && all_go_on_name(rest),
+        None => false,
     }
+}
+
+fn all_go_on_name(bytes: &[u8]) -> bool
+    ensures { result ≡ list_all goes_on_name bytes.now }
+{
+    bytes.iter().all(|byte| goes_on_name(*byte))
 }
 
 fn starts_name(byte: u8) -> bool
