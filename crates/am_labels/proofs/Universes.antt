@@ -1,5 +1,5 @@
 -- Universes: where a name stands, and what the faults of a label say.
-use Rattle.std.proofs.Common.{◌≡◌, ◌≢◌, ℕ, ◌+◌, ◌<◌, ◌≤◌, List, [], ◌∷◌, ◌++◌, length, map, take, drop, Bool, true, false, ◌==◌, Option, Some, None, option_map, is_some, MatchOption, IfSome, IfNone, Contains, slice_get, get_or, refl, sym, ap, ◌∙◌, lit≤, arith}
+use Rattle.std.proofs.Common.{◌≡◌, ◌≢◌, ℕ, ◌+◌, ◌<◌, ◌≤◌, List, [], ◌∷◌, ◌++◌, length, map, take, drop, Bool, true, false, ◌==◌, ◌||◌, Option, Some, None, option_map, is_some, MatchOption, IfSome, IfNone, Contains, slice_get, get_or, refl, sym, ap, ◌∙◌, lit≤, arith}
 use Rattle.std.specs.List.{All, AllWithin, HoldsAt, IsDistinct, list_any}
 use Rattle.std.specs.Cmp.Lexicographic.{bytes_decides}
 use Rattle.std.proofs.lemmas.Option.{slice_get-map, slice_get-get_or, slice_get_within, get_or_from_slice_get}
@@ -60,3 +60,9 @@ name_fault_taken u name some form taken = rw (some, form, taken)
 
 pub name_fault_free : (u : List Label) (name : List ℕ) → (length name == 0) ≡ false → is_label_name name ≡ true → list_any (λ l. same_text l.name name) u ≡ false → name_fault u name ≡ None
 name_fault_free u name some form free = rw (some, form, free)
+
+-- ---- Values.
+
+pub list_any-map : {A B : Type 0} (p : B → Bool) (f : A → B) (xs : List A) → list_any p (map f xs) ≡ list_any (λ x. p (f x)) xs
+list_any-map p f [] = refl
+list_any-map p f (x ∷ xs) = ap (λ b. p (f x) || b) (list_any-map p f xs)

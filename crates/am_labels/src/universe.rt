@@ -225,7 +225,17 @@ fn count_fault(count: usize) -> Option<Kind>
 fn is_among(others: &[Option<String>], value: Option<&str>) -> bool
     ensures { result ≡ list_any (same_value (option_map (λ t. t.now) value.entry)) (texts_of others.now) }
 {
-    others.iter().any(|other| value == text_of(other))
+    others.iter().any(|other| is_same(value, other))
+}
+
+fn is_same(value: Option<&str>, other: &Option<String>) -> bool
+    ensures { result ≡ same_value (option_map (λ t. t.now) value.entry) (option_map string_bytes other.now) }
+{
+    match (value, other) {
+        (Some(text), Some(other)) => text == other.as_str(),
+        (None, None) => true,
+        _ => false,
+    }
 }
 
 fn text_of(value: &Option<String>) -> Option<&str>
