@@ -1,13 +1,18 @@
 -- Universes: where a name stands, and what the faults of a label say.
-use Rattle.std.proofs.Common.{◌≡◌, ◌≢◌, ℕ, ◌+◌, ◌<◌, ◌≤◌, List, [], ◌∷◌, ◌++◌, length, map, take, drop, Bool, true, false, ◌==◌, ◌||◌, Option, Some, None, option_map, is_some, MatchOption, IfSome, IfNone, Contains, slice_get, get_or, refl, sym, ap, ◌∙◌, lit≤, arith}
+use Rattle.std.proofs.Common.{◌≡◌, ◌≢◌, ℕ, ◌+◌, ◌<◌, ◌≤◌, List, [], ◌∷◌, ◌++◌, length, map, take, drop, Bool, true, false, ◌==◌, ◌||◌, Option, Some, None, option_map, is_some, MatchOption, IfSome, IfNone, Contains, String, string_bytes, slice_get, get_or, refl, sym, ap, ◌∙◌, lit≤, arith}
 use Rattle.std.specs.List.{All, AllWithin, HoldsAt, IsDistinct, list_any}
 use Rattle.std.specs.Cmp.Lexicographic.{bytes_decides}
 use Rattle.std.proofs.lemmas.Option.{slice_get-map, slice_get-get_or, slice_get_within, get_or_from_slice_get}
-use Rattle.std.proofs.lemmas.List.{get_or-map, length-map}
+use Rattle.std.proofs.lemmas.List.{get_or-map, length-map, map-append, length-take-le, take_more, at_drop_more, at_drop_all}
 use Rattle.std.proofs.lemmas.List.Folds.{list_any_at, list_any_none}
+use Rattle.std.specs.declared.alloc.Global.{Global}
+use Rattle.am_labels.specs.declared.kind.Kind.{Kind}
+use Rattle.am_labels.specs.declared.label_fault.LabelFault.{LabelFault}
+use Rattle.am_labels.specs.declared.label_fault.LabelPart.TheVariants as parts
 use Rattle.am_labels.specs.Text.{same_text}
+use Rattle.am_labels.specs.UniverseView.{texts_of}
 use Rattle.am_labels.specs.declared.kind.Kind.TheVariants as kinds
-use Rattle.am_labels.specs.Universe.{Label, IsUniverse, names, is_label_name, name_fault}
+use Rattle.am_labels.specs.Universe.{Label, IsUniverse, names, is_label_name, name_fault, count_fault, value_fault, values_fault, label_values_fault, first_fault, fault_at}
 
 -- no labels are a universe
 pub IsUniverse-empty : IsUniverse []
@@ -66,3 +71,36 @@ name_fault_free u name some form free = rw (some, form, free)
 pub list_any-map : {A B : Type 0} (p : B → Bool) (f : A → B) (xs : List A) → list_any p (map f xs) ≡ list_any (λ x. p (f x)) xs
 list_any-map p f [] = refl
 list_any-map p f (x ∷ xs) = ap (λ b. p (f x) || b) (list_any-map p f xs)
+
+-- the first fault among the values from a position on
+abbrev pub fault_from : List (Option (String Global)) → ℕ → Option LabelFault
+fault_from values i = values_fault (texts_of (take i values)) (texts_of (drop i values))
+
+pub fault_from_start : (values : List (Option (String Global))) → count_fault (length values) ≡ None → label_values_fault (texts_of values) ≡ fault_from values 0
+fault_from_start values fine =
+    let e : count_fault (length (texts_of values)) ≡ None = rw (length-map values (option_map string_bytes)) fine in
+    ap (λ found. first_fault (fault_at parts.Values found) (values_fault [] (texts_of values))) e
+
+fault_from_step : (values : List (Option (String Global))) (i : ℕ) (value : Option (String Global)) → i < length values → value ≡ get_or values i value → fault_from values i ≡ first_fault (fault_at (parts.Value i) (value_fault (texts_of (take i values)) (option_map string_bytes value))) (fault_from values (i + 1))
+fault_from_step values i value inside at =
+    let before = texts_of (take i values) in
+    let v = option_map string_bytes value in
+    let after = texts_of (drop (i + 1) values) in
+    let here : fault_from values i ≡ values_fault before (v ∷ after) =
+        at_drop_more (λ rest. values_fault before (texts_of rest)) values i value inside ∙ ap (λ x. values_fault before (option_map string_bytes x ∷ after)) (sym at) in
+    let place : length before ≡ i = length-map (take i values) (option_map string_bytes) ∙ length-take-le i values (omega arith) in
+    let longer : texts_of (take (i + 1) values) ≡ before ++ v ∷ [] =
+        ap texts_of (take_more values i value inside) ∙ map-append (option_map string_bytes) (take i values) (get_or values i value ∷ []) ∙ ap (λ x. before ++ option_map string_bytes x ∷ []) (sym at) in
+    here ∙ ap (λ n. first_fault (fault_at (parts.Value n) (value_fault before v)) (values_fault (before ++ v ∷ []) after)) place
+        ∙ ap (λ xs. first_fault (fault_at (parts.Value i) (value_fault before v)) (values_fault xs after)) (sym longer)
+
+pub fault_from_here : (values : List (Option (String Global))) (i : ℕ) (value : Option (String Global)) (kind : Kind) → i < length values → value ≡ get_or values i value → value_fault (texts_of (take i values)) (option_map string_bytes value) ≡ Some kind → fault_from values i ≡ Some (record { kind = kind; part = parts.Value i })
+fault_from_here values i value kind inside at found =
+    fault_from_step values i value inside at ∙ ap (λ o. first_fault (fault_at (parts.Value i) o) (fault_from values (i + 1))) found
+
+pub fault_from_later : (values : List (Option (String Global))) (i : ℕ) (value : Option (String Global)) → i < length values → value ≡ get_or values i value → value_fault (texts_of (take i values)) (option_map string_bytes value) ≡ None → fault_from values i ≡ fault_from values (i + 1)
+fault_from_later values i value inside at fine =
+    fault_from_step values i value inside at ∙ ap (λ o. first_fault (fault_at (parts.Value i) o) (fault_from values (i + 1))) fine
+
+pub fault_from_end : (values : List (Option (String Global))) (i : ℕ) → length values ≤ i → fault_from values i ≡ None
+fault_from_end values i end = at_drop_all (λ rest. values_fault (texts_of (take i values)) (texts_of rest)) values i end
