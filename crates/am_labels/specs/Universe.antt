@@ -102,7 +102,7 @@ count_fault count = if count == 0 then Some kinds.Empty else if nat_lt max_value
 abbrev pub value_fault : Values → Option (List ℕ) → Option Kind
 value_fault before value =
     if is_empty_text value then Some kinds.Empty
-    else if list_any (same_value value) before then Some kinds.Duplicate
+    else if list_any (λ other. same_value other value) before then Some kinds.Duplicate
     else None
 
 -- the first value at fault, where those before stand already

@@ -223,16 +223,16 @@ fn count_fault(count: usize) -> Option<Kind>
 
 /// Whether the value is one of those.
 fn is_among(others: &[Option<String>], value: Option<&str>) -> bool
-    ensures { result ≡ list_any (same_value (option_map (λ t. t.now) value.entry)) (texts_of others.now) }
+    ensures { result ≡ list_any (λ other. same_value other (option_map (λ t. t.now) value.entry)) (texts_of others.now) }
 {
-    others.iter().any(|other| is_same(value, other))
+    others.iter().any(|other| is_same(other, value))
 }
 
-fn is_same(value: Option<&str>, other: &Option<String>) -> bool
-    ensures { result ≡ same_value (option_map (λ t. t.now) value.entry) (option_map string_bytes other.now) }
+fn is_same(other: &Option<String>, value: Option<&str>) -> bool
+    ensures { result ≡ same_value (option_map string_bytes other.now) (option_map (λ t. t.now) value.entry) }
 {
-    match (value, other) {
-        (Some(text), Some(other)) => text == other.as_str(),
+    match (other, value) {
+        (Some(other), Some(text)) => other.as_str() == text,
         (None, None) => true,
         _ => false,
     }
