@@ -56,7 +56,7 @@ has_name u name None found none = list_any_none (λ l. same_text l.name name) u 
 has_name u name (Some i) found none =
     let inside : i < length u = omega (arith, slice_get_within (names u) i name found, length-map u (λ (l : Label). l.name)) in
     list_any_at (λ l. same_text l.name name) u i no_label inside
-        ((bytes_decides (get_or u i no_label).name name).1 (sym (get_or-map (λ l. l.name) u i no_label name inside) ∙ get_or_from_slice_get (names u) i name name found))
+    ((bytes_decides (get_or u i no_label).name name).1 (sym (get_or-map (λ l. l.name) u i no_label name inside) ∙ get_or_from_slice_get (names u) i name name found))
 
 -- ---- A name beside the others.
 
@@ -87,12 +87,12 @@ fault_from_step values i value inside at =
     let v = option_map string_bytes value in
     let after = texts_of (drop (i + 1) values) in
     let here : fault_from values i ≡ values_fault before (v ∷ after) =
-        at_drop_more (λ rest. values_fault before (texts_of rest)) values i value inside ∙ ap (λ x. values_fault before (option_map string_bytes x ∷ after)) (sym at) in
+    at_drop_more (λ rest. values_fault before (texts_of rest)) values i value inside ∙ ap (λ x. values_fault before (option_map string_bytes x ∷ after)) (sym at) in
     let place : length before ≡ i = length-map (take i values) (option_map string_bytes) ∙ length-take-le i values (omega arith) in
     let longer : texts_of (take (i + 1) values) ≡ before ++ v ∷ [] =
-        ap texts_of (take_more values i value inside) ∙ map-append (option_map string_bytes) (take i values) (get_or values i value ∷ []) ∙ ap (λ x. before ++ option_map string_bytes x ∷ []) (sym at) in
+    ap texts_of (take_more values i value inside) ∙ map-append (option_map string_bytes) (take i values) (get_or values i value ∷ []) ∙ ap (λ x. before ++ option_map string_bytes x ∷ []) (sym at) in
     here ∙ ap (λ n. first_fault (fault_at (parts.Value n) (value_fault before v)) (values_fault (before ++ v ∷ []) after)) place
-        ∙ ap (λ xs. first_fault (fault_at (parts.Value i) (value_fault before v)) (values_fault xs after)) (sym longer)
+    ∙ ap (λ xs. first_fault (fault_at (parts.Value i) (value_fault before v)) (values_fault xs after)) (sym longer)
 
 pub fault_from_here : (values : List (Option (String Global))) (i : ℕ) (value : Option (String Global)) (kind : Kind) → i < length values → value ≡ get_or values i value → value_fault (texts_of (take i values)) (option_map string_bytes value) ≡ Some kind → fault_from values i ≡ Some (record { kind = kind; part = parts.Value i })
 fault_from_here values i value kind inside at found =

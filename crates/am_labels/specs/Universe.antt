@@ -119,3 +119,7 @@ abbrev pub label_fault : List Label → Label → Option LabelFault
 label_fault u label =
     if nat_le max_labels (length u) then Some (record { kind = kinds.Limit; part = parts.Label })
     else first_fault (fault_at parts.Name (name_fault u label.name)) (label_values_fault label.values)
+
+-- the answer where memory was refused for a label
+abbrev pub no_memory : LabelFault
+no_memory = record { kind = kinds.Memory; part = parts.Label }
