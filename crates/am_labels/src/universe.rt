@@ -185,11 +185,11 @@ impl Universe {
     pub fn admits(&self, choice: &Choice) -> bool
         ensures { result ≡ admits (sizes self.now) choice.now }
     {
-        if choice.len() > self.labels.len() {
+        if choice.len() > self.len() {
             return false;
         }
         for i in 0..choice.len() {
-            if usize::from(choice.get(i)) >= self.labels[i].values.len() {
+            if usize::from(choice.get(i)) >= self.size(i) {
                 return false;
             }
         }
