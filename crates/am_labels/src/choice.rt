@@ -23,6 +23,8 @@ impl Model for Choice {
     ghost invariant = { IsStored };
 
     ghost inverse = { stored };
+
+    ghost inverse_ok = { λ a h. h.1 };
 }
 
 impl Choice {

@@ -1,4 +1,5 @@
-ghost use Rattle.std.specs.Prelude.{◌≡◌, ℕ, List};
+ghost use Rattle.std.specs.Prelude.{◌≡◌, [], ◌∷◌, IfSome, IfNone};
+ghost use Rattle.std.specs.List.{flat_map};
 ghost use Rattle.am_labels.specs.Universe.{sizes};
 ghost use Rattle.am_labels.specs.Choice.{IsWhole};
 ghost use Rattle.am_labels.specs.Text.{quoted, escaped};
@@ -10,18 +11,20 @@ use crate::{Choice, Kind, Sink, Universe};
 /// Writes the bytes, all of them, unless a take fails: then the answer is `Kind::Write`, the bytes before
 /// it have gone out, and it is not tried again.
 pub fn put_all<W: Sink>(out: &mut W, bytes: &[u8]) -> Result<(), Kind>
-    ensures { Writes (W.taken out.old) (W.taken out.new) (W.failures out.old) (W.failures out.new) bytes.now result }
+    ensures { Writes W.taken W.failures out.old out.new bytes.now result }
 {
-    let mut rest = bytes;
-    while !rest.is_empty() {
-        let count = out.take(rest)?;
-        rest = &rest[count..];
+    let mut done = 0;
+    while done < bytes.len() {
+        done += out.take(&bytes[done..])?;
     }
     Ok(())
 }
 
 /// How a byte is written between quotes, where it does not stand for itself.
-fn escape_of(byte: u8) -> Option<&'static [u8]> {
+fn escape_of(byte: u8) -> Option<&'static [u8]>
+    ensures some { IfSome result (λ escape. escape.now ≡ escaped byte) }
+    ensures none { IfNone result (escaped byte ≡ byte ∷ []) }
+{
     match byte {
         b'\\' => Some(b"\\\\"),
         b'"' => Some(b"\\\""),
@@ -32,14 +35,17 @@ fn escape_of(byte: u8) -> Option<&'static [u8]> {
 
 /// Writes a text between quotes, with `\` as `\\`, `"` as `\"` and a line feed as `\n`.
 pub fn write_text<W: Sink>(text: &str, out: &mut W) -> Result<(), Kind>
-    ensures { Writes (W.taken out.old) (W.taken out.new) (W.failures out.old) (W.failures out.new) (quoted text.now) result }
+    ensures { Writes W.taken W.failures out.old out.new (quoted text.now) result }
 {
     put_all(out, b"\"")?;
     write_escaped(out, text.as_bytes())?;
     put_all(out, b"\"")
 }
 
-fn write_escaped<W: Sink>(out: &mut W, bytes: &[u8]) -> Result<(), Kind> {
+/// Writes the bytes, each as it stands between quotes.
+fn write_escaped<W: Sink>(out: &mut W, bytes: &[u8]) -> Result<(), Kind>
+    ensures { Writes W.taken W.failures out.old out.new (flat_map escaped bytes.now) result }
+{
     let mut start = 0;
     for (i, byte) in bytes.iter().enumerate() {
         if let Some(escape) = escape_of(*byte) {
@@ -54,7 +60,7 @@ fn write_escaped<W: Sink>(out: &mut W, bytes: &[u8]) -> Result<(), Kind> {
 /// Writes the set of a whole choice, as `{team="db",severity="critical"}`: the labels that have a text, in declared order.
 pub fn write_set<W: Sink>(universe: &Universe, choice: &Choice, out: &mut W) -> Result<(), Kind>
     requires { IsWhole (sizes universe.now) choice.now }
-    ensures { Writes (W.taken out.old) (W.taken out.new) (W.failures out.old) (W.failures out.new) (set_text universe.now choice.now) result }
+    ensures { Writes W.taken W.failures out.old out.new (set_text universe.now choice.now) result }
 {
     put_all(out, b"{")?;
     let mut is_first = true;
