@@ -1,6 +1,7 @@
 -- The text of a label set, label after label.
 use Rattle.std.proofs.Common.{◌≡◌, ℕ, zero, suc, ◌+◌, ◌<◌, List, [], ◌∷◌, ◌++◌, length, map, take, drop, Option, Some, None, option_map, slice_get, slice_index, option_and_then, ap, sym, ◌∙◌, refl, arith, add-one, append_assoc, append-nil}
 use Rattle.std.specs.List.{join_with_byte}
+use Rattle.std.proofs.lemmas.List.{take_all}
 use Rattle.std.proofs.lemmas.Option.{slice_get-get_or, slice_get-map}
 use Rattle.am_labels.specs.Universe.{Label, names}
 use Rattle.am_labels.specs.LabelSet.{value_at, pair_before, pairs_of}
@@ -80,3 +81,28 @@ no_pair u c i p whole k is valued =
     let same_value : value_at found.0 p ≡ None = sym (valued ∙ ap (option_and_then (λ l. value_at l p)) found.1) in
     rw add-one (pairs_of-more u c i found.0 p found.1 picked ∙ ap (λ v. pairs_of (take i u) (take i c) ++ pair_before found.0.name v []) same_value
     ∙ append-nil (pairs_of (take i u) (take i c)))
+
+pub pair_among : (u : List Label) (c : List ℕ) (i p : ℕ) (name text : List ℕ) → length c ≡ length u → i < length u → p ≡ slice_index c i → slice_get (names u) i ≡ Some name → Some text ≡ option_and_then (λ l. value_at l p) (slice_get u i)
+    → pairs_of u c ≡ pairs_of (take i u) (take i c) ++ (name, text) ∷ pairs_of (drop (i + 1) u) (drop (i + 1) c)
+pair_among u c i p name text whole k is named valued =
+    let later : Pairs = pairs_of (drop (i + 1) u) (drop (i + 1) c) in
+    pairs_of-split u c (i + 1) whole ∙ ap (λ ps. ps ++ later) (next_pair u c i p name text whole k is named valued)
+    ∙ append_assoc (pairs_of (take i u) (take i c)) ((name, text) ∷ []) later
+
+-- ---- The text in braces: what is written, the next pair behind its separator, and the rest.
+
+pub set_through : (pairs ps : Pairs) (p : List ℕ × List ℕ) (qs : Pairs) (s : List ℕ) → pairs ≡ ps ++ p ∷ qs → s ≡ separator ps
+    → (123 ∷ joined ps) ++ ((s ++ pair_text p) ++ (following qs ++ 125 ∷ [])) ≡ pairs_text pairs
+set_through pairs ps p qs s are is =
+    let next : List ℕ = s ++ pair_text p in
+    ap (λ t. 123 ∷ t) (ap (λ t. joined ps ++ t) (sym (append_assoc next (following qs) (125 ∷ []))) ∙ sym (append_assoc (joined ps) (next ++ following qs) (125 ∷ []))
+    ∙ ap (λ t. t ++ 125 ∷ []) (ap (λ t. joined ps ++ ((t ++ pair_text p) ++ following qs)) is ∙ sym (joined_through ps p qs) ∙ ap joined (sym are)))
+
+pub set_more : (pairs ps : Pairs) (p : List ℕ × List ℕ) (s : List ℕ) → pairs ≡ ps ++ p ∷ [] → s ≡ separator ps → (123 ∷ joined ps) ++ (s ++ pair_text p) ≡ 123 ∷ joined pairs
+set_more pairs ps p s are is = ap (λ t. 123 ∷ t) (ap (λ t. joined ps ++ (t ++ pair_text p)) is ∙ sym (joined_more ps p) ∙ ap joined (sym are))
+
+pub set_end : (u : List Label) (c : List ℕ) (i : ℕ) → length c ≡ length u → i ≡ length u → (123 ∷ joined (pairs_of (take i u) (take i c))) ++ 125 ∷ [] ≡ pairs_text (pairs_of u c)
+set_end u c i whole e =
+    let all : take i u ≡ u = take_all i u (omega arith) in
+    let all_chosen : take i c ≡ c = take_all i c (omega arith) in
+    cc
