@@ -7,3 +7,4 @@ pub mod PairsOf
 pub mod Universes
 pub mod AddedLabels
 pub mod Admitted
+pub mod SetTexts

@@ -1,9 +1,9 @@
-ghost use Rattle.std.specs.Prelude.{◌≡◌, [], ◌∷◌, IfSome, IfNone};
+ghost use Rattle.std.specs.Prelude.{◌≡◌, [], ◌∷◌, ◌++◌, IfSome, IfNone};
 ghost use Rattle.std.specs.List.{flat_map};
 ghost use Rattle.am_labels.specs.Universe.{sizes};
 ghost use Rattle.am_labels.specs.Choice.{IsWhole};
 ghost use Rattle.am_labels.specs.Text.{quoted, escaped};
-ghost use Rattle.am_labels.specs.SetText.{set_text};
+ghost use Rattle.am_labels.specs.SetText.{pair_text, set_text};
 ghost use Rattle.am_labels.specs.Sink.{Writes};
 
 use crate::{Choice, Kind, Sink, Universe};
@@ -18,6 +18,13 @@ pub fn put_all<W: Sink>(out: &mut W, bytes: &[u8]) -> Result<(), Kind>
         done += out.take(&bytes[done..])?;
     }
     Ok(())
+}
+
+/// Writes a text as it stands.
+pub fn put_str<W: Sink>(out: &mut W, text: &str) -> Result<(), Kind>
+    ensures { Writes W.taken W.failures out.old out.new text.now result }
+{
+    put_all(out, text.as_bytes())
 }
 
 /// How a byte is written between quotes, where it does not stand for itself.
@@ -63,17 +70,22 @@ pub fn write_set<W: Sink>(universe: &Universe, choice: &Choice, out: &mut W) -> 
     ensures { Writes W.taken W.failures out.old out.new (set_text universe.now choice.now) result }
 {
     put_all(out, b"{")?;
-    let mut is_first = true;
+    let mut separator: &[u8] = b"";
     for i in 0..universe.len() {
         if let Some(value) = universe.value(i, usize::from(choice.get(i))) {
-            if !is_first {
-                put_all(out, b",")?;
-            }
-            is_first = false;
-            put_all(out, universe.name(i).as_bytes())?;
-            put_all(out, b"=")?;
-            write_text(value, out)?;
+            write_pair(out, separator, universe.name(i), value)?;
+            separator = b",";
         }
     }
     put_all(out, b"}")
+}
+
+/// Writes what separates a label from those before it, its name and its value.
+fn write_pair<W: Sink>(out: &mut W, separator: &[u8], name: &str, value: &str) -> Result<(), Kind>
+    ensures { Writes W.taken W.failures out.old out.new (separator.now ++ pair_text (name.now, value.now)) result }
+{
+    put_all(out, separator)?;
+    put_str(out, name)?;
+    put_all(out, b"=")?;
+    write_text(value, out)
 }
