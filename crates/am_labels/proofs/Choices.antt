@@ -1,11 +1,10 @@
 -- All choices: which they are, and their order.
-use Rattle.std.proofs.Common.{◌≡◌, ◌⊎◌, ◌↔◌, ℕ, zero, suc, ◌+◌, ◌<◌, ◌≤◌, true, List, [], ◌∷◌, ◌++◌, length, map, nat_lt, Contains, ap, sym, ◌∙◌, refl, subst, inl, inr, arith}
+use Rattle.std.proofs.Common.{◌≡◌, ◌↔◌, ℕ, zero, suc, ◌+◌, ◌<◌, ◌≤◌, true, List, [], ◌∷◌, map, nat_lt, Contains, ap, sym, refl, subst, inl, inr, arith}
 use Rattle.std.specs.List.{flat_map}
 use Rattle.std.specs.List.Sorted.{IsStrictlySortedBy}
 use Rattle.std.specs.Ordering.{nat_cmp, ordering_then}
 use Rattle.std.specs.Cmp.{nat_cmp_is}
 use Rattle.std.specs.Cmp.Lexicographic.{slice_cmp}
-use Rattle.std.specs.declared.cmp.Ordering.{Ordering}
 use Rattle.std.specs.declared.cmp.Ordering.TheVariants.{Less, Equal}
 use Rattle.std.proofs.lemmas.Bool.{and_parts, and_from}
 use Rattle.std.proofs.lemmas.Bool.Decides.{nat_tests}
@@ -76,9 +75,9 @@ behind_sorted first (suc n) cs s = IsStrictlySortedBy-append (slice_cmp nat_cmp)
     (IsStrictlySortedBy-map (slice_cmp nat_cmp) (slice_cmp nat_cmp) (λ c. first ∷ c) cs (same_first first) s)
     (behind_sorted (suc first) n cs s)
     (λ x y i j.
-      let a = IsIn-unmap (λ c. first ∷ c) cs x i in
-      let b = from_behind (suc first) n cs y j in
-      subst (λ v. slice_cmp nat_cmp v y ≡ Less) a.2 (subst (λ w. slice_cmp nat_cmp (first ∷ a.0) w ≡ Less) b.same (less_first first b.position a.0 b.rest b.low)))
+    let a = IsIn-unmap (λ c. first ∷ c) cs x i in
+    let b = from_behind (suc first) n cs y j in
+    subst (λ v. slice_cmp nat_cmp v y ≡ Less) a.2 (subst (λ w. slice_cmp nat_cmp (first ∷ a.0) w ≡ Less) b.same (less_first first b.position a.0 b.rest b.low)))
 
 pub choices_sorted : (sizes : List ℕ) → IsStrictlySortedBy (slice_cmp nat_cmp) (choices sizes)
 unfolding IsStrictlySortedBy

@@ -1,5 +1,5 @@
 -- The elements of lists by recursion, and lists in strict order.
-use Rattle.std.proofs.Common.{◌≡◌, ◌⊎◌, ◌↔◌, ℕ, zero, suc, ◌+◌, ◌<◌, List, [], ◌∷◌, ◌++◌, length, map, Contains, ap, sym, ◌∙◌, refl, subst, inl, inr, arith}
+use Rattle.std.proofs.Common.{◌≡◌, ◌⊎◌, zero, suc, ◌+◌, List, [], ◌∷◌, ◌++◌, map, Contains, ap, ◌∙◌, refl, subst, inl, inr, arith}
 use Rattle.std.specs.List.{AllByRecursion}
 use Rattle.std.specs.List.Sorted.{IsStrictlySortedBy}
 use Rattle.std.specs.declared.cmp.Ordering.{Ordering}
@@ -56,13 +56,15 @@ AllByRecursion-at P (y ∷ xs) x h (inr i) = AllByRecursion-at P xs x h.1 i
 pub IsStrictlySortedBy-append : {X : Type 0} (R : X → X → Ordering) (xs ys : List X) → IsStrictlySortedBy R xs → IsStrictlySortedBy R ys → ((x y : X) → IsIn xs x → IsIn ys y → R x y ≡ Less) → IsStrictlySortedBy R (xs ++ ys)
 unfolding IsStrictlySortedBy
 IsStrictlySortedBy-append R [] ys s t below = t
-IsStrictlySortedBy-append R (x ∷ xs) ys s t below =
-    (AllByRecursion-each (λ y. R x y ≡ Less) (xs ++ ys) (λ y i. elim (IsIn-split xs ys y i) [ inl a ↦ AllByRecursion-at (λ y. R x y ≡ Less) xs y s.0 a | inr b ↦ below x y (inl refl) b ]),
-      IsStrictlySortedBy-append R xs ys s.1 t (λ v y i j. below v y (inr i) j))
+IsStrictlySortedBy-append R (x ∷ xs) ys s t below = (
+  AllByRecursion-each (λ y. R x y ≡ Less) (xs ++ ys) (λ y i. elim (IsIn-split xs ys y i) [ inl a ↦ AllByRecursion-at (λ y. R x y ≡ Less) xs y s.0 a | inr b ↦ below x y (inl refl) b ]),
+  IsStrictlySortedBy-append R xs ys s.1 t (λ v y i j. below v y (inr i) j),
+)
 
 pub IsStrictlySortedBy-map : {X Y : Type 0} (R : X → X → Ordering) (S : Y → Y → Ordering) (f : X → Y) (xs : List X) → ((a b : X) → S (f a) (f b) ≡ R a b) → IsStrictlySortedBy R xs → IsStrictlySortedBy S (map f xs)
 unfolding IsStrictlySortedBy
 IsStrictlySortedBy-map R S f [] same s = tt
-IsStrictlySortedBy-map R S f (x ∷ xs) same s =
-    (AllByRecursion-each (λ y. S (f x) y ≡ Less) (map f xs) (λ y i. let r = IsIn-unmap f xs y i in subst (λ z. S (f x) z ≡ Less) r.2 (same x r.0 ∙ AllByRecursion-at (λ b. R x b ≡ Less) xs r.0 s.0 r.1)),
-      IsStrictlySortedBy-map R S f xs same s.1)
+IsStrictlySortedBy-map R S f (x ∷ xs) same s = (
+  AllByRecursion-each (λ y. S (f x) y ≡ Less) (map f xs) (λ y i. let r = IsIn-unmap f xs y i in subst (λ z. S (f x) z ≡ Less) r.2 (same x r.0 ∙ AllByRecursion-at (λ b. R x b ≡ Less) xs r.0 s.0 r.1)),
+  IsStrictlySortedBy-map R S f xs same s.1,
+)

@@ -1,16 +1,16 @@
 -- The values of labels in the label set of a choice.
-use Rattle.std.proofs.Common.{◌≡◌, ◌≢◌, ℕ, zero, suc, ◌+◌, ◌<◌, Bool, true, false, cond, List, [], ◌∷◌, length, map, Option, Some, None, unwrap_or, slice_get, Contains, ap, sym, ◌∙◌, refl, subst, inl, inr, arith}
-use Rattle.std.specs.Ordering.{nat_cmp, eq_by_cmp}
+use Rattle.std.proofs.Common.{◌≡◌, ℕ, zero, suc, true, false, cond, List, [], ◌∷◌, Option, Some, None, unwrap_or, slice_get, Contains, ap, sym, ◌∙◌, refl, subst, inl, inr}
+use Rattle.std.specs.Ordering.{nat_cmp}
 use Rattle.std.specs.Cmp.Lexicographic.{slice_cmp, nat_list_cmp_total, bytes_decides}
 use Rattle.std.specs.List.{AllByRecursion, IsDistinct}
-use Rattle.std.specs.FinMap.{get, find, get-from_entries}
+use Rattle.std.specs.FinMap.{find, get-from_entries}
 use Rattle.std.proofs.lemmas.Bool.{cases_Bool}
 use Rattle.std.proofs.lemmas.Map.Keys.{IsDistinct-head, IsDistinct-tail}
 use Rattle.am_labels.specs.Text.{same_text}
 use Rattle.am_labels.specs.Universe.{Label, IsUniverse, names}
 use Rattle.am_labels.specs.LabelSet.{value_of, value_at, pair_before, pairs_of, label_set_of}
 use Rattle.am_labels.proofs.LabelMaps.{flips}
-use Rattle.am_labels.proofs.Members.{IsIn, IsIn-from_Contains, Contains-from_IsIn}
+use Rattle.am_labels.proofs.Members.{IsIn, Contains-from_IsIn}
 use Rattle.am_labels.proofs.PairsOf.{AreOthers, apart_from_first, find_before, none_of_others}
 
 pub same_text-itself : (a : List ℕ) → same_text a a ≡ true
