@@ -34,4 +34,10 @@ pub fn declared_value()
 pub fn undeclared_value()
     ensures { (u : List spec.Label) (c name : List ℕ)
         → ¬ Contains (spec.names u) name → value_of (label_set_of u c) name ≡ [] }
+ghost use Rattle.am_labels.specs.Universe.{FaultsAreExact};
+
+/// A label has no fault behind a universe exactly if the universe with it is one: no fault is missing, and none is
+/// needless.
+pub fn a_label_is_added_exactly_to_a_universe()
+    ensures { FaultsAreExact }
 {}
