@@ -5,6 +5,7 @@ ghost use Rattle.std.specs.Cmp.Lexicographic.{slice_cmp};
 ghost use Rattle.std.specs.List.Sorted.{IsStrictlySortedBy};
 ghost use Rattle.am_labels.specs.Text.{same_text};
 ghost use Rattle.am_labels.specs.Universe as spec;
+ghost use Rattle.am_labels.specs.Universe.{FaultsAreExact};
 ghost use Rattle.am_labels.specs.Choice.{choices, IsWhole};
 ghost use Rattle.am_labels.specs.LabelSet.{value_of, value_at, label_set_of};
 
@@ -34,7 +35,7 @@ pub fn declared_value()
 pub fn undeclared_value()
     ensures { (u : List spec.Label) (c name : List ℕ)
         → ¬ Contains (spec.names u) name → value_of (label_set_of u c) name ≡ [] }
-ghost use Rattle.am_labels.specs.Universe.{FaultsAreExact};
+{}
 
 /// A label has no fault behind a universe exactly if the universe with it is one: no fault is missing, and none is
 /// needless.
