@@ -6,12 +6,7 @@ use Rattle.std.proofs.lemmas.Grind.{flat_map-append}
 use Rattle.std.proofs.lemmas.Bool.{and_parts}
 use Rattle.std.proofs.lemmas.Bool.Decides.{nat_tests}
 use Rattle.am_labels.specs.Choice.{counted_from, choices, admits, IsWhole}
-
--- the whole choices that begin with a prefix
-abbrev pub completions : List ℕ → List ℕ → List (List ℕ)
-completions sizes [] = choices sizes
-completions [] (p ∷ prefix) = []
-completions (size ∷ sizes) (p ∷ prefix) = map (λ c. p ∷ c) (completions sizes prefix)
+use Rattle.amcover.specs.Completions.{completions}
 
 -- a whole choice is its own one completion
 pub completions_of_whole : (sizes c : List ℕ) → length c ≡ length sizes → completions sizes c ≡ c ∷ []

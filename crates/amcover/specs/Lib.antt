@@ -2,4 +2,4 @@ pub mod Trailer
 pub mod PageText
 pub mod Question
 pub mod FaultText
-pub mod Asked
+pub mod Completions

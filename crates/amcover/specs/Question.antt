@@ -10,10 +10,14 @@ use Rattle.am_labels.specs.Matcher.{Condition, all_hold}
 abbrev pub Question : Type 0
 Question = List Condition
 
--- the truth of a question on a label set: every matcher matches
+-- The truth of a question on a label set: every matcher matches. (Alertmanager configuration reference, "Label matchers".)
 abbrev pub satisfies : Question → LabelMap → Bool
 satisfies question s = all_hold s question
 
+-- the same, on the label set of a choice
+abbrev pub is_answer : List Label → Question → List ℕ → Bool
+is_answer u question c = satisfies question (label_set_of u c)
+
 -- The answers: the whole choices, in declared order, whose label sets satisfy the question.
 abbrev pub answers : List Label → Question → List (List ℕ)
-answers u question = filter (λ c. satisfies question (label_set_of u c)) (choices (sizes u))
+answers u question = filter (is_answer u question) (choices (sizes u))

@@ -1,7 +1,9 @@
 ghost use Rattle.std.specs.Prelude.{◌≡◌, ◌++◌, IfOk, OnOk, IsTrue, length};
 ghost use Rattle.am_labels.specs.Universe.{sizes};
 ghost use Rattle.am_labels.specs.Choice.{admits};
-ghost use Rattle.amcover.specs.Question.{answers, answers_from};
+ghost use Rattle.amcover.specs.Question.{answers, is_answer};
+ghost use Rattle.std.specs.List.{filter};
+ghost use Rattle.amcover.specs.Completions.{completions};
 
 use am_labels::{Choice, Matchers, Universe, set_of};
 use std::alloc::{AllocError, Global};
@@ -24,7 +26,7 @@ fn add_answers(
     found: &mut Vec<Choice>,
 ) -> Result<(), AllocError>
     requires { IsTrue (admits (sizes universe.now) prefix) }
-    ensures { OnOk result (found.new.items ≡ found.old.items ++ answers_from universe.now question.now prefix) }
+    ensures { OnOk result (found.new.items ≡ found.old.items ++ filter (is_answer universe.now question.now) (completions (sizes universe.now) prefix)) }
 {
     if prefix.len() == universe.len() {
         let set = set_of(alloc, universe, &prefix)?;

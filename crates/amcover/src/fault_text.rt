@@ -1,6 +1,7 @@
 ghost use Rattle.std.specs.Prelude.{◌≡◌, string_bytes};
+ghost use Rattle.std.specs.List.{flat_map};
 ghost use Rattle.am_labels.specs.Sink.{Writes};
-ghost use Rattle.amcover.specs.FaultText.{place_text, fault_text, where_part, pointer_part, status_of};
+ghost use Rattle.amcover.specs.FaultText.{place_text, fault_text, where_part, pointer_part, escaped_in_pointer, status_of};
 
 use am_labels::{Fault, Kind, Place, Sink, put_all};
 
@@ -8,8 +9,7 @@ use am_labels::{Fault, Kind, Place, Sink, put_all};
 ///
 /// The only `Err` is `Kind::Write`. No memory is taken.
 pub fn write_fault<W: Sink>(fault: &Fault, out: &mut W) -> Result<(), Kind>
-    ensures { Writes (W.taken out.old) (W.taken out.new) (W.failures out.old) (W.failures out.new)
-        (fault_text fault.now.kind fault.now.place (string_bytes fault.now.pointer)) result }
+    ensures { Writes W.taken W.failures out.old out.new (fault_text fault.now.kind fault.now.place (string_bytes fault.now.pointer)) result }
 {
     put_all(out, b"amcover: ")?;
     write_where(fault, out)?;
@@ -19,8 +19,7 @@ pub fn write_fault<W: Sink>(fault: &Fault, out: &mut W) -> Result<(), Kind>
 
 /// Writes where a fault stands, and nothing for a fault of writing or of memory.
 fn write_where<W: Sink>(fault: &Fault, out: &mut W) -> Result<(), Kind>
-    ensures { Writes (W.taken out.old) (W.taken out.new) (W.failures out.old) (W.failures out.new)
-        (where_part fault.now.kind fault.now.place (string_bytes fault.now.pointer)) result }
+    ensures { Writes W.taken W.failures out.old out.new (where_part fault.now.kind fault.now.place (string_bytes fault.now.pointer)) result }
 {
     match fault.kind {
         Kind::Write | Kind::Memory => Ok(()),
@@ -33,19 +32,33 @@ fn write_where<W: Sink>(fault: &Fault, out: &mut W) -> Result<(), Kind>
 }
 
 fn write_pointer<W: Sink>(pointer: &str, out: &mut W) -> Result<(), Kind>
-    ensures { Writes (W.taken out.old) (W.taken out.new) (W.failures out.old) (W.failures out.new) (pointer_part pointer.now) result }
+    ensures { Writes W.taken W.failures out.old out.new (pointer_part pointer.now) result }
 {
     if pointer.is_empty() {
         return Ok(());
     }
-    for byte in pointer.as_bytes() {
-        match byte {
-            b'\\' => put_all(out, b"\\\\")?,
-            b'\n' => put_all(out, b"\\n")?,
-            _ => put_all(out, &[*byte])?,
-        }
-    }
+    write_escaped(pointer.as_bytes(), out)?;
     put_all(out, b": ")
+}
+
+/// Writes the bytes of a pointer, so that it stays on one line.
+fn write_escaped<W: Sink>(pointer: &[u8], out: &mut W) -> Result<(), Kind>
+    ensures { Writes W.taken W.failures out.old out.new (flat_map escaped_in_pointer pointer.now) result }
+{
+    for byte in pointer {
+        write_byte(*byte, out)?;
+    }
+    Ok(())
+}
+
+fn write_byte<W: Sink>(byte: u8, out: &mut W) -> Result<(), Kind>
+    ensures { Writes W.taken W.failures out.old out.new (escaped_in_pointer byte) result }
+{
+    match byte {
+        b'\\' => put_all(out, b"\\\\"),
+        b'\n' => put_all(out, b"\\n"),
+        _ => put_all(out, &[byte]),
+    }
 }
 
 fn name_of(place: Place) -> &'static str

@@ -13,7 +13,7 @@ pub enum Trailer {
 
 /// Writes the line of a trailer.
 pub fn write_trailer<W: Sink>(trailer: Trailer, out: &mut W) -> Result<(), Kind>
-    ensures { Writes (W.taken out.old) (W.taken out.new) (W.failures out.old) (W.failures out.new) (trailer_text trailer) result }
+    ensures { Writes W.taken W.failures out.old out.new (trailer_text trailer) result }
 {
     match trailer {
         Trailer::End => put_all(out, b"# end\n"),
