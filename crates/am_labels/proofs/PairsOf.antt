@@ -1,9 +1,9 @@
 -- The pairs of a choice, label after label, and the label set that they make.
-use Rattle.std.proofs.Common.{◌≡◌, ◌≢◌, ℕ, zero, suc, ◌+◌, ◌<◌, Bool, true, false, cond, List, [], ◌∷◌, ◌++◌, length, map, take, drop, Option, Some, None, option_map, unwrap_or, slice_get, slice_index, option_and_then, ap, sym, ◌∙◌, refl, subst, arith, add-one}
-use Rattle.std.specs.Ordering.{nat_cmp, is_eq, eq_by_cmp}
+use Rattle.std.proofs.Common.{◌≡◌, ◌≢◌, ℕ, zero, suc, ◌+◌, ◌<◌, false, cond, List, [], ◌∷◌, ◌++◌, length, take, Option, Some, None, option_map, slice_get, slice_index, option_and_then, ap, sym, ◌∙◌, refl, subst, arith, add-one}
+use Rattle.std.specs.Ordering.{nat_cmp}
 use Rattle.std.specs.Cmp.Lexicographic.{slice_cmp, nat_list_cmp_total}
 use Rattle.std.specs.List.{AllByRecursion, IsDistinct}
-use Rattle.std.specs.FinMap.{get, insert, find, from_entries, from_entries_push, nat_cmp-IsAntisymmetric, slice_cmp-IsAntisymmetric}
+use Rattle.std.specs.FinMap.{find, from_entries, from_entries_push, nat_cmp-IsAntisymmetric, slice_cmp-IsAntisymmetric}
 use Rattle.std.proofs.lemmas.List.{append-nil}
 use Rattle.std.proofs.lemmas.Option.{slice_get-get_or, slice_get-map}
 use Rattle.std.proofs.lemmas.Map.Keys.{IsDistinct-head, IsDistinct-tail}
@@ -28,7 +28,7 @@ found_at (x ∷ xs) (suc i) h = found_at xs i (omega arith)
 abbrev pub AreOthers : List ℕ → List Label → Type 0
 AreOthers name u = AllByRecursion (λ m. same_text m.name name ≡ false) u
 
-apart_from_first : (k : List ℕ) (u : List Label) (i : ℕ) (l : Label) → AllByRecursion (λ y. same_text k y ≡ false) (names u) → slice_get u i ≡ Some l → same_text k l.name ≡ false
+pub apart_from_first : (k : List ℕ) (u : List Label) (i : ℕ) (l : Label) → AllByRecursion (λ y. same_text k y ≡ false) (names u) → slice_get u i ≡ Some l → same_text k l.name ≡ false
 apart_from_first k [] i l h e = cc
 apart_from_first k (m ∷ u) zero l h e = let same : m ≡ l = cc in subst (λ n. same_text k n.name ≡ false) same h.0
 apart_from_first k (m ∷ u) (suc i) l h e = apart_from_first k u i l h.1 e
@@ -40,7 +40,7 @@ AreOthers-before (m ∷ u) (suc i) l d e = (apart_from_first m.name u i l (IsDis
 
 no_empty_text : (vs : Values) (j : ℕ) → AllByRecursion (λ v. is_empty_text v ≡ false) vs → option_and_then (λ v. v) (slice_get vs j) ≢ Some []
 no_empty_text [] j h e = cc
-no_empty_text (v ∷ vs) zero h e = cc (h.0, ap is_empty_text e)
+no_empty_text (v ∷ vs) zero h e = cc
 no_empty_text (v ∷ vs) (suc j) h e = no_empty_text vs j h.1 e
 
 pub value_at-text : (u : List Label) (i : ℕ) (l : Label) (p : ℕ) → IsUniverse u → slice_get u i ≡ Some l → value_at l p ≢ Some []
@@ -58,7 +58,7 @@ pairs_of-more (m ∷ u) [] i l p e f = cc
 pairs_of-more (m ∷ u) (q ∷ c) zero l p e f = let same : m ≡ l = cc in let also : q ≡ p = cc in cc
 pairs_of-more (m ∷ u) (q ∷ c) (suc i) l p e f = ap (pair_before m.name (value_at m q)) (pairs_of-more u c i l p e f) ∙ before-append m.name (value_at m q) _ _
 
-find_before : (q name : List ℕ) (value : Option (List ℕ)) (pairs : List (List ℕ × List ℕ)) → same_text name q ≡ false → find (slice_cmp nat_cmp) q (pair_before name value pairs) ≡ find (slice_cmp nat_cmp) q pairs
+pub find_before : (q name : List ℕ) (value : Option (List ℕ)) (pairs : List (List ℕ × List ℕ)) → same_text name q ≡ false → find (slice_cmp nat_cmp) q (pair_before name value pairs) ≡ find (slice_cmp nat_cmp) q pairs
 find_before q name None pairs h = refl
 find_before q name (Some v) pairs h = ap (λ b. cond b (Some v) (find (slice_cmp nat_cmp) q pairs)) (flips q name ∙ h)
 

@@ -4,8 +4,7 @@ use Rattle.std.proofs.lemmas.List.{drop-drop, drop-set-lt, drop-set, drop-replic
 use Rattle.std.proofs.Math.ListN.{length-set}
 use Rattle.std.proofs.Math.Seq.{drop_at}
 use Rattle.am_labels.specs.declared.choice.Choice.TheInside.{Inside}
-use Rattle.am_labels.specs.Choice.{max_positions}
-use Rattle.am_labels.specs.ChoiceView.{view_of, IsStored, stored}
+use Rattle.am_labels.specs.ChoiceView.{view_of, IsStored}
 
 -- 64 cells, and 0 in those from n on
 pub record AreCells (n : ℕ) (cells : List ℕ) : Type 0 where
@@ -33,19 +32,19 @@ cells_from_IsStored a h =
 
 pub cells_pushed : (n : ℕ) (cells : List ℕ) (p : ℕ) → n < 64 → AreCells n cells → AreCells (n + 1) (set cells n p)
 cells_pushed n cells p room h =
-  let less : 64 - n - 1 ≡ 64 - (n + 1) = omega arith in
-  record {
-  size = simp length-set h.size;
-  within = omega arith;
-  zeros = drop-set-lt (n + 1) cells n p (omega arith) ∙ sym (drop-drop 1 n cells) ∙ ap (drop 1) h.zeros ∙ drop-replicate 1 (64 - n) 0 ∙ ap (λ k. replicate k 0) less;
-}
+    let less : 64 - n - 1 ≡ 64 - (n + 1) = omega arith in
+    record {
+      size = simp length-set h.size;
+      within = omega arith;
+      zeros = drop-set-lt (n + 1) cells n p (omega arith) ∙ sym (drop-drop 1 n cells) ∙ ap (drop 1) h.zeros ∙ drop-replicate 1 (64 - n) 0 ∙ ap (λ k. replicate k 0) less;
+    }
 
 pub cells_popped : (n : ℕ) (cells : List ℕ) → 0 < n → AreCells n cells → AreCells (n - 1) (set cells (n - 1) 0)
 cells_popped n cells some h =
-  let next : n - 1 + 1 ≡ n = omega arith in
-  let more : suc (64 - n) ≡ 64 - (n - 1) = omega (arith, h.within) in
-  record {
-  size = simp length-set h.size;
-  within = omega (arith, h.within);
-  zeros = drop-set cells (n - 1) 0 (omega (arith, h.within, h.size)) ∙ ap (λ k. 0 ∷ drop k cells) next ∙ ap (λ xs. 0 ∷ xs) h.zeros ∙ ap (λ k. replicate k 0) more;
-}
+    let next : n - 1 + 1 ≡ n = omega arith in
+    let more : suc (64 - n) ≡ 64 - (n - 1) = omega (arith, h.within) in
+    record {
+      size = simp length-set h.size;
+      within = omega (arith, h.within);
+      zeros = drop-set cells (n - 1) 0 (omega (arith, h.within, h.size)) ∙ ap (λ k. 0 ∷ drop k cells) next ∙ ap (λ xs. 0 ∷ xs) h.zeros ∙ ap (λ k. replicate k 0) more;
+    }

@@ -1,7 +1,7 @@
 -- Each turn adds the value of one more label.
-use Rattle.std.proofs.Common.{◌≡◌, length, string_bytes, ap, sym, ◌∙◌, rules, arith}
+use Rattle.std.proofs.Common.{◌≡◌, length, string_bytes, ap, sym, ◌∙◌, arith}
 use Rattle.std.specs.Option.{option_map}
-use Rattle.std.proofs.lemmas.List.{length-map, take_all}
+use Rattle.std.proofs.lemmas.List.{length-map}
 use Rattle.am_labels.specs.LabelSet.{with_value}
 use Rattle.am_labels.proofs.Wholes.{admitted_at}
 use Rattle.am_labels.proofs.PairsOf.{turn_with, turn_without}
