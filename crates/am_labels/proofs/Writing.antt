@@ -62,7 +62,6 @@ grows_behind {old} a b e g = record {
 -- `first ⟩ second ⟩ third`, and where the second failed, `first ⟩ fails _ answer second`.
 
 infixr 20 ◌⟩◌
-
 module _ {S : Type 0} {taken : S → List ℕ} {failures : S → ℕ} where
   -- nothing is written of the empty text
   pub wrote_nothing : {s : S} → Wrote taken failures s s []

@@ -11,6 +11,7 @@ mod history;
 mod kind;
 mod label_fault;
 mod label_set;
+pub mod laws;
 mod matcher;
 mod matchers;
 mod op;
@@ -19,8 +20,6 @@ mod place;
 mod sink;
 mod universe;
 mod write;
-
-pub mod laws;
 
 pub use choice::Choice;
 pub use fault::Fault;

@@ -1,4 +1,4 @@
-use Rattle.std.proofs.Common.{rules, drop}
+use Rattle.std.proofs.Common.{rules}
 use Rattle.am_labels.proofs.Writing.{more_taken}
 use Rattle.am_labels.proofs.write.put_all.Goals as goal
 

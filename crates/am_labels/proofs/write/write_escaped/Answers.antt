@@ -16,18 +16,18 @@ returns-in_err-put_all-2 g c =
 
 pub loop-i-preserved : goal.loop-i-preserved
 loop-i-preserved g c = elim c.match-escape_of.branch [
-    in-Some+in_ok-put_all+in_ok-put_all-2 w ↦ record {
-      order = omega arith;
-      written = simp (w.out-is, w.start-is) (wrote_as (run_then_escape _ _ c.args.bytes.now _ (omega arith) c.loop-i.invariant.plain (search rules))
-          (wrote_then c.loop-i.invariant.written (wrote_then w.in_ok-put_all.ensures.ok w.in_ok-put_all-2.ensures.ok)));
-      plain = plain_at _ _ c.args.bytes.now w.start-is;
-    }
+  | in-Some+in_ok-put_all+in_ok-put_all-2 w ↦ record {
+    order = omega arith;
+    written = simp (w.out-is, w.start-is) (wrote_as (run_then_escape _ _ c.args.bytes.now _ (omega arith) c.loop-i.invariant.plain (search rules))
+        (wrote_then c.loop-i.invariant.written (wrote_then w.in_ok-put_all.ensures.ok w.in_ok-put_all-2.ensures.ok)));
+    plain = plain_at _ _ c.args.bytes.now w.start-is;
+  }
   | in_default w ↦ record {
-      order = omega arith;
-      written = simp (w.out-is, w.start-is) c.loop-i.invariant.written;
-      plain = simp w.start-is (plain_more _ _ c.args.bytes.now c.loop-i.invariant.order (omega arith) c.loop-i.invariant.plain (search rules));
-    }
-  ]
+    order = omega arith;
+    written = simp (w.out-is, w.start-is) c.loop-i.invariant.written;
+    plain = simp w.start-is (plain_more _ _ c.args.bytes.now c.loop-i.invariant.order (omega arith) c.loop-i.invariant.plain (search rules));
+  }
+]
 
 pub returns : goal.returns
 returns g c = writes_as (run_then_end _ c.loop-i.i c.args.bytes.now (omega arith) c.loop-i.invariant.plain) (c.loop-i.invariant.written ⟩ c.put_all-2.ensures)
