@@ -1,3 +1,5 @@
+pub mod Writing
+pub mod Quoting
 pub mod Stored
 pub mod LabelMaps
 pub mod Wholes
@@ -8,3 +10,4 @@ pub mod Universes
 pub mod AddedLabels
 pub mod Admitted
 pub mod Values
+pub mod SetTexts
