@@ -9,5 +9,5 @@ pub mod PairsOf
 pub mod Universes
 pub mod AddedLabels
 pub mod Admitted
-pub mod SetTexts
 pub mod Values
+pub mod SetTexts

@@ -1,10 +1,11 @@
 -- A text written between quotes, run by run: the bytes before `start` are written, and those from there to `i` stand for themselves.
-use Rattle.std.proofs.Common.{◌≡◌, ℕ, ◌+◌, ◌-◌, ◌<◌, ◌≤◌, List, [], ◌∷◌, ◌++◌, length, get_or, take, drop, sym, ap, ◌∙◌, append_assoc, append-nil, length-drop, arith}
+use Rattle.std.proofs.Common.{◌≡◌, ℕ, ◌+◌, ◌-◌, ◌<◌, ◌≤◌, List, [], ◌∷◌, ◌++◌, length, get_or, take, drop, sym, ap, ◌∙◌, append_assoc, length-drop, arith}
 use Rattle.std.proofs.Math.Seq.{take-length}
-use Rattle.std.proofs.lemmas.List.{take-append-drop, take_more, get_or-drop}
-use Rattle.std.proofs.lemmas.Grind.{common_steps, flat_map-append}
+use Rattle.std.proofs.lemmas.List.{take_more, get_or-drop}
+use Rattle.std.proofs.lemmas.Grind.{common_steps}
 use Rattle.std.specs.List.{flat_map}
 use Rattle.am_labels.specs.Text.{escaped}
+use Rattle.am_labels.proofs.Writing.{pieces_split, pieces_more}
 
 -- the bytes from `start` to `i`
 abbrev run : ℕ → ℕ → List ℕ → List ℕ
@@ -14,25 +15,16 @@ run start i text = take (i - start) (drop start text)
 abbrev IsPlain : ℕ → ℕ → List ℕ → Type 0
 IsPlain start i text = flat_map escaped (take i text) ≡ flat_map escaped (take start text) ++ run start i text
 
--- a text up to i, and from there on
-escaped_split : (i : ℕ) (text : List ℕ) → flat_map escaped (take i text) ++ flat_map escaped (drop i text) ≡ flat_map escaped text
-escaped_split i text = sym (flat_map-append escaped (take i text) (drop i text)) ∙ ap (λ t. flat_map escaped t) (take-append-drop i text)
-
--- one byte more
-escaped_more : (i : ℕ) (text : List ℕ) → i < length text → flat_map escaped (take (i + 1) text) ≡ flat_map escaped (take i text) ++ escaped (get_or text i 0)
-escaped_more i text h =
-    ap (λ t. flat_map escaped t) (take_more text i 0 h) ∙ flat_map-append escaped (take i text) (get_or text i 0 ∷ []) ∙ ap (λ t. flat_map escaped (take i text) ++ t) (append-nil (escaped (get_or text i 0)))
-
 -- the run, and the rest
 pub run_then_rest : (start i : ℕ) (text : List ℕ) → IsPlain start i text → flat_map escaped (take start text) ++ (run start i text ++ flat_map escaped (drop i text)) ≡ flat_map escaped text
 run_then_rest start i text plain =
-    sym (append_assoc (flat_map escaped (take start text)) (run start i text) (flat_map escaped (drop i text))) ∙ ap (λ t. t ++ flat_map escaped (drop i text)) (sym plain) ∙ escaped_split i text
+    sym (append_assoc (flat_map escaped (take start text)) (run start i text) (flat_map escaped (drop i text))) ∙ ap (λ t. t ++ flat_map escaped (drop i text)) (sym plain) ∙ pieces_split escaped text i
 
 -- the run, and the escape of the byte behind it
 pub run_then_escape : (start i : ℕ) (text escape : List ℕ) → i < length text → IsPlain start i text → escape ≡ escaped (get_or text i 0)
     → flat_map escaped (take start text) ++ (run start i text ++ escape) ≡ flat_map escaped (take (i + 1) text)
 run_then_escape start i text escape h plain e =
-    sym (append_assoc (flat_map escaped (take start text)) (run start i text) escape) ∙ ap (λ t. t ++ escape) (sym plain) ∙ ap (λ t. flat_map escaped (take i text) ++ t) e ∙ sym (escaped_more i text h)
+    sym (append_assoc (flat_map escaped (take start text)) (run start i text) escape) ∙ ap (λ t. t ++ escape) (sym plain) ∙ ap (λ t. flat_map escaped (take i text) ++ t) e ∙ pieces_more [] escaped text i 0 h
 
 -- the run, the escape, and the rest
 pub run_then_escape_then_rest : (start i : ℕ) (text escape : List ℕ) → i < length text → IsPlain start i text → escape ≡ escaped (get_or text i 0)
@@ -41,7 +33,7 @@ run_then_escape_then_rest start i text escape h plain e =
     let rest : List ℕ = flat_map escaped (drop (i + 1) text) in
     let before : List ℕ = flat_map escaped (take start text) in
     ap (λ t. before ++ t) (sym (append_assoc (run start i text) escape rest)) ∙ sym (append_assoc before (run start i text ++ escape) rest)
-    ∙ ap (λ t. t ++ rest) (run_then_escape start i text escape h plain e) ∙ escaped_split (i + 1) text
+    ∙ ap (λ t. t ++ rest) (run_then_escape start i text escape h plain e) ∙ pieces_split escaped text (i + 1)
 
 -- behind an escape the next run is empty
 pub plain_at : (i j : ℕ) (text : List ℕ) → i ≡ j → IsPlain i j text
@@ -57,7 +49,7 @@ run_more start i text order h =
 -- a byte more that stands for itself
 pub plain_more : (start i : ℕ) (text : List ℕ) → start ≤ i → i < length text → IsPlain start i text → escaped (get_or text i 0) ≡ get_or text i 0 ∷ [] → IsPlain start (i + 1) text
 plain_more start i text order h plain e =
-    let p : flat_map escaped (take (i + 1) text) ≡ flat_map escaped (take i text) ++ escaped (get_or text i 0) = escaped_more i text h in
+    let p : flat_map escaped (take (i + 1) text) ≡ flat_map escaped (take i text) ++ escaped (get_or text i 0) = sym (pieces_more [] escaped text i 0 h) in
     p ∙ ap (λ t. t ++ escaped (get_or text i 0)) plain ∙ append_assoc (flat_map escaped (take start text)) (run start i text) (escaped (get_or text i 0))
     ∙ ap (λ t. flat_map escaped (take start text) ++ t) (ap (λ t. run start i text ++ t) e ∙ sym (run_more start i text order h))
 

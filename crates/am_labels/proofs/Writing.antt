@@ -1,10 +1,35 @@
 -- What is written step by step.
-use Rattle.std.proofs.Common.{◌≡◌, ℕ, ◌+◌, ◌-◌, ◌<◌, List, [], ◌∷◌, ◌++◌, length, take, drop, Result, Ok, Err, IsErr, refl, subst, sym, ap, ◌∙◌, append_assoc, append-nil, length-append, length-drop, arith}
+use Rattle.std.proofs.Common.{◌≡◌, ℕ, ◌+◌, ◌-◌, ◌<◌, ◌≤◌, List, [], ◌∷◌, ◌++◌, length, get_or, take, drop, Result, Ok, Err, IsErr, refl, subst, sym, ap, ◌∙◌, append_assoc, append-nil, length-append, length-drop, arith}
 use Rattle.std.proofs.Math.Seq.{take-add, take-append-add}
-use Rattle.std.proofs.lemmas.List.{take-append-le, take_all}
+use Rattle.std.proofs.lemmas.List.{take-append-le, take_all, take-append-drop, take_more}
+use Rattle.std.proofs.lemmas.Grind.{flat_map-append}
+use Rattle.std.specs.List.{flat_map}
 use Rattle.std.specs.Result.{IsErrAnd}
 use Rattle.am_labels.specs.declared.kind.Kind.{Kind}
 use Rattle.am_labels.specs.Sink.{GrowsByProperPrefix, Wrote, WroteInPart, Writes}
+
+-- ---- A text in pieces, one for each item of a list, between a head and a tail. A loop keeps that the head and the pieces of the first
+-- items are written.
+
+pub pieces_split : {X : Type 0} (f : X → List ℕ) (xs : List X) (i : ℕ) → flat_map f (take i xs) ++ flat_map f (drop i xs) ≡ flat_map f xs
+pieces_split f xs i = sym (flat_map-append f (take i xs) (drop i xs)) ∙ ap (flat_map f) (take-append-drop i xs)
+
+pub pieces_more : {X : Type 0} (head : List ℕ) (f : X → List ℕ) (xs : List X) (i : ℕ) (d : X) → i < length xs
+    → (head ++ flat_map f (take i xs)) ++ f (get_or xs i d) ≡ head ++ flat_map f (take (i + 1) xs)
+pieces_more head f xs i d h =
+    append_assoc head (flat_map f (take i xs)) (f (get_or xs i d)) ∙ ap (λ t. head ++ t) (ap (λ t. flat_map f (take i xs) ++ t) (sym (append-nil (f (get_or xs i d))))
+    ∙ sym (flat_map-append f (take i xs) (get_or xs i d ∷ [])) ∙ ap (flat_map f) (sym (take_more xs i d h)))
+
+pub pieces_end : {X : Type 0} (head : List ℕ) (f : X → List ℕ) (xs : List X) (tail : List ℕ) (i : ℕ) → length xs ≤ i → (head ++ flat_map f (take i xs)) ++ tail ≡ head ++ (flat_map f xs ++ tail)
+pieces_end head f xs tail i h = append_assoc head (flat_map f (take i xs)) tail ∙ ap (λ t. head ++ (flat_map f t ++ tail)) (take_all i xs h)
+
+-- the piece at which the writing stopped, and the rest
+pub pieces_through : {X : Type 0} (head : List ℕ) (f : X → List ℕ) (xs : List X) (tail : List ℕ) (i : ℕ) (d : X) → i < length xs
+    → (head ++ flat_map f (take i xs)) ++ (f (get_or xs i d) ++ (flat_map f (drop (i + 1) xs) ++ tail)) ≡ head ++ (flat_map f xs ++ tail)
+pieces_through head f xs tail i d h =
+    let later : List ℕ = flat_map f (drop (i + 1) xs) in
+    sym (append_assoc (head ++ flat_map f (take i xs)) (f (get_or xs i d)) (later ++ tail)) ∙ ap (λ t. t ++ (later ++ tail)) (pieces_more head f xs i d h)
+    ∙ append_assoc head (flat_map f (take (i + 1) xs)) (later ++ tail) ∙ ap (λ t. head ++ t) (sym (append_assoc (flat_map f (take (i + 1) xs)) later tail) ∙ ap (λ t. t ++ tail) (pieces_split f xs (i + 1)))
 
 -- ---- A text of which some bytes at the front are written.
 

@@ -1,6 +1,6 @@
 -- A universe of label sets: labels, each with the values that it may have. (This project's own; the form of
 -- a label name is that of the Prometheus data model, "Metric names and labels".)
-use Rattle.std.specs.Prelude.{◌≡◌, ◌↔◌, ℕ, ◌<◌, ◌≤◌, List, [], ◌∷◌, ◌++◌, length, map, Bool, true, false, not, nat_le, nat_lt, ◌==◌, ◌&&◌, ◌||◌, if◌then◌else◌, Option, Some, None, option_map, IsTrue}
+use Rattle.std.specs.Prelude.{◌≡◌, ℕ, ◌<◌, ◌≤◌, List, [], ◌∷◌, ◌++◌, length, map, Bool, true, false, not, nat_le, nat_lt, ◌==◌, ◌&&◌, ◌||◌, if◌then◌else◌, Option, Some, None, option_map, IsTrue}
 use Rattle.std.specs.List.{list_all, list_any, AllByRecursion, IsDistinct}
 use Rattle.am_labels.specs.declared.kind.Kind.{Kind}
 use Rattle.am_labels.specs.declared.kind.Kind.TheVariants as kinds
@@ -123,7 +123,3 @@ label_fault u label =
 -- the answer where memory was refused for a label
 abbrev pub no_memory : LabelFault
 no_memory = record { kind = kinds.Memory; part = parts.Label }
-
--- a label has no fault exactly if the labels are still a universe with it behind them
-abbrev pub FaultsAreExact : Type 0
-FaultsAreExact = (u : List Label) (label : Label) → IsUniverse u → label_fault u label ≡ None ↔ IsUniverse (u ++ label ∷ [])

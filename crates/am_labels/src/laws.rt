@@ -1,11 +1,10 @@
 //! Facts about the definitions alone: each is the contract of a function with an empty body.
-ghost use Rattle.std.specs.Prelude.{◌≡◌, ◌↔◌, ℕ, List, [], IsTrue, Contains, Some, slice_get, unwrap_or};
+ghost use Rattle.std.specs.Prelude.{◌≡◌, ◌↔◌, ℕ, List, [], ◌∷◌, ◌++◌, IsTrue, Contains, None, Some, slice_get, unwrap_or};
 ghost use Rattle.std.specs.Ordering.{nat_cmp};
 ghost use Rattle.std.specs.Cmp.Lexicographic.{slice_cmp};
 ghost use Rattle.std.specs.List.Sorted.{IsStrictlySortedBy};
 ghost use Rattle.am_labels.specs.Text.{same_text};
 ghost use Rattle.am_labels.specs.Universe as spec;
-ghost use Rattle.am_labels.specs.Universe.{FaultsAreExact};
 ghost use Rattle.am_labels.specs.Choice.{choices, IsWhole};
 ghost use Rattle.am_labels.specs.LabelSet.{value_of, value_at, label_set_of};
 
@@ -37,8 +36,9 @@ pub fn undeclared_value()
         → ¬ Contains (spec.names u) name → value_of (label_set_of u c) name ≡ [] }
 {}
 
-/// A label has no fault behind a universe exactly if the universe with it is one: no fault is missing, and none is
+/// A label has no fault behind a universe exactly if the labels with it are one: no fault is missing, and none is
 /// needless.
 pub fn a_label_is_added_exactly_to_a_universe()
-    ensures { FaultsAreExact }
+    ensures { (u : List spec.Label) (label : spec.Label) → spec.IsUniverse u
+        → (spec.label_fault u label ≡ None ↔ spec.IsUniverse (u ++ label ∷ [])) }
 {}

@@ -34,4 +34,4 @@ pub use out::Out;
 pub use place::Place;
 pub use sink::Sink;
 pub use universe::Universe;
-pub use write::{put_all, write_set, write_text};
+pub use write::{put_all, put_str, write_set, write_text};

@@ -1,11 +1,10 @@
-ghost use Rattle.std.specs.Prelude.{◌≡◌, ◌≢◌, ◌<◌, ◌≤◌, ◌==◌, List, [], ◌∷◌, ◌++◌, length, map, Some, None, MatchResult, string_bytes, IfOk, IfErr, IfSome, IfNone, OnOk, OnErr, Contains, slice_get, slice_index, option_map, option_and_then, unwrap_or};
+ghost use Rattle.std.specs.Prelude.{◌≡◌, ◌<◌, ◌≤◌, ◌==◌, [], ◌∷◌, ◌++◌, length, Some, None, string_bytes, IfErr, IfSome, IfNone, OnOk, OnErr, Contains, slice_get, slice_index, option_map, option_and_then, unwrap_or};
 ghost use Rattle.std.specs.List.{list_all, list_any};
-ghost use Rattle.am_labels.specs.Universe.{IsUniverse, max_values, names, sizes, starts_name, goes_on_name, is_label_name, same_value, name_fault, count_fault, value_fault, label_values_fault, label_fault, no_memory};
+ghost use Rattle.am_labels.specs.Universe.{IsUniverse, max_labels, max_values, names, sizes, starts_name, goes_on_name, is_label_name, same_value, name_fault, count_fault, value_fault, label_values_fault, label_fault, no_memory};
 ghost use Rattle.am_labels.specs.UniverseView.{label_of, texts_of};
 ghost use Rattle.am_labels.specs.LabelSet.{value_at};
 ghost use Rattle.am_labels.specs.Choice.{admits};
 ghost use Rattle.am_labels.specs.declared.kind.Kind.TheVariants as kinds;
-ghost use Rattle.am_labels.specs.declared.label_fault.LabelPart.TheVariants as parts;
 
 use crate::{Choice, Kind, LabelFault, LabelPart};
 use std::alloc::Global;
@@ -129,6 +128,7 @@ impl Universe {
     /// How many labels there are, at most 64.
     pub fn len(&self) -> usize
         ensures len { result ≡ length self.now }
+        ensures at_most { result ≤ max_labels }
         ensures universe { IsUniverse self.now }
     {
         self.labels.len()
@@ -197,9 +197,10 @@ impl Universe {
     }
 }
 
-/// The most labels that a universe has, and the most values of a label.
+/// The most labels of a universe.
 const MAX_LABELS: usize = 64;
 
+/// The most values of a label.
 const MAX_VALUES: usize = 128;
 
 /// The first fault in the values of a label.

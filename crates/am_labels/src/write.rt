@@ -10,6 +10,7 @@ use crate::{Choice, Kind, Sink, Universe};
 
 /// Writes the bytes, all of them, unless a take fails: then the answer is `Kind::Write`, the bytes before
 /// it have gone out, and it is not tried again.
+#[tactic(auto, using(crate::proofs::Writing::more_taken))]
 pub fn put_all<W: Sink>(out: &mut W, bytes: &[u8]) -> Result<(), Kind>
     ensures { Writes W.taken W.failures out.old out.new bytes.now result }
 {

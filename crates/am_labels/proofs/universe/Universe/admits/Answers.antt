@@ -1,4 +1,4 @@
-use Rattle.std.proofs.Common.{◌≡◌, ◌∙◌, ◌<◌, ◌≤◌, sym, length, get_or, arith}
+use Rattle.std.proofs.Common.{◌∙◌, ◌<◌, ◌≤◌, sym, length, arith}
 use Rattle.std.proofs.lemmas.List.{length-map}
 use Rattle.am_labels.specs.Universe.{Label, sizes}
 use Rattle.am_labels.proofs.Admitted.{admits_none_longer, admits_later, admits_not}

@@ -1,4 +1,4 @@
-use Rattle.std.proofs.Common.{◌≡◌, ◌≤◌, length}
+use Rattle.std.proofs.Common.{◌≡◌}
 use Rattle.am_labels.specs.Universe.{sizes}
 use Rattle.am_labels.specs.Choice.{admits}
 use Rattle.am_labels.proofs.Admitted.{admits_from}
