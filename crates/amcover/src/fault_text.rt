@@ -1,9 +1,9 @@
 ghost use Rattle.std.specs.Prelude.{◌≡◌, string_bytes};
 ghost use Rattle.std.specs.List.{flat_map};
 ghost use Rattle.am_labels.specs.Sink.{Writes};
-ghost use Rattle.amcover.specs.FaultText.{place_text, fault_text, where_part, pointer_part, escaped_in_pointer, status_of};
+ghost use Rattle.amcover.specs.FaultText.{place_text, fault_text, is_placeless, where_part, pointer_part, escaped_in_pointer, status_of};
 
-use am_labels::{Fault, Kind, Place, Sink, put_all};
+use am_labels::{Fault, Kind, Place, Sink, put_all, put_str};
 
 /// Writes the line for a fault, as `amcover: universe: /labels/0/name: shape`.
 ///
@@ -13,7 +13,7 @@ pub fn write_fault<W: Sink>(fault: &Fault, out: &mut W) -> Result<(), Kind>
 {
     put_all(out, b"amcover: ")?;
     write_where(fault, out)?;
-    put_all(out, fault.kind.text().as_bytes())?;
+    put_str(out, fault.kind.text())?;
     put_all(out, b"\n")
 }
 
@@ -21,16 +21,22 @@ pub fn write_fault<W: Sink>(fault: &Fault, out: &mut W) -> Result<(), Kind>
 fn write_where<W: Sink>(fault: &Fault, out: &mut W) -> Result<(), Kind>
     ensures { Writes W.taken W.failures out.old out.new (where_part fault.now.kind fault.now.place (string_bytes fault.now.pointer)) result }
 {
-    match fault.kind {
-        Kind::Write | Kind::Memory => Ok(()),
-        _ => {
-            put_all(out, name_of(fault.place).as_bytes())?;
-            put_all(out, b": ")?;
-            write_pointer(fault.pointer.as_str(), out)
-        }
+    if is_placeless(fault.kind) {
+        return Ok(());
     }
+    put_str(out, name_of(fault.place))?;
+    put_all(out, b": ")?;
+    write_pointer(fault.pointer.as_str(), out)
 }
 
+/// Whether a fault stands at no part of the input.
+fn is_placeless(kind: Kind) -> bool
+    ensures { result ≡ is_placeless kind }
+{
+    matches!(kind, Kind::Write | Kind::Memory)
+}
+
+/// Writes a pointer and what separates it from the text of the kind, and nothing for the empty pointer.
 fn write_pointer<W: Sink>(pointer: &str, out: &mut W) -> Result<(), Kind>
     ensures { Writes W.taken W.failures out.old out.new (pointer_part pointer.now) result }
 {
