@@ -43,20 +43,13 @@ fn write_pointer<W: Sink>(pointer: &str, out: &mut W) -> Result<(), Kind>
     if pointer.is_empty() {
         return Ok(());
     }
-    write_escaped(pointer.as_bytes(), out)?;
+    for byte in pointer.as_bytes() {
+        write_byte(*byte, out)?;
+    }
     put_all(out, b": ")
 }
 
-/// Writes the bytes of a pointer, so that it stays on one line.
-fn write_escaped<W: Sink>(pointer: &[u8], out: &mut W) -> Result<(), Kind>
-    ensures { Writes W.taken W.failures out.old out.new (flat_map escaped_in_pointer pointer.now) result }
-{
-    for byte in pointer {
-        write_byte(*byte, out)?;
-    }
-    Ok(())
-}
-
+/// Writes a byte of a pointer, so that the pointer stays on one line.
 fn write_byte<W: Sink>(byte: u8, out: &mut W) -> Result<(), Kind>
     ensures { Writes W.taken W.failures out.old out.new (escaped_in_pointer byte) result }
 {
