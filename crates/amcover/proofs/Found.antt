@@ -1,0 +1,54 @@
+-- The answers that begin with a prefix, found position by position.
+use Rattle.std.proofs.Common.{◌≡◌, ℕ, ◌+◌, ◌-◌, ◌<◌, ◌≤◌, Bool, true, false, cond, List, [], ◌∷◌, ◌++◌, length, slice_index, slice_get, Some, nat_lt, ap, sym, ◌∙◌, refl, append_assoc, arith}
+use Rattle.std.specs.List.{flat_map, filter}
+use Rattle.std.proofs.lemmas.Bool.{and_parts}
+use Rattle.std.proofs.lemmas.List.{length-map}
+use Rattle.std.proofs.lemmas.List.Elements.{filter-append}
+use Rattle.std.proofs.lemmas.Option.{get_or_from_slice_get}
+use Rattle.am_labels.specs.Universe.{Label, sizes}
+use Rattle.am_labels.specs.Choice.{counted_from, admits, IsWhole}
+use Rattle.amcover.specs.Completions.{completions}
+use Rattle.amcover.proofs.Completions.{completions_of_whole, completions_by_next, flat_map_counted, admits_next}
+
+pub length-sizes : (u : List Label) → length (sizes u) ≡ length u
+length-sizes u = length-map u (λ l. length l.values)
+
+admitted_fits : (sizes prefix : List ℕ) → admits sizes prefix ≡ true → length prefix ≤ length sizes
+admitted_fits sizes [] a = omega arith
+admitted_fits [] (p ∷ prefix) a = cc
+admitted_fits (size ∷ sizes) (p ∷ prefix) a =
+    let rest = admitted_fits sizes prefix (and_parts (nat_lt p size) (admits sizes prefix) a).1 in
+    omega arith
+
+-- an admitted prefix is no longer than the list of labels
+pub prefix_fits : (u : List Label) (prefix : List ℕ) → admits (sizes u) prefix ≡ true → length prefix ≤ length u
+prefix_fits u prefix a = omega (arith, length-sizes u, admitted_fits (sizes u) prefix a)
+
+-- a whole choice is found if it passes the test
+pub found_here : (u : List Label) (test : List ℕ → Bool) (c : List ℕ) → length c ≡ length u → test c ≡ true → filter test (completions (sizes u) c) ≡ c ∷ []
+found_here u test c e passes = ap (filter test) (completions_of_whole (sizes u) c (e ∙ sym (length-sizes u))) ∙ ap (λ b. cond b (c ∷ []) []) passes
+
+-- and nothing is found if it does not
+pub none_here : (u : List Label) (test : List ℕ → Bool) (c : List ℕ) → length c ≡ length u → test c ≡ false → filter test (completions (sizes u) c) ≡ []
+none_here u test c e fails = ap (filter test) (completions_of_whole (sizes u) c (e ∙ sym (length-sizes u))) ∙ ap (λ b. cond b (c ∷ []) []) fails
+
+-- a prefix stays admitted with one position more
+pub longer_admitted : (u : List Label) (prefix : List ℕ) (p size : ℕ) → admits (sizes u) prefix ≡ true → length prefix < length u → slice_get (sizes u) (length prefix) ≡ Some size → p < size
+    → admits (sizes u) (prefix ++ p ∷ []) ≡ true
+longer_admitted u prefix p size a h at below =
+    let here : slice_index (sizes u) (length prefix) ≡ size = get_or_from_slice_get (sizes u) (length prefix) size 0 at in
+    admits_next (sizes u) prefix p a (omega (arith, length-sizes u)) (omega arith)
+
+-- one position more
+pub found_more : (f : ℕ → List (List ℕ)) (test : List ℕ → Bool) (before now new : List (List ℕ)) (count : ℕ)
+    → now ≡ before ++ filter test (flat_map f (counted_from 0 count)) → new ≡ now ++ filter test (f count) → new ≡ before ++ filter test (flat_map f (counted_from 0 (count + 1)))
+found_more f test before now new count so_far added =
+    added ∙ ap (λ xs. xs ++ filter test (f count)) so_far ∙ append_assoc before (filter test (flat_map f (counted_from 0 count))) (filter test (f count))
+    ∙ ap (λ xs. before ++ xs) (sym (filter-append test (flat_map f (counted_from 0 count)) (f count)) ∙ ap (filter test) (sym (flat_map_counted f count)))
+
+-- every position
+pub found_all : (u : List Label) (prefix : List ℕ) (size : ℕ) → length prefix < length u → slice_get (sizes u) (length prefix) ≡ Some size
+    → flat_map (λ p. completions (sizes u) (prefix ++ p ∷ [])) (counted_from 0 size) ≡ completions (sizes u) prefix
+found_all u prefix size h at =
+    ap (λ n. flat_map (λ p. completions (sizes u) (prefix ++ p ∷ [])) (counted_from 0 n)) (sym (get_or_from_slice_get (sizes u) (length prefix) size 0 at))
+    ∙ sym (completions_by_next (sizes u) prefix (omega (arith, length-sizes u)))
