@@ -1,0 +1,57 @@
+-- The JSON value of a file, and its parts. (RFC 8259; the reading is that of `serde_json`.)
+use Rattle.std.specs.Prelude.{◌≡◌, ◌⊎◌, ℕ, List, [], ◌∷◌, Bool, true, false, ◌||◌, if◌then◌else◌, Option, Some, None, option_map, option_and_then, Contains, ⊤}
+use Rattle.std.specs.List.{list_any}
+use Rattle.std.specs.Str.{is_utf8}
+use Rattle.serde_json.specs.Data.{Data, null, boolean, number, string, array, object, Items, no_items, item, Members, no_members, member}
+use Rattle.serde_json.specs.Find.{get, as_array}
+use Rattle.serde_json.specs.Read.{read}
+use Rattle.am_labels.specs.Text.{same_text}
+
+-- the JSON value of the bytes of a file, if they have one
+abbrev pub json_of : List ℕ → Option Data
+json_of bytes = if is_utf8 bytes then read bytes else None
+
+abbrev pub is_null : Data → Bool
+is_null null = true
+is_null (boolean b) = false
+is_null (number n) = false
+is_null (string s) = false
+is_null (array ds) = false
+is_null (object ms) = false
+
+-- A field that is `null` is absent.
+abbrev pub unless_null : Data → Option Data
+unless_null d = if is_null d then None else Some d
+
+-- the value of a field
+abbrev pub field : List ℕ → Data → Option Data
+field key d = option_and_then unless_null (get key d)
+
+-- The first field that is none of these; members are in the order of the bytes of their keys, so it is the least.
+abbrev pub unknown_field : List (List ℕ) → Members → Option (List ℕ)
+unknown_field known no_members = None
+unknown_field known (member key d rest) = if is_null d || list_any (same_text key) known then unknown_field known rest else Some key
+
+abbrev pub listed : Items → List Data
+listed no_items = []
+listed (item d ds) = d ∷ listed ds
+
+-- the items of an array, in order
+abbrev pub items_of : Data → Option (List Data)
+items_of d = option_map listed (as_array d)
+
+-- each member has one of these names, or is `null`
+abbrev pub AreOnly : List (List ℕ) → Members → Type 0
+AreOnly known no_members = ⊤
+AreOnly known (member key d rest) = ((d ≡ null) ⊎ Contains known key) × AreOnly known rest
+
+-- an object that has no fields but these
+abbrev pub HasOnly : List (List ℕ) → Data → Type 0
+HasOnly known d = (members : Members) × (d ≡ object members) × AreOnly known members
+
+-- each item says the value at its place
+abbrev pub Each : {A : Type 0} → (Data → A → Type 0) → List Data → List A → Type 0
+Each Says [] [] = ⊤
+Each Says [] (x ∷ xs) = ⊥
+Each Says (d ∷ ds) [] = ⊥
+Each Says (d ∷ ds) (x ∷ xs) = Says d x × Each Says ds xs

@@ -1,0 +1,67 @@
+ghost use Rattle.std.specs.Prelude.{◌≡◌};
+ghost use Rattle.am_files.specs.declared.refusal.ReadError.TheVariants.{Memory};
+ghost use Rattle.am_files.specs.Pointer.{here};
+ghost use Rattle.am_files.specs.Reading.{Tells};
+
+use am_labels::Kind;
+use std::alloc::{AllocError, AllocFailed, Global};
+use std::marker::Model;
+
+/// Why a file is refused, and at which part: a JSON Pointer (RFC 6901), from the value that is looked at.
+#[derive(Drop)]
+pub(crate) struct Refusal {
+    pub(crate) kind: Kind,
+    pub(crate) pointer: String,
+}
+
+impl Model for Refusal {
+    ghost use Rattle.std.specs.Prelude.{string_bytes, ◌≢◌};
+    ghost use Rattle.am_labels.specs.declared.kind.Kind.TheVariants as kinds;
+    ghost use Rattle.am_files.specs.Pointer as spec;
+
+    ghost Value = { spec.Refusal };
+
+    ghost view = { λ r. record { kind = r.kind; pointer = string_bytes r.pointer } };
+
+    ghost invariant = { λ r. r.kind ≢ kinds.Memory };
+}
+
+/// Why a reader gives no value.
+#[derive(Drop)]
+pub(crate) enum ReadError {
+    /// A growth of memory was refused.
+    Memory,
+    /// The first fault of the file.
+    Refused(Refusal),
+}
+
+impl ReadError {
+    /// The value that is looked at is refused.
+    pub(crate) fn here(alloc: Global, kind: Kind) -> ReadError
+        ensures { Tells result (here kind) }
+    {
+        if kind == Kind::Memory {
+            return ReadError::Memory;
+        }
+        ReadError::Refused(Refusal {
+            kind,
+            pointer: String::new(alloc),
+        })
+    }
+}
+
+impl From<AllocError> for ReadError {
+    ghost from_gives = { λ _ e. e ≡ Memory };
+
+    fn from(_error: AllocError) -> ReadError {
+        ReadError::Memory
+    }
+}
+
+impl<T: Drop> From<AllocFailed<T>> for ReadError {
+    ghost from_gives = { λ _ e. e ≡ Memory };
+
+    fn from(_error: AllocFailed<T>) -> ReadError {
+        ReadError::Memory
+    }
+}
