@@ -1,9 +1,9 @@
 -- The JSON value of a file, and its parts. (RFC 8259; the reading is that of `serde_json`.)
-use Rattle.std.specs.Prelude.{◌≡◌, ◌⊎◌, ℕ, List, [], ◌∷◌, Bool, true, false, ◌||◌, if◌then◌else◌, Option, Some, None, option_map, option_and_then, Contains, ⊤}
+use Rattle.std.specs.Prelude.{◌≡◌, ◌⊎◌, ℕ, List, [], ◌∷◌, Bool, not, ◌&&◌, if◌then◌else◌, Option, Some, None, is_some, option_map, option_and_then, Contains, ⊤}
 use Rattle.std.specs.List.{list_any}
 use Rattle.std.specs.Str.{is_utf8}
-use Rattle.serde_json.specs.Data.{Data, null, boolean, number, string, array, object, Items, no_items, item, Members, no_members, member}
-use Rattle.serde_json.specs.Find.{get, as_array}
+use Rattle.serde_json.specs.Data.{Data, null, object, Items, no_items, item, Members, no_members, member}
+use Rattle.serde_json.specs.Find.{get, as_null, as_array}
 use Rattle.serde_json.specs.Read.{read}
 use Rattle.am_labels.specs.Text.{same_text}
 
@@ -12,12 +12,7 @@ abbrev pub json_of : List ℕ → Option Data
 json_of bytes = if is_utf8 bytes then read bytes else None
 
 abbrev pub is_null : Data → Bool
-is_null null = true
-is_null (boolean b) = false
-is_null (number n) = false
-is_null (string s) = false
-is_null (array ds) = false
-is_null (object ms) = false
+is_null d = is_some (as_null d)
 
 -- A field that is `null` is absent.
 abbrev pub unless_null : Data → Option Data
@@ -27,10 +22,13 @@ unless_null d = if is_null d then None else Some d
 abbrev pub field : List ℕ → Data → Option Data
 field key d = option_and_then unless_null (get key d)
 
+abbrev pub is_unknown : List (List ℕ) → List ℕ → Data → Bool
+is_unknown known key d = not (is_null d) && not (list_any (λ name. same_text name key) known)
+
 -- The first field that is none of these; members are in the order of the bytes of their keys, so it is the least.
 abbrev pub unknown_field : List (List ℕ) → Members → Option (List ℕ)
 unknown_field known no_members = None
-unknown_field known (member key d rest) = if is_null d || list_any (same_text key) known then unknown_field known rest else Some key
+unknown_field known (member key d rest) = if is_unknown known key d then Some key else unknown_field known rest
 
 abbrev pub listed : Items → List Data
 listed no_items = []

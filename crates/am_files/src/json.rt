@@ -1,9 +1,12 @@
 //! The parts of a JSON value, each refused where it is not of its kind.
 
-ghost use Rattle.std.specs.Prelude.{◌≡◌, map, Some, None, ⊤, IfOk, IfErr, option_map};
-ghost use Rattle.serde_json.specs.Errors.{IsMemory};
-ghost use Rattle.serde_json.specs.View.{view, items_view, members_view};
-ghost use Rattle.am_files.specs.Json.{is_null, field, unknown_field};
+ghost use Rattle.std.specs.Prelude.{◌≡◌, map, ok_or, option_map};
+ghost use Rattle.std.specs.List.{list_any};
+ghost use Rattle.am_labels.specs.Text.{same_text};
+ghost use Rattle.serde_json.specs.View.{view, members_view};
+ghost use Rattle.am_files.specs.Json.{json_of, field, is_unknown, unknown_field};
+ghost use Rattle.am_labels.specs.declared.kind.Kind.TheVariants as kinds;
+ghost use Rattle.am_files.specs.Pointer.{here};
 ghost use Rattle.am_files.specs.Reading.{Gives, only_fields, required, required_text, required_items, text_in, items_in, object_in, json_in, unless, at_most};
 
 use crate::pointer::within_field;
@@ -20,6 +23,12 @@ pub(crate) fn json(alloc: Global, bytes: &[u8]) -> Result<Value, ReadError>
     ensures { Gives view result (json_in bytes.now) }
 {
     at_most(alloc, MAX_BYTES, bytes.len())?;
+    value_of(alloc, bytes)
+}
+
+fn value_of(alloc: Global, bytes: &[u8]) -> Result<Value, ReadError>
+    ensures { Gives view result (ok_or (json_of bytes.now) (here kinds.NotJson)) }
+{
     match Value::from_slice(alloc, bytes) {
         Ok(value) => Ok(value),
         Err(error) => {
@@ -99,11 +108,23 @@ fn unknown_field<'v>(members: &'v Map<String, Value>, known: &[&str]) -> Option<
         ≡ unknown_field (map (λ key. key.now) known.now) (members_view members.now.entries) }
 {
     for (key, value) in members {
-        if !value.is_null() && !known.iter().any(|name| *name == key.as_str()) {
+        if is_unknown(known, key.as_str(), value) {
             return Some(key.as_str());
         }
     }
     None
+}
+
+fn is_unknown(known: &[&str], key: &str, value: &Value) -> bool
+    ensures { result ≡ is_unknown (map (λ name. name.now) known.now) key.now (view value.now) }
+{
+    !value.is_null() && !is_one_of(key, known)
+}
+
+fn is_one_of(key: &str, names: &[&str]) -> bool
+    ensures { result ≡ list_any (λ name. same_text name key.now) (map (λ name. name.now) names.now) }
+{
+    names.contains(&key)
 }
 
 /// The value of a field, which is absent where it is `null`.

@@ -1,7 +1,7 @@
 //! JSON Pointers (RFC 6901) to the part of a file that is at fault.
 
-ghost use Rattle.std.specs.Prelude.{◌≡◌, string_bytes, IfOk};
-ghost use Rattle.am_files.specs.Pointer.{to_field, to_item, behind};
+ghost use Rattle.std.specs.Prelude.{◌≡◌, ◌++◌, string_bytes, encode_utf8, flat_map, IfOk, OnOk};
+ghost use Rattle.am_files.specs.Pointer.{escaped, to_field, to_item, behind};
 ghost use Rattle.am_files.specs.Reading.{Tells, IsUnder};
 
 use crate::refusal::{ReadError, Refusal};
@@ -56,13 +56,21 @@ fn to_field(alloc: Global, key: &str) -> Result<String, AllocError>
 {
     let mut part = String::from_str(alloc, "/")?;
     for character in key.chars() {
-        match character {
-            '~' => part.push_str("~0")?,
-            '/' => part.push_str("~1")?,
-            other => part.push(other)?,
-        }
+        push_escaped(&mut part, character)?;
     }
     Ok(part)
+}
+
+fn push_escaped(part: &mut String, character: char) -> Result<(), AllocError>
+    ensures { OnOk result (string_bytes part.new ≡ string_bytes part.old ++ flat_map escaped (encode_utf8 character)) }
+{
+    if character == '~' {
+        part.push_str("~0")
+    } else if character == '/' {
+        part.push_str("~1")
+    } else {
+        part.push(character)
+    }
 }
 
 /// The part of a pointer that leads to an item.
