@@ -10,6 +10,7 @@ mod kind;
 mod label_fault;
 mod op;
 mod place;
+mod universe;
 
 
 pub use fault::Fault;
@@ -17,3 +18,4 @@ pub use kind::Kind;
 pub use label_fault::{LabelFault, LabelPart};
 pub use op::Op;
 pub use place::Place;
+pub use universe::Universe;
