@@ -1,9 +1,12 @@
 -- Reading a JSON value field by field, with the first fault that is met.
-use Rattle.std.specs.Prelude.{◌≡◌, ℕ, List, [], length, Bool, nat_le, nat_lt, if◌then◌else◌, Option, Some, None, ok_or, Result, Ok, Err, IsErrAnd, ⊤}
+use Rattle.std.specs.Prelude.{◌≡◌, ◌≢◌, ℕ, List, [], length, Bool, nat_le, nat_lt, if◌then◌else◌, Option, Some, None, ok_or, Result, Ok, Err, IsErrAnd, string_bytes, ⊤}
 use Rattle.serde_json.specs.Data.{Data, Members}
 use Rattle.serde_json.specs.Find.{as_object, as_str}
 use Rattle.am_labels.specs.declared.kind.Kind.{Kind}
 use Rattle.am_labels.specs.declared.kind.Kind.TheVariants as kinds
+use Rattle.am_labels.specs.declared.place.Place.{Place}
+use Rattle.am_labels.specs.declared.place.Place.TheVariants as places
+use Rattle.am_labels.specs.declared.fault.Fault.{Fault}
 use Rattle.am_files.specs.declared.refusal.ReadError.{ReadError}
 use Rattle.am_files.specs.declared.refusal.ReadError.TheVariants as errors
 use Rattle.am_files.specs.Json.{json_of, field, unknown_field, items_of}
@@ -34,6 +37,19 @@ abbrev pub IsUnder : {X : Type 0} → List ℕ → Result X ReadError → Result
 IsUnder part (Ok x) seen = seen ≡ Ok x
 IsUnder part (Err errors.Memory) seen = seen ≡ Err errors.Memory
 IsUnder part (Err (errors.Refused r)) seen = IsErrAnd seen (λ e. Tells e (behind part r))
+
+-- ---- The fault of a file.
+
+-- the refusal that a fault tells of
+abbrev pub refusal_of : Fault → Refusal
+refusal_of fault = record { kind = fault.kind; pointer = string_bytes fault.pointer }
+
+-- the fault that a reader's error is, in the file at this place
+abbrev pub IsFaultOf : Place → ReadError → Fault → Type 0
+IsFaultOf place errors.Memory fault = (fault.kind ≡ kinds.Memory) × (fault.place ≡ places.Memory) × (string_bytes fault.pointer ≡ [])
+IsFaultOf place (errors.Refused r) fault = (fault.kind ≢ kinds.Memory) × (fault.place ≡ place) × (refusal_of fault ≡ r)
+
+-- ---- Checks.
 
 -- refused here, where there is a cause
 abbrev pub unless : Option Kind → Result ⊤ Refusal

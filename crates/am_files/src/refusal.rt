@@ -1,9 +1,10 @@
-ghost use Rattle.std.specs.Prelude.{◌≡◌};
+ghost use Rattle.std.specs.Prelude.{◌≡◌, ◌≢◌};
+ghost use Rattle.am_labels.specs.declared.kind.Kind.TheVariants as kinds;
 ghost use Rattle.am_files.specs.declared.refusal.ReadError.TheVariants.{Memory};
 ghost use Rattle.am_files.specs.Pointer.{here};
-ghost use Rattle.am_files.specs.Reading.{Tells};
+ghost use Rattle.am_files.specs.Reading.{Tells, IsFaultOf, refusal_of};
 
-use am_labels::Kind;
+use am_labels::{Fault, Kind, Place};
 use std::alloc::{AllocError, AllocFailed, Global};
 use std::marker::Model;
 
@@ -24,6 +25,20 @@ impl Model for Refusal {
     ghost view = { λ r. record { kind = r.kind; pointer = string_bytes r.pointer } };
 
     ghost invariant = { λ r. r.kind ≢ kinds.Memory };
+}
+
+impl Refusal {
+    fn at(self, place: Place) -> Fault
+        ensures memory { result.kind ≢ kinds.Memory }
+        ensures place { result.place ≡ place }
+        ensures refusal { refusal_of result ≡ self }
+    {
+        Fault {
+            kind: self.kind,
+            place,
+            pointer: self.pointer,
+        }
+    }
 }
 
 /// Why a reader gives no value.
@@ -47,6 +62,20 @@ impl ReadError {
             kind,
             pointer: String::new(alloc),
         })
+    }
+
+    /// The fault that it is, in the file at this place.
+    pub(crate) fn at(self, alloc: Global, place: Place) -> Fault
+        ensures { IsFaultOf place self result }
+    {
+        match self {
+            ReadError::Memory => Fault {
+                kind: Kind::Memory,
+                place: Place::Memory,
+                pointer: String::new(alloc),
+            },
+            ReadError::Refused(refusal) => refusal.at(place),
+        }
     }
 }
 
