@@ -1,3 +1,4 @@
 pub mod Values
 pub mod Pointers
 pub mod Readings
+pub mod Arrays

@@ -1,5 +1,5 @@
 -- Reading a JSON value field by field, with the first fault that is met.
-use Rattle.std.specs.Prelude.{◌≡◌, ◌≢◌, ℕ, List, [], length, Bool, nat_le, nat_lt, if◌then◌else◌, Option, Some, None, ok_or, Result, Ok, Err, IsErrAnd, string_bytes, ⊤}
+use Rattle.std.specs.Prelude.{◌≡◌, ◌≢◌, ℕ, List, [], ◌∷◌, ◌++◌, length, Bool, nat_le, nat_lt, if◌then◌else◌, Option, Some, None, ok_or, Result, Ok, Err, IsErrAnd, string_bytes, ⊤}
 use Rattle.serde_json.specs.Data.{Data, Members}
 use Rattle.serde_json.specs.Find.{as_object, as_str}
 use Rattle.am_labels.specs.declared.kind.Kind.{Kind}
@@ -10,7 +10,7 @@ use Rattle.am_labels.specs.declared.fault.Fault.{Fault}
 use Rattle.am_files.specs.declared.refusal.ReadError.{ReadError}
 use Rattle.am_files.specs.declared.refusal.ReadError.TheVariants as errors
 use Rattle.am_files.specs.Json.{json_of, field, unknown_field, items_of}
-use Rattle.am_files.specs.Pointer.{Refusal, here, behind, under, to_field}
+use Rattle.am_files.specs.Pointer.{Refusal, here, behind, under, to_field, to_item}
 
 infixl 10 ◌>>=◌
 abbrev pub ◌>>=◌ : {A B : Type 0} → Result A Refusal → (A → Result B Refusal) → Result B Refusal
@@ -96,6 +96,15 @@ unfoldable pub required_items : List ℕ → Data → Result (List Data) Refusal
 required_items key d = do
   value ← required key d
   under (to_field key) (items_in value)
+
+-- ---- The items of an array.
+
+-- The items behind those that were read already; `read` reads one behind others.
+unfoldable pub each : {A : Type 0} → (List A → Data → Result A Refusal) → List A → List Data → Result (List A) Refusal
+each read before [] = Ok before
+each read before (d ∷ ds) = do
+  x ← under (to_item (length before)) (read before d)
+  each read (before ++ x ∷ []) ds
 
 -- ---- A file.
 

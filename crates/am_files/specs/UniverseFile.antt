@@ -1,12 +1,12 @@
 -- The universe file: which JSON value says which universe, and the first fault of a value that says none.
 -- (This project's own form.)
-use Rattle.std.specs.Prelude.{◌≡◌, ℕ, List, [], ◌∷◌, ◌++◌, length, if◌then◌else◌, Option, Some, None, option_and_then, Result, Ok, Err, codes}
+use Rattle.std.specs.Prelude.{◌≡◌, ℕ, List, [], ◌∷◌, length, if◌then◌else◌, Option, Some, None, option_and_then, Result, Ok, Err, codes}
 use Rattle.std.specs.Result.{result_err}
 use Rattle.serde_json.specs.Data.{Data, null, string}
 use Rattle.am_labels.specs.Universe.{Values, Label, max_labels, IsUniverse, name_fault, count_fault, value_fault}
 use Rattle.am_files.specs.Json.{is_null, field, items_of, HasOnly, Each}
-use Rattle.am_files.specs.Pointer.{Refusal, to_field, to_item, under}
-use Rattle.am_files.specs.Reading.{◌>>=◌, unless, at_most, text_in, only_fields, required_text, required_items, json_in}
+use Rattle.am_files.specs.Pointer.{Refusal, to_field, under}
+use Rattle.am_files.specs.Reading.{◌>>=◌, unless, at_most, each, text_in, only_fields, required_text, required_items, json_in}
 
 -- the fields of the file, and those of a label
 abbrev pub file_fields : List (List ℕ)
@@ -50,16 +50,10 @@ value_behind before d = do
   _ ← unless (value_fault before value)
   Ok value
 
-unfoldable pub values_behind : Values → List Data → Result Values Refusal
-values_behind before [] = Ok before
-values_behind before (d ∷ ds) = do
-  value ← under (to_item (length before)) (value_behind before d)
-  values_behind (before ++ value ∷ []) ds
-
 unfoldable pub values_in : List Data → Result Values Refusal
 values_in items = do
   _ ← unless (count_fault (length items))
-  values_behind [] items
+  each value_behind [] items
 
 -- a label behind those that were read already
 unfoldable pub label_behind : List Label → Data → Result Label Refusal
@@ -71,16 +65,10 @@ label_behind u d = do
   values ← under (to_field (codes "values")) (values_in items)
   Ok (record { name = name; values = values })
 
-unfoldable pub labels_behind : List Label → List Data → Result (List Label) Refusal
-labels_behind u [] = Ok u
-labels_behind u (d ∷ ds) = do
-  label ← under (to_item (length u)) (label_behind u d)
-  labels_behind (u ++ label ∷ []) ds
-
 unfoldable pub labels_in : List Data → Result (List Label) Refusal
 labels_in items = do
   _ ← at_most max_labels (length items)
-  labels_behind [] items
+  each label_behind [] items
 
 -- the universe that a value says, or its first fault
 unfoldable pub universe_in : Data → Result (List Label) Refusal

@@ -6,8 +6,10 @@ ghost use Rattle.am_labels.specs.declared.kind.Kind.TheVariants as kinds;
 ghost use Rattle.am_labels.specs.declared.place.Place.TheVariants as places;
 ghost use Rattle.am_labels.specs.Universe.{count_fault, max_labels};
 ghost use Rattle.am_labels.specs.UniverseView.{label_of, texts_of};
-ghost use Rattle.am_files.specs.Reading.{Gives, refusal_of};
-ghost use Rattle.am_files.specs.UniverseFile.{value_in, value_behind, values_behind, values_in, label_behind, labels_behind, labels_in, universe_in, universe_file};
+ghost use Rattle.am_files.specs.declared.refusal.ReadError.TheVariants as errors;
+ghost use Rattle.am_files.specs.Pointer.{to_item, under};
+ghost use Rattle.am_files.specs.Reading.{Gives, refusal_of, each};
+ghost use Rattle.am_files.specs.UniverseFile.{value_in, value_behind, values_in, label_behind, labels_in, universe_in, universe_file};
 
 use crate::json::{at_most, json, only_fields, required_items, required_text, text, unless};
 use crate::pointer::{within_field, within_item};
@@ -69,24 +71,37 @@ fn labels(alloc: Global, items: &[Value]) -> Result<Universe, ReadError>
 }
 
 fn labels_behind(alloc: Global, items: &[Value]) -> Result<Universe, ReadError>
-    ensures { Gives (λ u. u) result (labels_behind [] (map view items.now)) }
+    ensures { Gives (λ u. u) result (each label_behind [] (map view items.now)) }
 {
     let mut universe = Universe::empty(alloc);
     for item in items {
-        let label = within_item(alloc, universe.len(), label(alloc, &universe, item))?;
+        let label = next_label(alloc, &universe, item)?;
         add(&mut universe, label)?;
     }
     Ok(universe)
 }
 
 fn add(universe: &mut Universe, label: (String, Vec<Option<String>>)) -> Result<(), ReadError>
-    ensures { OnOk result (universe.new ≡ universe.old ++ label_of label.0 label.1 ∷ []) }
+    ensures ok { OnOk result (universe.new ≡ universe.old ++ label_of label.0 label.1 ∷ []) }
+    ensures memory { IfErr result (λ e. e ≡ errors.Memory) }
 {
     let (name, values) = label;
     match universe.add(name, values) {
         Ok(()) => Ok(()),
         Err(_) => Err(ReadError::Memory),
     }
+}
+
+/// The item whose position is the number of labels so far.
+fn next_label(
+    alloc: Global,
+    universe: &Universe,
+    item: &Value,
+) -> Result<(String, Vec<Option<String>>), ReadError>
+    ensures { Gives (λ label. label_of label.0 label.1) result
+        (under (to_item (length universe.now)) (label_behind universe.now (view item.now))) }
+{
+    within_item(alloc, universe.len(), label(alloc, universe, item))
 }
 
 /// A label behind those of the universe: its name and its values.
@@ -127,14 +142,26 @@ fn count_fault(count: usize) -> Option<Kind>
 }
 
 fn values_behind(alloc: Global, items: &[Value]) -> Result<Vec<Option<String>>, ReadError>
-    ensures { Gives (λ values. texts_of values.items) result (values_behind [] (map view items.now)) }
+    ensures { Gives (λ values. texts_of values.items) result (each value_behind [] (map view items.now)) }
 {
     let mut values = Vec::new(alloc);
     for item in items {
-        let value = within_item(alloc, values.len(), value_behind(alloc, values.as_slice(), item))?;
+        let value = next_value(alloc, values.as_slice(), item)?;
         values.push(value)?;
     }
     Ok(values)
+}
+
+/// The item whose position is the number of values so far.
+fn next_value(
+    alloc: Global,
+    before: &[Option<String>],
+    item: &Value,
+) -> Result<Option<String>, ReadError>
+    ensures { Gives (option_map string_bytes) result
+        (under (to_item (length (texts_of before.now))) (value_behind (texts_of before.now) (view item.now))) }
+{
+    within_item(alloc, before.len(), value_behind(alloc, before, item))
 }
 
 /// A value behind those before it.
