@@ -10,3 +10,6 @@ mod refusal;
 mod universe;
 
 pub use universe::read_universe;
+
+#[cfg(test)]
+mod tests;
