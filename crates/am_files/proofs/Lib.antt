@@ -2,3 +2,4 @@ pub mod Values
 pub mod Pointers
 pub mod Readings
 pub mod Arrays
+pub mod Fields

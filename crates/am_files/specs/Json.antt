@@ -1,5 +1,5 @@
 -- The JSON value of a file, and its parts. (RFC 8259; the reading is that of `serde_json`.)
-use Rattle.std.specs.Prelude.{◌≡◌, ◌⊎◌, ℕ, List, [], ◌∷◌, Bool, not, ◌&&◌, if◌then◌else◌, Option, Some, None, is_some, option_map, option_and_then, Contains, ⊤}
+use Rattle.std.specs.Prelude.{◌≡◌, ◌⊎◌, ℕ, List, [], ◌∷◌, Bool, not, ◌&&◌, if◌then◌else◌, Option, Some, None, is_some, option_map, option_and_then, IsTrue, ⊤}
 use Rattle.std.specs.List.{list_any}
 use Rattle.std.specs.Str.{is_utf8}
 use Rattle.serde_json.specs.Data.{Data, null, object, Items, no_items, item, Members, no_members, member}
@@ -22,8 +22,12 @@ unless_null d = if is_null d then None else Some d
 abbrev pub field : List ℕ → Data → Option Data
 field key d = option_and_then unless_null (get key d)
 
+-- the key is one of these names
+abbrev pub is_one_of : List ℕ → List (List ℕ) → Bool
+is_one_of key names = list_any (λ name. same_text name key) names
+
 abbrev pub is_unknown : List (List ℕ) → List ℕ → Data → Bool
-is_unknown known key d = not (is_null d) && not (list_any (λ name. same_text name key) known)
+is_unknown known key d = not (is_null d) && not (is_one_of key known)
 
 -- The first field that is none of these; members are in the order of the bytes of their keys, so it is the least.
 abbrev pub unknown_field : List (List ℕ) → Members → Option (List ℕ)
@@ -41,7 +45,7 @@ items_of d = option_map listed (as_array d)
 -- each member has one of these names, or is `null`
 abbrev pub AreOnly : List (List ℕ) → Members → Type 0
 AreOnly known no_members = ⊤
-AreOnly known (member key d rest) = ((d ≡ null) ⊎ Contains known key) × AreOnly known rest
+AreOnly known (member key d rest) = ((d ≡ null) ⊎ IsTrue (is_one_of key known)) × AreOnly known rest
 
 -- an object that has no fields but these
 abbrev pub HasOnly : List (List ℕ) → Data → Type 0

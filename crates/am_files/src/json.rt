@@ -1,10 +1,8 @@
 //! The parts of a JSON value, each refused where it is not of its kind.
 
 ghost use Rattle.std.specs.Prelude.{◌≡◌, map, ok_or, option_map};
-ghost use Rattle.std.specs.List.{list_any};
-ghost use Rattle.am_labels.specs.Text.{same_text};
 ghost use Rattle.serde_json.specs.View.{view, members_view};
-ghost use Rattle.am_files.specs.Json.{json_of, field, is_unknown, unknown_field};
+ghost use Rattle.am_files.specs.Json.{json_of, field, is_one_of, is_unknown, unknown_field};
 ghost use Rattle.am_labels.specs.declared.kind.Kind.TheVariants as kinds;
 ghost use Rattle.am_files.specs.Pointer.{here};
 ghost use Rattle.am_files.specs.Reading.{Gives, only_fields, required, required_text, required_items, text_in, items_in, object_in, json_in, unless, at_most};
@@ -122,7 +120,7 @@ fn is_unknown(known: &[&str], key: &str, value: &Value) -> bool
 }
 
 fn is_one_of(key: &str, names: &[&str]) -> bool
-    ensures { result ≡ list_any (λ name. same_text name key.now) (map (λ name. name.now) names.now) }
+    ensures { result ≡ is_one_of key.now (map (λ name. name.now) names.now) }
 {
     names.contains(&key)
 }
