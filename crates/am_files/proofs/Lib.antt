@@ -3,3 +3,4 @@ pub mod Pointers
 pub mod Readings
 pub mod Arrays
 pub mod Fields
+pub mod UniverseSays

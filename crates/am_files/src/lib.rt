@@ -9,6 +9,8 @@ mod pointer;
 mod refusal;
 mod universe;
 
+pub mod laws;
+
 pub use universe::read_universe;
 
 #[cfg(test)]
