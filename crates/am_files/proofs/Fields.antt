@@ -4,7 +4,7 @@ use Rattle.std.specs.Prelude.{⊤, IsTrue, ok_or}
 use Rattle.serde_json.specs.Data.{Data, null, boolean, number, string, array, object, Items, Members, no_members, member}
 use Rattle.serde_json.specs.Find.{as_object, as_str}
 use Rattle.am_labels.specs.declared.kind.Kind.TheVariants as kinds
-use Rattle.am_files.specs.Json.{is_null, is_one_of, is_unknown, field, unknown_field, items_of, AreOnly, HasOnly}
+use Rattle.am_files.specs.Json.{is_null, is_one_of, is_unknown, field, lesser, unknown_field, items_of, AreOnly, HasOnly}
 use Rattle.am_files.specs.Pointer.{Refusal, here, behind, under, to_field}
 use Rattle.am_files.specs.Reading.{◌>>=◌, object_in, text_in, items_in, refuse_field, only_fields, required, required_text, required_items}
 use Rattle.am_files.proofs.Readings.{bind_ok, under_ok, ok_or_some}
@@ -52,7 +52,7 @@ picked false key rest h = (refl, h)
 none_says : (known : List (List ℕ)) (ms : Members) → unknown_field known ms ≡ None → AreOnly known ms
 none_says known no_members h = tt
 none_says known (member key d rest) h =
-    let split = picked (is_unknown known key d) key (unknown_field known rest) h in
+    let split = picked (is_unknown known key d) (lesser key (unknown_field known rest)) (unknown_field known rest) h in
     let here = known_says (is_null d) (is_one_of key known) split.0 in
     (elim here [ inl e ↦ inl (null_is d e) | inr e ↦ inr e ], none_says known rest split.1)
 

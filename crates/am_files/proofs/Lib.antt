@@ -4,3 +4,4 @@ pub mod Readings
 pub mod Arrays
 pub mod Fields
 pub mod UniverseSays
+pub mod Keys

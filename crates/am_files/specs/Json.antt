@@ -1,5 +1,7 @@
 -- The JSON value of a file, and its parts. (RFC 8259; the reading is that of `serde_json`.)
 use Rattle.std.specs.Prelude.{◌≡◌, ◌⊎◌, ℕ, List, [], ◌∷◌, Bool, not, ◌&&◌, if◌then◌else◌, Option, Some, None, is_some, option_map, option_and_then, IsTrue, ⊤}
+use Rattle.std.specs.Ordering.{nat_cmp, match_ordering}
+use Rattle.std.specs.Cmp.Lexicographic.{slice_cmp}
 use Rattle.std.specs.List.{list_any}
 use Rattle.std.specs.Str.{is_utf8}
 use Rattle.serde_json.specs.Data.{Data, null, object, Items, no_items, item, Members, no_members, member}
@@ -29,10 +31,15 @@ is_one_of key names = list_any (λ name. same_text name key) names
 abbrev pub is_unknown : List (List ℕ) → List ℕ → Data → Bool
 is_unknown known key d = not (is_null d) && not (is_one_of key known)
 
--- The first field that is none of these; members are in the order of the bytes of their keys, so it is the least.
+-- the lesser of two keys, by their bytes
+abbrev pub lesser : List ℕ → Option (List ℕ) → List ℕ
+lesser key None = key
+lesser key (Some other) = match_ordering (slice_cmp nat_cmp key other) key key other
+
+-- the least field that is none of these
 abbrev pub unknown_field : List (List ℕ) → Members → Option (List ℕ)
 unknown_field known no_members = None
-unknown_field known (member key d rest) = if is_unknown known key d then Some key else unknown_field known rest
+unknown_field known (member key d rest) = if is_unknown known key d then Some (lesser key (unknown_field known rest)) else unknown_field known rest
 
 abbrev pub listed : Items → List Data
 listed no_items = []

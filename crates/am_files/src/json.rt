@@ -105,7 +105,7 @@ fn unknown_field<'v>(members: &'v Map<String, Value>, known: &[&str]) -> Option<
     ensures { option_map (λ key. key.now) result
         ≡ unknown_field (map (λ key. key.now) known.now) (members_view members.now.entries) }
 {
-    for (key, value) in members {
+    for (key, value) in members.iter() {
         if is_unknown(known, key.as_str(), value) {
             return Some(key.as_str());
         }
