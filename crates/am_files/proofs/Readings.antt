@@ -1,6 +1,7 @@
 -- What a reader's answer says of the reading, and what a reading with no fault says of its steps.
-use Rattle.std.proofs.Common.{◌≡◌, ℕ, ◌≤◌, List, Option, Some, None, Result, Ok, Err, Bool, true, false, cond, refl, sym, ap, nat_lt}
+use Rattle.std.proofs.Common.{◌≡◌, ℕ, ◌≤◌, List, Option, Some, None, Result, Ok, Err, Bool, true, false, cond, ◌↔◌, refl, sym, ap, ◌∙◌, nat_lt}
 use Rattle.std.specs.Prelude.{⊤, ok_or}
+use Rattle.std.specs.Result.{result_err}
 use borrow.Author.Tests.{ltb-false, le-ltb}
 use Rattle.am_labels.specs.declared.kind.Kind.{Kind}
 use Rattle.am_files.specs.declared.refusal.ReadError.{ReadError}
@@ -39,3 +40,27 @@ at_most_fits limit count le = rw (le-ltb limit count le) refl
 pub ok_or_some : {A : Type 0} (o : Option A) (r : Refusal) (x : A) → ok_or o r ≡ Ok x → o ≡ Some x
 ok_or_some (Some y) r x h = cc
 ok_or_some None r x h = absurd cc
+
+-- ---- What is said, where a reading decides it.
+
+-- a reading that says what is said, and the other way
+pub record Decides {A : Type 0} (Says : A → Type 0) (reading : Result A Refusal) : Type 0 where
+  pub says : (x : A) → reading ≡ Ok x → Says x
+  pub reads : (x : A) → Says x → reading ≡ Ok x
+
+abbrev read_as : {A : Type 0} → A → Result A Refusal
+read_as x = Ok x
+
+pub same_read : {A : Type 0} (x y : A) → read_as x ≡ read_as y → x ≡ y
+same_read x y h = cc
+
+pub says_one : {A : Type 0} {Says : A → Type 0} {reading : Result A Refusal} → Decides Says reading → (x y : A) → Says x → Says y → x ≡ y
+says_one decides x y said again = same_read x y (sym (decides.reads x said) ∙ decides.reads y again)
+
+value_of_none : {A : Type 0} (reading : Result A Refusal) → result_err reading ≡ None → (x : A) × (reading ≡ Ok x)
+value_of_none (Ok x) h = (x, refl)
+value_of_none (Err r) h = absurd cc
+
+pub fault_decides : {A : Type 0} {Says : A → Type 0} {reading : Result A Refusal} → Decides Says reading → (result_err reading ≡ None) ↔ ((x : A) × Says x)
+fault_decides {A} {Says} {reading} decides =
+    (λ h. let found = value_of_none reading h in (found.0, decides.says found.0 found.1), λ said. rw (decides.reads said.0 said.1) refl)

@@ -1,11 +1,12 @@
 -- A value says a universe exactly where reading it finds no fault, and then that universe.
 use Rattle.std.proofs.Common.{◌≡◌, ◌⊎◌, ℕ, ◌+◌, ◌<◌, ◌≤◌, List, [], ◌∷◌, ◌++◌, length, map, Bool, true, false, cond, Option, Some, None, Result, Ok, Err, nat_le, refl, sym, ap, subst, ◌∙◌, append_assoc, append-nil, length-append, arith}
-use Rattle.std.specs.Prelude.{⊤, codes}
+use Rattle.std.specs.Prelude.{⊤, codes, ok_or}
 use Rattle.std.specs.List.{AllByRecursion, IsDistinct}
 use Rattle.std.proofs.lemmas.List.{map-append}
 use borrow.Author.Tests.{lt-leb}
 use Rattle.serde_json.specs.Data.{Data, null, boolean, number, string, array, object}
 use Rattle.am_labels.specs.declared.kind.Kind.{Kind}
+use Rattle.am_labels.specs.declared.kind.Kind.TheVariants as kinds
 use Rattle.am_labels.specs.declared.label_fault.LabelFault.{LabelFault}
 use Rattle.am_labels.specs.declared.label_fault.LabelPart.{LabelPart}
 use Rattle.am_labels.specs.Text.{same_text}
@@ -13,19 +14,13 @@ use Rattle.am_labels.specs.declared.label_fault.LabelPart.TheVariants as parts
 use Rattle.am_labels.specs.Universe.{Values, Label, IsLabel, IsUniverse, names, max_labels, name_fault, count_fault, value_fault, values_fault, label_values_fault, label_fault, first_fault, fault_at}
 use Rattle.am_labels.proofs.Universes.{IsUniverse-empty}
 use Rattle.am_labels.proofs.AddedLabels.{added_is_universe, universe_was_added}
-use Rattle.am_files.specs.Json.{field, HasOnly, Each, is_null}
-use Rattle.am_files.specs.Pointer.{Refusal, to_field, under}
-use Rattle.am_files.specs.Reading.{◌>>=◌, unless, at_most, each, text_in, only_fields, required_text, required_items}
-use Rattle.am_files.specs.UniverseFile.{file_fields, label_fields, SaysValue, SaysLabel, SaysUniverse, value_in, value_behind, values_in, label_behind, labels_in, universe_in}
-use Rattle.am_files.proofs.Readings.{bind_ok, under_ok, unless_ok, at_most_ok, at_most_fits}
+use Rattle.am_files.specs.Json.{json_of, field, HasOnly, Each, is_null}
+use Rattle.am_files.specs.Pointer.{Refusal, here, to_field, under}
+use Rattle.am_files.specs.Reading.{◌>>=◌, unless, at_most, each, text_in, only_fields, required_text, required_items, max_bytes, json_in}
+use Rattle.am_files.specs.UniverseFile.{file_fields, label_fields, SaysValue, SaysLabel, SaysUniverse, value_in, value_behind, values_in, label_behind, labels_in, universe_in, universe_file, FileSaysUniverse}
+use Rattle.am_files.proofs.Readings.{bind_ok, under_ok, unless_ok, at_most_ok, at_most_fits, ok_or_some, same_read, Decides}
 use Rattle.am_files.proofs.Arrays.{AllFit, each-says, each-reads, length-Each}
 use Rattle.am_files.proofs.Fields.{text_in_says, only_fields_says, only_fields_reads, required_text_says, required_text_reads, required_items_says, required_items_reads}
-
-abbrev read_as : {A : Type 0} → A → Result A Refusal
-read_as x = Ok x
-
-same_value_read : {A : Type 0} (x y : A) → read_as x ≡ read_as y → x ≡ y
-same_value_read x y h = cc
 
 -- ---- A value.
 
@@ -56,7 +51,7 @@ unfolding value_behind
 value_says before d value h =
     let first = bind_ok (value_in d) (λ v. unless (value_fault before v) >>= λ _. Ok v) value h in
     let second = bind_ok (unless (value_fault before first.0)) (λ _. Ok first.0) value first.2 in
-    let same : first.0 ≡ value = same_value_read first.0 value second.2 in
+    let same : first.0 ≡ value = same_read first.0 value second.2 in
     (subst (λ (v : Option (List ℕ)). SaysValue d v) same (value_in_says d first.0 first.1), subst (λ (v : Option (List ℕ)). ValueFits before v) same (unless_ok (value_fault before first.0) second.0 second.1))
 
 value_reads : (before : Values) (d : Data) (value : Option (List ℕ)) → SaysValue d value → ValueFits before value → value_behind before d ≡ Ok value
@@ -116,7 +111,7 @@ label_says before d label h =
     let free = bind_ok (under (to_field (codes "name")) (unless (name_fault before name.0))) _ label name.2 in
     let items = bind_ok (required_items (codes "values") d) _ label free.2 in
     let values = bind_ok (under (to_field (codes "values")) (values_in items.0)) _ label items.2 in
-    let is : record { name = name.0; values = values.0 } ≡ label = same_value_read _ label values.2 in
+    let is : record { name = name.0; values = values.0 } ≡ label = same_read _ label values.2 in
     let said = values_say items.0 values.0 (under_ok (to_field (codes "values")) (values_in items.0) values.0 values.1) in
     let all : SaysLabel d (record { name = name.0; values = values.0 }) × LabelFits before (record { name = name.0; values = values.0 }) = (record {
       only = only_fields_says label_fields d only.0 only.1;
@@ -210,3 +205,22 @@ universe_reads d u said =
     let count : length said.items ≤ 64 = omega (arith, said.is_universe.at_most, length-Each SaysLabel said.items u said.labels) in
     let all = each-reads SaysLabel LabelFits label_behind label_reads [] said.items u said.labels (universe_fits [] u said.is_universe) in
     rw (only_fields_reads file_fields d said.only, required_items_reads (codes "labels") d said.items said.is_array, at_most_fits max_labels (length said.items) count, all) refl
+
+-- ---- The bytes of a file.
+
+pub file_says : (bytes : List ℕ) (u : List Label) → universe_file bytes ≡ Ok u → FileSaysUniverse bytes u
+unfolding universe_file json_in
+file_says bytes u h =
+    let value = bind_ok (json_in bytes) universe_in u h in
+    let few = bind_ok (at_most max_bytes (length bytes)) (λ _. ok_or (json_of bytes) (here kinds.NotJson)) value.0 value.1 in
+    (at_most_ok max_bytes (length bytes) few.0 few.1, value.0, ok_or_some (json_of bytes) (here kinds.NotJson) value.0 few.2, universe_says value.0 u value.2)
+
+pub file_reads : (bytes : List ℕ) (u : List Label) → FileSaysUniverse bytes u → universe_file bytes ≡ Ok u
+unfolding universe_file json_in
+file_reads bytes u said = rw (at_most_fits max_bytes (length bytes) said.0, said.2, universe_reads said.1 u said.3) refl
+
+pub universe_decides : (d : Data) → Decides (SaysUniverse d) (universe_in d)
+universe_decides d = record { says = universe_says d; reads = universe_reads d }
+
+pub file_decides : (bytes : List ℕ) → Decides (FileSaysUniverse bytes) (universe_file bytes)
+file_decides bytes = record { says = file_says bytes; reads = file_reads bytes }

@@ -1,12 +1,12 @@
 -- The universe file: which JSON value says which universe, and the first fault of a value that says none.
 -- (This project's own form.)
-use Rattle.std.specs.Prelude.{◌≡◌, ℕ, List, [], ◌∷◌, length, if◌then◌else◌, Option, Some, None, option_and_then, Result, Ok, Err, codes}
+use Rattle.std.specs.Prelude.{◌≡◌, ◌≤◌, ℕ, List, [], ◌∷◌, length, if◌then◌else◌, Option, Some, None, option_and_then, Result, Ok, Err, codes}
 use Rattle.std.specs.Result.{result_err}
 use Rattle.serde_json.specs.Data.{Data, null, string}
 use Rattle.am_labels.specs.Universe.{Values, Label, max_labels, IsUniverse, name_fault, count_fault, value_fault}
-use Rattle.am_files.specs.Json.{is_null, field, items_of, HasOnly, Each}
+use Rattle.am_files.specs.Json.{json_of, is_null, field, items_of, HasOnly, Each}
 use Rattle.am_files.specs.Pointer.{Refusal, to_field, under}
-use Rattle.am_files.specs.Reading.{◌>>=◌, unless, at_most, each, text_in, only_fields, required_text, required_items, json_in}
+use Rattle.am_files.specs.Reading.{◌>>=◌, unless, at_most, each, text_in, only_fields, required_text, required_items, max_bytes, json_in}
 
 -- the fields of the file, and those of a label
 abbrev pub file_fields : List (List ℕ)
@@ -37,6 +37,10 @@ pub record SaysUniverse (d : Data) (u : List Label) : Type 0 where
   pub is_array : option_and_then items_of (field (codes "labels") d) ≡ Some items
   pub labels : Each SaysLabel items u
   pub is_universe : IsUniverse u
+
+-- the bytes of a file say what their JSON value says
+abbrev pub FileSaysUniverse : List ℕ → List Label → Type 0
+FileSaysUniverse bytes u = (length bytes ≤ max_bytes) × (d : Data) × (json_of bytes ≡ Some d) × SaysUniverse d u
 
 -- ---- Reading it, with the first fault that is met.
 
@@ -83,6 +87,9 @@ universe_file bytes = do
   d ← json_in bytes
   universe_in d
 
--- the first fault of a value that says no universe
+-- the first fault of a value, and of a file, that says no universe
 abbrev pub fault_of_universe : Data → Option Refusal
 fault_of_universe d = result_err (universe_in d)
+
+abbrev pub fault_of_universe_file : List ℕ → Option Refusal
+fault_of_universe_file bytes = result_err (universe_file bytes)
