@@ -15,7 +15,7 @@ use Rattle.am_labels.specs.Universe.{Values, Label, IsLabel, IsUniverse, names, 
 use Rattle.am_labels.proofs.Universes.{IsUniverse-empty}
 use Rattle.am_labels.proofs.AddedLabels.{added_is_universe, universe_was_added}
 use Rattle.am_files.specs.Json.{json_of, field, HasOnly, Each, is_null}
-use Rattle.am_files.specs.Pointer.{Refusal, here, to_field, under}
+use Rattle.am_files.specs.Pointer.{Refusal, here, to_field, to_item, under}
 use Rattle.am_files.specs.Reading.{◌>>=◌, unless, at_most, each, text_in, only_fields, required_text, required_items, max_bytes, json_in}
 use Rattle.am_files.specs.UniverseFile.{file_fields, label_fields, SaysValue, SaysLabel, SaysUniverse, value_in, value_behind, values_in, label_behind, labels_in, universe_in, universe_file, FileSaysUniverse}
 use Rattle.am_files.proofs.Readings.{bind_ok, under_ok, unless_ok, at_most_ok, at_most_fits, ok_or_some, same_read, Decides}
@@ -134,6 +134,10 @@ label_reads before d label said fits =
 
 no_label_fault : (u : List Label) (label : Label) → length u < 64 → LabelFits u label → label_fault u label ≡ None
 no_label_fault u label room fits = rw (lt-leb 64 (length u) room, fits.name, fits.values) refl
+
+-- a label that was read has no fault, while there is room
+pub no_fault_read : (u : List Label) (d : Data) (label : Label) → length u < 64 → under (to_item (length u)) (label_behind u d) ≡ Ok label → label_fault u label ≡ None
+no_fault_read u d label room h = no_label_fault u label room (label_says u d label (under_ok (to_item (length u)) (label_behind u d) label h)).1
 
 no_fault_fits : (full : Bool) (over : LabelFault) (name : Option Kind) (values : Option LabelFault) → cond full (Some over) (first_fault (fault_at parts.Name name) values) ≡ None → (name ≡ None) × (values ≡ None)
 no_fault_fits true over name values h = absurd cc

@@ -1,15 +1,15 @@
 //! The universe file.
 
-ghost use Rattle.std.specs.Prelude.{◌≡◌, ◌≢◌, ◌≤◌, [], ◌∷◌, ◌++◌, length, map, Ok, Err, IfOk, IfErr, OnOk, string_bytes, option_map};
+ghost use Rattle.std.specs.Prelude.{◌≡◌, ◌≢◌, ◌≤◌, [], ◌∷◌, ◌++◌, length, map, None, Ok, Err, IfOk, IfErr, OnOk, string_bytes, option_map};
 ghost use Rattle.serde_json.specs.View.{view};
 ghost use Rattle.am_labels.specs.declared.kind.Kind.TheVariants as kinds;
 ghost use Rattle.am_labels.specs.declared.place.Place.TheVariants as places;
-ghost use Rattle.am_labels.specs.Universe.{count_fault, max_labels};
+ghost use Rattle.am_labels.specs.Universe.{count_fault, label_fault, max_labels};
 ghost use Rattle.am_labels.specs.UniverseView.{label_of, texts_of};
 ghost use Rattle.am_files.specs.declared.refusal.ReadError.TheVariants as errors;
 ghost use Rattle.am_files.specs.Pointer.{to_item, under};
 ghost use Rattle.am_files.specs.Reading.{Gives, refusal_of, each};
-ghost use Rattle.am_files.specs.UniverseFile.{value_in, value_behind, values_in, label_behind, labels_in, universe_in, universe_file};
+ghost use Rattle.am_files.specs.UniverseFile.{value_in, value_behind, values_in, label_behind, labels_in, universe_in, universe_file, FileSaysUniverse};
 
 use crate::json::{at_most, json, only_fields, required_items, required_text, text, unless};
 use crate::pointer::{within_field, within_item};
@@ -34,6 +34,7 @@ const MAX_VALUES: usize = 128;
 /// refused.
 pub fn read_universe(alloc: Global, bytes: &[u8]) -> Result<Universe, Fault>
     ensures found { IfOk result (λ u. universe_file bytes.now ≡ Ok u) }
+    ensures says { IfOk result (λ u. FileSaysUniverse bytes.now u) }
     ensures first { IfErr result (λ fault. fault.kind ≢ kinds.Memory
         → (fault.place ≡ places.Universe) × (universe_file bytes.now ≡ Err (refusal_of fault))) }
     ensures memory { IfErr result (λ fault. fault.kind ≡ kinds.Memory
@@ -71,6 +72,7 @@ fn labels(alloc: Global, items: &[Value]) -> Result<Universe, ReadError>
 }
 
 fn labels_behind(alloc: Global, items: &[Value]) -> Result<Universe, ReadError>
+    requires { length items.now ≤ max_labels }
     ensures { Gives (λ u. u) result (each label_behind [] (map view items.now)) }
 {
     let mut universe = Universe::empty(alloc);
@@ -81,14 +83,19 @@ fn labels_behind(alloc: Global, items: &[Value]) -> Result<Universe, ReadError>
     Ok(universe)
 }
 
+/// Adds a label that has no fault, which fails for want of memory alone.
 fn add(universe: &mut Universe, label: (String, Vec<Option<String>>)) -> Result<(), ReadError>
+    requires { label_fault universe.old (label_of label.0 label.1) ≡ None }
     ensures ok { OnOk result (universe.new ≡ universe.old ++ label_of label.0 label.1 ∷ []) }
     ensures memory { IfErr result (λ e. e ≡ errors.Memory) }
 {
     let (name, values) = label;
     match universe.add(name, values) {
         Ok(()) => Ok(()),
-        Err(_) => Err(ReadError::Memory),
+        Err(fault) => {
+            prove!(fault.kind == Kind::Memory);
+            Err(ReadError::Memory)
+        }
     }
 }
 

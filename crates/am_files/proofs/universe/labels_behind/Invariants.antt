@@ -1,4 +1,4 @@
-use Rattle.std.proofs.Common.{◌≡◌, [], map, drop}
+use Rattle.std.proofs.Common.{◌≡◌, [], length, map, drop}
 use Rattle.serde_json.specs.View.{view}
 use Rattle.am_files.specs.Reading.{each}
 use Rattle.am_files.specs.UniverseFile.{label_behind}
@@ -6,4 +6,7 @@ use Rattle.am_files.proofs.universe.labels_behind.Given as goal
 
 -- reading what is left behind the labels so far is reading all
 abbrev pub invariant-loop-item : goal.invariant-loop-item
-invariant-loop-item l = each label_behind l.universe (map view (drop l.item-index l.items)) ≡ each label_behind [] (map view l.items)
+invariant-loop-item l = record {
+  same : each label_behind l.universe (map view (drop l.item-index l.items)) ≡ each label_behind [] (map view l.items);
+  count : length l.universe ≡ l.item-index;
+}
