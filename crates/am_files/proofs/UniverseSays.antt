@@ -113,16 +113,19 @@ label_says before d label h =
     let values = bind_ok (under (to_field (codes "values")) (values_in items.0)) _ label items.2 in
     let is : record { name = name.0; values = values.0 } ≡ label = same_read _ label values.2 in
     let said = values_say items.0 values.0 (under_ok (to_field (codes "values")) (values_in items.0) values.0 values.1) in
-    let all : SaysLabel d (record { name = name.0; values = values.0 }) × LabelFits before (record { name = name.0; values = values.0 }) = (record {
-      only = only_fields_says label_fields d only.0 only.1;
-      name = required_text_says (codes "name") d name.0 name.1;
-      items = items.0;
-      is_array = required_items_says (codes "values") d items.0 items.1;
-      values = said.0;
-    }, record {
-      name = unless_ok (name_fault before name.0) free.0 (under_ok (to_field (codes "name")) (unless (name_fault before name.0)) free.0 free.1);
-      values = said.1;
-    }) in
+    let all : SaysLabel d (record { name = name.0; values = values.0 }) × LabelFits before (record { name = name.0; values = values.0 }) = (
+      record {
+        only = only_fields_says label_fields d only.0 only.1;
+        name = required_text_says (codes "name") d name.0 name.1;
+        items = items.0;
+        is_array = required_items_says (codes "values") d items.0 items.1;
+        values = said.0;
+      },
+      record {
+        name = unless_ok (name_fault before name.0) free.0 (under_ok (to_field (codes "name")) (unless (name_fault before name.0)) free.0 free.1);
+        values = said.1;
+      },
+    ) in
     subst (λ (l : Label). SaysLabel d l × LabelFits before l) is all
 
 label_reads : (before : List Label) (d : Data) (label : Label) → SaysLabel d label → LabelFits before label → label_behind before d ≡ Ok label
@@ -162,10 +165,10 @@ distinct_front e (x ∷ xs) ys d = (all_front (λ y. e x y ≡ false) xs ys d.0,
 -- the labels in front are a universe too
 universe_front : (before more : List Label) → IsUniverse (before ++ more) → IsUniverse before
 universe_front before more is = record {
-      at_most = omega (arith, length-append before more, is.at_most);
-      labels = all_front IsLabel before more is.labels;
-      distinct = distinct_front same_text (names before) (names more) (subst (IsDistinct same_text) (map-append (λ (l : Label). l.name) before more) is.distinct);
-    }
+  at_most = omega (arith, length-append before more, is.at_most);
+  labels = all_front IsLabel before more is.labels;
+  distinct = distinct_front same_text (names before) (names more) (subst (IsDistinct same_text) (map-append (λ (l : Label). l.name) before more) is.distinct);
+}
 
 universe_fits : (before more : List Label) → IsUniverse (before ++ more) → AllFit LabelFits before more
 universe_fits before [] is = tt

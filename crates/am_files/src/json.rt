@@ -136,7 +136,11 @@ pub(crate) fn field<'v>(value: &'v Value, key: &str) -> Option<&'v Value>
 }
 
 /// The value of a field; `Shape` at the field where it is absent.
-pub(crate) fn required<'v>(alloc: Global, value: &'v Value, key: &str) -> Result<&'v Value, ReadError>
+pub(crate) fn required<'v>(
+    alloc: Global,
+    value: &'v Value,
+    key: &str,
+) -> Result<&'v Value, ReadError>
     ensures { Gives (λ v. view v.now) result (required key.now (view value.now)) }
 {
     match field(value, key) {
@@ -147,7 +151,11 @@ pub(crate) fn required<'v>(alloc: Global, value: &'v Value, key: &str) -> Result
 
 /// The text in a field; `Shape` at the field where there is none.
 #[tactic(auto, unfolding(crate::specs::Reading::required_text))]
-pub(crate) fn required_text<'v>(alloc: Global, value: &'v Value, key: &str) -> Result<&'v str, ReadError>
+pub(crate) fn required_text<'v>(
+    alloc: Global,
+    value: &'v Value,
+    key: &str,
+) -> Result<&'v str, ReadError>
     ensures { Gives (λ t. t.now) result (required_text key.now (view value.now)) }
 {
     let found = required(alloc, value, key)?;
@@ -156,7 +164,11 @@ pub(crate) fn required_text<'v>(alloc: Global, value: &'v Value, key: &str) -> R
 
 /// The items of the array in a field; `Shape` at the field where there is none.
 #[tactic(auto, unfolding(crate::specs::Reading::required_items))]
-pub(crate) fn required_items<'v>(alloc: Global, value: &'v Value, key: &str) -> Result<&'v [Value], ReadError>
+pub(crate) fn required_items<'v>(
+    alloc: Global,
+    value: &'v Value,
+    key: &str,
+) -> Result<&'v [Value], ReadError>
     ensures { Gives (λ items. map view items.now) result (required_items key.now (view value.now)) }
 {
     let found = required(alloc, value, key)?;

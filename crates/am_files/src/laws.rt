@@ -11,13 +11,11 @@ pub fn universes_are_read()
     ensures read { (d : Data) (u : List Label) → SaysUniverse d u ↔ (universe_in d ≡ Ok u) }
     ensures one { (d : Data) (u v : List Label) → SaysUniverse d u → SaysUniverse d v → u ≡ v }
     ensures faults { (d : Data) → (fault_of_universe d ≡ None) ↔ ((u : List Label) × SaysUniverse d u) }
-{
-}
+{}
 
 /// The same of the bytes of a file.
 pub fn universe_files_are_read()
     ensures read { (bytes : List ℕ) (u : List Label) → FileSaysUniverse bytes u ↔ (universe_file bytes ≡ Ok u) }
     ensures one { (bytes : List ℕ) (u v : List Label) → FileSaysUniverse bytes u → FileSaysUniverse bytes v → u ≡ v }
     ensures faults { (bytes : List ℕ) → (fault_of_universe_file bytes ≡ None) ↔ ((u : List Label) × FileSaysUniverse bytes u) }
-{
-}
+{}

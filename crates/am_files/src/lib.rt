@@ -5,11 +5,10 @@
 #![tactic(auto)]
 
 mod json;
+pub mod laws;
 mod pointer;
 mod refusal;
 mod universe;
-
-pub mod laws;
 
 pub use universe::read_universe;
 

@@ -1,3 +1,5 @@
+//! Why a reader gives no value, from the value that is looked at on.
+
 ghost use Rattle.std.specs.Prelude.{◌≡◌, ◌≢◌};
 ghost use Rattle.am_labels.specs.declared.kind.Kind.TheVariants as kinds;
 ghost use Rattle.am_files.specs.declared.refusal.ReadError.TheVariants.{Memory};
@@ -8,7 +10,8 @@ use am_labels::{Fault, Kind, Place};
 use std::alloc::{AllocError, AllocFailed, Global};
 use std::marker::Model;
 
-/// Why a file is refused, and at which part: a JSON Pointer (RFC 6901), from the value that is looked at.
+/// Why a file is refused, which is never want of memory, and at which part: a JSON Pointer (RFC 6901), from the value
+/// that is looked at.
 #[derive(Drop)]
 pub(crate) struct Refusal {
     pub(crate) kind: Kind,

@@ -24,57 +24,193 @@ const FAULTS: [(&str, Kind, &str); 62] = [
     ("{\"label\":[]}", Kind::UnknownField, "/label"),
     ("{\"labels\":1,\"extra\":1}", Kind::UnknownField, "/extra"),
     ("{\"extra\":1,\"labels\":1}", Kind::UnknownField, "/extra"),
-    ("{\"b\":1,\"a\":1,\"labels\":[],\"C\":null,\"B\":false}", Kind::UnknownField, "/B"),
+    (
+        "{\"b\":1,\"a\":1,\"labels\":[],\"C\":null,\"B\":false}",
+        Kind::UnknownField,
+        "/B",
+    ),
     ("{\"labels\":[],\"\":0}", Kind::UnknownField, "/"),
     ("{\"labels\":[],\"a/b\":0}", Kind::UnknownField, "/a~1b"),
     ("{\"labels\":[],\"~\":0}", Kind::UnknownField, "/~0"),
-    ("{\"labels\":[],\"~1/~0//\":0}", Kind::UnknownField, "/~01~1~00~1~1"),
-    ("{\"labels\":[],\"\\u00e9\\n\\u0000\":0}", Kind::UnknownField, "/é\n\0"),
+    (
+        "{\"labels\":[],\"~1/~0//\":0}",
+        Kind::UnknownField,
+        "/~01~1~00~1~1",
+    ),
+    (
+        "{\"labels\":[],\"\\u00e9\\n\\u0000\":0}",
+        Kind::UnknownField,
+        "/é\n\0",
+    ),
     // A label.
     ("{\"labels\":[null]}", Kind::Shape, "/labels/0"),
     ("{\"labels\":[[]]}", Kind::Shape, "/labels/0"),
     ("{\"labels\":[{}]}", Kind::Shape, "/labels/0/name"),
-    ("{\"labels\":[{\"name\":\"m\",\"values\":[\"a\"]},7]}", Kind::Shape, "/labels/1"),
+    (
+        "{\"labels\":[{\"name\":\"m\",\"values\":[\"a\"]},7]}",
+        Kind::Shape,
+        "/labels/1",
+    ),
     ("{\"labels\":[7,{\"x\":1}]}", Kind::Shape, "/labels/0"),
-    ("{\"labels\":[{\"name\":1,\"value\":[]}]}", Kind::UnknownField, "/labels/0/value"),
-    ("{\"labels\":[{\"x~y\":0}]}", Kind::UnknownField, "/labels/0/x~0y"),
+    (
+        "{\"labels\":[{\"name\":1,\"value\":[]}]}",
+        Kind::UnknownField,
+        "/labels/0/value",
+    ),
+    (
+        "{\"labels\":[{\"x~y\":0}]}",
+        Kind::UnknownField,
+        "/labels/0/x~0y",
+    ),
     // Its name.
-    ("{\"labels\":[{\"values\":[]}]}", Kind::Shape, "/labels/0/name"),
-    ("{\"labels\":[{\"name\":null,\"values\":[]}]}", Kind::Shape, "/labels/0/name"),
-    ("{\"labels\":[{\"name\":1,\"values\":[]}]}", Kind::Shape, "/labels/0/name"),
-    ("{\"labels\":[{\"name\":\"\",\"values\":[]}]}", Kind::Empty, "/labels/0/name"),
-    ("{\"labels\":[{\"name\":\"0a\",\"values\":[]}]}", Kind::Shape, "/labels/0/name"),
-    ("{\"labels\":[{\"name\":\"a:b\",\"values\":[]}]}", Kind::Shape, "/labels/0/name"),
-    ("{\"labels\":[{\"name\":\"é\",\"values\":[]}]}", Kind::Shape, "/labels/0/name"),
+    (
+        "{\"labels\":[{\"values\":[]}]}",
+        Kind::Shape,
+        "/labels/0/name",
+    ),
+    (
+        "{\"labels\":[{\"name\":null,\"values\":[]}]}",
+        Kind::Shape,
+        "/labels/0/name",
+    ),
+    (
+        "{\"labels\":[{\"name\":1,\"values\":[]}]}",
+        Kind::Shape,
+        "/labels/0/name",
+    ),
+    (
+        "{\"labels\":[{\"name\":\"\",\"values\":[]}]}",
+        Kind::Empty,
+        "/labels/0/name",
+    ),
+    (
+        "{\"labels\":[{\"name\":\"0a\",\"values\":[]}]}",
+        Kind::Shape,
+        "/labels/0/name",
+    ),
+    (
+        "{\"labels\":[{\"name\":\"a:b\",\"values\":[]}]}",
+        Kind::Shape,
+        "/labels/0/name",
+    ),
+    (
+        "{\"labels\":[{\"name\":\"é\",\"values\":[]}]}",
+        Kind::Shape,
+        "/labels/0/name",
+    ),
     (
         "{\"labels\":[{\"name\":\"m\",\"values\":[\"a\"]},{\"name\":\"m\",\"values\":1}]}",
         Kind::Duplicate,
         "/labels/1/name",
     ),
     // Its values.
-    ("{\"labels\":[{\"name\":\"m\"}]}", Kind::Shape, "/labels/0/values"),
-    ("{\"labels\":[{\"name\":\"m\",\"values\":null}]}", Kind::Shape, "/labels/0/values"),
-    ("{\"labels\":[{\"name\":\"m\",\"values\":{}}]}", Kind::Shape, "/labels/0/values"),
-    ("{\"labels\":[{\"name\":\"m\",\"values\":\"a\"}]}", Kind::Shape, "/labels/0/values"),
-    ("{\"labels\":[{\"name\":\"m\",\"values\":[]}]}", Kind::Empty, "/labels/0/values"),
-    ("{\"labels\":[{\"name\":\"m\",\"values\":[]},1]}", Kind::Empty, "/labels/0/values"),
+    (
+        "{\"labels\":[{\"name\":\"m\"}]}",
+        Kind::Shape,
+        "/labels/0/values",
+    ),
+    (
+        "{\"labels\":[{\"name\":\"m\",\"values\":null}]}",
+        Kind::Shape,
+        "/labels/0/values",
+    ),
+    (
+        "{\"labels\":[{\"name\":\"m\",\"values\":{}}]}",
+        Kind::Shape,
+        "/labels/0/values",
+    ),
+    (
+        "{\"labels\":[{\"name\":\"m\",\"values\":\"a\"}]}",
+        Kind::Shape,
+        "/labels/0/values",
+    ),
+    (
+        "{\"labels\":[{\"name\":\"m\",\"values\":[]}]}",
+        Kind::Empty,
+        "/labels/0/values",
+    ),
+    (
+        "{\"labels\":[{\"name\":\"m\",\"values\":[]},1]}",
+        Kind::Empty,
+        "/labels/0/values",
+    ),
     // A value.
-    ("{\"labels\":[{\"name\":\"m\",\"values\":[1]}]}", Kind::Shape, "/labels/0/values/0"),
-    ("{\"labels\":[{\"name\":\"m\",\"values\":[\"a\",[]]}]}", Kind::Shape, "/labels/0/values/1"),
-    ("{\"labels\":[{\"name\":\"m\",\"values\":[\"a\",false]}]}", Kind::Shape, "/labels/0/values/1"),
-    ("{\"labels\":[{\"name\":\"m\",\"values\":[\"\"]}]}", Kind::Empty, "/labels/0/values/0"),
-    ("{\"labels\":[{\"name\":\"m\",\"values\":[\"a\",\"\",1]}]}", Kind::Empty, "/labels/0/values/1"),
-    ("{\"labels\":[{\"name\":\"m\",\"values\":[\"a\",1,\"\"]}]}", Kind::Shape, "/labels/0/values/1"),
-    ("{\"labels\":[{\"name\":\"m\",\"values\":[\"\",\"\"]}]}", Kind::Empty, "/labels/0/values/0"),
-    ("{\"labels\":[{\"name\":\"m\",\"values\":[\"a\",\"a\"]}]}", Kind::Duplicate, "/labels/0/values/1"),
-    ("{\"labels\":[{\"name\":\"m\",\"values\":[\"a\",null,\"\\u0061\"]}]}", Kind::Duplicate, "/labels/0/values/2"),
-    ("{\"labels\":[{\"name\":\"m\",\"values\":[null,\"a\",null]}]}", Kind::Duplicate, "/labels/0/values/2"),
-    ("{\"labels\":[{\"name\":\"m\",\"values\":[null,null,\"\"]}]}", Kind::Duplicate, "/labels/0/values/1"),
+    (
+        "{\"labels\":[{\"name\":\"m\",\"values\":[1]}]}",
+        Kind::Shape,
+        "/labels/0/values/0",
+    ),
+    (
+        "{\"labels\":[{\"name\":\"m\",\"values\":[\"a\",[]]}]}",
+        Kind::Shape,
+        "/labels/0/values/1",
+    ),
+    (
+        "{\"labels\":[{\"name\":\"m\",\"values\":[\"a\",false]}]}",
+        Kind::Shape,
+        "/labels/0/values/1",
+    ),
+    (
+        "{\"labels\":[{\"name\":\"m\",\"values\":[\"\"]}]}",
+        Kind::Empty,
+        "/labels/0/values/0",
+    ),
+    (
+        "{\"labels\":[{\"name\":\"m\",\"values\":[\"a\",\"\",1]}]}",
+        Kind::Empty,
+        "/labels/0/values/1",
+    ),
+    (
+        "{\"labels\":[{\"name\":\"m\",\"values\":[\"a\",1,\"\"]}]}",
+        Kind::Shape,
+        "/labels/0/values/1",
+    ),
+    (
+        "{\"labels\":[{\"name\":\"m\",\"values\":[\"\",\"\"]}]}",
+        Kind::Empty,
+        "/labels/0/values/0",
+    ),
+    (
+        "{\"labels\":[{\"name\":\"m\",\"values\":[\"a\",\"a\"]}]}",
+        Kind::Duplicate,
+        "/labels/0/values/1",
+    ),
+    (
+        "{\"labels\":[{\"name\":\"m\",\"values\":[\"a\",null,\"\\u0061\"]}]}",
+        Kind::Duplicate,
+        "/labels/0/values/2",
+    ),
+    (
+        "{\"labels\":[{\"name\":\"m\",\"values\":[null,\"a\",null]}]}",
+        Kind::Duplicate,
+        "/labels/0/values/2",
+    ),
+    (
+        "{\"labels\":[{\"name\":\"m\",\"values\":[null,null,\"\"]}]}",
+        Kind::Duplicate,
+        "/labels/0/values/1",
+    ),
     // The fault further to the front of the form is the first, whichever stands first in the file.
-    ("{\"labels\":[{\"values\":[],\"name\":\"\"}]}", Kind::Empty, "/labels/0/name"),
-    ("{\"labels\":[{\"name\":\"\",\"values\":[]}]}", Kind::Empty, "/labels/0/name"),
-    ("{\"labels\":[{\"values\":1,\"x\":1}]}", Kind::UnknownField, "/labels/0/x"),
-    ("{\"labels\":[{\"x\":1,\"values\":1}]}", Kind::UnknownField, "/labels/0/x"),
+    (
+        "{\"labels\":[{\"values\":[],\"name\":\"\"}]}",
+        Kind::Empty,
+        "/labels/0/name",
+    ),
+    (
+        "{\"labels\":[{\"name\":\"\",\"values\":[]}]}",
+        Kind::Empty,
+        "/labels/0/name",
+    ),
+    (
+        "{\"labels\":[{\"values\":1,\"x\":1}]}",
+        Kind::UnknownField,
+        "/labels/0/x",
+    ),
+    (
+        "{\"labels\":[{\"x\":1,\"values\":1}]}",
+        Kind::UnknownField,
+        "/labels/0/x",
+    ),
     (
         "{\"labels\":[{\"name\":\"m\",\"values\":[1]},{\"name\":\"m\",\"values\":[2]}]}",
         Kind::Shape,
@@ -82,8 +218,16 @@ const FAULTS: [(&str, Kind, &str); 62] = [
     ),
     // The last of a repeated key counts.
     ("{\"labels\":[],\"labels\":1}", Kind::Shape, "/labels"),
-    ("{\"x\":null,\"labels\":[],\"x\":1}", Kind::UnknownField, "/x"),
-    ("{\"labels\":[{\"name\":\"m\",\"name\":\"\",\"values\":[]}]}", Kind::Empty, "/labels/0/name"),
+    (
+        "{\"x\":null,\"labels\":[],\"x\":1}",
+        Kind::UnknownField,
+        "/x",
+    ),
+    (
+        "{\"labels\":[{\"name\":\"m\",\"name\":\"\",\"values\":[]}]}",
+        Kind::Empty,
+        "/labels/0/name",
+    ),
 ];
 
 #[test]
@@ -115,7 +259,8 @@ fn the_example(rt: HostRuntime) -> Result<(), Fail> {
 
 #[test]
 fn two_labels(rt: HostRuntime) -> Result<(), Fail> {
-    let text = "{\"x\":null,\"labels\":[{\"name\":\"team\",\"values\":[\"db\",\"web\",null]},{\"y/\":null,\"values\":[null],\"name\":\"_9\"}]}";
+    let text =
+        "{\"x\":null,\"labels\":[{\"name\":\"team\",\"values\":[\"db\",\"web\",null]},{\"y/\":null,\"values\":[null],\"name\":\"_9\"}]}";
     let universe = accepted(read_universe(rt.alloc(), text.as_bytes()))?;
     assert_eq!(rt; universe.len(), 2);
     if universe.len() == 2 {
@@ -135,8 +280,16 @@ fn two_labels(rt: HostRuntime) -> Result<(), Fail> {
 
 #[test]
 fn no_labels(rt: HostRuntime) -> Result<(), Fail> {
-    for text in ["{\"labels\":[]}", "{\"labels\":1,\"labels\":[]}", "\n{\"labels\":[],\"a\":null}\t"] {
-        assert_eq!(rt; accepted(read_universe(rt.alloc(), text.as_bytes()))?.len(), 0, "{text}");
+    for text in [
+        "{\"labels\":[]}",
+        "{\"labels\":1,\"labels\":[]}",
+        "\n{\"labels\":[],\"a\":null}\t",
+    ] {
+        assert_eq!(rt;
+            accepted(read_universe(rt.alloc(), text.as_bytes()))?.len(),
+            0,
+            "{text}"
+        );
     }
     Ok(())
 }
@@ -153,8 +306,20 @@ fn proper_prefixes(rt: HostRuntime) {
 #[test]
 fn bytes_that_are_not_utf8(rt: HostRuntime) {
     expect(&rt, rt.alloc(), b"\xff", Kind::NotJson, "");
-    expect(&rt, rt.alloc(), b"{\"labels\":[],\"\xc3\":1}", Kind::NotJson, "");
-    expect(&rt, rt.alloc(), b"{\"labels\":[{\"name\":\"\xed\xa0\x80\"}]}", Kind::NotJson, "");
+    expect(
+        &rt,
+        rt.alloc(),
+        b"{\"labels\":[],\"\xc3\":1}",
+        Kind::NotJson,
+        "",
+    );
+    expect(
+        &rt,
+        rt.alloc(),
+        b"{\"labels\":[{\"name\":\"\xed\xa0\x80\"}]}",
+        Kind::NotJson,
+        "",
+    );
 }
 
 #[test]
@@ -162,7 +327,13 @@ fn nesting(rt: HostRuntime) -> Result<(), Fail> {
     // The file, its array, its label and its values are four levels; arrays in one another the rest.
     let front = "{\"labels\":[{\"name\":\"m\",\"values\":[";
     let deep = nested(rt.alloc(), front, 123, "]}]}")?;
-    expect(&rt, rt.alloc(), deep.as_bytes(), Kind::Shape, "/labels/0/values/0");
+    expect(
+        &rt,
+        rt.alloc(),
+        deep.as_bytes(),
+        Kind::Shape,
+        "/labels/0/values/0",
+    );
     let too_deep = nested(rt.alloc(), front, 124, "]}]}")?;
     expect(&rt, rt.alloc(), too_deep.as_bytes(), Kind::NotJson, "");
     let arrays = nested(rt.alloc(), "", 200, "")?;
@@ -174,9 +345,18 @@ fn nesting(rt: HostRuntime) -> Result<(), Fail> {
 fn limits(rt: HostRuntime) -> Result<(), Fail> {
     let alloc = rt.alloc();
     let labels = labels_of(alloc, 64)?;
-    assert_eq!(rt; accepted(read_universe(alloc, labels.as_bytes()))?.len(), 64);
+    assert_eq!(rt;
+        accepted(read_universe(alloc, labels.as_bytes()))?.len(),
+        64
+    );
     let more_labels = labels_of(alloc, 65)?;
-    expect(&rt, rt.alloc(), more_labels.as_bytes(), Kind::Limit, "/labels");
+    expect(
+        &rt,
+        rt.alloc(),
+        more_labels.as_bytes(),
+        Kind::Limit,
+        "/labels",
+    );
 
     let values = values_of(alloc, 128)?;
     let universe = accepted(read_universe(alloc, values.as_bytes()))?;
@@ -185,7 +365,13 @@ fn limits(rt: HostRuntime) -> Result<(), Fail> {
         assert_eq!(rt; universe.size(0), 128);
     }
     let more_values = values_of(alloc, 129)?;
-    expect(&rt, rt.alloc(), more_values.as_bytes(), Kind::Limit, "/labels/0/values");
+    expect(
+        &rt,
+        rt.alloc(),
+        more_values.as_bytes(),
+        Kind::Limit,
+        "/labels/0/values",
+    );
     Ok(())
 }
 

@@ -26,12 +26,18 @@ const MAX_VALUES: usize = 128;
 /// The universe that a file says.
 ///
 /// The file is an object with the one field `labels`: an array of at most 64 objects, each with a `name` and `values`,
-/// an array of 1 to 128 texts, one of which may be `null`, for absence. A field that is `null` is absent.
+/// an array of 1 to 128 values, each a text or `null`, for absence. A field that is `null` is absent.
 ///
-/// The first fault is the one answered, at the place `Universe`: `Limit`, with the empty pointer, for more than 16,777,216
-/// bytes; `NotJson` where they have no JSON value; then from the front to the back of each form `Shape`, `UnknownField`,
-/// `Limit`, `Empty` and `Duplicate`. `Memory`, at the place `Memory` with the empty pointer, comes only where memory was
-/// refused.
+/// The first fault is the one answered, at the place `Universe` and at the pointer of the part at fault, in this order:
+/// - the bytes, at the empty pointer: `Limit` for more than 16,777,216, `NotJson` where they have no JSON value;
+/// - the file, and each label when it is reached: `Shape` where it is no object, `UnknownField` at its least other field;
+/// - `labels`: `Shape` where it is no array, or absent; `Limit` for more than 64; then the labels in order;
+/// - `name`: `Shape` where it is no text, or absent; `Empty`; `Shape` where it is not of the form of a label name;
+///   `Duplicate` where it is the name of an earlier label;
+/// - `values`: `Shape` where it is no array, or absent; `Empty`; `Limit` for more than 128; then the values in order;
+/// - a value: `Shape` where it is neither a text nor `null`; `Empty`; `Duplicate` of an earlier one.
+///
+/// `Memory`, at the place `Memory` and the empty pointer, comes only where memory was refused.
 pub fn read_universe(alloc: Global, bytes: &[u8]) -> Result<Universe, Fault>
     ensures found { IfOk result (λ u. universe_file bytes.now ≡ Ok u) }
     ensures says { IfOk result (λ u. FileSaysUniverse bytes.now u) }
