@@ -1,2 +1,0 @@
-pub mod Universes
-pub mod AddedLabels

@@ -10,7 +10,6 @@ mod kind;
 mod label_fault;
 mod op;
 mod place;
-mod universe;
 
 
 pub use fault::Fault;
@@ -18,4 +17,3 @@ pub use kind::Kind;
 pub use label_fault::{LabelFault, LabelPart};
 pub use op::Op;
 pub use place::Place;
-pub use universe::Universe;
