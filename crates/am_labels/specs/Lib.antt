@@ -4,6 +4,9 @@ pub mod Universe
 pub mod Choice
 pub mod LabelSet
 pub mod Matcher
+pub mod Sink
 pub mod SetText
 pub mod UniverseView
+pub mod ChoiceView
 pub mod LabelSetView
+pub mod Out

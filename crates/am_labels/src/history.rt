@@ -1,0 +1,31 @@
+ghost use Rattle.std.specs.Prelude.{◌≡◌, ◌++◌, List, []};
+ghost use Rattle.std.specs.Borrow.{ftrue};
+
+use std::marker::{Model, PhantomData};
+
+/// What has come so far, in order: a list that only clauses see. It takes no bytes.
+#[derive(Drop)]
+pub struct History<T> {
+    of: PhantomData<T>,
+    pub ghost items: { List T },
+}
+
+impl<T> Model for History<T> {
+    ghost also_owns = { λ _. ftrue };
+}
+
+impl<T> History<T> {
+    /// Nothing has come yet.
+    pub fn new() -> History<T>
+        ensures { result.items ≡ [] }
+    {
+        History { of: PhantomData }
+    }
+
+    /// This history, and then these items.
+    pub fn and(&self, _items: &[T]) -> History<T>
+        ensures { result.items ≡ self.now.items ++ _items.now }
+    {
+        History { of: PhantomData }
+    }
+}

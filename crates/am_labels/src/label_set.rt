@@ -1,0 +1,98 @@
+ghost use Rattle.std.specs.Prelude.{◌≡◌, ◌==◌, OnOk, OnErr, IfOk, string_bytes};
+ghost use Rattle.std.specs.FinMap as map;
+ghost use Rattle.am_labels.specs.Universe.{sizes};
+ghost use Rattle.am_labels.specs.Choice.{IsWhole};
+ghost use Rattle.am_labels.specs.LabelSet.{value_of, with_value, label_set_of, HasTextsAlone};
+
+use crate::{Choice, Universe};
+use std::alloc::{AllocError, Global};
+use std::collections::BTreeMap;
+use std::marker::Model;
+
+/// A label set: a map from names to non-empty texts.
+///
+/// A missing label is the same as a label with the empty value.
+#[derive(Drop)]
+pub struct LabelSet {
+    values: BTreeMap<String, String>,
+}
+
+impl Model for LabelSet {
+    ghost use Rattle.std.specs.Ordering.{nat_cmp};
+    ghost use Rattle.std.specs.Cmp.Lexicographic.{slice_cmp};
+    ghost use Rattle.am_labels.specs.LabelSet.{LabelMap};
+    ghost use Rattle.am_labels.specs.LabelSetView.{label_map_code, label_map_of, HoldsNoEmptyText};
+
+    ghost Value = { LabelMap };
+
+    ghost coded = { label_map_code };
+
+    ghost view = { λ a. label_map_of a.values.entries };
+
+    ghost invariant = { λ a. HoldsNoEmptyText a.values.entries };
+}
+
+impl LabelSet {
+    /// The empty label set. It keeps the allocator.
+    pub fn empty(alloc: Global) -> LabelSet
+        ensures { result ≡ map.empty }
+    {
+        LabelSet {
+            values: BTreeMap::new(alloc),
+        }
+    }
+
+    /// Gives the label this value. The empty value takes the label out. After an `Err` nothing has changed.
+    pub fn put(&mut self, name: String, value: String) -> Result<(), AllocError>
+        ensures ok { OnOk result (self.new ≡ with_value self.old (string_bytes name) (string_bytes value)) }
+        ensures err { OnErr result (self.new ≡ self.old) }
+    {
+        if value.is_empty() {
+            self.values.remove(name.as_str());
+        } else {
+            self.values.insert(name, value)?;
+        }
+        Ok(())
+    }
+
+    /// The value of a label: the empty text where it is missing.
+    pub fn get(&self, name: &str) -> &str
+        ensures { result.now ≡ value_of self.now name.now }
+    {
+        match self.values.get(name) {
+            Some(value) => value.as_str(),
+            None => "",
+        }
+    }
+
+    /// How many labels have a value.
+    pub fn len(&self) -> usize
+        ensures len { result ≡ map.len self.now }
+        ensures texts { HasTextsAlone self.now }
+    {
+        self.values.len()
+    }
+
+    /// Whether no label has a value.
+    pub fn is_empty(&self) -> bool
+        ensures { result ≡ (map.len self.now == 0) }
+    {
+        self.values.is_empty()
+    }
+}
+
+/// The label set of a whole choice: each label whose value is a text.
+pub fn set_of(alloc: Global, universe: &Universe, choice: &Choice) -> Result<LabelSet, AllocError>
+    requires { IsWhole (sizes universe.now) choice.now }
+    ensures { IfOk result (λ set. set ≡ label_set_of universe.now choice.now) }
+{
+    let mut set = LabelSet::empty(alloc);
+    for i in 0..universe.len() {
+        if let Some(value) = universe.value(i, usize::from(choice.get(i))) {
+            let name = String::from_str(alloc, universe.name(i))?;
+            let value = String::from_str(alloc, value)?;
+            set.put(name, value)?;
+        }
+    }
+    Ok(set)
+}

@@ -1,0 +1,89 @@
+ghost use Rattle.std.specs.Prelude.{◌≡◌, ◌≢◌, ◌<◌, ◌≤◌, ◌==◌, [], ◌∷◌, ◌++◌, Some, length, IfOk, IfErr, OnOk, OnErr, slice_get};
+ghost use Rattle.am_labels.specs.Matcher.{max_matchers, all_hold};
+ghost use Rattle.am_labels.specs.declared.kind.Kind.TheVariants as kinds;
+
+use crate::{Kind, LabelSet, Matcher};
+use std::alloc::{AllocError, Global};
+use std::marker::Model;
+
+/// A list of at most 64 matchers, all of which a label set has to match.
+#[derive(Drop)]
+pub struct Matchers {
+    matchers: Vec<Matcher>,
+}
+
+impl Model for Matchers {
+    ghost use Rattle.std.specs.Prelude.{List, ◌≤◌, length};
+    ghost use Rattle.am_labels.specs.Matcher.{Condition, max_matchers};
+
+    ghost Value = { List Condition };
+
+    ghost view = { λ a. a.matchers.items };
+
+    ghost invariant = { λ a. length a.matchers.items ≤ max_matchers };
+}
+
+const MAX_MATCHERS: usize = 64;
+
+impl Matchers {
+    /// The empty list, which every label set matches. It keeps the allocator.
+    pub fn empty(alloc: Global) -> Matchers
+        ensures { result ≡ [] }
+    {
+        Matchers {
+            matchers: Vec::new(alloc),
+        }
+    }
+
+    /// Adds a matcher at the end. `Limit` for a 65th; `Memory`. After an `Err` nothing has changed.
+    pub fn push(&mut self, matcher: Matcher) -> Result<(), Kind>
+        ensures ok { OnOk result (self.new ≡ self.old ++ matcher ∷ []) }
+        ensures room { OnOk result (length self.old < max_matchers) }
+        ensures refused { IfErr result (λ kind. kind ≢ kinds.Memory → (kind ≡ kinds.Limit) × (length self.old ≡ max_matchers)) }
+        ensures err { OnErr result (self.new ≡ self.old) }
+    {
+        if self.matchers.len() >= MAX_MATCHERS {
+            return Err(Kind::Limit);
+        }
+        match self.matchers.push(matcher) {
+            Ok(()) => Ok(()),
+            Err(_) => Err(Kind::Memory),
+        }
+    }
+
+    /// How many matchers there are, at most 64.
+    pub fn len(&self) -> usize
+        ensures len { result ≡ length self.now }
+        ensures at_most { result ≤ max_matchers }
+    {
+        self.matchers.len()
+    }
+
+    /// Whether there is no matcher.
+    pub fn is_empty(&self) -> bool
+        ensures { result ≡ (length self.now == 0) }
+    {
+        self.matchers.is_empty()
+    }
+
+    /// The matcher at `i`.
+    pub fn get(&self, i: usize) -> &Matcher
+        requires { i < length self.now }
+        ensures { slice_get self.now i ≡ Some result.now }
+    {
+        &self.matchers[i]
+    }
+
+    /// Whether every matcher matches the label set.
+    pub fn matches(&self, _alloc: Global, set: &LabelSet) -> Result<bool, AllocError>
+        ensures { IfOk result (λ matched. matched ≡ all_hold set.now self.now) }
+    {
+        for matcher in &self.matchers {
+            let text = set.get(matcher.name());
+            if !matcher.holds(text) {
+                return Ok(false);
+            }
+        }
+        Ok(true)
+    }
+}

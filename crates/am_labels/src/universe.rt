@@ -1,0 +1,246 @@
+ghost use Rattle.std.specs.Prelude.{◌≡◌, ◌≢◌, ◌<◌, ◌≤◌, ◌==◌, List, [], ◌∷◌, ◌++◌, length, map, Some, None, MatchResult, string_bytes, IfOk, IfErr, IfSome, IfNone, OnOk, OnErr, Contains, slice_get, slice_index, option_map, option_and_then};
+ghost use Rattle.am_labels.specs.Universe.{IsUniverse, max_values, names, sizes, is_label_name, name_fault, count_fault, value_fault, label_values_fault, label_fault};
+ghost use Rattle.am_labels.specs.UniverseView.{label_of, texts_of};
+ghost use Rattle.am_labels.specs.LabelSet.{value_at};
+ghost use Rattle.am_labels.specs.Choice.{admits};
+ghost use Rattle.am_labels.specs.declared.kind.Kind.TheVariants as kinds;
+ghost use Rattle.am_labels.specs.declared.label_fault.LabelPart.TheVariants as parts;
+
+use crate::{Choice, Kind, LabelFault, LabelPart};
+use std::alloc::Global;
+use std::marker::Model;
+
+/// A label and the values that it may have; `None` is absence.
+#[derive(Drop)]
+struct Label {
+    name: String,
+    values: Vec<Option<String>>,
+}
+
+/// A declared, finite universe of label sets: at most 64 labels, each with 1 to 128 distinct values.
+///
+/// A value is a non-empty text or absence. The order of the labels and of their values is the
+/// declared order, in which label sets are written.
+#[derive(Drop)]
+pub struct Universe {
+    labels: Vec<Label>,
+}
+
+impl Model for Label {
+    ghost use Rattle.am_labels.specs.Universe as spec;
+    ghost use Rattle.am_labels.specs.UniverseView.{label_of};
+
+    ghost Value = { spec.Label };
+
+    ghost view = { λ l. label_of l.name l.values };
+}
+
+impl Model for Universe {
+    ghost use Rattle.std.specs.Prelude.{List};
+    ghost use Rattle.am_labels.specs.Universe as spec;
+
+    ghost Value = { List spec.Label };
+
+    ghost view = { λ u. u.labels.items };
+
+    ghost invariant = { λ u. spec.IsUniverse u.labels.items };
+}
+
+impl Universe {
+    /// The universe with no labels, which has one label set, the empty one. It keeps the allocator.
+    pub fn empty(alloc: Global) -> Universe
+        ensures { result ≡ [] }
+    {
+        Universe {
+            labels: Vec::new(alloc),
+        }
+    }
+
+    /// Why a label of this name may not be added; `None` where it may, if its values may too.
+    ///
+    /// The first of: `Empty`, the empty text; `Shape`, not `[a-zA-Z_][a-zA-Z0-9_]*`; `Duplicate`, the name of a label here.
+    pub fn name_fault(&self, name: &str) -> Option<Kind>
+        ensures { result ≡ name_fault self.now name.now }
+    {
+        if name.is_empty() {
+            return Some(Kind::Empty);
+        }
+        if !is_label_name(name.as_bytes()) {
+            return Some(Kind::Shape);
+        }
+        if self.position(name).is_some() {
+            return Some(Kind::Duplicate);
+        }
+        None
+    }
+
+    /// Why a value may not stand behind those before it; `None` where it may.
+    ///
+    /// The first of: `Empty`, the empty text; `Duplicate`, a value as one before it.
+    pub fn value_fault(before: &[Option<String>], value: Option<&str>) -> Option<Kind>
+        ensures { result ≡ value_fault (texts_of before.now) (option_map (λ t. t.now) value.entry) }
+    {
+        if value == Some("") {
+            return Some(Kind::Empty);
+        }
+        if before.iter().any(|other| text_of(other) == value) {
+            return Some(Kind::Duplicate);
+        }
+        None
+    }
+
+    /// Adds a label behind the others, with its values in declared order.
+    ///
+    /// The first fault is the one answered: `Limit` at `Label` where there are 64 labels already; the faults of
+    /// the name, at `Name`, as `name_fault` has them; at `Values`, `Empty` for no value and `Limit` for more than
+    /// 128; at the first such value, `Empty` for the empty text and `Duplicate` for a value as one before it.
+    /// `Memory` at `Label` comes only where memory was refused. After an `Err` nothing has changed.
+    pub fn add(&mut self, name: String, values: Vec<Option<String>>) -> Result<(), LabelFault>
+        ensures ok { OnOk result (self.new ≡ self.old ++ label_of name values ∷ []) }
+        ensures accepted { OnOk result (label_fault self.old (label_of name values) ≡ None) }
+        ensures first { IfErr result (λ fault. fault.kind ≢ kinds.Memory → label_fault self.old (label_of name values) ≡ Some fault) }
+        ensures memory { IfErr result (λ fault. fault.kind ≡ kinds.Memory → fault.part ≡ parts.Label) }
+        ensures err { OnErr result (self.new ≡ self.old) }
+    {
+        if self.labels.len() >= MAX_LABELS {
+            return Err(at(LabelPart::Label, Kind::Limit));
+        }
+        if let Some(kind) = self.name_fault(name.as_str()) {
+            return Err(at(LabelPart::Name, kind));
+        }
+        check_values(values.as_slice())?;
+        match self.labels.push(Label { name, values }) {
+            Ok(()) => Ok(()),
+            Err(_) => Err(at(LabelPart::Label, Kind::Memory)),
+        }
+    }
+
+    /// How many labels there are, at most 64.
+    pub fn len(&self) -> usize
+        ensures len { result ≡ length self.now }
+        ensures universe { IsUniverse self.now }
+    {
+        self.labels.len()
+    }
+
+    /// Whether there is no label.
+    pub fn is_empty(&self) -> bool
+        ensures { result ≡ (length self.now == 0) }
+    {
+        self.labels.is_empty()
+    }
+
+    /// The name of the label at `i`.
+    pub fn name(&self, i: usize) -> &str
+        requires { i < length self.now }
+        ensures { slice_get (names self.now) i ≡ Some result.now }
+    {
+        self.labels[i].name.as_str()
+    }
+
+    /// How many values the label at `i` has, 1 to 128.
+    pub fn size(&self, i: usize) -> usize
+        requires { i < length self.now }
+        ensures size { slice_get (sizes self.now) i ≡ Some result }
+        ensures some { 0 < result }
+        ensures at_most { result ≤ max_values }
+    {
+        self.labels[i].values.len()
+    }
+
+    /// The value at `j` of the label at `i`; `None` is absence.
+    pub fn value(&self, i: usize, j: usize) -> Option<&str>
+        requires label { i < length self.now }
+        requires value { j < slice_index (sizes self.now) i }
+        ensures { option_map (λ t. t.now) result ≡ option_and_then (λ label. value_at label j) (slice_get self.now i) }
+    {
+        match &self.labels[i].values[j] {
+            Some(text) => Some(text.as_str()),
+            None => None,
+        }
+    }
+
+    /// The position of the label of this name, if there is one.
+    pub fn position(&self, name: &str) -> Option<usize>
+        ensures found { IfSome result (λ i. slice_get (names self.now) i ≡ Some name.now) }
+        ensures none { IfNone result (¬ Contains (names self.now) name.now) }
+    {
+        self.labels
+            .iter()
+            .position(|label| label.name.as_str() == name)
+    }
+
+    /// Whether the choice is no longer than the list of labels, and each position is below its label's size.
+    pub fn admits(&self, choice: &Choice) -> bool
+        ensures { result ≡ admits (sizes self.now) choice.now }
+    {
+        if choice.len() > self.labels.len() {
+            return false;
+        }
+        for i in 0..choice.len() {
+            if usize::from(choice.get(i)) >= self.labels[i].values.len() {
+                return false;
+            }
+        }
+        true
+    }
+}
+
+/// The most labels that a universe has, and the most values of a label.
+const MAX_LABELS: usize = 64;
+const MAX_VALUES: usize = 128;
+
+/// The first fault in a list of values.
+fn check_values(values: &[Option<String>]) -> Result<(), LabelFault>
+    ensures { MatchResult result
+        (λ _. label_values_fault (texts_of values.now) ≡ None)
+        (λ fault. label_values_fault (texts_of values.now) ≡ Some fault) }
+{
+    if let Some(kind) = count_fault(values.len()) {
+        return Err(at(LabelPart::Values, kind));
+    }
+    for (i, value) in values.iter().enumerate() {
+        if let Some(kind) = Universe::value_fault(&values[..i], text_of(value)) {
+            return Err(at(LabelPart::Value(i), kind));
+        }
+    }
+    Ok(())
+}
+
+fn count_fault(count: usize) -> Option<Kind>
+    ensures { result ≡ count_fault count }
+{
+    if count == 0 {
+        Some(Kind::Empty)
+    } else if count > MAX_VALUES {
+        Some(Kind::Limit)
+    } else {
+        None
+    }
+}
+
+fn text_of(value: &Option<String>) -> Option<&str>
+    ensures { option_map (λ t. t.now) result ≡ option_map string_bytes value.now }
+{
+    match value {
+        Some(text) => Some(text.as_str()),
+        None => None,
+    }
+}
+
+fn at(part: LabelPart, kind: Kind) -> LabelFault
+    ensures { result ≡ record { kind = kind; part = part } }
+{
+    LabelFault { kind, part }
+}
+
+/// Whether the text is a label name, `[a-zA-Z_][a-zA-Z0-9_]*` (Prometheus data model).
+fn is_label_name(name: &[u8]) -> bool
+    ensures { result ≡ is_label_name name.now }
+{
+    let is_start = |byte: u8| byte.is_ascii_alphabetic() || byte == b'_';
+    match name {
+        [] => false,
+        [first, rest @ ..] => is_start(*first) && rest.iter().all(|byte| is_start(*byte) || byte.is_ascii_digit()),
+    }
+}
