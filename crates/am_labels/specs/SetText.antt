@@ -7,10 +7,10 @@ use Rattle.am_labels.specs.Universe.{Label}
 use Rattle.am_labels.specs.LabelSet.{pairs_of}
 
 abbrev pub pair_text : List ℕ × List ℕ → List ℕ
-pair_text pair = pair.0 ++ codes "=" ++ quoted pair.1
+pair_text pair = pair.0 ++ (codes "=" ++ quoted pair.1)
 
 abbrev pub pairs_text : List (List ℕ × List ℕ) → List ℕ
-pairs_text pairs = codes "{" ++ join_with_byte 44 (map pair_text pairs) ++ codes "}"
+pairs_text pairs = codes "{" ++ (join_with_byte 44 (map pair_text pairs) ++ codes "}")
 
 -- the set of a choice
 abbrev pub set_text : List Label → List ℕ → List ℕ

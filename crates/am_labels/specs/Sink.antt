@@ -1,15 +1,25 @@
 -- What a call that writes did to a sink. (This project's own.)
-use Rattle.std.specs.Prelude.{◌≡◌, ℕ, ◌+◌, ◌<◌, List, ◌++◌, length, take, Result, MatchResult}
+use Rattle.std.specs.Prelude.{◌≡◌, ℕ, ◌+◌, ◌<◌, List, ◌++◌, length, take, Result, OnOk, IfErr}
 use Rattle.am_labels.specs.declared.kind.Kind.{Kind}
 use Rattle.am_labels.specs.declared.kind.Kind.TheVariants as kinds
 
 -- the new bytes are the old ones and a part of the text from its front, but not all of it
-abbrev pub GrowsByProperPrefix : List ℕ → List ℕ → List ℕ → Type 0
-GrowsByProperPrefix old new text = (n : ℕ) × (n < length text) × (new ≡ old ++ take n text)
+pub record GrowsByProperPrefix (old new text : List ℕ) : Type 0 where
+  pub count : ℕ
+  pub proper : count < length text
+  pub grows : new ≡ old ++ take count text
 
--- Bytes taken and failures, before and after: at `Ok` the whole text was taken and no take failed; at `Err` a proper prefix of it
--- was, and exactly one take failed.
-abbrev pub Writes : {T : Type 0} → List ℕ → List ℕ → ℕ → ℕ → List ℕ → Result T Kind → Type 0
-Writes taken taken' failures failures' text result = MatchResult result
-    (λ _. (taken' ≡ taken ++ text) × (failures' ≡ failures))
-    (λ kind. (kind ≡ kinds.Write) × GrowsByProperPrefix taken taken' text × (failures' ≡ failures + 1))
+-- Between two states of a sink the whole text was taken, and no take failed. (`taken` and `failures` are the sink's own words.)
+pub record Wrote {S : Type 0} (taken : S → List ℕ) (failures : S → ℕ) (before after : S) (text : List ℕ) : Type 0 where
+  pub all : taken after ≡ taken before ++ text
+  pub none_failed : failures after ≡ failures before
+
+-- Between two states of a sink a proper prefix of the text was taken, and exactly one take failed.
+pub record WroteInPart {S : Type 0} (taken : S → List ℕ) (failures : S → ℕ) (before after : S) (text : List ℕ) : Type 0 where
+  pub part : GrowsByProperPrefix (taken before) (taken after) text
+  pub one_failed : failures after ≡ failures before + 1
+
+-- The call wrote the text: at `Ok` all of it, without a failure; at `Err`, which is `Kind::Write`, a proper prefix, with one failure.
+pub record Writes {S T : Type 0} (taken : S → List ℕ) (failures : S → ℕ) (before after : S) (text : List ℕ) (result : Result T Kind) : Type 0 where
+  pub ok : OnOk result (Wrote taken failures before after text)
+  pub err : IfErr result (λ kind. (kind ≡ kinds.Write) × WroteInPart taken failures before after text)

@@ -14,4 +14,4 @@ escaped c = if c == 92 then codes "\\\\" else if c == 34 then codes "\\\"" else 
 
 -- the text between quotes
 abbrev pub quoted : List ℕ → List ℕ
-quoted text = codes "\"" ++ flat_map escaped text ++ codes "\""
+quoted text = codes "\"" ++ (flat_map escaped text ++ codes "\"")

@@ -30,10 +30,18 @@ is_letter c = nat_le 65 c && nat_le c 90 || nat_le 97 c && nat_le c 122
 abbrev pub is_digit : ℕ → Bool
 is_digit c = nat_le 48 c && nat_le c 57
 
+-- `[a-zA-Z_]`, with which a label name begins
+abbrev pub starts_name : ℕ → Bool
+starts_name c = is_letter c || c == 95
+
+-- `[a-zA-Z0-9_]`, with which it goes on
+abbrev pub goes_on_name : ℕ → Bool
+goes_on_name c = starts_name c || is_digit c
+
 -- a label name of the data model: `[a-zA-Z_][a-zA-Z0-9_]*`
 abbrev pub is_label_name : List ℕ → Bool
 is_label_name [] = false
-is_label_name (c ∷ cs) = (is_letter c || c == 95) && list_all (λ d. is_letter d || is_digit d || d == 95) cs
+is_label_name (c ∷ cs) = starts_name c && list_all goes_on_name cs
 
 -- two values are the same, absence included
 abbrev pub same_value : Option (List ℕ) → Option (List ℕ) → Bool
@@ -94,7 +102,7 @@ count_fault count = if count == 0 then Some kinds.Empty else if nat_lt max_value
 abbrev pub value_fault : Values → Option (List ℕ) → Option Kind
 value_fault before value =
     if is_empty_text value then Some kinds.Empty
-    else if list_any (same_value value) before then Some kinds.Duplicate
+    else if list_any (λ other. same_value other value) before then Some kinds.Duplicate
     else None
 
 -- the first value at fault, where those before stand already
@@ -111,3 +119,7 @@ abbrev pub label_fault : List Label → Label → Option LabelFault
 label_fault u label =
     if nat_le max_labels (length u) then Some (record { kind = kinds.Limit; part = parts.Label })
     else first_fault (fault_at parts.Name (name_fault u label.name)) (label_values_fault label.values)
+
+-- the answer where memory was refused for a label
+abbrev pub no_memory : LabelFault
+no_memory = record { kind = kinds.Memory; part = parts.Label }

@@ -23,6 +23,8 @@ impl Model for Choice {
     ghost invariant = { IsStored };
 
     ghost inverse = { stored };
+
+    ghost inverse_ok = { λ a h. h.1 };
 }
 
 impl Choice {
@@ -48,7 +50,7 @@ impl Choice {
     pub fn is_empty(&self) -> bool
         ensures { result ≡ (length self.now == 0) }
     {
-        self.len == 0
+        self.len() == 0
     }
 
     /// The position at `i`.

@@ -1,4 +1,7 @@
+ghost use Rattle.std.specs.Prelude.{◌≡◌, [], string_bytes};
+
 use crate::{Kind, Place};
+use std::alloc::Global;
 use thiserror::Error;
 
 /// A refusal: why, where, and at which part of a file.
@@ -10,4 +13,19 @@ pub struct Fault {
     pub kind: Kind,
     pub place: Place,
     pub pointer: String,
+}
+
+impl Fault {
+    /// A fault at a place as a whole: its pointer is empty. No memory is taken.
+    pub fn of(alloc: Global, kind: Kind, place: Place) -> Fault
+        ensures kind { result.kind ≡ kind }
+        ensures place { result.place ≡ place }
+        ensures pointer { string_bytes result.pointer ≡ [] }
+    {
+        Fault {
+            kind,
+            place,
+            pointer: String::new(alloc),
+        }
+    }
 }

@@ -18,10 +18,8 @@ pub struct LabelSet {
 }
 
 impl Model for LabelSet {
-    ghost use Rattle.std.specs.Ordering.{nat_cmp};
-    ghost use Rattle.std.specs.Cmp.Lexicographic.{slice_cmp};
-    ghost use Rattle.am_labels.specs.LabelSet.{LabelMap};
-    ghost use Rattle.am_labels.specs.LabelSetView.{label_map_code, label_map_of, HoldsNoEmptyText};
+    ghost use Rattle.am_labels.specs.LabelSet.{LabelMap, HasTextsAlone};
+    ghost use Rattle.am_labels.specs.LabelSetView.{label_map_code, label_map_of};
 
     ghost Value = { LabelMap };
 
@@ -29,7 +27,7 @@ impl Model for LabelSet {
 
     ghost view = { λ a. label_map_of a.values.entries };
 
-    ghost invariant = { λ a. HoldsNoEmptyText a.values.entries };
+    ghost invariant = { λ a. HasTextsAlone (label_map_of a.values.entries) };
 }
 
 impl LabelSet {
@@ -77,7 +75,7 @@ impl LabelSet {
     pub fn is_empty(&self) -> bool
         ensures { result ≡ (map.len self.now == 0) }
     {
-        self.values.is_empty()
+        self.len() == 0
     }
 }
 

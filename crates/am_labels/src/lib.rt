@@ -11,6 +11,7 @@ mod history;
 mod kind;
 mod label_fault;
 mod label_set;
+pub mod laws;
 mod matcher;
 mod matchers;
 mod op;
@@ -19,8 +20,6 @@ mod place;
 mod sink;
 mod universe;
 mod write;
-
-pub mod laws;
 
 pub use choice::Choice;
 pub use fault::Fault;
@@ -35,4 +34,4 @@ pub use out::Out;
 pub use place::Place;
 pub use sink::Sink;
 pub use universe::Universe;
-pub use write::{put_all, write_set, write_text};
+pub use write::{put_all, put_str, write_set, write_text};

@@ -61,7 +61,7 @@ impl Matcher {
     pub(crate) fn holds(&self, text: &str) -> bool
         ensures { result ≡ holds self.now.op self.now.value text.now }
     {
-        let is_same = text == self.value.as_str();
+        let is_same = text == self.value();
         match self.op {
             Op::Equal => is_same,
             Op::NotEqual => !is_same,

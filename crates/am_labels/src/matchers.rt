@@ -42,7 +42,7 @@ impl Matchers {
         ensures refused { IfErr result (λ kind. kind ≢ kinds.Memory → (kind ≡ kinds.Limit) × (length self.old ≡ max_matchers)) }
         ensures err { OnErr result (self.new ≡ self.old) }
     {
-        if self.matchers.len() >= MAX_MATCHERS {
+        if self.len() >= MAX_MATCHERS {
             return Err(Kind::Limit);
         }
         match self.matchers.push(matcher) {

@@ -35,6 +35,13 @@ impl<W: Write> Out<W> {
         }
     }
 
+    /// The writer as it is now.
+    pub fn get_ref(&self) -> &W
+        ensures { IfSome (W.contents (out_start self.now)) (λ held. W.contents result.now ≡ Some (held ++ out_taken self.now)) }
+    {
+        &self.writer
+    }
+
     /// The writer.
     pub fn into_inner(self) -> W
         ensures { IfSome (W.contents (out_start self)) (λ held. W.contents result ≡ Some (held ++ out_taken self)) }

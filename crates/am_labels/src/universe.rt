@@ -1,10 +1,10 @@
-ghost use Rattle.std.specs.Prelude.{◌≡◌, ◌≢◌, ◌<◌, ◌≤◌, ◌==◌, List, [], ◌∷◌, ◌++◌, length, map, Some, None, MatchResult, string_bytes, IfOk, IfErr, IfSome, IfNone, OnOk, OnErr, Contains, slice_get, slice_index, option_map, option_and_then};
-ghost use Rattle.am_labels.specs.Universe.{IsUniverse, max_values, names, sizes, is_label_name, name_fault, count_fault, value_fault, label_values_fault, label_fault};
+ghost use Rattle.std.specs.Prelude.{◌≡◌, ◌<◌, ◌≤◌, ◌==◌, [], ◌∷◌, ◌++◌, length, Some, None, string_bytes, IfErr, IfSome, IfNone, OnOk, OnErr, Contains, slice_get, slice_index, option_map, option_and_then, unwrap_or};
+ghost use Rattle.std.specs.List.{list_all, list_any};
+ghost use Rattle.am_labels.specs.Universe.{IsUniverse, max_labels, max_values, names, sizes, starts_name, goes_on_name, is_label_name, same_value, name_fault, count_fault, value_fault, label_values_fault, label_fault, no_memory};
 ghost use Rattle.am_labels.specs.UniverseView.{label_of, texts_of};
 ghost use Rattle.am_labels.specs.LabelSet.{value_at};
 ghost use Rattle.am_labels.specs.Choice.{admits};
 ghost use Rattle.am_labels.specs.declared.kind.Kind.TheVariants as kinds;
-ghost use Rattle.am_labels.specs.declared.label_fault.LabelPart.TheVariants as parts;
 
 use crate::{Choice, Kind, LabelFault, LabelPart};
 use std::alloc::Global;
@@ -83,7 +83,7 @@ impl Universe {
         if value == Some("") {
             return Some(Kind::Empty);
         }
-        if before.iter().any(|other| text_of(other) == value) {
+        if is_among(before, value) {
             return Some(Kind::Duplicate);
         }
         None
@@ -94,30 +94,41 @@ impl Universe {
     /// The first fault is the one answered: `Limit` at `Label` where there are 64 labels already; the faults of
     /// the name, at `Name`, as `name_fault` has them; at `Values`, `Empty` for no value and `Limit` for more than
     /// 128; at the first such value, `Empty` for the empty text and `Duplicate` for a value as one before it.
-    /// `Memory` at `Label` comes only where memory was refused. After an `Err` nothing has changed.
+    /// `Memory` at `Label` comes only for a label with no fault, where memory was refused. After an `Err` nothing has
+    /// changed.
     pub fn add(&mut self, name: String, values: Vec<Option<String>>) -> Result<(), LabelFault>
         ensures ok { OnOk result (self.new ≡ self.old ++ label_of name values ∷ []) }
         ensures accepted { OnOk result (label_fault self.old (label_of name values) ≡ None) }
-        ensures first { IfErr result (λ fault. fault.kind ≢ kinds.Memory → label_fault self.old (label_of name values) ≡ Some fault) }
-        ensures memory { IfErr result (λ fault. fault.kind ≡ kinds.Memory → fault.part ≡ parts.Label) }
+        ensures first { IfErr result (λ fault. fault ≡ unwrap_or (label_fault self.old (label_of name values)) no_memory) }
+        ensures memory { IfErr result (λ fault. fault.kind ≡ kinds.Memory → label_fault self.old (label_of name values) ≡ None) }
         ensures err { OnErr result (self.new ≡ self.old) }
     {
-        if self.labels.len() >= MAX_LABELS {
-            return Err(at(LabelPart::Label, Kind::Limit));
+        if let Some(fault) = self.label_fault(name.as_str(), values.as_slice()) {
+            return Err(fault);
         }
-        if let Some(kind) = self.name_fault(name.as_str()) {
-            return Err(at(LabelPart::Name, kind));
-        }
-        check_values(values.as_slice())?;
         match self.labels.push(Label { name, values }) {
             Ok(()) => Ok(()),
             Err(_) => Err(at(LabelPart::Label, Kind::Memory)),
         }
     }
 
+    /// The first fault of a label behind those here.
+    fn label_fault(&self, name: &str, values: &[Option<String>]) -> Option<LabelFault>
+        ensures { result ≡ label_fault self.now (record { name = name.now; values = texts_of values.now }) }
+    {
+        if self.labels.len() >= MAX_LABELS {
+            return Some(at(LabelPart::Label, Kind::Limit));
+        }
+        if let Some(kind) = self.name_fault(name) {
+            return Some(at(LabelPart::Name, kind));
+        }
+        label_values_fault(values)
+    }
+
     /// How many labels there are, at most 64.
     pub fn len(&self) -> usize
         ensures len { result ≡ length self.now }
+        ensures at_most { result ≤ max_labels }
         ensures universe { IsUniverse self.now }
     {
         self.labels.len()
@@ -174,11 +185,11 @@ impl Universe {
     pub fn admits(&self, choice: &Choice) -> bool
         ensures { result ≡ admits (sizes self.now) choice.now }
     {
-        if choice.len() > self.labels.len() {
+        if choice.len() > self.len() {
             return false;
         }
         for i in 0..choice.len() {
-            if usize::from(choice.get(i)) >= self.labels[i].values.len() {
+            if usize::from(choice.get(i)) >= self.size(i) {
                 return false;
             }
         }
@@ -186,25 +197,25 @@ impl Universe {
     }
 }
 
-/// The most labels that a universe has, and the most values of a label.
+/// The most labels of a universe.
 const MAX_LABELS: usize = 64;
+
+/// The most values of a label.
 const MAX_VALUES: usize = 128;
 
-/// The first fault in a list of values.
-fn check_values(values: &[Option<String>]) -> Result<(), LabelFault>
-    ensures { MatchResult result
-        (λ _. label_values_fault (texts_of values.now) ≡ None)
-        (λ fault. label_values_fault (texts_of values.now) ≡ Some fault) }
+/// The first fault in the values of a label.
+fn label_values_fault(values: &[Option<String>]) -> Option<LabelFault>
+    ensures { result ≡ label_values_fault (texts_of values.now) }
 {
     if let Some(kind) = count_fault(values.len()) {
-        return Err(at(LabelPart::Values, kind));
+        return Some(at(LabelPart::Values, kind));
     }
     for (i, value) in values.iter().enumerate() {
         if let Some(kind) = Universe::value_fault(&values[..i], text_of(value)) {
-            return Err(at(LabelPart::Value(i), kind));
+            return Some(at(LabelPart::Value(i), kind));
         }
     }
-    Ok(())
+    None
 }
 
 fn count_fault(count: usize) -> Option<Kind>
@@ -216,6 +227,23 @@ fn count_fault(count: usize) -> Option<Kind>
         Some(Kind::Limit)
     } else {
         None
+    }
+}
+
+/// Whether the value is one of those.
+fn is_among(others: &[Option<String>], value: Option<&str>) -> bool
+    ensures { result ≡ list_any (λ other. same_value other (option_map (λ t. t.now) value.entry)) (texts_of others.now) }
+{
+    others.iter().any(|other| is_same(other, value))
+}
+
+fn is_same(other: &Option<String>, value: Option<&str>) -> bool
+    ensures { result ≡ same_value (option_map string_bytes other.now) (option_map (λ t. t.now) value.entry) }
+{
+    match (other, value) {
+        (Some(other), Some(text)) => other.as_str() == text,
+        (None, None) => true,
+        _ => false,
     }
 }
 
@@ -238,9 +266,26 @@ fn at(part: LabelPart, kind: Kind) -> LabelFault
 fn is_label_name(name: &[u8]) -> bool
     ensures { result ≡ is_label_name name.now }
 {
-    let is_start = |byte: u8| byte.is_ascii_alphabetic() || byte == b'_';
-    match name {
-        [] => false,
-        [first, rest @ ..] => is_start(*first) && rest.iter().all(|byte| is_start(*byte) || byte.is_ascii_digit()),
+    match name.split_first() {
+        Some((first, rest)) => starts_name(*first) && all_go_on_name(rest),
+        None => false,
     }
+}
+
+fn all_go_on_name(bytes: &[u8]) -> bool
+    ensures { result ≡ list_all goes_on_name bytes.now }
+{
+    bytes.iter().all(|byte| goes_on_name(*byte))
+}
+
+fn starts_name(byte: u8) -> bool
+    ensures { result ≡ starts_name byte }
+{
+    byte.is_ascii_alphabetic() || byte == b'_'
+}
+
+fn goes_on_name(byte: u8) -> bool
+    ensures { result ≡ goes_on_name byte }
+{
+    starts_name(byte) || byte.is_ascii_digit()
 }

@@ -1,27 +1,38 @@
-ghost use Rattle.std.specs.Prelude.{◌≡◌, ℕ, List};
+ghost use Rattle.std.specs.Prelude.{◌≡◌, [], ◌∷◌, ◌++◌, IfSome, IfNone};
+ghost use Rattle.std.specs.List.{flat_map};
 ghost use Rattle.am_labels.specs.Universe.{sizes};
 ghost use Rattle.am_labels.specs.Choice.{IsWhole};
 ghost use Rattle.am_labels.specs.Text.{quoted, escaped};
-ghost use Rattle.am_labels.specs.SetText.{set_text};
+ghost use Rattle.am_labels.specs.SetText.{pair_text, set_text};
 ghost use Rattle.am_labels.specs.Sink.{Writes};
 
 use crate::{Choice, Kind, Sink, Universe};
 
 /// Writes the bytes, all of them, unless a take fails: then the answer is `Kind::Write`, the bytes before
 /// it have gone out, and it is not tried again.
+#[tactic(auto, using(crate::proofs::Writing::more_taken))]
 pub fn put_all<W: Sink>(out: &mut W, bytes: &[u8]) -> Result<(), Kind>
-    ensures { Writes (W.taken out.old) (W.taken out.new) (W.failures out.old) (W.failures out.new) bytes.now result }
+    ensures { Writes W.taken W.failures out.old out.new bytes.now result }
 {
-    let mut rest = bytes;
-    while !rest.is_empty() {
-        let count = out.take(rest)?;
-        rest = &rest[count..];
+    let mut done = 0;
+    while done < bytes.len() {
+        done += out.take(&bytes[done..])?;
     }
     Ok(())
 }
 
+/// Writes a text as it stands.
+pub fn put_str<W: Sink>(out: &mut W, text: &str) -> Result<(), Kind>
+    ensures { Writes W.taken W.failures out.old out.new text.now result }
+{
+    put_all(out, text.as_bytes())
+}
+
 /// How a byte is written between quotes, where it does not stand for itself.
-fn escape_of(byte: u8) -> Option<&'static [u8]> {
+fn escape_of(byte: u8) -> Option<&'static [u8]>
+    ensures some { IfSome result (λ escape. escape.now ≡ escaped byte) }
+    ensures none { IfNone result (escaped byte ≡ byte ∷ []) }
+{
     match byte {
         b'\\' => Some(b"\\\\"),
         b'"' => Some(b"\\\""),
@@ -32,14 +43,17 @@ fn escape_of(byte: u8) -> Option<&'static [u8]> {
 
 /// Writes a text between quotes, with `\` as `\\`, `"` as `\"` and a line feed as `\n`.
 pub fn write_text<W: Sink>(text: &str, out: &mut W) -> Result<(), Kind>
-    ensures { Writes (W.taken out.old) (W.taken out.new) (W.failures out.old) (W.failures out.new) (quoted text.now) result }
+    ensures { Writes W.taken W.failures out.old out.new (quoted text.now) result }
 {
     put_all(out, b"\"")?;
     write_escaped(out, text.as_bytes())?;
     put_all(out, b"\"")
 }
 
-fn write_escaped<W: Sink>(out: &mut W, bytes: &[u8]) -> Result<(), Kind> {
+/// Writes the bytes, each as it stands between quotes.
+fn write_escaped<W: Sink>(out: &mut W, bytes: &[u8]) -> Result<(), Kind>
+    ensures { Writes W.taken W.failures out.old out.new (flat_map escaped bytes.now) result }
+{
     let mut start = 0;
     for (i, byte) in bytes.iter().enumerate() {
         if let Some(escape) = escape_of(*byte) {
@@ -54,20 +68,25 @@ fn write_escaped<W: Sink>(out: &mut W, bytes: &[u8]) -> Result<(), Kind> {
 /// Writes the set of a whole choice, as `{team="db",severity="critical"}`: the labels that have a text, in declared order.
 pub fn write_set<W: Sink>(universe: &Universe, choice: &Choice, out: &mut W) -> Result<(), Kind>
     requires { IsWhole (sizes universe.now) choice.now }
-    ensures { Writes (W.taken out.old) (W.taken out.new) (W.failures out.old) (W.failures out.new) (set_text universe.now choice.now) result }
+    ensures { Writes W.taken W.failures out.old out.new (set_text universe.now choice.now) result }
 {
     put_all(out, b"{")?;
-    let mut is_first = true;
+    let mut separator: &[u8] = b"";
     for i in 0..universe.len() {
         if let Some(value) = universe.value(i, usize::from(choice.get(i))) {
-            if !is_first {
-                put_all(out, b",")?;
-            }
-            is_first = false;
-            put_all(out, universe.name(i).as_bytes())?;
-            put_all(out, b"=")?;
-            write_text(value, out)?;
+            write_pair(out, separator, universe.name(i), value)?;
+            separator = b",";
         }
     }
     put_all(out, b"}")
+}
+
+/// Writes what separates a label from those before it, its name and its value.
+fn write_pair<W: Sink>(out: &mut W, separator: &[u8], name: &str, value: &str) -> Result<(), Kind>
+    ensures { Writes W.taken W.failures out.old out.new (separator.now ++ pair_text (name.now, value.now)) result }
+{
+    put_all(out, separator)?;
+    put_str(out, name)?;
+    put_all(out, b"=")?;
+    write_text(value, out)
 }

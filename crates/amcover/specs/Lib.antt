@@ -1,0 +1,5 @@
+pub mod Trailer
+pub mod PageText
+pub mod Question
+pub mod FaultText
+pub mod Completions

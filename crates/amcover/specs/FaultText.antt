@@ -1,0 +1,47 @@
+-- The line that the program prints for a fault: `amcover: `, the place, `: `, the pointer and `: ` where there is one,
+-- then the text of the kind. A fault of writing or of memory has neither place nor pointer. (This project's own.)
+use Rattle.std.specs.Prelude.{ℕ, Bool, true, false, List, [], ◌∷◌, ◌++◌, length, ◌==◌, if◌then◌else◌, codes}
+use Rattle.std.specs.List.{flat_map}
+use Rattle.am_labels.specs.declared.kind.Kind.{Kind}
+use Rattle.am_labels.specs.declared.kind.Kind.TheVariants as kinds
+use Rattle.am_labels.specs.declared.place.Place.{Place}
+use Rattle.am_labels.specs.declared.place.Place.TheVariants as places
+use Rattle.am_labels.specs.Kind.{text_of}
+
+abbrev pub place_text : Place → List ℕ
+place_text places.Universe = codes "universe"
+place_text places.Config = codes "config"
+place_text places.Silences = codes "silences"
+place_text places.Alerts = codes "alerts"
+place_text places.Instant = codes "instant"
+place_text places.Question = codes "question"
+place_text places.Set = codes "set"
+place_text places.Token = codes "token"
+place_text places.Output = codes "output"
+place_text places.Memory = codes "memory"
+
+-- a byte of a pointer: `\` is written `\\`, a line feed `\n`
+abbrev pub escaped_in_pointer : ℕ → List ℕ
+escaped_in_pointer c = if c == 92 then codes "\\\\" else if c == 10 then codes "\\n" else c ∷ []
+
+-- the pointer, where there is one, and what separates it from the text of the kind
+abbrev pub pointer_part : List ℕ → List ℕ
+pointer_part pointer = if length pointer == 0 then [] else flat_map escaped_in_pointer pointer ++ codes ": "
+
+-- a fault of writing or of memory stands at no part of the input
+abbrev pub is_placeless : Kind → Bool
+is_placeless kinds.Write = true
+is_placeless kinds.Memory = true
+is_placeless _ = false
+
+abbrev pub where_part : Kind → Place → List ℕ → List ℕ
+where_part kind place pointer = if is_placeless kind then [] else place_text place ++ (codes ": " ++ pointer_part pointer)
+
+abbrev pub fault_text : Kind → Place → List ℕ → List ℕ
+fault_text kind place pointer = codes "amcover: " ++ (where_part kind place pointer ++ (text_of kind ++ codes "\n"))
+
+-- the exit status of the program for a kind of fault: 4 where writing failed, 3 for memory, 1 for refused input
+abbrev pub status_of : Kind → ℕ
+status_of kinds.Write = 4
+status_of kinds.Memory = 3
+status_of _ = 1

@@ -1,0 +1,7 @@
+-- The line that ends a page.
+use Rattle.std.specs.Prelude.{ℕ, List, codes}
+use Rattle.amcover.specs.declared.trailer.Trailer.{Trailer}
+use Rattle.amcover.specs.declared.trailer.Trailer.TheVariants.{End}
+
+abbrev pub trailer_text : Trailer → List ℕ
+trailer_text End = codes "# end\n"

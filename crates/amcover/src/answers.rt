@@ -1,0 +1,44 @@
+ghost use Rattle.std.specs.Prelude.{◌≡◌, ◌++◌, IfOk, OnOk, IsTrue, length};
+ghost use Rattle.am_labels.specs.Universe.{sizes};
+ghost use Rattle.am_labels.specs.Choice.{admits};
+ghost use Rattle.amcover.specs.Question.{answers, is_answer};
+ghost use Rattle.std.specs.List.{filter};
+ghost use Rattle.amcover.specs.Completions.{completions};
+
+use am_labels::{Choice, Matchers, Universe, set_of};
+use std::alloc::{AllocError, Global};
+
+/// The whole choices, in declared order, whose label sets satisfy the question.
+pub fn answers_of(alloc: Global, universe: &Universe, question: &Matchers) -> Result<Vec<Choice>, AllocError>
+    ensures { IfOk result (λ found. found.items ≡ answers universe.now question.now) }
+{
+    let mut found = Vec::new(alloc);
+    add_answers(alloc, universe, question, Choice::empty(), &mut found)?;
+    Ok(found)
+}
+
+/// Adds the answers that begin with a prefix.
+fn add_answers(
+    alloc: Global,
+    universe: &Universe,
+    question: &Matchers,
+    prefix: Choice,
+    found: &mut Vec<Choice>,
+) -> Result<(), AllocError>
+    requires { IsTrue (admits (sizes universe.now) prefix) }
+    ensures { OnOk result (found.new.items ≡ found.old.items ++ filter (is_answer universe.now question.now) (completions (sizes universe.now) prefix)) }
+{
+    if prefix.len() == universe.len() {
+        let set = set_of(alloc, universe, &prefix)?;
+        if question.matches(alloc, &set)? {
+            found.push(prefix)?;
+        }
+        return Ok(());
+    }
+    for position in 0..universe.size(prefix.len()) {
+        let mut longer = prefix;
+        longer.push(position as u8);
+        add_answers(alloc, universe, question, longer, found)?;
+    }
+    Ok(())
+}
