@@ -1,0 +1,7 @@
+pub mod Values
+pub mod Pointers
+pub mod Readings
+pub mod Arrays
+pub mod Fields
+pub mod UniverseSays
+pub mod Keys

@@ -1,0 +1,7 @@
+use Rattle.std.proofs.Common.{◌∙◌}
+use Rattle.am_labels.specs.Text.{same_text}
+use Rattle.am_files.proofs.Values.{any-map}
+use Rattle.am_files.proofs.json.is_one_of.Goals as goal
+
+pub returns : goal.returns
+returns c = rw (any-map (λ name. same_text name c.args.key.now) (λ name. name.now) c.args.names.now) c.contains.ensures.value

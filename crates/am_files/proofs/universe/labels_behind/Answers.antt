@@ -1,0 +1,35 @@
+use Rattle.std.proofs.Common.{[], ◌∷◌, ◌<◌, length, length-append, map, arith}
+use Rattle.std.proofs.lemmas.Result.{err_from_is_err_and}
+use Rattle.serde_json.specs.View.{view}
+use Rattle.am_labels.specs.UniverseView.{label_of}
+use Rattle.am_files.specs.Reading.{each}
+use Rattle.am_files.specs.UniverseFile.{label_behind}
+use Rattle.am_files.proofs.Arrays.{goes_on, ends, is_done}
+use Rattle.am_files.proofs.UniverseSays.{no_fault_read}
+use Rattle.am_files.proofs.universe.labels_behind.Goals as goal
+
+pub returns-in_err-label : goal.returns-in_err-label
+returns-in_err-label c =
+    let l = c.loop-item in
+    let p = err_from_is_err_and c.from_residual.result c.from_residual.ensures.1 in
+    rw (p.1, p.2) (ends view label_behind c.in_err-label.field-0.0 l.universe c.args.items.now l.item-index c.item-item.result _ c.loop-item-test.true c.item-item.is c.in_err-label.ensures l.invariant.same)
+
+pub loop-item-preserved : goal.loop-item-preserved
+loop-item-preserved c =
+    let l = c.loop-item in
+    let label = c.in_ok-label.label in
+    record {
+      same = rw c.in_ok-add.ensures.ok (goes_on view label_behind l.universe c.args.items.now l.item-index c.item-item.result (label_of label.0 label.1) _ c.loop-item-test.true c.item-item.is c.in_ok-label.ensures l.invariant.same);
+      count = rw c.in_ok-add.ensures.ok (omega (arith, length-append l.universe (label_of label.0 label.1 ∷ []), l.invariant.count));
+    }
+
+-- what was read has no fault, and there is room
+pub add-requires : goal.add-requires
+add-requires c =
+    let l = c.loop-item in
+    let label = c.in_ok-label.label in
+    let room : length l.universe < 64 = omega (arith, l.invariant.count, c.loop-item-test.true, c.requires) in
+    no_fault_read l.universe (view c.item-item.result) (label_of label.0 label.1) room c.in_ok-label.ensures
+
+pub returns : goal.returns
+returns c = is_done view label_behind c.loop-item.universe c.args.items.now c.loop-item.item-index _ c.loop-item-test.false c.loop-item.invariant.same

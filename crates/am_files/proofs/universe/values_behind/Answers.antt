@@ -1,0 +1,25 @@
+use Rattle.std.proofs.Common.{◌≡◌, [], ◌∷◌, ◌++◌, length, map, string_bytes, option_map, sym, ap, subst}
+use Rattle.std.proofs.lemmas.Result.{err_from_is_err_and}
+use Rattle.std.proofs.lemmas.List.{map_push, length-map}
+use Rattle.serde_json.specs.View.{view}
+use Rattle.am_labels.specs.UniverseView.{texts_of}
+use Rattle.am_files.specs.Reading.{each}
+use Rattle.am_files.specs.UniverseFile.{value_behind}
+use Rattle.am_files.proofs.Arrays.{goes_on, ends, is_done}
+use Rattle.am_files.proofs.universe.values_behind.Goals as goal
+
+pub returns-in_err-value : goal.returns-in_err-value
+returns-in_err-value c =
+    let l = c.loop-item in
+    let p = err_from_is_err_and c.from_residual.result c.from_residual.ensures.1 in
+    rw (p.1, p.2) (ends view value_behind c.in_err-value.field-0.0 (texts_of l.values.items) c.args.items.now l.item-index c.item-item.result _ c.loop-item-test.true c.item-item.is (rw c.as_slice.ensures.value at c.in_err-value.ensures) l.invariant)
+
+pub loop-item-preserved : goal.loop-item-preserved
+loop-item-preserved c =
+    let l = c.loop-item in
+    let value = c.in_ok-value.value in
+    let e : texts_of c.push.new.self.items ≡ texts_of l.values.items ++ option_map string_bytes value ∷ [] = rw c.in_ok-push.ensures.items (map_push _ l.values.items value) in
+    rw e (goes_on view value_behind (texts_of l.values.items) c.args.items.now l.item-index c.item-item.result (option_map string_bytes value) _ c.loop-item-test.true c.item-item.is (rw c.as_slice.ensures.value at c.in_ok-value.ensures) l.invariant)
+
+pub returns : goal.returns
+returns c = is_done view value_behind (texts_of c.loop-item.values.items) c.args.items.now c.loop-item.item-index _ c.loop-item-test.false c.loop-item.invariant

@@ -1,0 +1,66 @@
+-- The JSON value of a file, and its parts. (RFC 8259; the reading is that of `serde_json`.)
+use Rattle.std.specs.Prelude.{◌≡◌, ◌⊎◌, ℕ, List, [], ◌∷◌, Bool, not, ◌&&◌, if◌then◌else◌, Option, Some, None, is_some, option_map, option_and_then, IsTrue, ⊤}
+use Rattle.std.specs.Ordering.{nat_cmp, match_ordering}
+use Rattle.std.specs.Cmp.Lexicographic.{slice_cmp}
+use Rattle.std.specs.List.{list_any}
+use Rattle.std.specs.Str.{is_utf8}
+use Rattle.serde_json.specs.Data.{Data, null, object, Items, no_items, item, Members, no_members, member}
+use Rattle.serde_json.specs.Find.{get, as_null, as_array}
+use Rattle.serde_json.specs.Read.{read}
+use Rattle.am_labels.specs.Text.{same_text}
+
+-- the JSON value of the bytes of a file, if they have one
+abbrev pub json_of : List ℕ → Option Data
+json_of bytes = if is_utf8 bytes then read bytes else None
+
+abbrev pub is_null : Data → Bool
+is_null d = is_some (as_null d)
+
+-- A field that is `null` is absent.
+abbrev pub unless_null : Data → Option Data
+unless_null d = if is_null d then None else Some d
+
+-- the value of a field
+abbrev pub field : List ℕ → Data → Option Data
+field key d = option_and_then unless_null (get key d)
+
+-- the key is one of these names
+abbrev pub is_one_of : List ℕ → List (List ℕ) → Bool
+is_one_of key names = list_any (λ name. same_text name key) names
+
+abbrev pub is_unknown : List (List ℕ) → List ℕ → Data → Bool
+is_unknown known key d = not (is_null d) && not (is_one_of key known)
+
+-- the lesser of two keys, by their bytes
+abbrev pub lesser : List ℕ → Option (List ℕ) → List ℕ
+lesser key None = key
+lesser key (Some other) = match_ordering (slice_cmp nat_cmp key other) key key other
+
+-- the least field that is none of these
+abbrev pub unknown_field : List (List ℕ) → Members → Option (List ℕ)
+unknown_field known no_members = None
+unknown_field known (member key d rest) = if is_unknown known key d then Some (lesser key (unknown_field known rest)) else unknown_field known rest
+
+abbrev pub listed : Items → List Data
+listed no_items = []
+listed (item d ds) = d ∷ listed ds
+
+-- the items of an array, in order
+abbrev pub items_of : Data → Option (List Data)
+items_of d = option_map listed (as_array d)
+
+-- each member has one of these names, or is `null`
+abbrev pub AreOnly : List (List ℕ) → Members → Type 0
+AreOnly known no_members = ⊤
+AreOnly known (member key d rest) = ((d ≡ null) ⊎ IsTrue (is_one_of key known)) × AreOnly known rest
+
+-- an object that has no fields but these
+abbrev pub HasOnly : List (List ℕ) → Data → Type 0
+HasOnly known d = (members : Members) × (d ≡ object members) × AreOnly known members
+
+-- each item says the value at its place
+abbrev pub Each : {A : Type 0} → (Data → A → Type 0) → List Data → List A → Type 0
+Each Says [] [] = ⊤
+Each Says [] (x ∷ xs) = ⊥
+Each Says (d ∷ ds) [] = ⊥
+Each Says (d ∷ ds) (x ∷ xs) = Says d x × Each Says ds xs

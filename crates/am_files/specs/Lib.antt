@@ -1,0 +1,4 @@
+pub mod Json
+pub mod Pointer
+pub mod Reading
+pub mod UniverseFile

@@ -1,0 +1,21 @@
+//! What holds of the files' forms, for every JSON value and all bytes.
+
+ghost use Rattle.std.specs.Prelude.{◌≡◌, ◌↔◌, ℕ, List, None, Ok};
+ghost use Rattle.serde_json.specs.Data.{Data};
+ghost use Rattle.am_labels.specs.Universe.{Label};
+ghost use Rattle.am_files.specs.UniverseFile.{SaysUniverse, FileSaysUniverse, universe_in, universe_file, fault_of_universe, fault_of_universe_file};
+
+/// A JSON value says a universe exactly where reading it gives that universe. So it says at most one, and it has no
+/// fault exactly where it says one.
+pub fn universes_are_read()
+    ensures read { (d : Data) (u : List Label) → SaysUniverse d u ↔ (universe_in d ≡ Ok u) }
+    ensures one { (d : Data) (u v : List Label) → SaysUniverse d u → SaysUniverse d v → u ≡ v }
+    ensures faults { (d : Data) → (fault_of_universe d ≡ None) ↔ ((u : List Label) × SaysUniverse d u) }
+{}
+
+/// The same of the bytes of a file.
+pub fn universe_files_are_read()
+    ensures read { (bytes : List ℕ) (u : List Label) → FileSaysUniverse bytes u ↔ (universe_file bytes ≡ Ok u) }
+    ensures one { (bytes : List ℕ) (u v : List Label) → FileSaysUniverse bytes u → FileSaysUniverse bytes v → u ≡ v }
+    ensures faults { (bytes : List ℕ) → (fault_of_universe_file bytes ≡ None) ↔ ((u : List Label) × FileSaysUniverse bytes u) }
+{}

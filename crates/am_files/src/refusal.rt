@@ -1,0 +1,99 @@
+//! Why a reader gives no value, from the value that is looked at on.
+
+ghost use Rattle.std.specs.Prelude.{◌≡◌, ◌≢◌};
+ghost use Rattle.am_labels.specs.declared.kind.Kind.TheVariants as kinds;
+ghost use Rattle.am_files.specs.declared.refusal.ReadError.TheVariants.{Memory};
+ghost use Rattle.am_files.specs.Pointer.{here};
+ghost use Rattle.am_files.specs.Reading.{Tells, IsFaultOf, refusal_of};
+
+use am_labels::{Fault, Kind, Place};
+use std::alloc::{AllocError, AllocFailed, Global};
+use std::marker::Model;
+
+/// Why a file is refused, which is never want of memory, and at which part: a JSON Pointer (RFC 6901), from the value
+/// that is looked at.
+#[derive(Drop)]
+pub(crate) struct Refusal {
+    pub(crate) kind: Kind,
+    pub(crate) pointer: String,
+}
+
+impl Model for Refusal {
+    ghost use Rattle.std.specs.Prelude.{string_bytes, ◌≢◌};
+    ghost use Rattle.am_labels.specs.declared.kind.Kind.TheVariants as kinds;
+    ghost use Rattle.am_files.specs.Pointer as spec;
+
+    ghost Value = { spec.Refusal };
+
+    ghost view = { λ r. record { kind = r.kind; pointer = string_bytes r.pointer } };
+
+    ghost invariant = { λ r. r.kind ≢ kinds.Memory };
+}
+
+impl Refusal {
+    fn at(self, place: Place) -> Fault
+        ensures memory { result.kind ≢ kinds.Memory }
+        ensures place { result.place ≡ place }
+        ensures refusal { refusal_of result ≡ self }
+    {
+        Fault {
+            kind: self.kind,
+            place,
+            pointer: self.pointer,
+        }
+    }
+}
+
+/// Why a reader gives no value.
+#[derive(Drop)]
+pub(crate) enum ReadError {
+    /// A growth of memory was refused.
+    Memory,
+    /// The first fault of the file.
+    Refused(Refusal),
+}
+
+impl ReadError {
+    /// The value that is looked at is refused.
+    pub(crate) fn here(alloc: Global, kind: Kind) -> ReadError
+        ensures { Tells result (here kind) }
+    {
+        if kind == Kind::Memory {
+            return ReadError::Memory;
+        }
+        ReadError::Refused(Refusal {
+            kind,
+            pointer: String::new(alloc),
+        })
+    }
+
+    /// The fault that it is, in the file at this place.
+    pub(crate) fn at(self, alloc: Global, place: Place) -> Fault
+        ensures { IsFaultOf place self result }
+    {
+        match self {
+            ReadError::Memory => Fault {
+                kind: Kind::Memory,
+                place: Place::Memory,
+                pointer: String::new(alloc),
+            },
+            ReadError::Refused(refusal) => refusal.at(place),
+        }
+    }
+}
+
+impl From<AllocError> for ReadError {
+    ghost from_gives = { λ _ e. e ≡ Memory };
+
+    fn from(_error: AllocError) -> ReadError {
+        ReadError::Memory
+    }
+}
+
+impl<T: Drop> From<AllocFailed<T>> for ReadError {
+    ghost from_gives = { λ _ e. e ≡ Memory };
+
+    fn from(_error: AllocFailed<T>) -> ReadError {
+        ReadError::Memory
+    }
+}

@@ -1,0 +1,212 @@
+//! The universe file.
+
+ghost use Rattle.std.specs.Prelude.{◌≡◌, ◌≢◌, ◌≤◌, [], ◌∷◌, ◌++◌, length, map, None, Ok, Err, IfOk, IfErr, OnOk, string_bytes, option_map};
+ghost use Rattle.serde_json.specs.View.{view};
+ghost use Rattle.am_labels.specs.declared.kind.Kind.TheVariants as kinds;
+ghost use Rattle.am_labels.specs.declared.place.Place.TheVariants as places;
+ghost use Rattle.am_labels.specs.Universe.{count_fault, label_fault, max_labels};
+ghost use Rattle.am_labels.specs.UniverseView.{label_of, texts_of};
+ghost use Rattle.am_files.specs.declared.refusal.ReadError.TheVariants as errors;
+ghost use Rattle.am_files.specs.Pointer.{to_item, under};
+ghost use Rattle.am_files.specs.Reading.{Gives, refusal_of, each};
+ghost use Rattle.am_files.specs.UniverseFile.{value_in, value_behind, values_in, label_behind, labels_in, universe_in, universe_file, FileSaysUniverse};
+
+use crate::json::{at_most, json, only_fields, required_items, required_text, text, unless};
+use crate::pointer::{within_field, within_item};
+use crate::refusal::ReadError;
+use am_labels::{Fault, Kind, Place, Universe};
+use serde_json::Value;
+use std::alloc::{AllocError, Global};
+
+/// The most labels that a universe has, and the most values of a label.
+const MAX_LABELS: usize = 64;
+
+const MAX_VALUES: usize = 128;
+
+/// The universe that a file says.
+///
+/// The file is an object with the one field `labels`: an array of at most 64 objects, each with a `name` and `values`,
+/// an array of 1 to 128 values, each a text or `null`, for absence. A field that is `null` is absent.
+///
+/// The first fault is the one answered, at the place `Universe` and at the pointer of the part at fault, in this order:
+/// - the bytes, at the empty pointer: `Limit` for more than 16,777,216, `NotJson` where they have no JSON value;
+/// - the file, and each label when it is reached: `Shape` where it is no object, `UnknownField` at its least other field;
+/// - `labels`: `Shape` where it is no array, or absent; `Limit` for more than 64; then the labels in order;
+/// - `name`: `Shape` where it is no text, or absent; `Empty`; `Shape` where it is not of the form of a label name;
+///   `Duplicate` where it is the name of an earlier label;
+/// - `values`: `Shape` where it is no array, or absent; `Empty`; `Limit` for more than 128; then the values in order;
+/// - a value: `Shape` where it is neither a text nor `null`; `Empty`; `Duplicate` of an earlier one.
+///
+/// `Memory`, at the place `Memory` and the empty pointer, comes only where memory was refused.
+pub fn read_universe(alloc: Global, bytes: &[u8]) -> Result<Universe, Fault>
+    ensures found { IfOk result (λ u. universe_file bytes.now ≡ Ok u) }
+    ensures says { IfOk result (λ u. FileSaysUniverse bytes.now u) }
+    ensures first { IfErr result (λ fault. fault.kind ≢ kinds.Memory
+        → (fault.place ≡ places.Universe) × (universe_file bytes.now ≡ Err (refusal_of fault))) }
+    ensures memory { IfErr result (λ fault. fault.kind ≡ kinds.Memory
+        → (fault.place ≡ places.Memory) × (string_bytes fault.pointer ≡ [])) }
+{
+    match universe_file(alloc, bytes) {
+        Ok(universe) => Ok(universe),
+        Err(error) => Err(error.at(alloc, Place::Universe)),
+    }
+}
+
+#[tactic(auto, unfolding(crate::specs::UniverseFile::universe_file))]
+fn universe_file(alloc: Global, bytes: &[u8]) -> Result<Universe, ReadError>
+    ensures { Gives (λ u. u) result (universe_file bytes.now) }
+{
+    let value = json(alloc, bytes)?;
+    universe(alloc, &value)
+}
+
+#[tactic(auto, unfolding(crate::specs::UniverseFile::universe_in))]
+fn universe(alloc: Global, value: &Value) -> Result<Universe, ReadError>
+    ensures { Gives (λ u. u) result (universe_in (view value.now)) }
+{
+    only_fields(alloc, value, &["labels"])?;
+    let items = required_items(alloc, value, "labels")?;
+    within_field(alloc, "labels", labels(alloc, items))
+}
+
+#[tactic(auto, unfolding(crate::specs::UniverseFile::labels_in))]
+fn labels(alloc: Global, items: &[Value]) -> Result<Universe, ReadError>
+    ensures { Gives (λ u. u) result (labels_in (map view items.now)) }
+{
+    at_most(alloc, MAX_LABELS, items.len())?;
+    labels_behind(alloc, items)
+}
+
+fn labels_behind(alloc: Global, items: &[Value]) -> Result<Universe, ReadError>
+    requires { length items.now ≤ max_labels }
+    ensures { Gives (λ u. u) result (each label_behind [] (map view items.now)) }
+{
+    let mut universe = Universe::empty(alloc);
+    for item in items {
+        let label = next_label(alloc, &universe, item)?;
+        add(&mut universe, label)?;
+    }
+    Ok(universe)
+}
+
+/// Adds a label that has no fault, which fails for want of memory alone.
+fn add(universe: &mut Universe, label: (String, Vec<Option<String>>)) -> Result<(), ReadError>
+    requires { label_fault universe.old (label_of label.0 label.1) ≡ None }
+    ensures ok { OnOk result (universe.new ≡ universe.old ++ label_of label.0 label.1 ∷ []) }
+    ensures memory { IfErr result (λ e. e ≡ errors.Memory) }
+{
+    let (name, values) = label;
+    match universe.add(name, values) {
+        Ok(()) => Ok(()),
+        Err(fault) => {
+            prove!(fault.kind == Kind::Memory);
+            Err(ReadError::Memory)
+        }
+    }
+}
+
+/// The item whose position is the number of labels so far.
+fn next_label(
+    alloc: Global,
+    universe: &Universe,
+    item: &Value,
+) -> Result<(String, Vec<Option<String>>), ReadError>
+    ensures { Gives (λ label. label_of label.0 label.1) result
+        (under (to_item (length universe.now)) (label_behind universe.now (view item.now))) }
+{
+    within_item(alloc, universe.len(), label(alloc, universe, item))
+}
+
+/// A label behind those of the universe: its name and its values.
+#[tactic(auto, unfolding(crate::specs::UniverseFile::label_behind))]
+fn label(
+    alloc: Global,
+    universe: &Universe,
+    value: &Value,
+) -> Result<(String, Vec<Option<String>>), ReadError>
+    ensures { Gives (λ label. label_of label.0 label.1) result (label_behind universe.now (view value.now)) }
+{
+    only_fields(alloc, value, &["name", "values"])?;
+    let name = required_text(alloc, value, "name")?;
+    within_field(alloc, "name", unless(alloc, universe.name_fault(name)))?;
+    let items = required_items(alloc, value, "values")?;
+    let values = within_field(alloc, "values", values(alloc, items))?;
+    Ok((String::from_str(alloc, name)?, values))
+}
+
+#[tactic(auto, unfolding(crate::specs::UniverseFile::values_in))]
+fn values(alloc: Global, items: &[Value]) -> Result<Vec<Option<String>>, ReadError>
+    ensures { Gives (λ values. texts_of values.items) result (values_in (map view items.now)) }
+{
+    unless(alloc, count_fault(items.len()))?;
+    values_behind(alloc, items)
+}
+
+fn count_fault(count: usize) -> Option<Kind>
+    ensures { result ≡ count_fault count }
+{
+    if count == 0 {
+        Some(Kind::Empty)
+    } else if count > MAX_VALUES {
+        Some(Kind::Limit)
+    } else {
+        None
+    }
+}
+
+fn values_behind(alloc: Global, items: &[Value]) -> Result<Vec<Option<String>>, ReadError>
+    ensures { Gives (λ values. texts_of values.items) result (each value_behind [] (map view items.now)) }
+{
+    let mut values = Vec::new(alloc);
+    for item in items {
+        let value = next_value(alloc, values.as_slice(), item)?;
+        values.push(value)?;
+    }
+    Ok(values)
+}
+
+/// The item whose position is the number of values so far.
+fn next_value(
+    alloc: Global,
+    before: &[Option<String>],
+    item: &Value,
+) -> Result<Option<String>, ReadError>
+    ensures { Gives (option_map string_bytes) result
+        (under (to_item (length (texts_of before.now))) (value_behind (texts_of before.now) (view item.now))) }
+{
+    within_item(alloc, before.len(), value_behind(alloc, before, item))
+}
+
+/// A value behind those before it.
+#[tactic(auto, unfolding(crate::specs::UniverseFile::value_behind))]
+fn value_behind(
+    alloc: Global,
+    before: &[Option<String>],
+    value: &Value,
+) -> Result<Option<String>, ReadError>
+    ensures { Gives (option_map string_bytes) result (value_behind (texts_of before.now) (view value.now)) }
+{
+    let value = value_of(alloc, value)?;
+    unless(alloc, Universe::value_fault(before, value))?;
+    Ok(owned(alloc, value)?)
+}
+
+/// A text, or `None` for `null`.
+fn value_of(alloc: Global, value: &Value) -> Result<Option<&str>, ReadError>
+    ensures { Gives (option_map (λ text. text.now)) result (value_in (view value.now)) }
+{
+    if value.is_null() {
+        return Ok(None);
+    }
+    let text = text(alloc, value)?;
+    Ok(Some(text))
+}
+
+fn owned(alloc: Global, value: Option<&str>) -> Result<Option<String>, AllocError>
+    ensures { IfOk result (λ o. option_map string_bytes o ≡ option_map (λ text. text.now) value.entry) }
+{
+    match value {
+        Some(text) => Ok(Some(String::from_str(alloc, text)?)),
+        None => Ok(None),
+    }
+}
