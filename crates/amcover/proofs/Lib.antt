@@ -1,3 +1,3 @@
 pub mod Completions
-pub mod Pieces
 pub mod Found
+pub mod BraceQuestions
