@@ -9,7 +9,11 @@ use am_labels::{Choice, Matchers, Universe, set_of};
 use std::alloc::{AllocError, Global};
 
 /// The whole choices, in declared order, whose label sets satisfy the question.
-pub fn answers_of(alloc: Global, universe: &Universe, question: &Matchers) -> Result<Vec<Choice>, AllocError>
+pub fn answers_of(
+    alloc: Global,
+    universe: &Universe,
+    question: &Matchers,
+) -> Result<Vec<Choice>, AllocError>
     ensures { IfOk result (λ found. found.items ≡ answers universe.now question.now) }
 {
     let mut found = Vec::new(alloc);

@@ -43,8 +43,8 @@ loop-position-preserved t c =
     let test = is_answer u c.args.question.now in
     let now = c.loop-position.found.items in
     found_more (λ p. completions (sizes u) (c.args.prefix ++ p ∷ [])) test c.args.found.now.items now c.add_answers.new.found.items c.loop-position.position
-      c.loop-position.invariant
-      (c.in_ok-add_answers.ensures ∙ ap (λ d. now ++ filter test (completions (sizes u) d)) c.push-in-loop-position.ensures)
+    c.loop-position.invariant
+    (c.in_ok-add_answers.ensures ∙ ap (λ d. now ++ filter test (completions (sizes u) d)) c.push-in-loop-position.ensures)
 
 pub returns : goal.returns
 returns t c =
