@@ -1,14 +1,14 @@
 -- The answers that begin with a prefix, found position by position.
-use Rattle.std.proofs.Common.{◌≡◌, ℕ, ◌+◌, ◌-◌, ◌<◌, ◌≤◌, Bool, true, false, cond, List, [], ◌∷◌, ◌++◌, length, slice_index, slice_get, Some, nat_lt, ap, sym, ◌∙◌, refl, append_assoc, arith}
-use Rattle.std.specs.List.{flat_map, filter}
+use Rattle.std.proofs.Common.{◌≡◌, ℕ, ◌+◌, ◌<◌, ◌≤◌, Bool, true, false, cond, List, [], ◌∷◌, ◌++◌, length, slice_index, slice_get, Some, nat_lt, ap, sym, ◌∙◌, subst, append_assoc, arith}
+use Rattle.std.specs.List.{flat_map, filter, AllByRecursion}
 use Rattle.std.proofs.lemmas.Bool.{and_parts}
 use Rattle.std.proofs.lemmas.List.{length-map}
 use Rattle.std.proofs.lemmas.List.Elements.{filter-append}
 use Rattle.std.proofs.lemmas.Option.{get_or_from_slice_get}
 use Rattle.am_labels.specs.Universe.{Label, sizes}
-use Rattle.am_labels.specs.Choice.{counted_from, admits, IsWhole}
+use Rattle.am_labels.specs.Choice.{counted_from, choices, admits, IsWhole}
 use Rattle.amcover.specs.Completions.{completions}
-use Rattle.amcover.proofs.Completions.{completions_of_whole, completions_by_next, flat_map_counted, admits_next}
+use Rattle.amcover.proofs.Completions.{completions_of_whole, completions_by_next, flat_map_counted, admits_next, choices_are_whole, all_filter}
 
 pub length-sizes : (u : List Label) → length (sizes u) ≡ length u
 length-sizes u = length-map u (λ l. length l.values)
@@ -52,3 +52,10 @@ pub found_all : (u : List Label) (prefix : List ℕ) (size : ℕ) → length pre
 found_all u prefix size h at =
     ap (λ n. flat_map (λ p. completions (sizes u) (prefix ++ p ∷ [])) (counted_from 0 n)) (sym (get_or_from_slice_get (sizes u) (length prefix) size 0 at))
     ∙ sym (completions_by_next (sizes u) prefix (omega (arith, length-sizes u)))
+
+-- what is found with no prefix is whole
+pub found_are_whole : (sizes : List ℕ) (test : List ℕ → Bool) (before found : List (List ℕ)) (prefix : List ℕ) → before ≡ [] → prefix ≡ [] → found ≡ before ++ filter test (completions sizes prefix)
+    → AllByRecursion (IsWhole sizes) found
+found_are_whole sizes test before found prefix none start e =
+    subst (AllByRecursion (IsWhole sizes)) (sym (e ∙ ap (λ xs. xs ++ filter test (completions sizes prefix)) none ∙ ap (λ p. filter test (completions sizes p)) start))
+      (all_filter (IsWhole sizes) test (choices sizes) (choices_are_whole sizes))

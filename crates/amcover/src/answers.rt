@@ -1,16 +1,21 @@
-ghost use Rattle.std.specs.Prelude.{◌≡◌, ◌++◌, IfOk, OnOk, IsTrue, length};
+ghost use Rattle.std.specs.Prelude.{◌≡◌, ◌++◌, IfOk, OnOk, IsTrue};
 ghost use Rattle.am_labels.specs.Universe.{sizes};
-ghost use Rattle.am_labels.specs.Choice.{admits};
+ghost use Rattle.am_labels.specs.Choice.{IsWhole, admits};
 ghost use Rattle.amcover.specs.Question.{answers, is_answer};
-ghost use Rattle.std.specs.List.{filter};
+ghost use Rattle.std.specs.List.{AllByRecursion, filter};
 ghost use Rattle.amcover.specs.Completions.{completions};
 
 use am_labels::{Choice, Matchers, Universe, set_of};
 use std::alloc::{AllocError, Global};
 
 /// The whole choices, in declared order, whose label sets satisfy the question.
-pub fn answers_of(alloc: Global, universe: &Universe, question: &Matchers) -> Result<Vec<Choice>, AllocError>
-    ensures { IfOk result (λ found. found.items ≡ answers universe.now question.now) }
+pub fn answers_of(
+    alloc: Global,
+    universe: &Universe,
+    question: &Matchers,
+) -> Result<Vec<Choice>, AllocError>
+    ensures answers { IfOk result (λ found. found.items ≡ answers universe.now question.now) }
+    ensures whole { IfOk result (λ found. AllByRecursion (IsWhole (sizes universe.now)) found.items) }
 {
     let mut found = Vec::new(alloc);
     add_answers(alloc, universe, question, Choice::empty(), &mut found)?;

@@ -1,5 +1,5 @@
 -- Each turn adds the answers of one position more.
-use Rattle.std.proofs.Common.{◌≡◌, ◌++◌, ◌∷◌, [], true, false, length, ℕ, List, slice_get, Some, ap, sym, ◌∙◌, append-nil, length-append, arith}
+use Rattle.std.proofs.Common.{◌≡◌, ◌++◌, ◌∷◌, [], length, slice_get, ap, sym, ◌∙◌, append-nil, length-append, arith}
 use Rattle.std.specs.List.{filter, flat_map}
 use Rattle.am_labels.specs.Universe.{sizes}
 use Rattle.am_labels.specs.Choice.{counted_from}
@@ -42,9 +42,10 @@ loop-position-preserved t c =
     let u = c.args.universe.now in
     let test = is_answer u c.args.question.now in
     let now = c.loop-position.found.items in
+    let added : c.add_answers.new.found.items ≡ now ++ filter test (completions (sizes u) (c.args.prefix ++ c.loop-position.position ∷ [])) =
+      c.in_ok-add_answers.ensures ∙ ap (λ d. now ++ filter test (completions (sizes u) d)) c.push-in-loop-position.ensures in
     found_more (λ p. completions (sizes u) (c.args.prefix ++ p ∷ [])) test c.args.found.now.items now c.add_answers.new.found.items c.loop-position.position
-      c.loop-position.invariant
-      (c.in_ok-add_answers.ensures ∙ ap (λ d. now ++ filter test (completions (sizes u) d)) c.push-in-loop-position.ensures)
+      c.loop-position.invariant added
 
 pub returns : goal.returns
 returns t c =
