@@ -39,19 +39,29 @@ longer_admitted u prefix p size a h at below =
     let here : slice_index (sizes u) (length prefix) ≡ size = get_or_from_slice_get (sizes u) (length prefix) size 0 at in
     admits_next (sizes u) prefix p a (omega (arith, length-sizes u)) (omega arith)
 
+-- the completions of a prefix that go on with one of the first positions
+abbrev pub completions_below : List ℕ → List ℕ → ℕ → List (List ℕ)
+completions_below sizes prefix count = flat_map (λ p. completions sizes (prefix ++ p ∷ [])) (counted_from 0 count)
+
 -- one position more
-pub found_more : (f : ℕ → List (List ℕ)) (test : List ℕ → Bool) (before now new : List (List ℕ)) (count : ℕ)
-    → now ≡ before ++ filter test (flat_map f (counted_from 0 count)) → new ≡ now ++ filter test (f count) → new ≡ before ++ filter test (flat_map f (counted_from 0 (count + 1)))
-found_more f test before now new count so_far added =
-    added ∙ ap (λ xs. xs ++ filter test (f count)) so_far ∙ append_assoc before (filter test (flat_map f (counted_from 0 count))) (filter test (f count))
-    ∙ ap (λ xs. before ++ xs) (sym (filter-append test (flat_map f (counted_from 0 count)) (f count)) ∙ ap (filter test) (sym (flat_map_counted f count)))
+pub found_more : (sizes prefix longer : List ℕ) (test : List ℕ → Bool) (before now new : List (List ℕ)) (p : ℕ)
+    → now ≡ before ++ filter test (completions_below sizes prefix p) → longer ≡ prefix ++ p ∷ [] → new ≡ now ++ filter test (completions sizes longer)
+    → new ≡ before ++ filter test (completions_below sizes prefix (p + 1))
+found_more sizes prefix longer test before now new p so_far is added =
+    let here = completions sizes (prefix ++ p ∷ []) in
+    let f = λ (q : ℕ). completions sizes (prefix ++ q ∷ []) in
+    added ∙ ap (λ c. now ++ filter test (completions sizes c)) is ∙ ap (λ xs. xs ++ filter test here) so_far
+    ∙ append_assoc before (filter test (completions_below sizes prefix p)) (filter test here)
+    ∙ ap (λ xs. before ++ xs) (sym (filter-append test (completions_below sizes prefix p) here) ∙ ap (filter test) (sym (flat_map_counted f p)))
 
 -- every position
-pub found_all : (u : List Label) (prefix : List ℕ) (size : ℕ) → length prefix < length u → slice_get (sizes u) (length prefix) ≡ Some size
-    → flat_map (λ p. completions (sizes u) (prefix ++ p ∷ [])) (counted_from 0 size) ≡ completions (sizes u) prefix
-found_all u prefix size h at =
-    ap (λ n. flat_map (λ p. completions (sizes u) (prefix ++ p ∷ [])) (counted_from 0 n)) (sym (get_or_from_slice_get (sizes u) (length prefix) size 0 at))
-    ∙ sym (completions_by_next (sizes u) prefix (omega (arith, length-sizes u)))
+pub found_all : (u : List Label) (prefix : List ℕ) (test : List ℕ → Bool) (before now : List (List ℕ)) (p size : ℕ)
+    → now ≡ before ++ filter test (completions_below (sizes u) prefix p) → length prefix < length u → slice_get (sizes u) (length prefix) ≡ Some size → p ≡ size
+    → now ≡ before ++ filter test (completions (sizes u) prefix)
+found_all u prefix test before now p size so_far h at end =
+    let here : p ≡ slice_index (sizes u) (length prefix) = end ∙ sym (get_or_from_slice_get (sizes u) (length prefix) size 0 at) in
+    so_far ∙ ap (λ n. before ++ filter test (completions_below (sizes u) prefix n)) here
+    ∙ ap (λ xs. before ++ filter test xs) (sym (completions_by_next (sizes u) prefix (omega (arith, length-sizes u))))
 
 -- what is found with no prefix is whole
 pub found_are_whole : (sizes : List ℕ) (test : List ℕ → Bool) (before found : List (List ℕ)) (prefix : List ℕ) → before ≡ [] → prefix ≡ [] → found ≡ before ++ filter test (completions sizes prefix)

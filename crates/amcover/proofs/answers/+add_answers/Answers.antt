@@ -1,11 +1,8 @@
 -- Each turn adds the answers of one position more.
-use Rattle.std.proofs.Common.{◌≡◌, ◌++◌, ◌∷◌, [], length, slice_get, ap, sym, ◌∙◌, append-nil, length-append, arith}
-use Rattle.std.specs.List.{filter, flat_map}
+use Rattle.std.proofs.Common.{◌++◌, ◌∷◌, [], length, slice_get, ap, sym, ◌∙◌, append-nil, length-append, arith}
 use Rattle.am_labels.specs.Universe.{sizes}
-use Rattle.am_labels.specs.Choice.{counted_from}
 use Rattle.am_labels.specs.Matcher.{all_hold}
 use Rattle.amcover.specs.Question.{is_answer}
-use Rattle.amcover.specs.Completions.{completions}
 use Rattle.amcover.proofs.Found.{prefix_fits, found_here, none_here, longer_admitted, found_more, found_all}
 use Rattle.amcover.proofs.answers.+add_answers.Goals as goal
 use Rattle.amcover.proofs.answers.+add_answers.Goals.{then-branch+in_ok-push, else-branch}
@@ -40,20 +37,14 @@ add_answers-requires t c =
 pub loop-position-preserved : goal.loop-position-preserved
 loop-position-preserved t c =
     let u = c.args.universe.now in
-    let test = is_answer u c.args.question.now in
-    let now = c.loop-position.found.items in
-    let added : c.add_answers.new.found.items ≡ now ++ filter test (completions (sizes u) (c.args.prefix ++ c.loop-position.position ∷ [])) =
-      c.in_ok-add_answers.ensures ∙ ap (λ d. now ++ filter test (completions (sizes u) d)) c.push-in-loop-position.ensures in
-    found_more (λ p. completions (sizes u) (c.args.prefix ++ p ∷ [])) test c.args.found.now.items now c.add_answers.new.found.items c.loop-position.position
-      c.loop-position.invariant added
+    found_more (sizes u) c.args.prefix c.push-in-loop-position.new.self (is_answer u c.args.question.now)
+      c.args.found.now.items c.loop-position.found.items c.add_answers.new.found.items c.loop-position.position
+      c.loop-position.invariant c.push-in-loop-position.ensures c.in_ok-add_answers.ensures
 
 pub returns : goal.returns
 returns t c =
     let u = c.args.universe.now in
-    let test = is_answer u c.args.question.now in
     let fits = prefix_fits u c.args.prefix c.requires in
     let size = sym (ap (slice_get (sizes u)) c.len-3.ensures.len) ∙ c.size-position-end.ensures.size in
-    let end : c.loop-position.position ≡ c.size-position-end.result = omega arith in
-    c.loop-position.invariant
-    ∙ ap (λ n. c.args.found.now.items ++ filter test (flat_map (λ p. completions (sizes u) (c.args.prefix ++ p ∷ [])) (counted_from 0 n))) end
-    ∙ ap (λ xs. c.args.found.now.items ++ filter test xs) (found_all u c.args.prefix c.size-position-end.result (omega arith) size)
+    found_all u c.args.prefix (is_answer u c.args.question.now) c.args.found.now.items c.loop-position.found.items c.loop-position.position c.size-position-end.result
+      c.loop-position.invariant (omega arith) size (omega arith)
