@@ -1,5 +1,5 @@
 -- The answers that begin with a prefix, found position by position.
-use Rattle.std.proofs.Common.{◌≡◌, ℕ, ◌+◌, ◌<◌, ◌≤◌, Bool, true, false, cond, List, [], ◌∷◌, ◌++◌, length, slice_index, slice_get, Some, nat_lt, ap, sym, ◌∙◌, subst, append_assoc, arith}
+use Rattle.std.proofs.Common.{◌≡◌, ℕ, ◌+◌, ◌<◌, ◌≤◌, Bool, true, List, [], ◌∷◌, ◌++◌, length, slice_index, slice_get, Some, nat_lt, ap, sym, ◌∙◌, subst, append_assoc, arith}
 use Rattle.std.specs.List.{flat_map, filter, AllByRecursion}
 use Rattle.std.proofs.lemmas.Bool.{and_parts}
 use Rattle.std.proofs.lemmas.List.{length-map}
@@ -24,13 +24,9 @@ admitted_fits (size ∷ sizes) (p ∷ prefix) a =
 pub prefix_fits : (u : List Label) (prefix : List ℕ) → admits (sizes u) prefix ≡ true → length prefix ≤ length u
 prefix_fits u prefix a = omega (arith, length-sizes u, admitted_fits (sizes u) prefix a)
 
--- a whole choice is found if it passes the test
-pub found_here : (u : List Label) (test : List ℕ → Bool) (c : List ℕ) → length c ≡ length u → test c ≡ true → filter test (completions (sizes u) c) ≡ c ∷ []
-found_here u test c e passes = ap (filter test) (completions_of_whole (sizes u) c (e ∙ sym (length-sizes u))) ∙ ap (λ b. cond b (c ∷ []) []) passes
-
--- and nothing is found if it does not
-pub none_here : (u : List Label) (test : List ℕ → Bool) (c : List ℕ) → length c ≡ length u → test c ≡ false → filter test (completions (sizes u) c) ≡ []
-none_here u test c e fails = ap (filter test) (completions_of_whole (sizes u) c (e ∙ sym (length-sizes u))) ∙ ap (λ b. cond b (c ∷ []) []) fails
+-- what is found at a whole choice is found among the completions of that choice
+pub found_here : (u : List Label) (test : List ℕ → Bool) (c : List ℕ) (before now : List (List ℕ)) → length c ≡ length u → now ≡ before ++ filter test (c ∷ []) → now ≡ before ++ filter test (completions (sizes u) c)
+found_here u test c before now e found = found ∙ ap (λ xs. before ++ filter test xs) (sym (completions_of_whole (sizes u) c (e ∙ sym (length-sizes u))))
 
 -- a prefix stays admitted with one position more
 pub longer_admitted : (u : List Label) (prefix : List ℕ) (p size : ℕ) → admits (sizes u) prefix ≡ true → length prefix < length u → slice_get (sizes u) (length prefix) ≡ Some size → p < size
@@ -68,4 +64,4 @@ pub found_are_whole : (sizes : List ℕ) (test : List ℕ → Bool) (before foun
     → AllByRecursion (IsWhole sizes) found
 found_are_whole sizes test before found prefix none start e =
     subst (AllByRecursion (IsWhole sizes)) (sym (e ∙ ap (λ xs. xs ++ filter test (completions sizes prefix)) none ∙ ap (λ p. filter test (completions sizes p)) start))
-      (all_filter (IsWhole sizes) test (choices sizes) (choices_are_whole sizes))
+    (all_filter (IsWhole sizes) test (choices sizes) (choices_are_whole sizes))
