@@ -11,7 +11,8 @@ use std::rt::Files;
 
 const DONE: u8 = 0;
 
-const USAGE: u8 = 2;
+/// The exit status of a usage fault.
+pub const USAGE: u8 = 2;
 
 /// How many bytes of output are held back before they go out.
 const BUFFER: usize = 65536;
