@@ -1,4 +1,4 @@
--- What a call of `ask` is asked, and which fault of it comes first.
+-- What a call of `ask` is asked, and which fault of it comes first. (This project's own.)
 use Rattle.std.specs.Prelude.{◌≡◌, ◌≤◌, ℕ, List, length, Ok, Err}
 use Rattle.am_labels.specs.declared.kind.Kind.{Kind}
 use Rattle.am_labels.specs.declared.place.Place.{Place}

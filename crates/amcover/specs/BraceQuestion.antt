@@ -32,6 +32,7 @@ pub record IsPlain (m : Condition) : Type 0 where
   pub no_quote : Lacks 34 m.value
   pub no_backslash : Lacks 92 m.value
 
+-- how an operator is written
 abbrev pub op_text : Op → List ℕ
 op_text Equal = codes "="
 op_text NotEqual = codes "!="

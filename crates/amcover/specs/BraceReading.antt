@@ -1,4 +1,4 @@
--- The steps of reading a question that is one list of matchers.
+-- The steps of reading a question that is one list of matchers. (This project's own; what counts is `Reads`.)
 use Rattle.std.specs.Prelude.{◌≡◌, ◌<◌, ◌≤◌, ℕ, Bool, true, false, List, [], ◌∷◌, ◌++◌, length, codes}
 use Rattle.amcover.specs.declared.brace_question.Part.{Part}
 use Rattle.am_labels.specs.Matcher.{Condition, max_matchers}
