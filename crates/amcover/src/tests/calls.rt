@@ -63,7 +63,10 @@ fn label_set_of_a_choice(rt: HostRuntime) -> Result<(), Fail> {
     assert!(rt; question.matches(alloc, &set)?);
     added(&mut question, matcher(alloc, "team", Op::NotEqual, "web")?)?;
     assert!(rt; question.matches(alloc, &set)?);
-    added(&mut question, matcher(alloc, "severity", Op::Equal, "critical")?)?;
+    added(
+        &mut question,
+        matcher(alloc, "severity", Op::Equal, "critical")?,
+    )?;
     assert!(rt; !question.matches(alloc, &set)?);
     Ok(())
 }
@@ -74,7 +77,10 @@ fn label_set_calls(rt: HostRuntime) -> Result<(), Fail> {
     let mut set = LabelSet::empty(alloc);
     assert!(rt; set.is_empty());
     for (value, count) in [("1", 1), ("2", 1), ("", 0), ("", 0)] {
-        set.put(String::from_str(alloc, "a")?, String::from_str(alloc, value)?)?;
+        set.put(
+            String::from_str(alloc, "a")?,
+            String::from_str(alloc, value)?,
+        )?;
         assert_eq!(rt; set.get("a"), value);
         assert_eq!(rt; set.len(), count);
     }
@@ -125,7 +131,10 @@ fn the_65th_label(rt: HostRuntime) -> Result<(), Fail> {
 /// Two labels, of three values and of two.
 fn teams(alloc: Global) -> Result<Universe, Fail> {
     let mut universe = Universe::empty(alloc);
-    universe.add(String::from_str(alloc, "team")?, values(alloc, &["db", "web", ""])?)?;
+    universe.add(
+        String::from_str(alloc, "team")?,
+        values(alloc, &["db", "web", ""])?,
+    )?;
     let severities = values(alloc, &["critical", "warning"])?;
     universe.add(String::from_str(alloc, "severity")?, severities)?;
     Ok(universe)

@@ -14,7 +14,7 @@ fn usage_faults(rt: HostRuntime) -> Result<(), Fail> {
         &["ask", "--universe", "u.json", "{}", "more"],
     ];
     for words in lines {
-        let ran = ran(&rt, words)?;
+        let ran = run_words(&rt, words)?;
         assert_eq!(rt; ran.status, 2, "{words:?}");
         assert_eq!(rt; ran.out.as_str(), "", "{words:?}");
         assert!(rt; !ran.err.is_empty(), "{words:?}");
@@ -26,7 +26,7 @@ fn usage_faults(rt: HostRuntime) -> Result<(), Fail> {
 fn help(rt: HostRuntime) -> Result<(), Fail> {
     let lines: [&[&str]; 2] = [&["--help"], &["ask", "--help"]];
     for words in lines {
-        let ran = ran(&rt, words)?;
+        let ran = run_words(&rt, words)?;
         assert_eq!(rt; ran.status, 0, "{words:?}");
         assert_eq!(rt; ran.err.as_str(), "", "{words:?}");
         assert!(rt; ran.out.contains("amcover ask --universe"), "{words:?}");
@@ -36,7 +36,7 @@ fn help(rt: HostRuntime) -> Result<(), Fail> {
 
 #[test]
 fn version(rt: HostRuntime) -> Result<(), Fail> {
-    let ran = ran(&rt, &["--version"])?;
+    let ran = run_words(&rt, &["--version"])?;
     assert_eq!(rt; ran.status, 0);
     assert_eq!(rt; ran.out.as_str(), "amcover 0.1.0\n");
     assert_eq!(rt; ran.err.as_str(), "");

@@ -1,11 +1,10 @@
 //! What `ask` and `run` answer on refused input, and how a fault is written.
 
-use super::fixtures::{DB, TEAMS, TWICE, asked, ran, text_of};
+use super::fixtures::{DB, TEAMS, TWICE, answer_to, run_on_file, run_words, text_of};
 use super::pages::{labels_of, matchers_of, values_of};
 use crate::fault_text::{status, write_fault};
 use am_labels::{Fault, Kind, Out, Place};
 use std::alloc::{AllocError, Global};
-use std::fs;
 use std::process::Abort;
 use std::test::*;
 
@@ -77,7 +76,7 @@ fn faults_of_made_universes(rt: HostRuntime) -> Result<(), Fail> {
 /// The universe is refused for this kind of fault, whatever the question, and nothing is written.
 fn refused(rt: &impl Abort, alloc: Global, universe: &[u8], kind: Kind) -> Result<(), Fail> {
     for question in [DB, "nonsense"] {
-        let asked = asked(alloc, universe, question)?;
+        let asked = answer_to(alloc, universe, question)?;
         expect(rt, &asked.outcome.err(), kind, Place::Universe);
         assert_eq!(rt; asked.text.as_str(), "");
     }
@@ -107,7 +106,7 @@ fn faults_of_questions(rt: HostRuntime) -> Result<(), Fail> {
         ("{a=\"1\",}", Kind::QuestionSyntax),
         (too_many.as_str(), Kind::Limit),
     ] {
-        let asked = asked(alloc, TEAMS.as_bytes(), question)?;
+        let asked = answer_to(alloc, TEAMS.as_bytes(), question)?;
         expect(&rt, &asked.outcome.err(), kind, Place::Question);
         assert_eq!(rt; asked.text.as_str(), "", "{question}");
     }
@@ -129,10 +128,7 @@ fn faults_of_runs(rt: HostRuntime) -> Result<(), Fail> {
         (TEAMS, "{a=\"1\",}", "amcover: question: question-syntax\n"),
         (TEAMS, too_many.as_str(), "amcover: question: limit\n"),
     ] {
-        fs::write(&rt, path, universe)?;
-        let ran = ran(&rt, &["ask", "--universe", path, question]);
-        fs::remove_file(&rt, path)?;
-        let ran = ran?;
+        let ran = run_on_file(&rt, path, universe, question)?;
         assert_eq!(rt; ran.err.as_str(), err, "{question}");
         assert_eq!(rt; ran.out.as_str(), "", "{question}");
         assert_eq!(rt; ran.status, 1, "{question}");
@@ -149,7 +145,7 @@ fn files_that_cannot_be_read(rt: HostRuntime) -> Result<(), Fail> {
         ("", DB),
         (".", DB),
     ] {
-        let ran = ran(&rt, &["ask", "--universe", path, question])?;
+        let ran = run_words(&rt, &["ask", "--universe", path, question])?;
         assert_eq!(rt; ran.err.as_str(), "amcover: universe: read\n", "{path}");
         assert_eq!(rt; ran.out.as_str(), "", "{path}");
         assert_eq!(rt; ran.status, 1, "{path}");

@@ -5,14 +5,17 @@ use crate::run::run;
 use crate::trailer::Trailer;
 use am_labels::{Fault, Out};
 use std::alloc::{AllocError, Global};
+use std::fs;
 use std::rt::Files;
 use std::test::*;
 
 /// Two labels, of three values and of two.
-pub const TEAMS: &str = "{\"labels\":[{\"name\":\"team\",\"values\":[\"db\",\"web\",null]},{\"name\":\"severity\",\"values\":[\"critical\",\"warning\"]}]}";
+pub const TEAMS: &str =
+    "{\"labels\":[{\"name\":\"team\",\"values\":[\"db\",\"web\",null]},{\"name\":\"severity\",\"values\":[\"critical\",\"warning\"]}]}";
 
 /// The same, with a value twice.
-pub const TWICE: &str = "{\"labels\":[{\"name\":\"team\",\"values\":[\"db\",\"db\",null]},{\"name\":\"severity\",\"values\":[\"critical\",\"warning\"]}]}";
+pub const TWICE: &str =
+    "{\"labels\":[{\"name\":\"team\",\"values\":[\"db\",\"db\",null]},{\"name\":\"severity\",\"values\":[\"critical\",\"warning\"]}]}";
 
 /// A question on the two labels.
 pub const DB: &str = "{team=\"db\"}";
@@ -28,7 +31,7 @@ pub struct Asked {
     pub text: String,
 }
 
-pub fn asked(alloc: Global, universe: &[u8], question: &str) -> Result<Asked, Fail> {
+pub fn answer_to(alloc: Global, universe: &[u8], question: &str) -> Result<Asked, Fail> {
     let mut sink = Out::new(Vec::new(alloc));
     let outcome = ask(alloc, universe, question, &mut sink);
     Ok(Asked {
@@ -59,6 +62,19 @@ pub fn ran<R: Files + AllocGlobal>(rt: &R, words: &[&str]) -> Result<Ran, Fail> 
     })
 }
 
+/// Asks about a universe file that is written for it, at a path that no other test uses.
+pub fn run_on_file<R: Files + AllocGlobal>(
+    rt: &R,
+    path: &str,
+    universe: &str,
+    question: &str,
+) -> Result<Ran, Fail> {
+    fs::write(rt, path, universe)?;
+    let ran = run_words(rt, &["ask", "--universe", path, question])?;
+    fs::remove_file(rt, path)?;
+    Ok(ran)
+}
+
 /// A command line: the program's name and these words.
 pub fn line_of(alloc: Global, words: &[&str]) -> Result<Vec<String>, AllocError> {
     let mut line = Vec::new(alloc);
@@ -70,5 +86,9 @@ pub fn line_of(alloc: Global, words: &[&str]) -> Result<Vec<String>, AllocError>
 }
 
 pub fn text_of(bytes: Vec<u8>) -> Result<String, Fail> {
-    Ok(String::from_utf8(bytes).ok().ok_or("what is written is UTF-8")?)
+    Ok(
+        String::from_utf8(bytes)
+            .ok()
+            .ok_or("what is written is UTF-8")?,
+    )
 }

@@ -1,9 +1,8 @@
 //! What `ask` writes on good input.
 
-use super::fixtures::{DB, DB_PAGE, TEAMS, asked, ran};
+use super::fixtures::{DB, DB_PAGE, TEAMS, answer_to, run_on_file};
 use crate::trailer::Trailer;
 use std::alloc::{AllocError, Global};
-use std::fs;
 use std::test::*;
 
 /// A universe file, a question, and the page.
@@ -34,12 +33,13 @@ const PAGES: [(&str, &str, &str); 10] = [
 ];
 
 /// The page of all label sets of the two labels.
-const ALL: &str = "{team=\"db\",severity=\"critical\"}\n{team=\"db\",severity=\"warning\"}\n{team=\"web\",severity=\"critical\"}\n{team=\"web\",severity=\"warning\"}\n{severity=\"critical\"}\n{severity=\"warning\"}\n# end\n";
+const ALL: &str =
+    "{team=\"db\",severity=\"critical\"}\n{team=\"db\",severity=\"warning\"}\n{team=\"web\",severity=\"critical\"}\n{team=\"web\",severity=\"warning\"}\n{severity=\"critical\"}\n{severity=\"warning\"}\n# end\n";
 
 #[test]
 fn pages_of_asking(rt: HostRuntime) -> Result<(), Fail> {
     for (universe, question, page) in PAGES {
-        let asked = asked(rt.alloc(), universe.as_bytes(), question)?;
+        let asked = answer_to(rt.alloc(), universe.as_bytes(), question)?;
         match &asked.outcome {
             Ok(trailer) => assert_eq!(rt; *trailer, Trailer::End, "{question}"),
             Err(fault) => panic!(rt; "{question}: {fault}"),
@@ -53,10 +53,7 @@ fn pages_of_asking(rt: HostRuntime) -> Result<(), Fail> {
 fn pages_of_runs(rt: HostRuntime) -> Result<(), Fail> {
     let path = "amcover_test_pages_of_runs.json";
     for (universe, question, page) in PAGES {
-        fs::write(&rt, path, universe)?;
-        let ran = ran(&rt, &["ask", "--universe", path, question]);
-        fs::remove_file(&rt, path)?;
-        let ran = ran?;
+        let ran = run_on_file(&rt, path, universe, question)?;
         assert_eq!(rt; ran.status, 0, "{question}");
         assert_eq!(rt; ran.out.as_str(), page, "{question}");
         assert_eq!(rt; ran.err.as_str(), "", "{question}");
@@ -75,7 +72,7 @@ fn as_many_as_may_be(rt: HostRuntime) -> Result<(), Fail> {
         (values.as_str(), "{}", 129),
         (TEAMS, matchers.as_str(), 7),
     ] {
-        let asked = asked(alloc, universe.as_bytes(), question)?;
+        let asked = answer_to(alloc, universe.as_bytes(), question)?;
         assert!(rt; asked.outcome.is_ok(), "{question}");
         assert_eq!(rt; lines_in(asked.text.as_str()), lines, "{question}");
     }
@@ -83,7 +80,10 @@ fn as_many_as_may_be(rt: HostRuntime) -> Result<(), Fail> {
 }
 
 fn lines_in(text: &str) -> usize {
-    text.as_bytes().iter().filter(|byte| **byte == b'\n').count()
+    text.as_bytes()
+        .iter()
+        .filter(|byte| **byte == b'\n')
+        .count()
 }
 
 /// A universe file of so many labels, each with a value.

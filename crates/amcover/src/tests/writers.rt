@@ -32,7 +32,11 @@ fn asking_over_writers_that_stop(rt: HostRuntime) {
     let calls = asked_whole(&rt, alloc, usize::MAX).calls;
     assert!(rt; 3 <= calls);
     for call in 1..=calls {
-        let fake = asked_in_part(&rt, alloc, Fake::stopped(alloc, usize::MAX, call, Stop::Fails));
+        let fake = asked_in_part(
+            &rt,
+            alloc,
+            Fake::stopped(alloc, usize::MAX, call, Stop::Fails),
+        );
         assert_eq!(rt; fake.calls, call);
         let stopped = Fake::stopped(alloc, usize::MAX, call, Stop::TakesNothing);
         let fake = asked_in_part(&rt, alloc, stopped);
@@ -125,7 +129,10 @@ fn runs_with_no_standard_error(rt: HostRuntime) -> Result<(), Fail> {
     fs::write(&rt, path, TWICE)?;
     let lines: [(&[&str], u8); 4] = [
         (&["ask", "--universe", path, DB], 1),
-        (&["ask", "--universe", "amcover_test_no_such_file.json", DB], 1),
+        (
+            &["ask", "--universe", "amcover_test_no_such_file.json", DB],
+            1,
+        ),
         (&["ask"], 2),
         (&["--version"], 4),
     ];
