@@ -1,6 +1,6 @@
 //! What the command line takes, and what it shows.
 
-use super::fixtures::ran;
+use super::fixtures::run_words;
 use std::test::*;
 
 #[test]

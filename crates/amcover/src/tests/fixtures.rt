@@ -49,7 +49,7 @@ pub struct Ran {
 }
 
 /// Runs the program on words, its own name put before them.
-pub fn ran<R: Files + AllocGlobal>(rt: &R, words: &[&str]) -> Result<Ran, Fail> {
+pub fn run_words<R: Files + AllocGlobal>(rt: &R, words: &[&str]) -> Result<Ran, Fail> {
     let alloc = rt.alloc();
     let words = line_of(alloc, words)?;
     let mut out = Vec::new(alloc);
