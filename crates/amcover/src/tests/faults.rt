@@ -153,47 +153,43 @@ fn files_that_cannot_be_read(rt: HostRuntime) -> Result<(), Fail> {
     Ok(())
 }
 
+/// A fault, and the line for it.
+const LINES: [(Kind, Place, &str, &str); 6] = [
+    (
+        Kind::Shape,
+        Place::Config,
+        "/a\\b\nc",
+        "amcover: config: /a\\\\b\\nc: shape\n",
+    ),
+    (
+        Kind::Duplicate,
+        Place::Universe,
+        "",
+        "amcover: universe: duplicate\n",
+    ),
+    (Kind::Write, Place::Output, "", "amcover: write\n"),
+    (Kind::Memory, Place::Memory, "", "amcover: memory\n"),
+    (Kind::Shape, Place::Output, "", "amcover: output: shape\n"),
+    (Kind::Shape, Place::Memory, "", "amcover: memory: shape\n"),
+];
+
 #[test]
 fn lines_of_faults(rt: HostRuntime) -> Result<(), Fail> {
-    for (kind, place, pointer, line, number) in [
-        (
-            Kind::Shape,
-            Place::Config,
-            "/a\\b\nc",
-            "amcover: config: /a\\\\b\\nc: shape\n",
-            1,
-        ),
-        (
-            Kind::Duplicate,
-            Place::Universe,
-            "",
-            "amcover: universe: duplicate\n",
-            1,
-        ),
-        (Kind::Write, Place::Output, "", "amcover: write\n", 4),
-        (Kind::Memory, Place::Memory, "", "amcover: memory\n", 3),
-        (
-            Kind::Shape,
-            Place::Output,
-            "",
-            "amcover: output: shape\n",
-            1,
-        ),
-        (
-            Kind::Shape,
-            Place::Memory,
-            "",
-            "amcover: memory: shape\n",
-            1,
-        ),
-    ] {
+    for (kind, place, pointer, line) in LINES {
         let fault = fault_at(rt.alloc(), kind, place, pointer)?;
         let mut sink = Out::new(Vec::new(rt.alloc()));
         assert!(rt; write_fault(&fault, &mut sink).is_ok(), "{line}");
         assert_eq!(rt; text_of(sink.into_inner())?.as_str(), line);
-        assert_eq!(rt; status(&fault), number, "{line}");
     }
     Ok(())
+}
+
+#[test]
+fn statuses_of_faults(rt: HostRuntime) {
+    for (kind, number) in [(Kind::Write, 4), (Kind::Memory, 3), (Kind::Read, 1)] {
+        let fault = Fault::of(rt.alloc(), kind, Place::Output);
+        assert_eq!(rt; status(&fault), number);
+    }
 }
 
 fn fault_at(alloc: Global, kind: Kind, place: Place, pointer: &str) -> Result<Fault, AllocError> {

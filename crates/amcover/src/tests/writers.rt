@@ -31,7 +31,8 @@ fn asking_over_writers_that_stop(rt: HostRuntime) {
     let alloc = rt.alloc();
     let calls = asked_whole(&rt, alloc, usize::MAX).calls;
     assert!(rt; 3 <= calls);
-    for call in 1..=calls {
+    for before in 0..calls {
+        let call = before + 1;
         let fake = asked_in_part(
             &rt,
             alloc,
@@ -78,7 +79,8 @@ fn runs_over_writers_that_stop(rt: HostRuntime) -> Result<(), Fail> {
     let status = run_over(&rt, words.as_slice(), &mut whole, "");
     assert_eq!(rt; status, 0);
     assert_eq!(rt; whole.taken.as_slice(), DB_PAGE.as_bytes());
-    for call in 1..=whole.calls {
+    for before in 0..whole.calls {
+        let call = before + 1;
         stopped_run(&rt, words.as_slice(), call, Stop::Fails);
         stopped_run(&rt, words.as_slice(), call, Stop::TakesNothing);
     }
