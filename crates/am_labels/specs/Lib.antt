@@ -17,3 +17,4 @@ pub mod UniverseView
 pub mod ChoiceView
 pub mod LabelSetView
 pub mod Out
+pub mod BraceToken
