@@ -5,7 +5,7 @@
 //! label sets they match, as Alertmanager's matchers do. What is written goes to a [`Sink`].
 #![tactic(auto)]
 
-mod brace_token;
+mod braces;
 mod choice;
 mod fault;
 mod history;
@@ -26,7 +26,7 @@ mod sink;
 mod universe;
 mod write;
 
-pub use brace_token::brace_len;
+pub use braces::{brace_len, brace_token};
 pub use choice::Choice;
 pub use fault::Fault;
 pub use history::History;

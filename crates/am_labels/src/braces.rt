@@ -1,7 +1,7 @@
 //! Where the braces of a question end.
 
-ghost use Rattle.std.specs.Prelude.{◌≡◌, ◌<◌, length, IfSome};
-ghost use Rattle.am_labels.specs.BraceToken.{first_closing, brace_len};
+ghost use Rattle.std.specs.Prelude.{◌≡◌, ◌<◌, ℕ, List, length, IfSome, IfNone};
+ghost use Rattle.am_labels.specs.BraceToken.{first_closing, brace_len, IsBraceToken};
 
 /// The length in bytes of the brace token that a text begins with: from its `{` to the first `}` outside quoted parts,
 /// which are those of a matcher text. `None` where it begins with no `{`, or no such `}` follows.
@@ -33,4 +33,17 @@ fn first_closing(text: &[u8]) -> Option<usize>
         escaped = *byte == b'\\' && !escaped;
     }
     None
+}
+
+/// The brace token that a text is, without the whitespace round it: space, tab, line feed, carriage return and form feed.
+/// `None` where the text is anything else.
+pub fn brace_token(text: &str) -> Option<&str>
+    ensures some { IfSome result (λ token. IsBraceToken text.now token.now) }
+    ensures none { IfNone result ((token : List ℕ) → IsBraceToken text.now token → ⊥) }
+{
+    let token = text.trim_ascii_start().trim_ascii_end();
+    match brace_len(token) {
+        Some(len) if len == token.len() => Some(token),
+        _ => None,
+    }
 }

@@ -3,8 +3,8 @@ use Rattle.std.proofs.lemmas.Grind.{common_steps}
 use Rattle.am_labels.specs.BraceToken.{closes}
 use Rattle.am_labels.proofs.MatcherTextPlaces.{escaped_next, quoted_next}
 use Rattle.am_labels.proofs.BraceTokens.{find_at, find_none}
-use Rattle.am_labels.proofs.brace_token.first_closing.Goals as goal
-use Rattle.am_labels.proofs.brace_token.first_closing.Goals.{else-byte-eq125-via-then-byte-eq125+else-not-quoted, else-byte-eq125-via-else-byte-eq125}
+use Rattle.am_labels.proofs.braces.first_closing.Goals as goal
+use Rattle.am_labels.proofs.braces.first_closing.Goals.{else-byte-eq125-via-then-byte-eq125+else-not-quoted, else-byte-eq125-via-else-byte-eq125}
 
 pub returns-then-not-quoted-clause-place : goal.returns-then-not-quoted-clause-place
 returns-then-not-quoted-clause-place c =

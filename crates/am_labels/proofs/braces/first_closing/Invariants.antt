@@ -1,7 +1,7 @@
 use Rattle.std.proofs.Common.{◌≡◌, ℕ, ◌<◌, false}
 use Rattle.am_labels.specs.MatcherText.{is_escaped, is_quoted}
 use Rattle.am_labels.specs.BraceToken.{closes}
-use Rattle.am_labels.proofs.brace_token.first_closing.Given as goal
+use Rattle.am_labels.proofs.braces.first_closing.Given as goal
 
 abbrev pub invariant-loop-i : goal.invariant-loop-i
 invariant-loop-i l = record {
