@@ -1,5 +1,5 @@
 -- Reading the items of an array one behind the other: as a loop does, and what items with no fault say.
-use Rattle.std.proofs.Common.{◌≡◌, ℕ, suc, ◌+◌, ◌<◌, ◌≤◌, List, [], ◌∷◌, ◌++◌, length, map, get_or, drop, Result, Ok, Err, refl, sym, ap, ◌∙◌, add-one, arith, drop-cons, append_assoc}
+use Rattle.std.proofs.Common.{◌≡◌, ℕ, suc, ◌+◌, ◌<◌, ◌≤◌, List, [], ◌∷◌, ◌++◌, length, map, get_or, drop, Result, Ok, refl, sym, ap, ◌∙◌, add-one, drop-cons, append_assoc}
 use Rattle.std.specs.Prelude.{⊤}
 use Rattle.std.proofs.lemmas.List.{drop_all, append-nil}
 use Rattle.serde_json.specs.Data.{Data}

@@ -1,7 +1,7 @@
 -- The fields of an object: what reading one with no fault says of the JSON value, and back.
-use Rattle.std.proofs.Common.{◌≡◌, ◌⊎◌, ℕ, List, Bool, true, false, not, ◌&&◌, Option, Some, None, option_and_then, Result, Ok, Err, inl, inr, refl, sym, ap, ◌∙◌, cond}
+use Rattle.std.proofs.Common.{◌≡◌, ◌⊎◌, ℕ, List, Bool, true, false, not, ◌&&◌, Option, Some, None, option_and_then, Ok, inl, inr, refl, ap, ◌∙◌, cond}
 use Rattle.std.specs.Prelude.{⊤, IsTrue, ok_or}
-use Rattle.serde_json.specs.Data.{Data, null, boolean, number, string, array, object, Items, Members, no_members, member}
+use Rattle.serde_json.specs.Data.{Data, null, boolean, number, string, array, object, Members, no_members, member}
 use Rattle.serde_json.specs.Find.{as_object, as_str}
 use Rattle.am_labels.specs.declared.kind.Kind.TheVariants as kinds
 use Rattle.am_files.specs.Json.{is_null, is_one_of, is_unknown, field, lesser, unknown_field, items_of, AreOnly, HasOnly}

@@ -5,3 +5,4 @@ pub mod Arrays
 pub mod Fields
 pub mod UniverseSays
 pub mod Keys
+pub mod Causes

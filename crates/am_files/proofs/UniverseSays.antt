@@ -1,6 +1,6 @@
 -- A value says a universe exactly where reading it finds no fault, and then that universe.
-use Rattle.std.proofs.Common.{◌≡◌, ◌⊎◌, ℕ, ◌+◌, ◌<◌, ◌≤◌, List, [], ◌∷◌, ◌++◌, length, map, Bool, true, false, cond, Option, Some, None, Result, Ok, Err, nat_le, refl, sym, ap, subst, ◌∙◌, append_assoc, append-nil, length-append, arith}
-use Rattle.std.specs.Prelude.{⊤, codes, ok_or}
+use Rattle.std.proofs.Common.{◌≡◌, ℕ, ◌<◌, ◌≤◌, List, [], ◌∷◌, ◌++◌, length, Bool, true, false, cond, Option, Some, None, Result, Ok, Err, nat_le, refl, sym, ap, subst, ◌∙◌, append_assoc, append-nil, length-append, arith}
+use Rattle.std.specs.Prelude.{codes, ok_or}
 use Rattle.std.specs.List.{AllByRecursion, IsDistinct}
 use Rattle.std.proofs.lemmas.List.{map-append}
 use borrow.Author.Tests.{lt-leb}
@@ -14,7 +14,7 @@ use Rattle.am_labels.specs.declared.label_fault.LabelPart.TheVariants as parts
 use Rattle.am_labels.specs.Universe.{Values, Label, IsLabel, IsUniverse, names, max_labels, name_fault, count_fault, value_fault, values_fault, label_values_fault, label_fault, first_fault, fault_at}
 use Rattle.am_labels.proofs.Universes.{IsUniverse-empty}
 use Rattle.am_labels.proofs.AddedLabels.{added_is_universe, universe_was_added}
-use Rattle.am_files.specs.Json.{json_of, field, HasOnly, Each, is_null}
+use Rattle.am_files.specs.Json.{json_of, Each}
 use Rattle.am_files.specs.Pointer.{Refusal, here, to_field, to_item, under}
 use Rattle.am_files.specs.Reading.{◌>>=◌, unless, at_most, each, text_in, only_fields, required_text, required_items, max_bytes, json_in}
 use Rattle.am_files.specs.UniverseFile.{file_fields, label_fields, SaysValue, SaysLabel, SaysUniverse, value_in, value_behind, values_in, label_behind, labels_in, universe_in, universe_file, FileSaysUniverse}

@@ -1,5 +1,5 @@
 -- Reading a JSON value field by field, with the first fault that is met.
-use Rattle.std.specs.Prelude.{◌≡◌, ◌≢◌, ℕ, List, [], ◌∷◌, ◌++◌, length, Bool, nat_le, nat_lt, if◌then◌else◌, Option, Some, None, ok_or, Result, Ok, Err, IsErrAnd, string_bytes, ⊤}
+use Rattle.std.specs.Prelude.{◌≡◌, ◌≢◌, ℕ, List, [], ◌∷◌, ◌++◌, length, nat_lt, if◌then◌else◌, Option, Some, None, ok_or, Result, Ok, Err, IsErrAnd, string_bytes, ⊤}
 use Rattle.serde_json.specs.Data.{Data, Members}
 use Rattle.serde_json.specs.Find.{as_object, as_str}
 use Rattle.am_labels.specs.declared.kind.Kind.{Kind}

@@ -1,6 +1,6 @@
 -- The universe file: which JSON value says which universe, and the first fault of a value that says none.
 -- (This project's own form.)
-use Rattle.std.specs.Prelude.{◌≡◌, ◌≤◌, ℕ, List, [], ◌∷◌, length, if◌then◌else◌, Option, Some, None, option_and_then, Result, Ok, Err, codes}
+use Rattle.std.specs.Prelude.{◌≡◌, ◌≤◌, ℕ, List, [], ◌∷◌, length, if◌then◌else◌, Option, Some, None, option_and_then, Result, Ok, codes}
 use Rattle.std.specs.Result.{result_err}
 use Rattle.serde_json.specs.Data.{Data, null, string}
 use Rattle.am_labels.specs.Universe.{Values, Label, max_labels, IsUniverse, name_fault, count_fault, value_fault}

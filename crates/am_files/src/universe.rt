@@ -45,6 +45,7 @@ pub fn read_universe(alloc: Global, bytes: &[u8]) -> Result<Universe, Fault>
         → (fault.place ≡ places.Universe) × (universe_file bytes.now ≡ Err (refusal_of fault))) }
     ensures memory { IfErr result (λ fault. fault.kind ≡ kinds.Memory
         → (fault.place ≡ places.Memory) × (string_bytes fault.pointer ≡ [])) }
+    ensures no_write { IfErr result (λ fault. fault.kind ≢ kinds.Write) }
 {
     match universe_file(alloc, bytes) {
         Ok(universe) => Ok(universe),

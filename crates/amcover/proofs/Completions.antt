@@ -1,5 +1,5 @@
 -- The whole choices that begin with a prefix, as a walk from label to label meets them.
-use Rattle.std.proofs.Common.{◌≡◌, ℕ, zero, suc, ◌+◌, ◌<◌, ◌≤◌, Bool, true, false, cond, List, [], ◌∷◌, ◌++◌, length, map, slice_index, nat_lt, ◌&&◌, ap, sym, ◌∙◌, refl, arith, add-one, add-suc, inl, inr}
+use Rattle.std.proofs.Common.{◌≡◌, ℕ, zero, suc, ◌+◌, ◌<◌, ◌≤◌, Bool, true, false, cond, List, [], ◌∷◌, ◌++◌, length, map, slice_index, nat_lt, ◌&&◌, ap, ◌∙◌, refl, arith, add-one}
 use Rattle.std.specs.List.{flat_map, AllByRecursion, filter}
 use Rattle.std.proofs.lemmas.List.{append-nil, map-append}
 use Rattle.std.proofs.lemmas.Grind.{flat_map-append}

@@ -1,14 +1,14 @@
 -- The answers that begin with a prefix, found position by position.
-use Rattle.std.proofs.Common.{◌≡◌, ℕ, ◌+◌, ◌-◌, ◌<◌, ◌≤◌, Bool, true, false, cond, List, [], ◌∷◌, ◌++◌, length, slice_index, slice_get, Some, nat_lt, ap, sym, ◌∙◌, refl, append_assoc, arith}
-use Rattle.std.specs.List.{flat_map, filter}
+use Rattle.std.proofs.Common.{◌≡◌, ℕ, ◌+◌, ◌<◌, ◌≤◌, Bool, true, List, [], ◌∷◌, ◌++◌, length, slice_index, slice_get, Some, nat_lt, ap, sym, ◌∙◌, subst, append_assoc, arith}
+use Rattle.std.specs.List.{flat_map, filter, AllByRecursion}
 use Rattle.std.proofs.lemmas.Bool.{and_parts}
 use Rattle.std.proofs.lemmas.List.{length-map}
 use Rattle.std.proofs.lemmas.List.Elements.{filter-append}
 use Rattle.std.proofs.lemmas.Option.{get_or_from_slice_get}
 use Rattle.am_labels.specs.Universe.{Label, sizes}
-use Rattle.am_labels.specs.Choice.{counted_from, admits, IsWhole}
+use Rattle.am_labels.specs.Choice.{counted_from, choices, admits, IsWhole}
 use Rattle.amcover.specs.Completions.{completions}
-use Rattle.amcover.proofs.Completions.{completions_of_whole, completions_by_next, flat_map_counted, admits_next}
+use Rattle.amcover.proofs.Completions.{completions_of_whole, completions_by_next, flat_map_counted, admits_next, choices_are_whole, all_filter}
 
 pub length-sizes : (u : List Label) → length (sizes u) ≡ length u
 length-sizes u = length-map u (λ l. length l.values)
@@ -24,13 +24,9 @@ admitted_fits (size ∷ sizes) (p ∷ prefix) a =
 pub prefix_fits : (u : List Label) (prefix : List ℕ) → admits (sizes u) prefix ≡ true → length prefix ≤ length u
 prefix_fits u prefix a = omega (arith, length-sizes u, admitted_fits (sizes u) prefix a)
 
--- a whole choice is found if it passes the test
-pub found_here : (u : List Label) (test : List ℕ → Bool) (c : List ℕ) → length c ≡ length u → test c ≡ true → filter test (completions (sizes u) c) ≡ c ∷ []
-found_here u test c e passes = ap (filter test) (completions_of_whole (sizes u) c (e ∙ sym (length-sizes u))) ∙ ap (λ b. cond b (c ∷ []) []) passes
-
--- and nothing is found if it does not
-pub none_here : (u : List Label) (test : List ℕ → Bool) (c : List ℕ) → length c ≡ length u → test c ≡ false → filter test (completions (sizes u) c) ≡ []
-none_here u test c e fails = ap (filter test) (completions_of_whole (sizes u) c (e ∙ sym (length-sizes u))) ∙ ap (λ b. cond b (c ∷ []) []) fails
+-- what is found at a whole choice is found among the completions of that choice
+pub found_here : (u : List Label) (test : List ℕ → Bool) (c : List ℕ) (before now : List (List ℕ)) → length c ≡ length u → now ≡ before ++ filter test (c ∷ []) → now ≡ before ++ filter test (completions (sizes u) c)
+found_here u test c before now e found = found ∙ ap (λ xs. before ++ filter test xs) (sym (completions_of_whole (sizes u) c (e ∙ sym (length-sizes u))))
 
 -- a prefix stays admitted with one position more
 pub longer_admitted : (u : List Label) (prefix : List ℕ) (p size : ℕ) → admits (sizes u) prefix ≡ true → length prefix < length u → slice_get (sizes u) (length prefix) ≡ Some size → p < size
@@ -39,16 +35,33 @@ longer_admitted u prefix p size a h at below =
     let here : slice_index (sizes u) (length prefix) ≡ size = get_or_from_slice_get (sizes u) (length prefix) size 0 at in
     admits_next (sizes u) prefix p a (omega (arith, length-sizes u)) (omega arith)
 
+-- the completions of a prefix that go on with one of the first positions
+abbrev pub completions_below : List ℕ → List ℕ → ℕ → List (List ℕ)
+completions_below sizes prefix count = flat_map (λ p. completions sizes (prefix ++ p ∷ [])) (counted_from 0 count)
+
 -- one position more
-pub found_more : (f : ℕ → List (List ℕ)) (test : List ℕ → Bool) (before now new : List (List ℕ)) (count : ℕ)
-    → now ≡ before ++ filter test (flat_map f (counted_from 0 count)) → new ≡ now ++ filter test (f count) → new ≡ before ++ filter test (flat_map f (counted_from 0 (count + 1)))
-found_more f test before now new count so_far added =
-    added ∙ ap (λ xs. xs ++ filter test (f count)) so_far ∙ append_assoc before (filter test (flat_map f (counted_from 0 count))) (filter test (f count))
-    ∙ ap (λ xs. before ++ xs) (sym (filter-append test (flat_map f (counted_from 0 count)) (f count)) ∙ ap (filter test) (sym (flat_map_counted f count)))
+pub found_more : (sizes prefix longer : List ℕ) (test : List ℕ → Bool) (before now new : List (List ℕ)) (p : ℕ)
+    → now ≡ before ++ filter test (completions_below sizes prefix p) → longer ≡ prefix ++ p ∷ [] → new ≡ now ++ filter test (completions sizes longer)
+    → new ≡ before ++ filter test (completions_below sizes prefix (p + 1))
+found_more sizes prefix longer test before now new p so_far is added =
+    let here = completions sizes (prefix ++ p ∷ []) in
+    let f = λ (q : ℕ). completions sizes (prefix ++ q ∷ []) in
+    added ∙ ap (λ c. now ++ filter test (completions sizes c)) is ∙ ap (λ xs. xs ++ filter test here) so_far
+    ∙ append_assoc before (filter test (completions_below sizes prefix p)) (filter test here)
+    ∙ ap (λ xs. before ++ xs) (sym (filter-append test (completions_below sizes prefix p) here) ∙ ap (filter test) (sym (flat_map_counted f p)))
 
 -- every position
-pub found_all : (u : List Label) (prefix : List ℕ) (size : ℕ) → length prefix < length u → slice_get (sizes u) (length prefix) ≡ Some size
-    → flat_map (λ p. completions (sizes u) (prefix ++ p ∷ [])) (counted_from 0 size) ≡ completions (sizes u) prefix
-found_all u prefix size h at =
-    ap (λ n. flat_map (λ p. completions (sizes u) (prefix ++ p ∷ [])) (counted_from 0 n)) (sym (get_or_from_slice_get (sizes u) (length prefix) size 0 at))
-    ∙ sym (completions_by_next (sizes u) prefix (omega (arith, length-sizes u)))
+pub found_all : (u : List Label) (prefix : List ℕ) (test : List ℕ → Bool) (before now : List (List ℕ)) (p size : ℕ)
+    → now ≡ before ++ filter test (completions_below (sizes u) prefix p) → length prefix < length u → slice_get (sizes u) (length prefix) ≡ Some size → p ≡ size
+    → now ≡ before ++ filter test (completions (sizes u) prefix)
+found_all u prefix test before now p size so_far h at end =
+    let here : p ≡ slice_index (sizes u) (length prefix) = end ∙ sym (get_or_from_slice_get (sizes u) (length prefix) size 0 at) in
+    so_far ∙ ap (λ n. before ++ filter test (completions_below (sizes u) prefix n)) here
+    ∙ ap (λ xs. before ++ filter test xs) (sym (completions_by_next (sizes u) prefix (omega (arith, length-sizes u))))
+
+-- what is found with no prefix is whole
+pub found_are_whole : (sizes : List ℕ) (test : List ℕ → Bool) (before found : List (List ℕ)) (prefix : List ℕ) → before ≡ [] → prefix ≡ [] → found ≡ before ++ filter test (completions sizes prefix)
+    → AllByRecursion (IsWhole sizes) found
+found_are_whole sizes test before found prefix none start e =
+    subst (AllByRecursion (IsWhole sizes)) (sym (e ∙ ap (λ xs. xs ++ filter test (completions sizes prefix)) none ∙ ap (λ p. filter test (completions sizes p)) start))
+    (all_filter (IsWhole sizes) test (choices sizes) (choices_are_whole sizes))

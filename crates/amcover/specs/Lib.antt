@@ -5,3 +5,5 @@ pub mod BraceQuestion
 pub mod BraceReading
 pub mod FaultText
 pub mod Completions
+pub mod Asked
+pub mod Asking

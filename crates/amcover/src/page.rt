@@ -10,7 +10,12 @@ use crate::trailer::{Trailer, write_trailer};
 use am_labels::{Choice, Kind, Sink, Universe, put_all, write_set};
 
 /// Writes a line for each choice, and then the trailer.
-pub fn write_page<W: Sink>(universe: &Universe, choices: &[Choice], trailer: Trailer, out: &mut W) -> Result<(), Kind>
+pub fn write_page<W: Sink>(
+    universe: &Universe,
+    choices: &[Choice],
+    trailer: Trailer,
+    out: &mut W,
+) -> Result<(), Kind>
     requires { AllByRecursion (IsWhole (sizes universe.now)) choices.now }
     ensures { Writes W.taken W.failures out.old out.new (page_text universe.now choices.now trailer) result }
 {

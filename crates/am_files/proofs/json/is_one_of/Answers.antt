@@ -1,4 +1,3 @@
-use Rattle.std.proofs.Common.{◌∙◌}
 use Rattle.am_labels.specs.Text.{same_text}
 use Rattle.am_files.proofs.Values.{any-map}
 use Rattle.am_files.proofs.json.is_one_of.Goals as goal

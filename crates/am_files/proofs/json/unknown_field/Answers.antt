@@ -1,4 +1,4 @@
-use Rattle.std.proofs.Common.{◌≡◌, true, false, map, string_bytes, ◌∙◌, sym, ap}
+use Rattle.std.proofs.Common.{◌≡◌, true, false, map, string_bytes}
 use Rattle.serde_json.specs.View.{view}
 use Rattle.am_files.specs.Json.{is_unknown}
 use Rattle.am_files.proofs.Keys.{is_first, is_passed, still_ascends}

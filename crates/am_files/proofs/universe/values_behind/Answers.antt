@@ -1,9 +1,8 @@
-use Rattle.std.proofs.Common.{◌≡◌, [], ◌∷◌, ◌++◌, length, map, string_bytes, option_map, sym, ap, subst}
+use Rattle.std.proofs.Common.{◌≡◌, [], ◌∷◌, ◌++◌, string_bytes, option_map}
 use Rattle.std.proofs.lemmas.Result.{err_from_is_err_and}
-use Rattle.std.proofs.lemmas.List.{map_push, length-map}
+use Rattle.std.proofs.lemmas.List.{map_push}
 use Rattle.serde_json.specs.View.{view}
 use Rattle.am_labels.specs.UniverseView.{texts_of}
-use Rattle.am_files.specs.Reading.{each}
 use Rattle.am_files.specs.UniverseFile.{value_behind}
 use Rattle.am_files.proofs.Arrays.{goes_on, ends, is_done}
 use Rattle.am_files.proofs.universe.values_behind.Goals as goal

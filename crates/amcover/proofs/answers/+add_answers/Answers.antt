@@ -1,33 +1,21 @@
 -- Each turn adds the answers of one position more.
-use Rattle.std.proofs.Common.{◌≡◌, ◌++◌, ◌∷◌, [], true, false, length, ℕ, List, slice_get, Some, ap, sym, ◌∙◌, append-nil, length-append, arith}
-use Rattle.std.specs.List.{filter, flat_map}
+use Rattle.std.proofs.Common.{◌∷◌, [], length, slice_get, ap, sym, ◌∙◌, length-append, arith}
+use Rattle.std.proofs.lemmas.Result.{on_ok_weaker}
 use Rattle.am_labels.specs.Universe.{sizes}
-use Rattle.am_labels.specs.Choice.{counted_from}
-use Rattle.am_labels.specs.Matcher.{all_hold}
 use Rattle.amcover.specs.Question.{is_answer}
-use Rattle.amcover.specs.Completions.{completions}
-use Rattle.amcover.proofs.Found.{prefix_fits, found_here, none_here, longer_admitted, found_more, found_all}
+use Rattle.amcover.proofs.Found.{prefix_fits, found_here, longer_admitted, found_more, found_all}
 use Rattle.amcover.proofs.answers.+add_answers.Goals as goal
-use Rattle.amcover.proofs.answers.+add_answers.Goals.{then-branch+in_ok-push, else-branch}
 
 pub returns-then-len : goal.returns-then-len
 returns-then-len t c =
     let u = c.args.universe.now in
-    let test = is_answer u c.args.question.now in
-    let matched = ap (λ s. all_hold s c.args.question.now) (sym c.in_ok-set.ensures) ∙ sym c.in_ok-matches.ensures in
-    let before = c.args.found.now.items in
-    elim c.if-branch.branch [
-      | then-branch+in_ok-push w ↦
-          ap (λ v. v.items) w.found-is ∙ w.in_ok-push.ensures.items ∙ ap (λ xs. before ++ xs) (sym (found_here u test c.args.prefix (omega arith) (matched ∙ w.if-branch.true)))
-      | else-branch w ↦
-          ap (λ v. v.items) w.found-is ∙ sym (append-nil before) ∙ ap (λ xs. before ++ xs) (sym (none_here u test c.args.prefix (omega arith) (matched ∙ w.if-branch.false)))
-    ]
+    on_ok_weaker c.add_answer.result (found_here u (is_answer u c.args.question.now) c.args.prefix c.args.found.now.items c.add_answer.new.found.items (omega arith)) c.add_answer.ensures
 
 pub size-position-end-requires : goal.size-position-end-requires
 size-position-end-requires t c = omega (arith, prefix_fits c.args.universe.now c.args.prefix c.requires)
 
-pub push-requires-in-loop-position : goal.push-requires-in-loop-position
-push-requires-in-loop-position t c = omega (arith, prefix_fits c.args.universe.now c.args.prefix c.requires)
+pub push-requires : goal.push-requires
+push-requires t c = omega (arith, prefix_fits c.args.universe.now c.args.prefix c.requires)
 
 pub add_answers-requires : goal.add_answers-requires
 add_answers-requires t c =
@@ -35,24 +23,19 @@ add_answers-requires t c =
     let fits = prefix_fits u c.args.prefix c.requires in
     let size = sym (ap (slice_get (sizes u)) c.len-3.ensures.len) ∙ c.size-position-end.ensures.size in
     let longer = longer_admitted u c.args.prefix c.loop-position.position c.size-position-end.result c.requires (omega arith) size c.loop-position-test.true in
-    (omega (arith, ap length c.push-in-loop-position.ensures, length-append c.args.prefix (c.loop-position.position ∷ [])), rw c.push-in-loop-position.ensures longer)
+    (omega (arith, ap length c.push.ensures, length-append c.args.prefix (c.loop-position.position ∷ [])), rw c.push.ensures longer)
 
 pub loop-position-preserved : goal.loop-position-preserved
 loop-position-preserved t c =
     let u = c.args.universe.now in
-    let test = is_answer u c.args.question.now in
-    let now = c.loop-position.found.items in
-    found_more (λ p. completions (sizes u) (c.args.prefix ++ p ∷ [])) test c.args.found.now.items now c.add_answers.new.found.items c.loop-position.position
-      c.loop-position.invariant
-      (c.in_ok-add_answers.ensures ∙ ap (λ d. now ++ filter test (completions (sizes u) d)) c.push-in-loop-position.ensures)
+    found_more (sizes u) c.args.prefix c.push.new.self (is_answer u c.args.question.now)
+    c.args.found.now.items c.loop-position.found.items c.add_answers.new.found.items c.loop-position.position
+    c.loop-position.invariant c.push.ensures c.in_ok-add_answers.ensures
 
 pub returns : goal.returns
 returns t c =
     let u = c.args.universe.now in
-    let test = is_answer u c.args.question.now in
     let fits = prefix_fits u c.args.prefix c.requires in
     let size = sym (ap (slice_get (sizes u)) c.len-3.ensures.len) ∙ c.size-position-end.ensures.size in
-    let end : c.loop-position.position ≡ c.size-position-end.result = omega arith in
-    c.loop-position.invariant
-    ∙ ap (λ n. c.args.found.now.items ++ filter test (flat_map (λ p. completions (sizes u) (c.args.prefix ++ p ∷ [])) (counted_from 0 n))) end
-    ∙ ap (λ xs. c.args.found.now.items ++ filter test xs) (found_all u c.args.prefix c.size-position-end.result (omega arith) size)
+    found_all u c.args.prefix (is_answer u c.args.question.now) c.args.found.now.items c.loop-position.found.items c.loop-position.position c.size-position-end.result
+    c.loop-position.invariant (omega arith) size (omega arith)

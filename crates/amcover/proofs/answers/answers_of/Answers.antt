@@ -1,0 +1,10 @@
+use Rattle.am_labels.specs.Universe.{sizes}
+use Rattle.amcover.specs.Question.{is_answer}
+use Rattle.amcover.proofs.Found.{found_are_whole}
+use Rattle.amcover.proofs.answers.answers_of.Goals as goal
+
+pub returns-clause-whole : goal.returns-clause-whole
+returns-clause-whole c =
+    let u = c.args.universe.now in
+    found_are_whole (sizes u) (is_answer u c.args.question.now) c.new-found.result.items c.add_answers.new.found.items c.empty.result
+    c.new-found.ensures.items c.empty.ensures c.in_ok-add_answers.ensures

@@ -1,0 +1,88 @@
+use clap::error::ErrorKind;
+use clap::{Arg, ArgMatches, Command, Error};
+use std::alloc::{AllocError, Global};
+
+/// What a command line asks for.
+pub enum Request<'a> {
+    /// The label sets of a universe that satisfy a question.
+    Ask {
+        universe: &'a str,
+        question: &'a str,
+    },
+}
+
+const ABOUT: &str = "Which label sets would a Prometheus Alertmanager configuration match?";
+
+const ASK_ABOUT: &str = "Write every label set of a universe that satisfies a question";
+
+const ASK_HELP: &str = "\
+The universe is a JSON file that declares labels and the values each may have; null
+stands for a label that is missing:
+
+  {\"labels\": [
+    {\"name\": \"team\", \"values\": [\"db\", \"web\", null]},
+    {\"name\": \"severity\", \"values\": [\"critical\", \"warning\"]}
+  ]}
+
+The question is a list of matchers in braces, each a label, = or !=, and a value in
+double quotes, without spaces. A missing label counts as the empty value.
+
+Example:
+
+  amcover ask --universe u.json '{team=\"db\"}'
+
+writes one line for each label set that matches, in declared order, and then `# end`:
+
+  {team=\"db\",severity=\"critical\"}
+  {team=\"db\",severity=\"warning\"}
+  # end
+
+Exit status: 0 done, 1 refused input, 2 usage, 3 out of memory, 4 the output failed.";
+
+/// Reads a command line, its first word the program's name. An `Err` has the text to show: of a usage
+/// fault, of help or of the version.
+pub fn read_words<'a>(alloc: Global, words: &'a [String]) -> Result<Request<'a>, Error> {
+    let mut command = command(alloc)?;
+    let matches = command.try_get_matches_from_mut(words)?;
+    if let Some((_, matches)) = matches.subcommand()
+        && let Some(request) = ask_request(matches)
+    {
+        return Ok(request);
+    }
+    Err(command.error(ErrorKind::MissingSubcommand, "a command is missing")?)
+}
+
+fn ask_request<'a>(matches: &ArgMatches<'a>) -> Option<Request<'a>> {
+    let universe = matches.get_str("universe")?;
+    let question = matches.get_str("question")?;
+    Some(Request::Ask { universe, question })
+}
+
+fn command<'a>(alloc: Global) -> Result<Command<'a>, AllocError> {
+    Command::new(alloc, "amcover")
+        .bin_name("amcover")?
+        .version("0.1.0")
+        .about(ABOUT)
+        .after_help("Try `amcover ask --help` for an example.")
+        .arg_required_else_help(true)
+        .subcommand_required(true)
+        .disable_help_subcommand(true)
+        .subcommand(ask_command(alloc)?)
+}
+
+fn ask_command<'a>(alloc: Global) -> Result<Command<'a>, AllocError> {
+    let universe = Arg::new(alloc, "universe")
+        .long("universe")
+        .value_name("FILE")
+        .required(true)
+        .help("The universe, a JSON file");
+    let question = Arg::new(alloc, "question")
+        .value_name("QUESTION")
+        .required(true)
+        .help("The question, as {team=\"db\"}");
+    Command::new(alloc, "ask")
+        .about(ASK_ABOUT)
+        .after_help(ASK_HELP)
+        .arg(universe)?
+        .arg(question)
+}
