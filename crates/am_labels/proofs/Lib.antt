@@ -22,3 +22,4 @@ pub mod MatcherTextLists
 pub mod MatcherTextBodies
 pub mod MatcherTextWhole
 pub mod MatcherLists
+pub mod Rows
