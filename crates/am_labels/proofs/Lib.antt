@@ -23,3 +23,4 @@ pub mod MatcherTextBodies
 pub mod MatcherTextWhole
 pub mod MatcherLists
 pub mod Rows
+pub mod MapTexts
