@@ -24,3 +24,5 @@ pub mod MatcherTextWhole
 pub mod MatcherLists
 pub mod Rows
 pub mod MapTexts
+pub mod Lines
+pub mod RowLaws

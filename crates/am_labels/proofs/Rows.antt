@@ -12,7 +12,7 @@ size_at [] i n e = cc
 size_at (l ∷ u) zero n e = cc
 size_at (l ∷ u) (suc i) n e = size_at u i n e
 
-value_in : (vs : Values) (j : ℕ) → j < length vs → option_and_then (λ v. v) (slice_get vs j) ≡ get_or vs j None
+pub value_in : (vs : Values) (j : ℕ) → j < length vs → option_and_then (λ v. v) (slice_get vs j) ≡ get_or vs j None
 value_in vs j h = ap (option_and_then (λ v. v)) (slice_get-get_or vs j None h)
 
 pub value_is : (u : List Label) (i j : ℕ) → j < length (values_at u i) → option_and_then (λ l. value_at l j) (slice_get u i) ≡ get_or (values_at u i) j None
