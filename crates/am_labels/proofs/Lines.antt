@@ -38,12 +38,12 @@ unquoted_one c t =
     elim (cases_Bool (c == 92)) [
       | inl is ↦ subst P (sym (eqb-true c 92 is)) refl
       | inr other ↦ elim (cases_Bool (c == 34)) [
-          | inl is ↦ subst P (sym (eqb-true c 34 is)) refl
-          | inr more ↦ elim (cases_Bool (c == 10)) [
-              | inl is ↦ subst P (sym (eqb-true c 10 is)) refl
-              | inr plain ↦ rw (other, more, plain) (rw (more, other) refl)
-            ]
+        | inl is ↦ subst P (sym (eqb-true c 34 is)) refl
+        | inr more ↦ elim (cases_Bool (c == 10)) [
+          | inl is ↦ subst P (sym (eqb-true c 10 is)) refl
+          | inr plain ↦ rw (other, more, plain) (rw (more, other) refl)
         ]
+      ]
     ]
 
 unquoted_all : (v t : List ℕ) → unquoted false (flat_map escaped v ++ 34 ∷ t) ≡ (v, t)
@@ -103,7 +103,7 @@ same_following [] (q ∷ qs) s t h k e = let first : ◌≡◌ {A = ℕ} 125 44 
 same_following (p ∷ ps) [] s t h k e = let first : ◌≡◌ {A = ℕ} 44 125 = ap (λ l. get_or l 0 0) e in absurd (omega arith)
 same_following (p ∷ ps) (q ∷ qs) s t h k e =
     let texts : pair_text p ++ (following ps ++ 125 ∷ s) ≡ pair_text q ++ (following qs ++ 125 ∷ t) =
-      sym (append_assoc (pair_text p) (following ps) (125 ∷ s)) ∙ ap (drop 1) e ∙ append_assoc (pair_text q) (following qs) (125 ∷ t) in
+    sym (append_assoc (pair_text p) (following ps) (125 ∷ s)) ∙ ap (drop 1) e ∙ append_assoc (pair_text q) (following qs) (125 ∷ t) in
     let both = sym (paired_all p.0 p.1 _ h.0) ∙ ap paired texts ∙ paired_all q.0 q.1 _ k.0 in
     let pair : p ≡ q = ap (λ x. x.0) both in
     let rest = same_following ps qs s t h.1 k.1 (ap (λ x. x.1) both) in
@@ -186,6 +186,6 @@ same_line u c d h whole also e =
     let ps : Pairs = pairs_of u c in
     let qs : Pairs = pairs_of u d in
     let texts : joined ps ++ 125 ∷ 10 ∷ [] ≡ joined qs ++ 125 ∷ 10 ∷ [] =
-      sym (append_assoc (joined ps) (125 ∷ []) (10 ∷ [])) ∙ ap (drop 1) e ∙ append_assoc (joined qs) (125 ∷ []) (10 ∷ []) in
+    sym (append_assoc (joined ps) (125 ∷ []) (10 ∷ [])) ∙ ap (drop 1) e ∙ append_assoc (joined qs) (125 ∷ []) (10 ∷ []) in
     same_choice u c d h.labels h.distinct whole.0 also.0 (whole.1 ∙ length-map u (λ l. length l.values)) (also.1 ∙ length-map u (λ l. length l.values))
     (same_joined ps qs (10 ∷ []) (10 ∷ []) (AreNamed-pairs_of u c h.labels) (AreNamed-pairs_of u d h.labels) texts)

@@ -46,7 +46,7 @@ declared u c m i h whole e =
     let size : slice_index (sizes u) i ≡ length l.values = get_or-map (λ l. length l.values) u i no_label 0 found.0 in
     let below : p < length l.values = omega (arith, admitted_at (sizes u) c i whole.0 long) in
     let value : value_of (label_set_of u c) m.name ≡ unwrap_or (get_or l.values p None) [] =
-      ap (value_of (label_set_of u c)) (sym named) ∙ value_of_declared u c i l p h label chosen ∙ ap (λ o. unwrap_or o []) (value_in l.values p below) in
+    ap (value_of (label_set_of u c)) (sym named) ∙ value_of_declared u c i l p h label chosen ∙ ap (λ o. unwrap_or o []) (value_in l.values p below) in
     let values : values_at u i ≡ l.values = ap (λ o. unwrap_or (option_map (λ l. l.values) o) []) label in
     ap (holds m.op m.value) value ∙ sym (ap (λ vs. get_or (map (holds_of m) vs) p false) values ∙ get_or-map (holds_of m) l.values p None false below)
 
