@@ -146,7 +146,7 @@ fn which_pattern_is_refused(rt: HostRuntime) {
         (r"a=~\1,c=~(", Kind::PatternProfile),
         ("a=~(,c=~d,", Kind::Pattern),
         ("a=~(,,", Kind::BadMatcher),
-        ("a=~(a{1000}){1000}", Kind::Pattern),
+        (r#"a=~"(a{1000}){1000}""#, Kind::Pattern),
     ] {
         assert_eq!(rt;
             parse_matchers(rt.alloc(), text).err(),
@@ -233,5 +233,29 @@ fn which_set_a_text_gives(rt: HostRuntime) -> Result<(), Fail> {
     ] {
         assert_eq!(rt; set_text(rt.alloc(), text).err(), Some(kind), "{text}");
     }
+    Ok(())
+}
+
+#[test]
+fn which_sets_a_list_matches(rt: HostRuntime) -> Result<(), Fail> {
+    let alloc = rt.alloc();
+    for (matchers, set, want) in [
+        ("", "", true),
+        ("team!=web", "team=db,severity=warning", true),
+        ("team=db,severity=critical", "team=db", false),
+        ("severity=~crit", "severity=critical", false),
+        ("severity=~crit.*", "severity=critical", true),
+        ("severity!~crit.*", "severity=critical", false),
+        ("x!~a", "", true),
+        ("x=~a|", "", true),
+        ("x!=a", "", true),
+        (r#"x=~"a)|(?:b""#, "x=ac", true),
+    ] {
+        let matched = parse_matchers(alloc, matchers)?.matches(alloc, &parse_set(alloc, set)?)?;
+        assert_eq!(rt; matched, want, "{matchers} of {set}");
+    }
+    let pattern = String::from_str(alloc, "(")?;
+    let unnamed = Matcher::new(alloc, String::new(alloc), Op::Matches, pattern);
+    assert_eq!(rt; unnamed.err(), Some(Kind::Empty));
     Ok(())
 }
