@@ -23,3 +23,7 @@ pub mod MatcherTextBodies
 pub mod MatcherTextWhole
 pub mod BraceTokens
 pub mod MatcherLists
+pub mod Rows
+pub mod MapTexts
+pub mod Lines
+pub mod RowLaws

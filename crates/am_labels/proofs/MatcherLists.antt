@@ -25,13 +25,13 @@ refused_at before x after list kind e named sound refused =
     elim refused [
       | inl unnamed ↦ absurd (all_at (λ (s : Spelled). string_bytes s.name ≢ []) before x after (subst (All (λ (s : Spelled). string_bytes s.name ≢ [])) (sym e) named) unnamed.0)
       | inr value ↦ record {
-          before = conditions_of before;
-          refused = condition_of x;
-          after = conditions_of after;
-          parts = sym (ap conditions_of e) ∙ map-append condition_of before (x ∷ after);
-          earlier = sound;
-          value = value.1;
-        }
+        before = conditions_of before;
+        refused = condition_of x;
+        after = conditions_of after;
+        parts = sym (ap conditions_of e) ∙ map-append condition_of before (x ∷ after);
+        earlier = sound;
+        value = value.1;
+      }
     ]
 
 -- a text that spells a list is refused where the list is, unless that is too long

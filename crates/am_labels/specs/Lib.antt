@@ -11,6 +11,8 @@ pub mod Matcher
 pub mod MatcherText
 pub mod MatcherReading
 pub mod MatcherRefusals
+pub mod SetReading
+pub mod Row
 pub mod Sink
 pub mod SetText
 pub mod UniverseView

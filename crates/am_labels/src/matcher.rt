@@ -85,14 +85,57 @@ impl Matcher {
         self.value.as_str()
     }
 
+    /// What decides this matcher on one text after another.
+    pub(crate) fn test(&self, alloc: Global) -> Result<Test<'_>, AllocError>
+        ensures { IfOk result (λ test. test ≡ self.now) }
+    {
+        let search = match &self.pattern {
+            Some(pattern) => Some(pattern.matcher(alloc)?),
+            None => None,
+        };
+        Ok(Test {
+            matcher: self,
+            search,
+        })
+    }
+
     /// Whether the operator and the value are true of a text.
     pub(crate) fn holds(&self, alloc: Global, text: &str) -> Result<bool, AllocError>
         ensures { IfOk result (λ truth. truth ≡ holds self.now.op self.now.value text.now) }
     {
-        let found = match &self.pattern {
-            Some(pattern) => pattern.matches(alloc, text)?,
-            None => text == self.value(),
+        let mut test = self.test(alloc)?;
+        Ok(test.holds(text))
+    }
+}
+
+/// Decides a matcher. It takes memory when it is made, and none for a text.
+#[derive(Drop)]
+pub(crate) struct Test<'m> {
+    matcher: &'m Matcher,
+    search: Option<PatternMatcher<'m>>,
+}
+
+impl<'m> Model for Test<'m> {
+    ghost use Rattle.std.specs.Prelude.{◌≡◌, Some, None, if◌then◌else◌};
+    ghost use Rattle.am_labels.specs.Matcher.{Condition, takes_pattern};
+
+    ghost Value = { Condition };
+
+    ghost view = { λ t. t.matcher.now };
+
+    ghost invariant = { λ t. t.search ≡ (if takes_pattern t.matcher.now.op then Some t.matcher.now.value else None) };
+}
+
+impl<'m> Test<'m> {
+    /// Whether the operator and the value are true of a text.
+    pub(crate) fn holds(&mut self, text: &str) -> bool
+        ensures truth { result ≡ holds self.old.op self.old.value text.now }
+        ensures same { self.new ≡ self.old }
+    {
+        let found = match &mut self.search {
+            Some(search) => search.is_match(text),
+            None => text == self.matcher.value(),
         };
-        Ok(found != self.op.negates())
+        found != self.matcher.op().negates()
     }
 }

@@ -246,6 +246,3 @@ fn text_from(bytes: Vec<u8>) -> Result<String, Kind>
         Err(_) => Err(Kind::BadMatcher),
     }
 }
-
-#[cfg(test)]
-mod tests;

@@ -94,6 +94,13 @@ impl Matchers {
         &self.matchers[i]
     }
 
+    /// The matchers in a row.
+    pub(crate) fn as_slice(&self) -> &[Matcher]
+        ensures { result.now ≡ self.now }
+    {
+        self.matchers.as_slice()
+    }
+
     /// Whether every matcher matches the label set. A label that is missing has the empty text.
     pub fn matches(&self, alloc: Global, set: &LabelSet) -> Result<bool, AllocError>
         ensures { IfOk result (λ matched. matched ≡ all_hold set.now self.now) }

@@ -1,5 +1,6 @@
 ghost use Rattle.std.specs.Prelude.{◌≡◌};
 ghost use Rattle.am_labels.specs.Matcher.{takes_pattern, negates};
+ghost use Rattle.am_labels.specs.SetReading.{is_equality};
 
 /// The operator of a matcher.
 #[derive(Clone, Copy, Debug, PartialEq, Eq)]
@@ -20,6 +21,13 @@ impl Op {
         ensures { result ≡ takes_pattern self }
     {
         matches!(self, Op::Matches | Op::NotMatches)
+    }
+
+    /// Whether the operator is `=`.
+    pub(crate) fn is_equality(self) -> bool
+        ensures { result ≡ is_equality self }
+    {
+        matches!(self, Op::Equal)
     }
 
     /// Whether the operator asks for the contrary of what its value says.

@@ -58,14 +58,6 @@ impl Pattern {
             matcher: self.regex.matcher(alloc)?,
         })
     }
-
-    /// Whether the pattern matches the whole text.
-    pub(crate) fn matches(&self, alloc: Global, text: &str) -> Result<bool, AllocError>
-        ensures { IfOk result (λ matched. matched ≡ finds self.now text.now) }
-    {
-        let mut matcher = self.matcher(alloc)?;
-        Ok(matcher.is_match(text))
-    }
 }
 
 /// Searches for a pattern. It takes memory when it is made, and none for a text.
@@ -212,7 +204,9 @@ mod tests {
     }
 
     fn matches(alloc: Global, pattern: &str, text: &str) -> Result<bool, Fail> {
-        Ok(Pattern::new(alloc, pattern)?.matches(alloc, text)?)
+        let pattern = Pattern::new(alloc, pattern)?;
+        let mut matcher = pattern.matcher(alloc)?;
+        Ok(matcher.is_match(text))
     }
 
     #[test]
