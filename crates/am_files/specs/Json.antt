@@ -13,10 +13,11 @@ use Rattle.am_labels.specs.Text.{same_text}
 abbrev pub json_of : List ℕ → Option Data
 json_of bytes = if is_utf8 bytes then read bytes else None
 
+-- the value is `null`
 abbrev pub is_null : Data → Bool
 is_null d = is_some (as_null d)
 
--- A field that is `null` is absent.
+-- A field that is `null` is absent. (This project's choice.)
 abbrev pub unless_null : Data → Option Data
 unless_null d = if is_null d then None else Some d
 
@@ -28,6 +29,7 @@ field key d = option_and_then unless_null (get key d)
 abbrev pub is_one_of : List ℕ → List (List ℕ) → Bool
 is_one_of key names = list_any (λ name. same_text name key) names
 
+-- a member that is none of the known fields; one that is `null` is absent, and so is not unknown
 abbrev pub is_unknown : List (List ℕ) → List ℕ → Data → Bool
 is_unknown known key d = not (is_null d) && not (is_one_of key known)
 
@@ -41,6 +43,7 @@ abbrev pub unknown_field : List (List ℕ) → Members → Option (List ℕ)
 unknown_field known no_members = None
 unknown_field known (member key d rest) = if is_unknown known key d then Some (lesser key (unknown_field known rest)) else unknown_field known rest
 
+-- the items as a list
 abbrev pub listed : Items → List Data
 listed no_items = []
 listed (item d ds) = d ∷ listed ds

@@ -1,4 +1,4 @@
--- Reading a JSON value field by field, with the first fault that is met.
+-- Reading a JSON value field by field, with the first fault that is met. (This project's own.)
 use Rattle.std.specs.Prelude.{◌≡◌, ◌≢◌, ℕ, List, [], ◌∷◌, ◌++◌, length, nat_lt, if◌then◌else◌, Option, Some, None, ok_or, Result, Ok, Err, IsErrAnd, string_bytes, ⊤}
 use Rattle.serde_json.specs.Data.{Data, Members}
 use Rattle.serde_json.specs.Find.{as_object, as_str}
@@ -12,6 +12,7 @@ use Rattle.am_files.specs.declared.refusal.ReadError.TheVariants as errors
 use Rattle.am_files.specs.Json.{json_of, field, unknown_field, items_of}
 use Rattle.am_files.specs.Pointer.{Refusal, here, behind, under, to_field, to_item}
 
+-- one reading, and then another of what it gave; the first refusal counts
 infixl 10 ◌>>=◌
 abbrev pub ◌>>=◌ : {A B : Type 0} → Result A Refusal → (A → Result B Refusal) → Result B Refusal
 (Ok x) >>= f = f x
@@ -62,17 +63,21 @@ at_most limit count = if nat_lt limit count then Err (here kinds.Limit) else Ok 
 
 -- ---- The kinds of values.
 
+-- the members of an object
 abbrev pub object_in : Data → Result Members Refusal
 object_in d = ok_or (as_object d) (here kinds.Shape)
 
+-- the text that the value is
 abbrev pub text_in : Data → Result (List ℕ) Refusal
 text_in d = ok_or (as_str d) (here kinds.Shape)
 
+-- the items of an array
 abbrev pub items_in : Data → Result (List Data) Refusal
 items_in d = ok_or (items_of d) (here kinds.Shape)
 
 -- ---- The fields of an object.
 
+-- refused at this field, where there is one
 abbrev pub refuse_field : Option (List ℕ) → Result ⊤ Refusal
 refuse_field None = Ok tt
 refuse_field (Some key) = Err (behind (to_field key) (here kinds.UnknownField))
@@ -87,11 +92,13 @@ only_fields known d = do
 abbrev pub required : List ℕ → Data → Result Data Refusal
 required key d = ok_or (field key d) (behind (to_field key) (here kinds.Shape))
 
+-- the text in a field that has to be there
 unfoldable pub required_text : List ℕ → Data → Result (List ℕ) Refusal
 required_text key d = do
   value ← required key d
   under (to_field key) (text_in value)
 
+-- the items of the array in a field that has to be there
 unfoldable pub required_items : List ℕ → Data → Result (List Data) Refusal
 required_items key d = do
   value ← required key d
@@ -108,6 +115,7 @@ each read before (d ∷ ds) = do
 
 -- ---- A file.
 
+-- the most bytes of a file
 abbrev pub max_bytes : ℕ
 max_bytes = 16777216
 

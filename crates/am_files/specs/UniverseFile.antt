@@ -8,10 +8,11 @@ use Rattle.am_files.specs.Json.{json_of, is_null, field, items_of, HasOnly, Each
 use Rattle.am_files.specs.Pointer.{Refusal, to_field, under}
 use Rattle.am_files.specs.Reading.{◌>>=◌, unless, at_most, each, text_in, only_fields, required_text, required_items, max_bytes, json_in}
 
--- the fields of the file, and those of a label
+-- the fields of the file
 abbrev pub file_fields : List (List ℕ)
 file_fields = codes "labels" ∷ []
 
+-- those of a label
 abbrev pub label_fields : List (List ℕ)
 label_fields = codes "name" ∷ codes "values" ∷ []
 
@@ -44,6 +45,7 @@ FileSaysUniverse bytes u = (length bytes ≤ max_bytes) × (d : Data) × (json_o
 
 -- ---- Reading it, with the first fault that is met.
 
+-- a value of a label: a text, or `null`
 abbrev pub value_in : Data → Result (Option (List ℕ)) Refusal
 value_in d = if is_null d then Ok None else text_in d >>= λ text. Ok (Some text)
 
@@ -54,6 +56,7 @@ value_behind before d = do
   _ ← unless (value_fault before value)
   Ok value
 
+-- the values of a label
 unfoldable pub values_in : List Data → Result Values Refusal
 values_in items = do
   _ ← unless (count_fault (length items))
@@ -69,6 +72,7 @@ label_behind u d = do
   values ← under (to_field (codes "values")) (values_in items)
   Ok (record { name = name; values = values })
 
+-- the labels of the file
 unfoldable pub labels_in : List Data → Result (List Label) Refusal
 labels_in items = do
   _ ← at_most max_labels (length items)
@@ -87,9 +91,10 @@ universe_file bytes = do
   d ← json_in bytes
   universe_in d
 
--- the first fault of a value, and of a file, that says no universe
+-- the first fault of a value that says no universe
 abbrev pub fault_of_universe : Data → Option Refusal
 fault_of_universe d = result_err (universe_in d)
 
+-- the same of a file
 abbrev pub fault_of_universe_file : List ℕ → Option Refusal
 fault_of_universe_file bytes = result_err (universe_file bytes)

@@ -1,8 +1,9 @@
--- The refusals: a number and a text for each.
+-- The refusals: a number and a text for each. (This project's own.)
 use Rattle.std.specs.Prelude.{ℕ, List, codes}
 use Rattle.am_labels.specs.declared.kind.Kind.{Kind}
 use Rattle.am_labels.specs.declared.kind.Kind.TheVariants.{NotJson, Shape, UnknownField, BadMatcher, PatternProfile, Pattern, Duplicate, Empty, UndefinedReceiver, RootMatchers, BadTime, Limit, QuestionSyntax, UnknownReceiver, UnknownRoute, BadToken, NeedAt, Write, Memory, Read}
 
+-- the number of a kind, 1 to 20
 abbrev pub number_of : Kind → ℕ
 number_of NotJson = 1
 number_of Shape = 2
@@ -25,6 +26,7 @@ number_of Write = 18
 number_of Memory = 19
 number_of Read = 20
 
+-- the word for a kind that the program prints
 abbrev pub text_of : Kind → List ℕ
 text_of NotJson = codes "not-json"
 text_of Shape = codes "shape"

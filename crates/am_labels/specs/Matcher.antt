@@ -13,6 +13,7 @@ pub record Condition : Type 0 where
   pub op : Op
   pub value : List ℕ
 
+-- the most matchers of a list (this project's choice)
 abbrev pub max_matchers : ℕ
 max_matchers = 64
 

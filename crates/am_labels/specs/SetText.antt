@@ -1,5 +1,5 @@
 -- How a label set is written: `{`, then `name="value"` for each label that has a value, joined by `,` in declared order, then `}`.
--- (The notation of Prometheus for label sets.)
+-- (This project's choice, after "Notation" in the Prometheus data model, without the metric name and without spaces.)
 use Rattle.std.specs.Prelude.{ℕ, List, ◌++◌, map, codes}
 use Rattle.std.specs.List.{join_with_byte}
 use Rattle.std.specs.FinMap.{entries}
@@ -7,9 +7,11 @@ use Rattle.am_labels.specs.Text.{quoted}
 use Rattle.am_labels.specs.Universe.{Label}
 use Rattle.am_labels.specs.LabelSet.{LabelMap, pairs_of}
 
+-- a label with its value, as `name="value"`
 abbrev pub pair_text : List ℕ × List ℕ → List ℕ
 pair_text pair = pair.0 ++ (codes "=" ++ quoted pair.1)
 
+-- labels with their values, in braces
 abbrev pub pairs_text : List (List ℕ × List ℕ) → List ℕ
 pairs_text pairs = codes "{" ++ (join_with_byte 44 (map pair_text pairs) ++ codes "}")
 

@@ -8,7 +8,7 @@ abbrev pub same_text : List ℕ → List ℕ → Bool
 same_text = pointwise nat_eq
 
 -- A byte of a quoted text: `\` is written `\\`, `"` is written `\"`, a line feed is written `\n`, and any
--- other byte stands for itself. (This project's choice: what amtool prints for a label value, kept to one line.)
+-- other byte stands for itself. (This project's choice: the escapes of a label value in the Prometheus text exposition format.)
 abbrev pub escaped : ℕ → List ℕ
 escaped c = if c == 92 then codes "\\\\" else if c == 34 then codes "\\\"" else if c == 10 then codes "\\n" else c ∷ []
 

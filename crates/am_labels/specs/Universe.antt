@@ -18,15 +18,19 @@ pub record Label : Type 0 where
   pub name : List ℕ
   pub values : Values
 
+-- the most labels of a universe
 abbrev pub max_labels : ℕ
 max_labels = 64
 
+-- the most values of a label
 abbrev pub max_values : ℕ
 max_values = 128
 
+-- `[a-zA-Z]`
 abbrev pub is_letter : ℕ → Bool
 is_letter c = nat_le 65 c && nat_le c 90 || nat_le 97 c && nat_le c 122
 
+-- `[0-9]`
 abbrev pub is_digit : ℕ → Bool
 is_digit c = nat_le 48 c && nat_le c 57
 
@@ -50,11 +54,13 @@ same_value None (Some t) = false
 same_value (Some s) None = false
 same_value (Some s) (Some t) = same_text s t
 
+-- the value is a text, the empty one
 abbrev pub is_empty_text : Option (List ℕ) → Bool
 is_empty_text None = false
 is_empty_text (Some []) = true
 is_empty_text (Some (c ∷ cs)) = false
 
+-- the names of the labels, in declared order
 abbrev pub names : List Label → List (List ℕ)
 names u = map (λ l. l.name) u
 
@@ -83,6 +89,7 @@ abbrev pub first_fault : {A : Type 0} → Option A → Option A → Option A
 first_fault None later = later
 first_fault (Some fault) later = Some fault
 
+-- a kind of fault, where there is one, at a part of a label
 abbrev pub fault_at : LabelPart → Option Kind → Option LabelFault
 fault_at part found = option_map (λ kind. record { kind = kind; part = part }) found
 

@@ -8,5 +8,6 @@ use Rattle.am_labels.specs.Universe.{Values, Label}
 abbrev pub texts_of : List (Option (String Global)) → Values
 texts_of values = map (option_map string_bytes) values
 
+-- a label, from its name and its values
 abbrev pub label_of : String Global → Vec (Option (String Global)) → Label
 label_of name values = record { name = string_bytes name; values = texts_of values.items }

@@ -4,7 +4,7 @@ ghost use Rattle.am_labels.specs.declared.kind.Kind.TheVariants.{Memory};
 
 use std::alloc::{AllocError, AllocFailed};
 
-/// Why something was refused. Each kind has a number, for scripts, and a text, which the program prints.
+/// Why something was refused. Each kind has a number, and a text, which the program prints.
 #[derive(Clone, Copy, Debug, PartialEq, Eq)]
 pub enum Kind {
     /// The bytes have no reading as JSON (RFC 8259), or are not UTF-8, or nest too deep.

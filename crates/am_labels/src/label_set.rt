@@ -41,7 +41,8 @@ impl LabelSet {
         }
     }
 
-    /// Gives the label this value. The empty value takes the label out. After an `Err` nothing has changed.
+    /// Gives the label this value. The empty value takes the label out. An `Err` comes only where memory was refused; then
+    /// nothing has changed.
     pub fn put(&mut self, name: String, value: String) -> Result<(), AllocError>
         ensures ok { OnOk result (self.new ≡ with_value self.old (string_bytes name) (string_bytes value)) }
         ensures err { OnErr result (self.new ≡ self.old) }
@@ -87,7 +88,7 @@ impl LabelSet {
     }
 }
 
-/// The label set of a whole choice: each label whose value is a text.
+/// The label set of a whole choice: each label whose value is a text. An `Err` comes only where memory was refused.
 pub fn set_of(alloc: Global, universe: &Universe, choice: &Choice) -> Result<LabelSet, AllocError>
     requires { IsWhole (sizes universe.now) choice.now }
     ensures { IfOk result (λ set. set ≡ label_set_of universe.now choice.now) }

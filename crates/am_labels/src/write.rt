@@ -21,7 +21,7 @@ pub fn put_all<W: Sink>(out: &mut W, bytes: &[u8]) -> Result<(), Kind>
     Ok(())
 }
 
-/// Writes a text as it stands.
+/// Writes a text as it stands. The only `Err` is `Kind::Write`, as `put_all` has it.
 pub fn put_str<W: Sink>(out: &mut W, text: &str) -> Result<(), Kind>
     ensures { Writes W.taken W.failures out.old out.new text.now result }
 {
@@ -41,7 +41,8 @@ fn escape_of(byte: u8) -> Option<&'static [u8]>
     }
 }
 
-/// Writes a text between quotes, with `\` as `\\`, `"` as `\"` and a line feed as `\n`.
+/// Writes a text between quotes, with `\` as `\\`, `"` as `\"` and a line feed as `\n`. The only `Err` is `Kind::Write`,
+/// after a part of that from its front.
 pub fn write_text<W: Sink>(text: &str, out: &mut W) -> Result<(), Kind>
     ensures { Writes W.taken W.failures out.old out.new (quoted text.now) result }
 {
@@ -65,7 +66,8 @@ fn write_escaped<W: Sink>(out: &mut W, bytes: &[u8]) -> Result<(), Kind>
     put_all(out, &bytes[start..])
 }
 
-/// Writes the set of a whole choice, as `{team="db",severity="critical"}`: the labels that have a text, in declared order.
+/// Writes the set of a whole choice, as `{team="db",severity="critical"}`: the labels that have a text, in declared order. The
+/// only `Err` is `Kind::Write`, after a part of that from its front. No memory is taken.
 pub fn write_set<W: Sink>(universe: &Universe, choice: &Choice, out: &mut W) -> Result<(), Kind>
     requires { IsWhole (sizes universe.now) choice.now }
     ensures { Writes W.taken W.failures out.old out.new (set_text universe.now choice.now) result }

@@ -1,4 +1,4 @@
--- What `ask` writes.
+-- What `ask` writes. (This project's own.)
 use Rattle.std.specs.Prelude.{ℕ, List, ◌≡◌}
 use Rattle.am_labels.specs.Universe.{Label}
 use Rattle.am_labels.specs.Sink.{Wrote, WroteInPart}

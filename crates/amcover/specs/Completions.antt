@@ -2,7 +2,7 @@
 use Rattle.std.specs.Prelude.{ℕ, List, [], ◌∷◌, map}
 use Rattle.am_labels.specs.Choice.{choices}
 
--- the whole choices that begin with a prefix, in declared order
+-- the whole choices that begin with a prefix which the sizes admit, in declared order
 abbrev pub completions : List ℕ → List ℕ → List (List ℕ)
 completions sizes [] = choices sizes
 completions [] (p ∷ prefix) = []

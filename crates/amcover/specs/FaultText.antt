@@ -8,6 +8,7 @@ use Rattle.am_labels.specs.declared.place.Place.{Place}
 use Rattle.am_labels.specs.declared.place.Place.TheVariants as places
 use Rattle.am_labels.specs.Kind.{text_of}
 
+-- the word for a place
 abbrev pub place_text : Place → List ℕ
 place_text places.Universe = codes "universe"
 place_text places.Config = codes "config"
@@ -34,9 +35,11 @@ is_placeless kinds.Write = true
 is_placeless kinds.Memory = true
 is_placeless _ = false
 
+-- where a fault stands, as it is written
 abbrev pub where_part : Kind → Place → List ℕ → List ℕ
 where_part kind place pointer = if is_placeless kind then [] else place_text place ++ (codes ": " ++ pointer_part pointer)
 
+-- the line for a fault
 abbrev pub fault_text : Kind → Place → List ℕ → List ℕ
 fault_text kind place pointer = codes "amcover: " ++ (where_part kind place pointer ++ (text_of kind ++ codes "\n"))
 

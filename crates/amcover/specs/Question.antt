@@ -1,4 +1,4 @@
--- What a question says of a label set, and its answers.
+-- What a question says of a label set, and its answers. (This project's own, but for the matchers.)
 use Rattle.std.specs.Prelude.{ℕ, List, Bool}
 use Rattle.std.specs.List.{filter}
 use Rattle.am_labels.specs.Universe.{Label, sizes}

@@ -9,7 +9,8 @@ ghost use Rattle.amcover.specs.PageText.{page_text};
 use crate::trailer::{Trailer, write_trailer};
 use am_labels::{Choice, Kind, Sink, Universe, put_all, write_set};
 
-/// Writes a line for each choice, and then the trailer.
+/// Writes a line for each choice, and then the trailer. The only `Err` is `Kind::Write`, after a part of the page from its
+/// front.
 pub fn write_page<W: Sink>(
     universe: &Universe,
     choices: &[Choice],
