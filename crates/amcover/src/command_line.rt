@@ -13,6 +13,13 @@ pub enum Request<'a> {
 
 const ABOUT: &str = "Which label sets would a Prometheus Alertmanager configuration match?";
 
+const EXAMPLE: &str = "\
+Example:
+
+  amcover ask --universe u.json '{team=\"db\"}'
+
+`amcover ask --help` says what it reads and writes.";
+
 const ASK_ABOUT: &str = "Write every label set of a universe that satisfies a question";
 
 const ASK_HELP: &str = "\
@@ -63,7 +70,7 @@ fn command<'a>(alloc: Global) -> Result<Command<'a>, AllocError> {
         .bin_name("amcover")?
         .version("0.1.0")
         .about(ABOUT)
-        .after_help("Try `amcover ask --help` for an example.")
+        .after_help(EXAMPLE)
         .arg_required_else_help(true)
         .subcommand_required(true)
         .disable_help_subcommand(true)

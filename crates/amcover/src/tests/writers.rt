@@ -1,0 +1,150 @@
+//! Writers that stop.
+
+use super::fakes::{Fake, Stop};
+use super::fixtures::{DB, DB_PAGE, TEAMS, TWICE, line_of};
+use crate::ask::ask;
+use crate::fault_text::status;
+use crate::run::run;
+use am_labels::{Kind, Out, Place};
+use std::alloc::Global;
+use std::fs;
+use std::process::Abort;
+use std::rt::Files;
+use std::test::*;
+
+#[test]
+fn asking_over_whole_writers(rt: HostRuntime) {
+    for step in [usize::MAX, 5, 1] {
+        let fake = asked_whole(&rt, rt.alloc(), step);
+        assert_eq!(rt; fake.taken.as_slice(), DB_PAGE.as_bytes(), "{step}");
+    }
+}
+
+#[test]
+fn asking_with_room_for_five_bytes(rt: HostRuntime) {
+    let fake = asked_in_part(&rt, rt.alloc(), Fake::of_room(rt.alloc(), 5));
+    assert_eq!(rt; fake.taken.as_slice(), b"{team".as_slice());
+}
+
+#[test]
+fn asking_over_writers_that_stop(rt: HostRuntime) {
+    let alloc = rt.alloc();
+    let calls = asked_whole(&rt, alloc, usize::MAX).calls;
+    assert!(rt; 3 <= calls);
+    for before in 0..calls {
+        let call = before + 1;
+        let fake = asked_in_part(
+            &rt,
+            alloc,
+            Fake::stopped(alloc, usize::MAX, call, Stop::Fails),
+        );
+        assert_eq!(rt; fake.calls, call);
+        let stopped = Fake::stopped(alloc, usize::MAX, call, Stop::TakesNothing);
+        let fake = asked_in_part(&rt, alloc, stopped);
+        assert_eq!(rt; fake.calls, call);
+    }
+}
+
+/// A writer of this step after the question was asked over it.
+fn asked_whole(rt: &impl Abort, alloc: Global, step: usize) -> Fake {
+    let mut sink = Out::new(Fake::of_step(alloc, step));
+    let outcome = ask(alloc, TEAMS.as_bytes(), DB, &mut sink);
+    assert!(rt; outcome.is_ok(), "step {step}");
+    sink.into_inner()
+}
+
+/// The writer after the question was asked over it, which failed and wrote a part of the page.
+fn asked_in_part(rt: &impl Abort, alloc: Global, fake: Fake) -> Fake {
+    let mut sink = Out::new(fake);
+    match ask(alloc, TEAMS.as_bytes(), DB, &mut sink) {
+        Ok(_) => panic!(rt; "all was written"),
+        Err(fault) => {
+            assert_eq!(rt; fault.kind, Kind::Write);
+            assert_eq!(rt; fault.place, Place::Output);
+            assert_eq!(rt; status(&fault), 4);
+        }
+    }
+    let fake = sink.into_inner();
+    assert!(rt; fake.has_part_of(DB_PAGE));
+    fake
+}
+
+#[test]
+fn runs_over_writers_that_stop(rt: HostRuntime) -> Result<(), Fail> {
+    let alloc = rt.alloc();
+    let path = "amcover_test_runs_over_writers.json";
+    fs::write(&rt, path, TEAMS)?;
+    let words = line_of(alloc, &["ask", "--universe", path, DB])?;
+    let mut whole = Fake::of_step(alloc, 7);
+    let status = run_over(&rt, words.as_slice(), &mut whole, "");
+    assert_eq!(rt; status, 0);
+    assert_eq!(rt; whole.taken.as_slice(), DB_PAGE.as_bytes());
+    for before in 0..whole.calls {
+        let call = before + 1;
+        stopped_run(&rt, words.as_slice(), call, Stop::Fails);
+        stopped_run(&rt, words.as_slice(), call, Stop::TakesNothing);
+    }
+    let mut held = Fake::that_keeps_back(alloc);
+    let status = run_over(&rt, words.as_slice(), &mut held, "amcover: write\n");
+    assert_eq!(rt; status, 4);
+    fs::remove_file(&rt, path)?;
+    Ok(())
+}
+
+/// Runs over a writer that stops at this call: the run fails, a part of the page went out, and no call follows.
+fn stopped_run<R: Files + AllocGlobal + Abort>(rt: &R, words: &[String], call: usize, how: Stop) {
+    let mut fake = Fake::stopped(rt.alloc(), 7, call, how);
+    let status = run_over(rt, words, &mut fake, "amcover: write\n");
+    assert_eq!(rt; status, 4, "{call} {how:?}");
+    assert_eq!(rt; fake.calls, call, "{how:?}");
+    assert!(rt; fake.has_part_of(DB_PAGE), "{call} {how:?}");
+}
+
+/// The exit status of a run over a writer, which says this on standard error.
+fn run_over<R: Files + AllocGlobal + Abort>(
+    rt: &R,
+    words: &[String],
+    out: &mut Fake,
+    says: &str,
+) -> u8 {
+    let mut err = Vec::new(rt.alloc());
+    let status = run(rt, words, out, &mut err);
+    assert_eq!(rt; err.as_slice(), says.as_bytes());
+    status
+}
+
+#[test]
+fn help_over_a_writer_that_stops(rt: HostRuntime) -> Result<(), Fail> {
+    let alloc = rt.alloc();
+    let words = line_of(alloc, &["--help"])?;
+    for mut fake in [Fake::of_room(alloc, 5), Fake::that_keeps_back(alloc)] {
+        let status = run_over(&rt, words.as_slice(), &mut fake, "amcover: write\n");
+        assert_eq!(rt; status, 4);
+    }
+    Ok(())
+}
+
+#[test]
+fn runs_with_no_standard_error(rt: HostRuntime) -> Result<(), Fail> {
+    let alloc = rt.alloc();
+    let path = "amcover_test_no_standard_error.json";
+    fs::write(&rt, path, TWICE)?;
+    let lines: [(&[&str], u8); 4] = [
+        (&["ask", "--universe", path, DB], 1),
+        (
+            &["ask", "--universe", "amcover_test_no_such_file.json", DB],
+            1,
+        ),
+        (&["ask"], 2),
+        (&["--version"], 4),
+    ];
+    for (words, status) in lines {
+        let words = line_of(alloc, words)?;
+        let mut out = Fake::of_room(alloc, 0);
+        let mut err = Fake::of_room(alloc, 0);
+        assert_eq!(rt; run(&rt, words.as_slice(), &mut out, &mut err), status);
+        assert!(rt; err.calls > 0, "{status}");
+    }
+    fs::remove_file(&rt, path)?;
+    Ok(())
+}
