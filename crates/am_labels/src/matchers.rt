@@ -40,6 +40,7 @@ impl Matchers {
     pub fn push(&mut self, matcher: Matcher) -> Result<(), Kind>
         ensures ok { OnOk result (self.new ≡ self.old ++ matcher ∷ []) }
         ensures room { OnOk result (length self.old < max_matchers) }
+        ensures full { length self.old ≡ max_matchers → result ≡ Err kinds.Limit }
         ensures refused { IfErr result (λ kind. kind ≢ kinds.Memory → (kind ≡ kinds.Limit) × (length self.old ≡ max_matchers)) }
         ensures err { OnErr result (self.new ≡ self.old) }
     {
