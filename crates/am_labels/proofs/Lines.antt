@@ -1,5 +1,5 @@
 -- The text of a set tells its pairs, and they tell the choice.
-use Rattle.std.proofs.Common.{◌≡◌, ◌≢◌, ℕ, zero, suc, ◌<◌, Bool, true, false, cond, ◌==◌, nat_lt, List, [], ◌∷◌, ◌++◌, length, drop, get_or, Option, Some, None, ap, sym, ◌∙◌, refl, subst, inl, inr, arith, append_assoc, codes}
+use Rattle.std.proofs.Common.{◌≡◌, ◌≢◌, ℕ, zero, suc, ◌<◌, Bool, true, false, cond, ◌==◌, nat_lt, List, [], ◌∷◌, ◌++◌, length, drop, get_or, Option, Some, None, ap, sym, ◌∙◌, refl, subst, inl, inr, arith, append_assoc}
 use Rattle.std.specs.Ordering.{nat_cmp}
 use Rattle.std.specs.Cmp.Lexicographic.{slice_cmp}
 use Rattle.std.specs.List.{AllByRecursion, IsDistinct, list_all, flat_map}
@@ -12,7 +12,7 @@ use Rattle.am_labels.specs.Text.{escaped, quoted, same_text}
 use Rattle.am_labels.specs.Universe.{Label, Values, IsLabel, IsUniverse, names, sizes, starts_name, goes_on_name, is_label_name, same_value}
 use Rattle.am_labels.specs.Choice.{admits, IsWhole}
 use Rattle.am_labels.specs.LabelSet.{value_at, pair_before, pairs_of}
-use Rattle.am_labels.specs.SetText.{pair_text, pairs_text, line}
+use Rattle.am_labels.specs.SetText.{pair_text, line}
 use Rattle.am_labels.proofs.PairsOf.{none_of_others}
 use Rattle.am_labels.proofs.Values.{AreOthers-after, find_first, same_text-itself}
 use Rattle.am_labels.proofs.SetTexts.{Pairs, joined, joined-cons, following}

@@ -1,5 +1,5 @@
 -- Why a list of matchers, or its text, is refused.
-use Rattle.std.proofs.Common.{◌≡◌, ◌≢◌, refl, sym, ◌∙◌, ap, subst, inl, inr, ℕ, suc, List, [], ◌∷◌, ◌++◌, length, ◌≤◌, arith, IsTrue, Result, Ok, Err, IfErr}
+use Rattle.std.proofs.Common.{◌≡◌, ◌≢◌, sym, ◌∙◌, ap, subst, inl, inr, ℕ, suc, List, [], ◌∷◌, ◌++◌, length, ◌≤◌, arith, IsTrue, Result, Ok, Err, IfErr}
 use Rattle.std.specs.List.{All}
 use Rattle.std.specs.String.{string_bytes}
 use Rattle.std.proofs.lemmas.List.{map-append, length-map}

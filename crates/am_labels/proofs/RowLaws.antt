@@ -1,16 +1,16 @@
 -- What a row says of the label set of a choice.
-use Rattle.std.proofs.Common.{◌≡◌, ℕ, zero, suc, ◌+◌, ◌<◌, Bool, true, false, ◌&&◌, List, [], ◌∷◌, length, map, get_or, Option, Some, None, option_map, unwrap_or, slice_get, slice_index, Contains, ap, sym, ◌∙◌, refl, inl, inr, arith}
+use Rattle.std.proofs.Common.{◌≡◌, ℕ, zero, suc, ◌+◌, ◌<◌, Bool, false, ◌&&◌, List, [], ◌∷◌, length, map, get_or, Option, Some, None, option_map, unwrap_or, slice_get, slice_index, ap, sym, ◌∙◌, refl, inl, inr, arith}
 use Rattle.std.specs.Cmp.Lexicographic.{bytes_decides}
-use Rattle.std.specs.List.{position, position_from, list_all}
+use Rattle.std.specs.List.{position, position_from}
 use Rattle.std.proofs.lemmas.Bool.{cases_Bool, false≢true}
 use Rattle.std.proofs.lemmas.List.{length-map, get_or-map}
 use Rattle.std.proofs.lemmas.List.Quantifiers.{position-Some}
 use Rattle.std.proofs.lemmas.Iterator.Adapters.{position_from-zero}
 use Rattle.std.proofs.lemmas.Option.{slice_get-get_or}
 use Rattle.am_labels.specs.Text.{same_text}
-use Rattle.am_labels.specs.Universe.{Label, IsUniverse, names, sizes}
+use Rattle.am_labels.specs.Universe.{Label, IsUniverse, sizes}
 use Rattle.am_labels.specs.Choice.{IsWhole}
-use Rattle.am_labels.specs.LabelSet.{value_of, value_at, label_set_of}
+use Rattle.am_labels.specs.LabelSet.{value_of, label_set_of}
 use Rattle.am_labels.specs.Matcher.{Condition, holds, condition_holds, all_hold}
 use Rattle.am_labels.specs.Row.{holds_of, values_at, truths_of, label_position, truth_among, row_of, row_holds, rows_hold}
 use Rattle.am_labels.proofs.Rows.{value_in}

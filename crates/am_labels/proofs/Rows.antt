@@ -4,7 +4,7 @@ use Rattle.std.proofs.lemmas.List.{take_more, map-append}
 use Rattle.std.proofs.lemmas.Option.{slice_get-get_or}
 use Rattle.am_labels.specs.Universe.{Label, Values, sizes}
 use Rattle.am_labels.specs.LabelSet.{value_at}
-use Rattle.am_labels.specs.Matcher.{Condition, holds}
+use Rattle.am_labels.specs.Matcher.{Condition}
 use Rattle.am_labels.specs.Row.{holds_of, values_at}
 
 pub size_at : (u : List Label) (i n : ℕ) → slice_get (sizes u) i ≡ Some n → length (values_at u i) ≡ n

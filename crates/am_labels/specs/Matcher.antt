@@ -1,5 +1,5 @@
 -- Matchers and what they say of a label set. (Alertmanager configuration reference, "Label matchers".)
-use Rattle.std.specs.Prelude.{ℕ, List, Bool, true, false, not, if◌then◌else◌}
+use Rattle.std.specs.Prelude.{ℕ, List, Bool, true, false, not}
 use Rattle.std.specs.List.{list_all}
 use Rattle.am_labels.specs.declared.op.Op.{Op}
 use Rattle.am_labels.specs.declared.op.Op.TheVariants.{Equal, NotEqual, Matches, NotMatches}

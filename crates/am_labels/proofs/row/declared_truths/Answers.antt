@@ -1,4 +1,4 @@
-use Rattle.std.proofs.Common.{◌≡◌, ◌<◌, [], ◌∷◌, ◌++◌, length, get_or, None, take, map, ap, sym, ◌∙◌, option_map, unwrap_or, arith}
+use Rattle.std.proofs.Common.{◌≡◌, ◌<◌, [], ◌∷◌, ◌++◌, length, get_or, None, map, ap, ◌∙◌, unwrap_or, arith}
 use Rattle.std.proofs.lemmas.List.{take_all}
 use Rattle.am_labels.specs.Matcher.{holds}
 use Rattle.am_labels.specs.Row.{holds_of, values_at}

@@ -2,7 +2,6 @@
 use Rattle.std.proofs.Common.{◌≡◌, ◌∷◌, ◌++◌, [], ap, sym, ◌∙◌, append-nil}
 use Rattle.std.specs.FinMap.{entries}
 use Rattle.am_labels.specs.LabelSetView.{entry_texts}
-use Rattle.am_labels.specs.SetText.{pairs_text}
 use Rattle.am_labels.proofs.Writing.{◌⟩◌, fails, wrote_then, wrote_as, writes_as}
 use Rattle.am_labels.proofs.SetTexts.{joined, set_through, set_more, separator, separator_behind}
 use Rattle.am_labels.proofs.MapTexts.{entries_kept, entry_among, entry_behind, all_behind}
