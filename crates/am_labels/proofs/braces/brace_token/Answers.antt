@@ -1,4 +1,4 @@
-use Rattle.std.proofs.Common.{◌≡◌, ℕ, List, length, Some, sym, ap, ◌∙◌, subst}
+use Rattle.std.proofs.Common.{◌≡◌, length, Some, sym, ap, ◌∙◌, subst}
 use Rattle.std.proofs.lemmas.Str.Ascii.{trim_ascii_start_is, trim_ascii_end_is}
 use Rattle.am_labels.specs.MatcherReading.{trimmed_start, trimmed_end}
 use Rattle.am_labels.specs.BraceToken.{brace_len, IsBraceToken}

@@ -1,4 +1,4 @@
-use Rattle.std.proofs.Common.{◌≡◌, ℕ, ◌<◌, true, false, length, get_or, sym, below_more, arith, rules}
+use Rattle.std.proofs.Common.{◌≡◌, true, false, length, sym, below_more, arith}
 use Rattle.std.proofs.lemmas.Grind.{common_steps}
 use Rattle.am_labels.specs.BraceToken.{closes}
 use Rattle.am_labels.proofs.MatcherTextPlaces.{escaped_next, quoted_next}
@@ -16,11 +16,11 @@ loop-i-preserved c = record {
   escaped = rw (escaped_next c.args.text.now c.loop-i.i (omega arith)) (grind (arith, common_steps));
   quoted = rw (quoted_next c.args.text.now c.loop-i.i) (grind (arith, common_steps));
   none_before =
-    let whole : closes c.args.text.now c.loop-i.i ≡ false = elim c.else-byte-eq125.branch [
-      | else-byte-eq125-via-then-byte-eq125+else-not-quoted v ↦ grind (arith, common_steps)
-      | else-byte-eq125-via-else-byte-eq125 v ↦ grind (arith, common_steps)
-    ] in
-    below_more _ _ c.loop-i.invariant.none_before whole;
+      let whole : closes c.args.text.now c.loop-i.i ≡ false = elim c.else-byte-eq125.branch [
+        | else-byte-eq125-via-then-byte-eq125+else-not-quoted v ↦ grind (arith, common_steps)
+        | else-byte-eq125-via-else-byte-eq125 v ↦ grind (arith, common_steps)
+      ] in
+      below_more _ _ c.loop-i.invariant.none_before whole;
 }
 
 pub returns-clause-place : goal.returns-clause-place
