@@ -2,7 +2,7 @@
 use Rattle.std.proofs.Common.{◌≡◌, ◌≢◌, ℕ, List, [], ◌∷◌, ◌++◌, length, Option, Some, None, Result, Ok, Err, Bool, true, false, not, nat_lt, nat_eq, refl, sym, ap, subst, ◌∙◌}
 use Rattle.std.specs.Prelude.{⊤, ok_or, if◌then◌else◌, codes}
 use Rattle.std.specs.List.{list_any}
-use Rattle.serde_json.specs.Data.{Data, Members}
+use Rattle.serde_json.specs.Data.{Data}
 use Rattle.am_labels.specs.declared.kind.Kind.{Kind}
 use Rattle.am_labels.specs.declared.kind.Kind.TheVariants as kinds
 use Rattle.am_labels.specs.Text.{same_text}
@@ -11,8 +11,8 @@ use Rattle.am_labels.specs.declared.place.Place.{Place}
 use Rattle.am_labels.specs.declared.fault.Fault.{Fault}
 use Rattle.am_files.specs.declared.refusal.ReadError.{ReadError}
 use Rattle.am_files.specs.declared.refusal.ReadError.TheVariants as errors
-use Rattle.am_files.specs.Json.{field, unknown_field, is_null}
-use Rattle.am_files.specs.Pointer.{Refusal, here, behind, under, to_field, to_item}
+use Rattle.am_files.specs.Json.{unknown_field, is_null}
+use Rattle.am_files.specs.Pointer.{Refusal, here, under, to_field, to_item}
 use Rattle.am_files.specs.Reading.{◌>>=◌, Fails, IsFaultOf, unless, at_most, object_in, text_in, items_in, refuse_field, only_fields, required, required_text, required_items, each, json_in}
 use Rattle.am_files.specs.UniverseFile.{value_in, value_behind, values_in, label_behind, labels_in, universe_in, universe_file, label_fields, file_fields}
 

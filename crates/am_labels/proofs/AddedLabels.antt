@@ -1,5 +1,5 @@
 -- A label goes behind the labels of a universe exactly where `label_fault` finds nothing.
-use Rattle.std.proofs.Common.{◌≡◌, ◌↔◌, ℕ, ◌+◌, ◌<◌, ◌≤◌, ◌==◌, List, [], ◌∷◌, ◌++◌, length, map, Bool, true, false, ◌||◌, Option, Some, None, IfSome, refl, sym, ap, subst, ◌∙◌, append_assoc, length-append, append-nil, cond, not, nat_le, nat_lt, arith}
+use Rattle.std.proofs.Common.{◌≡◌, ◌↔◌, ℕ, ◌<◌, ◌≤◌, ◌==◌, List, [], ◌∷◌, ◌++◌, length, Bool, true, false, ◌||◌, Option, Some, None, IfSome, refl, sym, ap, subst, ◌∙◌, append_assoc, length-append, append-nil, cond, not, nat_le, nat_lt, arith}
 use borrow.Author.Tests.{eqb-false, ltb-false, leb-false, le-ltb, lt-leb}
 use Rattle.std.proofs.lemmas.List.{map-append}
 use Rattle.std.proofs.lemmas.Bool.Decides.{nat_tests}

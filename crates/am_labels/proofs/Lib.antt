@@ -11,3 +11,19 @@ pub mod AddedLabels
 pub mod Admitted
 pub mod Values
 pub mod SetTexts
+mod Patterns
+mod PatternPieces
+mod PatternWords
+pub mod MatcherTextPlaces
+pub mod MatcherTextUtf8
+pub mod MatcherTextSteps
+pub mod MatcherTextPieces
+pub mod MatcherTextLists
+pub mod MatcherTextBodies
+pub mod MatcherTextWhole
+pub mod BraceTokens
+pub mod MatcherLists
+pub mod Rows
+pub mod MapTexts
+pub mod Lines
+pub mod RowLaws

@@ -27,7 +27,7 @@ abbrev pub following : Pairs → List ℕ
 following [] = []
 following (p ∷ ps) = 44 ∷ (pair_text p ++ following ps)
 
-joined-cons : (p : List ℕ × List ℕ) (ps : Pairs) → joined (p ∷ ps) ≡ pair_text p ++ following ps
+pub joined-cons : (p : List ℕ × List ℕ) (ps : Pairs) → joined (p ∷ ps) ≡ pair_text p ++ following ps
 joined-cons p [] = sym (append-nil (pair_text p))
 joined-cons p (q ∷ ps) = ap (λ t. pair_text p ++ (44 ∷ t)) (joined-cons q ps)
 

@@ -1,6 +1,6 @@
 -- Universes: where a name stands, and what the faults of a label say.
 use Rattle.std.proofs.Common.{◌≡◌, ◌≢◌, ℕ, ◌+◌, ◌<◌, ◌≤◌, List, [], ◌∷◌, ◌++◌, length, map, take, drop, Bool, true, false, ◌==◌, ◌||◌, Option, Some, None, option_map, is_some, MatchOption, IfSome, IfNone, Contains, String, string_bytes, slice_get, get_or, refl, sym, ap, ◌∙◌, lit≤, arith}
-use Rattle.std.specs.List.{All, AllWithin, HoldsAt, IsDistinct, list_any}
+use Rattle.std.specs.List.{AllWithin, HoldsAt, IsDistinct, list_any}
 use Rattle.std.specs.Cmp.Lexicographic.{bytes_decides}
 use Rattle.std.proofs.lemmas.Option.{slice_get-map, slice_get-get_or, slice_get_within, get_or_from_slice_get}
 use Rattle.std.proofs.lemmas.List.{get_or-map, length-map, map-append, length-take-le, take_more, at_drop_more, at_drop_all}

@@ -22,7 +22,7 @@ same_text-flips a b h = elim (cases_Bool (same_text b a)) [
   | inr f ↦ f
 ]
 
-AreOthers-after : (name : List ℕ) (u : List Label) → AllByRecursion (λ y. same_text name y ≡ false) (names u) → AreOthers name u
+pub AreOthers-after : (name : List ℕ) (u : List Label) → AllByRecursion (λ y. same_text name y ≡ false) (names u) → AreOthers name u
 AreOthers-after name [] h = tt
 AreOthers-after name (m ∷ u) h = (same_text-flips name m.name h.0, AreOthers-after name u h.1)
 
@@ -33,7 +33,7 @@ AreOthers-undeclared (m ∷ u) name h = elim (cases_Bool (same_text m.name name)
   | inr f ↦ (f, AreOthers-undeclared u name (λ i. h (inr i)))
 ]
 
-find_first : (name : List ℕ) (value : Option (List ℕ)) (pairs : List (List ℕ × List ℕ)) → find (slice_cmp nat_cmp) name pairs ≡ None → find (slice_cmp nat_cmp) name (pair_before name value pairs) ≡ value
+pub find_first : (name : List ℕ) (value : Option (List ℕ)) (pairs : List (List ℕ × List ℕ)) → find (slice_cmp nat_cmp) name pairs ≡ None → find (slice_cmp nat_cmp) name (pair_before name value pairs) ≡ value
 find_first name None pairs h = h
 find_first name (Some v) pairs h = ap (λ b. cond b (Some v) (find (slice_cmp nat_cmp) name pairs)) (flips name name ∙ same_text-itself name)
 

@@ -2,9 +2,10 @@
 -- (This project's choice, after "Notation" in the Prometheus data model, without the metric name and without spaces.)
 use Rattle.std.specs.Prelude.{ℕ, List, ◌++◌, map, codes}
 use Rattle.std.specs.List.{join_with_byte}
+use Rattle.std.specs.FinMap.{entries}
 use Rattle.am_labels.specs.Text.{quoted}
 use Rattle.am_labels.specs.Universe.{Label}
-use Rattle.am_labels.specs.LabelSet.{pairs_of}
+use Rattle.am_labels.specs.LabelSet.{LabelMap, pairs_of}
 
 -- a label with its value, as `name="value"`
 abbrev pub pair_text : List ℕ × List ℕ → List ℕ
@@ -21,3 +22,7 @@ set_text u c = pairs_text (pairs_of u c)
 -- its line
 abbrev pub line : List Label → List ℕ → List ℕ
 line u c = set_text u c ++ codes "\n"
+
+-- the text of a label set by itself, its labels in the order of the bytes of their names
+abbrev pub map_text : LabelMap → List ℕ
+map_text s = pairs_text (entries s)

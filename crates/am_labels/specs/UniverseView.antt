@@ -1,5 +1,5 @@
 -- A label's values as they are kept in memory, and as contracts see them.
-use Rattle.std.specs.Prelude.{ℕ, List, map, Option, option_map, String, string_bytes}
+use Rattle.std.specs.Prelude.{List, map, Option, option_map, String, string_bytes}
 use Rattle.std.specs.declared.alloc.Global.{Global}
 use Rattle.std.specs.Global.{Vec}
 use Rattle.am_labels.specs.Universe.{Values, Label}

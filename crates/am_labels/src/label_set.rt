@@ -2,6 +2,7 @@ ghost use Rattle.std.specs.Prelude.{◌≡◌, ◌==◌, OnOk, OnErr, IfOk, stri
 ghost use Rattle.std.specs.FinMap as map;
 ghost use Rattle.am_labels.specs.Universe.{sizes};
 ghost use Rattle.am_labels.specs.Choice.{IsWhole};
+ghost use Rattle.am_labels.specs.LabelSetView.{label_map_of};
 ghost use Rattle.am_labels.specs.LabelSet.{value_of, with_value, label_set_of, HasTextsAlone};
 
 use crate::{Choice, Universe};
@@ -62,6 +63,13 @@ impl LabelSet {
             Some(value) => value.as_str(),
             None => "",
         }
+    }
+
+    /// The map from the names to their texts.
+    pub(crate) fn values(&self) -> &BTreeMap<String, String>
+        ensures { label_map_of result.now.entries ≡ self.now }
+    {
+        &self.values
     }
 
     /// How many labels have a value.

@@ -7,6 +7,10 @@ ghost use Rattle.am_labels.specs.Text.{same_text};
 ghost use Rattle.am_labels.specs.Universe as spec;
 ghost use Rattle.am_labels.specs.Choice.{choices, IsWhole};
 ghost use Rattle.am_labels.specs.LabelSet.{value_of, value_at, label_set_of};
+ghost use Rattle.am_labels.specs.SetText.{line};
+ghost use Rattle.am_labels.specs.Matcher.{Condition, condition_holds, all_hold};
+ghost use Rattle.am_labels.specs.Row.{row_of, row_holds, rows_hold};
+ghost use Rattle.am_labels.specs.MatcherText.{Spells};
 
 /// The test whether two texts are the same is true where they are equal, and only there.
 pub fn same_text_decides()
@@ -41,4 +45,27 @@ pub fn undeclared_value()
 pub fn a_label_is_added_exactly_to_a_universe()
     ensures { (u : List spec.Label) (label : spec.Label) → spec.IsUniverse u
         → (spec.label_fault u label ≡ None ↔ spec.IsUniverse (u ++ label ∷ [])) }
+{}
+
+/// A text spells at most one list of matchers.
+pub fn one_list_a_text()
+    ensures { (text : List ℕ) (ms ns : List Condition) → Spells text ms → Spells text ns → ms ≡ ns }
+{}
+
+/// Two different choices of one universe have different lines.
+pub fn one_choice_a_line()
+    ensures { (u : List spec.Label) (c d : List ℕ) → spec.IsUniverse u → IsWhole (spec.sizes u) c → IsWhole (spec.sizes u) d
+        → line u c ≡ line u d → c ≡ d }
+{}
+
+/// The truth of a matcher on the label set of a whole choice is its row's truth at that choice.
+pub fn a_row_decides_a_matcher()
+    ensures { (u : List spec.Label) (c : List ℕ) (m : Condition) → spec.IsUniverse u → IsWhole (spec.sizes u) c
+        → condition_holds (label_set_of u c) m ≡ row_holds (row_of u m) c }
+{}
+
+/// The truth of a list of matchers on the label set of a whole choice: each one's row is true at that choice.
+pub fn rows_decide_a_list()
+    ensures { (u : List spec.Label) (c : List ℕ) (ms : List Condition) → spec.IsUniverse u → IsWhole (spec.sizes u) c
+        → all_hold (label_set_of u c) ms ≡ rows_hold u ms c }
 {}

@@ -3,6 +3,7 @@ ghost use Rattle.std.specs.List.{list_all, list_any};
 ghost use Rattle.am_labels.specs.Universe.{IsUniverse, max_labels, max_values, names, sizes, starts_name, goes_on_name, is_label_name, same_value, name_fault, count_fault, value_fault, label_values_fault, label_fault, no_memory};
 ghost use Rattle.am_labels.specs.UniverseView.{label_of, texts_of};
 ghost use Rattle.am_labels.specs.LabelSet.{value_at};
+ghost use Rattle.am_labels.specs.Row.{label_position};
 ghost use Rattle.am_labels.specs.Choice.{admits};
 ghost use Rattle.am_labels.specs.declared.kind.Kind.TheVariants as kinds;
 
@@ -175,6 +176,7 @@ impl Universe {
     pub fn position(&self, name: &str) -> Option<usize>
         ensures found { IfSome result (λ i. slice_get (names self.now) i ≡ Some name.now) }
         ensures none { IfNone result (¬ Contains (names self.now) name.now) }
+        ensures position { result ≡ label_position self.now name.now }
     {
         self.labels
             .iter()

@@ -3,10 +3,10 @@ ghost use Rattle.std.specs.List.{flat_map};
 ghost use Rattle.am_labels.specs.Universe.{sizes};
 ghost use Rattle.am_labels.specs.Choice.{IsWhole};
 ghost use Rattle.am_labels.specs.Text.{quoted, escaped};
-ghost use Rattle.am_labels.specs.SetText.{pair_text, set_text};
+ghost use Rattle.am_labels.specs.SetText.{pair_text, set_text, map_text};
 ghost use Rattle.am_labels.specs.Sink.{Writes};
 
-use crate::{Choice, Kind, Sink, Universe};
+use crate::{Choice, Kind, LabelSet, Sink, Universe};
 
 /// Writes the bytes, all of them, unless a take fails: then the answer is `Kind::Write`, the bytes before
 /// it have gone out, and it is not tried again.
@@ -79,6 +79,19 @@ pub fn write_set<W: Sink>(universe: &Universe, choice: &Choice, out: &mut W) -> 
             write_pair(out, separator, universe.name(i), value)?;
             separator = b",";
         }
+    }
+    put_all(out, b"}")
+}
+
+/// Writes a label set in the order of the bytes of its names, as `{severity="critical",team="db"}`.
+pub fn write_map<W: Sink>(set: &LabelSet, out: &mut W) -> Result<(), Kind>
+    ensures { Writes W.taken W.failures out.old out.new (map_text set.now) result }
+{
+    put_all(out, b"{")?;
+    let mut separator: &[u8] = b"";
+    for (name, value) in set.values() {
+        write_pair(out, separator, name.as_str(), value.as_str())?;
+        separator = b",";
     }
     put_all(out, b"}")
 }

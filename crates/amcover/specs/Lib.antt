@@ -1,8 +1,7 @@
 pub mod Trailer
 pub mod PageText
 pub mod Question
-pub mod BraceQuestion
-pub mod BraceReading
+pub mod QuestionText
 pub mod FaultText
 pub mod Completions
 pub mod Asked

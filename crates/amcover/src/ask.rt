@@ -5,8 +5,8 @@ ghost use Rattle.amcover.specs.Asked.{IsFirstFault};
 ghost use Rattle.amcover.specs.Asking.{WroteAnswers, WroteAnswersInPart};
 
 use crate::answers::answers_of;
-use crate::brace_question::read_brace_question;
 use crate::page::write_page;
+use crate::question::read_question;
 use crate::trailer::Trailer;
 use am_files::read_universe;
 use am_labels::{Fault, Kind, Place, Sink};
@@ -15,9 +15,9 @@ use std::alloc::Global;
 /// Writes the label sets of the universe that satisfy the question, each once and in declared order, a line for each, and
 /// then the trailer.
 ///
-/// `universe` is a universe file and `question` a list of matchers in braces. All input is read and all answers are
+/// `universe` is a universe file and `question` a matcher list in braces. All input is read and all answers are
 /// found before the first byte is written. The first fault is the one answered: a fault of the file, at
-/// `Universe`; of the question, `QuestionSyntax` or `Limit`, at `Question`; `Memory`, at `Memory`, only where memory was
+/// `Universe`; of the question, as `read_question` has it, at `Question`; `Memory`, at `Memory`, only where memory was
 /// refused; `Write`, at `Output`. After any but the last the sink is as it was.
 pub fn ask<W: Sink>(
     alloc: Global,
@@ -44,7 +44,7 @@ pub fn ask<W: Sink>(
         Ok(universe) => universe,
         Err(fault) => return Err(Fault::of(alloc, fault.kind, fault.place)),
     };
-    let question = match read_brace_question(alloc, question) {
+    let question = match read_question(alloc, question) {
         Ok(question) => question,
         Err(kind) => return Err(question_fault(alloc, kind)),
     };

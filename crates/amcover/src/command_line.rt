@@ -11,7 +11,7 @@ pub enum Request<'a> {
     },
 }
 
-const ABOUT: &str = "Which label sets would a Prometheus Alertmanager configuration match?";
+const ABOUT: &str = "Decides which label sets of a declared universe satisfy a question";
 
 const EXAMPLE: &str = "\
 Example:
@@ -31,8 +31,9 @@ stands for a label that is missing:
     {\"name\": \"severity\", \"values\": [\"critical\", \"warning\"]}
   ]}
 
-The question is a list of matchers in braces, each a label, = or !=, and a value in
-double quotes, without spaces. A missing label counts as the empty value.
+The question is a list of matchers in braces, in the classic syntax of Alertmanager,
+with =, !=, =~ and !~. A pattern has to match the whole value. A missing label counts
+as the empty value.
 
 Example:
 

@@ -95,17 +95,43 @@ fn expect(rt: &impl Abort, found: &Option<Fault>, kind: Kind, place: Place) {
     }
 }
 
+/// A question that is refused, and why.
+const QUESTIONS: [(&str, Kind); 22] = [
+    ("nonsense", Kind::QuestionSyntax),
+    ("", Kind::QuestionSyntax),
+    (" ", Kind::QuestionSyntax),
+    ("{a=b", Kind::QuestionSyntax),
+    ("a=b}", Kind::QuestionSyntax),
+    ("{a=\"}", Kind::QuestionSyntax),
+    ("{a=b} {a=b}", Kind::QuestionSyntax),
+    ("{a=b}}", Kind::QuestionSyntax),
+    ("not {a=b}", Kind::QuestionSyntax),
+    ("{a}", Kind::BadMatcher),
+    ("{a=b,,c=d}", Kind::BadMatcher),
+    ("{a=\"x\"y\"}", Kind::QuestionSyntax),
+    ("{a=\"x\"y}", Kind::BadMatcher),
+    ("{9a=b}", Kind::BadMatcher),
+    ("{a=~\"a\\<b\"}", Kind::PatternProfile),
+    ("{a=~\"a{,3}\"}", Kind::PatternProfile),
+    ("{a!~\"(?x)a\"}", Kind::PatternProfile),
+    ("{a=~(}", Kind::Pattern),
+    ("{a=~\"[a\"}", Kind::Pattern),
+    // Of two faults the list's comes before a pattern's, and an earlier pattern's before a later one's.
+    ("{a=~\"(\",b}", Kind::BadMatcher),
+    ("{a=~\"(\",b=~\"\\1\"}", Kind::Pattern),
+    ("{a=~\"\\1\",b=~\"(\"}", Kind::PatternProfile),
+];
+
 #[test]
 fn faults_of_questions(rt: HostRuntime) -> Result<(), Fail> {
     let alloc = rt.alloc();
     let too_many = matchers_of(alloc, 65)?;
-    for (question, kind) in [
-        ("nonsense", Kind::QuestionSyntax),
-        ("", Kind::QuestionSyntax),
-        ("{a=b}", Kind::QuestionSyntax),
-        ("{a=\"1\",}", Kind::QuestionSyntax),
-        (too_many.as_str(), Kind::Limit),
-    ] {
+    for (question, kind) in QUESTIONS {
+        let asked = answer_to(alloc, TEAMS.as_bytes(), question)?;
+        expect(&rt, &asked.outcome.err(), kind, Place::Question);
+        assert_eq!(rt; asked.text.as_str(), "", "{question}");
+    }
+    for (question, kind) in [(too_many.as_str(), Kind::Limit)] {
         let asked = answer_to(alloc, TEAMS.as_bytes(), question)?;
         expect(&rt, &asked.outcome.err(), kind, Place::Question);
         assert_eq!(rt; asked.text.as_str(), "", "{question}");
@@ -124,8 +150,13 @@ fn faults_of_runs(rt: HostRuntime) -> Result<(), Fail> {
         ("{}", DB, "amcover: universe: shape\n"),
         (TEAMS, "nonsense", "amcover: question: question-syntax\n"),
         (TEAMS, "", "amcover: question: question-syntax\n"),
-        (TEAMS, "{a=b}", "amcover: question: question-syntax\n"),
-        (TEAMS, "{a=\"1\",}", "amcover: question: question-syntax\n"),
+        (TEAMS, "{a}", "amcover: question: bad-matcher\n"),
+        (
+            TEAMS,
+            "{a=~\"\\1\"}",
+            "amcover: question: pattern-profile\n",
+        ),
+        (TEAMS, "{a=~\"(\"}", "amcover: question: pattern\n"),
         (TEAMS, too_many.as_str(), "amcover: question: limit\n"),
     ] {
         let ran = run_on_file(&rt, path, universe, question)?;

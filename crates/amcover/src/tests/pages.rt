@@ -6,7 +6,7 @@ use std::alloc::{AllocError, Global};
 use std::test::*;
 
 /// A universe file, a question, and the page.
-const PAGES: [(&str, &str, &str); 10] = [
+const PAGES: [(&str, &str, &str); 21] = [
     (TEAMS, DB, DB_PAGE),
     (
         TEAMS,
@@ -30,6 +30,43 @@ const PAGES: [(&str, &str, &str); 10] = [
     ),
     ("{\"labels\":[]}", "{}", "{}\n# end\n"),
     ("{\"labels\":[]}", "{team=\"db\"}", "# end\n"),
+    // Patterns match the whole value.
+    (TEAMS, "{severity=~\"crit\"}", "# end\n"),
+    (
+        TEAMS,
+        "{severity=~\"crit.*\",team=\"db\"}",
+        "{team=\"db\",severity=\"critical\"}\n# end\n",
+    ),
+    (
+        TEAMS,
+        "{team=~\"db|web\",severity=critical}",
+        "{team=\"db\",severity=\"critical\"}\n{team=\"web\",severity=\"critical\"}\n# end\n",
+    ),
+    (
+        TEAMS,
+        "{severity!~\"crit.*\",team!~\".+\"}",
+        "{severity=\"warning\"}\n# end\n",
+    ),
+    (
+        TEAMS,
+        "{team=~\"\"}",
+        "{severity=\"critical\"}\n{severity=\"warning\"}\n# end\n",
+    ),
+    (TEAMS, "{x!~\"a\"}", ALL),
+    (
+        TEAMS,
+        "{team=~\"a)|(?:web\",severity=critical}",
+        "{team=\"web\",severity=\"critical\"}\n# end\n",
+    ),
+    // The classic syntax.
+    (
+        TEAMS,
+        " \t{ team = db , severity != critical , }\n",
+        "{team=\"db\",severity=\"warning\"}\n# end\n",
+    ),
+    (TEAMS, "{team=db}", DB_PAGE),
+    (TEAMS, "{team=\"db\",}", DB_PAGE),
+    (TEAMS, "{x!=\"}\"}", ALL),
 ];
 
 /// The page of all label sets of the two labels.

@@ -1,0 +1,71 @@
+-- What a row says of the label set of a choice.
+use Rattle.std.proofs.Common.{◌≡◌, ℕ, zero, suc, ◌+◌, ◌<◌, Bool, false, ◌&&◌, List, [], ◌∷◌, length, map, get_or, Option, Some, None, option_map, unwrap_or, slice_get, slice_index, ap, sym, ◌∙◌, refl, inl, inr, arith}
+use Rattle.std.specs.Cmp.Lexicographic.{bytes_decides}
+use Rattle.std.specs.List.{position, position_from}
+use Rattle.std.proofs.lemmas.Bool.{cases_Bool, false≢true}
+use Rattle.std.proofs.lemmas.List.{length-map, get_or-map}
+use Rattle.std.proofs.lemmas.List.Quantifiers.{position-Some}
+use Rattle.std.proofs.lemmas.Iterator.Adapters.{position_from-zero}
+use Rattle.std.proofs.lemmas.Option.{slice_get-get_or}
+use Rattle.am_labels.specs.Text.{same_text}
+use Rattle.am_labels.specs.Universe.{Label, IsUniverse, sizes}
+use Rattle.am_labels.specs.Choice.{IsWhole}
+use Rattle.am_labels.specs.LabelSet.{value_of, label_set_of}
+use Rattle.am_labels.specs.Matcher.{Condition, holds, condition_holds, all_hold}
+use Rattle.am_labels.specs.Row.{holds_of, values_at, truths_of, label_position, truth_among, row_of, row_holds, rows_hold}
+use Rattle.am_labels.proofs.Rows.{value_in}
+use Rattle.am_labels.proofs.Values.{value_of_declared, value_of_undeclared}
+use Rattle.am_labels.proofs.Wholes.{admitted_at}
+
+none_from : {X : Type 0} (p : X → Bool) (i : ℕ) (xs : List X) → position_from p i xs ≡ None → (k : ℕ) (d : X) → k < length xs → p (get_or xs k d) ≡ false
+none_from p i [] e k d h = absurd (omega arith)
+none_from p i (x ∷ xs) e zero d h = elim (cases_Bool (p x)) [ inl passes ↦ let found : Some i ≡ None = rw passes at e in cc | inr fails ↦ fails ]
+none_from p i (x ∷ xs) e (suc k) d h =
+    elim (cases_Bool (p x)) [
+      | inl passes ↦ let found : Some i ≡ None = rw passes at e in cc
+      | inr fails ↦ none_from p (i + 1) xs (rw fails at e) k d (omega arith)
+    ]
+
+-- where there is no first place at which a test passes, it passes nowhere
+none_passes : {X : Type 0} (p : X → Bool) (xs : List X) → position p xs ≡ None → (k : ℕ) (d : X) → k < length xs → p (get_or xs k d) ≡ false
+none_passes p xs e = none_from p 0 xs (sym (position_from-zero p xs) ∙ e)
+
+abbrev no_label : Label
+no_label = record { name = []; values = [] }
+
+declared : (u : List Label) (c : List ℕ) (m : Condition) (i : ℕ) → IsUniverse u → IsWhole (sizes u) c → label_position u m.name ≡ Some i
+    → condition_holds (label_set_of u c) m ≡ truth_among (Some i) (truths_of u m (Some i)) (slice_index c i)
+declared u c m i h whole e =
+    let found = position-Some (λ l. same_text l.name m.name) u i no_label e in
+    let l : Label = get_or u i no_label in
+    let label : slice_get u i ≡ Some l = slice_get-get_or u i no_label found.0 in
+    let named : l.name ≡ m.name = (bytes_decides l.name m.name).0 found.1 in
+    let p : ℕ = slice_index c i in
+    let long : i < length c = omega (arith, whole.1, length-map u (λ (l : Label). length l.values)) in
+    let chosen : slice_get c i ≡ Some p = slice_get-get_or c i 0 long in
+    let size : slice_index (sizes u) i ≡ length l.values = get_or-map (λ l. length l.values) u i no_label 0 found.0 in
+    let below : p < length l.values = omega (arith, admitted_at (sizes u) c i whole.0 long) in
+    let value : value_of (label_set_of u c) m.name ≡ unwrap_or (get_or l.values p None) [] =
+    ap (value_of (label_set_of u c)) (sym named) ∙ value_of_declared u c i l p h label chosen ∙ ap (λ o. unwrap_or o []) (value_in l.values p below) in
+    let values : values_at u i ≡ l.values = ap (λ o. unwrap_or (option_map (λ l. l.values) o) []) label in
+    ap (holds m.op m.value) value ∙ sym (ap (λ vs. get_or (map (holds_of m) vs) p false) values ∙ get_or-map (holds_of m) l.values p None false below)
+
+undeclared : (u : List Label) (c : List ℕ) (m : Condition) → label_position u m.name ≡ None
+    → condition_holds (label_set_of u c) m ≡ truth_among None (truths_of u m None) 0
+undeclared u c m e = ap (holds m.op m.value) (value_of_undeclared u c m.name (λ at.
+    let inside : at.0 < length u = omega (arith, at.1, length-map u (λ (l : Label). l.name)) in
+    let named : (get_or u at.0 no_label).name ≡ m.name = sym (get_or-map (λ l. l.name) u at.0 no_label m.name inside) ∙ at.2 in
+    false≢true (sym (none_passes (λ l. same_text l.name m.name) u e at.0 no_label inside) ∙ (bytes_decides (get_or u at.0 no_label).name m.name).1 named)))
+
+by_label : (u : List Label) (c : List ℕ) (m : Condition) (o : Option ℕ) → IsUniverse u → IsWhole (sizes u) c → label_position u m.name ≡ o
+    → condition_holds (label_set_of u c) m ≡ truth_among o (truths_of u m o) (slice_index c (unwrap_or o 0))
+by_label u c m None h whole e = undeclared u c m e
+by_label u c m (Some i) h whole e = declared u c m i h whole e
+
+pub row_decides : (u : List Label) (c : List ℕ) (m : Condition) → IsUniverse u → IsWhole (sizes u) c → condition_holds (label_set_of u c) m ≡ row_holds (row_of u m) c
+row_decides u c m h whole = by_label u c m (label_position u m.name) h whole refl
+
+pub rows_decide : (u : List Label) (c : List ℕ) (ms : List Condition) → IsUniverse u → IsWhole (sizes u) c → all_hold (label_set_of u c) ms ≡ rows_hold u ms c
+rows_decide u c [] h whole = refl
+rows_decide u c (m ∷ ms) h whole =
+    ap (λ b. b && all_hold (label_set_of u c) ms) (row_decides u c m h whole) ∙ ap (λ b. row_holds (row_of u m) c && b) (rows_decide u c ms h whole)

@@ -1,0 +1,7 @@
+use Rattle.std.proofs.Common.{◌≡◌, drop}
+use Rattle.am_labels.specs.SetReading.{repeats_name}
+use Rattle.am_labels.proofs.parse.repeats_name.Given as goal
+
+-- those that are left decide
+abbrev pub invariant-loop-i : goal.invariant-loop-i
+invariant-loop-i l = repeats_name (drop l.i l.matchers) ≡ repeats_name l.matchers

@@ -1,0 +1,9 @@
+use Rattle.std.proofs.Common.{◌≡◌, take, map}
+use Rattle.am_labels.specs.Row.{holds_of, values_at}
+use Rattle.am_labels.proofs.row.declared_truths.Given as goal
+
+abbrev pub invariant-loop-j : goal.invariant-loop-j
+invariant-loop-j l = record {
+  truths : l.truths.items ≡ map (holds_of l.fn.test) (take l.j (values_at l.universe l.i));
+  same : l.test ≡ l.fn.test;
+}

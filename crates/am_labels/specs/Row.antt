@@ -1,0 +1,46 @@
+-- A matcher's truth on each value of its label. (This project's own.)
+use Rattle.std.specs.Prelude.{ℕ, List, [], ◌∷◌, map, Bool, false, slice_get, slice_index, slice_index_or, Option, Some, None, option_map, unwrap_or}
+use Rattle.std.specs.List.{position, list_all}
+use Rattle.am_labels.specs.Text.{same_text}
+use Rattle.am_labels.specs.Universe.{Label, Values}
+use Rattle.am_labels.specs.Matcher.{Condition, holds}
+
+-- The position of the matcher's label, if it is declared, and the truths on that label's values, in declared order. For
+-- a label that is not declared there is one truth.
+pub record TruthRow : Type 0 where
+  pub label : Option ℕ
+  pub truths : List Bool
+
+-- the truth on a value; absence is the empty text
+abbrev pub holds_of : Condition → Option (List ℕ) → Bool
+holds_of m value = holds m.op m.value (unwrap_or value [])
+
+abbrev pub values_at : List Label → ℕ → Values
+values_at u i = unwrap_or (option_map (λ l. l.values) (slice_get u i)) []
+
+abbrev pub truths_of : List Label → Condition → Option ℕ → List Bool
+truths_of u m None = holds_of m None ∷ []
+truths_of u m (Some i) = map (holds_of m) (values_at u i)
+
+-- the position of the label of a name
+abbrev pub label_position : List Label → List ℕ → Option ℕ
+label_position u name = position (λ l. same_text l.name name) u
+
+abbrev pub row_of : List Label → Condition → TruthRow
+row_of u m = record { label = label_position u m.name; truths = truths_of u m (label_position u m.name) }
+
+abbrev pub truth_among : Option ℕ → List Bool → ℕ → Bool
+truth_among None truths j = slice_index_or truths 0 false
+truth_among (Some i) truths j = slice_index_or truths j false
+
+-- the truth at a position of the label; the same at every position where the label is not declared
+abbrev pub truth_at : TruthRow → ℕ → Bool
+truth_at row j = truth_among row.label row.truths j
+
+-- the truth of a row at a choice
+abbrev pub row_holds : TruthRow → List ℕ → Bool
+row_holds row c = truth_at row (slice_index c (unwrap_or row.label 0))
+
+-- the truth of the rows of a list of matchers at a choice
+abbrev pub rows_hold : List Label → List Condition → List ℕ → Bool
+rows_hold u ms c = list_all (λ m. row_holds (row_of u m) c) ms

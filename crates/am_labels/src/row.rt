@@ -1,0 +1,153 @@
+ghost use Rattle.std.specs.Prelude.{◌≡◌, ◌<◌, [], ◌∷◌, length, map, Some, IfOk, IfSome, slice_get};
+ghost use Rattle.am_labels.specs.Universe.{sizes};
+ghost use Rattle.am_labels.specs.Row.{row_of, truth_at, holds_of, values_at};
+
+use crate::matcher::Test;
+use crate::{Matcher, Universe};
+use std::alloc::{AllocError, Global};
+use std::marker::Model;
+
+/// A matcher's truth on each value of its label.
+#[derive(Drop)]
+pub struct Row {
+    label: Option<usize>,
+    truths: Vec<bool>,
+}
+
+impl Model for Row {
+    ghost use Rattle.std.specs.Prelude.{◌≡◌, None, length};
+    ghost use Rattle.am_labels.specs.Row.{TruthRow};
+
+    ghost Value = { TruthRow };
+
+    ghost view = { λ r. record { label = r.label; truths = r.truths.items } };
+
+    ghost invariant = { λ r. r.label ≡ None → length r.truths.items ≡ 1 };
+}
+
+impl Row {
+    /// The position of the matcher's label; `None` where the label is not declared.
+    pub fn label(&self) -> Option<usize>
+        ensures { result ≡ self.now.label }
+    {
+        self.label
+    }
+
+    /// Whether the matcher is true on the label's value at `j`. Where the label is not declared, the answer is the
+    /// same for every `j`: whether the matcher is true on the empty text.
+    pub fn holds(&self, j: usize) -> bool
+        requires { IfSome self.now.label (λ _. j < length self.now.truths) }
+        ensures { result ≡ truth_at self.now j }
+    {
+        match self.label {
+            Some(_) => self.truths[j],
+            None => self.truths[0],
+        }
+    }
+}
+
+impl Matcher {
+    /// The matcher's truth on each value of its label in the universe, absence being the empty text, and on the empty text
+    /// alone where the label is not declared. Memory is taken for the row and for one search, not for each value.
+    pub fn row(&self, alloc: Global, universe: &Universe) -> Result<Row, AllocError>
+        ensures row { IfOk result (λ row. row ≡ row_of universe.now self.now) }
+        ensures sized { IfOk result (λ row. IfSome row.label (λ i. slice_get (sizes universe.now) i ≡ Some (length row.truths))) }
+    {
+        let label = universe.position(self.name());
+        let mut test = self.test(alloc)?;
+        let truths = match label {
+            Some(i) => declared_truths(alloc, &mut test, universe, i)?,
+            None => undeclared_truths(alloc, &mut test)?,
+        };
+        Ok(Row { label, truths })
+    }
+}
+
+/// The truth on each value of a label.
+fn declared_truths(
+    alloc: Global,
+    test: &mut Test<'_>,
+    universe: &Universe,
+    i: usize,
+) -> Result<Vec<bool>, AllocError>
+    requires { i < length universe.now }
+    ensures truths { IfOk result (λ truths. truths.items ≡ map (holds_of test.old) (values_at universe.now i)) }
+    ensures sized { IfOk result (λ truths. slice_get (sizes universe.now) i ≡ Some (length truths.items)) }
+{
+    let size = universe.size(i);
+    let mut truths = Vec::with_capacity(alloc, size)?;
+    for j in 0..size {
+        truths.push(test.holds(universe.value(i, j).unwrap_or("")))?;
+    }
+    Ok(truths)
+}
+
+/// The truth on the empty text.
+fn undeclared_truths(alloc: Global, test: &mut Test<'_>) -> Result<Vec<bool>, AllocError>
+    ensures { IfOk result (λ truths. truths.items ≡ holds_of test.old None ∷ []) }
+{
+    let mut truths = Vec::with_capacity(alloc, 1)?;
+    truths.push(test.holds(""))?;
+    Ok(truths)
+}
+
+#[cfg(test)]
+mod tests {
+    use crate::{Universe, parse_matchers};
+    use std::alloc::{AllocError, Global};
+    use std::test::Fail;
+
+    fn some(alloc: Global, text: &str) -> Result<Option<String>, AllocError> {
+        Ok(Some(String::from_str(alloc, text)?))
+    }
+
+    /// The labels `team` and `severity`, the first with absence as its last value.
+    fn teams(alloc: Global) -> Result<Universe, Fail> {
+        let mut universe = Universe::empty(alloc);
+        universe.add(
+            String::from_str(alloc, "team")?,
+            vec![in alloc; some(alloc, "db")?, some(alloc, "web")?, None]?,
+        )?;
+        universe.add(
+            String::from_str(alloc, "severity")?,
+            vec![in alloc; some(alloc, "critical")?, some(alloc, "warning")?]?,
+        )?;
+        Ok(universe)
+    }
+
+    /// The label and the truths of the row of the one matcher that the text spells.
+    fn row_of(alloc: Global, text: &str) -> Result<(Option<usize>, Vec<bool>), Fail> {
+        let universe = teams(alloc)?;
+        let mut label = None;
+        let mut truths = Vec::new(alloc);
+        for matcher in parse_matchers(alloc, text)?.as_slice() {
+            let row = matcher.row(alloc, &universe)?;
+            label = row.label();
+            for j in 0..row.truths.len() {
+                truths.push(row.holds(j))?;
+            }
+        }
+        Ok((label, truths))
+    }
+
+    #[test]
+    fn truths_on_the_values(rt: HostRuntime) -> Result<(), Fail> {
+        let rows: [(&str, Option<usize>, &[bool]); 9] = [
+            ("team=~\"db|web\"", Some(0), &[true, true, false]),
+            ("team=", Some(0), &[false, false, true]),
+            ("team!=web", Some(0), &[true, false, true]),
+            ("team!~w.*", Some(0), &[true, false, true]),
+            ("team=~d", Some(0), &[false, false, false]),
+            ("severity=~crit.*", Some(1), &[true, false]),
+            ("severity=~crit", Some(1), &[false, false]),
+            ("x!=a", None, &[true]),
+            ("x=~a", None, &[false]),
+        ];
+        for (text, label, want) in rows {
+            let (found, truths) = row_of(rt.alloc(), text)?;
+            assert_eq!(rt; found, label, "{text}");
+            assert_eq!(rt; truths.as_slice(), want, "{text}");
+        }
+        Ok(())
+    }
+}
