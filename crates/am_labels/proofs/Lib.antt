@@ -11,3 +11,13 @@ pub mod AddedLabels
 pub mod Admitted
 pub mod Values
 pub mod SetTexts
+mod Patterns
+mod PatternPieces
+mod PatternWords
+pub mod MatcherTextPlaces
+pub mod MatcherTextUtf8
+pub mod MatcherTextSteps
+pub mod MatcherTextPieces
+pub mod MatcherTextLists
+pub mod MatcherTextBodies
+pub mod MatcherTextWhole

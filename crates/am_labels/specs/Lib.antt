@@ -3,7 +3,14 @@ pub mod Kind
 pub mod Universe
 pub mod Choice
 pub mod LabelSet
+pub mod Pattern
+pub mod PatternProfile
+pub mod PatternView
+pub mod PatternSteps
 pub mod Matcher
+pub mod MatcherText
+pub mod MatcherReading
+pub mod MatcherRefusals
 pub mod Sink
 pub mod SetText
 pub mod UniverseView

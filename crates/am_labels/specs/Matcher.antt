@@ -1,9 +1,10 @@
 -- Matchers and what they say of a label set. (Alertmanager configuration reference, "Label matchers".)
-use Rattle.std.specs.Prelude.{ℕ, List, Bool, not}
+use Rattle.std.specs.Prelude.{ℕ, List, Bool, true, false, not, if◌then◌else◌}
 use Rattle.std.specs.List.{list_all}
 use Rattle.am_labels.specs.declared.op.Op.{Op}
-use Rattle.am_labels.specs.declared.op.Op.TheVariants.{Equal, NotEqual}
+use Rattle.am_labels.specs.declared.op.Op.TheVariants.{Equal, NotEqual, Matches, NotMatches}
 use Rattle.am_labels.specs.Text.{same_text}
+use Rattle.am_labels.specs.Pattern.{finds}
 use Rattle.am_labels.specs.LabelSet.{LabelMap, value_of}
 
 -- what a matcher states: of the value of a label, by an operator
@@ -15,10 +16,26 @@ pub record Condition : Type 0 where
 abbrev pub max_matchers : ℕ
 max_matchers = 64
 
+-- the operators whose value is a pattern
+abbrev pub takes_pattern : Op → Bool
+takes_pattern Equal = false
+takes_pattern NotEqual = false
+takes_pattern Matches = true
+takes_pattern NotMatches = true
+
+-- the operators that ask for the contrary
+abbrev pub negates : Op → Bool
+negates Equal = false
+negates NotEqual = true
+negates Matches = false
+negates NotMatches = true
+
 -- the truth of an operator and its value on a text
 abbrev pub holds : Op → List ℕ → List ℕ → Bool
 holds Equal value text = same_text text value
 holds NotEqual value text = not (same_text text value)
+holds Matches value text = finds value text
+holds NotMatches value text = not (finds value text)
 
 -- the truth of a matcher on a label set: on the value of its label, the empty text where that is missing
 abbrev pub condition_holds : LabelMap → Condition → Bool

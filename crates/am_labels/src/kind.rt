@@ -1,5 +1,8 @@
 ghost use Rattle.std.specs.Prelude.{◌≡◌};
 ghost use Rattle.am_labels.specs.Kind.{number_of, text_of};
+ghost use Rattle.am_labels.specs.declared.kind.Kind.TheVariants.{Memory};
+
+use std::alloc::{AllocError, AllocFailed};
 
 /// Why something was refused. Each kind has a number, for scripts, and a text, which the program prints.
 #[derive(Clone, Copy, Debug, PartialEq, Eq)]
@@ -101,5 +104,21 @@ impl Kind {
             Kind::Memory => "memory",
             Kind::Read => "read",
         }
+    }
+}
+
+impl From<AllocError> for Kind {
+    ghost from_gives = { λ _ kind. kind ≡ Memory };
+
+    fn from(_refused: AllocError) -> Kind {
+        Kind::Memory
+    }
+}
+
+impl<T: Drop> From<AllocFailed<T>> for Kind {
+    ghost from_gives = { λ _ kind. kind ≡ Memory };
+
+    fn from(_refused: AllocFailed<T>) -> Kind {
+        Kind::Memory
     }
 }

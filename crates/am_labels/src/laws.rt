@@ -7,6 +7,8 @@ ghost use Rattle.am_labels.specs.Text.{same_text};
 ghost use Rattle.am_labels.specs.Universe as spec;
 ghost use Rattle.am_labels.specs.Choice.{choices, IsWhole};
 ghost use Rattle.am_labels.specs.LabelSet.{value_of, value_at, label_set_of};
+ghost use Rattle.am_labels.specs.Matcher.{Condition};
+ghost use Rattle.am_labels.specs.MatcherText.{Spells};
 
 /// The test whether two texts are the same is true where they are equal, and only there.
 pub fn same_text_decides()
@@ -41,4 +43,9 @@ pub fn undeclared_value()
 pub fn a_label_is_added_exactly_to_a_universe()
     ensures { (u : List spec.Label) (label : spec.Label) → spec.IsUniverse u
         → (spec.label_fault u label ≡ None ↔ spec.IsUniverse (u ++ label ∷ [])) }
+{}
+
+/// A text spells at most one list of matchers.
+pub fn one_list_a_text()
+    ensures { (text : List ℕ) (ms ns : List Condition) → Spells text ms → Spells text ns → ms ≡ ns }
 {}

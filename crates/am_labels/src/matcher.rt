@@ -1,39 +1,67 @@
-ghost use Rattle.std.specs.Prelude.{◌≡◌, ◌≢◌, [], IfOk, IfErr, OnOk, string_bytes};
-ghost use Rattle.am_labels.specs.Matcher.{holds};
+ghost use Rattle.std.specs.Prelude.{◌≡◌, ◌≢◌, [], false, true, IsTrue, IfOk, IfErr, OnOk, string_bytes};
+ghost use Rattle.am_labels.specs.PatternProfile.{in_profile};
+ghost use Rattle.am_labels.specs.Matcher.{holds, takes_pattern};
+ghost use Rattle.am_labels.specs.MatcherRefusals.{has_sound_value, RefusesCondition};
 ghost use Rattle.am_labels.specs.declared.kind.Kind.TheVariants as kinds;
 
+use crate::pattern::{Pattern, PatternMatcher};
 use crate::{Kind, Op};
-use std::alloc::Global;
+use std::alloc::{AllocError, Global};
 use std::marker::Model;
 
 /// A matcher: what it asks of the value of a label.
+///
+/// The value of `=~` and `!~` is a pattern, which has to match the label's whole value.
 #[derive(Drop)]
 pub struct Matcher {
     name: String,
     op: Op,
     value: String,
+    pattern: Option<Pattern>,
 }
 
 impl Model for Matcher {
-    ghost use Rattle.std.specs.Prelude.{string_bytes};
-    ghost use Rattle.am_labels.specs.Matcher.{Condition};
+    ghost use Rattle.std.specs.Prelude.{◌≡◌, Some, None, if◌then◌else◌, string_bytes};
+    ghost use Rattle.am_labels.specs.Matcher.{Condition, takes_pattern};
 
     ghost Value = { Condition };
 
     ghost view = { λ m. record { name = string_bytes m.name; op = m.op; value = string_bytes m.value } };
+
+    // The pattern is built once, where the operator takes one.
+    ghost invariant = { λ m. m.pattern ≡ (if takes_pattern m.op then Some (string_bytes m.value) else None) };
 }
 
 impl Matcher {
-    /// A matcher on the label of this name, which is any text but the empty one (`Empty`).
-    pub fn new(_alloc: Global, name: String, op: Op, value: String) -> Result<Matcher, Kind>
+    /// A matcher on the label of this name.
+    ///
+    /// `Empty` for the empty name; then, for `=~` and `!~`, `PatternProfile` exactly where the value is outside the
+    /// profile of patterns, and `Pattern` for one of the profile that the engine refuses, as it does wherever its
+    /// grammar does not read the pattern between `^(?:` and `)$`. `Memory` comes only where a pattern of the profile was
+    /// to be built.
+    pub fn new(alloc: Global, name: String, op: Op, value: String) -> Result<Matcher, Kind>
         ensures ok { IfOk result (λ m. m ≡ record { name = string_bytes name; op = op; value = string_bytes value }) }
         ensures named { OnOk result (string_bytes name ≢ []) }
-        ensures refused { IfErr result (λ kind. (kind ≡ kinds.Empty) × (string_bytes name ≡ [])) }
+        ensures sound { OnOk result (IsTrue (has_sound_value (record { name = string_bytes name; op = op; value = string_bytes value }))) }
+        ensures unnamed { string_bytes name ≡ [] → result ≡ Err kinds.Empty }
+        ensures outside { string_bytes name ≢ [] → takes_pattern op ≡ true → in_profile (string_bytes value) ≡ false → result ≡ Err kinds.PatternProfile }
+        ensures refused { IfErr result (λ kind. kind ≢ kinds.Memory → RefusesCondition (record { name = string_bytes name; op = op; value = string_bytes value }) kind) }
+        ensures memory { IfErr result (λ kind. kind ≡ kinds.Memory → (takes_pattern op ≡ true) × (in_profile (string_bytes value) ≡ true)) }
     {
         if name.is_empty() {
             return Err(Kind::Empty);
         }
-        Ok(Matcher { name, op, value })
+        let pattern = if op.takes_pattern() {
+            Some(Pattern::new(alloc, value.as_str())?)
+        } else {
+            None
+        };
+        Ok(Matcher {
+            name,
+            op,
+            value,
+            pattern,
+        })
     }
 
     /// The name of the label.
@@ -50,7 +78,7 @@ impl Matcher {
         self.op
     }
 
-    /// The value that the operator compares with.
+    /// The value that the operator compares with, or the pattern.
     pub fn value(&self) -> &str
         ensures { result.now ≡ self.now.value }
     {
@@ -58,13 +86,13 @@ impl Matcher {
     }
 
     /// Whether the operator and the value are true of a text.
-    pub(crate) fn holds(&self, text: &str) -> bool
-        ensures { result ≡ holds self.now.op self.now.value text.now }
+    pub(crate) fn holds(&self, alloc: Global, text: &str) -> Result<bool, AllocError>
+        ensures { IfOk result (λ truth. truth ≡ holds self.now.op self.now.value text.now) }
     {
-        let is_same = text == self.value();
-        match self.op {
-            Op::Equal => is_same,
-            Op::NotEqual => !is_same,
-        }
+        let found = match &self.pattern {
+            Some(pattern) => pattern.matches(alloc, text)?,
+            None => text == self.value.as_str(),
+        };
+        Ok(found != self.op.negates())
     }
 }

@@ -1,4 +1,4 @@
-ghost use Rattle.std.specs.Prelude.{◌≡◌, ◌≢◌, ◌<◌, ◌≤◌, ◌==◌, [], ◌∷◌, ◌++◌, Some, length, IfOk, IfErr, OnOk, OnErr, slice_get};
+ghost use Rattle.std.specs.Prelude.{◌≡◌, ◌≢◌, ◌<◌, ◌≤◌, ◌+◌, ◌==◌, [], ◌∷◌, ◌++◌, Some, length, IfOk, IfErr, OnOk, OnErr, slice_get};
 ghost use Rattle.am_labels.specs.Matcher.{max_matchers, all_hold};
 ghost use Rattle.am_labels.specs.declared.kind.Kind.TheVariants as kinds;
 
@@ -23,7 +23,8 @@ impl Model for Matchers {
     ghost invariant = { λ a. length a.matchers.items ≤ max_matchers };
 }
 
-const MAX_MATCHERS: usize = 64;
+/// The most matchers of a list.
+pub(crate) const MAX_MATCHERS: usize = 64;
 
 impl Matchers {
     /// The empty list, which every label set matches. It keeps the allocator.
@@ -46,6 +47,25 @@ impl Matchers {
             return Err(Kind::Limit);
         }
         match self.matchers.push(matcher) {
+            Ok(()) => Ok(()),
+            Err(_) => Err(Kind::Memory),
+        }
+    }
+
+    /// Adds the matchers of another list at the end, in their order. `Limit` exactly where there would be more than 64
+    /// together, or else `Memory`. After an `Err` nothing has changed, and the other list is dropped.
+    pub fn append(&mut self, other: Matchers) -> Result<(), Kind>
+        ensures ok { OnOk result (self.new ≡ self.old ++ other) }
+        ensures room { OnOk result (length self.old + length other ≤ max_matchers) }
+        ensures full { max_matchers < length self.old + length other → result ≡ Err kinds.Limit }
+        ensures refused { IfErr result (λ kind. kind ≢ kinds.Memory → (kind ≡ kinds.Limit) × (max_matchers < length self.old + length other)) }
+        ensures err { OnErr result (self.new ≡ self.old) }
+    {
+        if self.len() + other.len() > MAX_MATCHERS {
+            return Err(Kind::Limit);
+        }
+        let mut more = other.matchers;
+        match self.matchers.append(&mut more) {
             Ok(()) => Ok(()),
             Err(_) => Err(Kind::Memory),
         }
@@ -74,13 +94,13 @@ impl Matchers {
         &self.matchers[i]
     }
 
-    /// Whether every matcher matches the label set.
-    pub fn matches(&self, _alloc: Global, set: &LabelSet) -> Result<bool, AllocError>
+    /// Whether every matcher matches the label set. A label that is missing has the empty text.
+    pub fn matches(&self, alloc: Global, set: &LabelSet) -> Result<bool, AllocError>
         ensures { IfOk result (λ matched. matched ≡ all_hold set.now self.now) }
     {
         for matcher in &self.matchers {
             let text = set.get(matcher.name());
-            if !matcher.holds(text) {
+            if !matcher.holds(alloc, text)? {
                 return Ok(false);
             }
         }

@@ -1,3 +1,6 @@
+ghost use Rattle.std.specs.Prelude.{◌≡◌};
+ghost use Rattle.am_labels.specs.Matcher.{takes_pattern, negates};
+
 /// The operator of a matcher.
 #[derive(Clone, Copy, Debug, PartialEq, Eq)]
 pub enum Op {
@@ -5,4 +8,24 @@ pub enum Op {
     Equal,
     /// `!=`: the label does not have the value.
     NotEqual,
+    /// `=~`: the pattern matches the label's whole value.
+    Matches,
+    /// `!~`: the pattern does not match the label's whole value.
+    NotMatches,
+}
+
+impl Op {
+    /// Whether the operator takes its value as a pattern.
+    pub(crate) fn takes_pattern(self) -> bool
+        ensures { result ≡ takes_pattern self }
+    {
+        matches!(self, Op::Matches | Op::NotMatches)
+    }
+
+    /// Whether the operator asks for the contrary of what its value says.
+    pub(crate) fn negates(self) -> bool
+        ensures { result ≡ negates self }
+    {
+        matches!(self, Op::NotEqual | Op::NotMatches)
+    }
 }

@@ -1,0 +1,281 @@
+-- What is read from a piece is what it spells, and so for a whole text.
+use Rattle.std.proofs.Common.{◌≡◌, refl, sym, ◌∙◌, ap, subst, inl, inr, ℕ, suc, ◌+◌, ◌-◌, ◌<◌, ◌≤◌, List, [], ◌∷◌, ◌++◌, length, take, drop, get_or, true, false, not, ◌&&◌, arith, Option, Some, Result, Ok, Err, ◌≢◌, IfOk, IfErr, Vec, Global}
+use Rattle.std.specs.Prelude.{◌==◌}
+use Rattle.std.specs.List.{prefix_len, suffix_len, list_all, AllZip, All, AllByRecursion}
+use Rattle.std.specs.String.{string_bytes}
+use Rattle.std.proofs.lemmas.List.Elements.{All-from_recursion}
+use Rattle.am_labels.specs.declared.matcher_text.Spelled.{Spelled}
+use Rattle.std.proofs.lemmas.List.{append-nil, take-append-drop, get_or-take, length-take-le}
+use Rattle.std.proofs.lemmas.Bool.{and_parts, and_from, cases_lt, cases_Bool, eqb-true, not-true, false≢true}
+use Rattle.std.proofs.lemmas.Bool.Decides.{nat_tests}
+use Rattle.std.proofs.lemmas.Option.{same_Some, cond_some, option_and_then_some, some_pair_parts, none-some}
+use Rattle.am_labels.specs.declared.kind.Kind.{Kind}
+use Rattle.am_labels.specs.declared.kind.Kind.TheVariants.{Memory, BadMatcher}
+use Rattle.am_labels.specs.declared.op.Op.{Op}
+use Rattle.am_labels.specs.declared.op.Op.TheVariants.{Equal, NotEqual, Matches, NotMatches}
+use Rattle.am_labels.specs.Matcher.{Condition}
+use Rattle.am_labels.specs.MatcherText.{is_space, is_blank, begins_name, continues_name, is_name, operator_text, unescaped, is_trimmed, SpellsOne, Spells, pieces, without_opening, without_closing}
+use Rattle.am_labels.specs.MatcherReading.{Gives, conditions_of, read_body, read_operator, read_name, read_piece, read_each, read_list, trimmed_start, trimmed_end, ◌>>=◌}
+use Rattle.am_labels.proofs.MatcherTextSteps.{whole_piece}
+use Rattle.am_labels.proofs.MatcherTextLists.{drop_prefix, take_prefix, all_of_prefix, first_after_prefix, all_append, all_of_suffix, last_before_suffix, take_before_suffix}
+use Rattle.am_labels.proofs.MatcherTextBodies.{body_is_read, read_is_body}
+
+-- ---- bytes
+
+begins_no_space : (c : ℕ) → begins_name c ≡ true → is_space c ≡ false
+begins_no_space c h = grind (arith, nat_tests)
+
+begins_continues : (c : ℕ) → begins_name c ≡ true → continues_name c ≡ true
+begins_continues c h = grind (arith, nat_tests)
+
+space_ends_name : (c : ℕ) → is_space c ≡ true → continues_name c ≡ false
+space_ends_name c h = grind (arith, nat_tests)
+
+operator_no_space : (op : Op) (rest : List ℕ) → is_space (get_or (operator_text op ++ rest) 0 0) ≡ false
+operator_no_space Equal rest = refl
+operator_no_space NotEqual rest = refl
+operator_no_space Matches rest = refl
+operator_no_space NotMatches rest = refl
+
+operator_ends_name : (between : List ℕ) (op : Op) (rest : List ℕ) → is_blank between ≡ true → continues_name (get_or (between ++ (operator_text op ++ rest)) 0 0) ≡ false
+operator_ends_name [] Equal rest b = refl
+operator_ends_name [] NotEqual rest b = refl
+operator_ends_name [] Matches rest b = refl
+operator_ends_name [] NotMatches rest b = refl
+operator_ends_name (c ∷ cs) op rest b = space_ends_name c (and_parts (is_space c) (is_blank cs) b).0
+
+name_continues : (name : List ℕ) → is_name name ≡ true → list_all continues_name name ≡ true
+name_continues [] h = absurd (false≢true h)
+name_continues (c ∷ cs) h =
+    let parts = and_parts (begins_name c) (list_all continues_name cs) h in
+    and_from (continues_name c) (list_all continues_name cs) (begins_continues c parts.0) parts.1
+
+name_begins : (name rest : List ℕ) → is_name name ≡ true → begins_name (get_or (name ++ rest) 0 0) ≡ true
+name_begins [] rest h = absurd (false≢true h)
+name_begins (c ∷ cs) rest h = (and_parts (begins_name c) (list_all continues_name cs) h).0
+
+-- ---- what is spelled is read
+
+name_is_read : (name rest : List ℕ) → is_name name ≡ true → continues_name (get_or rest 0 0) ≡ false → read_name (name ++ rest) ≡ Some (name, rest)
+unfolding read_name
+name_is_read name rest h e =
+    rw (name_begins name rest h, take_prefix continues_name name rest (name_continues name h) e, drop_prefix continues_name name rest (name_continues name h) e) refl
+
+operator_is_read : (op : Op) (rest : List ℕ) → (op ≡ Equal → (get_or rest 0 0 == 126) ≡ false) → read_operator (operator_text op ++ rest) ≡ Some (op, rest)
+unfolding read_operator
+operator_is_read Equal rest h = rw (h refl) refl
+operator_is_read NotEqual rest h = refl
+operator_is_read Matches rest h = refl
+operator_is_read NotMatches rest h = refl
+
+raw_is_cut : (after raw behind : List ℕ) → is_blank after ≡ true → is_blank behind ≡ true → is_trimmed raw ≡ true → trimmed_end (trimmed_start (after ++ (raw ++ behind))) ≡ raw
+raw_is_cut after [] behind a b t =
+    let none = drop_prefix is_space (after ++ behind) [] (all_append is_space after behind a b) refl in
+    let none' = rw (append-nil (after ++ behind)) at none in
+    rw none' refl
+raw_is_cut after (c ∷ cs) behind a b t =
+    let ends = and_parts (not (is_space c)) (not (is_space (get_or (c ∷ cs) (length (c ∷ cs) - 1) 0))) t in
+    rw (drop_prefix is_space after ((c ∷ cs) ++ behind) a (not-true (is_space c) ends.0))
+    (take_before_suffix is_space (c ∷ cs) behind b (not-true (is_space (get_or (c ∷ cs) (length (c ∷ cs) - 1) 0)) ends.1))
+
+pub spelled_is_read : (piece : List ℕ) (m : Condition) → SpellsOne piece m → read_piece piece ≡ Some m
+spelled_is_read piece m s =
+    let four = and_parts ((is_blank s.before && is_blank s.between) && is_blank s.after) (is_blank s.behind) s.blanks in
+    let three = and_parts (is_blank s.before && is_blank s.between) (is_blank s.after) four.0 in
+    let two = and_parts (is_blank s.before) (is_blank s.between) three.0 in
+    let tail : List ℕ = s.after ++ (s.raw ++ s.behind) in
+    let op : List ℕ = operator_text m.op ++ tail in
+    let rest : List ℕ = s.between ++ op in
+    let start : m.name ++ rest ≡ trimmed_start piece =
+    rw s.parts (sym (drop_prefix is_space s.before (m.name ++ rest) two.0 (begins_no_space (get_or (m.name ++ rest) 0 0) (name_begins m.name rest s.name)))) in
+    let read = whole_piece piece (m.name ++ rest) m.name rest op m.op tail (trimmed_start tail) s.raw s.value.body start
+    (name_is_read m.name rest s.name (operator_ends_name s.between m.op tail two.1))
+    (sym (drop_prefix is_space s.between op two.1 (operator_no_space m.op tail)))
+    (operator_is_read m.op tail s.operator)
+    refl
+    (sym (raw_is_cut s.after s.raw s.behind three.1 four.1 s.trimmed))
+    (body_is_read s.raw s.value.body (s.value.has_body, s.value.no_quote)) in
+    read ∙ ap (λ (value : List ℕ). Some (record m { value = value })) (sym s.value.value_is)
+
+-- ---- what is read is spelled
+
+named : (text : List ℕ) → begins_name (get_or text 0 0) ≡ true → is_name (take (prefix_len continues_name text) text) ≡ true
+named [] h = absurd (false≢true h)
+named (c ∷ cs) h =
+    let n : 1 + prefix_len continues_name cs ≡ suc (prefix_len continues_name cs) = omega arith in
+    rw (begins_continues c h, n) (and_from (begins_name c) (list_all continues_name (take (prefix_len continues_name cs) cs)) h (all_of_prefix continues_name cs))
+
+name_parts : (text name rest : List ℕ) → read_name text ≡ Some (name, rest) → (text ≡ name ++ rest) × (is_name name ≡ true)
+unfolding read_name
+name_parts text name rest e =
+    let f = cond_some (begins_name (get_or text 0 0)) (take (prefix_len continues_name text) text, drop (prefix_len continues_name text) text) (name, rest) e in
+    let n : take (prefix_len continues_name text) text ≡ name = ap (λ (p : List ℕ × List ℕ). p.0) f.1 in
+    let r : drop (prefix_len continues_name text) text ≡ rest = ap (λ (p : List ℕ × List ℕ). p.1) f.1 in
+    (rw (← n, ← r) (sym (take-append-drop (prefix_len continues_name text) text)), rw (← n) (named text f.0))
+
+one_byte : (c : ℕ) (text : List ℕ) → 0 < c → (get_or text 0 0 == c) ≡ true → text ≡ c ∷ drop 1 text
+one_byte c [] l e = absurd (omega (arith, eqb-true 0 c e))
+one_byte c (d ∷ text) l e = rw (eqb-true d c e) refl
+
+two_bytes : (b c : ℕ) (text : List ℕ) → 0 < b → 0 < c → (get_or text 0 0 == b) ≡ true → (get_or text 1 0 == c) ≡ true → text ≡ b ∷ c ∷ drop 2 text
+two_bytes b c [] l k e f = absurd (omega (arith, eqb-true 0 b e))
+two_bytes b c (d ∷ text) l k e f = rw (eqb-true d b e) (ap (λ r. b ∷ r) (one_byte c text k f))
+
+-- an operator and what follows it, as they stand in a text
+abbrev Stand : List ℕ → Op → List ℕ → Type 0
+Stand text op rest = (text ≡ operator_text op ++ rest) × (op ≡ Equal → (get_or rest 0 0 == 126) ≡ false)
+
+stand_same : (text : List ℕ) (o op : Op) (r rest : List ℕ) → ◌≡◌ {A = Option (Op × List ℕ)} (Some (o, r)) (Some (op, rest)) → Stand text o r → Stand text op rest
+stand_same text o op r rest e s =
+    let parts = some_pair_parts o op r rest e in
+    rw (← parts.0, ← parts.1) s
+
+get_or-drop_one : (text : List ℕ) → get_or (drop 1 text) 0 0 ≡ get_or text 1 0
+get_or-drop_one [] = refl
+get_or-drop_one (c ∷ text) = refl
+
+operator_parts : (text : List ℕ) (op : Op) (rest : List ℕ) → read_operator text ≡ Some (op, rest) → Stand text op rest
+unfolding read_operator
+operator_parts text op rest e = elim (cases_Bool (get_or text 0 0 == 61)) [
+  | inl equals ↦
+      let f = rw equals at e in
+      elim (cases_Bool (get_or text 1 0 == 126)) [
+        | inl tilde ↦ stand_same text Matches op (drop 2 text) rest (rw tilde at f) (two_bytes 61 126 text (omega arith) (omega arith) equals tilde, λ q. cc)
+        | inr other ↦ stand_same text Equal op (drop 1 text) rest (rw other at f) (one_byte 61 text (omega arith) equals, λ _. rw (get_or-drop_one text) other)
+      ]
+  | inr not_equals ↦
+      let f = rw not_equals at e in
+      elim (cases_Bool (get_or text 0 0 == 33)) [
+        | inl bang ↦
+            let g = rw bang at f in
+            elim (cases_Bool (get_or text 1 0 == 61)) [
+              | inl equals ↦ stand_same text NotEqual op (drop 2 text) rest (rw equals at g) (two_bytes 33 61 text (omega arith) (omega arith) bang equals, λ q. cc)
+              | inr other ↦
+                  let h = rw other at g in
+                  elim (cases_Bool (get_or text 1 0 == 126)) [
+                    | inl tilde ↦ stand_same text NotMatches op (drop 2 text) rest (rw tilde at h) (two_bytes 33 126 text (omega arith) (omega arith) bang tilde, λ q. cc)
+                    | inr none ↦ absurd (none-some (op, rest) (rw none at h))
+                  ]
+            ]
+        | inr none ↦ absurd (none-some (op, rest) (rw none at f))
+      ]
+]
+
+raw_trimmed : (text : List ℕ) → is_space (get_or text 0 0) ≡ false → is_trimmed (trimmed_end text) ≡ true
+raw_trimmed text first =
+    let n : ℕ = length text - suffix_len is_space text in
+    let le : n ≤ length text = omega arith in
+    let len = length-take-le n text le in
+    elim (cases_lt 0 n) [
+      | inl some ↦
+          let a : get_or (take n text) 0 0 ≡ get_or text 0 0 = get_or-take n text 0 0 some in
+          let b : get_or (take n text) (length (take n text) - 1) 0 ≡ get_or text (length text - suffix_len is_space text - 1) 0 = rw len (get_or-take n text (n - 1) 0 (omega arith)) in
+          rw (a, b, first, last_before_suffix is_space text (omega arith)) refl
+      | inr none ↦
+          let z : n ≡ 0 = omega arith in
+          rw z refl
+    ]
+
+spelled_by : (piece : List ℕ) (name : List ℕ × List ℕ) (op : Op × List ℕ) (body : List ℕ) → read_name (trimmed_start piece) ≡ Some name → read_operator (trimmed_start name.1) ≡ Some op → read_body (trimmed_end (trimmed_start op.1)) ≡ Some body
+    → SpellsOne piece (record { name = name.0; op = op.0; value = unescaped body })
+spelled_by piece name op body n o b =
+    let v : List ℕ = trimmed_start op.1 in
+    let before : List ℕ = take (prefix_len is_space piece) piece in
+    let between : List ℕ = take (prefix_len is_space name.1) name.1 in
+    let after : List ℕ = take (prefix_len is_space op.1) op.1 in
+    let raw : List ℕ = trimmed_end v in
+    let behind : List ℕ = drop (length v - suffix_len is_space v) v in
+    let named = name_parts (trimmed_start piece) name.0 name.1 n in
+    let stands = operator_parts (trimmed_start name.1) op.0 op.1 o in
+    let body_is = read_is_body raw body b in
+    let tail : after ++ (raw ++ behind) ≡ op.1 =
+    ap (λ r. after ++ r) (take-append-drop (length v - suffix_len is_space v) v) ∙ take-append-drop (prefix_len is_space op.1) op.1 in
+    let rest : between ++ (operator_text op.0 ++ (after ++ (raw ++ behind))) ≡ name.1 =
+    ap (λ r. between ++ r) (ap (λ r. operator_text op.0 ++ r) tail ∙ sym stands.0) ∙ take-append-drop (prefix_len is_space name.1) name.1 in
+    let whole : before ++ (name.0 ++ (between ++ (operator_text op.0 ++ (after ++ (raw ++ behind))))) ≡ piece =
+    ap (λ r. before ++ r) (ap (λ r. name.0 ++ r) rest ∙ sym named.0) ∙ take-append-drop (prefix_len is_space piece) piece in
+    record {
+      before = before;
+      between = between;
+      after = after;
+      raw = raw;
+      behind = behind;
+      parts = sym whole;
+      blanks = and_from ((is_blank before && is_blank between) && is_blank after) (is_blank behind)
+          (and_from (is_blank before && is_blank between) (is_blank after)
+          (and_from (is_blank before) (is_blank between) (all_of_prefix is_space piece) (all_of_prefix is_space name.1))
+          (all_of_prefix is_space op.1))
+          (all_of_suffix is_space v);
+      name = named.1;
+      operator = λ q. rw tail (stands.1 q);
+      trimmed = raw_trimmed v (first_after_prefix is_space op.1 refl);
+      value = record { body = body; has_body = body_is.0; no_quote = body_is.1; value_is = refl };
+    }
+
+pub read_is_spelled : (piece : List ℕ) (m : Condition) → read_piece piece ≡ Some m → SpellsOne piece m
+unfolding read_piece
+read_is_spelled piece m e =
+    let written : List ℕ × List ℕ → Op × List ℕ → List ℕ → Option Condition = λ name op body. Some (record { name = name.0; op = op.0; value = unescaped body }) in
+    let from_op : List ℕ × List ℕ → Op × List ℕ → Option Condition = λ name op. read_body (trimmed_end (trimmed_start op.1)) >>= written name op in
+    let from_name : List ℕ × List ℕ → Option Condition = λ name. read_operator (trimmed_start name.1) >>= from_op name in
+    option_and_then_some from_name (read_name (trimmed_start piece)) m e (λ name n f.
+    option_and_then_some (from_op name) (read_operator (trimmed_start name.1)) m f (λ op o g.
+    option_and_then_some (written name op) (read_body (trimmed_end (trimmed_start op.1))) m g (λ body b h.
+    subst (λ (x : Condition). SpellsOne piece x) (same_Some (record { name = name.0; op = op.0; value = unescaped body }) m h) (spelled_by piece name op body n o b))))
+
+-- ---- lists
+
+each_is_read : (ps : List (List ℕ)) (ms : List Condition) → AllZip SpellsOne ps ms → read_each ps ≡ Some ms
+unfolding read_each
+each_is_read [] [] s = refl
+each_is_read [] (m ∷ ms) s = absurd s
+each_is_read (p ∷ ps) [] s = absurd s
+each_is_read (p ∷ ps) (m ∷ ms) s = rw (spelled_is_read p m s.0, each_is_read ps ms s.1) refl
+
+each_is_spelled : (ps : List (List ℕ)) (ms : List Condition) → read_each ps ≡ Some ms → AllZip SpellsOne ps ms
+unfolding read_each
+each_is_spelled [] ms e = rw (← same_Some [] ms e) tt
+each_is_spelled (p ∷ ps) ms e =
+    let others : Condition → Option (List Condition) = λ m. read_each ps >>= λ ns. Some (m ∷ ns) in
+    option_and_then_some others (read_piece p) ms e (λ m r f.
+    option_and_then_some (λ ns. Some (m ∷ ns)) (read_each ps) ms f (λ ns q g.
+    rw (← same_Some (m ∷ ns) ms g) (read_is_spelled p m r, each_is_spelled ps ns q)))
+
+pub list_is_read : (text : List ℕ) (ms : List Condition) → Spells text ms → read_list text ≡ Some ms
+unfolding read_list
+list_is_read text ms s = each_is_read (pieces (without_closing (without_opening text))) ms s
+
+pub list_is_spelled : (text : List ℕ) (ms : List Condition) → read_list text ≡ Some ms → Spells text ms
+unfolding read_list
+list_is_spelled text ms e = each_is_spelled (pieces (without_closing (without_opening text))) ms e
+
+pub one_list : (text : List ℕ) (ms ns : List Condition) → Spells text ms → Spells text ns → ms ≡ ns
+one_list text ms ns s t = same_Some ms ns (sym (list_is_read text ms s) ∙ list_is_read text ns t)
+
+-- ---- an answer of the reader
+
+pub ok_is_spelled : {X : Type 0} (view : X → List Condition) (text : List ℕ) (r : Result X Kind) → Gives view r (read_list text) → IfOk r (λ x. Spells text (view x))
+ok_is_spelled view text (Ok x) g = list_is_spelled text (view x) g
+ok_is_spelled view text (Err kind) g = tt
+
+pub ok_is_only : {X : Type 0} (view : X → List Condition) (text : List ℕ) (r : Result X Kind) → Gives view r (read_list text) → (ms : List Condition) → Spells text ms → IfOk r (λ x. view x ≡ ms)
+ok_is_only view text (Ok x) g ms s = same_Some (view x) ms (sym g ∙ list_is_read text ms s)
+ok_is_only view text (Err kind) g ms s = tt
+
+pub refused_is_none : {X : Type 0} (view : X → List Condition) (text : List ℕ) (r : Result X Kind) → Gives view r (read_list text) → IfErr r (λ kind. kind ≢ Memory → (kind ≡ BadMatcher) × ((ms : List Condition) → Spells text ms → ⊥))
+refused_is_none view text (Ok x) g = tt
+refused_is_none view text (Err kind) (inl memory) = λ other. absurd (other memory)
+refused_is_none view text (Err kind) (inr none) = λ other. (none.0, λ ms s. none-some ms (sym none.1 ∙ list_is_read text ms s))
+
+name_is_some : (name : List ℕ) → is_name name ≡ true → name ≢ []
+name_is_some name h e = false≢true (rw e at h)
+
+each_named : (ps : List (List ℕ)) (ss : List Spelled) → AllZip SpellsOne ps (conditions_of ss) → AllByRecursion (λ (s : Spelled). string_bytes s.name ≢ []) ss
+each_named ps [] h = tt
+each_named [] (s ∷ ss) h = absurd h
+each_named (p ∷ ps) (s ∷ ss) h = (name_is_some (string_bytes s.name) h.0.name, each_named ps ss h.1)
+
+pub ok_is_named : (text : List ℕ) (r : Result (Vec Spelled Global) Kind) → Gives (λ (list : Vec Spelled Global). conditions_of list.items) r (read_list text) → IfOk r (λ list. All (λ s. string_bytes s.name ≢ []) list.items)
+ok_is_named text (Ok list) g =
+    All-from_recursion (λ (s : Spelled). string_bytes s.name ≢ []) list.items (each_named (pieces (without_closing (without_opening text))) list.items (list_is_spelled text (conditions_of list.items) g))
+ok_is_named text (Err kind) g = tt

@@ -1,0 +1,50 @@
+-- What a compiled pattern finds.
+use Rattle.std.proofs.Common.{◌≡◌, ℕ, List, true, Option, None, Some, refl, sym, ap, ◌∙◌, length, take, drop, ◌++◌, ◌-◌, codes, arith}
+use Rattle.std.proofs.lemmas.List.{length-append}
+use Rattle.std.proofs.Math.Seq.{take-append_seam}
+use Rattle.std.specs.Prelude.{chars}
+use Rattle.regex_syntax.specs.Brackets.{Nested}
+use Rattle.regex_syntax.specs.Grammar.{Names, read}
+use Rattle.regex_syntax.specs.Verdict.{Reads}
+use Rattle.regex.specs.Patterns.{Re, default_config}
+use Rattle.regex.specs.Strings.{regex_pattern, regex_source, regex_config, IsReadFromSource}
+use Rattle.regex.specs.declared.string.regex.Regex.{Regex}
+use Rattle.regex.proofs.OnLiterals.{is_match_as_written, same_refl}
+use Rattle.am_labels.specs.Pattern.{anchored, reading, is_pattern}
+use Rattle.am_labels.specs.PatternView.{pattern_text, IsAnchored, SearchesFor}
+
+module _ (r : Regex) (p : List ℕ) (source : regex_source r ≡ anchored p) (config : regex_config r ≡ default_config) (is_read : IsReadFromSource r) where
+  -- by what the grammar answers
+  read_by : (o : Option (Nested Re × Names)) → read default_config (chars (anchored p)) ≡ o →
+      (is_pattern p ≡ true) × SearchesFor (regex_pattern r) p
+  unfolding Reads reading
+  read_by None e = absurd (rw (source, config, e) at is_read)
+  read_by (Some found) e = (
+    rw e refl,
+    λ text bytes.
+        is_match_as_written r (anchored p) found.0.value source config is_read (rw e (same_refl _)) text bytes 0 ∙ rw e refl,
+  )
+
+  pub is_pattern-compiled : is_pattern p ≡ true
+  is_pattern-compiled = (read_by _ refl).0
+
+  pub searches-compiled : SearchesFor (regex_pattern r) p
+  searches-compiled = (read_by _ refl).1
+
+anchors_len : (p : List ℕ) → length (anchored p) - 6 ≡ length p
+anchors_len p = omega (arith, length-append p (codes ")$"))
+
+-- the pattern is what stands between the anchors
+pub between_anchors : (p : List ℕ) → take (length (anchored p) - 6) (drop 4 (anchored p)) ≡ p
+between_anchors p = ap (λ n. take n (p ++ codes ")$")) (anchors_len p) ∙ take-append_seam p (codes ")$")
+
+module _ (r : Regex) (p : List ℕ) (source : regex_source r ≡ anchored p) where
+  pub text-compiled : pattern_text r ≡ p
+  text-compiled = rw source (between_anchors p)
+
+  pub IsAnchored-compiled : regex_config r ≡ default_config → IsReadFromSource r → IsAnchored r
+  IsAnchored-compiled config is_read = record {
+    source = source ∙ ap anchored (sym text-compiled);
+    config = config;
+    read = is_read;
+  }

@@ -1,0 +1,7 @@
+-- A matcher searches for what was compiled.
+use Rattle.am_labels.proofs.Patterns.{searches-compiled}
+use Rattle.am_labels.proofs.pattern.Pattern.matcher.Goals as goal
+
+pub invariant_of-result : goal.invariant_of-result
+invariant_of-result c = rw (c.in_ok-matcher.ensures.pattern, ← c.self.view_is)
+    (searches-compiled c.self.inside.regex _ c.self.invariant.source c.self.invariant.config c.self.invariant.read)

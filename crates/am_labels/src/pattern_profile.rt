@@ -1,0 +1,282 @@
+ghost use Rattle.std.specs.Prelude.{◌≡◌, ◌≤◌, ◌<◌, ◌-◌, length, Some, None, true, false, if◌then◌else◌, option_map, map, IfSome, ◌==◌, nat_eq, ◌+◌, not};
+ghost use Rattle.std.specs.List.{list_any, find, starts_with, position};
+ghost use Rattle.am_labels.specs.PatternProfile.{in_profile, width, first_piece, escape_piece, is_refused_escape, is_refused_flag, flag_run, flag_run_len, begins_count, digits_len, class_start_len, named_class_at, up_to_brace, braces_len};
+ghost use Rattle.am_labels.specs.PatternSteps.{step_of};
+
+/// Where a piece of a pattern stands: outside or inside a class.
+#[derive(Clone, Copy)]
+enum Region {
+    Outside,
+    Inside,
+}
+
+/// A piece of a pattern that the profile has: its length, and where the next one stands.
+#[derive(Clone, Copy)]
+struct Step {
+    width: usize,
+    next: Region,
+}
+
+impl Step {
+    fn to(width: usize, next: Region) -> Step
+        ensures { result ≡ record { width = width; next = next } }
+    {
+        Step { width, next }
+    }
+}
+
+/// Whether nothing stands in the pattern that engines are known to read differently.
+pub(crate) fn is_in_profile(pattern: &str) -> bool
+    ensures { result ≡ in_profile pattern.now }
+{
+    let mut region = Region::Outside;
+    let mut rest = pattern.as_bytes();
+    while !rest.is_empty() {
+        let Some(step) = first_step(region, rest) else {
+            return false;
+        };
+        region = step.next;
+        rest = &rest[step.width..];
+    }
+    true
+}
+
+/// The first piece of a text; `None` where it is refused.
+fn first_step(region: Region, text: &[u8]) -> Option<Step>
+    requires { 0 < length text.now }
+    ensures value { result ≡ step_of region (first_piece region text.now) }
+    ensures within { IfSome result (λ step. step.width ≤ length text.now) }
+    ensures some { IfSome result (λ step. 0 < step.width) }
+{
+    match region {
+        Region::Outside => outside_step(text),
+        Region::Inside => inside_step(text),
+    }
+}
+
+/// The first piece of a text outside a class.
+#[tactic(auto, unfolding(crate::specs::PatternProfile::first_piece))]
+fn outside_step(text: &[u8]) -> Option<Step>
+    requires { 0 < length text.now }
+    ensures value { result ≡ step_of Region.Outside (first_piece Region.Outside text.now) }
+    ensures within { IfSome result (λ step. step.width ≤ length text.now) }
+    ensures some { IfSome result (λ step. 0 < step.width) }
+{
+    if text.starts_with(b"\\") {
+        return escape_step(Region::Outside, &text[1..]);
+    }
+    if text.starts_with(b"(?") {
+        return has_only_common_flags(&text[2..]).then_some(Step::to(2, Region::Outside));
+    }
+    if text.starts_with(b"{") {
+        return begins_count(&text[1..]).then_some(Step::to(1, Region::Outside));
+    }
+    if text.starts_with(b"[") {
+        return Some(Step::to(class_start_len(text), Region::Inside));
+    }
+    Some(Step::to(1, Region::Outside))
+}
+
+/// The first piece of a text inside a class.
+#[tactic(auto, unfolding(crate::specs::PatternProfile::first_piece))]
+fn inside_step(text: &[u8]) -> Option<Step>
+    requires { 0 < length text.now }
+    ensures value { result ≡ step_of Region.Inside (first_piece Region.Inside text.now) }
+    ensures within { IfSome result (λ step. step.width ≤ length text.now) }
+    ensures some { IfSome result (λ step. 0 < step.width) }
+{
+    if text.starts_with(b"\\") {
+        return escape_step(Region::Inside, &text[1..]);
+    }
+    if text.starts_with(b"[") {
+        let width = named_class_len(text)?;
+        return Some(Step::to(width, Region::Inside));
+    }
+    if text.starts_with(b"&&") || text.starts_with(b"--") || text.starts_with(b"~~") {
+        return None;
+    }
+    if text.starts_with(b"]") {
+        return Some(Step::to(1, Region::Outside));
+    }
+    Some(Step::to(1, Region::Inside))
+}
+
+/// The piece that a backslash begins, from what stands behind it.
+fn escape_step(region: Region, after: &[u8]) -> Option<Step>
+    ensures value { result ≡ step_of region (escape_piece after.now) }
+    ensures within { IfSome result (λ step. step.width ≤ length after.now + 1) }
+    ensures some { IfSome result (λ step. 0 < step.width) }
+{
+    match after {
+        [] => Some(Step::to(1, region)),
+        [byte, rest @ ..] => {
+            if is_refused_escape(*byte) {
+                return None;
+            }
+            Some(Step::to(2 + braces_len(*byte, rest), region))
+        }
+    }
+}
+
+/// Whether a backslash may not stand before it.
+fn is_refused_escape(byte: u8) -> bool
+    ensures { result ≡ is_refused_escape byte }
+{
+    byte == b'<'
+        || byte == b'>'
+        || byte.is_ascii_digit()
+        || byte.is_ascii_alphabetic() && !b"dDwWsSbBtnrfvaAzxpP".contains(&byte)
+}
+
+/// The length of the braces that belong to an escape, from what stands behind it.
+fn braces_len(byte: u8, after: &[u8]) -> usize
+    ensures value { result ≡ braces_len byte after.now }
+    ensures within { result ≤ length after.now }
+{
+    if !matches!(byte, b'x' | b'p' | b'P') || !after.starts_with(b"{") {
+        return 0;
+    }
+    up_to_brace(after)
+}
+
+/// How far it is up to the next `}`, or to the end.
+fn up_to_brace(text: &[u8]) -> usize
+    ensures value { result ≡ up_to_brace text.now }
+    ensures within { result ≤ length text.now }
+{
+    match brace_at(text) {
+        Some(i) => i + 1,
+        None => text.len(),
+    }
+}
+
+fn brace_at(text: &[u8]) -> Option<usize>
+    ensures value { result ≡ position (λ c. c == 125) text.now }
+    ensures within { IfSome result (λ i. i < length text.now) }
+{
+    text.iter().position(|b| *b == b'}')
+}
+
+/// Whether the run of flags behind `(?` holds none that is refused.
+fn has_only_common_flags(after: &[u8]) -> bool
+    ensures { result ≡ not (list_any is_refused_flag (flag_run after.now)) }
+{
+    !has_refused_flag(&after[..flag_run_len(after)])
+}
+
+fn has_refused_flag(run: &[u8]) -> bool
+    ensures { result ≡ list_any is_refused_flag run.now }
+{
+    run.iter().any(|b| is_refused_flag(*b))
+}
+
+fn is_refused_flag(byte: u8) -> bool
+    ensures { result ≡ is_refused_flag byte }
+{
+    matches!(byte, b'x' | b'u' | b'R')
+}
+
+/// The length of the run of letters and `-` at the front.
+fn flag_run_len(text: &[u8]) -> usize
+    ensures value { result ≡ flag_run_len text.now }
+    ensures within { result ≤ length text.now }
+{
+    text.iter()
+        .take_while(|b| b.is_ascii_alphabetic() || **b == b'-')
+        .count()
+}
+
+/// Whether a count of repetitions begins behind the `{`.
+fn begins_count(text: &[u8]) -> bool
+    ensures { result ≡ begins_count text.now }
+{
+    let least = digits_len(text);
+    let after = &text[least..];
+    if least == 0 {
+        return false;
+    }
+    if after.starts_with(b"}") {
+        return true;
+    }
+    if !after.starts_with(b",") {
+        return false;
+    }
+    let most = &after[1..];
+    most[digits_len(most)..].starts_with(b"}")
+}
+
+fn digits_len(text: &[u8]) -> usize
+    ensures value { result ≡ digits_len text.now }
+    ensures within { result ≤ length text.now }
+{
+    text.iter().take_while(|b| b.is_ascii_digit()).count()
+}
+
+/// The length of the beginning of a class: `[`, and directly behind it `^`, and then `]`.
+fn class_start_len(text: &[u8]) -> usize
+    requires { 0 < length text.now }
+    ensures value { result ≡ class_start_len text.now }
+    ensures within { result ≤ length text.now }
+{
+    if text.starts_with(b"[^]") {
+        3
+    } else if text.starts_with(b"[^") || text.starts_with(b"[]") {
+        2
+    } else {
+        1
+    }
+}
+
+/// The named classes that may stand inside a class.
+const NAMED_CLASSES: [&str; 28] = [
+    "[:alnum:]",
+    "[:^alnum:]",
+    "[:alpha:]",
+    "[:^alpha:]",
+    "[:ascii:]",
+    "[:^ascii:]",
+    "[:blank:]",
+    "[:^blank:]",
+    "[:cntrl:]",
+    "[:^cntrl:]",
+    "[:digit:]",
+    "[:^digit:]",
+    "[:graph:]",
+    "[:^graph:]",
+    "[:lower:]",
+    "[:^lower:]",
+    "[:print:]",
+    "[:^print:]",
+    "[:punct:]",
+    "[:^punct:]",
+    "[:space:]",
+    "[:^space:]",
+    "[:upper:]",
+    "[:^upper:]",
+    "[:word:]",
+    "[:^word:]",
+    "[:xdigit:]",
+    "[:^xdigit:]",
+];
+
+/// The length of the named class that begins a text.
+fn named_class_len(text: &[u8]) -> Option<usize>
+    ensures value { result ≡ option_map (λ named. length named) (named_class_at text.now) }
+    ensures within { IfSome result (λ n. n ≤ length text.now) }
+    ensures some { IfSome result (λ n. 0 < n) }
+{
+    first_prefix_len(text, &NAMED_CLASSES)
+}
+
+/// The length of the first of the words with which the text begins.
+fn first_prefix_len(text: &[u8], words: &[&str]) -> Option<usize>
+    ensures value { result ≡ option_map (λ word. length word) (find (λ word. starts_with nat_eq text.now word) (map (λ w. w.now) words.now)) }
+    ensures within { IfSome result (λ n. n ≤ length text.now) }
+{
+    for word in words {
+        if text.starts_with(word.as_bytes()) {
+            return Some(word.len());
+        }
+    }
+    None
+}
