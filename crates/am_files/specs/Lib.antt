@@ -5,3 +5,4 @@ pub mod UniverseFile
 pub mod Judged
 pub mod ConfigFile
 pub mod ConfigReading
+pub mod RouteView

@@ -4,12 +4,17 @@
 //! JSON Pointer, at which part.
 #![tactic(auto)]
 
+mod config;
 mod json;
 pub mod laws;
+mod matchers;
 mod pointer;
 mod refusal;
+mod route;
 mod universe;
 
+pub use config::{Config, read_config};
+pub use route::Route;
 pub use universe::read_universe;
 
 #[cfg(test)]

@@ -1,0 +1,297 @@
+//! The configuration file.
+
+ghost use Rattle.std.specs.Prelude.{◌≡◌, ◌≢◌, ◌≤◌, ◌+◌, [], ◌∷◌, ◌++◌, length, map, Some, None, Ok, Err, IfOk, IfErr, OnOk, string_bytes, option_map, position, is_none};
+ghost use Rattle.serde_json.specs.View.{view, members_view};
+ghost use Rattle.am_labels.specs.Text.{same_text};
+ghost use Rattle.am_labels.specs.declared.kind.Kind.TheVariants as kinds;
+ghost use Rattle.am_labels.specs.declared.place.Place.TheVariants as places;
+ghost use Rattle.am_files.specs.Pointer as pointer;
+ghost use Rattle.am_files.specs.Pointer.{to_item, to_field};
+ghost use Rattle.am_files.specs.Reading as plain;
+ghost use Rattle.am_files.specs.Reading.{Gives, refusal_of};
+ghost use Rattle.am_files.specs.Judged as judged;
+ghost use Rattle.am_files.specs.RouteView.{route_view, names_of};
+ghost use Rattle.am_files.specs.ConfigFile.{Configuration, FileSaysConfig, max_routes, route_count, routes_count, routes_of};
+ghost use Rattle.am_files.specs.ConfigReading.{name_fault, receiver_behind, names_in, receivers_in, inherited, declared, named, receiver_of, receiver_in, truth_of, continues_in, some_items, no_rules, route_in, config_in, config_file};
+
+use crate::json::{
+    at_most, field, items, json, object, only_fields, required, required_items, required_text,
+    text, unless,
+};
+use crate::matchers::matchers;
+use crate::pointer::{within_field, within_item};
+use crate::refusal::ReadError;
+use crate::route::Route;
+use am_labels::{Fault, Kind, Place};
+use serde_json::Value;
+use std::alloc::Global;
+
+const MAX_RECEIVERS: usize = 1024;
+
+const MAX_ROUTES: usize = 1024;
+
+const MAX_LEVELS: usize = 32;
+
+/// The fields of a route. How alerts are grouped, and when they are sent, is not read.
+const ROUTE_FIELDS: [&str; 12] = [
+    "receiver",
+    "matchers",
+    "match",
+    "match_re",
+    "continue",
+    "routes",
+    "group_by",
+    "group_wait",
+    "group_interval",
+    "repeat_interval",
+    "mute_time_intervals",
+    "active_time_intervals",
+];
+
+/// A configuration: the receivers, and the tree of routes.
+#[derive(Drop)]
+pub struct Config {
+    receivers: Vec<String>,
+    root: Route,
+}
+
+impl Config {
+    /// How many receivers are declared.
+    pub fn receivers(&self) -> usize
+        ensures { result ≡ length self.now.receivers.items }
+    {
+        self.receivers.len()
+    }
+
+    /// The name of a receiver.
+    pub fn receiver_name(&self, i: usize) -> &str
+        requires { i + 1 ≤ length self.now.receivers.items }
+    {
+        self.receivers[i].as_str()
+    }
+
+    /// The top-level route.
+    pub fn root(&self) -> &Route
+        ensures { result.now ≡ self.now.root }
+    {
+        &self.root
+    }
+}
+
+/// The configuration that a file says.
+pub fn read_config(alloc: Global, bytes: &[u8]) -> Result<Config, Fault> {
+    match config_file(alloc, bytes) {
+        Ok(config) => Ok(config),
+        Err(error) => Err(error.at(alloc, Place::Config)),
+    }
+}
+
+fn config_file(alloc: Global, bytes: &[u8]) -> Result<Config, ReadError> {
+    let value = json(alloc, bytes)?;
+    config_in(alloc, &value)
+}
+
+fn config_in(alloc: Global, value: &Value) -> Result<Config, ReadError> {
+    object(alloc, value)?;
+    let receivers = receivers(alloc, value)?;
+    let root = required(alloc, value, "route")?;
+    let root = within_field(alloc, "route", root_route(alloc, &receivers, root))?;
+    no_rules(alloc, value)?;
+    Ok(Config { receivers, root })
+}
+
+/// Inhibition rules are not read yet.
+fn no_rules(alloc: Global, value: &Value) -> Result<(), ReadError> {
+    match field(value, "inhibit_rules") {
+        None => Ok(()),
+        Some(_) => within_field(
+            alloc,
+            "inhibit_rules",
+            Err(ReadError::here(alloc, Kind::UnknownField)),
+        ),
+    }
+}
+
+// ---- The receivers.
+
+fn receivers(alloc: Global, value: &Value) -> Result<Vec<String>, ReadError> {
+    let items = required_items(alloc, value, "receivers")?;
+    within_field(alloc, "receivers", names(alloc, items))
+}
+
+fn names(alloc: Global, items: &[Value]) -> Result<Vec<String>, ReadError> {
+    at_most(alloc, MAX_RECEIVERS, items.len())?;
+    names_behind(alloc, items)
+}
+
+fn names_behind(alloc: Global, items: &[Value]) -> Result<Vec<String>, ReadError> {
+    let mut names = Vec::new(alloc);
+    for item in items {
+        let name = next_name(alloc, names.as_slice(), item)?;
+        names.push(name)?;
+    }
+    Ok(names)
+}
+
+/// The item whose position is the number of names so far.
+fn next_name(alloc: Global, before: &[String], item: &Value) -> Result<String, ReadError> {
+    within_item(alloc, before.len(), name(alloc, before, item))
+}
+
+/// The name of a receiver behind others.
+fn name(alloc: Global, before: &[String], value: &Value) -> Result<String, ReadError> {
+    object(alloc, value)?;
+    let name = required_text(alloc, value, "name")?;
+    within_field(alloc, "name", unless(alloc, name_fault(before, name)))?;
+    Ok(String::from_str(alloc, name)?)
+}
+
+fn name_fault(before: &[String], name: &str) -> Option<Kind> {
+    if name.is_empty() {
+        return Some(Kind::Empty);
+    }
+    match position(before, name) {
+        Some(_) => Some(Kind::Duplicate),
+        None => None,
+    }
+}
+
+/// The position of a name.
+fn position(names: &[String], name: &str) -> Option<usize> {
+    names.iter().position(|other| other.as_str() == name)
+}
+
+// ---- The routes.
+
+fn root_route(alloc: Global, names: &[String], value: &Value) -> Result<Route, ReadError> {
+    let (root, _) = route(alloc, names, MAX_LEVELS, None, 0, value)?;
+    Ok(root)
+}
+
+/// A route with the levels that are left, its own included, the receiver of its parent, if it has one, and the number
+/// of routes that stand before it in preorder. With it comes the number before the one that follows it.
+#[cycle(routes)]
+fn route(
+    alloc: Global,
+    names: &[String],
+    levels: usize,
+    parent: Option<usize>,
+    before: usize,
+    value: &Value,
+) -> Result<(Route, usize), ReadError>
+{
+    if levels == 0 {
+        return Err(ReadError::here(alloc, Kind::Limit));
+    }
+    if before >= MAX_ROUTES {
+        return Err(ReadError::here(alloc, Kind::Limit));
+    }
+    only_fields(alloc, value, &ROUTE_FIELDS)?;
+    let receiver = receiver(alloc, names, parent, value)?;
+    let matchers = matchers(alloc, parent.is_none(), value)?;
+    let continues = continues(alloc, value)?;
+    let items = children(alloc, value)?;
+    let (routes, after) = within_field(
+        alloc,
+        "routes",
+        routes(alloc, names, levels - 1, receiver, before + 1, items),
+    )?;
+    let route = Route {
+        receiver,
+        matchers,
+        continues,
+        routes,
+    };
+    Ok((route, after))
+}
+
+/// The children of a route with this receiver, and the number of routes before what follows them.
+#[cycle(routes)]
+fn routes(
+    alloc: Global,
+    names: &[String],
+    levels: usize,
+    receiver: usize,
+    before: usize,
+    items: &[Value],
+) -> Result<(Vec<Route>, usize), ReadError> {
+    let mut routes = Vec::new(alloc);
+    let mut after = before;
+    for item in items {
+        let (route, next) = within_item(
+            alloc,
+            routes.len(),
+            route(alloc, names, levels, Some(receiver), after, item),
+        )?;
+        routes.push(route)?;
+        after = next;
+    }
+    Ok((routes, after))
+}
+
+/// The values of a route's children.
+fn children(alloc: Global, value: &Value) -> Result<&[Value], ReadError> {
+    match field(value, "routes") {
+        None => Ok(&[]),
+        Some(found) => within_field(alloc, "routes", items(alloc, found)),
+    }
+}
+
+/// The receiver of a route: its own, or that of its parent where it names none.
+fn receiver(
+    alloc: Global,
+    names: &[String],
+    parent: Option<usize>,
+    value: &Value,
+) -> Result<usize, ReadError> {
+    within_field(
+        alloc,
+        "receiver",
+        receiver_of(alloc, names, parent, field(value, "receiver")),
+    )
+}
+
+fn receiver_of(
+    alloc: Global,
+    names: &[String],
+    parent: Option<usize>,
+    found: Option<&Value>,
+) -> Result<usize, ReadError> {
+    let Some(found) = found else {
+        return inherited(alloc, parent);
+    };
+    let name = text(alloc, found)?;
+    if name.is_empty() {
+        return inherited(alloc, parent);
+    }
+    declared(alloc, names, name)
+}
+
+fn inherited(alloc: Global, parent: Option<usize>) -> Result<usize, ReadError> {
+    match parent {
+        Some(receiver) => Ok(receiver),
+        None => Err(ReadError::here(alloc, Kind::Shape)),
+    }
+}
+
+fn declared(alloc: Global, names: &[String], name: &str) -> Result<usize, ReadError> {
+    match position(names, name) {
+        Some(receiver) => Ok(receiver),
+        None => Err(ReadError::here(alloc, Kind::UndefinedReceiver)),
+    }
+}
+
+/// Whether later siblings of a route are tried after it.
+fn continues(alloc: Global, value: &Value) -> Result<bool, ReadError> {
+    within_field(alloc, "continue", truth_of(alloc, field(value, "continue")))
+}
+
+fn truth_of(alloc: Global, found: Option<&Value>) -> Result<bool, ReadError> {
+    let Some(found) = found else {
+        return Ok(false);
+    };
+    match found.as_bool() {
+        Some(truth) => Ok(truth),
+        None => Err(ReadError::here(alloc, Kind::Shape)),
+    }
+}
