@@ -21,3 +21,4 @@ pub mod MatcherTextPieces
 pub mod MatcherTextLists
 pub mod MatcherTextBodies
 pub mod MatcherTextWhole
+pub mod MatcherLists

@@ -91,7 +91,7 @@ impl Matcher {
     {
         let found = match &self.pattern {
             Some(pattern) => pattern.matches(alloc, text)?,
-            None => text == self.value.as_str(),
+            None => text == self.value(),
         };
         Ok(found != self.op.negates())
     }
