@@ -1,5 +1,5 @@
 -- The configuration file: which JSON value says which configuration. (Alertmanager configuration reference.)
-use Rattle.std.specs.Prelude.{◌≡◌, ◌≢◌, ◌⊎◌, ◌×◌, ◌≤◌, ◌+◌, ℕ, suc, max, List, [], ◌∷◌, ◌++◌, length, Bool, true, false, IsTrue, Option, Some, None, option_and_then, position, codes, ⊤}
+use Rattle.std.specs.Prelude.{◌≡◌, ◌≢◌, ◌⊎◌, ◌≤◌, ◌+◌, ℕ, suc, max, List, [], ◌∷◌, ◌++◌, length, Bool, true, false, IsTrue, Option, Some, None, option_and_then, position, codes, ⊤}
 use Rattle.std.specs.List.{IsDistinct}
 use Rattle.serde_json.specs.Data.{Data, string, boolean, object, Members, no_members, member}
 use Rattle.am_labels.specs.Text.{same_text}
@@ -33,12 +33,12 @@ routes_of [] = no_routes
 routes_of (t ∷ ts) = next_route t (routes_of ts)
 
 abbrev pub matchers_of : RouteTree → List Condition
-matchers_of (route receiver matchers continues routes) = matchers
+matchers_of (route receiver matchers continues children) = matchers
 
 -- how many routes there are
 abbrev mutual
   pub route_count : RouteTree → ℕ
-  route_count (route receiver matchers continues routes) = 1 + routes_count routes
+  route_count (route receiver matchers continues children) = 1 + routes_count children
 
   pub routes_count : Routes → ℕ
   routes_count no_routes = 0
@@ -47,7 +47,7 @@ abbrev mutual
 -- in how many levels they lie, the route itself in the first
 abbrev mutual
   pub route_levels : RouteTree → ℕ
-  route_levels (route receiver matchers continues routes) = 1 + routes_levels routes
+  route_levels (route receiver matchers continues children) = 1 + routes_levels children
 
   pub routes_levels : Routes → ℕ
   routes_levels no_routes = 0
@@ -56,7 +56,7 @@ abbrev mutual
 -- each receiver's position is below this number
 abbrev mutual
   pub HasReceiversBelow : ℕ → RouteTree → Type 0
-  HasReceiversBelow count (route receiver matchers continues routes) = (suc receiver ≤ count) × HaveReceiversBelow count routes
+  HasReceiversBelow count (route receiver matchers continues children) = (suc receiver ≤ count) × HaveReceiversBelow count children
 
   pub HaveReceiversBelow : ℕ → Routes → Type 0
   HaveReceiversBelow count no_routes = ⊤
@@ -151,7 +151,7 @@ pub record SaysOneRoute (names : List (List ℕ)) (parent : Option ℕ) (d : Dat
 -- A value says a route, below a parent with this receiver if there is one. (Reference, "route".)
 abbrev mutual
   pub SaysRoute : List (List ℕ) → Option ℕ → Data → RouteTree → Type 0
-  SaysRoute names parent d (route receiver matchers continues routes) = SaysOneRoute names parent d receiver matchers continues (λ items. SaysRoutes names receiver items routes)
+  SaysRoute names parent d (route receiver matchers continues children) = SaysOneRoute names parent d receiver matchers continues (λ items. SaysRoutes names receiver items children)
 
   pub SaysRoutes : List (List ℕ) → ℕ → List Data → Routes → Type 0
   SaysRoutes names receiver [] no_routes = ⊤

@@ -1,5 +1,5 @@
 -- Reading a configuration file, with the first fault that is met.
-use Rattle.std.specs.Prelude.{◌≡◌, ◌+◌, ℕ, zero, suc, List, [], ◌∷◌, ◌++◌, length, Bool, false, not, ◌&&◌, ◌||◌, nat_lt, if◌then◌else◌, is_none, Option, Some, None, ok_or, position, Result, Ok, Err, codes, ⊤}
+use Rattle.std.specs.Prelude.{◌≡◌, ◌+◌, ℕ, zero, suc, List, [], ◌∷◌, ◌++◌, length, Bool, true, false, not, ◌&&◌, ◌||◌, nat_lt, if◌then◌else◌, is_none, Option, Some, None, ok_or, position, Result, Ok, Err, codes, ⊤}
 use Rattle.std.specs.List.{list_any}
 use Rattle.std.specs.Result.{result_err}
 use Rattle.serde_json.specs.Data.{Data, Members, no_members, member}
@@ -70,6 +70,10 @@ abbrev pub some_items : Option Data → Result (List Data) Refusal
 some_items None = Ok []
 some_items (Some d) = items_in d
 
+-- the values of a route's children
+unfoldable pub children_in : Data → Result (List Data) Refusal
+children_in d = pointer.under (to_field (codes "routes")) (some_items (field (codes "routes") d))
+
 -- ---- The matchers of a route.
 
 -- the first pattern that is refused though the engine builds each that its grammar reads
@@ -86,7 +90,7 @@ reaches_pattern (m ∷ ms) = takes_pattern m.op && in_profile m.value || has_sou
 abbrev pub patterns_in : List Condition → Judged ⊤
 patterns_in ms = record {
   gives = unless (pattern_fault ms);
-  open = λ r. (r ≡ here kinds.Pattern) × (reaches_pattern ms ≡ true);
+  left_open = λ r. (r ≡ here kinds.Pattern) × (reaches_pattern ms ≡ true);
 }
 
 -- matchers behind others, of which there are not more than 64 together
@@ -176,9 +180,13 @@ route_in names (suc left) parent before d = do
   receiver ← sure (receiver_in names parent d)
   matchers ← matchers_in (is_none parent) d
   continues ← sure (continues_in d)
-  items ← sure (pointer.under (to_field (codes "routes")) (some_items (field (codes "routes") d)))
-  routes ← under (to_field (codes "routes")) (each (λ earlier. route_in names left (Some receiver) (before + 1 + routes_count (routes_of earlier))) [] items)
-  sure (Ok (route receiver matchers continues (routes_of routes)))
+  items ← sure (children_in d)
+  children ← under (to_field (codes "routes")) (each (λ earlier. route_in names left (Some receiver) (before + 1 + routes_count (routes_of earlier))) [] items)
+  sure (Ok (route receiver matchers continues (routes_of children)))
+
+-- a child of a route, behind those that were read already
+abbrev pub children_behind : List (List ℕ) → ℕ → ℕ → ℕ → List RouteTree → Data → Judged RouteTree
+children_behind names left receiver before = λ earlier. route_in names left (Some receiver) (before + routes_count (routes_of earlier))
 
 -- ---- The file.
 

@@ -12,29 +12,29 @@ pub record Judged (A : Type 0) : Type 1 where
   -- the value, or the first fault, where the engine builds each pattern that its grammar reads
   pub gives : Result A Refusal
   -- the refusals of patterns that are left open before that
-  pub open : Refusal → Type 0
+  pub left_open : Refusal → Type 0
 
 -- nothing is left open
 abbrev pub sure : {A : Type 0} → Result A Refusal → Judged A
-sure reading = record { gives = reading; open = λ _. ⊥ }
+sure reading = record { gives = reading; left_open = λ _. ⊥ }
 
 infixl 10 ◌>>=◌
 abbrev pub ◌>>=◌ : {A B : Type 0} → Judged A → (A → Judged B) → Judged B
 m >>= f = record {
   gives = plain.◌>>=◌ m.gives (λ x. (f x).gives);
-  open = λ r. m.open r ⊎ IsOkAnd m.gives (λ x. (f x).open r);
+  left_open = λ r. m.left_open r ⊎ IsOkAnd m.gives (λ x. (f x).left_open r);
 }
 
 -- what reading a part comes to, seen from the value that has the part
 abbrev pub under : {A : Type 0} → List ℕ → Judged A → Judged A
 under part m = record {
   gives = pointer.under part m.gives;
-  open = λ r. (found : Refusal) × (r ≡ behind part found) × m.open found;
+  left_open = λ r. (found : Refusal) × (r ≡ behind part found) × m.left_open found;
 }
 
 -- a refusal is the first fault, or was left open before it
 abbrev pub Refuses : {A : Type 0} → Judged A → Refusal → Type 0
-Refuses m r = (m.gives ≡ Err r) ⊎ m.open r
+Refuses m r = (m.gives ≡ Err r) ⊎ m.left_open r
 
 -- What a reader fails with is a refusal of what was read, unless memory ran out.
 abbrev pub Fails : {Y : Type 0} → ReadError → Judged Y → Type 0

@@ -6,3 +6,4 @@ pub mod Judged
 pub mod ConfigFile
 pub mod ConfigReading
 pub mod RouteView
+pub mod ConfigView

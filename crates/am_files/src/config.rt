@@ -1,6 +1,6 @@
 //! The configuration file.
 
-ghost use Rattle.std.specs.Prelude.{◌≡◌, ◌≢◌, ◌≤◌, ◌+◌, [], ◌∷◌, ◌++◌, length, map, Some, None, Ok, Err, IfOk, IfErr, OnOk, string_bytes, option_map, position, is_none};
+ghost use Rattle.std.specs.Prelude.{◌≡◌, ◌≢◌, ◌≤◌, ◌+◌, [], ◌∷◌, ◌++◌, codes, length, map, Some, None, Ok, Err, IfOk, IfErr, OnOk, string_bytes, option_map, position, is_none};
 ghost use Rattle.serde_json.specs.View.{view, members_view};
 ghost use Rattle.am_labels.specs.Text.{same_text};
 ghost use Rattle.am_labels.specs.declared.kind.Kind.TheVariants as kinds;
@@ -11,8 +11,10 @@ ghost use Rattle.am_files.specs.Reading as plain;
 ghost use Rattle.am_files.specs.Reading.{Gives, refusal_of};
 ghost use Rattle.am_files.specs.Judged as judged;
 ghost use Rattle.am_files.specs.RouteView.{route_view, names_of};
-ghost use Rattle.am_files.specs.ConfigFile.{Configuration, FileSaysConfig, max_routes, route_count, routes_count, routes_of};
-ghost use Rattle.am_files.specs.ConfigReading.{name_fault, receiver_behind, names_in, receivers_in, inherited, declared, named, receiver_of, receiver_in, truth_of, continues_in, some_items, no_rules, route_in, config_in, config_file};
+ghost use Rattle.am_files.specs.ConfigView.{config_view};
+ghost use Rattle.am_files.specs.ConfigFile.{Configuration, FileSaysConfig, max_levels, max_routes, route_count, routes_count, routes_of};
+ghost use Rattle.am_files.specs.ConfigReading.{name_fault, receiver_behind, names_in, receivers_in, inherited, declared, named, receiver_of, receiver_in, truth_of, continues_in, no_rules, route_in, children_in, children_behind, config_in, config_file};
+ghost use Rattle.am_files.specs.Json.{field};
 
 use crate::json::{
     at_most, field, items, json, object, only_fields, required, required_items, required_text,
@@ -86,12 +88,18 @@ pub fn read_config(alloc: Global, bytes: &[u8]) -> Result<Config, Fault> {
     }
 }
 
-fn config_file(alloc: Global, bytes: &[u8]) -> Result<Config, ReadError> {
+#[tactic(auto, unfolding(crate::specs::ConfigReading::config_file))]
+fn config_file(alloc: Global, bytes: &[u8]) -> Result<Config, ReadError>
+    ensures { judged.Gives config_view result (config_file bytes.now) }
+{
     let value = json(alloc, bytes)?;
     config_in(alloc, &value)
 }
 
-fn config_in(alloc: Global, value: &Value) -> Result<Config, ReadError> {
+#[tactic(auto, unfolding(crate::specs::ConfigReading::config_in))]
+fn config_in(alloc: Global, value: &Value) -> Result<Config, ReadError>
+    ensures { judged.Gives config_view result (config_in (view value.now)) }
+{
     object(alloc, value)?;
     let receivers = receivers(alloc, value)?;
     let root = required(alloc, value, "route")?;
@@ -101,7 +109,9 @@ fn config_in(alloc: Global, value: &Value) -> Result<Config, ReadError> {
 }
 
 /// Inhibition rules are not read yet.
-fn no_rules(alloc: Global, value: &Value) -> Result<(), ReadError> {
+fn no_rules(alloc: Global, value: &Value) -> Result<(), ReadError>
+    ensures { Gives (λ _. tt) result (no_rules (field (codes "inhibit_rules") (view value.now))) }
+{
     match field(value, "inhibit_rules") {
         None => Ok(()),
         Some(_) => within_field(
@@ -114,17 +124,25 @@ fn no_rules(alloc: Global, value: &Value) -> Result<(), ReadError> {
 
 // ---- The receivers.
 
-fn receivers(alloc: Global, value: &Value) -> Result<Vec<String>, ReadError> {
+#[tactic(auto, unfolding(crate::specs::ConfigReading::receivers_in))]
+fn receivers(alloc: Global, value: &Value) -> Result<Vec<String>, ReadError>
+    ensures { Gives (λ names. names_of names.items) result (receivers_in (view value.now)) }
+{
     let items = required_items(alloc, value, "receivers")?;
     within_field(alloc, "receivers", names(alloc, items))
 }
 
-fn names(alloc: Global, items: &[Value]) -> Result<Vec<String>, ReadError> {
+#[tactic(auto, unfolding(crate::specs::ConfigReading::names_in))]
+fn names(alloc: Global, items: &[Value]) -> Result<Vec<String>, ReadError>
+    ensures { Gives (λ names. names_of names.items) result (names_in (map view items.now)) }
+{
     at_most(alloc, MAX_RECEIVERS, items.len())?;
     names_behind(alloc, items)
 }
 
-fn names_behind(alloc: Global, items: &[Value]) -> Result<Vec<String>, ReadError> {
+fn names_behind(alloc: Global, items: &[Value]) -> Result<Vec<String>, ReadError>
+    ensures { Gives (λ names. names_of names.items) result (plain.each receiver_behind [] (map view items.now)) }
+{
     let mut names = Vec::new(alloc);
     for item in items {
         let name = next_name(alloc, names.as_slice(), item)?;
@@ -134,19 +152,26 @@ fn names_behind(alloc: Global, items: &[Value]) -> Result<Vec<String>, ReadError
 }
 
 /// The item whose position is the number of names so far.
-fn next_name(alloc: Global, before: &[String], item: &Value) -> Result<String, ReadError> {
+fn next_name(alloc: Global, before: &[String], item: &Value) -> Result<String, ReadError>
+    ensures { Gives string_bytes result (pointer.under (to_item (length (names_of before.now))) (receiver_behind (names_of before.now) (view item.now))) }
+{
     within_item(alloc, before.len(), name(alloc, before, item))
 }
 
 /// The name of a receiver behind others.
-fn name(alloc: Global, before: &[String], value: &Value) -> Result<String, ReadError> {
+#[tactic(auto, unfolding(crate::specs::ConfigReading::receiver_behind))]
+fn name(alloc: Global, before: &[String], value: &Value) -> Result<String, ReadError>
+    ensures { Gives string_bytes result (receiver_behind (names_of before.now) (view value.now)) }
+{
     object(alloc, value)?;
     let name = required_text(alloc, value, "name")?;
     within_field(alloc, "name", unless(alloc, name_fault(before, name)))?;
     Ok(String::from_str(alloc, name)?)
 }
 
-fn name_fault(before: &[String], name: &str) -> Option<Kind> {
+fn name_fault(before: &[String], name: &str) -> Option<Kind>
+    ensures { result ≡ name_fault (names_of before.now) name.now }
+{
     if name.is_empty() {
         return Some(Kind::Empty);
     }
@@ -157,13 +182,17 @@ fn name_fault(before: &[String], name: &str) -> Option<Kind> {
 }
 
 /// The position of a name.
-fn position(names: &[String], name: &str) -> Option<usize> {
+fn position(names: &[String], name: &str) -> Option<usize>
+    ensures { result ≡ position (same_text name.now) (names_of names.now) }
+{
     names.iter().position(|other| other.as_str() == name)
 }
 
 // ---- The routes.
 
-fn root_route(alloc: Global, names: &[String], value: &Value) -> Result<Route, ReadError> {
+fn root_route(alloc: Global, names: &[String], value: &Value) -> Result<Route, ReadError>
+    ensures { judged.Gives route_view result (route_in (names_of names.now) max_levels None 0 (view value.now)) }
+{
     let (root, _) = route(alloc, names, MAX_LEVELS, None, 0, value)?;
     Ok(root)
 }
@@ -179,6 +208,8 @@ fn route(
     before: usize,
     value: &Value,
 ) -> Result<(Route, usize), ReadError>
+    ensures reads { judged.Gives (λ r. route_view r.0) result (route_in (names_of names.now) levels parent before (view value.now)) }
+    ensures number { IfOk result (λ r. (r.1 ≡ before + route_count (route_view r.0)) × (r.1 ≤ max_routes)) }
 {
     if levels == 0 {
         return Err(ReadError::here(alloc, Kind::Limit));
@@ -214,7 +245,10 @@ fn routes(
     receiver: usize,
     before: usize,
     items: &[Value],
-) -> Result<(Vec<Route>, usize), ReadError> {
+) -> Result<(Vec<Route>, usize), ReadError>
+    ensures reads { judged.Gives (λ rs. map route_view rs.0.items) result (judged.each (children_behind (names_of names.now) levels receiver before) [] (map view items.now)) }
+    ensures number { before ≤ max_routes → IfOk result (λ rs. (rs.1 ≡ before + routes_count (routes_of (map route_view rs.0.items))) × (rs.1 ≤ max_routes)) }
+{
     let mut routes = Vec::new(alloc);
     let mut after = before;
     for item in items {
@@ -230,7 +264,10 @@ fn routes(
 }
 
 /// The values of a route's children.
-fn children(alloc: Global, value: &Value) -> Result<&[Value], ReadError> {
+#[tactic(auto, unfolding(crate::specs::ConfigReading::children_in))]
+fn children(alloc: Global, value: &Value) -> Result<&[Value], ReadError>
+    ensures { Gives (λ items. map view items.now) result (children_in (view value.now)) }
+{
     match field(value, "routes") {
         None => Ok(&[]),
         Some(found) => within_field(alloc, "routes", items(alloc, found)),
@@ -238,12 +275,15 @@ fn children(alloc: Global, value: &Value) -> Result<&[Value], ReadError> {
 }
 
 /// The receiver of a route: its own, or that of its parent where it names none.
+#[tactic(auto, unfolding(crate::specs::ConfigReading::receiver_in))]
 fn receiver(
     alloc: Global,
     names: &[String],
     parent: Option<usize>,
     value: &Value,
-) -> Result<usize, ReadError> {
+) -> Result<usize, ReadError>
+    ensures { Gives (λ r. r) result (receiver_in (names_of names.now) parent (view value.now)) }
+{
     within_field(
         alloc,
         "receiver",
@@ -256,7 +296,9 @@ fn receiver_of(
     names: &[String],
     parent: Option<usize>,
     found: Option<&Value>,
-) -> Result<usize, ReadError> {
+) -> Result<usize, ReadError>
+    ensures { Gives (λ r. r) result (receiver_of (names_of names.now) parent (option_map (λ v. view v.now) found)) }
+{
     let Some(found) = found else {
         return inherited(alloc, parent);
     };
@@ -267,14 +309,18 @@ fn receiver_of(
     declared(alloc, names, name)
 }
 
-fn inherited(alloc: Global, parent: Option<usize>) -> Result<usize, ReadError> {
+fn inherited(alloc: Global, parent: Option<usize>) -> Result<usize, ReadError>
+    ensures { Gives (λ r. r) result (inherited parent) }
+{
     match parent {
         Some(receiver) => Ok(receiver),
         None => Err(ReadError::here(alloc, Kind::Shape)),
     }
 }
 
-fn declared(alloc: Global, names: &[String], name: &str) -> Result<usize, ReadError> {
+fn declared(alloc: Global, names: &[String], name: &str) -> Result<usize, ReadError>
+    ensures { Gives (λ r. r) result (declared (names_of names.now) name.now) }
+{
     match position(names, name) {
         Some(receiver) => Ok(receiver),
         None => Err(ReadError::here(alloc, Kind::UndefinedReceiver)),
@@ -282,11 +328,16 @@ fn declared(alloc: Global, names: &[String], name: &str) -> Result<usize, ReadEr
 }
 
 /// Whether later siblings of a route are tried after it.
-fn continues(alloc: Global, value: &Value) -> Result<bool, ReadError> {
+#[tactic(auto, unfolding(crate::specs::ConfigReading::continues_in))]
+fn continues(alloc: Global, value: &Value) -> Result<bool, ReadError>
+    ensures { Gives (λ b. b) result (continues_in (view value.now)) }
+{
     within_field(alloc, "continue", truth_of(alloc, field(value, "continue")))
 }
 
-fn truth_of(alloc: Global, found: Option<&Value>) -> Result<bool, ReadError> {
+fn truth_of(alloc: Global, found: Option<&Value>) -> Result<bool, ReadError>
+    ensures { Gives (λ b. b) result (truth_of (option_map (λ v. view v.now) found)) }
+{
     let Some(found) = found else {
         return Ok(false);
     };
