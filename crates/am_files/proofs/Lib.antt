@@ -5,3 +5,6 @@ pub mod Arrays
 pub mod Fields
 pub mod UniverseSays
 pub mod Keys
+pub mod Judgements
+pub mod Matching
+pub mod Positions

@@ -86,7 +86,7 @@ pub record NamesReceiver (names : List (List ℕ)) (d : Data) (receiver : ℕ) :
   pub name : List ℕ
   pub named : field (codes "receiver") d ≡ Some (string name)
   pub some : name ≢ []
-  pub declared : position (same_text name) names ≡ Some receiver
+  pub declared : position (λ other. same_text other name) names ≡ Some receiver
 
 -- or it names none, and has that of its parent; the empty text is none
 pub record InheritsReceiver (parent : Option ℕ) (d : Data) (receiver : ℕ) : Type 0 where

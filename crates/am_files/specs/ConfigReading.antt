@@ -1,6 +1,5 @@
 -- Reading a configuration file, with the first fault that is met.
-use Rattle.std.specs.Prelude.{◌≡◌, ◌+◌, ℕ, zero, suc, List, [], ◌∷◌, ◌++◌, length, Bool, true, false, not, ◌&&◌, ◌||◌, nat_lt, if◌then◌else◌, is_none, Option, Some, None, ok_or, position, Result, Ok, Err, codes, ⊤}
-use Rattle.std.specs.List.{list_any}
+use Rattle.std.specs.Prelude.{◌≡◌, ◌+◌, ℕ, zero, suc, List, [], ◌∷◌, ◌++◌, length, Bool, true, false, not, ◌&&◌, ◌||◌, nat_lt, if◌then◌else◌, is_some, is_none, Option, Some, None, ok_or, position, Result, Ok, Err, codes, ⊤}
 use Rattle.std.specs.Result.{result_err}
 use Rattle.serde_json.specs.Data.{Data, Members, no_members, member}
 use Rattle.serde_json.specs.Find.{as_bool}
@@ -28,7 +27,7 @@ is_empty [] = true
 is_empty (x ∷ xs) = false
 
 abbrev pub name_fault : List (List ℕ) → List ℕ → Option Kind
-name_fault before name = if is_empty name then Some kinds.Empty else if list_any (same_text name) before then Some kinds.Duplicate else None
+name_fault before name = if is_empty name then Some kinds.Empty else if is_some (position (λ other. same_text other name) before) then Some kinds.Duplicate else None
 
 -- the name of a receiver behind others
 unfoldable pub receiver_behind : List (List ℕ) → Data → Result (List ℕ) Refusal
@@ -46,7 +45,7 @@ abbrev pub inherited : Option ℕ → Result ℕ Refusal
 inherited parent = ok_or parent (here kinds.Shape)
 
 abbrev pub declared : List (List ℕ) → List ℕ → Result ℕ Refusal
-declared names name = ok_or (position (same_text name) names) (here kinds.UndefinedReceiver)
+declared names name = ok_or (position (λ other. same_text other name) names) (here kinds.UndefinedReceiver)
 
 abbrev pub named : List (List ℕ) → Option ℕ → List ℕ → Result ℕ Refusal
 named names parent name = if is_empty name then inherited parent else declared names name
@@ -97,15 +96,19 @@ patterns_in ms = record {
 abbrev pub join : List Condition → List Condition → Result (List Condition) Refusal
 join before ms = plain.◌>>=◌ (at_most max_matchers (length before + length ms)) (λ _. Ok (before ++ ms))
 
-abbrev pub spelled_in : Data → Result (List Condition) Refusal
-spelled_in d = plain.◌>>=◌ (text_in d) (λ text. ok_or (read_list text) (here kinds.BadMatcher))
-
--- the matchers of a text, which stands at this position, behind others
-unfoldable pub text_behind : List Condition → ℕ → Data → Judged (List Condition)
-text_behind before i d = do
-  ms ← sure (pointer.under (to_item i) (spelled_in d))
+-- The matchers of the text that stands at this position of an array. That there are too many is refused at the array.
+unfoldable pub spelled_at : ℕ → List ℕ → Judged (List Condition)
+spelled_at i text = do
+  ms ← sure (pointer.under (to_item i) (ok_or (read_list text) (here kinds.BadMatcher)))
   _ ← sure (at_most max_matchers (length ms))
   _ ← under (to_item i) (patterns_in ms)
+  sure (Ok ms)
+
+-- the same of an item, behind others
+unfoldable pub text_behind : List Condition → ℕ → Data → Judged (List Condition)
+text_behind before i d = do
+  text ← sure (pointer.under (to_item i) (text_in d))
+  ms ← spelled_at i text
   sure (join before ms)
 
 -- the matchers of texts, the first of which stands at this position
@@ -118,13 +121,19 @@ texts_behind before i (d ∷ ds) = do
 abbrev pub empty_fault : List ℕ → Option Kind
 empty_fault name = if is_empty name then Some kinds.Empty else None
 
+-- a matcher, whose name is refused where it is empty, and then its pattern
+unfoldable pub matcher_in : Condition → Judged Condition
+matcher_in m = do
+  _ ← sure (unless (empty_fault m.name))
+  _ ← patterns_in (m ∷ [])
+  sure (Ok m)
+
 -- the matcher of a pair
 unfoldable pub pair_in : Op → List ℕ → Data → Judged Condition
 pair_in op key d = do
   _ ← sure (unless (empty_fault key))
   value ← sure (text_in d)
-  _ ← patterns_in (record { name = key; op = op; value = value } ∷ [])
-  sure (Ok (record { name = key; op = op; value = value }))
+  matcher_in (record { name = key; op = op; value = value })
 
 unfoldable pub pair_behind : Op → List Condition → List ℕ → Data → Judged (List Condition)
 pair_behind op before key d = do
@@ -170,23 +179,36 @@ matchers_in is_root d = do
 
 -- ---- The routes.
 
--- Where so many levels are left, and so many routes stand before it in preorder: the route, below a parent with this
--- receiver if there is one.
-unfoldable pub route_in : List (List ℕ) → ℕ → Option ℕ → ℕ → Data → Judged RouteTree
-route_in names zero parent before d = sure (Err (here kinds.Limit))
-route_in names (suc left) parent before d = do
+-- what a route says of itself
+pub record Head : Type 0 where
+  pub receiver : ℕ
+  pub matchers : List Condition
+  pub continues : Bool
+  pub items : List Data
+
+-- the same, of a route with so many others before it in preorder
+unfoldable pub head_in : List (List ℕ) → Option ℕ → ℕ → Data → Judged Head
+head_in names parent before d = do
   _ ← sure (at_most max_routes (before + 1))
   _ ← sure (only_fields route_fields d)
   receiver ← sure (receiver_in names parent d)
   matchers ← matchers_in (is_none parent) d
   continues ← sure (continues_in d)
   items ← sure (children_in d)
-  children ← under (to_field (codes "routes")) (each (λ earlier. route_in names left (Some receiver) (before + 1 + routes_count (routes_of earlier))) [] items)
-  sure (Ok (route receiver matchers continues (routes_of children)))
+  sure (Ok (record { receiver = receiver; matchers = matchers; continues = continues; items = items }))
+
+-- Where so many levels are left, and so many routes stand before it in preorder: the route, below a parent with this
+-- receiver if there is one.
+unfoldable pub route_in : List (List ℕ) → ℕ → Option ℕ → ℕ → Data → Judged RouteTree
+route_in names zero parent before d = sure (Err (here kinds.Limit))
+route_in names (suc left) parent before d = do
+  head ← head_in names parent before d
+  children ← under (to_field (codes "routes")) (each (λ earlier. route_in names left (Some head.receiver) (before + 1 + routes_count (routes_of earlier))) [] head.items)
+  sure (Ok (route head.receiver head.matchers head.continues (routes_of children)))
 
 -- a child of a route, behind those that were read already
 abbrev pub children_behind : List (List ℕ) → ℕ → ℕ → ℕ → List RouteTree → Data → Judged RouteTree
-children_behind names left receiver before = λ earlier. route_in names left (Some receiver) (before + routes_count (routes_of earlier))
+children_behind names left receiver before earlier = route_in names left (Some receiver) (before + routes_count (routes_of earlier))
 
 -- ---- The file.
 

@@ -11,9 +11,9 @@ ghost use Rattle.am_files.specs.Reading as plain;
 ghost use Rattle.am_files.specs.Reading.{Gives, refusal_of};
 ghost use Rattle.am_files.specs.Judged as judged;
 ghost use Rattle.am_files.specs.RouteView.{route_view, names_of};
-ghost use Rattle.am_files.specs.ConfigView.{config_view};
+ghost use Rattle.am_files.specs.ConfigView.{config_view, head_view};
 ghost use Rattle.am_files.specs.ConfigFile.{Configuration, FileSaysConfig, max_levels, max_routes, route_count, routes_count, routes_of};
-ghost use Rattle.am_files.specs.ConfigReading.{name_fault, receiver_behind, names_in, receivers_in, inherited, declared, named, receiver_of, receiver_in, truth_of, continues_in, no_rules, route_in, children_in, children_behind, config_in, config_file};
+ghost use Rattle.am_files.specs.ConfigReading.{name_fault, receiver_behind, names_in, receivers_in, inherited, declared, named, receiver_of, receiver_in, truth_of, continues_in, no_rules, route_in, head_in, children_in, children_behind, config_in, config_file};
 ghost use Rattle.am_files.specs.Json.{field};
 
 use crate::json::{
@@ -24,7 +24,7 @@ use crate::matchers::matchers;
 use crate::pointer::{within_field, within_item};
 use crate::refusal::ReadError;
 use crate::route::Route;
-use am_labels::{Fault, Kind, Place};
+use am_labels::{Fault, Kind, Matchers, Place};
 use serde_json::Value;
 use std::alloc::Global;
 
@@ -175,15 +175,15 @@ fn name_fault(before: &[String], name: &str) -> Option<Kind>
     if name.is_empty() {
         return Some(Kind::Empty);
     }
-    match position(before, name) {
-        Some(_) => Some(Kind::Duplicate),
-        None => None,
+    if position(before, name).is_some() {
+        return Some(Kind::Duplicate);
     }
+    None
 }
 
 /// The position of a name.
 fn position(names: &[String], name: &str) -> Option<usize>
-    ensures { result ≡ position (same_text name.now) (names_of names.now) }
+    ensures { result ≡ position (λ other. same_text other name.now) (names_of names.now) }
 {
     names.iter().position(|other| other.as_str() == name)
 }
@@ -197,6 +197,41 @@ fn root_route(alloc: Global, names: &[String], value: &Value) -> Result<Route, R
     Ok(root)
 }
 
+/// What a route says of itself.
+#[derive(Drop)]
+struct Head<'v> {
+    receiver: usize,
+    matchers: Matchers,
+    continues: bool,
+    items: &'v [Value],
+}
+
+/// What a route says of itself, with so many others before it in preorder.
+#[tactic(auto, unfolding(crate::specs::ConfigReading::head_in))]
+fn route_head<'v>(
+    alloc: Global,
+    names: &[String],
+    parent: Option<usize>,
+    before: usize,
+    value: &'v Value,
+) -> Result<Head<'v>, ReadError>
+    requires { before ≤ max_routes }
+    ensures { judged.Gives head_view result (head_in (names_of names.now) parent before (view value.now)) }
+{
+    at_most(alloc, MAX_ROUTES, before + 1)?;
+    only_fields(alloc, value, &ROUTE_FIELDS)?;
+    let receiver = receiver(alloc, names, parent, value)?;
+    let matchers = matchers(alloc, parent.is_none(), value)?;
+    let continues = continues(alloc, value)?;
+    let items = children(alloc, value)?;
+    Ok(Head {
+        receiver,
+        matchers,
+        continues,
+        items,
+    })
+}
+
 /// A route with the levels that are left, its own included, the receiver of its parent, if it has one, and the number
 /// of routes that stand before it in preorder. With it comes the number before the one that follows it.
 #[cycle(routes)]
@@ -208,29 +243,30 @@ fn route(
     before: usize,
     value: &Value,
 ) -> Result<(Route, usize), ReadError>
+    requires { before ≤ max_routes }
     ensures reads { judged.Gives (λ r. route_view r.0) result (route_in (names_of names.now) levels parent before (view value.now)) }
     ensures number { IfOk result (λ r. (r.1 ≡ before + route_count (route_view r.0)) × (r.1 ≤ max_routes)) }
 {
     if levels == 0 {
         return Err(ReadError::here(alloc, Kind::Limit));
     }
-    if before >= MAX_ROUTES {
-        return Err(ReadError::here(alloc, Kind::Limit));
-    }
-    only_fields(alloc, value, &ROUTE_FIELDS)?;
-    let receiver = receiver(alloc, names, parent, value)?;
-    let matchers = matchers(alloc, parent.is_none(), value)?;
-    let continues = continues(alloc, value)?;
-    let items = children(alloc, value)?;
+    let head = route_head(alloc, names, parent, before, value)?;
     let (routes, after) = within_field(
         alloc,
         "routes",
-        routes(alloc, names, levels - 1, receiver, before + 1, items),
+        routes(
+            alloc,
+            names,
+            levels - 1,
+            head.receiver,
+            before + 1,
+            head.items,
+        ),
     )?;
     let route = Route {
-        receiver,
-        matchers,
-        continues,
+        receiver: head.receiver,
+        matchers: head.matchers,
+        continues: head.continues,
         routes,
     };
     Ok((route, after))
@@ -246,17 +282,15 @@ fn routes(
     before: usize,
     items: &[Value],
 ) -> Result<(Vec<Route>, usize), ReadError>
+    requires { before ≤ max_routes }
     ensures reads { judged.Gives (λ rs. map route_view rs.0.items) result (judged.each (children_behind (names_of names.now) levels receiver before) [] (map view items.now)) }
-    ensures number { before ≤ max_routes → IfOk result (λ rs. (rs.1 ≡ before + routes_count (routes_of (map route_view rs.0.items))) × (rs.1 ≤ max_routes)) }
+    ensures number { IfOk result (λ rs. (rs.1 ≡ before + routes_count (routes_of (map route_view rs.0.items))) × (rs.1 ≤ max_routes)) }
 {
     let mut routes = Vec::new(alloc);
     let mut after = before;
     for item in items {
-        let (route, next) = within_item(
-            alloc,
-            routes.len(),
-            route(alloc, names, levels, Some(receiver), after, item),
-        )?;
+        let found = route(alloc, names, levels, Some(receiver), after, item);
+        let (route, next) = within_item(alloc, routes.len(), found)?;
         routes.push(route)?;
         after = next;
     }
@@ -297,7 +331,7 @@ fn receiver_of(
     parent: Option<usize>,
     found: Option<&Value>,
 ) -> Result<usize, ReadError>
-    ensures { Gives (λ r. r) result (receiver_of (names_of names.now) parent (option_map (λ v. view v.now) found)) }
+    ensures { Gives (λ r. r) result (receiver_of (names_of names.now) parent (option_map (λ v. view v.now) found.entry)) }
 {
     let Some(found) = found else {
         return inherited(alloc, parent);
@@ -336,7 +370,7 @@ fn continues(alloc: Global, value: &Value) -> Result<bool, ReadError>
 }
 
 fn truth_of(alloc: Global, found: Option<&Value>) -> Result<bool, ReadError>
-    ensures { Gives (λ b. b) result (truth_of (option_map (λ v. view v.now) found)) }
+    ensures { Gives (λ b. b) result (truth_of (option_map (λ v. view v.now) found.entry)) }
 {
     let Some(found) = found else {
         return Ok(false);
