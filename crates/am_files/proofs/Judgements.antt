@@ -1,14 +1,16 @@
 -- What a loop's reading that is left to do says of the whole.
-use Rattle.std.proofs.Common.{◌≡◌, ◌⊎◌, ℕ, ◌+◌, ◌<◌, ◌≤◌, List, [], ◌∷◌, ◌++◌, length, map, get_or, drop, Result, Ok, Err, inl, inr, refl, sym, ap, ◌∙◌, add-one, drop-cons}
-use Rattle.std.specs.Prelude.{IsOkAnd}
+use Rattle.std.proofs.Common.{◌≡◌, ◌≢◌, ◌⊎◌, ℕ, ◌+◌, ◌<◌, ◌≤◌, List, [], ◌∷◌, ◌++◌, length, map, get_or, drop, Result, Ok, Err, inl, inr, refl, sym, ap, ◌∙◌, add-one, drop-cons}
+use Rattle.std.specs.Prelude.{IsOkAnd, IsErrAnd}
 use Rattle.std.proofs.lemmas.List.{drop_all}
 use Rattle.serde_json.specs.Data.{Data}
+use Rattle.am_labels.specs.declared.kind.Kind.{Kind}
+use Rattle.am_labels.specs.declared.kind.Kind.TheVariants as kinds
 use Rattle.am_files.specs.declared.refusal.ReadError.{ReadError}
 use Rattle.am_files.specs.declared.refusal.ReadError.TheVariants as errors
-use Rattle.am_files.specs.Pointer.{Refusal, here, to_item}
+use Rattle.am_files.specs.Pointer.{Refusal, here, behind, to_item}
 use Rattle.am_files.specs.Reading as plain
-use Rattle.am_files.specs.Reading.{Tells}
-use Rattle.am_files.specs.Judged.{Judged, sure, ◌>>=◌, under, Refuses, Fails, each}
+use Rattle.am_files.specs.Reading.{Tells, IsUnder}
+use Rattle.am_files.specs.Judged.{Judged, ◌>>=◌, under, Refuses, Fails, Gives, each}
 
 -- what is left gives what the whole gives, and leaves nothing open that the whole does not
 pub record Leads {A : Type 0} (rest whole : Judged A) : Type 0 where
@@ -76,3 +78,36 @@ module _ {A X : Type 0} (view : X → Data) (read : List A → Data → Judged A
   pub is_done : (before : List A) (items : List X) (i : ℕ) (whole : Judged (List A)) → length items ≤ i → Leads (left before items i) whole → whole.gives ≡ Ok before
   unfolding each
   is_done before items i whole le leads = sym leads.gives ∙ rw (drop_all i items le) refl
+
+-- ---- A part.
+
+refuses_under : {A : Type 0} (part : List ℕ) (m : Judged A) (r : Refusal) → Refuses m r → Refuses (under part m) (behind part r)
+refuses_under part m r (inl h) = inl (rw h refl)
+refuses_under part m r (inr h) = inr (r, refl, h)
+
+under_refused : {X Y : Type 0} (view : X → Y) (part : List ℕ) (r : Refusal) (seen : Result X ReadError) (m : Judged Y) → Refuses m r → IsErrAnd seen (λ e. Tells e (behind part r)) → Gives view seen (under part m)
+under_refused view part r (Ok x) m refuses is = absurd is
+under_refused view part r (Err e) m refuses is = fails_refused e (under part m) (behind part r) is (refuses_under part m r refuses)
+
+-- what a part gave, seen from the value that has the part
+pub under_gives : {X Y : Type 0} (view : X → Y) (part : List ℕ) (read seen : Result X ReadError) (m : Judged Y) → Gives view read m → IsUnder part read seen → Gives view seen (under part m)
+under_gives view part (Ok x) seen m gives is = rw (is, gives) refl
+under_gives view part (Err errors.Memory) seen m gives is = rw is tt
+under_gives view part (Err (errors.Refused r)) seen m gives is = under_refused view part r seen m gives is
+
+-- ---- An error of a kind, which may be want of memory.
+
+no_memory : (found : Refusal) → errors.Refused found ≡ errors.Memory → ⊥
+no_memory found h = cc
+
+pub here_fails : {A : Type 0} (kind : Kind) (e : ReadError) (m : Judged A) → Tells e (here kind) → (kind ≡ kinds.Memory → e ≡ errors.Memory) → (kind ≢ kinds.Memory → Refuses m (here kind)) → Fails e m
+here_fails kind errors.Memory m tells memory refuses = tt
+here_fails kind (errors.Refused found) m tells memory refuses = fails_refused (errors.Refused found) m (here kind) tells (refuses (λ h. no_memory found (memory h)))
+
+-- a result that is an error of this refusal
+pub err_gives : {X Y : Type 0} (view : X → Y) (r : Refusal) (result : Result X ReadError) (m : Judged Y) → IsErrAnd result (λ e. Tells e r) → Refuses m r → Gives view result m
+err_gives view r (Ok x) m is refuses = absurd is
+err_gives view r (Err e) m is refuses = fails_refused e m r is refuses
+
+pub memory_gives : {X Y : Type 0} (view : X → Y) (result : Result X ReadError) (m : Judged Y) → result ≡ Err errors.Memory → Gives view result m
+memory_gives view result m is = rw is tt

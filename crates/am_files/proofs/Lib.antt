@@ -8,3 +8,4 @@ pub mod Keys
 pub mod Judgements
 pub mod Matching
 pub mod Positions
+pub mod Routing

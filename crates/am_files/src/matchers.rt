@@ -1,10 +1,13 @@
 //! The matchers of a route.
 
-ghost use Rattle.std.specs.Prelude.{◌≡◌, [], ◌∷◌, ◌++◌, map, codes, option_map};
+ghost use Rattle.std.specs.Prelude.{◌≡◌, ◌≢◌, [], ◌∷◌, ◌++◌, map, codes, option_map, Err, IsErrAnd};
+ghost use Rattle.am_labels.specs.declared.kind.Kind.TheVariants as kinds;
+ghost use Rattle.am_files.specs.declared.refusal.ReadError.TheVariants as errors;
+ghost use Rattle.am_files.specs.Pointer.{here, behind, to_item};
 ghost use Rattle.serde_json.specs.View.{view, members_view};
 ghost use Rattle.am_labels.specs.declared.op.Op.TheVariants.{Equal, Matches};
 ghost use Rattle.am_files.specs.Json.{field};
-ghost use Rattle.am_files.specs.Reading.{Gives};
+ghost use Rattle.am_files.specs.Reading.{Gives, Tells};
 ghost use Rattle.am_files.specs.Judged as judged;
 ghost use Rattle.am_files.specs.ConfigReading.{spelled_at, join, text_behind, texts_behind, texts_in, some_texts, empty_fault, matcher_in, pair_in, pair_behind, pairs_behind, pairs_in, some_pairs, not_on_root, matchers_in};
 
@@ -88,9 +91,18 @@ fn spelled(alloc: Global, i: usize, text: &str) -> Result<Matchers, ReadError>
 {
     match parse_matchers(alloc, text) {
         Ok(found) => Ok(found),
-        Err(Kind::Memory) => Err(ReadError::Memory),
-        Err(Kind::Limit) => Err(ReadError::here(alloc, Kind::Limit)),
-        Err(kind) => within_item(alloc, i, Err(ReadError::here(alloc, kind))),
+        Err(kind) => refused(alloc, i, kind),
+    }
+}
+
+fn refused(alloc: Global, i: usize, kind: Kind) -> Result<Matchers, ReadError>
+    ensures limit { kind ≡ kinds.Limit → IsErrAnd result (λ e. Tells e (here kinds.Limit)) }
+    ensures other { kind ≢ kinds.Limit → kind ≢ kinds.Memory → IsErrAnd result (λ e. Tells e (behind (to_item i) (here kind))) }
+    ensures memory { kind ≡ kinds.Memory → result ≡ Err errors.Memory }
+{
+    match kind {
+        Kind::Limit => Err(ReadError::here(alloc, Kind::Limit)),
+        other => within_item(alloc, i, Err(ReadError::here(alloc, other))),
     }
 }
 
@@ -194,7 +206,6 @@ fn matcher(alloc: Global, op: Op, name: &str, value: &str) -> Result<Matcher, Re
     let value = String::from_str(alloc, value)?;
     match Matcher::new(alloc, name, op, value) {
         Ok(matcher) => Ok(matcher),
-        Err(Kind::Memory) => Err(ReadError::Memory),
         Err(kind) => Err(ReadError::here(alloc, kind)),
     }
 }

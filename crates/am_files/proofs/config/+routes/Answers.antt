@@ -1,64 +1,59 @@
-use Rattle.std.proofs.Common.{rules, ◌≡◌, ◌≢◌, ◌≤◌, ◌+◌, [], ◌∷◌, ◌++◌, codes, length, map, Some, None, Ok, Err, IfOk, IfErr, OnOk, string_bytes, option_map, position, is_none, ℕ, ◌-◌, ◌*◌, ◌<◌, ◌/◌, ◌%◌, Bool, true, false, nat_eq, nat_lt, List, slice_index_or, slice_set, bit_and, bit_or, Fits, w8, w32, w64, Bor, MutBor}
-use Rattle.serde_json.specs.View.{view, members_view}
-use Rattle.am_labels.specs.Text.{same_text}
-use Rattle.am_labels.specs.declared.kind.Kind.TheVariants as kinds
-use Rattle.am_labels.specs.declared.place.Place.TheVariants as places
-use Rattle.am_files.specs.Pointer as pointer
-use Rattle.am_files.specs.Reading as plain
+use Rattle.std.proofs.Common.{◌≡◌, ◌≢◌, ◌+◌, ◌-◌, ◌≤◌, [], ◌∷◌, ◌++◌, length, map, Some, Ok, Err, codes, arith, sym, ap, ◌∙◌, refl}
+use Rattle.std.proofs.lemmas.Result.{err_from_is_err_and}
+use Rattle.std.proofs.lemmas.List.{map_push, length-map}
+use Rattle.serde_json.specs.View.{view}
+use Rattle.am_files.specs.Pointer.{to_field, to_item}
 use Rattle.am_files.specs.Judged as judged
-use Rattle.am_files.specs.Pointer.{to_item, to_field}
-use Rattle.am_files.specs.Reading.{Gives, refusal_of}
+use Rattle.am_files.specs.Judged.{each}
 use Rattle.am_files.specs.RouteView.{route_view, names_of}
-use Rattle.am_files.specs.ConfigView.{config_view, head_view}
-use Rattle.am_files.specs.ConfigFile.{Configuration, FileSaysConfig, max_levels, max_routes, route_count, routes_count, routes_of}
-use Rattle.am_files.specs.ConfigReading.{name_fault, receiver_behind, names_in, receivers_in, inherited, declared, named, receiver_of, receiver_in, truth_of, continues_in, no_rules, route_in, head_in, children_in, children_behind, config_in, config_file}
-use Rattle.am_files.specs.Json.{field}
+use Rattle.am_files.specs.ConfigView.{head_view}
+use Rattle.am_files.specs.ConfigFile.{routes_count, routes_of, route_count}
+use Rattle.am_files.specs.ConfigReading.{children_behind}
+use Rattle.am_files.proofs.Judgements.{leads-refl, under_gives, goes_on, ends, is_done}
+use Rattle.am_files.proofs.Routing.{too_deep, head_fails, children_fail, children_give, head_room, count_push}
 use Rattle.am_files.proofs.config.+routes.Goals as goal
 
--- src/config.rt:251:9
 pub route-returns-then-levels-eq0-clause-reads : goal.route-returns-then-levels-eq0-clause-reads
-route-returns-then-levels-eq0-clause-reads t c = ?
+route-returns-then-levels-eq0-clause-reads t c = too_deep (names_of c.args.names.now) c.args.levels c.args.parent c.args.before (view c.args.value.now) c.here.result c.if-levels-eq0.true c.here.ensures.tells
 
--- src/config.rt:253:16
 pub route-returns-in_err-head-clause-reads : goal.route-returns-in_err-head-clause-reads
-route-returns-in_err-head-clause-reads t c = ?
+route-returns-in_err-head-clause-reads t c =
+    let p = err_from_is_err_and c.from_residual.result c.from_residual.ensures.1 in
+    rw (p.1, p.2) (head_fails (names_of c.args.names.now) c.args.levels c.args.parent c.args.before (view c.args.value.now) c.in_err-head.field-0.0 c.if-levels-eq0.false c.in_err-head.ensures)
 
--- src/config.rt:257:9
 pub route-routes-requires : goal.route-routes-requires
-route-routes-requires t c = ?
+route-routes-requires t c = (omega (arith, c.decreases, c.if-levels-eq0.false), head_room (names_of c.args.names.now) c.args.parent c.args.before (view c.args.value.now) (head_view c.in_ok-head.head) c.in_ok-head.ensures)
 
--- src/config.rt:254:27
 pub route-returns-in_err-routes-clause-reads : goal.route-returns-in_err-routes-clause-reads
-route-returns-in_err-routes-clause-reads t c = ?
+route-returns-in_err-routes-clause-reads t c =
+    let p = err_from_is_err_and c.from_residual-in_err-routes.result c.from_residual-in_err-routes.ensures.1 in
+    let m = each (children_behind (names_of c.args.names.now) (c.args.levels - 1) c.in_ok-head.head.receiver (c.args.before + 1)) [] (map view c.in_ok-head.head.items.now) in
+    let g = under_gives (λ rs. map route_view rs.0.items) (to_field (codes "routes")) c.routes.result c.within_field.result m c.routes.ensures.reads c.within_field.ensures in
+    rw (p.1, p.2) (children_fail (names_of c.args.names.now) c.args.levels c.args.parent c.args.before (view c.args.value.now) (head_view c.in_ok-head.head) c.in_err-routes.field-0.0 c.if-levels-eq0.false c.in_ok-head.ensures (rw c.in_err-routes.was at g))
 
--- src/config.rt:237:1
 pub route-returns-clause-reads : goal.route-returns-clause-reads
-route-returns-clause-reads t c = ?
+route-returns-clause-reads t c =
+    let m = each (children_behind (names_of c.args.names.now) (c.args.levels - 1) c.in_ok-head.head.receiver (c.args.before + 1)) [] (map view c.in_ok-head.head.items.now) in
+    let g = under_gives (λ rs. map route_view rs.0.items) (to_field (codes "routes")) c.routes.result c.within_field.result m c.routes.ensures.reads c.within_field.ensures in
+    children_give (names_of c.args.names.now) c.args.levels c.args.parent c.args.before (view c.args.value.now) (head_view c.in_ok-head.head) (map route_view c.in_ok-routes.routes.items) c.if-levels-eq0.false c.in_ok-head.ensures (rw c.in_ok-routes.was at g)
 
--- src/config.rt:237:1
 pub route-returns-clause-number : goal.route-returns-clause-number
 route-returns-clause-number t c = ?
 
--- src/config.rt:291:5
 pub routes-loop-item-init : goal.routes-loop-item-init
 routes-loop-item-init t c = ?
 
--- src/config.rt:292:13
 pub routes-route-found-requires : goal.routes-route-found-requires
-routes-route-found-requires t c = ?
+routes-route-found-requires t c = (omega (arith, c.decreases), c.loop-item.invariant.few)
 
--- src/config.rt:293:29
 pub routes-returns-in_err-route-clause-reads : goal.routes-returns-in_err-route-clause-reads
 routes-returns-in_err-route-clause-reads t c = ?
 
--- src/config.rt:291:5
 pub routes-loop-item-preserved : goal.routes-loop-item-preserved
 routes-loop-item-preserved t c = ?
 
--- src/config.rt:276:1
 pub routes-returns-clause-reads : goal.routes-returns-clause-reads
-routes-returns-clause-reads t c = ?
+routes-returns-clause-reads t c = is_done view (children_behind (names_of c.args.names.now) c.args.levels c.args.receiver c.args.before) (map route_view c.loop-item.routes.items) c.args.items.now c.loop-item.item-index _ c.loop-item-test.false c.loop-item.invariant.leads
 
--- src/config.rt:276:1
 pub routes-returns-clause-number : goal.routes-returns-clause-number
-routes-returns-clause-number t c = ?
+routes-returns-clause-number t c = (c.loop-item.invariant.counted, c.loop-item.invariant.few)

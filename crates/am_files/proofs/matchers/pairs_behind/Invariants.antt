@@ -1,11 +1,8 @@
-use Rattle.std.proofs.Common.{◌≡◌, [], ◌∷◌, ◌++◌, map, codes, option_map, ℕ, ◌+◌, ◌-◌, ◌*◌, ◌<◌, ◌≤◌, length}
-use Rattle.serde_json.specs.View.{view, members_view}
-use Rattle.am_labels.specs.declared.op.Op.TheVariants.{Equal, Matches}
-use Rattle.am_files.specs.Json.{field}
-use Rattle.am_files.specs.Reading.{Gives}
-use Rattle.am_files.specs.Judged as judged
-use Rattle.am_files.specs.ConfigReading.{spelled_at, join, text_behind, texts_behind, texts_in, some_texts, empty_fault, matcher_in, pair_in, pair_behind, pairs_behind, pairs_in, some_pairs, not_on_root, matchers_in}
+use Rattle.serde_json.specs.View.{members_view}
+use Rattle.am_files.specs.ConfigReading.{pairs_behind}
+use Rattle.am_files.proofs.Judgements.{Leads}
 use Rattle.am_files.proofs.matchers.pairs_behind.Given as goal
 
+-- what is left behind the matchers so far leads the reading of all
 abbrev pub invariant-loop-key : goal.invariant-loop-key
-invariant-loop-key l = ?
+invariant-loop-key l = Leads (pairs_behind l.op l.found (members_view l.key-iterator)) (pairs_behind l.op l.fn.before (members_view l.members.entries))

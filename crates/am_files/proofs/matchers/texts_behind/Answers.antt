@@ -1,24 +1,24 @@
-use Rattle.std.proofs.Common.{rules, ◌≡◌, [], ◌∷◌, ◌++◌, map, codes, option_map, ℕ, ◌+◌, ◌-◌, ◌*◌, ◌<◌, ◌≤◌, length, ◌/◌, ◌%◌, Bool, true, false, nat_eq, nat_lt, List, slice_index_or, slice_set, bit_and, bit_or, Fits, w8, w32, w64, Bor, MutBor}
-use Rattle.serde_json.specs.View.{view, members_view}
-use Rattle.am_labels.specs.declared.op.Op.TheVariants.{Equal, Matches}
-use Rattle.am_files.specs.Json.{field}
-use Rattle.am_files.specs.Reading.{Gives}
-use Rattle.am_files.specs.Judged as judged
-use Rattle.am_files.specs.ConfigReading.{spelled_at, join, text_behind, texts_behind, texts_in, some_texts, empty_fault, matcher_in, pair_in, pair_behind, pairs_behind, pairs_in, some_pairs, not_on_root, matchers_in}
+use Rattle.std.proofs.Common.{[], map}
+use Rattle.std.proofs.lemmas.Result.{err_from_is_err_and}
+use Rattle.serde_json.specs.View.{view}
+use Rattle.am_files.specs.ConfigReading.{texts_behind}
+use Rattle.am_files.proofs.Judgements.{leads-refl}
+use Rattle.am_files.proofs.Matching.{text_goes_on, text_ends, texts_done}
 use Rattle.am_files.proofs.matchers.texts_behind.Goals as goal
 
--- src/matchers.rt:64:5
 pub loop-i-init : goal.loop-i-init
-loop-i-init c = ?
+loop-i-init c = rw c.empty-found.ensures (leads-refl (texts_behind [] 0 (map view c.args.items.now)))
 
--- src/matchers.rt:65:17
 pub returns-in_err-found : goal.returns-in_err-found
-returns-in_err-found c = ?
+returns-in_err-found c =
+    let l = c.loop-i in
+    let p = err_from_is_err_and c.from_residual.result c.from_residual.ensures.1 in
+    rw (p.1, p.2) (text_ends view c.in_err-found.field-0.0 l.found l.i c.args.items.now c.index-items-i.result (texts_behind [] 0 (map view c.args.items.now)) c.loop-i-test.true c.index-items-i.is c.in_err-found.ensures l.invariant)
 
--- src/matchers.rt:64:5
 pub loop-i-preserved : goal.loop-i-preserved
-loop-i-preserved c = ?
+loop-i-preserved c =
+    let l = c.loop-i in
+    text_goes_on view l.found l.i c.args.items.now c.index-items-i.result c.in_ok-found.found (texts_behind [] 0 (map view c.args.items.now)) c.loop-i-test.true c.index-items-i.is c.in_ok-found.ensures l.invariant
 
--- src/matchers.rt:60:1
 pub returns : goal.returns
-returns c = ?
+returns c = texts_done view c.loop-i.found c.loop-i.i c.args.items.now (texts_behind [] 0 (map view c.args.items.now)) c.loop-i-test.false c.loop-i.invariant
