@@ -1,6 +1,6 @@
 -- What a loop's reading that is left to do says of the whole.
 use Rattle.std.proofs.Common.{◌≡◌, ◌≢◌, ◌⊎◌, ℕ, ◌+◌, ◌<◌, ◌≤◌, List, [], ◌∷◌, ◌++◌, length, map, get_or, drop, Result, Ok, Err, inl, inr, refl, sym, ap, ◌∙◌, add-one, drop-cons}
-use Rattle.std.specs.Prelude.{IsOkAnd, IsErrAnd}
+use Rattle.std.specs.Prelude.{IsOkAnd, IsErrAnd, IfOk}
 use Rattle.std.proofs.lemmas.List.{drop_all}
 use Rattle.serde_json.specs.Data.{Data}
 use Rattle.am_labels.specs.declared.kind.Kind.{Kind}
@@ -94,6 +94,12 @@ pub under_gives : {X Y : Type 0} (view : X → Y) (part : List ℕ) (read seen :
 under_gives view part (Ok x) seen m gives is = rw (is, gives) refl
 under_gives view part (Err errors.Memory) seen m gives is = rw is tt
 under_gives view part (Err (errors.Refused r)) seen m gives is = under_refused view part r seen m gives is
+
+pub under_if_ok : {X : Type 0} (part : List ℕ) (read seen : Result X ReadError) (P : X → Type 0) → IfOk read P → IsUnder part read seen → IfOk seen P
+under_if_ok part (Ok x) seen P h is = rw is h
+under_if_ok part (Err errors.Memory) seen P h is = rw is tt
+under_if_ok part (Err (errors.Refused r)) (Ok x) P h is = absurd is
+under_if_ok part (Err (errors.Refused r)) (Err e) P h is = tt
 
 -- ---- An error of a kind, which may be want of memory.
 

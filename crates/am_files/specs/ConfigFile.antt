@@ -35,6 +35,15 @@ routes_of (t ∷ ts) = next_route t (routes_of ts)
 abbrev pub matchers_of : RouteTree → List Condition
 matchers_of (route receiver matchers continues children) = matchers
 
+abbrev pub receiver_of : RouteTree → ℕ
+receiver_of (route receiver matchers continues children) = receiver
+
+abbrev pub continues_of : RouteTree → Bool
+continues_of (route receiver matchers continues children) = continues
+
+abbrev pub children_of : RouteTree → Routes
+children_of (route receiver matchers continues children) = children
+
 -- how many routes there are
 abbrev mutual
   pub route_count : RouteTree → ℕ

@@ -186,16 +186,30 @@ pub record Head : Type 0 where
   pub continues : Bool
   pub items : List Data
 
+-- the last of its fields
+unfoldable pub tail_in : ℕ → List Condition → Data → Judged Head
+tail_in receiver matchers d = do
+  continues ← sure (continues_in d)
+  items ← sure (children_in d)
+  sure (Ok (record { receiver = receiver; matchers = matchers; continues = continues; items = items }))
+
+-- those from the matchers on
+unfoldable pub matched_in : Bool → ℕ → Data → Judged Head
+matched_in is_root receiver d = do
+  matchers ← matchers_in is_root d
+  tail_in receiver matchers d
+
+unfoldable pub fields_in : List (List ℕ) → Option ℕ → Data → Judged Head
+fields_in names parent d = do
+  _ ← sure (only_fields route_fields d)
+  receiver ← sure (receiver_in names parent d)
+  matched_in (is_none parent) receiver d
+
 -- the same, of a route with so many others before it in preorder
 unfoldable pub head_in : List (List ℕ) → Option ℕ → ℕ → Data → Judged Head
 head_in names parent before d = do
   _ ← sure (at_most max_routes (before + 1))
-  _ ← sure (only_fields route_fields d)
-  receiver ← sure (receiver_in names parent d)
-  matchers ← matchers_in (is_none parent) d
-  continues ← sure (continues_in d)
-  items ← sure (children_in d)
-  sure (Ok (record { receiver = receiver; matchers = matchers; continues = continues; items = items }))
+  fields_in names parent d
 
 -- Where so many levels are left, and so many routes stand before it in preorder: the route, below a parent with this
 -- receiver if there is one.

@@ -1,6 +1,6 @@
 //! The configuration file.
 
-ghost use Rattle.std.specs.Prelude.{◌≡◌, ◌≢◌, ◌≤◌, ◌+◌, [], ◌∷◌, ◌++◌, codes, length, map, Some, None, Ok, Err, IfOk, IfErr, OnOk, string_bytes, option_map, position, is_none};
+ghost use Rattle.std.specs.Prelude.{◌≡◌, ◌≢◌, ◌≤◌, ◌<◌, ◌+◌, [], slice_get, ◌∷◌, ◌++◌, codes, length, map, Some, None, Ok, Err, IfOk, IfErr, OnOk, string_bytes, option_map, position, is_none};
 ghost use Rattle.serde_json.specs.View.{view, members_view};
 ghost use Rattle.am_labels.specs.Text.{same_text};
 ghost use Rattle.am_labels.specs.declared.kind.Kind.TheVariants as kinds;
@@ -13,7 +13,7 @@ ghost use Rattle.am_files.specs.Judged as judged;
 ghost use Rattle.am_files.specs.RouteView.{route_view, names_of};
 ghost use Rattle.am_files.specs.ConfigView.{config_view, head_view};
 ghost use Rattle.am_files.specs.ConfigFile.{Configuration, FileSaysConfig, max_levels, max_routes, route_count, routes_count, routes_of};
-ghost use Rattle.am_files.specs.ConfigReading.{name_fault, receiver_behind, names_in, receivers_in, inherited, declared, named, receiver_of, receiver_in, truth_of, continues_in, no_rules, route_in, head_in, children_in, children_behind, config_in, config_file};
+ghost use Rattle.am_files.specs.ConfigReading.{name_fault, receiver_behind, names_in, receivers_in, inherited, declared, named, receiver_of, receiver_in, truth_of, continues_in, no_rules, route_in, tail_in, matched_in, fields_in, head_in, children_in, children_behind, config_in, config_file};
 ghost use Rattle.am_files.specs.Json.{field};
 
 use crate::json::{
@@ -60,28 +60,68 @@ pub struct Config {
 impl Config {
     /// How many receivers are declared.
     pub fn receivers(&self) -> usize
-        ensures { result ≡ length self.now.receivers.items }
+        ensures { result ≡ length (config_view self.now).receivers }
     {
         self.receivers.len()
     }
 
     /// The name of a receiver.
     pub fn receiver_name(&self, i: usize) -> &str
-        requires { i + 1 ≤ length self.now.receivers.items }
+        requires { i < length (config_view self.now).receivers }
+        ensures { slice_get (config_view self.now).receivers i ≡ Some result.now }
     {
         self.receivers[i].as_str()
     }
 
     /// The top-level route.
     pub fn root(&self) -> &Route
-        ensures { result.now ≡ self.now.root }
+        ensures { route_view result.now ≡ (config_view self.now).root }
     {
         &self.root
     }
 }
 
 /// The configuration that a file says.
-pub fn read_config(alloc: Global, bytes: &[u8]) -> Result<Config, Fault> {
+///
+/// The file is an object. Its `receivers` are an array of at most 1,024 objects, each with a `name`, and its `route` is
+/// the top-level route. A field that is `null` is absent, and fields that are not named here are not read, but for those
+/// of a route, which has no others than these: `receiver`, `matchers`, `match`, `match_re`, `continue` and `routes`, and,
+/// not read, `group_by`, `group_wait`, `group_interval`, `repeat_interval`, `mute_time_intervals` and
+/// `active_time_intervals`.
+///
+/// A first fault is the one answered, at the place `Config` and at the pointer of the part at fault, in this order:
+/// - the bytes, at the empty pointer: `Limit` for more than 16,777,216, `NotJson` where they have no JSON value;
+/// - the file: `Shape` where it is no object;
+/// - `receivers`: `Shape` where it is no array, or absent; `Limit` for more than 1,024; then the receivers in order, each
+///   `Shape` where it is no object, and then its `name`: `Shape` where it is no text, or absent; `Empty`; `Duplicate`
+///   where it is an earlier name;
+/// - `route`: `Shape` where it is absent; then the top-level route;
+/// - `inhibit_rules`: `UnknownField` where it is there, since inhibition rules are not read yet.
+///
+/// Of a route, when it is reached: `Limit` below the 32nd level, and for the 1,025th in preorder; `Shape` where it is no
+/// object; `UnknownField` at its least other field; then
+/// - `receiver`: `Shape` where it is no text; where it is absent or empty it is that of the parent, and `Shape` on the
+///   top-level route; `UndefinedReceiver` where it is not declared;
+/// - `matchers`: `Shape` where it is no array; then each text: `Shape` where it is no text, `BadMatcher`, `Limit` at the
+///   array for more than 64 matchers, `PatternProfile` and `Pattern`; `Limit` at the array where there are more than 64
+///   together;
+/// - `match` and `match_re`: `Shape` where it is no object; then by the bytes of the keys each pair: `Empty` for the empty
+///   key, `Shape` where the value is no text, `PatternProfile` and `Pattern` in `match_re`; `Limit` at the object for the
+///   65th matcher of the route;
+/// - on the top-level route, after each of these three: `RootMatchers` where it gave a matcher;
+/// - `continue`: `Shape` where it is no truth value;
+/// - `routes`: `Shape` where it is no array; then the children in order.
+///
+/// `Pattern` may come at each pattern of the profile that is reached, since its size is the engine's to judge, and comes
+/// at the first that the engine's grammar does not read. `Memory`, at the place `Memory` and the empty pointer, comes only
+/// where memory was refused.
+pub fn read_config(alloc: Global, bytes: &[u8]) -> Result<Config, Fault>
+    ensures found { IfOk result (λ c. (config_file bytes.now).gives ≡ Ok (config_view c)) }
+    ensures first { IfErr result (λ fault. fault.kind ≢ kinds.Memory
+        → (fault.place ≡ places.Config) × judged.Refuses (config_file bytes.now) (refusal_of fault)) }
+    ensures memory { IfErr result (λ fault. fault.kind ≡ kinds.Memory
+        → (fault.place ≡ places.Memory) × (string_bytes fault.pointer ≡ [])) }
+{
     match config_file(alloc, bytes) {
         Ok(config) => Ok(config),
         Err(error) => Err(error.at(alloc, Place::Config)),
@@ -219,9 +259,46 @@ fn route_head<'v>(
     ensures { judged.Gives head_view result (head_in (names_of names.now) parent before (view value.now)) }
 {
     at_most(alloc, MAX_ROUTES, before + 1)?;
+    fields(alloc, names, parent, value)
+}
+
+#[tactic(auto, unfolding(crate::specs::ConfigReading::fields_in))]
+fn fields<'v>(
+    alloc: Global,
+    names: &[String],
+    parent: Option<usize>,
+    value: &'v Value,
+) -> Result<Head<'v>, ReadError>
+    ensures { judged.Gives head_view result (fields_in (names_of names.now) parent (view value.now)) }
+{
     only_fields(alloc, value, &ROUTE_FIELDS)?;
     let receiver = receiver(alloc, names, parent, value)?;
-    let matchers = matchers(alloc, parent.is_none(), value)?;
+    matched(alloc, parent.is_none(), receiver, value)
+}
+
+/// The fields from the matchers on.
+#[tactic(auto, unfolding(crate::specs::ConfigReading::matched_in))]
+fn matched(
+    alloc: Global,
+    is_root: bool,
+    receiver: usize,
+    value: &Value,
+) -> Result<Head<'_>, ReadError>
+    ensures { judged.Gives head_view result (matched_in is_root receiver (view value.now)) }
+{
+    let matchers = matchers(alloc, is_root, value)?;
+    last_fields(alloc, receiver, matchers, value)
+}
+
+#[tactic(auto, unfolding(crate::specs::ConfigReading::tail_in))]
+fn last_fields(
+    alloc: Global,
+    receiver: usize,
+    matchers: Matchers,
+    value: &Value,
+) -> Result<Head<'_>, ReadError>
+    ensures { judged.Gives head_view result (tail_in receiver matchers (view value.now)) }
+{
     let continues = continues(alloc, value)?;
     let items = children(alloc, value)?;
     Ok(Head {

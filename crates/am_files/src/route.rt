@@ -1,7 +1,7 @@
 //! Routes, as they are kept in memory.
 
 ghost use Rattle.std.specs.Prelude.{◌≡◌, map};
-ghost use Rattle.am_files.specs.declared.route.Route.{out-Route};
+ghost use Rattle.am_files.specs.ConfigFile.{matchers_of, continues_of, receiver_of, children_of, routes_of};
 ghost use Rattle.am_files.specs.RouteView.{route_view};
 
 use am_labels::Matchers;
@@ -18,28 +18,28 @@ pub struct Route {
 impl Route {
     /// The matchers, all of which an alert has to match.
     pub fn matchers(&self) -> &Matchers
-        ensures { result.now ≡ (out-Route self.now).matchers }
+        ensures { result.now ≡ matchers_of (route_view self.now) }
     {
         &self.matchers
     }
 
     /// Whether later siblings are tried after it.
     pub fn continues(&self) -> bool
-        ensures { result ≡ (out-Route self.now).continues }
+        ensures { result ≡ continues_of (route_view self.now) }
     {
         self.continues
     }
 
     /// The position of its receiver: its own, or the one that it inherits.
     pub fn receiver(&self) -> usize
-        ensures { result ≡ (out-Route self.now).receiver }
+        ensures { result ≡ receiver_of (route_view self.now) }
     {
         self.receiver
     }
 
     /// Its children, in order.
     pub fn routes(&self) -> &[Route]
-        ensures { result.now ≡ (out-Route self.now).routes.items }
+        ensures { routes_of (map route_view result.now) ≡ children_of (route_view self.now) }
     {
         &self.routes
     }

@@ -1,3 +1,4 @@
+use Rattle.std.proofs.Common.{rules}
 use Rattle.std.proofs.lemmas.Result.{err_from_is_err_and}
 use Rattle.serde_json.specs.View.{view, members_view}
 use Rattle.am_files.specs.ConfigReading.{pairs_behind}
@@ -15,3 +16,6 @@ pub loop-key-preserved : goal.loop-key-preserved
 loop-key-preserved c =
     let l = c.loop-key in
     pair_goes_on c.args.op l.found l.key-iterator (c.in-Some.key.now, c.in-Some.value.now) c.next.new.self c.in_ok-found.found _ c.in-Some.ensures.steps (rw c.as_str.ensures.value at c.in_ok-found.ensures) l.invariant
+
+pub returns : goal.returns
+returns c = pairs_done c.args.op c.loop-key.found c.loop-key.key-iterator _ (search rules) c.loop-key.invariant
