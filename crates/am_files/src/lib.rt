@@ -18,4 +18,6 @@ pub use route::Route;
 pub use universe::read_universe;
 
 #[cfg(test)]
+mod config_tests;
+#[cfg(test)]
 mod tests;
