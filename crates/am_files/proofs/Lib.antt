@@ -6,3 +6,7 @@ pub mod Fields
 pub mod UniverseSays
 pub mod Keys
 pub mod Causes
+pub mod Judgements
+pub mod Matching
+pub mod Positions
+pub mod Routing

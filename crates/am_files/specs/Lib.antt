@@ -2,3 +2,8 @@ pub mod Json
 pub mod Pointer
 pub mod Reading
 pub mod UniverseFile
+pub mod Judged
+pub mod ConfigFile
+pub mod ConfigReading
+pub mod RouteView
+pub mod ConfigView

@@ -4,13 +4,20 @@
 //! JSON Pointer, at which part.
 #![tactic(auto)]
 
+mod config;
 mod json;
 pub mod laws;
+mod matchers;
 mod pointer;
 mod refusal;
+mod route;
 mod universe;
 
+pub use config::{Config, read_config};
+pub use route::Route;
 pub use universe::read_universe;
 
+#[cfg(test)]
+mod config_tests;
 #[cfg(test)]
 mod tests;

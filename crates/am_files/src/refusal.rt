@@ -56,7 +56,8 @@ pub(crate) enum ReadError {
 impl ReadError {
     /// The value that is looked at is refused.
     pub(crate) fn here(alloc: Global, kind: Kind) -> ReadError
-        ensures { Tells result (here kind) }
+        ensures tells { Tells result (here kind) }
+        ensures memory { kind ≡ kinds.Memory → result ≡ Memory }
     {
         if kind == Kind::Memory {
             return ReadError::Memory;

@@ -14,4 +14,4 @@ returns-in-Ok c = rw (json_of_text c.args.bytes.now (view c.in-Ok.value) c.in-Ok
 pub returns-else-is_memory : goal.returns-else-is_memory
 returns-else-is_memory c =
     let none = json_of_none c.args.bytes.now (c.in-Err.ensures.err (λ memory. false≢true (c.if-is_memory.ensures.1 memory))) in
-    rw none (fails_here Data c.here.result (here kinds.NotJson) c.here.ensures)
+    rw none (fails_here Data c.here.result (here kinds.NotJson) c.here.ensures.tells)

@@ -1,0 +1,17 @@
+-- The route that a `Route` stands for, and the configuration that a `Config` stands for.
+use Rattle.std.specs.Prelude.{ℕ, List, String, string_bytes, map}
+use Rattle.std.specs.declared.alloc.Global.{Global}
+use Rattle.am_files.specs.declared.route.Route.{Route, fold-Route}
+use Rattle.am_files.specs.declared.route.Route.TheOpen.{Route-F}
+use Rattle.am_files.specs.ConfigFile.{RouteTree, route, routes_of}
+
+-- one level, with each child already seen
+abbrev pub view_step : Route-F RouteTree → RouteTree
+view_step r = route r.receiver r.matchers r.continues (routes_of r.routes.items)
+
+abbrev pub route_view : Route → RouteTree
+route_view = fold-Route RouteTree view_step
+
+-- names without where they lie in memory
+abbrev pub names_of : List (String Global) → List (List ℕ)
+names_of names = map string_bytes names
