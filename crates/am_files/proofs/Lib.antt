@@ -9,3 +9,4 @@ pub mod Judgements
 pub mod Matching
 pub mod Positions
 pub mod Routing
+pub mod Sound
