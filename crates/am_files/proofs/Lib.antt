@@ -10,3 +10,5 @@ pub mod Matching
 pub mod Positions
 pub mod Routing
 pub mod Sound
+pub mod ConfigParts
+pub mod ConfigSays

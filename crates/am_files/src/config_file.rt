@@ -12,7 +12,7 @@ ghost use Rattle.am_files.specs.Reading.{Gives, refusal_of};
 ghost use Rattle.am_files.specs.Judged as judged;
 ghost use Rattle.am_files.specs.RouteView.{route_view, names_of};
 ghost use Rattle.am_files.specs.ConfigView.{config_view, head_view};
-ghost use Rattle.am_files.specs.ConfigFile.{Configuration, max_levels, max_routes, route_count, routes_count, routes_of};
+ghost use Rattle.am_files.specs.ConfigFile.{Configuration, FileSaysConfig, max_levels, max_routes, route_count, routes_count, routes_of};
 ghost use Rattle.am_files.specs.ConfigReading.{name_fault, receiver_behind, names_in, receivers_in, inherited, declared, named, receiver_of, receiver_in, truth_of, continues_in, no_rules, route_in, tail_in, matched_in, fields_in, head_in, children_in, children_behind, config_in, config_file};
 ghost use Rattle.am_files.specs.Json.{field};
 
@@ -87,6 +87,7 @@ const ROUTE_FIELDS: [&str; 12] = [
 /// where memory was refused.
 pub fn read_config(alloc: Global, bytes: &[u8]) -> Result<Config, Fault>
     ensures found { IfOk result (λ c. (config_file bytes.now).gives ≡ Ok (config_view c)) }
+    ensures says { IfOk result (λ c. FileSaysConfig bytes.now (config_view c)) }
     ensures first { IfErr result (λ fault. fault.kind ≢ kinds.Memory
         → (fault.place ≡ places.Config) × judged.Refuses (config_file bytes.now) (refusal_of fault)) }
     ensures memory { IfErr result (λ fault. fault.kind ≡ kinds.Memory
