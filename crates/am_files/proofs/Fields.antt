@@ -19,7 +19,7 @@ null_is (string s) h = absurd cc
 null_is (array ds) h = absurd cc
 null_is (object ms) h = absurd cc
 
-object_is : (d : Data) (ms : Members) → as_object d ≡ Some ms → d ≡ object ms
+pub object_is : (d : Data) (ms : Members) → as_object d ≡ Some ms → d ≡ object ms
 object_is null ms h = absurd cc
 object_is (boolean b) ms h = absurd cc
 object_is (number n) ms h = absurd cc

@@ -10,3 +10,6 @@ pub mod Judgements
 pub mod Matching
 pub mod Positions
 pub mod Routing
+pub mod Sound
+pub mod ConfigParts
+pub mod ConfigSays

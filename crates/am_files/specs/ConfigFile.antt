@@ -1,5 +1,5 @@
 -- The configuration file: which JSON value says which configuration. (Alertmanager configuration reference.)
-use Rattle.std.specs.Prelude.{◌≡◌, ◌≢◌, ◌⊎◌, ◌≤◌, ◌+◌, ℕ, suc, max, List, [], ◌∷◌, ◌++◌, length, Bool, true, false, IsTrue, Option, Some, None, option_and_then, position, codes, ⊤}
+use Rattle.std.specs.Prelude.{◌≡◌, ◌≢◌, ◌⊎◌, ◌≤◌, ◌+◌, ℕ, suc, max, List, [], ◌∷◌, ◌++◌, length, Bool, true, false, ◌&&◌, nat_lt, IsTrue, Option, Some, None, option_and_then, position, codes, ⊤}
 use Rattle.std.specs.List.{IsDistinct}
 use Rattle.serde_json.specs.Data.{Data, string, boolean, object, Members, no_members, member}
 use Rattle.am_labels.specs.Text.{same_text}
@@ -64,12 +64,12 @@ abbrev mutual
 
 -- each receiver's position is below this number
 abbrev mutual
-  pub HasReceiversBelow : ℕ → RouteTree → Type 0
-  HasReceiversBelow count (route receiver matchers continues children) = (suc receiver ≤ count) × HaveReceiversBelow count children
+  pub has_receivers_below : ℕ → RouteTree → Bool
+  has_receivers_below count (route receiver matchers continues children) = nat_lt receiver count && have_receivers_below count children
 
-  pub HaveReceiversBelow : ℕ → Routes → Type 0
-  HaveReceiversBelow count no_routes = ⊤
-  HaveReceiversBelow count (next_route t ts) = HasReceiversBelow count t × HaveReceiversBelow count ts
+  pub have_receivers_below : ℕ → Routes → Bool
+  have_receivers_below count no_routes = true
+  have_receivers_below count (next_route t ts) = has_receivers_below count t && have_receivers_below count ts
 
 abbrev pub max_receivers : ℕ
 max_receivers = 1024
@@ -79,6 +79,14 @@ max_routes = 1024
 
 abbrev pub max_levels : ℕ
 max_levels = 32
+
+-- What holds of every configuration that is read: each receiver is declared, the top-level route has no matchers, and there
+-- are no more routes and levels than may be.
+pub record IsConfig (c : Configuration) : Type 0 where
+  pub in_range : IsTrue (has_receivers_below (length c.receivers) c.root)
+  pub unmatched : length (matchers_of c.root) ≡ 0
+  pub few : route_count c.root ≤ max_routes
+  pub shallow : route_levels c.root ≤ max_levels
 
 -- the fields of a route; how alerts are grouped, and when they are sent, is not read
 abbrev pub route_fields : List (List ℕ)

@@ -2,7 +2,7 @@
 use Rattle.std.specs.Prelude.{map}
 use Rattle.serde_json.specs.View.{view}
 use Rattle.am_files.specs.declared.config.Config.{Config}
-use Rattle.am_files.specs.declared.config as declared
+use Rattle.am_files.specs.declared.config_file as declared
 use Rattle.am_files.specs.ConfigFile.{Configuration}
 use Rattle.am_files.specs.ConfigReading.{Head}
 use Rattle.am_files.specs.RouteView.{route_view, names_of}

@@ -3,6 +3,8 @@
 ghost use Rattle.std.specs.Prelude.{◌≡◌, ◌↔◌, ℕ, List, None, Ok};
 ghost use Rattle.serde_json.specs.Data.{Data};
 ghost use Rattle.am_labels.specs.Universe.{Label};
+ghost use Rattle.am_files.specs.ConfigFile.{Configuration, SaysConfig, FileSaysConfig};
+ghost use Rattle.am_files.specs.ConfigReading.{config_in, config_file, fault_of_config, fault_of_config_file};
 ghost use Rattle.am_files.specs.UniverseFile.{SaysUniverse, FileSaysUniverse, universe_in, universe_file, fault_of_universe, fault_of_universe_file};
 
 /// A JSON value says a universe exactly where reading it gives that universe. So it says at most one, and it has no
@@ -18,4 +20,20 @@ pub fn universe_files_are_read()
     ensures read { (bytes : List ℕ) (u : List Label) → FileSaysUniverse bytes u ↔ (universe_file bytes ≡ Ok u) }
     ensures one { (bytes : List ℕ) (u v : List Label) → FileSaysUniverse bytes u → FileSaysUniverse bytes v → u ≡ v }
     ensures faults { (bytes : List ℕ) → (fault_of_universe_file bytes ≡ None) ↔ ((u : List Label) × FileSaysUniverse bytes u) }
+{}
+
+/// A JSON value says a configuration exactly where reading it gives that configuration, with each pattern built that the
+/// engine's grammar reads. So it says at most one, and it has no first fault exactly where it says one. Beside the first
+/// fault only the refusals of patterns before it are open.
+pub fn configurations_are_read()
+    ensures read { (d : Data) (c : Configuration) → SaysConfig d c ↔ ((config_in d).gives ≡ Ok c) }
+    ensures one { (d : Data) (b c : Configuration) → SaysConfig d b → SaysConfig d c → b ≡ c }
+    ensures faults { (d : Data) → (fault_of_config d ≡ None) ↔ ((c : Configuration) × SaysConfig d c) }
+{}
+
+/// The same of the bytes of a file.
+pub fn configuration_files_are_read()
+    ensures read { (bytes : List ℕ) (c : Configuration) → FileSaysConfig bytes c ↔ ((config_file bytes).gives ≡ Ok c) }
+    ensures one { (bytes : List ℕ) (b c : Configuration) → FileSaysConfig bytes b → FileSaysConfig bytes c → b ≡ c }
+    ensures faults { (bytes : List ℕ) → (fault_of_config_file bytes ≡ None) ↔ ((c : Configuration) × FileSaysConfig bytes c) }
 {}

@@ -5,6 +5,7 @@
 #![tactic(auto)]
 
 mod config;
+mod config_file;
 mod json;
 pub mod laws;
 mod matchers;
@@ -13,7 +14,8 @@ mod refusal;
 mod route;
 mod universe;
 
-pub use config::{Config, read_config};
+pub use config::Config;
+pub use config_file::read_config;
 pub use route::Route;
 pub use universe::read_universe;
 

@@ -5,7 +5,7 @@ use Rattle.serde_json.specs.View.{view}
 use Rattle.am_files.specs.RouteView.{names_of}
 use Rattle.am_files.specs.ConfigReading.{receiver_behind}
 use Rattle.am_files.proofs.Arrays.{goes_on, ends, is_done}
-use Rattle.am_files.proofs.config.names_behind.Goals as goal
+use Rattle.am_files.proofs.config_file.names_behind.Goals as goal
 
 pub returns-in_err-name : goal.returns-in_err-name
 returns-in_err-name c =

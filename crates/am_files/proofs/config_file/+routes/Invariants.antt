@@ -5,7 +5,7 @@ use Rattle.am_files.specs.RouteView.{route_view, names_of}
 use Rattle.am_files.specs.ConfigFile.{max_routes, routes_count, routes_of}
 use Rattle.am_files.specs.ConfigReading.{children_behind}
 use Rattle.am_files.proofs.Judgements.{Leads}
-use Rattle.am_files.proofs.config.+routes.Given as goal
+use Rattle.am_files.proofs.config_file.+routes.Given as goal
 
 -- what is left behind the children so far leads the reading of all, and they are counted
 abbrev pub invariant-routes-loop-item : goal.invariant-routes-loop-item

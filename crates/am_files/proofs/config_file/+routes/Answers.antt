@@ -14,7 +14,7 @@ use Rattle.am_files.specs.Reading.{IsUnder}
 use Rattle.am_files.specs.ConfigReading.{children_behind}
 use Rattle.am_files.proofs.Judgements.{leads-refl, under_gives, under_if_ok, goes_on, ends, is_done}
 use Rattle.am_files.proofs.Routing.{too_deep, head_fails, children_fail, children_give, head_room, count_push}
-use Rattle.am_files.proofs.config.+routes.Goals as goal
+use Rattle.am_files.proofs.config_file.+routes.Goals as goal
 
 pub route-returns-then-levels-eq0-clause-reads : goal.route-returns-then-levels-eq0-clause-reads
 route-returns-then-levels-eq0-clause-reads t c = too_deep (names_of c.args.names.now) c.args.levels c.args.parent c.args.before (view c.args.value.now) c.here.result c.if-levels-eq0.true c.here.ensures.tells
