@@ -9,7 +9,7 @@ use Rattle.std.proofs.lemmas.Bool.Decides.{nat_tests}
 use Rattle.std.proofs.lemmas.List.{length-map}
 use Rattle.std.proofs.lemmas.Map.Keys.{IsDistinct-head, IsDistinct-tail}
 use Rattle.am_labels.specs.Text.{escaped, quoted, same_text}
-use Rattle.am_labels.specs.Universe.{Label, Values, IsLabel, IsUniverse, names, sizes, starts_name, goes_on_name, is_label_name, same_value}
+use Rattle.am_labels.specs.Universe.{Label, Values, IsLabel, IsUniverse, names, sizes, begins_label_name, continues_label_name, is_label_name, same_value}
 use Rattle.am_labels.specs.Choice.{admits, IsWhole}
 use Rattle.am_labels.specs.LabelSet.{value_at, pair_before, pairs_of}
 use Rattle.am_labels.specs.SetText.{pair_text, line}
@@ -57,23 +57,23 @@ abbrev named : List ℕ → Split
 named [] = ([], [])
 named (c ∷ t) = cond (c == 61) ([], t) (behind c (named t))
 
-no_equals : (c : ℕ) → goes_on_name c ≡ true → (c == 61) ≡ false
+no_equals : (c : ℕ) → continues_label_name c ≡ true → (c == 61) ≡ false
 no_equals c h = grind (arith, nat_tests)
 
-starts_goes_on : (c : ℕ) → starts_name c ≡ true → goes_on_name c ≡ true
-starts_goes_on c h = grind (arith, nat_tests)
+begins_continues : (c : ℕ) → begins_label_name c ≡ true → continues_label_name c ≡ true
+begins_continues c h = grind (arith, nat_tests)
 
-named_all : (name t : List ℕ) → list_all goes_on_name name ≡ true → named (name ++ 61 ∷ t) ≡ (name, t)
+named_all : (name t : List ℕ) → list_all continues_label_name name ≡ true → named (name ++ 61 ∷ t) ≡ (name, t)
 named_all [] t h = refl
 named_all (c ∷ cs) t h =
-    let parts = and_parts (goes_on_name c) (list_all goes_on_name cs) h in
+    let parts = and_parts (continues_label_name c) (list_all continues_label_name cs) h in
     rw (no_equals c parts.0) (ap (behind c) (named_all cs t parts.1))
 
-goes_on_all : (name : List ℕ) → is_label_name name ≡ true → list_all goes_on_name name ≡ true
-goes_on_all [] h = absurd (false≢true h)
-goes_on_all (c ∷ cs) h =
-    let parts = and_parts (starts_name c) (list_all goes_on_name cs) h in
-    rw (starts_goes_on c parts.0) parts.1
+continues_all : (name : List ℕ) → is_label_name name ≡ true → list_all continues_label_name name ≡ true
+continues_all [] h = absurd (false≢true h)
+continues_all (c ∷ cs) h =
+    let parts = and_parts (begins_label_name c) (list_all continues_label_name cs) h in
+    rw (begins_continues c parts.0) parts.1
 
 abbrev paired : List ℕ → (List ℕ × List ℕ) × List ℕ
 paired t =
@@ -87,7 +87,7 @@ spread name value t =
 
 paired_all : (name value t : List ℕ) → is_label_name name ≡ true → paired (pair_text (name, value) ++ t) ≡ ((name, value), t)
 paired_all name value t h =
-    let n : named (pair_text (name, value) ++ t) ≡ (name, 34 ∷ (flat_map escaped value ++ 34 ∷ t)) = ap named (spread name value t) ∙ named_all name _ (goes_on_all name h) in
+    let n : named (pair_text (name, value) ++ t) ≡ (name, 34 ∷ (flat_map escaped value ++ 34 ∷ t)) = ap named (spread name value t) ∙ named_all name _ (continues_all name h) in
     let v : unquoted false (drop 1 (named (pair_text (name, value) ++ t)).1) ≡ (value, t) = ap (λ s. unquoted false (drop 1 s.1)) n ∙ unquoted_all value t in
     ap (λ s. ((s.0, (unquoted false (drop 1 (named (pair_text (name, value) ++ t)).1)).0), (unquoted false (drop 1 (named (pair_text (name, value) ++ t)).1)).1)) n
     ∙ ap (λ s. ((name, s.0), s.1)) v
@@ -112,7 +112,7 @@ same_following (p ∷ ps) (q ∷ qs) s t h k e =
 first_is_no_brace : (p : List ℕ × List ℕ) (t : List ℕ) → is_label_name p.0 ≡ true → get_or (pair_text p ++ t) 0 0 ≢ 125
 first_is_no_brace p t h = elim (p.0) as (λ n. is_label_name n ≡ true → get_or ((n ++ (61 ∷ quoted p.1)) ++ t) 0 0 ≡ 125 → ⊥) [
   | [] ↦ λ h e. false≢true h
-  | c ∷ cs ↦ λ h e. let starts = (and_parts (starts_name c) (list_all goes_on_name cs) h).0 in false≢true (subst (λ n. starts_name n ≡ true) e starts)
+  | c ∷ cs ↦ λ h e. let starts = (and_parts (begins_label_name c) (list_all continues_label_name cs) h).0 in false≢true (subst (λ n. begins_label_name n ≡ true) e starts)
 ] h
 
 same_joined : (ps qs : Pairs) (s t : List ℕ) → AreNamed ps → AreNamed qs → joined ps ++ 125 ∷ s ≡ joined qs ++ 125 ∷ t → ps ≡ qs

@@ -3,9 +3,10 @@
 -- leaves something open, it is this project's reading.)
 use Rattle.std.specs.Prelude.{◌≡◌, ℕ, zero, suc, ◌+◌, ◌-◌, ◌%◌, List, [], ◌∷◌, ◌++◌, length, take, drop, slice_index, slice_range, EachIndex, Bool, false, not, ◌&&◌, ◌||◌, ◌==◌, if◌then◌else◌, IsTrue, IsFalse, ◌⊎◌, codes}
 use Rattle.std.specs.List.{filter, list_all, range_with_len, suffix_len, AllZip}
-use Rattle.std.specs.Char.{is_ascii_alphabetic, is_ascii_digit, is_ascii_whitespace}
+use Rattle.std.specs.Char.{is_ascii_whitespace}
 use Rattle.am_labels.specs.declared.op.Op.{Op}
 use Rattle.am_labels.specs.declared.op.Op.TheVariants.{Equal, NotEqual, Matches, NotMatches}
+use Rattle.am_labels.specs.Universe.{begins_label_name, continues_label_name}
 use Rattle.am_labels.specs.Matcher.{Condition}
 
 -- ---- bytes
@@ -18,13 +19,13 @@ is_space = is_ascii_whitespace
 abbrev pub is_blank : List ℕ → Bool
 is_blank text = list_all is_space text
 
--- what a name begins with: a letter, `_` or `:`
+-- what a name begins with: what a label name does, or `:`
 abbrev pub begins_name : ℕ → Bool
-begins_name c = (is_ascii_alphabetic c || c == 95) || c == 58
+begins_name c = begins_label_name c || c == 58
 
--- what a name goes on with: that, or a digit
+-- what a name goes on with: what a label name does, or `:`
 abbrev pub continues_name : ℕ → Bool
-continues_name c = begins_name c || is_ascii_digit c
+continues_name c = continues_label_name c || c == 58
 
 -- a name
 abbrev pub is_name : List ℕ → Bool

@@ -2,6 +2,7 @@
 -- a label name is that of the Prometheus data model, "Metric names and labels".)
 use Rattle.std.specs.Prelude.{◌≡◌, ℕ, ◌<◌, ◌≤◌, List, [], ◌∷◌, ◌++◌, length, map, Bool, true, false, not, nat_le, nat_lt, ◌==◌, ◌&&◌, ◌||◌, if◌then◌else◌, Option, Some, None, option_map, IsTrue}
 use Rattle.std.specs.List.{list_all, list_any, AllByRecursion, IsDistinct}
+use Rattle.std.specs.Char.{is_ascii_alphabetic, is_ascii_digit}
 use Rattle.am_labels.specs.declared.kind.Kind.{Kind}
 use Rattle.am_labels.specs.declared.kind.Kind.TheVariants as kinds
 use Rattle.am_labels.specs.declared.label_fault.LabelFault.{LabelFault}
@@ -26,26 +27,18 @@ max_labels = 64
 abbrev pub max_values : ℕ
 max_values = 128
 
--- `[a-zA-Z]`
-abbrev pub is_letter : ℕ → Bool
-is_letter c = nat_le 65 c && nat_le c 90 || nat_le 97 c && nat_le c 122
+-- what a label name begins with: `[a-zA-Z_]`
+abbrev pub begins_label_name : ℕ → Bool
+begins_label_name c = is_ascii_alphabetic c || c == 95
 
--- `[0-9]`
-abbrev pub is_digit : ℕ → Bool
-is_digit c = nat_le 48 c && nat_le c 57
-
--- `[a-zA-Z_]`, with which a label name begins
-abbrev pub starts_name : ℕ → Bool
-starts_name c = is_letter c || c == 95
-
--- `[a-zA-Z0-9_]`, with which it goes on
-abbrev pub goes_on_name : ℕ → Bool
-goes_on_name c = starts_name c || is_digit c
+-- what it goes on with: `[a-zA-Z0-9_]`
+abbrev pub continues_label_name : ℕ → Bool
+continues_label_name c = begins_label_name c || is_ascii_digit c
 
 -- a label name of the data model: `[a-zA-Z_][a-zA-Z0-9_]*`
 abbrev pub is_label_name : List ℕ → Bool
 is_label_name [] = false
-is_label_name (c ∷ cs) = starts_name c && list_all goes_on_name cs
+is_label_name (c ∷ cs) = begins_label_name c && list_all continues_label_name cs
 
 -- two values are the same, absence included
 abbrev pub same_value : Option (List ℕ) → Option (List ℕ) → Bool

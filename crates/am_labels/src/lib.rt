@@ -11,6 +11,7 @@ mod fault;
 mod history;
 mod kind;
 mod label_fault;
+mod label_name;
 mod label_set;
 pub mod laws;
 mod matcher;

@@ -8,6 +8,7 @@ ghost use Rattle.am_labels.specs.Matcher.{Condition};
 ghost use Rattle.am_labels.specs.MatcherText.{Spells, is_blank, begins_name, continues_name, unescaped, pieces, without_opening, without_closing};
 ghost use Rattle.am_labels.specs.MatcherReading.{Gives, condition_of, conditions_of, trimmed_start, trimmed_end, first_quote, read_body, read_operator, read_name, read_piece, read_each, read_list};
 
+use crate::label_name::{begins_label_name, continues_label_name};
 use crate::{Kind, Op};
 use std::alloc::{AllocError, Global};
 
@@ -119,16 +120,18 @@ fn trim_end(text: &[u8]) -> &[u8]
     text.trim_ascii_end()
 }
 
+/// Whether a name may begin with the byte.
 fn begins_name(byte: u8) -> bool
     ensures { result ≡ begins_name byte }
 {
-    byte.is_ascii_alphabetic() || byte == b'_' || byte == b':'
+    begins_label_name(byte) || byte == b':'
 }
 
+/// Whether a name may go on with the byte.
 fn continues_name(byte: u8) -> bool
     ensures { result ≡ continues_name byte }
 {
-    begins_name(byte) || byte.is_ascii_digit()
+    continues_label_name(byte) || byte == b':'
 }
 
 /// The name that the text begins with, and what follows it.

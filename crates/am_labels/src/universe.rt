@@ -1,12 +1,13 @@
 ghost use Rattle.std.specs.Prelude.{◌≡◌, ◌<◌, ◌≤◌, ◌==◌, [], ◌∷◌, ◌++◌, length, Some, None, string_bytes, IfErr, IfSome, IfNone, OnOk, OnErr, Contains, slice_get, slice_index, option_map, option_and_then, unwrap_or};
-ghost use Rattle.std.specs.List.{list_all, list_any};
-ghost use Rattle.am_labels.specs.Universe.{IsUniverse, max_labels, max_values, names, sizes, starts_name, goes_on_name, is_label_name, same_value, name_fault, count_fault, value_fault, label_values_fault, label_fault, no_memory};
+ghost use Rattle.std.specs.List.{list_any};
+ghost use Rattle.am_labels.specs.Universe.{IsUniverse, max_labels, max_values, names, sizes, same_value, name_fault, count_fault, value_fault, label_values_fault, label_fault, no_memory};
 ghost use Rattle.am_labels.specs.UniverseView.{label_of, texts_of};
 ghost use Rattle.am_labels.specs.LabelSet.{value_at};
 ghost use Rattle.am_labels.specs.Row.{label_position};
 ghost use Rattle.am_labels.specs.Choice.{admits};
 ghost use Rattle.am_labels.specs.declared.kind.Kind.TheVariants as kinds;
 
+use crate::label_name::is_label_name;
 use crate::{Choice, Kind, LabelFault, LabelPart};
 use std::alloc::Global;
 use std::marker::Model;
@@ -262,32 +263,4 @@ fn at(part: LabelPart, kind: Kind) -> LabelFault
     ensures { result ≡ record { kind = kind; part = part } }
 {
     LabelFault { kind, part }
-}
-
-/// Whether the text is a label name, `[a-zA-Z_][a-zA-Z0-9_]*` (Prometheus data model).
-fn is_label_name(name: &[u8]) -> bool
-    ensures { result ≡ is_label_name name.now }
-{
-    match name.split_first() {
-        Some((first, rest)) => starts_name(*first) && all_go_on_name(rest),
-        None => false,
-    }
-}
-
-fn all_go_on_name(bytes: &[u8]) -> bool
-    ensures { result ≡ list_all goes_on_name bytes.now }
-{
-    bytes.iter().all(|byte| goes_on_name(*byte))
-}
-
-fn starts_name(byte: u8) -> bool
-    ensures { result ≡ starts_name byte }
-{
-    byte.is_ascii_alphabetic() || byte == b'_'
-}
-
-fn goes_on_name(byte: u8) -> bool
-    ensures { result ≡ goes_on_name byte }
-{
-    starts_name(byte) || byte.is_ascii_digit()
 }
