@@ -4,7 +4,7 @@ ghost use Rattle.std.specs.Prelude.{◌≡◌, ◌≢◌, ◌≤◌, [], ◌∷�
 ghost use Rattle.serde_json.specs.View.{view};
 ghost use Rattle.am_labels.specs.declared.kind.Kind.TheVariants as kinds;
 ghost use Rattle.am_labels.specs.declared.place.Place.TheVariants as places;
-ghost use Rattle.am_labels.specs.Universe.{count_fault, label_fault, max_labels};
+ghost use Rattle.am_labels.specs.Universe.{label_fault, max_labels};
 ghost use Rattle.am_labels.specs.UniverseView.{label_of, texts_of};
 ghost use Rattle.am_files.specs.declared.refusal.ReadError.TheVariants as errors;
 ghost use Rattle.am_files.specs.Pointer.{to_item, under};
@@ -17,11 +17,6 @@ use crate::refusal::ReadError;
 use am_labels::{Fault, Kind, Place, Universe};
 use serde_json::Value;
 use std::alloc::{AllocError, Global};
-
-/// The most labels that a universe has, and the most values of a label.
-const MAX_LABELS: usize = 64;
-
-const MAX_VALUES: usize = 128;
 
 /// The universe that a file says.
 ///
@@ -74,7 +69,7 @@ fn universe(alloc: Global, value: &Value) -> Result<Universe, ReadError>
 fn labels(alloc: Global, items: &[Value]) -> Result<Universe, ReadError>
     ensures { Gives (λ u. u) result (labels_in (map view items.now)) }
 {
-    at_most(alloc, MAX_LABELS, items.len())?;
+    at_most(alloc, Universe::MAX_LABELS, items.len())?;
     labels_behind(alloc, items)
 }
 
@@ -139,20 +134,8 @@ fn label(
 fn values(alloc: Global, items: &[Value]) -> Result<Vec<Option<String>>, ReadError>
     ensures { Gives (λ values. texts_of values.items) result (values_in (map view items.now)) }
 {
-    unless(alloc, count_fault(items.len()))?;
+    unless(alloc, Universe::count_fault(items.len()))?;
     values_behind(alloc, items)
-}
-
-fn count_fault(count: usize) -> Option<Kind>
-    ensures { result ≡ count_fault count }
-{
-    if count == 0 {
-        Some(Kind::Empty)
-    } else if count > MAX_VALUES {
-        Some(Kind::Limit)
-    } else {
-        None
-    }
 }
 
 fn values_behind(alloc: Global, items: &[Value]) -> Result<Vec<Option<String>>, ReadError>

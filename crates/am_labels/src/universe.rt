@@ -49,6 +49,12 @@ impl Model for Universe {
 }
 
 impl Universe {
+    /// The most labels of a universe.
+    pub const MAX_LABELS: usize = 64;
+
+    /// The most values of a label.
+    pub const MAX_VALUES: usize = 128;
+
     /// The universe with no labels, which has one label set, the empty one. It keeps the allocator.
     pub fn empty(alloc: Global) -> Universe
         ensures { result ≡ [] }
@@ -76,6 +82,21 @@ impl Universe {
         None
     }
 
+    /// Why a label may not have so many values; `None` where it may.
+    ///
+    /// `Empty` for no value, `Limit` for more than 128.
+    pub fn count_fault(count: usize) -> Option<Kind>
+        ensures { result ≡ count_fault count }
+    {
+        if count == 0 {
+            Some(Kind::Empty)
+        } else if count > Universe::MAX_VALUES {
+            Some(Kind::Limit)
+        } else {
+            None
+        }
+    }
+
     /// Why a value may not stand behind those before it; `None` where it may.
     ///
     /// The first of: `Empty`, the empty text; `Duplicate`, a value as one before it.
@@ -94,8 +115,8 @@ impl Universe {
     /// Adds a label behind the others, with its values in declared order.
     ///
     /// The first fault is the one answered: `Limit` at `Label` where there are 64 labels already; the faults of
-    /// the name, at `Name`, as `name_fault` has them; at `Values`, `Empty` for no value and `Limit` for more than
-    /// 128; at the first such value, `Empty` for the empty text and `Duplicate` for a value as one before it.
+    /// the name, at `Name`, as `name_fault` has them; of their count, at `Values`, as `count_fault` has them; and at
+    /// the first such value, those of a value, as `value_fault` has them.
     /// `Memory` at `Label` comes only for a label with no fault, where memory was refused. After an `Err` nothing has
     /// changed.
     pub fn add(&mut self, name: String, values: Vec<Option<String>>) -> Result<(), LabelFault>
@@ -118,7 +139,7 @@ impl Universe {
     fn label_fault(&self, name: &str, values: &[Option<String>]) -> Option<LabelFault>
         ensures { result ≡ label_fault self.now (record { name = name.now; values = texts_of values.now }) }
     {
-        if self.labels.len() >= MAX_LABELS {
+        if self.labels.len() >= Universe::MAX_LABELS {
             return Some(at(LabelPart::Label, Kind::Limit));
         }
         if let Some(kind) = self.name_fault(name) {
@@ -200,17 +221,11 @@ impl Universe {
     }
 }
 
-/// The most labels of a universe.
-const MAX_LABELS: usize = 64;
-
-/// The most values of a label.
-const MAX_VALUES: usize = 128;
-
 /// The first fault in the values of a label.
 fn label_values_fault(values: &[Option<String>]) -> Option<LabelFault>
     ensures { result ≡ label_values_fault (texts_of values.now) }
 {
-    if let Some(kind) = count_fault(values.len()) {
+    if let Some(kind) = Universe::count_fault(values.len()) {
         return Some(at(LabelPart::Values, kind));
     }
     for (i, value) in values.iter().enumerate() {
@@ -219,18 +234,6 @@ fn label_values_fault(values: &[Option<String>]) -> Option<LabelFault>
         }
     }
     None
-}
-
-fn count_fault(count: usize) -> Option<Kind>
-    ensures { result ≡ count_fault count }
-{
-    if count == 0 {
-        Some(Kind::Empty)
-    } else if count > MAX_VALUES {
-        Some(Kind::Limit)
-    } else {
-        None
-    }
 }
 
 /// Whether the value is one of those.
