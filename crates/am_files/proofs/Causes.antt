@@ -46,14 +46,14 @@ pub input-unless : (cause : Option Kind) → CauseIsOfInput cause → IsOfInput 
 input-unless None h = tt
 input-unless (Some kind) h = h
 
-input-test : (b : Bool) (kind : Kind) → is_of_input kind ≡ true → IsOfInput {A = ⊤} (if b then Err (here kind) else Ok tt)
+pub input-test : (b : Bool) (kind : Kind) → is_of_input kind ≡ true → IsOfInput {A = ⊤} (if b then Err (here kind) else Ok tt)
 input-test true kind h = h
 input-test false kind h = tt
 
 pub input-at_most : (limit count : ℕ) → IsOfInput (at_most limit count)
 input-at_most limit count = input-test (nat_lt limit count) kinds.Limit refl
 
-cause-first : (b : Bool) (kind : Kind) (other : Option Kind) → is_of_input kind ≡ true → CauseIsOfInput other → CauseIsOfInput (if b then Some kind else other)
+pub cause-first : (b : Bool) (kind : Kind) (other : Option Kind) → is_of_input kind ≡ true → CauseIsOfInput other → CauseIsOfInput (if b then Some kind else other)
 cause-first true kind other h k = h
 cause-first false kind other h k = k
 
@@ -140,13 +140,15 @@ pub input-universe_file : (bytes : List ℕ) → IsOfInput (universe_file bytes)
 unfolding universe_file
 input-universe_file bytes = input-bind (json_in bytes) _ (input-json_in bytes) input-universe_in
 
+pub no_kind_of_writing : (kind : Kind) → is_of_input kind ≡ true → kind ≢ kinds.Write
+no_kind_of_writing kind h w =
+    let no : is_of_input kinds.Write ≡ true = subst (λ (k : Kind). is_of_input k ≡ true) w h in
+    cc
+
 -- no refusal of a file is one of writing
 pub never_of_writing : {A : Type 0} (reading : Result A Refusal) (r : Refusal) → IsOfInput reading → reading ≡ Err r → r.kind ≢ kinds.Write
 never_of_writing (Ok x) r h e w = cc
-never_of_writing (Err q) r h e w =
-    let same : q.kind ≡ r.kind = cc in
-    let no : is_of_input kinds.Write ≡ true = subst (λ (k : Kind). is_of_input k ≡ true) (same ∙ w) h in
-    cc
+never_of_writing (Err q) r h e w = let same : q.kind ≡ r.kind = cc in no_kind_of_writing q.kind h (same ∙ w)
 
 -- the fault that a reader's error is
 pub fault_never_of_writing : {A : Type 0} (place : Place) (e : ReadError) (fault : Fault) (reading : Result A Refusal) → IsFaultOf place e fault → Fails e reading → IsOfInput reading → fault.kind ≢ kinds.Write

@@ -13,3 +13,4 @@ pub mod Routing
 pub mod Sound
 pub mod ConfigParts
 pub mod ConfigSays
+pub mod ConfigCauses

@@ -92,6 +92,7 @@ pub fn read_config(alloc: Global, bytes: &[u8]) -> Result<Config, Fault>
         → (fault.place ≡ places.Config) × judged.Refuses (config_file bytes.now) (refusal_of fault)) }
     ensures memory { IfErr result (λ fault. fault.kind ≡ kinds.Memory
         → (fault.place ≡ places.Memory) × (string_bytes fault.pointer ≡ [])) }
+    ensures no_write { IfErr result (λ fault. fault.kind ≢ kinds.Write) }
 {
     match config_file(alloc, bytes) {
         Ok(config) => Ok(config),
