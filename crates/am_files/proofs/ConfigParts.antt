@@ -1,11 +1,10 @@
 -- The parts of a configuration: what a part says, reading it gives, and the other way.
-use Rattle.std.proofs.Common.{◌≡◌, ◌≢◌, ◌⊎◌, ℕ, suc, ◌+◌, ◌<◌, ◌≤◌, List, [], ◌∷◌, ◌++◌, length, Bool, true, false, not, ◌&&◌, ◌||◌, cond, nat_lt, Option, Some, None, option_and_then, Result, Ok, Err, inl, inr, refl, sym, ap, subst, ◌∙◌, append_assoc, append-nil, length-append, arith}
-use Rattle.std.specs.Prelude.{⊤, codes, ok_or, IsTrue, is_some}
+use Rattle.std.proofs.Common.{◌≡◌, ◌≢◌, ℕ, suc, ◌+◌, ◌<◌, ◌≤◌, List, [], ◌∷◌, ◌++◌, length, Bool, true, false, ◌&&◌, ◌||◌, cond, Option, Some, None, option_and_then, Ok, inl, inr, refl, sym, ap, subst, ◌∙◌, append_assoc, append-nil, length-append, arith}
+use Rattle.std.specs.Prelude.{codes, ok_or, IsTrue, is_some}
 use Rattle.std.specs.List.{AllByRecursion, IsDistinct, list_any, position, position_or_len}
 use borrow.Author.Tests.{lt-ltb, le-ltb}
 use Rattle.serde_json.specs.Data.{Data, null, boolean, number, string, array, object, Members, no_members, member}
 use Rattle.serde_json.specs.Find.{as_bool}
-use Rattle.am_labels.specs.declared.kind.Kind.{Kind}
 use Rattle.am_labels.specs.declared.kind.Kind.TheVariants as kinds
 use Rattle.am_labels.specs.declared.op.Op.{Op}
 use Rattle.am_labels.specs.Text.{same_text}
@@ -19,13 +18,13 @@ use Rattle.am_files.specs.Pointer as pointer
 use Rattle.am_files.specs.Pointer.{Refusal, here, to_field, to_item}
 use Rattle.am_files.specs.Reading as plain
 use Rattle.am_files.specs.Reading.{unless, at_most, text_in, items_in, object_in, required_text, required_items}
-use Rattle.am_files.specs.Judged.{Judged, sure, ◌>>=◌, under}
-use Rattle.am_files.specs.ConfigFile.{SaysName, NamesReceiver, InheritsReceiver, SaysReceiver, SaysText, HasItems, PairsSay, SaysContinue, joined, max_receivers}
-use Rattle.am_files.specs.ConfigReading.{name_fault, receiver_behind, names_in, receivers_in, inherited, declared, named, receiver_of, receiver_in, truth_of, continues_in, some_items, children_in, pattern_fault, patterns_in, join, spelled_at, text_behind, texts_behind, empty_fault, matcher_in, pair_in, pair_behind, pairs_behind}
+use Rattle.am_files.specs.Judged.{under}
+use Rattle.am_files.specs.ConfigFile.{SaysName, SaysReceiver, SaysText, HasItems, PairsSay, SaysContinue, joined, max_receivers}
+use Rattle.am_files.specs.ConfigReading.{name_fault, receiver_behind, names_in, receivers_in, named, receiver_of, receiver_in, truth_of, continues_in, some_items, children_in, pattern_fault, join, spelled_at, text_behind, texts_behind, empty_fault, matcher_in, pair_in, pair_behind, pairs_behind}
 use Rattle.am_files.proofs.Readings.{bind_ok, under_ok, unless_ok, at_most_ok, at_most_fits, ok_or_some, same_read}
 use Rattle.am_files.proofs.Arrays.{AllFit, each-says, each-reads, length-Each}
 use Rattle.am_files.proofs.Fields.{text_in_says, object_is, required_text_says, required_text_reads, required_items_says, required_items_reads}
-use Rattle.am_files.proofs.Matching.{sound_passes, matcher_gives, spelled_gives}
+use Rattle.am_files.proofs.Matching.{matcher_gives, spelled_gives}
 
 or_false : (a b : Bool) → (a || b) ≡ false → (a ≡ false) × (b ≡ false)
 or_false true b h = absurd cc

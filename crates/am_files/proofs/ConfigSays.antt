@@ -1,5 +1,5 @@
 -- A value says a configuration exactly where reading it finds no fault, and then that configuration.
-use Rattle.std.proofs.Common.{◌≡◌, ◌≢◌, ◌⊎◌, ℕ, zero, suc, ◌+◌, ◌<◌, ◌≤◌, max, List, [], ◌∷◌, ◌++◌, length, Bool, true, false, not, ◌&&◌, cond, Option, Some, None, Result, Ok, Err, inl, inr, refl, sym, ap, subst, ◌∙◌, append_assoc, append-nil, length-append, arith}
+use Rattle.std.proofs.Common.{◌≡◌, ℕ, zero, suc, ◌+◌, ◌≤◌, List, [], ◌∷◌, ◌++◌, length, Bool, true, false, Option, Some, None, Ok, inl, inr, refl, sym, ap, subst, ◌∙◌, append_assoc, append-nil, length-append, arith}
 use Rattle.std.specs.Prelude.{⊤, codes, ok_or, IsTrue, is_none}
 use Rattle.serde_json.specs.Data.{Data, null, boolean, number, string, array, object, Members}
 use Rattle.am_labels.specs.declared.kind.Kind.TheVariants as kinds
@@ -8,17 +8,15 @@ use Rattle.am_labels.specs.declared.op.Op.TheVariants.{Equal, Matches}
 use Rattle.am_labels.specs.Matcher.{Condition}
 use Rattle.am_labels.specs.MatcherRefusals.{have_sound_values}
 use Rattle.am_files.specs.Json.{json_of, field, HasOnly, Each}
-use Rattle.am_files.specs.Pointer as pointer
-use Rattle.am_files.specs.Pointer.{Refusal, here, to_field, to_item}
-use Rattle.am_files.specs.Reading as plain
+use Rattle.am_files.specs.Pointer.{here, to_field, to_item}
 use Rattle.am_files.specs.Reading.{at_most, items_in, object_in, only_fields, required, max_bytes, json_in}
-use Rattle.am_files.specs.Judged.{Judged, sure, ◌>>=◌, under, each}
-use Rattle.am_files.specs.ConfigFile.{RouteTree, route, Routes, no_routes, next_route, Configuration, routes_of, matchers_of, route_count, routes_count, route_levels, routes_levels, max_routes, max_levels, route_fields, SaysText, HasItems, PairsSay, SaysPairs, SaysMatchers, SaysReceiver, SaysContinue, SaysOneRoute, SaysRoute, SaysRoutes, SaysConfig, FileSaysConfig, joined}
-use Rattle.am_files.specs.ConfigReading.{Head, receivers_in, receiver_in, is_empty, continues_in, children_in, some_items, not_on_root, texts_in, texts_behind, pairs_in, pairs_behind, some_texts, some_pairs, matchers_in, tail_in, matched_in, fields_in, head_in, route_in, children_behind, no_rules, config_in, config_file}
+use Rattle.am_files.specs.Judged.{under, each}
+use Rattle.am_files.specs.ConfigFile.{RouteTree, route, Routes, no_routes, next_route, Configuration, routes_of, matchers_of, route_count, routes_count, route_levels, routes_levels, max_routes, max_levels, route_fields, SaysText, HasItems, SaysPairs, SaysMatchers, SaysReceiver, SaysContinue, SaysRoute, SaysRoutes, SaysConfig, FileSaysConfig, joined}
+use Rattle.am_files.specs.ConfigReading.{Head, receivers_in, receiver_in, continues_in, children_in, some_items, not_on_root, texts_in, texts_behind, pairs_in, pairs_behind, some_texts, some_pairs, matchers_in, tail_in, matched_in, fields_in, head_in, route_in, children_behind, no_rules, config_in, config_file}
 use Rattle.am_files.proofs.Readings.{bind_ok, under_ok, ok_or_some, same_read, at_most_ok, at_most_fits, Decides}
 use Rattle.am_files.proofs.Fields.{only_fields_says, only_fields_reads}
 use Rattle.am_files.proofs.Sound.{root_unmatched, route_sound}
-use Rattle.am_files.proofs.ConfigParts.{SaysNames, names_say, names_read, receiver_says, receiver_reads, continues_say, continues_read, items_say, items_read, children_say, children_read, AddTexts, texts_say, texts_read, AddPairs, pairs_say, pairs_read, sound_append, sound_apart, object_says}
+use Rattle.am_files.proofs.ConfigParts.{names_say, names_read, receiver_says, receiver_reads, continues_say, continues_read, items_say, items_read, children_say, children_read, AddTexts, texts_say, texts_read, AddPairs, pairs_say, pairs_read, sound_append, sound_apart, object_says}
 
 -- ---- The matchers of a route.
 

@@ -1,5 +1,5 @@
 -- Matchers that are built, and those that are refused.
-use Rattle.std.proofs.Common.{◌≡◌, ◌≢◌, ◌⊎◌, ℕ, suc, ◌+◌, ◌<◌, ◌≤◌, List, [], ◌∷◌, ◌++◌, length, Bool, true, false, ◌&&◌, ◌||◌, not, cond, Option, Some, None, Result, Ok, Err, IsTrue, inl, inr, refl, sym, ap, subst, ◌∙◌, map, drop, get_or, add-one, drop-cons, string_bytes}
+use Rattle.std.proofs.Common.{◌≡◌, ◌≢◌, ◌⊎◌, ℕ, suc, ◌+◌, ◌<◌, ◌≤◌, List, [], ◌∷◌, ◌++◌, length, Bool, true, false, ◌&&◌, ◌||◌, Option, Some, None, Result, Ok, Err, IsTrue, inl, inr, refl, sym, subst, ◌∙◌, map, drop, get_or, drop-cons, string_bytes}
 use Rattle.std.proofs.lemmas.List.{drop_all}
 use borrow.Author.Tests.{lt-ltb}
 use native.Mathlib.Numerals.{unary_clauses}
@@ -14,15 +14,15 @@ use Rattle.am_labels.specs.Pattern.{is_pattern}
 use Rattle.am_labels.specs.PatternProfile.{in_profile}
 use Rattle.am_labels.specs.MatcherText.{Spells}
 use Rattle.am_labels.specs.MatcherReading.{read_list}
-use Rattle.am_labels.specs.MatcherRefusals.{has_sound_value, have_sound_values, pattern_refusal, RefusesValue, RefusesCondition, RefusesPatterns, RefusesConditions, SpellsRefused, RefusesText}
+use Rattle.am_labels.specs.MatcherRefusals.{has_sound_value, have_sound_values, pattern_refusal, RefusesValue, RefusesCondition, RefusesPatterns, RefusesText}
 use Rattle.am_labels.proofs.MatcherTextWhole.{list_is_read, list_is_spelled}
 use Rattle.am_files.specs.declared.refusal.ReadError.{ReadError}
 use Rattle.am_files.specs.declared.refusal.ReadError.TheVariants as errors
 use Rattle.std.specs.Prelude.{IsErrAnd}
 use Rattle.am_files.specs.Pointer.{Refusal, here, behind, to_item}
-use Rattle.am_files.specs.Reading.{Tells, unless, at_most}
-use Rattle.am_files.specs.Judged.{Judged, sure, ◌>>=◌, under, Refuses, Fails, Gives}
-use Rattle.am_files.specs.ConfigReading.{pattern_fault, reaches_pattern, patterns_in, matcher_in, spelled_at, text_behind, texts_behind, pair_behind, pairs_behind, empty_fault}
+use Rattle.am_files.specs.Reading.{Tells, at_most}
+use Rattle.am_files.specs.Judged.{Judged, sure, ◌>>=◌, Refuses, Fails, Gives}
+use Rattle.am_files.specs.ConfigReading.{pattern_fault, patterns_in, matcher_in, spelled_at, text_behind, texts_behind, pair_behind, pairs_behind, empty_fault}
 use Rattle.am_files.proofs.Readings.{at_most_fits}
 use Rattle.am_files.proofs.Judgements.{Leads, leads_on, fails_led, fails_first, refuses_first, here_fails, err_gives, memory_gives}
 

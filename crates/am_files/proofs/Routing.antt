@@ -1,13 +1,13 @@
 -- Routes: one is read by what it says of itself and then its children.
-use Rattle.std.proofs.Common.{◌≡◌, ◌≢◌, ℕ, suc, ◌+◌, ◌-◌, ◌≤◌, List, [], ◌∷◌, ◌++◌, length, map, Option, Some, None, Result, Ok, Err, refl, sym, ap, ◌∙◌, arith, inl}
-use Rattle.std.specs.Prelude.{is_none, codes}
+use Rattle.std.proofs.Common.{◌≡◌, ◌≢◌, ℕ, suc, ◌+◌, ◌-◌, ◌≤◌, List, [], ◌∷◌, ◌++◌, Option, Ok, refl, sym, arith, inl}
+use Rattle.std.specs.Prelude.{codes}
 use Rattle.serde_json.specs.Data.{Data}
 use Rattle.am_labels.specs.declared.kind.Kind.TheVariants as kinds
 use Rattle.am_files.specs.declared.refusal.ReadError.{ReadError}
-use Rattle.am_files.specs.Pointer.{Refusal, here, to_field}
+use Rattle.am_files.specs.Pointer.{here, to_field}
 use Rattle.am_files.specs.Reading.{at_most, Tells}
-use Rattle.am_files.specs.Judged.{Judged, sure, ◌>>=◌, under, Refuses, Fails, each}
-use Rattle.am_files.specs.ConfigFile.{RouteTree, route, Routes, routes_of, route_count, routes_count, max_routes}
+use Rattle.am_files.specs.Judged.{Judged, sure, ◌>>=◌, under, Fails, each}
+use Rattle.am_files.specs.ConfigFile.{RouteTree, route, routes_of, route_count, routes_count, max_routes}
 use Rattle.am_files.specs.ConfigReading.{Head, head_in, route_in, children_behind}
 use Rattle.am_files.proofs.Readings.{bind_ok, at_most_ok}
 use Rattle.am_files.proofs.Judgements.{Leads, leads-refl, leads_on, fails_led, fails_first, fails_refused}

@@ -1,7 +1,7 @@
 -- What holds of each configuration that was read: its receivers are in range, its root has no matchers, and its routes are
 -- not too many and not too deep.
-use Rattle.std.proofs.Common.{◌≡◌, ◌≢◌, ℕ, zero, suc, ◌+◌, ◌<◌, ◌≤◌, max, List, [], ◌∷◌, ◌++◌, length, Bool, true, false, ◌&&◌, cond, nat_lt, Option, Some, None, Result, Ok, Err, refl, sym, ap, subst, ◌∙◌, arith}
-use Rattle.std.specs.Prelude.{codes, is_none, ok_or, IfSome, IsTrue}
+use Rattle.std.proofs.Common.{◌≡◌, ℕ, zero, suc, ◌+◌, ◌<◌, ◌≤◌, List, [], ◌∷◌, ◌++◌, length, Bool, true, false, ◌&&◌, nat_lt, Option, Some, None, Ok, refl, sym, ap, subst, ◌∙◌, arith}
+use Rattle.std.specs.Prelude.{codes, is_none, IfSome}
 use Rattle.std.specs.List.{position}
 use Rattle.std.proofs.lemmas.List.Quantifiers.{position-Some}
 use borrow.Author.Tests.{lt-ltb}
@@ -12,13 +12,11 @@ use Rattle.am_labels.specs.declared.kind.Kind.TheVariants as kinds
 use Rattle.am_labels.specs.Matcher.{Condition}
 use Rattle.am_labels.specs.Text.{same_text}
 use Rattle.am_files.specs.Json.{field}
-use Rattle.am_files.specs.Pointer as pointer
-use Rattle.am_files.specs.Pointer.{Refusal, here, to_field, to_item}
-use Rattle.am_files.specs.Reading as plain
-use Rattle.am_files.specs.Reading.{at_most, text_in, items_in, object_in, only_fields, required}
-use Rattle.am_files.specs.Judged.{Judged, sure, ◌>>=◌, under, each}
-use Rattle.am_files.specs.ConfigFile.{RouteTree, route, Routes, no_routes, next_route, Configuration, IsConfig, routes_of, matchers_of, route_count, routes_count, route_levels, routes_levels, has_receivers_below, have_receivers_below, max_routes, max_levels, route_fields}
-use Rattle.am_files.specs.ConfigReading.{Head, inherited, declared, named, receiver_of, receiver_in, is_empty, continues_in, children_in, not_on_root, texts_in, texts_behind, pairs_in, pairs_behind, some_texts, some_pairs, matchers_in, tail_in, matched_in, fields_in, head_in, route_in, children_behind, receivers_in, no_rules, config_in}
+use Rattle.am_files.specs.Pointer.{here, to_field, to_item}
+use Rattle.am_files.specs.Reading.{at_most, text_in, items_in, object_in, only_fields}
+use Rattle.am_files.specs.Judged.{under, each}
+use Rattle.am_files.specs.ConfigFile.{RouteTree, route, Routes, no_routes, IsConfig, routes_of, matchers_of, route_count, routes_count, route_levels, routes_levels, has_receivers_below, have_receivers_below, max_routes, max_levels, route_fields}
+use Rattle.am_files.specs.ConfigReading.{Head, inherited, declared, named, receiver_of, receiver_in, continues_in, children_in, not_on_root, texts_in, texts_behind, pairs_in, pairs_behind, some_texts, some_pairs, matchers_in, tail_in, matched_in, fields_in, head_in, route_in, children_behind}
 use Rattle.am_files.proofs.Readings.{bind_ok, under_ok, ok_or_some, same_read}
 use Rattle.am_files.proofs.Routing.{head_room}
 

@@ -1,5 +1,5 @@
 -- The configuration file: which JSON value says which configuration. (Alertmanager configuration reference.)
-use Rattle.std.specs.Prelude.{◌≡◌, ◌≢◌, ◌⊎◌, ◌≤◌, ◌+◌, ℕ, suc, max, List, [], ◌∷◌, ◌++◌, length, Bool, true, false, ◌&&◌, nat_lt, IsTrue, Option, Some, None, option_and_then, position, codes, ⊤}
+use Rattle.std.specs.Prelude.{◌≡◌, ◌≢◌, ◌⊎◌, ◌≤◌, ◌+◌, ℕ, max, List, [], ◌∷◌, ◌++◌, length, Bool, true, false, ◌&&◌, nat_lt, IsTrue, Option, Some, None, option_and_then, position, codes, ⊤}
 use Rattle.std.specs.List.{IsDistinct}
 use Rattle.serde_json.specs.Data.{Data, string, boolean, object, Members, no_members, member}
 use Rattle.am_labels.specs.Text.{same_text}

@@ -1,5 +1,5 @@
 -- Reading a configuration file, with the first fault that is met.
-use Rattle.std.specs.Prelude.{◌≡◌, ◌+◌, ℕ, zero, suc, List, [], ◌∷◌, ◌++◌, length, Bool, true, false, not, ◌&&◌, ◌||◌, nat_lt, if◌then◌else◌, is_some, is_none, Option, Some, None, ok_or, position, Result, Ok, Err, codes, ⊤}
+use Rattle.std.specs.Prelude.{◌≡◌, ◌+◌, ℕ, zero, suc, List, [], ◌∷◌, ◌++◌, length, Bool, true, false, not, ◌&&◌, ◌||◌, if◌then◌else◌, is_some, is_none, Option, Some, None, ok_or, position, Result, Ok, Err, codes, ⊤}
 use Rattle.std.specs.Result.{result_err}
 use Rattle.serde_json.specs.Data.{Data, Members, no_members, member}
 use Rattle.serde_json.specs.Find.{as_bool}
@@ -17,8 +17,8 @@ use Rattle.am_files.specs.Pointer as pointer
 use Rattle.am_files.specs.Pointer.{Refusal, here, behind, to_field, to_item}
 use Rattle.am_files.specs.Reading as plain
 use Rattle.am_files.specs.Reading.{unless, at_most, object_in, text_in, items_in, only_fields, required, required_text, required_items, json_in}
-use Rattle.am_files.specs.Judged.{Judged, sure, ◌>>=◌, under, each, Refuses}
-use Rattle.am_files.specs.ConfigFile.{RouteTree, route, Routes, Configuration, routes_of, routes_count, max_receivers, max_routes, max_levels, route_fields}
+use Rattle.am_files.specs.Judged.{Judged, sure, ◌>>=◌, under, each}
+use Rattle.am_files.specs.ConfigFile.{RouteTree, route, Configuration, routes_of, routes_count, max_receivers, max_routes, max_levels, route_fields}
 
 -- ---- The receivers.
 

@@ -1,4 +1,4 @@
-use Rattle.std.proofs.Common.{◌≡◌, None, codes}
+use Rattle.std.proofs.Common.{None, codes}
 use Rattle.serde_json.specs.View.{view}
 use Rattle.am_files.specs.Pointer.{to_field}
 use Rattle.am_files.specs.ConfigFile.{max_levels}

@@ -1,8 +1,5 @@
 use Rattle.std.proofs.Common.{rules}
 use Rattle.std.proofs.lemmas.Result.{err_from_is_err_and}
-use Rattle.serde_json.specs.View.{view, members_view}
-use Rattle.am_files.specs.ConfigReading.{pairs_behind}
-use Rattle.am_files.proofs.Judgements.{leads-refl}
 use Rattle.am_files.proofs.Matching.{pair_goes_on, pair_ends, pairs_done}
 use Rattle.am_files.proofs.matchers.pairs_behind.Goals as goal
 
