@@ -5,7 +5,7 @@ use Rattle.serde_json.specs.Data.{Data, null, boolean, number, string, array, ob
 use Rattle.serde_json.specs.Find.{as_object, as_str}
 use Rattle.am_labels.specs.declared.kind.Kind.TheVariants as kinds
 use Rattle.am_files.specs.Json.{is_null, is_one_of, is_unknown, field, lesser, unknown_field, items_of, AreOnly, HasOnly}
-use Rattle.am_files.specs.Pointer.{Refusal, here, behind, under, to_field}
+use Rattle.am_files.specs.Pointer.{Refusal, here, within, under, to_field}
 use Rattle.am_files.specs.Reading.{◌>>=◌, object_in, text_in, items_in, refuse_field, only_fields, required, required_text, required_items}
 use Rattle.am_files.proofs.Readings.{bind_ok, under_ok, ok_or_some}
 
@@ -109,4 +109,4 @@ items_read key (Some v) r items h = rw h refl
 
 pub required_items_reads : (key : List ℕ) (d : Data) (items : List Data) → option_and_then items_of (field key d) ≡ Some items → required_items key d ≡ Ok items
 unfolding required_items
-required_items_reads key d items h = items_read key (field key d) (behind (to_field key) (here kinds.Shape)) items h
+required_items_reads key d items h = items_read key (field key d) (within (to_field key) (here kinds.Shape)) items h

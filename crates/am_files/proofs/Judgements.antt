@@ -7,7 +7,7 @@ use Rattle.am_labels.specs.declared.kind.Kind.{Kind}
 use Rattle.am_labels.specs.declared.kind.Kind.TheVariants as kinds
 use Rattle.am_files.specs.declared.refusal.ReadError.{ReadError}
 use Rattle.am_files.specs.declared.refusal.ReadError.TheVariants as errors
-use Rattle.am_files.specs.Pointer.{Refusal, here, behind, to_item}
+use Rattle.am_files.specs.Pointer.{Refusal, here, within, to_item}
 use Rattle.am_files.specs.Reading as plain
 use Rattle.am_files.specs.Reading.{Tells, IsUnder}
 use Rattle.am_files.specs.Judged.{Judged, ◌>>=◌, under, Refuses, Fails, Gives, each}
@@ -81,13 +81,13 @@ module _ {A X : Type 0} (view : X → Data) (read : List A → Data → Judged A
 
 -- ---- A part.
 
-refuses_under : {A : Type 0} (part : List ℕ) (m : Judged A) (r : Refusal) → Refuses m r → Refuses (under part m) (behind part r)
+refuses_under : {A : Type 0} (part : List ℕ) (m : Judged A) (r : Refusal) → Refuses m r → Refuses (under part m) (within part r)
 refuses_under part m r (inl h) = inl (rw h refl)
 refuses_under part m r (inr h) = inr (r, refl, h)
 
-under_refused : {X Y : Type 0} (view : X → Y) (part : List ℕ) (r : Refusal) (seen : Result X ReadError) (m : Judged Y) → Refuses m r → IsErrAnd seen (λ e. Tells e (behind part r)) → Gives view seen (under part m)
+under_refused : {X Y : Type 0} (view : X → Y) (part : List ℕ) (r : Refusal) (seen : Result X ReadError) (m : Judged Y) → Refuses m r → IsErrAnd seen (λ e. Tells e (within part r)) → Gives view seen (under part m)
 under_refused view part r (Ok x) m refuses is = absurd is
-under_refused view part r (Err e) m refuses is = fails_refused e (under part m) (behind part r) is (refuses_under part m r refuses)
+under_refused view part r (Err e) m refuses is = fails_refused e (under part m) (within part r) is (refuses_under part m r refuses)
 
 -- what a part gave, seen from the value that has the part
 pub under_gives : {X Y : Type 0} (view : X → Y) (part : List ℕ) (read seen : Result X ReadError) (m : Judged Y) → Gives view read m → IsUnder part read seen → Gives view seen (under part m)

@@ -19,7 +19,7 @@ use Rattle.am_labels.proofs.MatcherTextWhole.{list_is_read, list_is_spelled}
 use Rattle.am_files.specs.declared.refusal.ReadError.{ReadError}
 use Rattle.am_files.specs.declared.refusal.ReadError.TheVariants as errors
 use Rattle.std.specs.Prelude.{IsErrAnd}
-use Rattle.am_files.specs.Pointer.{Refusal, here, behind, to_item}
+use Rattle.am_files.specs.Pointer.{Refusal, here, within, to_item}
 use Rattle.am_files.specs.Reading.{Tells, at_most}
 use Rattle.am_files.specs.Judged.{Judged, sure, ◌>>=◌, Refuses, Fails, Gives}
 use Rattle.am_files.specs.ConfigReading.{pattern_fault, patterns_in, matcher_in, spelled_at, text_behind, texts_behind, pair_behind, pairs_behind, empty_fault}
@@ -122,12 +122,12 @@ none_read : (text : List ℕ) (found : Option (List Condition)) → read_list te
 none_read text None is none = is
 none_read text (Some ms) is none = absurd (none ms (list_is_spelled text ms is))
 
-text_patterns : (i : ℕ) (text : List ℕ) (ms : List Condition) (r : Refusal) → Spells text ms → length ms ≤ 64 → Refuses (patterns_in ms) r → Refuses (spelled_at i text) (behind (to_item i) r)
+text_patterns : (i : ℕ) (text : List ℕ) (ms : List Condition) (r : Refusal) → Spells text ms → length ms ≤ 64 → Refuses (patterns_in ms) r → Refuses (spelled_at i text) (within (to_item i) r)
 unfolding spelled_at
 text_patterns i text ms r spells le (inl h) = inl (rw (list_is_read text ms spells, few ms le, h) refl)
 text_patterns i text ms r spells le (inr h) = inr (inr (rw (list_is_read text ms spells, few ms le) (inr (inl (r, refl, h)))))
 
-pub spelled_refused : (i : ℕ) (text : List ℕ) (kind : Kind) → kind ≢ kinds.Limit → RefusesText text kind → Refuses (spelled_at i text) (behind (to_item i) (here kind))
+pub spelled_refused : (i : ℕ) (text : List ℕ) (kind : Kind) → kind ≢ kinds.Limit → RefusesText text kind → Refuses (spelled_at i text) (within (to_item i) (here kind))
 unfolding spelled_at
 spelled_refused i text kind other (inl bad) = inl (rw (none_read text (read_list text) refl bad.1, bad.0) refl)
 spelled_refused i text kind other (inr s) =
@@ -167,14 +167,14 @@ which kinds.Read = inr (inr (λ h. cc, λ h. cc))
 
 pub text_gives : (i : ℕ) (text : List ℕ) (kind : Kind) (result : Result (List Condition) ReadError) → (kind ≢ kinds.Memory → RefusesText text kind)
     → (kind ≡ kinds.Limit → IsErrAnd result (λ e. Tells e (here kinds.Limit)))
-    → (kind ≢ kinds.Limit → kind ≢ kinds.Memory → IsErrAnd result (λ e. Tells e (behind (to_item i) (here kind))))
+    → (kind ≢ kinds.Limit → kind ≢ kinds.Memory → IsErrAnd result (λ e. Tells e (within (to_item i) (here kind))))
     → (kind ≡ kinds.Memory → result ≡ Err errors.Memory) → Gives (λ ms. ms) result (spelled_at i text)
 text_gives i text kind result refused limit other memory =
     elim (which kind) [
       | inl is ↦ memory_gives (λ ms. ms) result (spelled_at i text) (memory is)
       | inr rest ↦ elim rest [
         | inl is ↦ err_gives (λ ms. ms) (here kinds.Limit) result (spelled_at i text) (limit is) (spelled_limit i text (subst (λ (k : Kind). RefusesText text k) is (refused (λ h. limit_is_no_memory (sym is ∙ h)))))
-        | inr neither ↦ err_gives (λ ms. ms) (behind (to_item i) (here kind)) result (spelled_at i text) (other neither.0 neither.1) (spelled_refused i text kind neither.0 (refused neither.1))
+        | inr neither ↦ err_gives (λ ms. ms) (within (to_item i) (here kind)) result (spelled_at i text) (other neither.0 neither.1) (spelled_refused i text kind neither.0 (refused neither.1))
       ]
     ]
 

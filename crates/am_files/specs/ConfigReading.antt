@@ -14,7 +14,7 @@ use Rattle.am_labels.specs.MatcherReading.{read_list}
 use Rattle.am_labels.specs.MatcherRefusals.{has_sound_value, pattern_refusal}
 use Rattle.am_files.specs.Json.{field}
 use Rattle.am_files.specs.Pointer as pointer
-use Rattle.am_files.specs.Pointer.{Refusal, here, behind, to_field, to_item}
+use Rattle.am_files.specs.Pointer.{Refusal, here, within, to_field, to_item}
 use Rattle.am_files.specs.Reading as plain
 use Rattle.am_files.specs.Reading.{unless, at_most, object_in, text_in, items_in, only_fields, required, required_text, required_items, json_in}
 use Rattle.am_files.specs.Judged.{Judged, sure, ◌>>=◌, under, each}
@@ -228,7 +228,7 @@ children_behind names left receiver before earlier = route_in names left (Some r
 
 abbrev pub no_rules : Option Data → Result ⊤ Refusal
 no_rules None = Ok tt
-no_rules (Some d) = Err (behind (to_field (codes "inhibit_rules")) (here kinds.UnknownField))
+no_rules (Some d) = Err (within (to_field (codes "inhibit_rules")) (here kinds.UnknownField))
 
 -- the configuration that a value says, or its first fault
 unfoldable pub config_in : Data → Judged Configuration

@@ -5,7 +5,7 @@ use Rattle.serde_json.specs.Data.{Data}
 use Rattle.am_files.specs.declared.refusal.ReadError.{ReadError}
 use Rattle.am_files.specs.declared.refusal.ReadError.TheVariants as errors
 use Rattle.am_files.specs.Pointer as pointer
-use Rattle.am_files.specs.Pointer.{Refusal, behind, to_item}
+use Rattle.am_files.specs.Pointer.{Refusal, within, to_item}
 use Rattle.am_files.specs.Reading as plain
 
 pub record Judged (A : Type 0) : Type 1 where
@@ -29,7 +29,7 @@ m >>= f = record {
 abbrev pub under : {A : Type 0} → List ℕ → Judged A → Judged A
 under part m = record {
   gives = pointer.under part m.gives;
-  left_open = λ r. (found : Refusal) × (r ≡ behind part found) × m.left_open found;
+  left_open = λ r. (found : Refusal) × (r ≡ within part found) × m.left_open found;
 }
 
 -- a refusal is the first fault, or was left open before it

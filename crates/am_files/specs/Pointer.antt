@@ -26,10 +26,10 @@ abbrev pub here : Kind → Refusal
 here kind = record { kind = kind; pointer = [] }
 
 -- the same refusal, seen from the value that has the part
-abbrev pub behind : List ℕ → Refusal → Refusal
-behind part r = record { kind = r.kind; pointer = part ++ r.pointer }
+abbrev pub within : List ℕ → Refusal → Refusal
+within part r = record { kind = r.kind; pointer = part ++ r.pointer }
 
 -- what reading a part gives, seen from the value that has the part
 abbrev pub under : {A : Type 0} → List ℕ → Result A Refusal → Result A Refusal
 under part (Ok x) = Ok x
-under part (Err r) = Err (behind part r)
+under part (Err r) = Err (within part r)

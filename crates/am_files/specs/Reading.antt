@@ -10,7 +10,7 @@ use Rattle.am_labels.specs.declared.fault.Fault.{Fault}
 use Rattle.am_files.specs.declared.refusal.ReadError.{ReadError}
 use Rattle.am_files.specs.declared.refusal.ReadError.TheVariants as errors
 use Rattle.am_files.specs.Json.{json_of, field, unknown_field, items_of}
-use Rattle.am_files.specs.Pointer.{Refusal, here, behind, under, to_field, to_item}
+use Rattle.am_files.specs.Pointer.{Refusal, here, within, under, to_field, to_item}
 
 -- one reading, and then another of what it gave; the first refusal counts
 infixl 10 ◌>>=◌
@@ -37,7 +37,7 @@ Gives view (Err e) reading = Fails e reading
 abbrev pub IsUnder : {X : Type 0} → List ℕ → Result X ReadError → Result X ReadError → Type 0
 IsUnder part (Ok x) seen = seen ≡ Ok x
 IsUnder part (Err errors.Memory) seen = seen ≡ Err errors.Memory
-IsUnder part (Err (errors.Refused r)) seen = IsErrAnd seen (λ e. Tells e (behind part r))
+IsUnder part (Err (errors.Refused r)) seen = IsErrAnd seen (λ e. Tells e (within part r))
 
 -- ---- The fault of a file.
 
@@ -80,7 +80,7 @@ items_in d = ok_or (items_of d) (here kinds.Shape)
 -- refused at this field, where there is one
 abbrev pub refuse_field : Option (List ℕ) → Result ⊤ Refusal
 refuse_field None = Ok tt
-refuse_field (Some key) = Err (behind (to_field key) (here kinds.UnknownField))
+refuse_field (Some key) = Err (within (to_field key) (here kinds.UnknownField))
 
 -- an object that has no fields but these
 unfoldable pub only_fields : List (List ℕ) → Data → Result ⊤ Refusal
@@ -90,7 +90,7 @@ only_fields known d = do
 
 -- a field that has to be there
 abbrev pub required : List ℕ → Data → Result Data Refusal
-required key d = ok_or (field key d) (behind (to_field key) (here kinds.Shape))
+required key d = ok_or (field key d) (within (to_field key) (here kinds.Shape))
 
 -- the text in a field that has to be there
 unfoldable pub required_text : List ℕ → Data → Result (List ℕ) Refusal

@@ -3,7 +3,7 @@
 ghost use Rattle.std.specs.Prelude.{◌≡◌, ◌≢◌, [], ◌∷◌, ◌++◌, map, codes, option_map, Err, IsErrAnd};
 ghost use Rattle.am_labels.specs.declared.kind.Kind.TheVariants as kinds;
 ghost use Rattle.am_files.specs.declared.refusal.ReadError.TheVariants as errors;
-ghost use Rattle.am_files.specs.Pointer.{here, behind, to_item};
+ghost use Rattle.am_files.specs.Pointer.{here, within, to_item};
 ghost use Rattle.serde_json.specs.View.{view, members_view};
 ghost use Rattle.am_labels.specs.declared.op.Op.TheVariants.{Equal, Matches};
 ghost use Rattle.am_files.specs.Json.{field};
@@ -97,7 +97,7 @@ fn spelled(alloc: Global, i: usize, text: &str) -> Result<Matchers, ReadError>
 
 fn refused(alloc: Global, i: usize, kind: Kind) -> Result<Matchers, ReadError>
     ensures limit { kind ≡ kinds.Limit → IsErrAnd result (λ e. Tells e (here kinds.Limit)) }
-    ensures other { kind ≢ kinds.Limit → kind ≢ kinds.Memory → IsErrAnd result (λ e. Tells e (behind (to_item i) (here kind))) }
+    ensures other { kind ≢ kinds.Limit → kind ≢ kinds.Memory → IsErrAnd result (λ e. Tells e (within (to_item i) (here kind))) }
     ensures memory { kind ≡ kinds.Memory → result ≡ Err errors.Memory }
 {
     match kind {

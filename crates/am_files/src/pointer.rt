@@ -1,7 +1,7 @@
 //! JSON Pointers (RFC 6901) to the part of a file that is at fault.
 
 ghost use Rattle.std.specs.Prelude.{◌≡◌, ◌++◌, string_bytes, encode_utf8, flat_map, IfOk, OnOk};
-ghost use Rattle.am_files.specs.Pointer.{escaped, to_field, to_item, behind};
+ghost use Rattle.am_files.specs.Pointer.{escaped, to_field, to_item, within};
 ghost use Rattle.am_files.specs.Reading.{Tells, IsUnder};
 
 use crate::refusal::{ReadError, Refusal};
@@ -18,7 +18,7 @@ pub(crate) fn within_field<T: Drop>(
     match read {
         Ok(value) => Ok(value),
         Err(ReadError::Memory) => Err(ReadError::Memory),
-        Err(ReadError::Refused(refusal)) => Err(behind(to_field(alloc, key)?, refusal)),
+        Err(ReadError::Refused(refusal)) => Err(within(to_field(alloc, key)?, refusal)),
     }
 }
 
@@ -33,13 +33,13 @@ pub(crate) fn within_item<T: Drop>(
     match read {
         Ok(value) => Ok(value),
         Err(ReadError::Memory) => Err(ReadError::Memory),
-        Err(ReadError::Refused(refusal)) => Err(behind(to_item(alloc, position)?, refusal)),
+        Err(ReadError::Refused(refusal)) => Err(within(to_item(alloc, position)?, refusal)),
     }
 }
 
 /// The refusal of a part, seen from the value that has the part.
-pub(crate) fn behind(mut part: String, refusal: Refusal) -> ReadError
-    ensures { Tells result (behind (string_bytes part) refusal) }
+pub(crate) fn within(mut part: String, refusal: Refusal) -> ReadError
+    ensures { Tells result (within (string_bytes part) refusal) }
 {
     match part.push_str(refusal.pointer.as_str()) {
         Ok(()) => ReadError::Refused(Refusal {
