@@ -19,6 +19,7 @@ mutual
   pub data RouteTree : Type 0 where
     route : ℕ → List Condition → Bool → Routes → RouteTree
 
+  -- the children of a route, in order
   pub data Routes : Type 0 where
     no_routes : Routes
     next_route : RouteTree → Routes → Routes
@@ -28,19 +29,24 @@ pub record Configuration : Type 0 where
   pub receivers : List (List ℕ)
   pub root : RouteTree
 
+-- a list of routes as the children of one
 abbrev pub routes_of : List RouteTree → Routes
 routes_of [] = no_routes
 routes_of (t ∷ ts) = next_route t (routes_of ts)
 
+-- the matchers of a route
 abbrev pub matchers_of : RouteTree → List Condition
 matchers_of (route receiver matchers continues children) = matchers
 
+-- the position of its receiver
 abbrev pub receiver_of : RouteTree → ℕ
 receiver_of (route receiver matchers continues children) = receiver
 
+-- whether later siblings are tried after it
 abbrev pub continues_of : RouteTree → Bool
 continues_of (route receiver matchers continues children) = continues
 
+-- its children
 abbrev pub children_of : RouteTree → Routes
 children_of (route receiver matchers continues children) = children
 
@@ -71,12 +77,15 @@ abbrev mutual
   have_receivers_below count no_routes = true
   have_receivers_below count (next_route t ts) = has_receivers_below count t && have_receivers_below count ts
 
+-- the most receivers (this project's own)
 abbrev pub max_receivers : ℕ
 max_receivers = 1024
 
+-- the most routes (this project's own)
 abbrev pub max_routes : ℕ
 max_routes = 1024
 
+-- the most levels that they lie in (this project's own)
 abbrev pub max_levels : ℕ
 max_levels = 32
 
@@ -110,6 +119,7 @@ pub record InheritsReceiver (parent : Option ℕ) (d : Data) (receiver : ℕ) : 
   pub unnamed : (field (codes "receiver") d ≡ None) ⊎ (field (codes "receiver") d ≡ Some (string []))
   pub inherited : parent ≡ Some receiver
 
+-- the position of the receiver that a route has
 abbrev pub SaysReceiver : List (List ℕ) → Option ℕ → Data → ℕ → Type 0
 SaysReceiver names parent d receiver = NamesReceiver names d receiver ⊎ InheritsReceiver parent d receiver
 
@@ -117,6 +127,7 @@ SaysReceiver names parent d receiver = NamesReceiver names d receiver ⊎ Inheri
 abbrev pub SaysText : Data → List Condition → Type 0
 SaysText d matchers = (text : List ℕ) × (d ≡ string text) × Spells text matchers
 
+-- lists of matchers, one behind the other
 abbrev pub joined : List (List Condition) → List Condition
 joined [] = []
 joined (ms ∷ more) = ms ++ joined more

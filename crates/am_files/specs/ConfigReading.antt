@@ -22,10 +22,12 @@ use Rattle.am_files.specs.ConfigFile.{RouteTree, route, Configuration, routes_of
 
 -- ---- The receivers.
 
+-- a list has no items
 abbrev pub is_empty : {A : Type 0} → List A → Bool
 is_empty [] = true
 is_empty (x ∷ xs) = false
 
+-- why a receiver may not have this name behind others: it is empty, or that of one of them (reference, "receiver": `name`)
 abbrev pub name_fault : List (List ℕ) → List ℕ → Option Kind
 name_fault before name = if is_empty name then Some kinds.Empty else if is_some (position (λ other. same_text other name) before) then Some kinds.Duplicate else None
 
@@ -33,34 +35,43 @@ name_fault before name = if is_empty name then Some kinds.Empty else if is_some 
 unfoldable pub receiver_behind : List (List ℕ) → Data → Result (List ℕ) Refusal
 receiver_behind before d = plain.◌>>=◌ (object_in d) (λ _. plain.◌>>=◌ (required_text (codes "name") d) (λ name. plain.◌>>=◌ (pointer.under (to_field (codes "name")) (unless (name_fault before name))) (λ _. Ok name)))
 
+-- the names of a list of receivers
 unfoldable pub names_in : List Data → Result (List (List ℕ)) Refusal
 names_in items = plain.◌>>=◌ (at_most max_receivers (length items)) (λ _. plain.each receiver_behind [] items)
 
+-- those of the file (reference, "File layout": `receivers`)
 unfoldable pub receivers_in : Data → Result (List (List ℕ)) Refusal
 receivers_in d = plain.◌>>=◌ (required_items (codes "receivers") d) (λ items. pointer.under (to_field (codes "receivers")) (names_in items))
 
 -- ---- The receiver of a route, and whether later siblings are tried.
 
+-- A receiver that is not set is inherited from the parent route. The top-level route has none. (Reference, "route".)
 abbrev pub inherited : Option ℕ → Result ℕ Refusal
 inherited parent = ok_or parent (here kinds.Shape)
 
+-- the position of the receiver of this name
 abbrev pub declared : List (List ℕ) → List ℕ → Result ℕ Refusal
 declared names name = ok_or (position (λ other. same_text other name) names) (here kinds.UndefinedReceiver)
 
+-- the receiver that a route names; the empty text names none
 abbrev pub named : List (List ℕ) → Option ℕ → List ℕ → Result ℕ Refusal
 named names parent name = if is_empty name then inherited parent else declared names name
 
+-- the same, where the field may be absent
 abbrev pub receiver_of : List (List ℕ) → Option ℕ → Option Data → Result ℕ Refusal
 receiver_of names parent None = inherited parent
 receiver_of names parent (Some d) = plain.◌>>=◌ (text_in d) (named names parent)
 
+-- the receiver of a route (reference, "route": `receiver`)
 unfoldable pub receiver_in : List (List ℕ) → Option ℕ → Data → Result ℕ Refusal
 receiver_in names parent d = pointer.under (to_field (codes "receiver")) (receiver_of names parent (field (codes "receiver") d))
 
+-- a truth value, which is false where it is not set
 abbrev pub truth_of : Option Data → Result Bool Refusal
 truth_of None = Ok false
 truth_of (Some d) = ok_or (as_bool d) (here kinds.Shape)
 
+-- whether an alert continues matching subsequent siblings (reference, "route": `continue`)
 unfoldable pub continues_in : Data → Result Bool Refusal
 continues_in d = pointer.under (to_field (codes "continue")) (truth_of (field (codes "continue") d))
 
@@ -69,7 +80,7 @@ abbrev pub some_items : Option Data → Result (List Data) Refusal
 some_items None = Ok []
 some_items (Some d) = items_in d
 
--- the values of a route's children
+-- the values of a route's children (reference, "route": `routes`)
 unfoldable pub children_in : Data → Result (List Data) Refusal
 children_in d = pointer.under (to_field (codes "routes")) (some_items (field (codes "routes") d))
 
@@ -118,6 +129,7 @@ texts_behind before i (d ∷ ds) = do
   ms ← text_behind before i d
   texts_behind ms (i + 1) ds
 
+-- why a matcher may not have this name: it is empty
 abbrev pub empty_fault : List ℕ → Option Kind
 empty_fault name = if is_empty name then Some kinds.Empty else None
 
@@ -135,11 +147,13 @@ pair_in op key d = do
   value ← sure (text_in d)
   matcher_in (record { name = key; op = op; value = value })
 
+-- the same, behind others
 unfoldable pub pair_behind : Op → List Condition → List ℕ → Data → Judged (List Condition)
 pair_behind op before key d = do
   m ← under (to_field key) (pair_in op key d)
   sure (join before (m ∷ []))
 
+-- the matchers of pairs, by the bytes of their names, behind others
 unfoldable pub pairs_behind : Op → List Condition → Members → Judged (List Condition)
 pairs_behind op before no_members = sure (Ok before)
 pairs_behind op before (member key d rest) = do
@@ -150,22 +164,26 @@ pairs_behind op before (member key d rest) = do
 abbrev pub not_on_root : Bool → List Condition → Result (List Condition) Refusal
 not_on_root is_root ms = if is_root && not (is_empty ms) then Err (here kinds.RootMatchers) else Ok ms
 
+-- the matchers of a list of texts
 unfoldable pub texts_in : Bool → Data → Judged (List Condition)
 texts_in is_root d = do
   items ← sure (items_in d)
   ms ← texts_behind [] 0 items
   sure (not_on_root is_root ms)
 
+-- the matchers of a set of pairs, behind others
 unfoldable pub pairs_in : Bool → Op → List Condition → Data → Judged (List Condition)
 pairs_in is_root op before d = do
   members ← sure (object_in d)
   ms ← pairs_behind op before members
   sure (not_on_root is_root ms)
 
+-- those of a list that may be absent (reference, "route": `matchers`)
 abbrev pub some_texts : Bool → Option Data → Judged (List Condition)
 some_texts is_root None = sure (Ok [])
 some_texts is_root (Some d) = under (to_field (codes "matchers")) (texts_in is_root d)
 
+-- those of a set that may be absent (reference, "route": `match` and `match_re`)
 abbrev pub some_pairs : Bool → Op → List ℕ → List Condition → Option Data → Judged (List Condition)
 some_pairs is_root op key before None = sure (Ok before)
 some_pairs is_root op key before (Some d) = under (to_field key) (pairs_in is_root op before d)
@@ -199,6 +217,7 @@ matched_in is_root receiver d = do
   matchers ← matchers_in is_root d
   tail_in receiver matchers d
 
+-- all its fields, below a parent with this receiver if there is one
 unfoldable pub fields_in : List (List ℕ) → Option ℕ → Data → Judged Head
 fields_in names parent d = do
   _ ← sure (only_fields route_fields d)
@@ -226,6 +245,7 @@ children_behind names left receiver before earlier = route_in names left (Some r
 
 -- ---- The file.
 
+-- inhibition rules, which are not read yet
 abbrev pub no_rules : Option Data → Result ⊤ Refusal
 no_rules None = Ok tt
 no_rules (Some d) = Err (within (to_field (codes "inhibit_rules")) (here kinds.UnknownField))

@@ -1,4 +1,4 @@
--- The route that a `Route` stands for, and the configuration that a `Config` stands for.
+-- The route that a `Route` stands for, and the names that a list of texts stands for.
 use Rattle.std.specs.Prelude.{ℕ, List, String, string_bytes, map}
 use Rattle.std.specs.declared.alloc.Global.{Global}
 use Rattle.am_files.specs.declared.route.Route.{Route, fold-Route}
@@ -9,6 +9,7 @@ use Rattle.am_files.specs.ConfigFile.{RouteTree, route, routes_of}
 abbrev pub view_step : Route-F RouteTree → RouteTree
 view_step r = route r.receiver r.matchers r.continues (routes_of r.routes.items)
 
+-- the route with all that is below it
 abbrev pub route_view : Route → RouteTree
 route_view = fold-Route RouteTree view_step
 
