@@ -1,6 +1,5 @@
 //! Configurations, as they are kept in memory.
 
-ghost use Rattle.std.specs.Prelude.{◌≡◌, ◌<◌, Some, length, slice_get};
 ghost use Rattle.am_files.specs.ConfigFile.{IsConfig};
 ghost use Rattle.am_files.specs.RouteView.{route_view, names_of};
 
@@ -15,17 +14,22 @@ pub struct Config {
 }
 
 impl Config {
+    ghost use Rattle.std.specs.Prelude.{◌≡◌, ◌<◌, Some, length, slice_get};
+    ghost use Rattle.am_files.specs.ConfigFile.{IsConfig};
+    ghost use Rattle.am_files.specs.RouteView.{route_view};
+    ghost use Rattle.am_files.specs.ConfigView.{config_view};
+
     /// How many receivers are declared.
     pub fn receivers(&self) -> usize
-        ensures { result ≡ length (names_of self.now.receivers.items) }
+        ensures { result ≡ length (config_view self.now).receivers }
     {
         self.receivers.len()
     }
 
     /// The name of a receiver.
     pub fn receiver_name(&self, i: usize) -> &str
-        requires { i < length (names_of self.now.receivers.items) }
-        ensures { slice_get (names_of self.now.receivers.items) i ≡ Some result.now }
+        requires { i < length (config_view self.now).receivers }
+        ensures { slice_get (config_view self.now).receivers i ≡ Some result.now }
     {
         self.receivers[i].as_str()
     }
@@ -33,8 +37,8 @@ impl Config {
     /// The top-level route, which has no matchers. There are at most 1,024 routes in at most 32 levels, and the position
     /// of each one's receiver is that of a declared one.
     pub fn root(&self) -> &Route
-        ensures root { result.now ≡ self.now.root }
-        ensures sound { IsConfig (record { receivers = names_of self.now.receivers.items; root = route_view result.now }) }
+        ensures root { route_view result.now ≡ (config_view self.now).root }
+        ensures sound { IsConfig (config_view self.now) }
     {
         &self.root
     }
