@@ -250,8 +250,8 @@ all-route_in names (suc left) parent before d =
     let child : Head → List RouteTree → Data → Judged RouteTree = λ head earlier. route_in names left (Some head.receiver) (before + 1 + routes_count (routes_of earlier)) in
     all-bind (head_in names parent before d) _ (all-head_in names parent before d) (λ head.
     all-bind (under (to_field (codes "routes")) (each (child head) [] head.items)) _
-      (all-under (to_field (codes "routes")) _ (all-each (child head) (λ earlier item. all-route_in names left (Some head.receiver) (before + 1 + routes_count (routes_of earlier)) item) [] head.items))
-      (λ children. all-sure _ tt))
+    (all-under (to_field (codes "routes")) _ (all-each (child head) (λ earlier item. all-route_in names left (Some head.receiver) (before + 1 + routes_count (routes_of earlier)) item) [] head.items))
+    (λ children. all-sure _ tt))
 
 -- ---- The file.
 
