@@ -1,9 +1,8 @@
 -- The completions of a prefix. (Standard term of search.)
-use Rattle.std.specs.Prelude.{ℕ, List, [], ◌∷◌, map}
+use Rattle.std.specs.Prelude.{ℕ, List, nat_eq}
+use Rattle.std.specs.List.{filter, starts_with}
 use Rattle.am_labels.specs.Choice.{choices}
 
--- the whole choices that begin with a prefix which the sizes admit, in declared order
+-- the whole choices that begin with a prefix, in declared order
 abbrev pub completions : List ℕ → List ℕ → List (List ℕ)
-completions sizes [] = choices sizes
-completions [] (p ∷ prefix) = []
-completions (size ∷ sizes) (p ∷ prefix) = map (λ c. p ∷ c) (completions sizes prefix)
+completions sizes prefix = filter (λ c. starts_with nat_eq c prefix) (choices sizes)

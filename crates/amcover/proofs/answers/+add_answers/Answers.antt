@@ -1,5 +1,5 @@
 -- Each turn adds the answers of one position more.
-use Rattle.std.proofs.Common.{◌∷◌, [], length, slice_get, ap, sym, ◌∙◌, length-append, arith}
+use Rattle.std.proofs.Common.{◌∷◌, [], length, ap, length-append, arith}
 use Rattle.std.proofs.lemmas.Result.{on_ok_weaker}
 use Rattle.am_labels.specs.Universe.{sizes}
 use Rattle.amcover.specs.Question.{is_answer}
@@ -9,7 +9,7 @@ use Rattle.amcover.proofs.answers.+add_answers.Goals as goal
 pub returns-then-len : goal.returns-then-len
 returns-then-len t c =
     let u = c.args.universe.now in
-    on_ok_weaker c.add_answer.result (found_here u (is_answer u c.args.question.now) c.args.prefix c.args.found.now.items c.add_answer.new.found.items (omega arith)) c.add_answer.ensures
+    on_ok_weaker c.add_answer.result (found_here u (is_answer u c.args.question.now) c.args.prefix c.args.found.now.items c.add_answer.new.found.items c.requires (omega arith)) c.add_answer.ensures
 
 pub size-position-end-requires : goal.size-position-end-requires
 size-position-end-requires t c = omega (arith, prefix_fits c.args.universe.now c.args.prefix c.requires)
@@ -21,21 +21,21 @@ pub add_answers-requires : goal.add_answers-requires
 add_answers-requires t c =
     let u = c.args.universe.now in
     let fits = prefix_fits u c.args.prefix c.requires in
-    let size = sym (ap (slice_get (sizes u)) c.len-3.ensures.len) ∙ c.size-position-end.ensures.size in
-    let longer = longer_admitted u c.args.prefix c.loop-position.position c.size-position-end.result c.requires (omega arith) size c.loop-position-test.true in
+    let longer = longer_admitted (sizes u) c.args.prefix c.len-3.result c.loop-position.position c.size-position-end.result
+    c.requires c.len-3.ensures.len c.size-position-end.ensures.size c.loop-position-test.true in
     (omega (arith, ap length c.push.ensures, length-append c.args.prefix (c.loop-position.position ∷ [])), rw c.push.ensures longer)
 
 pub loop-position-preserved : goal.loop-position-preserved
 loop-position-preserved t c =
     let u = c.args.universe.now in
+    let longer = longer_admitted (sizes u) c.args.prefix c.len-3.result c.loop-position.position c.size-position-end.result
+    c.requires c.len-3.ensures.len c.size-position-end.ensures.size c.loop-position-test.true in
     found_more (sizes u) c.args.prefix c.push.new.self (is_answer u c.args.question.now)
     c.args.found.now.items c.loop-position.found.items c.add_answers.new.found.items c.loop-position.position
-    c.loop-position.invariant c.push.ensures c.in_ok-add_answers.ensures
+    longer c.loop-position.invariant c.push.ensures c.in_ok-add_answers.ensures
 
 pub returns : goal.returns
 returns t c =
     let u = c.args.universe.now in
-    let fits = prefix_fits u c.args.prefix c.requires in
-    let size = sym (ap (slice_get (sizes u)) c.len-3.ensures.len) ∙ c.size-position-end.ensures.size in
-    found_all u c.args.prefix (is_answer u c.args.question.now) c.args.found.now.items c.loop-position.found.items c.loop-position.position c.size-position-end.result
-    c.loop-position.invariant (omega arith) size (omega arith)
+    found_all (sizes u) c.args.prefix (is_answer u c.args.question.now) c.args.found.now.items c.loop-position.found.items c.len-3.result c.loop-position.position c.size-position-end.result
+    c.requires c.loop-position.invariant c.len-3.ensures.len c.size-position-end.ensures.size (omega arith)

@@ -2,7 +2,7 @@ use Rattle.std.proofs.Common.{◌≡◌, ◌++◌, length, ◌-◌}
 use Rattle.std.specs.List.{filter}
 use Rattle.am_labels.specs.Universe.{sizes}
 use Rattle.amcover.specs.Question.{is_answer}
-use Rattle.amcover.proofs.Found.{completions_below}
+use Rattle.amcover.proofs.Found.{below_first}
 use Rattle.amcover.proofs.answers.+add_answers.Given as goal
 
 -- labels left
@@ -12,4 +12,4 @@ decreases-add_answers l = length l.universe.now - length l.prefix
 -- added: the answers that go on with one of the positions so far
 abbrev pub invariant-loop-position : goal.invariant-loop-position
 invariant-loop-position l =
-    l.found.items ≡ l.initial.found.items ++ filter (is_answer l.universe l.question) (completions_below (sizes l.universe) l.prefix l.position)
+    l.found.items ≡ l.initial.found.items ++ filter (is_answer l.universe l.question) (below_first (sizes l.universe) l.prefix l.position)
