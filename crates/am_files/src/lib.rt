@@ -22,4 +22,6 @@ pub use universe::read_universe;
 #[cfg(test)]
 mod config_tests;
 #[cfg(test)]
-mod tests;
+mod test_texts;
+#[cfg(test)]
+mod universe_tests;

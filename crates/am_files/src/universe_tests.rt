@@ -1,8 +1,13 @@
-use super::*;
-use am_labels::{Fault, Kind, Place, Universe};
-use std::alloc::{AllocError, Global};
+mod bytes;
+mod limits;
+mod order;
+
+use crate::read_universe;
+use crate::test_texts::{UNIVERSE, changed};
+use am_labels::{Kind, Place, Universe};
+use std::alloc::Global;
 use std::process::Abort;
-use std::test::*;
+use std::test::Fail;
 
 /// A universe file, the kind of its first fault, and the pointer to it.
 const FAULTS: [(&str, Kind, &str); 62] = [
@@ -233,210 +238,116 @@ const FAULTS: [(&str, Kind, &str); 62] = [
 #[test]
 fn faults_of_universes(rt: HostRuntime) {
     for (text, kind, pointer) in &FAULTS {
-        match read_universe(rt.alloc(), text.as_bytes()) {
-            Ok(_) => panic!(rt; "accepted: {text}"),
-            Err(fault) => {
-                assert_eq!(rt; fault.kind, *kind, "{text}");
-                assert_eq!(rt; fault.place, Place::Universe, "{text}");
-                assert_eq!(rt; fault.pointer.as_str(), *pointer, "{text}");
-            }
-        }
+        expect(&rt, rt.alloc(), text.as_bytes(), *kind, pointer);
     }
 }
 
-#[test]
-fn the_example(rt: HostRuntime) -> Result<(), Fail> {
-    let text = "{\"labels\":[{\"name\":\"m\",\"values\":[\"a\\\"b\\\\c\\nd\"]}]}";
-    let universe = accepted(read_universe(rt.alloc(), text.as_bytes()))?;
-    assert_eq!(rt; universe.len(), 1);
-    assert_eq!(rt; universe.position("m"), Some(0));
-    if universe.len() == 1 && universe.size(0) == 1 {
-        assert_eq!(rt; universe.name(0), "m");
-        assert_eq!(rt; universe.value(0, 0), Some("a\"b\\c\nd"));
-    }
-    Ok(())
-}
-
-#[test]
-fn two_labels(rt: HostRuntime) -> Result<(), Fail> {
-    let text =
-        "{\"x\":null,\"labels\":[{\"name\":\"team\",\"values\":[\"db\",\"web\",null]},{\"y/\":null,\"values\":[null],\"name\":\"_9\"}]}";
-    let universe = accepted(read_universe(rt.alloc(), text.as_bytes()))?;
-    assert_eq!(rt; universe.len(), 2);
-    if universe.len() == 2 {
-        assert_eq!(rt; universe.name(0), "team");
-        assert_eq!(rt; universe.size(0), 3);
-        if universe.size(0) == 3 {
-            assert_eq!(rt; universe.value(0, 0), Some("db"));
-            assert_eq!(rt; universe.value(0, 1), Some("web"));
-            assert_eq!(rt; universe.value(0, 2), None);
-        }
-        assert_eq!(rt; universe.name(1), "_9");
-        assert_eq!(rt; universe.size(1), 1);
-        assert_eq!(rt; universe.value(1, 0), None);
-    }
-    Ok(())
-}
-
-#[test]
-fn no_labels(rt: HostRuntime) -> Result<(), Fail> {
-    for text in [
-        "{\"labels\":[]}",
-        "{\"labels\":1,\"labels\":[]}",
-        "\n{\"labels\":[],\"a\":null}\t",
-    ] {
-        assert_eq!(rt;
-            accepted(read_universe(rt.alloc(), text.as_bytes()))?.len(),
-            0,
-            "{text}"
-        );
-    }
-    Ok(())
-}
-
-#[test]
-fn proper_prefixes(rt: HostRuntime) {
-    let text = "{\"labels\":[{\"name\":\"m\",\"values\":[\"a\",null]}]}";
-    let bytes = text.as_bytes();
-    for end in 0..bytes.len() {
-        expect(&rt, rt.alloc(), &bytes[..end], Kind::NotJson, "");
-    }
-}
-
-#[test]
-fn bytes_that_are_not_utf8(rt: HostRuntime) {
-    expect(&rt, rt.alloc(), b"\xff", Kind::NotJson, "");
-    expect(
-        &rt,
-        rt.alloc(),
-        b"{\"labels\":[],\"\xc3\":1}",
-        Kind::NotJson,
-        "",
-    );
-    expect(
-        &rt,
-        rt.alloc(),
-        b"{\"labels\":[{\"name\":\"\xed\xa0\x80\"}]}",
-        Kind::NotJson,
-        "",
-    );
-}
-
-#[test]
-fn nesting(rt: HostRuntime) -> Result<(), Fail> {
-    // The file, its array, its label and its values are four levels; arrays in one another the rest.
-    let front = "{\"labels\":[{\"name\":\"m\",\"values\":[";
-    let deep = nested(rt.alloc(), front, 123, "]}]}")?;
-    expect(
-        &rt,
-        rt.alloc(),
-        deep.as_bytes(),
+/// The example with one part of it changed: the kind of the first fault, and the pointer to it.
+const CHANGES: [(&str, &str, Kind, &str); 12] = [
+    (r#""web""#, r#""db""#, Kind::Duplicate, "/labels/0/values/1"),
+    (r#""web""#, r#""""#, Kind::Empty, "/labels/0/values/1"),
+    (r#""web""#, "1", Kind::Shape, "/labels/0/values/1"),
+    (r#""web""#, "null", Kind::Duplicate, "/labels/0/values/2"),
+    ("null", r#""web""#, Kind::Duplicate, "/labels/0/values/2"),
+    ("severity", "team", Kind::Duplicate, "/labels/1/name"),
+    ("severity", "", Kind::Empty, "/labels/1/name"),
+    ("severity", "sever-ity", Kind::Shape, "/labels/1/name"),
+    (
+        r#"["critical","warning"]"#,
+        "[]",
+        Kind::Empty,
+        "/labels/1/values",
+    ),
+    (
+        r#"["critical","warning"]"#,
+        "null",
         Kind::Shape,
-        "/labels/0/values/0",
-    );
-    let too_deep = nested(rt.alloc(), front, 124, "]}]}")?;
-    expect(&rt, rt.alloc(), too_deep.as_bytes(), Kind::NotJson, "");
-    let arrays = nested(rt.alloc(), "", 200, "")?;
-    expect(&rt, rt.alloc(), arrays.as_bytes(), Kind::NotJson, "");
+        "/labels/1/values",
+    ),
+    (
+        r#""values":["critical""#,
+        r#""value":["critical""#,
+        Kind::UnknownField,
+        "/labels/1/value",
+    ),
+    ("labels", "label", Kind::UnknownField, "/label"),
+];
+
+#[test]
+fn changes_of_the_example(rt: HostRuntime) -> Result<(), Fail> {
+    for (old, new, kind, pointer) in CHANGES {
+        assert!(rt; UNIVERSE.contains(old), "{old}");
+        let text = changed(rt.alloc(), UNIVERSE, old, new)?;
+        expect(&rt, rt.alloc(), text.as_bytes(), kind, pointer);
+    }
     Ok(())
 }
 
-#[test]
-fn limits(rt: HostRuntime) -> Result<(), Fail> {
-    let alloc = rt.alloc();
-    let labels = labels_of(alloc, 64)?;
-    assert_eq!(rt;
-        accepted(read_universe(alloc, labels.as_bytes()))?.len(),
-        64
-    );
-    let more_labels = labels_of(alloc, 65)?;
-    expect(
-        &rt,
-        rt.alloc(),
-        more_labels.as_bytes(),
-        Kind::Limit,
-        "/labels",
-    );
+/// A label: its name, and its values in order.
+type Label = (&'static str, &'static [Option<&'static str>]);
 
-    let values = values_of(alloc, 128)?;
-    let universe = accepted(read_universe(alloc, values.as_bytes()))?;
-    assert_eq!(rt; universe.len(), 1);
-    if universe.len() == 1 {
-        assert_eq!(rt; universe.size(0), 128);
+/// Universe files, and the labels that they say.
+const UNIVERSES: [(&str, &[Label]); 6] = [
+    (
+        UNIVERSE,
+        &[
+            ("team", &[Some("db"), Some("web"), None]),
+            ("severity", &[Some("critical"), Some("warning")]),
+        ],
+    ),
+    (
+        r#"{"labels":[{"name":"m","values":["a\"b\\c\nd"]}]}"#,
+        &[("m", &[Some("a\"b\\c\nd")])],
+    ),
+    (
+        r#"{"x":null,"labels":[{"name":"M","values":["é","e\u0301"," "]},{"y/":null,"values":[null],"name":"_9"}]}"#,
+        &[
+            ("M", &[Some("é"), Some("e\u{301}"), Some(" ")]),
+            ("_9", &[None]),
+        ],
+    ),
+    (r#"{"labels":[]}"#, &[]),
+    (r#"{"labels":1,"labels":[]}"#, &[]),
+    ("\n{\"labels\":[],\"a\":null}\t", &[]),
+];
+
+#[test]
+fn labels_of_universes(rt: HostRuntime) {
+    for (text, labels) in UNIVERSES {
+        let universe = accepted(&rt, rt.alloc(), text.as_bytes());
+        expect_labels(&rt, &universe, labels);
     }
-    let more_values = values_of(alloc, 129)?;
-    expect(
-        &rt,
-        rt.alloc(),
-        more_values.as_bytes(),
-        Kind::Limit,
-        "/labels/0/values",
-    );
-    Ok(())
 }
 
-#[test]
-fn a_file_of_the_most_bytes(rt: HostRuntime) -> Result<(), Fail> {
-    let alloc = rt.alloc();
-    let mut text = String::from_str(alloc, "{\"labels\":[]}")?;
-    for _ in text.len()..16_777_216 {
-        text.push(' ')?;
+fn expect_labels(rt: &impl Abort, universe: &Universe, wanted: &[Label]) {
+    assert_eq!(rt; universe.len(), wanted.len());
+    for i in 0..universe.len() {
+        let (name, values) = wanted[i];
+        assert_eq!(rt; universe.name(i), name);
+        assert_eq!(rt; universe.position(name), Some(i));
+        assert_eq!(rt; universe.size(i), values.len(), "{name}");
+        for j in 0..universe.size(i) {
+            assert_eq!(rt; universe.value(i, j), values[j], "{name}");
+        }
     }
-    assert_eq!(rt; accepted(read_universe(alloc, text.as_bytes()))?.len(), 0);
-    text.push(' ')?;
-    expect(&rt, rt.alloc(), text.as_bytes(), Kind::Limit, "");
-    text.push('x')?;
-    expect(&rt, rt.alloc(), text.as_bytes(), Kind::Limit, "");
-    Ok(())
 }
 
 /// The bytes are refused so, at a part of the universe file.
 fn expect(rt: &impl Abort, alloc: Global, bytes: &[u8], kind: Kind, pointer: &str) {
     match read_universe(alloc, bytes) {
-        Ok(_) => panic!(rt; "accepted"),
+        Ok(_) => panic!(rt; "accepted: {pointer}"),
         Err(fault) => {
-            assert_eq!(rt; fault.kind, kind);
-            assert_eq!(rt; fault.place, Place::Universe);
             assert_eq!(rt; fault.pointer.as_str(), pointer);
+            assert_eq!(rt; fault.kind, kind, "{pointer}");
+            assert_eq!(rt; fault.place, Place::Universe);
         }
     }
 }
 
-fn accepted(read: Result<Universe, Fault>) -> Result<Universe, Fail> {
-    Ok(read.ok().ok_or("the file is a universe")?)
-}
-
-fn nested(alloc: Global, front: &str, levels: usize, back: &str) -> Result<String, AllocError> {
-    let mut text = String::from_str(alloc, front)?;
-    for _ in 0..levels {
-        text.push('[')?;
+/// The universe that the bytes say.
+fn accepted(rt: &impl Abort, alloc: Global, bytes: &[u8]) -> Universe {
+    match read_universe(alloc, bytes) {
+        Ok(universe) => universe,
+        Err(fault) => panic!(rt; "refused: {fault:?}"),
     }
-    for _ in 0..levels {
-        text.push(']')?;
-    }
-    text.push_str(back)?;
-    Ok(text)
-}
-
-fn labels_of(alloc: Global, count: usize) -> Result<String, AllocError> {
-    let mut text = String::from_str(alloc, "{\"labels\":[")?;
-    for i in 0..count {
-        let label = format!(in alloc; "{{\"name\":\"l{i}\",\"values\":[\"a\"]}}")?;
-        if i > 0 {
-            text.push(',')?;
-        }
-        text.push_str(label.as_str())?;
-    }
-    text.push_str("]}")?;
-    Ok(text)
-}
-
-fn values_of(alloc: Global, count: usize) -> Result<String, AllocError> {
-    let mut text = String::from_str(alloc, "{\"labels\":[{\"name\":\"m\",\"values\":[null")?;
-    for i in 1..count {
-        let value = format!(in alloc; ",\"v{i}\"")?;
-        text.push_str(value.as_str())?;
-    }
-    text.push_str("]}]}")?;
-    Ok(text)
 }
