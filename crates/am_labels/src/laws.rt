@@ -11,6 +11,7 @@ ghost use Rattle.am_labels.specs.SetText.{line};
 ghost use Rattle.am_labels.specs.Matcher.{Condition, condition_holds, all_hold};
 ghost use Rattle.am_labels.specs.Row.{row_of, row_holds, rows_hold};
 ghost use Rattle.am_labels.specs.MatcherText.{Spells};
+ghost use Rattle.am_labels.specs.MatcherReading.{read_list};
 
 /// The test whether two texts are the same is true where they are equal, and only there.
 pub fn same_text_decides()
@@ -50,6 +51,11 @@ pub fn a_label_is_added_exactly_to_a_universe()
 /// A text spells at most one list of matchers.
 pub fn one_list_a_text()
     ensures { (text : List ℕ) (ms ns : List Condition) → Spells text ms → Spells text ns → ms ≡ ns }
+{}
+
+/// A text spells a list exactly where reading it step by step gives that list.
+pub fn texts_are_read()
+    ensures { (text : List ℕ) (ms : List Condition) → Spells text ms ↔ (read_list text ≡ Some ms) }
 {}
 
 /// Two different choices of one universe have different lines.
