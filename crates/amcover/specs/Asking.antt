@@ -1,23 +1,23 @@
 -- What `ask` writes. (This project's own.)
-use Rattle.std.specs.Prelude.{ℕ, List, ◌≡◌}
+use Rattle.std.specs.Prelude.{ℕ, List}
 use Rattle.am_labels.specs.Universe.{Label}
 use Rattle.am_labels.specs.Sink.{Wrote, WroteInPart}
 use Rattle.amcover.specs.declared.trailer.Trailer.{Trailer}
 use Rattle.amcover.specs.declared.trailer.Trailer.TheVariants.{End}
 use Rattle.amcover.specs.Question.{Question, answers}
 use Rattle.amcover.specs.PageText.{page_text}
-use Rattle.amcover.specs.Asked.{Accepts}
+use Rattle.amcover.specs.Asked.{Inputs, Accepts}
 
 -- The inputs are accepted, and between two states of the sink the page of the answers was written, all of it.
-pub record WroteAnswers {S : Type 0} (taken : S → List ℕ) (failures : S → ℕ) (before after : S) (file text : List ℕ) (trailer : Trailer) : Type 0 where
+pub record WroteAnswers {S : Type 0} (taken : S → List ℕ) (failures : S → ℕ) (before after : S) (inputs : Inputs) (trailer : Trailer) : Type 0 where
   pub universe : List Label
   pub question : Question
-  pub accepts : Accepts file text universe question
+  pub accepts : Accepts inputs universe question
   pub wrote : Wrote taken failures before after (page_text universe (answers universe question) trailer)
 
 -- The inputs are accepted, and a proper prefix of that page was written before one take failed.
-pub record WroteAnswersInPart {S : Type 0} (taken : S → List ℕ) (failures : S → ℕ) (before after : S) (file text : List ℕ) : Type 0 where
+pub record WroteAnswersInPart {S : Type 0} (taken : S → List ℕ) (failures : S → ℕ) (before after : S) (inputs : Inputs) : Type 0 where
   pub universe : List Label
   pub question : Question
-  pub accepts : Accepts file text universe question
+  pub accepts : Accepts inputs universe question
   pub wrote : WroteInPart taken failures before after (page_text universe (answers universe question) End)

@@ -5,4 +5,5 @@ pub mod QuestionText
 pub mod FaultText
 pub mod Completions
 pub mod Asked
+pub mod Files
 pub mod Asking

@@ -7,6 +7,7 @@ pub enum Request<'a> {
     /// The label sets of a universe that satisfy a question.
     Ask {
         universe: &'a str,
+        config: Option<&'a str>,
         question: &'a str,
     },
 }
@@ -34,6 +35,13 @@ stands for a label that is missing:
 The question is a list of matchers in braces, in the classic syntax of Alertmanager,
 with =, !=, =~ and !~. A pattern has to match the whole value. A missing label counts
 as the empty value.
+
+With --config the configuration is read and checked too, though no question speaks of
+it yet. It is JSON; an alertmanager.yml becomes JSON by
+
+  yq -o=json . alertmanager.yml > alertmanager.json
+
+A fault in a file names the file and, by a JSON Pointer, the part at fault.
 
 Example:
 
@@ -63,7 +71,11 @@ pub fn read_words<'a>(alloc: Global, words: &'a [String]) -> Result<Request<'a>,
 fn ask_request<'a>(matches: &ArgMatches<'a>) -> Option<Request<'a>> {
     let universe = matches.get_str("universe")?;
     let question = matches.get_str("question")?;
-    Some(Request::Ask { universe, question })
+    Some(Request::Ask {
+        universe,
+        config: matches.get_str("config"),
+        question,
+    })
 }
 
 fn command<'a>(alloc: Global) -> Result<Command<'a>, AllocError> {
@@ -84,6 +96,10 @@ fn ask_command<'a>(alloc: Global) -> Result<Command<'a>, AllocError> {
         .value_name("FILE")
         .required(true)
         .help("The universe, a JSON file");
+    let config = Arg::new(alloc, "config")
+        .long("config")
+        .value_name("FILE")
+        .help("The Alertmanager configuration, as JSON");
     let question = Arg::new(alloc, "question")
         .value_name("QUESTION")
         .required(true)
@@ -92,5 +108,6 @@ fn ask_command<'a>(alloc: Global) -> Result<Command<'a>, AllocError> {
         .about(ASK_ABOUT)
         .after_help(ASK_HELP)
         .arg(universe)?
+        .arg(config)?
         .arg(question)
 }

@@ -1,6 +1,7 @@
 use crate::ask::ask;
 use crate::command_line::{Request, read_words};
 use crate::fault_text::{status, write_fault};
+use crate::files;
 use crate::read_file::read_file;
 use am_labels::{Fault, Kind, Out, Place};
 use clap::Error;
@@ -39,23 +40,42 @@ pub fn run<R: Files + AllocGlobal, W: Write + Drop, E: Write + Drop>(
     }
 }
 
+/// Reads the files that the request names, and does what it asks for.
 fn serve<R: Files + AllocGlobal, W: Write + Drop>(
     rt: &R,
     request: Request<'_>,
     out: &mut W,
 ) -> Result<u8, Fault> {
-    let alloc = rt.alloc();
-    let Request::Ask { universe, question } = request;
-    let universe = match read_file(rt, universe) {
-        Ok(bytes) => bytes,
-        Err(kind) => return Err(Fault::of(alloc, kind, Place::Universe)),
+    let Request::Ask {
+        universe,
+        config,
+        question,
+    } = request;
+    let universe = read_input(rt, universe, Place::Universe)?;
+    let config = match config {
+        Some(path) => Some(read_input(rt, path, Place::Config)?),
+        None => None,
     };
+    let files = files::Files {
+        config: config.as_ref().map(|bytes| bytes.as_slice()),
+    };
+    ask_buffered(rt.alloc(), universe.as_slice(), &files, question, out)
+}
+
+/// Asks over a buffer of the output, which is flushed after the page.
+fn ask_buffered<W: Write + Drop>(
+    alloc: Global,
+    universe: &[u8],
+    files: &files::Files<'_>,
+    question: &str,
+    out: &mut W,
+) -> Result<u8, Fault> {
     let buffered = match BufWriter::with_capacity(alloc, BUFFER, out) {
         Ok(buffered) => buffered,
         Err(_) => return Err(Fault::of(alloc, Kind::Memory, Place::Memory)),
     };
     let mut sink = Out::new(buffered);
-    let outcome = ask(alloc, universe.as_slice(), question, &mut sink);
+    let outcome = ask(alloc, universe, files, question, &mut sink);
     let mut buffered = sink.into_inner();
     let flushed = match &outcome {
         Ok(_) => buffered.flush().is_ok(),
@@ -68,6 +88,15 @@ fn serve<R: Files + AllocGlobal, W: Write + Drop>(
         Ok(DONE)
     } else {
         Err(Fault::of(alloc, Kind::Write, Place::Output))
+    }
+}
+
+/// The bytes of an input file. A file that cannot be read is a fault at its place; want of memory is one at `Memory`.
+fn read_input<R: Files + AllocGlobal>(rt: &R, path: &str, place: Place) -> Result<Vec<u8>, Fault> {
+    match read_file(rt, path) {
+        Ok(bytes) => Ok(bytes),
+        Err(Kind::Memory) => Err(Fault::of(rt.alloc(), Kind::Memory, Place::Memory)),
+        Err(kind) => Err(Fault::of(rt.alloc(), kind, place)),
     }
 }
 

@@ -5,13 +5,15 @@ use std::test::*;
 
 #[test]
 fn usage_faults(rt: HostRuntime) -> Result<(), Fail> {
-    let lines: [&[&str]; 6] = [
+    let lines: [&[&str]; 8] = [
         &[],
         &["ask", "{}"],
         &["ask", "--universe", "u.json"],
         &["ask"],
         &["answer"],
         &["ask", "--universe", "u.json", "{}", "more"],
+        &["ask", "--universe", "u.json", "--config"],
+        &["ask", "--config", "c.json", "{}"],
     ];
     for words in lines {
         let ran = run_words(&rt, words)?;

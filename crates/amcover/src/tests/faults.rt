@@ -1,64 +1,86 @@
 //! What `ask` and `run` answer on refused input, and how a fault is written.
 
-use super::fixtures::{DB, TEAMS, TWICE, answer_to, run_on_file, run_words, text_of};
+use super::fixtures::{
+    DB, NO_FILES, TEAMS, TWICE, answer_to, answer_with, run_on_file, run_on_files, run_words,
+    text_of,
+};
 use super::pages::{labels_of, matchers_of, values_of};
 use crate::fault_text::{status, write_fault};
+use crate::files;
 use am_labels::{Fault, Kind, Out, Place};
 use std::alloc::{AllocError, Global};
+use std::fs;
 use std::process::Abort;
 use std::test::*;
 
-/// A universe file, and the kind of its first fault.
-const UNIVERSES: [(&str, Kind); 16] = [
-    ("", Kind::NotJson),
+/// A universe file, and its first fault: the kind and the pointer.
+const UNIVERSES: [(&str, Kind, &str); 16] = [
+    ("", Kind::NotJson, ""),
     (
         "{\"labels\":[{\"name\":\"team\",\"values\":[\"db\",\"web\",null]},{\"name\":\"sev",
         Kind::NotJson,
+        "",
     ),
-    ("{}", Kind::Shape),
+    ("{}", Kind::Shape, "/labels"),
     (
         "{\"labels\":[{\"name\":7,\"values\":[\"a\"]}]}",
         Kind::Shape,
+        "/labels/0/name",
     ),
-    ("{\"labels\":[{\"name\":\"m\",\"values\":{}}]}", Kind::Shape),
+    (
+        "{\"labels\":[{\"name\":\"m\",\"values\":{}}]}",
+        Kind::Shape,
+        "/labels/0/values",
+    ),
     (
         "{\"labels\":[{\"name\":\"m\",\"values\":[5]}]}",
         Kind::Shape,
+        "/labels/0/values/0",
     ),
     (
         "{\"labels\":[{\"name\":\"9x\",\"values\":[\"a\"]}]}",
         Kind::Shape,
+        "/labels/0/name",
     ),
-    ("{\"labels\":[],\"extra\":1}", Kind::UnknownField),
+    ("{\"labels\":[],\"extra\":1}", Kind::UnknownField, "/extra"),
     (
         "{\"labels\":[{\"name\":\"m\",\"values\":[\"a\"],\"value\":\"a\"}]}",
         Kind::UnknownField,
+        "/labels/0/value",
     ),
     (
         "{\"labels\":[{\"name\":\"\",\"values\":[\"a\"]}]}",
         Kind::Empty,
+        "/labels/0/name",
     ),
-    ("{\"labels\":[{\"name\":\"m\",\"values\":[]}]}", Kind::Empty),
+    (
+        "{\"labels\":[{\"name\":\"m\",\"values\":[]}]}",
+        Kind::Empty,
+        "/labels/0/values",
+    ),
     (
         "{\"labels\":[{\"name\":\"m\",\"values\":[\"\"]}]}",
         Kind::Empty,
+        "/labels/0/values/0",
     ),
-    (TWICE, Kind::Duplicate),
+    (TWICE, Kind::Duplicate, "/labels/0/values/1"),
     (
         "{\"labels\":[{\"name\":\"m\",\"values\":[null,\"a\",null]}]}",
         Kind::Duplicate,
+        "/labels/0/values/2",
     ),
     (
         "{\"labels\":[{\"name\":\"m\",\"values\":[\"a\"]},{\"name\":\"m\",\"values\":[\"b\"]}]}",
         Kind::Duplicate,
+        "/labels/1/name",
     ),
-    ("7", Kind::Shape),
+    ("7", Kind::Shape, ""),
 ];
 
 #[test]
 fn faults_of_universes(rt: HostRuntime) -> Result<(), Fail> {
-    for (universe, kind) in UNIVERSES {
-        refused(&rt, rt.alloc(), universe.as_bytes(), kind)?;
+    for (universe, kind, pointer) in UNIVERSES {
+        refused(&rt, rt.alloc(), universe.as_bytes(), kind, pointer)?;
     }
     Ok(())
 }
@@ -66,29 +88,97 @@ fn faults_of_universes(rt: HostRuntime) -> Result<(), Fail> {
 #[test]
 fn faults_of_made_universes(rt: HostRuntime) -> Result<(), Fail> {
     let alloc = rt.alloc();
-    refused(&rt, alloc, b"\xff", Kind::NotJson)?;
-    refused(&rt, alloc, nested(alloc, 128)?.as_bytes(), Kind::NotJson)?;
-    refused(&rt, alloc, nested(alloc, 127)?.as_bytes(), Kind::Shape)?;
-    refused(&rt, alloc, labels_of(alloc, 65)?.as_bytes(), Kind::Limit)?;
-    refused(&rt, alloc, values_of(alloc, 129)?.as_bytes(), Kind::Limit)
+    let deep = nested(alloc, 128)?;
+    let nested = nested(alloc, 127)?;
+    let labels = labels_of(alloc, 65)?;
+    let values = values_of(alloc, 129)?;
+    refused(&rt, alloc, b"\xff", Kind::NotJson, "")?;
+    refused(&rt, alloc, deep.as_bytes(), Kind::NotJson, "")?;
+    refused(&rt, alloc, nested.as_bytes(), Kind::Shape, "")?;
+    refused(&rt, alloc, labels.as_bytes(), Kind::Limit, "/labels")?;
+    refused(
+        &rt,
+        alloc,
+        values.as_bytes(),
+        Kind::Limit,
+        "/labels/0/values",
+    )
 }
 
-/// The universe is refused for this kind of fault, whatever the question, and nothing is written.
-fn refused(rt: &impl Abort, alloc: Global, universe: &[u8], kind: Kind) -> Result<(), Fail> {
-    for question in [DB, "nonsense"] {
-        let asked = answer_to(alloc, universe, question)?;
-        expect(rt, &asked.outcome.err(), kind, Place::Universe);
+/// The universe is refused for this kind of fault at this pointer, whatever stands behind it, and nothing is written.
+fn refused(
+    rt: &impl Abort,
+    alloc: Global,
+    universe: &[u8],
+    kind: Kind,
+    pointer: &str,
+) -> Result<(), Fail> {
+    for (files, question) in [
+        (&NO_FILES, DB),
+        (&NO_FILES, "nonsense"),
+        (&NO_CONFIG, "nonsense"),
+    ] {
+        let asked = answer_with(alloc, universe, files, question)?;
+        expect(rt, &asked.outcome.err(), kind, Place::Universe, pointer);
         assert_eq!(rt; asked.text.as_str(), "");
     }
     Ok(())
 }
 
-fn expect(rt: &impl Abort, found: &Option<Fault>, kind: Kind, place: Place) {
+/// A configuration file that is not JSON.
+const NO_CONFIG: files::Files<'static> = files::Files {
+    config: Some(b"receivers:"),
+};
+
+/// A configuration file, and its first fault: the kind and the pointer.
+const CONFIGS: [(&str, Kind, &str); 8] = [
+    ("", Kind::NotJson, ""),
+    ("[]", Kind::Shape, ""),
+    ("{}", Kind::Shape, "/receivers"),
+    ("{\"receivers\":[]}", Kind::Shape, "/route"),
+    (
+        "{\"receivers\":[{\"name\":\"a\"}],\"route\":{\"receiver\":\"a\",\"match_re\":{\"x\":\"(\"}}}",
+        Kind::Pattern,
+        "/route/match_re/x",
+    ),
+    (
+        "{\"receivers\":[{\"name\":\"a\"}],\"route\":{\"receiver\":\"a\",\"routes\":[{\"receiver\":\"b\"}]}}",
+        Kind::UndefinedReceiver,
+        "/route/routes/0/receiver",
+    ),
+    (
+        "{\"receivers\":[{\"name\":\"a\"}],\"route\":{\"receiver\":\"a\",\"routes\":[{\"match\":{\"a/b~c\":1}}]}}",
+        Kind::Shape,
+        "/route/routes/0/match/a~1b~0c",
+    ),
+    (
+        "{\"receivers\":[{\"name\":\"a\"}],\"route\":{\"receiver\":\"a\",\"matchers\":[\"x=y\"]}}",
+        Kind::RootMatchers,
+        "/route/matchers",
+    ),
+];
+
+#[test]
+fn faults_of_configurations(rt: HostRuntime) -> Result<(), Fail> {
+    for (config, kind, pointer) in CONFIGS {
+        let files = files::Files {
+            config: Some(config.as_bytes()),
+        };
+        for question in [DB, "nonsense"] {
+            let asked = answer_with(rt.alloc(), TEAMS.as_bytes(), &files, question)?;
+            expect(&rt, &asked.outcome.err(), kind, Place::Config, pointer);
+            assert_eq!(rt; asked.text.as_str(), "", "{config}");
+        }
+    }
+    Ok(())
+}
+
+fn expect(rt: &impl Abort, found: &Option<Fault>, kind: Kind, place: Place, pointer: &str) {
     match found {
         Some(fault) => {
             assert_eq!(rt; fault.kind, kind);
             assert_eq!(rt; fault.place, place);
-            assert_eq!(rt; fault.pointer.as_str(), "");
+            assert_eq!(rt; fault.pointer.as_str(), pointer);
             assert_eq!(rt; status(fault), 1);
         }
         None => panic!(rt; "accepted, and not {kind:?}"),
@@ -128,12 +218,12 @@ fn faults_of_questions(rt: HostRuntime) -> Result<(), Fail> {
     let too_many = matchers_of(alloc, 65)?;
     for (question, kind) in QUESTIONS {
         let asked = answer_to(alloc, TEAMS.as_bytes(), question)?;
-        expect(&rt, &asked.outcome.err(), kind, Place::Question);
+        expect(&rt, &asked.outcome.err(), kind, Place::Question, "");
         assert_eq!(rt; asked.text.as_str(), "", "{question}");
     }
     for (question, kind) in [(too_many.as_str(), Kind::Limit)] {
         let asked = answer_to(alloc, TEAMS.as_bytes(), question)?;
-        expect(&rt, &asked.outcome.err(), kind, Place::Question);
+        expect(&rt, &asked.outcome.err(), kind, Place::Question, "");
         assert_eq!(rt; asked.text.as_str(), "", "{question}");
     }
     Ok(())
@@ -144,10 +234,18 @@ fn faults_of_runs(rt: HostRuntime) -> Result<(), Fail> {
     let too_many = matchers_of(rt.alloc(), 65)?;
     let path = "amcover_test_faults_of_runs.json";
     for (universe, question, err) in [
-        (TWICE, DB, "amcover: universe: duplicate\n"),
-        (TWICE, "nonsense", "amcover: universe: duplicate\n"),
+        (
+            TWICE,
+            DB,
+            "amcover: universe: /labels/0/values/1: duplicate\n",
+        ),
+        (
+            TWICE,
+            "nonsense",
+            "amcover: universe: /labels/0/values/1: duplicate\n",
+        ),
         ("", DB, "amcover: universe: not-json\n"),
-        ("{}", DB, "amcover: universe: shape\n"),
+        ("{}", DB, "amcover: universe: /labels: shape\n"),
         (TEAMS, "nonsense", "amcover: question: question-syntax\n"),
         (TEAMS, "", "amcover: question: question-syntax\n"),
         (TEAMS, "{a}", "amcover: question: bad-matcher\n"),
@@ -164,6 +262,67 @@ fn faults_of_runs(rt: HostRuntime) -> Result<(), Fail> {
         assert_eq!(rt; ran.out.as_str(), "", "{question}");
         assert_eq!(rt; ran.status, 1, "{question}");
     }
+    Ok(())
+}
+
+/// A configuration file, and the line for its first fault.
+const CONFIG_LINES: [(&str, &str); 4] = [
+    ("receivers:", "amcover: config: not-json\n"),
+    ("{}", "amcover: config: /receivers: shape\n"),
+    (
+        "{\"receivers\":[{\"name\":\"a\"}],\"route\":{\"receiver\":\"b\"}}",
+        "amcover: config: /route/receiver: undefined-receiver\n",
+    ),
+    (
+        "{\"receivers\":[{\"name\":\"a\"}],\"route\":{\"receiver\":\"a\",\"routes\":[{\"match\":{\"a\\nb\":1}}]}}",
+        "amcover: config: /route/routes/0/match/a\\nb: shape\n",
+    ),
+];
+
+#[test]
+fn faults_of_runs_with_configurations(rt: HostRuntime) -> Result<(), Fail> {
+    let paths = (
+        "amcover_test_faults_universe.json",
+        "amcover_test_faults_config.json",
+    );
+    for (config, err) in CONFIG_LINES {
+        for question in [DB, "nonsense"] {
+            let ran = run_on_files(&rt, paths, TEAMS, config, question)?;
+            assert_eq!(rt; ran.err.as_str(), err, "{config}");
+            assert_eq!(rt; ran.out.as_str(), "", "{config}");
+            assert_eq!(rt; ran.status, 1, "{config}");
+        }
+        let ran = run_on_files(&rt, paths, "", config, DB)?;
+        assert_eq!(rt;
+            ran.err.as_str(),
+            "amcover: universe: not-json\n",
+            "{config}"
+        );
+    }
+    Ok(())
+}
+
+#[test]
+fn configurations_that_cannot_be_read(rt: HostRuntime) -> Result<(), Fail> {
+    // What cannot be read comes before what a file says, and the universe before the configuration.
+    let path = "amcover_test_configurations_that_cannot_be_read.json";
+    let missing = "amcover_test_no_such_file.json";
+    fs::write(&rt, path, "")?;
+    for (universe, config, err) in [
+        (path, missing, "amcover: config: read\n"),
+        (path, ".", "amcover: config: read\n"),
+        (missing, missing, "amcover: universe: read\n"),
+        (missing, path, "amcover: universe: read\n"),
+    ] {
+        let ran = run_words(
+            &rt,
+            &["ask", "--universe", universe, "--config", config, DB],
+        )?;
+        assert_eq!(rt; ran.err.as_str(), err, "{config}");
+        assert_eq!(rt; ran.out.as_str(), "", "{config}");
+        assert_eq!(rt; ran.status, 1, "{config}");
+    }
+    fs::remove_file(&rt, path)?;
     Ok(())
 }
 

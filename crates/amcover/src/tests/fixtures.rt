@@ -1,6 +1,7 @@
 //! The universe that most rows are about, and what asking or running it gives.
 
 use crate::ask::ask;
+use crate::files;
 use crate::run::run;
 use crate::trailer::Trailer;
 use am_labels::{Fault, Out};
@@ -13,7 +14,11 @@ use std::test::*;
 pub const TEAMS: &str =
     "{\"labels\":[{\"name\":\"team\",\"values\":[\"db\",\"web\",null]},{\"name\":\"severity\",\"values\":[\"critical\",\"warning\"]}]}";
 
-/// The same, with a value twice.
+/// Six receivers, and five routes in three levels.
+pub const ROUTES: &str =
+    "{\"receivers\":[{\"name\":\"default\"},{\"name\":\"dba\"},{\"name\":\"pager\"},{\"name\":\"ops\"},{\"name\":\"late\"},{\"name\":\"idle\"}],\"route\":{\"receiver\":\"default\",\"routes\":[{\"matchers\":[\"team=db\"],\"receiver\":\"dba\",\"continue\":true,\"routes\":[{\"matchers\":[\"severity=critical\"],\"receiver\":\"pager\"}]},{\"matchers\":[\"severity=~\\\"crit.*\\\"\"],\"receiver\":\"ops\"},{\"matchers\":[\"team=~\\\"db|web\\\",severity=critical\"],\"receiver\":\"late\"}]}}";
+
+/// The two labels, with a value twice.
 pub const TWICE: &str =
     "{\"labels\":[{\"name\":\"team\",\"values\":[\"db\",\"db\",null]},{\"name\":\"severity\",\"values\":[\"critical\",\"warning\"]}]}";
 
@@ -31,9 +36,21 @@ pub struct Asked {
     pub text: String,
 }
 
+/// No file beside the universe.
+pub const NO_FILES: files::Files<'static> = files::Files { config: None };
+
 pub fn answer_to(alloc: Global, universe: &[u8], question: &str) -> Result<Asked, Fail> {
+    answer_with(alloc, universe, &NO_FILES, question)
+}
+
+pub fn answer_with(
+    alloc: Global,
+    universe: &[u8],
+    files: &files::Files<'_>,
+    question: &str,
+) -> Result<Asked, Fail> {
     let mut sink = Out::new(Vec::new(alloc));
-    let outcome = ask(alloc, universe, question, &mut sink);
+    let outcome = ask(alloc, universe, files, question, &mut sink);
     Ok(Asked {
         outcome,
         text: text_of(sink.into_inner())?,
@@ -72,6 +89,33 @@ pub fn run_on_file<R: Files + AllocGlobal>(
     fs::write(rt, path, universe)?;
     let ran = run_words(rt, &["ask", "--universe", path, question])?;
     fs::remove_file(rt, path)?;
+    Ok(ran)
+}
+
+/// Asks about a universe file and a configuration file that are written for it, at paths that no other test uses.
+pub fn run_on_files<R: Files + AllocGlobal>(
+    rt: &R,
+    paths: (&str, &str),
+    universe: &str,
+    config: &str,
+    question: &str,
+) -> Result<Ran, Fail> {
+    let (universe_path, config_path) = paths;
+    fs::write(rt, universe_path, universe)?;
+    fs::write(rt, config_path, config)?;
+    let ran = run_words(
+        rt,
+        &[
+            "ask",
+            "--config",
+            config_path,
+            "--universe",
+            universe_path,
+            question,
+        ],
+    )?;
+    fs::remove_file(rt, universe_path)?;
+    fs::remove_file(rt, config_path)?;
     Ok(ran)
 }
 

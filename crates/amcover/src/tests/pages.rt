@@ -1,6 +1,9 @@
 //! What `ask` writes on good input.
 
-use super::fixtures::{DB, DB_PAGE, TEAMS, answer_to, run_on_file};
+use super::fixtures::{
+    DB, DB_PAGE, ROUTES, TEAMS, answer_to, answer_with, run_on_file, run_on_files,
+};
+use crate::files;
 use crate::trailer::Trailer;
 use std::alloc::{AllocError, Global};
 use std::test::*;
@@ -95,6 +98,27 @@ fn pages_of_runs(rt: HostRuntime) -> Result<(), Fail> {
         assert_eq!(rt; ran.out.as_str(), page, "{question}");
         assert_eq!(rt; ran.err.as_str(), "", "{question}");
     }
+    Ok(())
+}
+
+#[test]
+fn pages_beside_a_configuration(rt: HostRuntime) -> Result<(), Fail> {
+    let paths = (
+        "amcover_test_pages_universe.json",
+        "amcover_test_pages_config.json",
+    );
+    let files = files::Files {
+        config: Some(ROUTES.as_bytes()),
+    };
+    for (universe, question, page) in PAGES {
+        let asked = answer_with(rt.alloc(), universe.as_bytes(), &files, question)?;
+        assert!(rt; asked.outcome.is_ok(), "{question}");
+        assert_eq!(rt; asked.text.as_str(), page, "{question}");
+    }
+    let ran = run_on_files(&rt, paths, TEAMS, ROUTES, DB)?;
+    assert_eq!(rt; ran.status, 0);
+    assert_eq!(rt; ran.out.as_str(), DB_PAGE);
+    assert_eq!(rt; ran.err.as_str(), "");
     Ok(())
 }
 

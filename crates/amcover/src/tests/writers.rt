@@ -1,12 +1,12 @@
 //! Writers that stop.
 
 use super::fakes::{Fake, Stop};
-use super::fixtures::{DB, DB_PAGE, TEAMS, TWICE, line_of};
+use super::fixtures::{DB, DB_PAGE, NO_FILES, TEAMS, TWICE, line_of};
 use crate::ask::ask;
 use crate::fault_text::status;
 use crate::run::run;
 use am_labels::{Kind, Out, Place};
-use std::alloc::Global;
+use std::alloc::{AllocError, Global};
 use std::fs;
 use std::process::Abort;
 use std::rt::Files;
@@ -48,7 +48,7 @@ fn asking_over_writers_that_stop(rt: HostRuntime) {
 /// A writer of this step after the question was asked over it.
 fn asked_whole(rt: &impl Abort, alloc: Global, step: usize) -> Fake {
     let mut sink = Out::new(Fake::of_step(alloc, step));
-    let outcome = ask(alloc, TEAMS.as_bytes(), DB, &mut sink);
+    let outcome = ask(alloc, TEAMS.as_bytes(), &NO_FILES, DB, &mut sink);
     assert!(rt; outcome.is_ok(), "step {step}");
     sink.into_inner()
 }
@@ -56,7 +56,7 @@ fn asked_whole(rt: &impl Abort, alloc: Global, step: usize) -> Fake {
 /// The writer after the question was asked over it, which failed and wrote a part of the page.
 fn asked_in_part(rt: &impl Abort, alloc: Global, fake: Fake) -> Fake {
     let mut sink = Out::new(fake);
-    match ask(alloc, TEAMS.as_bytes(), DB, &mut sink) {
+    match ask(alloc, TEAMS.as_bytes(), &NO_FILES, DB, &mut sink) {
         Ok(_) => panic!(rt; "all was written"),
         Err(fault) => {
             assert_eq!(rt; fault.kind, Kind::Write);
@@ -79,11 +79,7 @@ fn runs_over_writers_that_stop(rt: HostRuntime) -> Result<(), Fail> {
     let status = run_over(&rt, words.as_slice(), &mut whole, "");
     assert_eq!(rt; status, 0);
     assert_eq!(rt; whole.taken.as_slice(), DB_PAGE.as_bytes());
-    for before in 0..whole.calls {
-        let call = before + 1;
-        stopped_run(&rt, words.as_slice(), call, Stop::Fails);
-        stopped_run(&rt, words.as_slice(), call, Stop::TakesNothing);
-    }
+    stopped_runs(&rt, words.as_slice(), &whole, 7, DB_PAGE);
     let mut held = Fake::that_keeps_back(alloc);
     let status = run_over(&rt, words.as_slice(), &mut held, "amcover: write\n");
     assert_eq!(rt; status, 4);
@@ -91,13 +87,80 @@ fn runs_over_writers_that_stop(rt: HostRuntime) -> Result<(), Fail> {
     Ok(())
 }
 
-/// Runs over a writer that stops at this call: the run fails, a part of the page went out, and no call follows.
-fn stopped_run<R: Files + AllocGlobal + Abort>(rt: &R, words: &[String], call: usize, how: Stop) {
-    let mut fake = Fake::stopped(rt.alloc(), 7, call, how);
+#[test]
+fn runs_whose_page_is_longer_than_the_buffer(rt: HostRuntime) -> Result<(), Fail> {
+    let alloc = rt.alloc();
+    let path = "amcover_test_longer_than_the_buffer.json";
+    let page = wide_page(alloc)?;
+    assert!(rt; page.len() > 65536);
+    fs::write(&rt, path, wide_universe(alloc)?.as_str())?;
+    let words = line_of(alloc, &["ask", "--universe", path, "{}"])?;
+    let mut whole = Fake::of_step(alloc, 20_000);
+    let status = run_over(&rt, words.as_slice(), &mut whole, "");
+    assert_eq!(rt; status, 0);
+    assert_eq!(rt; whole.taken.as_slice(), page.as_bytes());
+    assert!(rt; 4 <= whole.calls);
+    stopped_runs(&rt, words.as_slice(), &whole, 20_000, page.as_str());
+    fs::remove_file(&rt, path)?;
+    Ok(())
+}
+
+/// How many values the wide universe has, and how many bytes stand behind the number of each.
+const WIDE: (usize, usize) = (100, 700);
+
+/// A universe file of a label with many long values.
+fn wide_universe(alloc: Global) -> Result<String, AllocError> {
+    let tail = "x".repeat(alloc, WIDE.1)?;
+    let mut text = String::from_str(alloc, "{\"labels\":[{\"name\":\"m\",\"values\":[")?;
+    for i in 0..WIDE.0 {
+        let comma = if i > 0 { "," } else { "" };
+        let value = format!(in alloc; "{comma}\"{i}{tail}\"")?;
+        text.push_str(value.as_str())?;
+    }
+    text.push_str("]}]}")?;
+    Ok(text)
+}
+
+/// The page of all its label sets.
+fn wide_page(alloc: Global) -> Result<String, AllocError> {
+    let tail = "x".repeat(alloc, WIDE.1)?;
+    let mut text = String::new(alloc);
+    for i in 0..WIDE.0 {
+        let line = format!(in alloc; "{{m=\"{i}{tail}\"}}\n")?;
+        text.push_str(line.as_str())?;
+    }
+    text.push_str("# end\n")?;
+    Ok(text)
+}
+
+/// Runs over a writer that stops at each of the calls that a whole run makes, in steps of so many bytes.
+fn stopped_runs<R: Files + AllocGlobal + Abort>(
+    rt: &R,
+    words: &[String],
+    whole: &Fake,
+    step: usize,
+    page: &str,
+) {
+    for before in 0..whole.calls {
+        let call = before + 1;
+        for how in [Stop::Fails, Stop::TakesNothing] {
+            let fake = stopped_run(rt, words, Fake::stopped(rt.alloc(), step, call, how), page);
+            assert_eq!(rt; fake.calls, call, "{how:?}");
+        }
+    }
+}
+
+/// The writer, which stops, after a run over it: the run failed, and a part of the page went out.
+fn stopped_run<R: Files + AllocGlobal + Abort>(
+    rt: &R,
+    words: &[String],
+    mut fake: Fake,
+    page: &str,
+) -> Fake {
     let status = run_over(rt, words, &mut fake, "amcover: write\n");
-    assert_eq!(rt; status, 4, "{call} {how:?}");
-    assert_eq!(rt; fake.calls, call, "{how:?}");
-    assert!(rt; fake.has_part_of(DB_PAGE), "{call} {how:?}");
+    assert_eq!(rt; status, 4);
+    assert!(rt; fake.has_part_of(page));
+    fake
 }
 
 /// The exit status of a run over a writer, which says this on standard error.

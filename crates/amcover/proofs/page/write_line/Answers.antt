@@ -1,4 +1,3 @@
-use Rattle.std.proofs.Common.{◌∙◌}
 use Rattle.am_labels.proofs.Writing.{◌⟩◌, fails}
 use Rattle.amcover.proofs.page.write_line.Goals as goal
 
