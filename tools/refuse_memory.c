@@ -1,6 +1,6 @@
 /* Preloaded into a program, refuses one growth of memory: the one whose number REFUSE_AT gives, counted from 1
    over malloc, calloc, realloc, aligned_alloc and posix_memalign. Where COUNT_FILE is set, the count of all
-   of them is written there when the program ends. tools/refuse-memory uses it. */
+   of them is written there when the program ends. tools/refuse-memory and tools/refuse-memory-in-tests use it. */
 #define _GNU_SOURCE
 #include <dlfcn.h>
 #include <errno.h>
