@@ -181,9 +181,6 @@ head_reads names parent before d head said room none =
 
 -- ---- Routes.
 
-abbrev pub says_children : List (List ℕ) → ℕ → List Data → List RouteTree → Type 0
-says_children names receiver ds ts = SaysRoutes names receiver ds (routes_of ts)
-
 children_say_all : (names : List (List ℕ)) (left receiver before : ℕ) → ((n : ℕ) (d : Data) (t : RouteTree) → (route_in names left (Some receiver) n d).gives ≡ Ok t → SaysRoute names (Some receiver) d t)
     → (earlier : List RouteTree) (ds : List Data) (all : List RouteTree) → (each (children_behind names left receiver before) earlier ds).gives ≡ Ok all
     → (more : List RouteTree) × (all ≡ earlier ++ more) × SaysRoutes names receiver ds (routes_of more)
@@ -267,10 +264,6 @@ route_reads names (suc left) parent before d (route receiver matchers continues 
 rules_say : (found : Option Data) (x : ⊤) → no_rules found ≡ Ok x → found ≡ None
 rules_say None x h = refl
 rules_say (Some d) x h = absurd cc
-
-none_of : (ms : List Condition) → length ms ≡ 0 → ms ≡ []
-none_of [] h = refl
-none_of (m ∷ ms) h = absurd (omega (arith, h))
 
 pub config_says : (d : Data) (c : Configuration) → (config_in d).gives ≡ Ok c → SaysConfig d c
 unfolding config_in

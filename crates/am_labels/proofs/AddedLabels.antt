@@ -236,24 +236,6 @@ none_of_memory u l fault h memory =
     let apart = subst (λ (o : Option LabelFault). IfSome o (λ f. f.kind ≡ kinds.Memory → ⊥)) h (label_fault-not_memory u l) in
     absurd (apart memory)
 
--- ---- A label put together item by item, as a reader does.
-
--- one more value
-pub values_fault-push : (values : Values) (value : Option (List ℕ)) → values_fault [] values ≡ None → value_fault values value ≡ None → values_fault [] (values ++ value ∷ []) ≡ None
-values_fault-push values value fine here =
-    let before = values_fine [] values (distinct_none same_value) fine in
-    let parts = value_fine values value here in
-    fine_values [] (values ++ value ∷ []) (record {
-      texts = all_push (λ v. is_empty_text v ≡ false) values value before.texts parts.0;
-      distinct = distinct_push same_value values value before.distinct parts.1;
-    })
-
-pub label_fault-none : (u : List Label) (name : List ℕ) (values : Values) → length u < 64 → name_fault u name ≡ None → 0 < length values → length values ≤ 128 → values_fault [] values ≡ None → label_fault u (record { name = name; values = values }) ≡ None
-label_fault-none u name values room named some few fine =
-    let full : nat_le 64 (length u) ≡ false = lt-leb 64 (length u) room in
-    let count : count_fault (length values) ≡ None = fine_count (length values) some few in
-    rw (full, named, count, fine)
-
 -- ---- The law.
 
 pub faults_are_exact : (u : List Label) (label : Label) → IsUniverse u → label_fault u label ≡ None ↔ IsUniverse (u ++ label ∷ [])

@@ -2,7 +2,7 @@
 use Rattle.std.proofs.Common.{◌≡◌, ℕ, ◌+◌, ◌<◌, ◌≤◌, Bool, true, false, ◌&&◌, List, [], ◌∷◌, length, drop, get_or, slice_get, Some, nat_lt, ap, ◌∙◌, refl, arith}
 use borrow.Author.Tests.{lt-ltb, le-ltb}
 use Rattle.std.proofs.lemmas.Option.{get_or_from_slice_get}
-use Rattle.std.proofs.lemmas.List.{at_drop_more, at_drop_all}
+use Rattle.std.proofs.lemmas.List.{at_drop_more}
 use Rattle.am_labels.specs.Choice.{admits}
 
 and_none : (b : Bool) → (b && false) ≡ false
@@ -33,6 +33,3 @@ pub admits_not : (sizes c : List ℕ) (i size : ℕ) → i < length c → length
 admits_not sizes c i size k long at above =
     let here : get_or sizes i 0 ≡ size = get_or_from_slice_get sizes i size 0 at in
     admits_step sizes c i (omega arith) k ∙ ap (λ b. b && admits_from sizes c (i + 1)) (le-ltb (get_or c i 0) (get_or sizes i 0) (omega arith))
-
-pub admits_end : (sizes c : List ℕ) (i : ℕ) → length c ≤ i → admits_from sizes c i ≡ true
-admits_end sizes c i h = at_drop_all (λ d. admits (drop i sizes) d) c i h ∙ refl

@@ -12,6 +12,7 @@ use Rattle.am_labels.specs.Matcher.{Condition}
 use Rattle.am_labels.specs.MatcherText.{is_space, begins_name, continues_name, is_quote, unescaped, pieces, without_opening, without_closing}
 
 infixl 10 ◌>>=◌
+-- what is read next, given what was read first; nothing where either reads nothing
 abbrev pub ◌>>=◌ : {A B : Type 0} → Option A → (A → Option B) → Option B
 o >>= f = option_and_then f o
 
@@ -28,13 +29,15 @@ Gives view (Err kind) read = Fails kind read
 abbrev pub condition_of : Spelled → Condition
 condition_of s = record { name = string_bytes s.name; op = s.op; value = string_bytes s.value }
 
+-- the conditions of a list, in its order
 abbrev pub conditions_of : List Spelled → List Condition
 conditions_of ss = map condition_of ss
 
--- the text without the whitespace at its beginning, and without that at its end
+-- the text without the whitespace at its beginning
 abbrev pub trimmed_start : List ℕ → List ℕ
 trimmed_start text = drop (prefix_len is_space text) text
 
+-- the text without the whitespace at its end
 abbrev pub trimmed_end : List ℕ → List ℕ
 trimmed_end text = take (length text - suffix_len is_space text) text
 

@@ -12,6 +12,7 @@ use Rattle.am_labels.specs.MatcherText.{Spells}
 abbrev pub has_sound_value : Condition → Bool
 has_sound_value m = not (takes_pattern m.op) || in_profile m.value && is_pattern m.value
 
+-- each value that is a pattern is of the profile, and the grammar reads it
 abbrev pub have_sound_values : List Condition → Bool
 have_sound_values ms = list_all has_sound_value ms
 

@@ -1,7 +1,7 @@
--- The profile of patterns: those in which nothing stands that engines are known to read differently. (This project's
--- choice.) A pattern is cut into pieces from left to right, outside or inside a class, and is of the profile where none
--- of them is refused. It is cut by bytes: what has a meaning of its own is ASCII, and a byte from 128 on is plain or
--- stands behind a backslash, so that cutting by characters gives the same.
+-- The profile of patterns. It leaves out forms that Go's engine and the crate `regex` are known to refuse or to read
+-- differently, but not all of them. (This project's choice.) A pattern is cut into pieces from left to right, outside or
+-- inside a class, and is of the profile where none of them is refused. It is cut by bytes: what has a meaning of its own
+-- is ASCII, and a byte from 128 on is plain or stands behind a backslash, so that cutting by characters gives the same.
 use Rattle.std.specs.Prelude.{ℕ, zero, suc, ◌+◌, ◌-◌, List, [], ◌∷◌, ◌++◌, length, take, drop, Bool, true, false, not, ◌==◌, ◌&&◌, ◌||◌, nat_eq, nat_lt, if◌then◌else◌, Option, Some, None, option_map, unwrap_or, codes}
 use Rattle.std.specs.List.{list_any, find, flat_map, starts_with, prefix_len, position}
 use Rattle.std.specs.Char.{is_ascii_digit, is_ascii_alphabetic}
@@ -46,6 +46,7 @@ is_refused_escape c = c ∈ "<>" || is_ascii_digit c || is_ascii_alphabetic c &&
 abbrev pub is_refused_flag : ℕ → Bool
 is_refused_flag c = c ∈ "xuR"
 
+-- a piece that may stand in no pattern of the profile
 abbrev pub is_refused : Piece → Bool
 is_refused (escape c braces) = is_refused_escape c
 is_refused last_backslash = false
@@ -96,9 +97,11 @@ escape_piece (c ∷ t) = escape c (braces_len c t)
 abbrev pub flag_run_len : List ℕ → ℕ
 flag_run_len t = prefix_len (λ c. is_ascii_alphabetic c || c == 45) t
 
+-- the letters and `-` directly behind the `(?`
 abbrev pub flag_run : List ℕ → List ℕ
 flag_run t = take (flag_run_len t) t
 
+-- how many digits a text begins with
 abbrev pub digits_len : List ℕ → ℕ
 digits_len t = prefix_len is_ascii_digit t
 
@@ -113,6 +116,7 @@ begins_count t =
 abbrev pub class_start_len : List ℕ → ℕ
 class_start_len t = if begins "[^]" t then 3 else if begins "[^" t then 2 else if begins "[]" t then 2 else 1
 
+-- each NAME of `[:NAME:]`
 unfoldable pub class_names : List (List ℕ)
 class_names =
     codes "alnum" ∷ codes "alpha" ∷ codes "ascii" ∷ codes "blank" ∷ codes "cntrl" ∷ codes "digit" ∷ codes "graph"
@@ -122,9 +126,11 @@ class_names =
 unfoldable pub named_classes : List (List ℕ)
 named_classes = flat_map (λ name. (codes "[:" ++ name ++ codes ":]") ∷ (codes "[:^" ++ name ++ codes ":]") ∷ []) class_names
 
+-- the named class that a text begins with, if it begins with one
 abbrev pub named_class_at : List ℕ → Option (List ℕ)
 named_class_at t = find (λ named. starts_with nat_eq t named) named_classes
 
+-- the piece at a `[` inside a class, given the named class that begins there, if one does
 abbrev pub bracket_piece : Option (List ℕ) → Piece
 bracket_piece None = bracket
 bracket_piece (Some named) = named_class (length named)

@@ -15,9 +15,11 @@ pub record TruthRow : Type 0 where
 abbrev pub holds_of : Condition → Option (List ℕ) → Bool
 holds_of m value = holds m.op m.value (unwrap_or value [])
 
+-- the values of the label at a position
 abbrev pub values_at : List Label → ℕ → Values
 values_at u i = unwrap_or (option_map (λ l. l.values) (slice_get u i)) []
 
+-- the truths on the values of the label at a position, or on absence alone where the label is not declared
 abbrev pub truths_of : List Label → Condition → Option ℕ → List Bool
 truths_of u m None = holds_of m None ∷ []
 truths_of u m (Some i) = map (holds_of m) (values_at u i)
@@ -26,9 +28,11 @@ truths_of u m (Some i) = map (holds_of m) (values_at u i)
 abbrev pub label_position : List Label → List ℕ → Option ℕ
 label_position u name = position (λ l. same_text l.name name) u
 
+-- the row of a matcher over the labels of a universe
 abbrev pub row_of : List Label → Condition → TruthRow
 row_of u m = record { label = label_position u m.name; truths = truths_of u m (label_position u m.name) }
 
+-- the truth at a position among those of a label; the one truth where the label is not declared
 abbrev pub truth_among : Option ℕ → List Bool → ℕ → Bool
 truth_among None truths j = slice_index_or truths 0 false
 truth_among (Some i) truths j = slice_index_or truths j false

@@ -12,6 +12,7 @@ use Rattle.am_labels.specs.Matcher.{Condition, max_matchers}
 use Rattle.am_labels.specs.MatcherText.{Spells}
 use Rattle.am_labels.specs.MatcherRefusals.{have_sound_values, RefusesText}
 
+-- the operator is `=`
 abbrev pub is_equality : Op → Bool
 is_equality Equal = true
 is_equality NotEqual = false

@@ -15,7 +15,8 @@ pub enum Kind {
     UnknownField,
     /// The text spells no list of matchers.
     BadMatcher,
-    /// A pattern outside the profile of patterns that mean the same to every engine.
+    /// A pattern outside the profile, which leaves out forms that Go's engine and the crate `regex` are known to refuse or
+    /// to read differently.
     PatternProfile,
     /// A pattern that the engine refuses.
     Pattern,

@@ -108,7 +108,8 @@ impl Matcher {
     }
 }
 
-/// Decides a matcher. It takes memory when it is made, and none for a text.
+/// Decides a matcher on one text after another. One search of the engine serves them all; it keeps its caches from one
+/// to the next, and deciding a text cannot fail.
 #[derive(Drop)]
 pub(crate) struct Test<'m> {
     matcher: &'m Matcher,

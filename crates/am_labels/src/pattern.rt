@@ -60,7 +60,8 @@ impl Pattern {
     }
 }
 
-/// Searches for a pattern. It takes memory when it is made, and none for a text.
+/// Searches for a pattern in one text after another. The engine keeps its caches from one to the next, and a search
+/// cannot fail.
 #[derive(Drop)]
 pub(crate) struct PatternMatcher<'p> {
     pattern: &'p Pattern,

@@ -25,7 +25,8 @@ impl Step {
     }
 }
 
-/// Whether nothing stands in the pattern that engines are known to read differently.
+/// Whether the pattern is of the profile. It leaves out forms that Go's engine and the crate `regex` are known to
+/// refuse or to read differently, but not all of them.
 pub(crate) fn is_in_profile(pattern: &str) -> bool
     ensures { result ≡ in_profile pattern.now }
 {

@@ -48,7 +48,8 @@ impl Row {
 
 impl Matcher {
     /// The matcher's truth on each value of its label in the universe, absence being the empty text, and on the empty text
-    /// alone where the label is not declared. Memory is taken for the row and for one search, not for each value.
+    /// alone where the label is not declared. One search serves all values: none is made anew, and the memory of the row
+    /// itself is taken at once.
     pub fn row(&self, alloc: Global, universe: &Universe) -> Result<Row, AllocError>
         ensures row { IfOk result (λ row. row ≡ row_of universe.now self.now) }
         ensures sized { IfOk result (λ row. IfSome row.label (λ i. slice_get (sizes universe.now) i ≡ Some (length row.truths))) }

@@ -43,7 +43,7 @@ fn escape_of(byte: u8) -> Option<&'static [u8]>
 
 /// Writes a text between quotes, with `\` as `\\`, `"` as `\"` and a line feed as `\n`. The only `Err` is `Kind::Write`,
 /// after a part of that from its front.
-pub fn write_text<W: Sink>(text: &str, out: &mut W) -> Result<(), Kind>
+pub fn write_text<W: Sink>(out: &mut W, text: &str) -> Result<(), Kind>
     ensures { Writes W.taken W.failures out.old out.new (quoted text.now) result }
 {
     put_all(out, b"\"")?;
@@ -103,5 +103,8 @@ fn write_pair<W: Sink>(out: &mut W, separator: &[u8], name: &str, value: &str) -
     put_all(out, separator)?;
     put_str(out, name)?;
     put_all(out, b"=")?;
-    write_text(value, out)
+    write_text(out, value)
 }
+
+#[cfg(test)]
+mod tests;
