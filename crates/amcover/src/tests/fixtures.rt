@@ -1,10 +1,10 @@
-//! The universe that most rows are about, and what asking or running it gives.
+//! The universe that most tests are about, and what asking or running it gives.
 
 use crate::ask::ask;
 use crate::files;
 use crate::run::run;
 use crate::trailer::Trailer;
-use am_labels::{Fault, Out};
+use am_labels::{Fault, Kind, Out, Place};
 use std::alloc::{AllocError, Global};
 use std::fs;
 use std::rt::Files;
@@ -135,4 +135,17 @@ pub fn text_of(bytes: Vec<u8>) -> Result<String, Fail> {
             .ok()
             .ok_or("what is written is UTF-8")?,
     )
+}
+
+pub fn fault_at(
+    alloc: Global,
+    kind: Kind,
+    place: Place,
+    pointer: &str,
+) -> Result<Fault, AllocError> {
+    Ok(Fault {
+        kind,
+        place,
+        pointer: String::from_str(alloc, pointer)?,
+    })
 }

@@ -1,13 +1,15 @@
 //! Writers that stop.
 
 use super::fakes::{Fake, Stop};
-use super::fixtures::{DB, DB_PAGE, NO_FILES, TEAMS, TWICE, line_of};
+use super::fixtures::{DB, DB_PAGE, NO_FILES, TEAMS, TWICE, fault_at, line_of};
 use crate::ask::ask;
-use crate::fault_text::status;
+use crate::fault_text::{status, write_fault};
 use crate::run::run;
-use am_labels::{Kind, Out, Place};
+use am_labels::{Fault, Kind, Out, Place};
 use std::alloc::{AllocError, Global};
 use std::fs;
+use std::fs::OpenOptions;
+use std::io::Write;
 use std::process::Abort;
 use std::rt::Files;
 use std::test::*;
@@ -75,11 +77,13 @@ fn runs_over_writers_that_stop(rt: HostRuntime) -> Result<(), Fail> {
     let path = "amcover_test_runs_over_writers.json";
     fs::write(&rt, path, TEAMS)?;
     let words = line_of(alloc, &["ask", "--universe", path, DB])?;
-    let mut whole = Fake::of_step(alloc, 7);
-    let status = run_over(&rt, words.as_slice(), &mut whole, "");
-    assert_eq!(rt; status, 0);
-    assert_eq!(rt; whole.taken.as_slice(), DB_PAGE.as_bytes());
-    stopped_runs(&rt, words.as_slice(), &whole, 7, DB_PAGE);
+    for step in [usize::MAX, 7, 1] {
+        let mut whole = Fake::of_step(alloc, step);
+        let status = run_over(&rt, words.as_slice(), &mut whole, "");
+        assert_eq!(rt; status, 0, "{step}");
+        assert_eq!(rt; whole.taken.as_slice(), DB_PAGE.as_bytes(), "{step}");
+        stopped_runs(&rt, words.as_slice(), &whole, step, DB_PAGE);
+    }
     let mut held = Fake::that_keeps_back(alloc);
     let status = run_over(&rt, words.as_slice(), &mut held, "amcover: write\n");
     assert_eq!(rt; status, 4);
@@ -167,13 +171,41 @@ fn stopped_run<R: Files + AllocGlobal + Abort>(
 fn run_over<R: Files + AllocGlobal + Abort>(
     rt: &R,
     words: &[String],
-    out: &mut Fake,
+    out: &mut (impl Write + Drop),
     says: &str,
 ) -> u8 {
     let mut err = Vec::new(rt.alloc());
     let status = run(rt, words, out, &mut err);
     assert_eq!(rt; err.as_slice(), says.as_bytes());
     status
+}
+
+#[test]
+fn run_with_room_for_five_bytes(rt: HostRuntime) -> Result<(), Fail> {
+    let alloc = rt.alloc();
+    let path = "amcover_test_room_for_five_bytes.json";
+    fs::write(&rt, path, TEAMS)?;
+    let words = line_of(alloc, &["ask", "--universe", path, DB])?;
+    let mut fake = Fake::of_room(alloc, 5);
+    let status = run_over(&rt, words.as_slice(), &mut fake, "amcover: write\n");
+    assert_eq!(rt; status, 4);
+    assert_eq!(rt; fake.taken.as_slice(), b"{team".as_slice());
+    fs::remove_file(&rt, path)?;
+    Ok(())
+}
+
+#[test]
+fn run_over_a_full_device(rt: HostRuntime) -> Result<(), Fail> {
+    let alloc = rt.alloc();
+    let path = "amcover_test_full_device.json";
+    fs::write(&rt, path, TEAMS)?;
+    let words = line_of(alloc, &["ask", "--universe", path, DB])?;
+    // It is opened for writing alone: nothing is created or cut short.
+    let mut full = OpenOptions::new().write(true).open(&rt, "/dev/full")?;
+    let status = run_over(&rt, words.as_slice(), &mut full, "amcover: write\n");
+    assert_eq!(rt; status, 4);
+    fs::remove_file(&rt, path)?;
+    Ok(())
 }
 
 #[test]
@@ -210,4 +242,39 @@ fn runs_with_no_standard_error(rt: HostRuntime) -> Result<(), Fail> {
     }
     fs::remove_file(&rt, path)?;
     Ok(())
+}
+
+/// The line for a fault at a pointer in which a `\` and a line feed stand.
+const ESCAPED: &str = "amcover: config: /a\\\\b\\nc: shape\n";
+
+#[test]
+fn lines_of_faults_over_writers_that_stop(rt: HostRuntime) -> Result<(), Fail> {
+    let alloc = rt.alloc();
+    let fault = fault_at(alloc, Kind::Shape, Place::Config, "/a\\b\nc")?;
+    for step in [usize::MAX, 1] {
+        let mut sink = Out::new(Fake::of_step(alloc, step));
+        assert!(rt; write_fault(&fault, &mut sink).is_ok(), "{step}");
+        let whole = sink.into_inner();
+        assert_eq!(rt; whole.taken.as_slice(), ESCAPED.as_bytes(), "{step}");
+        for before in 0..whole.calls {
+            for how in [Stop::Fails, Stop::TakesNothing] {
+                stopped_line(
+                    &rt,
+                    &fault,
+                    Fake::stopped(alloc, step, before + 1, how),
+                    before + 1,
+                );
+            }
+        }
+    }
+    Ok(())
+}
+
+/// Writes the fault's line over a writer that stops at this call: it is the last, and a part of the line went out.
+fn stopped_line(rt: &impl Abort, fault: &Fault, fake: Fake, call: usize) {
+    let mut sink = Out::new(fake);
+    assert_eq!(rt; write_fault(fault, &mut sink), Err(Kind::Write), "{call}");
+    let fake = sink.into_inner();
+    assert!(rt; fake.has_part_of(ESCAPED), "{call}");
+    assert_eq!(rt; fake.calls, call);
 }
