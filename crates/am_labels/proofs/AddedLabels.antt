@@ -10,7 +10,7 @@ use Rattle.am_labels.specs.declared.label_fault.LabelPart.{LabelPart}
 use Rattle.am_labels.specs.declared.label_fault.LabelPart.TheVariants as parts
 use Rattle.std.specs.List.{AllByRecursion, IsDistinct, list_any}
 use Rattle.am_labels.specs.Text.{same_text}
-use Rattle.am_labels.specs.Universe.{Label, Values, IsLabel, IsUniverse, names, sizes, max_values, is_label_name, same_value, is_empty_text, name_fault, count_fault, value_fault, values_fault, label_values_fault, label_fault, first_fault, fault_at}
+use Rattle.am_labels.specs.Universe.{Label, Values, IsLabel, IsUniverse, names, is_label_name, same_value, is_empty_text, name_fault, count_fault, value_fault, values_fault, label_values_fault, label_fault, first_fault, fault_at}
 
 -- ---- Distinct items, with one more.
 
@@ -240,9 +240,3 @@ none_of_memory u l fault h memory =
 
 pub faults_are_exact : (u : List Label) (label : Label) → IsUniverse u → label_fault u label ≡ None ↔ IsUniverse (u ++ label ∷ [])
 faults_are_exact u label h = (added_is_universe u label h, universe_was_added u label)
-
--- ---- The sizes of a universe.
-
-pub sizes_bounded : (u : List Label) → AllByRecursion IsLabel u → AllByRecursion (λ size. (0 < size) × (size ≤ max_values)) (sizes u)
-sizes_bounded [] h = tt
-sizes_bounded (l ∷ u) h = ((h.0.some_value, h.0.at_most), sizes_bounded u h.1)
