@@ -1,51 +1,108 @@
 //! What `ask` and `run` answer on refused input, and how a fault is written.
 
 use super::fixtures::{
-    DB, DB_PAGE, NO_FILES, TEAMS, TWICE, answer_to, answer_with, fault_at, run_on_file,
+    DB, DB_PAGE, NO_FILES, ROUTES, TEAMS, TWICE, answer_to, answer_with, fault_at, run_on_file,
     run_on_files, run_words, text_of,
 };
-use super::pages::{labels_of, matchers_of};
+use super::pages::{labels_of, matchers_of, values_of};
 use crate::fault_text::{status, write_fault};
 use crate::files;
 use am_labels::{Fault, Kind, Out, Place};
-use std::alloc::Global;
+use std::alloc::{AllocError, Global};
 use std::fs;
 use std::process::Abort;
 use std::test::*;
 
 /// A universe file, and its first fault: the kind and the pointer.
-const UNIVERSES: [(&str, Kind, &str); 5] = [
+const UNIVERSES: [(&str, Kind, &str); 16] = [
+    ("", Kind::NotJson, ""),
     (
         "{\"labels\":[{\"name\":\"team\",\"values\":[\"db\",\"web\",null]},{\"name\":\"sev",
         Kind::NotJson,
         "",
     ),
+    ("{}", Kind::Shape, "/labels"),
     (
         "{\"labels\":[{\"name\":7,\"values\":[\"a\"]}]}",
         Kind::Shape,
         "/labels/0/name",
     ),
     (
+        "{\"labels\":[{\"name\":\"m\",\"values\":{}}]}",
+        Kind::Shape,
+        "/labels/0/values",
+    ),
+    (
+        "{\"labels\":[{\"name\":\"m\",\"values\":[5]}]}",
+        Kind::Shape,
+        "/labels/0/values/0",
+    ),
+    (
+        "{\"labels\":[{\"name\":\"9x\",\"values\":[\"a\"]}]}",
+        Kind::Shape,
+        "/labels/0/name",
+    ),
+    ("{\"labels\":[],\"extra\":1}", Kind::UnknownField, "/extra"),
+    (
         "{\"labels\":[{\"name\":\"m\",\"values\":[\"a\"],\"value\":\"a\"}]}",
         Kind::UnknownField,
         "/labels/0/value",
+    ),
+    (
+        "{\"labels\":[{\"name\":\"\",\"values\":[\"a\"]}]}",
+        Kind::Empty,
+        "/labels/0/name",
     ),
     (
         "{\"labels\":[{\"name\":\"m\",\"values\":[]}]}",
         Kind::Empty,
         "/labels/0/values",
     ),
+    (
+        "{\"labels\":[{\"name\":\"m\",\"values\":[\"\"]}]}",
+        Kind::Empty,
+        "/labels/0/values/0",
+    ),
     (TWICE, Kind::Duplicate, "/labels/0/values/1"),
+    (
+        "{\"labels\":[{\"name\":\"m\",\"values\":[null,\"a\",null]}]}",
+        Kind::Duplicate,
+        "/labels/0/values/2",
+    ),
+    (
+        "{\"labels\":[{\"name\":\"m\",\"values\":[\"a\"]},{\"name\":\"m\",\"values\":[\"b\"]}]}",
+        Kind::Duplicate,
+        "/labels/1/name",
+    ),
+    ("7", Kind::Shape, ""),
 ];
 
 #[test]
 fn faults_of_universes(rt: HostRuntime) -> Result<(), Fail> {
-    let alloc = rt.alloc();
     for (universe, kind, pointer) in UNIVERSES {
-        refused(&rt, alloc, universe.as_bytes(), kind, pointer)?;
+        refused(&rt, rt.alloc(), universe.as_bytes(), kind, pointer)?;
     }
+    Ok(())
+}
+
+#[test]
+fn faults_of_made_universes(rt: HostRuntime) -> Result<(), Fail> {
+    let alloc = rt.alloc();
+    let deep = nested(alloc, 128)?;
+    let nested = nested(alloc, 127)?;
     let labels = labels_of(alloc, 65)?;
-    refused(&rt, alloc, labels.as_bytes(), Kind::Limit, "/labels")
+    let values = values_of(alloc, 129)?;
+    refused(&rt, alloc, b"\xff", Kind::NotJson, "")?;
+    refused(&rt, alloc, deep.as_bytes(), Kind::NotJson, "")?;
+    refused(&rt, alloc, nested.as_bytes(), Kind::Shape, "")?;
+    refused(&rt, alloc, labels.as_bytes(), Kind::Limit, "/labels")?;
+    refused(
+        &rt,
+        alloc,
+        values.as_bytes(),
+        Kind::Limit,
+        "/labels/0/values",
+    )
 }
 
 /// The universe is refused for this kind of fault at this pointer, whatever stands behind it, and nothing is written.
@@ -223,28 +280,6 @@ const CONFIG_LINES: [(&str, &str); 4] = [
 ];
 
 #[test]
-fn universe_files_of_the_most_bytes(rt: HostRuntime) -> Result<(), Fail> {
-    let alloc = rt.alloc();
-    let path = "amcover_test_universe_files_of_the_most_bytes.json";
-    let spaces = " ".repeat(alloc, 16_777_216 - TEAMS.len())?;
-    let mut text = String::from_str(alloc, TEAMS)?;
-    text.push_str(spaces.as_str())?;
-    for (bytes, status, out, err) in [
-        (16_777_216, 0, DB_PAGE, ""),
-        (16_777_217, 1, "", "amcover: universe: limit\n"),
-        (16_777_218, 1, "", "amcover: universe: limit\n"),
-    ] {
-        assert_eq!(rt; text.len(), bytes);
-        let ran = run_on_file(&rt, path, text.as_str(), DB)?;
-        assert_eq!(rt; ran.status, status, "{bytes}");
-        assert_eq!(rt; ran.out.as_str(), out, "{bytes}");
-        assert_eq!(rt; ran.err.as_str(), err, "{bytes}");
-        text.push(' ')?;
-    }
-    Ok(())
-}
-
-#[test]
 fn faults_of_runs_with_configurations(rt: HostRuntime) -> Result<(), Fail> {
     let paths = (
         "amcover_test_faults_universe.json",
@@ -265,6 +300,49 @@ fn faults_of_runs_with_configurations(rt: HostRuntime) -> Result<(), Fail> {
         );
     }
     Ok(())
+}
+
+#[test]
+fn files_of_the_most_bytes(rt: HostRuntime) -> Result<(), Fail> {
+    let alloc = rt.alloc();
+    let paths = (
+        "amcover_test_universe_of_the_most_bytes.json",
+        "amcover_test_config_of_the_most_bytes.json",
+    );
+    let mut universe = filled(alloc, TEAMS)?;
+    let mut config = filled(alloc, ROUTES)?;
+    assert_eq!(rt; (universe.len(), config.len()), (16_777_216, 16_777_216));
+    let ran = run_on_files(&rt, paths, universe.as_str(), config.as_str(), DB)?;
+    assert_eq!(rt; ran.err.as_str(), "");
+    assert_eq!(rt; ran.out.as_str(), DB_PAGE);
+    assert_eq!(rt; ran.status, 0);
+    for bytes in [16_777_217, 16_777_218] {
+        universe.push(' ')?;
+        config.push(' ')?;
+        assert_eq!(rt; (universe.len(), config.len()), (bytes, bytes));
+        for (universe, config, err) in [
+            (
+                universe.as_str(),
+                config.as_str(),
+                "amcover: universe: limit\n",
+            ),
+            (TEAMS, config.as_str(), "amcover: config: limit\n"),
+        ] {
+            let ran = run_on_files(&rt, paths, universe, config, DB)?;
+            assert_eq!(rt; ran.err.as_str(), err, "{bytes}");
+            assert_eq!(rt; ran.out.as_str(), "", "{bytes}");
+            assert_eq!(rt; ran.status, 1, "{bytes}");
+        }
+    }
+    Ok(())
+}
+
+/// The text with spaces behind it, as long as a file may be.
+fn filled(alloc: Global, text: &str) -> Result<String, AllocError> {
+    let mut filled = String::from_str(alloc, text)?;
+    let spaces = " ".repeat(alloc, 16_777_216_usize.saturating_sub(text.len()))?;
+    filled.push_str(spaces.as_str())?;
+    Ok(filled)
 }
 
 #[test]
@@ -345,4 +423,11 @@ fn statuses_of_faults(rt: HostRuntime) {
         let fault = Fault::of(rt.alloc(), kind, Place::Output);
         assert_eq!(rt; status(&fault), number);
     }
+}
+
+/// So many arrays in one another.
+fn nested(alloc: Global, levels: usize) -> Result<String, AllocError> {
+    let opening = "[".repeat(alloc, levels)?;
+    let closing = "]".repeat(alloc, levels)?;
+    format!(in alloc; "{opening}{closing}")
 }

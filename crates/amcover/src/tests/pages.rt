@@ -160,7 +160,7 @@ pub fn labels_of(alloc: Global, count: usize) -> Result<String, AllocError> {
 }
 
 /// A universe file of a label with so many values.
-fn values_of(alloc: Global, count: usize) -> Result<String, AllocError> {
+pub fn values_of(alloc: Global, count: usize) -> Result<String, AllocError> {
     let mut text = String::from_str(alloc, "{\"labels\":[{\"name\":\"m\",\"values\":[")?;
     for i in 0..count {
         let comma = if i > 0 { "," } else { "" };
