@@ -1,9 +1,12 @@
+ghost use Rattle.std.specs.Prelude.{◌≡◌};
+ghost use Rattle.amcover.specs.FaultText.{status_of};
+
 use crate::ask::ask;
 use crate::command_line::{Request, read_words};
 use crate::fault_text::{status, write_fault};
 use crate::files;
 use crate::read_file::read_file;
-use am_labels::{Fault, Kind, Out, Place};
+use am_labels::{Fault, Kind, Out, Place, put_all};
 use clap::Error;
 use clap::error::ErrorKind;
 use std::alloc::Global;
@@ -32,12 +35,22 @@ pub fn run<R: Files + AllocGlobal, W: Write + Drop, E: Write + Drop>(
     };
     match outcome {
         Ok(status) => status,
-        Err(fault) => {
-            // Nothing can be said of a failure to say what failed.
-            let _ = write_fault(&fault, &mut Out::new(err));
-            status(&fault)
-        }
+        Err(fault) => report(rt.alloc(), &fault, err),
     }
+}
+
+/// Writes the line for a fault on `err`, in one write where there is memory for the line and `err` takes it whole.
+/// The answer is the exit status.
+pub fn report<E: Write>(alloc: Global, fault: &Fault, err: &mut E) -> u8
+    ensures { result ≡ status_of fault.now.kind }
+{
+    let mut line = Out::new(Vec::new(alloc));
+    // Nothing can be said of a failure to say what failed.
+    let _ = match write_fault(fault, &mut line) {
+        Ok(()) => put_all(&mut Out::new(err), line.into_inner().as_slice()),
+        Err(_) => write_fault(fault, &mut Out::new(err)),
+    };
+    status(fault)
 }
 
 /// Reads the files that the request names, and does what it asks for.

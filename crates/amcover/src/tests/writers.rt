@@ -244,6 +244,32 @@ fn runs_with_no_standard_error(rt: HostRuntime) -> Result<(), Fail> {
     Ok(())
 }
 
+/// The line for the fault of `TWICE`.
+const TWICE_LINE: &str = "amcover: universe: /labels/0/values/1: duplicate\n";
+
+#[test]
+fn a_fault_is_one_write(rt: HostRuntime) -> Result<(), Fail> {
+    let alloc = rt.alloc();
+    let path = "amcover_test_a_fault_is_one_write.json";
+    fs::write(&rt, path, TWICE)?;
+    let words = line_of(alloc, &["ask", "--universe", path, DB])?;
+    for step in [usize::MAX, 7, 1] {
+        let mut out = Fake::of_room(alloc, 0);
+        let mut err = Fake::of_step(alloc, step);
+        assert_eq!(rt; run(&rt, words.as_slice(), &mut out, &mut err), 1, "{step}");
+        assert_eq!(rt; err.taken.as_slice(), TWICE_LINE.as_bytes(), "{step}");
+        assert_eq!(rt; err.calls, TWICE_LINE.len().div_ceil(step));
+        for before in 0..err.calls {
+            let mut stopped = Fake::stopped(alloc, step, before + 1, Stop::Fails);
+            assert_eq!(rt; run(&rt, words.as_slice(), &mut out, &mut stopped), 1);
+            assert_eq!(rt; stopped.calls, before + 1, "{step}");
+            assert!(rt; stopped.has_part_of(TWICE_LINE), "{step}");
+        }
+    }
+    fs::remove_file(&rt, path)?;
+    Ok(())
+}
+
 /// The line for a fault at a pointer in which a `\` and a line feed stand.
 const ESCAPED: &str = "amcover: config: /a\\\\b\\nc: shape\n";
 
