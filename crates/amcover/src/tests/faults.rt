@@ -303,7 +303,26 @@ fn faults_of_runs_with_configurations(rt: HostRuntime) -> Result<(), Fail> {
 }
 
 #[test]
-fn files_of_the_most_bytes(rt: HostRuntime) -> Result<(), Fail> {
+fn universe_files_of_the_most_bytes(rt: HostRuntime) -> Result<(), Fail> {
+    let path = "amcover_test_universe_files_of_the_most_bytes.json";
+    let mut text = filled(rt.alloc(), TEAMS)?;
+    for (bytes, status, out, err) in [
+        (16_777_216, 0, DB_PAGE, ""),
+        (16_777_217, 1, "", "amcover: universe: limit\n"),
+        (16_777_218, 1, "", "amcover: universe: limit\n"),
+    ] {
+        assert_eq!(rt; text.len(), bytes);
+        let ran = run_on_file(&rt, path, text.as_str(), DB)?;
+        assert_eq!(rt; ran.status, status, "{bytes}");
+        assert_eq!(rt; ran.out.as_str(), out, "{bytes}");
+        assert_eq!(rt; ran.err.as_str(), err, "{bytes}");
+        text.push(' ')?;
+    }
+    Ok(())
+}
+
+#[test]
+fn two_files_of_the_most_bytes(rt: HostRuntime) -> Result<(), Fail> {
     let alloc = rt.alloc();
     let paths = (
         "amcover_test_universe_of_the_most_bytes.json",
