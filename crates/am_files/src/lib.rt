@@ -18,10 +18,3 @@ pub use config::Config;
 pub use config_file::read_config;
 pub use route::Route;
 pub use universe::read_universe;
-
-#[cfg(test)]
-mod config_tests;
-#[cfg(test)]
-mod test_texts;
-#[cfg(test)]
-mod universe_tests;

@@ -1,0 +1,16 @@
+-- What is found with no prefix are the answers.
+use Rattle.am_labels.specs.Universe.{sizes}
+use Rattle.am_commands.specs.Question.{is_answer}
+use Rattle.am_commands.proofs.Found.{found_of_all, found_are_whole}
+use Rattle.am_commands.proofs.answers.answers_of.Goals as goal
+
+pub returns-clause-answers : goal.returns-clause-answers
+returns-clause-answers c =
+    let u = c.args.universe.now in
+    found_of_all (sizes u) (is_answer u c.args.question.now) c.new-found.result.items c.add_answers.new.found.items c.empty.result
+    c.new-found.ensures.items c.empty.ensures c.in_ok-add_answers.ensures
+
+pub returns-clause-whole : goal.returns-clause-whole
+returns-clause-whole c =
+    let u = c.args.universe.now in
+    found_are_whole (sizes u) (is_answer u c.args.question.now) c.add_answers.new.found.items (returns-clause-answers c)

@@ -1,0 +1,5 @@
+use Rattle.std.proofs.Common.{◌≤◌, vec_len}
+use Rattle.am_commands.proofs.read_file.read_file.Given as goal
+
+abbrev pub invariant-loop : goal.invariant-loop
+invariant-loop g l = vec_len l.bytes ≤ 16777217

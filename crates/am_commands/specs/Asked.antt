@@ -1,0 +1,45 @@
+-- What a call of `ask` is asked, and which fault of it comes first.
+use Rattle.std.specs.Prelude.{◌≡◌, ℕ, List, [], Some}
+use Rattle.am_labels.specs.declared.place.Place.{Place}
+use Rattle.am_labels.specs.declared.place.Place.TheVariants as places
+use Rattle.am_labels.specs.Universe.{Label}
+use Rattle.am_files.specs.Pointer.{Refusal}
+use Rattle.am_files.specs.UniverseFile.{FileSaysUniverse, fault_of_universe_file}
+use Rattle.am_files.specs.ConfigFile.{Configuration, FileSaysConfig}
+use Rattle.am_files.specs.ConfigReading.{config_file}
+use Rattle.am_files.specs.Judged as judged
+use Rattle.am_commands.specs.Question.{Question}
+use Rattle.am_commands.specs.QuestionText.{Reads, Refuses}
+
+-- the inputs of a call: the bytes of the universe file and of the configuration file, and the text of the question
+pub record Inputs : Type 0 where
+  pub universe : List ℕ
+  pub config : List ℕ
+  pub question : List ℕ
+
+-- the universe file says a universe
+abbrev pub HasUniverse : Inputs → Type 0
+HasUniverse inputs = (universe : List Label) × FileSaysUniverse inputs.universe universe
+
+-- the configuration file says a configuration
+abbrev pub HasConfig : Inputs → Type 0
+HasConfig inputs = (configuration : Configuration) × FileSaysConfig inputs.config configuration
+
+-- the inputs are accepted: the files say the universe and a configuration, and the text is read as the question
+pub record Accepts (inputs : Inputs) (universe : List Label) (question : Question) : Type 0 where
+  pub says_universe : FileSaysUniverse inputs.universe universe
+  pub says_config : HasConfig inputs
+  pub reads : Reads inputs.question question
+
+-- the text of the question is refused for this cause, which stands at no part of a file
+pub record RefusesQuestion (text : List ℕ) (refusal : Refusal) : Type 0 where
+  pub refused : Refuses text refusal.kind
+  pub at_no_part : refusal.pointer ≡ []
+
+-- The first fault of the inputs, want of memory apart: the universe file comes before the configuration file, and both
+-- before the question.
+abbrev pub IsFirstFault : Inputs → Place → Refusal → Type 0
+IsFirstFault inputs places.Universe r = fault_of_universe_file inputs.universe ≡ Some r
+IsFirstFault inputs places.Config r = HasUniverse inputs × judged.Refuses (config_file inputs.config) r
+IsFirstFault inputs places.Question r = HasUniverse inputs × HasConfig inputs × RefusesQuestion inputs.question r
+IsFirstFault inputs _ r = ⊥

@@ -1,0 +1,61 @@
+ghost use Rattle.std.specs.Prelude.{◌≡◌, ◌≢◌, [], IfOk, IfErr, string_bytes};
+ghost use Rattle.am_labels.specs.declared.kind.Kind.TheVariants as kinds;
+ghost use Rattle.am_labels.specs.declared.place.Place.TheVariants as places;
+ghost use Rattle.am_files.specs.Reading.{refusal_of};
+ghost use Rattle.am_commands.specs.Asked.{IsFirstFault};
+ghost use Rattle.am_commands.specs.Asking.{WroteAnswers, WroteAnswersInPart};
+ghost use Rattle.am_commands.specs.Files.{inputs_of};
+
+use crate::answers::answers_of;
+use crate::files::Files;
+use crate::inputs::{Accepted, read_inputs};
+use crate::page::write_page;
+use crate::trailer::Trailer;
+use am_labels::{Fault, Kind, Place, Sink};
+use std::alloc::Global;
+
+/// Writes the label sets of the universe that satisfy the question, each once and in declared order, a line for each, and
+/// then the trailer.
+///
+/// `universe` is a universe file, `files` has the configuration file, if there is one, and `question` is a matcher list in
+/// braces. The configuration is read and checked, though no question speaks of it yet. All input is read and all answers
+/// are found before the first byte is written.
+///
+/// The first fault is the one answered: a fault of the universe file, at `Universe`, as `read_universe` has it; of the
+/// configuration file, at `Config`, as `read_config` has it; of the question, as `read_question` has it, at `Question` and
+/// with no pointer; `Memory`, at `Memory`, only where memory was refused; `Write`, at `Output`. After any but the last the
+/// sink is as it was.
+pub fn ask<W: Sink>(
+    alloc: Global,
+    universe: &[u8],
+    files: &Files<'_>,
+    question: &str,
+    out: &mut W,
+) -> Result<Trailer, Fault>
+    // The lines are exactly the label sets that satisfy the question.
+    ensures answered { IfOk result (λ trailer. WroteAnswers W.taken W.failures out.old out.new
+        (inputs_of universe.now files.now question.now) trailer) }
+
+    // No other fault of the inputs comes before the one that is answered, and the pointer is that of the part at fault.
+    ensures first { IfErr result (λ fault. fault.kind ≢ kinds.Write → fault.kind ≢ kinds.Memory
+        → IsFirstFault (inputs_of universe.now files.now question.now) fault.place (refusal_of fault)) }
+    ensures memory { IfErr result (λ fault. fault.kind ≡ kinds.Memory
+        → (fault.place ≡ places.Memory) × (string_bytes fault.pointer ≡ [])) }
+    ensures write { IfErr result (λ fault. fault.kind ≡ kinds.Write
+        → (fault.place ≡ places.Output) × (string_bytes fault.pointer ≡ [])
+        × WroteAnswersInPart W.taken W.failures out.old out.new (inputs_of universe.now files.now question.now)) }
+
+    // Nothing is written after a refusal.
+    ensures untouched { IfErr result (λ fault. fault.kind ≢ kinds.Write → out.new ≡ out.old) }
+{
+    let Accepted { universe, question } = read_inputs(alloc, universe, files, question)?;
+    let answers = match answers_of(alloc, &universe, &question) {
+        Ok(answers) => answers,
+        Err(_) => return Err(Fault::of(alloc, Kind::Memory, Place::Memory)),
+    };
+    let trailer = Trailer::End;
+    match write_page(&universe, answers.as_slice(), trailer, out) {
+        Ok(()) => Ok(trailer),
+        Err(kind) => Err(Fault::of(alloc, kind, Place::Output)),
+    }
+}

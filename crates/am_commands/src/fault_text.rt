@@ -1,0 +1,90 @@
+ghost use Rattle.std.specs.Prelude.{◌≡◌, string_bytes};
+ghost use Rattle.std.specs.List.{flat_map};
+ghost use Rattle.am_labels.specs.Sink.{Writes};
+ghost use Rattle.am_commands.specs.FaultText.{place_text, fault_text, is_placeless, where_part, pointer_part, escaped_in_pointer, status_of};
+
+use am_labels::{Fault, Kind, Place, Sink, put_all, put_str};
+
+/// Writes the line for a fault, as `amcover: universe: /labels/0/name: shape`.
+///
+/// The only `Err` is `Kind::Write`. No memory is taken.
+pub fn write_fault<W: Sink>(fault: &Fault, out: &mut W) -> Result<(), Kind>
+    ensures { Writes W.taken W.failures out.old out.new (fault_text fault.now.kind fault.now.place (string_bytes fault.now.pointer)) result }
+{
+    put_all(out, b"amcover: ")?;
+    write_where(fault, out)?;
+    put_str(out, fault.kind.text())?;
+    put_all(out, b"\n")
+}
+
+/// Writes where a fault stands, and nothing for a fault of writing or of memory.
+fn write_where<W: Sink>(fault: &Fault, out: &mut W) -> Result<(), Kind>
+    ensures { Writes W.taken W.failures out.old out.new (where_part fault.now.kind fault.now.place (string_bytes fault.now.pointer)) result }
+{
+    if is_placeless(fault.kind) {
+        return Ok(());
+    }
+    put_str(out, name_of(fault.place))?;
+    put_all(out, b": ")?;
+    write_pointer(fault.pointer.as_str(), out)
+}
+
+/// Whether a fault stands at no part of the input.
+fn is_placeless(kind: Kind) -> bool
+    ensures { result ≡ is_placeless kind }
+{
+    matches!(kind, Kind::Write | Kind::Memory)
+}
+
+/// Writes a pointer and what separates it from the text of the kind, and nothing for the empty pointer.
+fn write_pointer<W: Sink>(pointer: &str, out: &mut W) -> Result<(), Kind>
+    ensures { Writes W.taken W.failures out.old out.new (pointer_part pointer.now) result }
+{
+    if pointer.is_empty() {
+        return Ok(());
+    }
+    for byte in pointer.as_bytes() {
+        write_byte(*byte, out)?;
+    }
+    put_all(out, b": ")
+}
+
+/// Writes a byte of a pointer, so that the pointer stays on one line.
+fn write_byte<W: Sink>(byte: u8, out: &mut W) -> Result<(), Kind>
+    ensures { Writes W.taken W.failures out.old out.new (escaped_in_pointer byte) result }
+{
+    match byte {
+        b'\\' => put_all(out, b"\\\\"),
+        b'\n' => put_all(out, b"\\n"),
+        _ => put_all(out, &[byte]),
+    }
+}
+
+fn name_of(place: Place) -> &'static str
+    ensures { result.now ≡ place_text place }
+{
+    match place {
+        Place::Universe => "universe",
+        Place::Config => "config",
+        Place::Silences => "silences",
+        Place::Alerts => "alerts",
+        Place::Instant => "instant",
+        Place::Question => "question",
+        Place::Set => "set",
+        Place::Token => "token",
+        Place::Output => "output",
+        Place::Memory => "memory",
+    }
+}
+
+/// The exit status of the program after a fault: 4 where writing failed, 3 where memory was refused,
+/// 1 where input was refused.
+pub fn status(fault: &Fault) -> u8
+    ensures { result ≡ status_of fault.now.kind }
+{
+    match fault.kind {
+        Kind::Write => 4,
+        Kind::Memory => 3,
+        _ => 1,
+    }
+}

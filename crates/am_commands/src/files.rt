@@ -1,0 +1,25 @@
+ghost use Rattle.std.specs.Prelude.{◌≡◌};
+ghost use Rattle.am_commands.specs.Files.{config_of};
+
+/// The input files beside the universe, each as its bytes, as far as they are handed in.
+#[derive(Clone, Copy)]
+pub struct Files<'a> {
+    /// The configuration.
+    pub config: Option<&'a [u8]>,
+}
+
+/// What stands for a configuration that is not handed in: one receiver and the top-level route alone.
+const STAND_IN_CONFIG: &[u8] =
+    b"{\"receivers\":[{\"name\":\"none\"}],\"route\":{\"receiver\":\"none\"}}";
+
+impl<'a> Files<'a> {
+    /// The bytes of the configuration, or of what stands in for it.
+    pub fn config(&self) -> &'a [u8]
+        ensures { result.now ≡ config_of self.now }
+    {
+        match self.config {
+            Some(bytes) => bytes,
+            None => STAND_IN_CONFIG,
+        }
+    }
+}

@@ -1,0 +1,58 @@
+ghost use Rattle.std.specs.Prelude.{◌≡◌, ◌≢◌, [], IfOk, IfErr, string_bytes};
+ghost use Rattle.am_labels.specs.declared.kind.Kind.TheVariants as kinds;
+ghost use Rattle.am_labels.specs.declared.place.Place.TheVariants as places;
+ghost use Rattle.am_files.specs.Reading.{refusal_of};
+ghost use Rattle.am_commands.specs.Asked.{Accepts, IsFirstFault};
+ghost use Rattle.am_commands.specs.Files.{inputs_of};
+
+use crate::files::Files;
+use crate::question::read_question;
+use am_files::{read_config, read_universe};
+use am_labels::{Fault, Kind, Matchers, Place, Universe};
+use std::alloc::Global;
+
+/// What the inputs of a call say, where they are accepted.
+#[derive(Drop)]
+pub struct Accepted {
+    pub universe: Universe,
+    pub question: Matchers,
+}
+
+/// Reads the inputs of a call: the universe file, then the configuration file, then the question. The first fault is the
+/// one answered, at `Universe`, `Config` or `Question`; or `Memory`, at `Memory`, only where memory was refused.
+pub fn read_inputs(
+    alloc: Global,
+    universe: &[u8],
+    files: &Files<'_>,
+    question: &str,
+) -> Result<Accepted, Fault>
+    ensures accepts { IfOk result (λ accepted. Accepts (inputs_of universe.now files.now question.now) accepted.universe accepted.question) }
+    ensures first { IfErr result (λ fault. fault.kind ≢ kinds.Memory
+        → IsFirstFault (inputs_of universe.now files.now question.now) fault.place (refusal_of fault)) }
+    ensures memory { IfErr result (λ fault. fault.kind ≡ kinds.Memory
+        → (fault.place ≡ places.Memory) × (string_bytes fault.pointer ≡ [])) }
+    ensures no_write { IfErr result (λ fault. fault.kind ≢ kinds.Write) }
+{
+    let universe = read_universe(alloc, universe)?;
+    // No question speaks of the configuration yet, but a file that is handed in has to be one.
+    read_config(alloc, files.config())?;
+    match read_question(alloc, question) {
+        Ok(question) => Ok(Accepted { universe, question }),
+        Err(kind) => Err(question_fault(alloc, kind)),
+    }
+}
+
+/// Where a fault of reading the question stands: want of memory is none of the question's.
+fn question_fault(alloc: Global, kind: Kind) -> Fault
+    ensures kind { result.kind ≡ kind }
+    ensures memory { kind ≡ kinds.Memory → result.place ≡ places.Memory }
+    ensures place { kind ≢ kinds.Memory → result.place ≡ places.Question }
+    ensures pointer { string_bytes result.pointer ≡ [] }
+{
+    let place = if kind == Kind::Memory {
+        Place::Memory
+    } else {
+        Place::Question
+    };
+    Fault::of(alloc, kind, place)
+}

@@ -1,0 +1,27 @@
+//! The commands of `amcover`, as functions over bytes and a [`Sink`](am_labels::Sink), and the program's run over them.
+//!
+//! [`ask`] writes the label sets of a universe that satisfy a question. [`run`] reads a command line and the files
+//! that it names, calls the command and answers the exit status; the program `amcover` is that call and no more.
+#![tactic(auto)]
+
+// What goes in.
+mod files;
+mod inputs;
+mod question;
+// What is answered, and how it is written.
+mod answers;
+mod fault_text;
+mod page;
+mod trailer;
+// The commands.
+mod asking;
+// The program's run.
+mod command_line;
+mod program;
+mod read_file;
+
+pub use asking::ask;
+pub use fault_text::{status, write_fault};
+pub use files::Files;
+pub use program::{refuse_arguments, run};
+pub use trailer::Trailer;

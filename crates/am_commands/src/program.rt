@@ -1,0 +1,147 @@
+ghost use Rattle.std.specs.Prelude.{◌≡◌};
+ghost use Rattle.am_commands.specs.FaultText.{status_of};
+
+use crate::asking::ask;
+use crate::command_line::{Request, read_words};
+use crate::fault_text::{status, write_fault};
+use crate::files;
+use crate::read_file::read_file;
+use am_labels::{Fault, Kind, Out, Place, put_all};
+use clap::Error;
+use clap::error::ErrorKind;
+use std::alloc::Global;
+use std::io;
+use std::io::{BufWriter, Write};
+use std::rt::Files;
+
+const DONE: u8 = 0;
+
+/// The exit status of a usage fault.
+const USAGE: u8 = 2;
+
+/// How many bytes of output are held back before they go out.
+const BUFFER: usize = 65536;
+
+/// Runs the program: `words` are its command line, the program's name first. Answers go to `out`, and a fault is
+/// one line on `err`. The answer is the exit status: 0 done, 1 refused input, 2 usage, 3 memory, 4 writing failed.
+pub fn run<R: Files + AllocGlobal, W: Write + Drop, E: Write + Drop>(
+    rt: &R,
+    words: &[String],
+    out: &mut W,
+    err: &mut E,
+) -> u8 {
+    let outcome = match read_words(rt.alloc(), words) {
+        Ok(request) => serve(rt, request, out),
+        Err(error) => show(rt.alloc(), &error, out, err),
+    };
+    match outcome {
+        Ok(status) => status,
+        Err(fault) => report(rt.alloc(), &fault, err),
+    }
+}
+
+/// Says on `err` why the words of a command line could not be had: memory was refused, or they are no text (UTF-8).
+/// The answer is the exit status.
+pub fn refuse_arguments<E: Write>(error: &io::Error, alloc: Global, err: &mut E) -> u8 {
+    if error.kind() == io::ErrorKind::OutOfMemory {
+        return report(alloc, &Fault::of(alloc, Kind::Memory, Place::Memory), err);
+    }
+    let _ = writeln!(err, "error: the command line is not UTF-8");
+    USAGE
+}
+
+/// Writes the line for a fault on `err`, in one write where there is memory for the line and `err` takes it whole.
+/// The answer is the exit status.
+fn report<E: Write>(alloc: Global, fault: &Fault, err: &mut E) -> u8
+    ensures { result ≡ status_of fault.now.kind }
+{
+    let mut line = Out::new(Vec::new(alloc));
+    // Nothing can be said of a failure to say what failed.
+    let _ = match write_fault(fault, &mut line) {
+        Ok(()) => put_all(&mut Out::new(err), line.into_inner().as_slice()),
+        Err(_) => write_fault(fault, &mut Out::new(err)),
+    };
+    status(fault)
+}
+
+/// Reads the files that the request names, and does what it asks for.
+fn serve<R: Files + AllocGlobal, W: Write + Drop>(
+    rt: &R,
+    request: Request<'_>,
+    out: &mut W,
+) -> Result<u8, Fault> {
+    let Request::Ask {
+        universe,
+        config,
+        question,
+    } = request;
+    let universe = read_input(rt, universe, Place::Universe)?;
+    let config = match config {
+        Some(path) => Some(read_input(rt, path, Place::Config)?),
+        None => None,
+    };
+    let files = files::Files {
+        config: config.as_ref().map(|bytes| bytes.as_slice()),
+    };
+    ask_buffered(rt.alloc(), universe.as_slice(), &files, question, out)
+}
+
+/// Asks over a buffer of the output, which is flushed after the page.
+fn ask_buffered<W: Write + Drop>(
+    alloc: Global,
+    universe: &[u8],
+    files: &files::Files<'_>,
+    question: &str,
+    out: &mut W,
+) -> Result<u8, Fault> {
+    let buffered = match BufWriter::with_capacity(alloc, BUFFER, out) {
+        Ok(buffered) => buffered,
+        Err(_) => return Err(Fault::of(alloc, Kind::Memory, Place::Memory)),
+    };
+    let mut sink = Out::new(buffered);
+    let outcome = ask(alloc, universe, files, question, &mut sink);
+    let mut buffered = sink.into_inner();
+    let flushed = match &outcome {
+        Ok(_) => buffered.flush().is_ok(),
+        Err(_) => true,
+    };
+    // What is left in the buffer after a failure is not tried again, as dropping the buffer would.
+    let _ = buffered.into_parts();
+    outcome?;
+    if flushed {
+        Ok(DONE)
+    } else {
+        Err(Fault::of(alloc, Kind::Write, Place::Output))
+    }
+}
+
+/// The bytes of an input file. A file that cannot be read is a fault at its place; want of memory is one at `Memory`.
+fn read_input<R: Files + AllocGlobal>(rt: &R, path: &str, place: Place) -> Result<Vec<u8>, Fault> {
+    match read_file(rt, path) {
+        Ok(bytes) => Ok(bytes),
+        Err(Kind::Memory) => Err(Fault::of(rt.alloc(), Kind::Memory, Place::Memory)),
+        Err(kind) => Err(Fault::of(rt.alloc(), kind, place)),
+    }
+}
+
+/// Shows what the reader of the command line has to say: help and the version on `out`, a usage fault on `err`.
+fn show<W: Write, E: Write>(
+    alloc: Global,
+    error: &Error,
+    out: &mut W,
+    err: &mut E,
+) -> Result<u8, Fault> {
+    if error.kind() == ErrorKind::OutOfMemory {
+        return Err(Fault::of(alloc, Kind::Memory, Place::Memory));
+    }
+    if error.use_stderr() {
+        let _ = write!(err, "{error}");
+        return Ok(USAGE);
+    }
+    let written = write!(out, "{error}");
+    if written.is_ok() && out.flush().is_ok() {
+        Ok(DONE)
+    } else {
+        Err(Fault::of(alloc, Kind::Write, Place::Output))
+    }
+}

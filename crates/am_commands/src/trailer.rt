@@ -1,0 +1,21 @@
+ghost use Rattle.std.specs.Prelude.{◌≡◌};
+ghost use Rattle.am_labels.specs.Sink.{Writes};
+ghost use Rattle.am_commands.specs.Trailer.{trailer_text};
+
+use am_labels::{Kind, Sink, put_all};
+
+/// How a page ends.
+#[derive(Clone, Copy, Debug, PartialEq, Eq)]
+pub enum Trailer {
+    /// Every answer has been written.
+    End,
+}
+
+/// Writes the line of a trailer. The only `Err` is `Kind::Write`, after a part of it from its front.
+pub fn write_trailer<W: Sink>(trailer: Trailer, out: &mut W) -> Result<(), Kind>
+    ensures { Writes W.taken W.failures out.old out.new (trailer_text trailer) result }
+{
+    match trailer {
+        Trailer::End => put_all(out, b"# end\n"),
+    }
+}

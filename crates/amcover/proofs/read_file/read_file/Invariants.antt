@@ -1,5 +1,0 @@
-use Rattle.std.proofs.Common.{◌≤◌, vec_len}
-use Rattle.amcover.proofs.read_file.read_file.Given as goal
-
-abbrev pub invariant-loop : goal.invariant-loop
-invariant-loop g l = vec_len l.bytes ≤ 16777217
