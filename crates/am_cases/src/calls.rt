@@ -1,0 +1,340 @@
+//! The calls of the libraries that tables name: what each gives at a text, as a text.
+
+ghost use Rattle.std.specs.Prelude.{◌≡◌, Some, IfSome, length, slice_get};
+ghost use Rattle.am_labels.specs.Universe.{sizes};
+
+use crate::lines::{split_at_first, split_at_last, utf8};
+use crate::problem::Problem;
+use crate::trees::config_text;
+use am_commands::{Files, ask, status, write_fault};
+use am_files::{read_config, read_universe};
+use am_labels::{
+    Fault, Kind, Matcher, Matchers, Op, Out, Place, Row, Universe, parse_matchers, parse_set,
+    put_str, write_map, write_text,
+};
+use std::alloc::Global;
+
+/// What a table calls.
+#[derive(Clone, Copy, PartialEq, Eq)]
+pub enum Call {
+    Universe,
+    Config,
+    Matchers,
+    Set,
+    Pattern,
+    Match,
+    Row,
+    Ask,
+    Fault,
+}
+
+/// The call of a name.
+pub fn call_named(name: &[u8]) -> Option<Call> {
+    match name {
+        b"universe" => Some(Call::Universe),
+        b"config" => Some(Call::Config),
+        b"matchers" => Some(Call::Matchers),
+        b"set" => Some(Call::Set),
+        b"pattern" => Some(Call::Pattern),
+        b"match" => Some(Call::Match),
+        b"row" => Some(Call::Row),
+        b"ask" => Some(Call::Ask),
+        b"fault" => Some(Call::Fault),
+        _ => None,
+    }
+}
+
+/// What a call gives at a text; `over` is the universe file that it is over, where it is over one. `brief` says that of
+/// what is accepted no more is asked than that it is.
+pub fn given(
+    alloc: Global,
+    call: Call,
+    over: &[u8],
+    text: &[u8],
+    brief: bool,
+) -> Result<Vec<u8>, Problem> {
+    match call {
+        Call::Universe => of_universe(alloc, text, brief),
+        Call::Config => of_config(alloc, text, brief),
+        Call::Matchers => of_matchers(alloc, utf8(alloc, text)?),
+        Call::Set => of_set(alloc, utf8(alloc, text)?),
+        Call::Pattern => of_pattern(alloc, utf8(alloc, text)?),
+        Call::Match => of_match(alloc, text),
+        Call::Row => of_row(alloc, over, utf8(alloc, text)?),
+        Call::Ask => of_ask(alloc, over, utf8(alloc, text)?),
+        Call::Fault => of_fault(alloc, text),
+    }
+}
+
+/// These words.
+fn told(alloc: Global, words: &str) -> Result<Vec<u8>, Problem> {
+    Ok(Vec::from_slice(alloc, words.as_bytes())?)
+}
+
+/// The word of a kind; memory that ran out is no outcome of a case.
+fn refused(alloc: Global, kind: Kind) -> Result<Vec<u8>, Problem> {
+    if kind == Kind::Memory {
+        return Err(Problem::Memory);
+    }
+    told(alloc, kind.text())
+}
+
+/// What the program writes of a fault, behind `amcover: ` and behind this.
+fn fault_behind(alloc: Global, before: &[u8], fault: &Fault) -> Result<Vec<u8>, Problem> {
+    if fault.kind == Kind::Memory {
+        return Err(Problem::Memory);
+    }
+    let line = line_of(alloc, fault)?;
+    let text = line.as_slice();
+    let text = text.strip_prefix(b"amcover: ").unwrap_or(text);
+    let text = text.strip_prefix(before).unwrap_or(text);
+    Ok(Vec::from_slice(alloc, text.strip_suffix(b"\n").unwrap_or(text))?)
+}
+
+fn line_of(alloc: Global, fault: &Fault) -> Result<Vec<u8>, Problem> {
+    let mut line = Out::new(Vec::new(alloc));
+    match write_fault(fault, &mut line) {
+        Ok(()) => Ok(line.into_inner()),
+        Err(_) => Err(Problem::Memory),
+    }
+}
+
+/// The label sets of a universe, or its fault.
+fn of_universe(alloc: Global, text: &[u8], brief: bool) -> Result<Vec<u8>, Problem> {
+    if let Err(fault) = read_universe(alloc, text) {
+        return fault_behind(alloc, b"universe: ", &fault);
+    }
+    if brief {
+        return told(alloc, "ok");
+    }
+    let page = of_ask(alloc, text, "{}")?;
+    let sets = page.as_slice();
+    Ok(Vec::from_slice(alloc, sets.strip_suffix(b" # end").unwrap_or(sets))?)
+}
+
+fn of_config(alloc: Global, text: &[u8], brief: bool) -> Result<Vec<u8>, Problem> {
+    match read_config(alloc, text) {
+        Ok(_) if brief => told(alloc, "ok"),
+        Ok(config) => config_text(alloc, &config),
+        Err(fault) => fault_behind(alloc, b"config: ", &fault),
+    }
+}
+
+fn of_matchers(alloc: Global, text: &str) -> Result<Vec<u8>, Problem> {
+    match parse_matchers(alloc, text) {
+        Ok(list) => {
+            let mut text = told(alloc, "ok: ")?;
+            add_matchers(alloc, &list, &mut text)?;
+            Ok(text)
+        }
+        Err(kind) => refused(alloc, kind),
+    }
+}
+
+/// Adds a list of matchers in braces, the values in quotes.
+pub fn add_matchers(alloc: Global, list: &Matchers, text: &mut Vec<u8>) -> Result<(), Problem> {
+    text.push(b'{')?;
+    for i in 0..list.len() {
+        if i > 0 {
+            text.push(b',')?;
+        }
+        let matcher = matcher_text(alloc, list.get(i))?;
+        text.extend_from_slice(matcher.as_slice())?;
+    }
+    Ok(text.push(b'}')?)
+}
+
+fn matcher_text(alloc: Global, matcher: &Matcher) -> Result<Vec<u8>, Problem> {
+    let mut out = Out::new(Vec::new(alloc));
+    match written_matcher(matcher, &mut out) {
+        Ok(()) => Ok(out.into_inner()),
+        Err(_) => Err(Problem::Memory),
+    }
+}
+
+fn written_matcher(matcher: &Matcher, out: &mut Out<Vec<u8>>) -> Result<(), Kind> {
+    put_str(out, matcher.name())?;
+    put_str(out, operator_text(matcher.op()))?;
+    write_text(out, matcher.value())
+}
+
+fn operator_text(op: Op) -> &'static str {
+    match op {
+        Op::Equal => "=",
+        Op::NotEqual => "!=",
+        Op::Matches => "=~",
+        Op::NotMatches => "!~",
+    }
+}
+
+fn of_set(alloc: Global, text: &str) -> Result<Vec<u8>, Problem> {
+    match parse_set(alloc, text) {
+        Ok(set) => {
+            let mut out = Out::new(told(alloc, "ok: ")?);
+            match write_map(&set, &mut out) {
+                Ok(()) => Ok(out.into_inner()),
+                Err(_) => Err(Problem::Memory),
+            }
+        }
+        Err(kind) => refused(alloc, kind),
+    }
+}
+
+fn of_pattern(alloc: Global, text: &str) -> Result<Vec<u8>, Problem> {
+    let name = String::from_str(alloc, "a")?;
+    let value = String::from_str(alloc, text)?;
+    match Matcher::new(alloc, name, Op::Matches, value) {
+        Ok(_) => told(alloc, "ok"),
+        Err(kind) => refused(alloc, kind),
+    }
+}
+
+fn of_match(alloc: Global, text: &[u8]) -> Result<Vec<u8>, Problem> {
+    let Some((list, set)) = split_at_last(text, b" on ") else {
+        return Err(Problem::said(alloc, "a list, ` on ` and a label set are wanted"));
+    };
+    match matched(alloc, utf8(alloc, list)?, utf8(alloc, set)?) {
+        Ok(matched) => told(alloc, yes_or_no(matched)),
+        Err(kind) => refused(alloc, kind),
+    }
+}
+
+fn matched(alloc: Global, list: &str, set: &str) -> Result<bool, Kind> {
+    let list = parse_matchers(alloc, list)?;
+    let set = parse_set(alloc, set)?;
+    Ok(list.matches(alloc, &set)?)
+}
+
+fn yes_or_no(truth: bool) -> &'static str {
+    if truth { "yes" } else { "no" }
+}
+
+fn of_row(alloc: Global, over: &[u8], text: &str) -> Result<Vec<u8>, Problem> {
+    let Ok(universe) = read_universe(alloc, over) else {
+        return Err(Problem::said(alloc, "the universe of the row is refused"));
+    };
+    let list = match parse_matchers(alloc, text) {
+        Ok(list) => list,
+        Err(kind) => return refused(alloc, kind),
+    };
+    if list.len() != 1 {
+        return Err(Problem::said(alloc, "one matcher is wanted"));
+    }
+    let row = list.get(0).row(alloc, &universe)?;
+    row_text(alloc, &universe, &row)
+}
+
+fn row_text(alloc: Global, universe: &Universe, row: &Row) -> Result<Vec<u8>, Problem>
+    requires { IfSome row.now.label (λ i. slice_get (sizes universe.now) i ≡ Some (length row.now.truths)) }
+{
+    let (mut text, count) = match row.label() {
+        Some(label) if label < universe.len() => {
+            let text = format!(in alloc; "label {label}:")?;
+            (text, universe.size(label))
+        }
+        _ => (String::from_str(alloc, "no label:")?, 1),
+    };
+    for j in 0..count {
+        text.push(' ')?;
+        text.push_str(yes_or_no(row.holds(j)))?;
+    }
+    Ok(text.into_bytes())
+}
+
+/// The page of a question, its lines with a blank between, or the fault.
+fn of_ask(alloc: Global, over: &[u8], question: &str) -> Result<Vec<u8>, Problem> {
+    let mut out = Out::new(told(alloc, "ok: ")?);
+    let files = Files { config: None };
+    match ask(alloc, over, &files, question, &mut out) {
+        Ok(_) => Ok(on_one_line(out.into_inner())),
+        Err(fault) if fault.kind == Kind::Write => Err(Problem::Memory),
+        Err(fault) => fault_behind(alloc, b"", &fault),
+    }
+}
+
+/// Lines with a blank in place of each line feed, and none at the end.
+fn on_one_line(mut lines: Vec<u8>) -> Vec<u8> {
+    let _ = lines.pop();
+    for byte in lines.iter_mut() {
+        if *byte == b'\n' {
+            *byte = b' ';
+        }
+    }
+    lines
+}
+
+/// The line that is written for a fault, and its exit status.
+fn of_fault(alloc: Global, text: &[u8]) -> Result<Vec<u8>, Problem> {
+    let (kind, place, pointer) = fault_parts(alloc, text)?;
+    let fault = Fault {
+        kind,
+        place,
+        pointer: String::from_str(alloc, pointer)?,
+    };
+    let mut line = line_of(alloc, &fault)?;
+    if line.pop() != Some(b'\n') {
+        return Err(Problem::said(alloc, "the line does not end"));
+    }
+    let status = status(&fault);
+    let status = format!(in alloc; " ({status})")?;
+    line.extend_from_slice(status.as_bytes())?;
+    Ok(line)
+}
+
+fn fault_parts(alloc: Global, text: &[u8]) -> Result<(Kind, Place, &str), Problem> {
+    if let Some((kind, rest)) = split_at_first(text, b" ") {
+        let (place, pointer) = split_at_first(rest, b" ").unwrap_or((rest, b"".as_slice()));
+        if let (Some(kind), Some(place)) = (kind_named(kind), place_named(place)) {
+            return Ok((kind, place, utf8(alloc, pointer)?));
+        }
+    }
+    Err(Problem::about(alloc, "a refusal's word and a place are wanted", text))
+}
+
+const KINDS: [Kind; 20] = [
+    Kind::NotJson,
+    Kind::Shape,
+    Kind::UnknownField,
+    Kind::BadMatcher,
+    Kind::PatternProfile,
+    Kind::Pattern,
+    Kind::Duplicate,
+    Kind::Empty,
+    Kind::UndefinedReceiver,
+    Kind::RootMatchers,
+    Kind::BadTime,
+    Kind::Limit,
+    Kind::QuestionSyntax,
+    Kind::UnknownReceiver,
+    Kind::UnknownRoute,
+    Kind::BadToken,
+    Kind::NeedAt,
+    Kind::Write,
+    Kind::Memory,
+    Kind::Read,
+];
+
+fn kind_named(name: &[u8]) -> Option<Kind> {
+    for kind in KINDS {
+        if kind.text().as_bytes() == name {
+            return Some(kind);
+        }
+    }
+    None
+}
+
+fn place_named(name: &[u8]) -> Option<Place> {
+    match name {
+        b"universe" => Some(Place::Universe),
+        b"config" => Some(Place::Config),
+        b"silences" => Some(Place::Silences),
+        b"alerts" => Some(Place::Alerts),
+        b"instant" => Some(Place::Instant),
+        b"question" => Some(Place::Question),
+        b"set" => Some(Place::Set),
+        b"token" => Some(Place::Token),
+        b"output" => Some(Place::Output),
+        b"memory" => Some(Place::Memory),
+        _ => None,
+    }
+}

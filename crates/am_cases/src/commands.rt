@@ -1,0 +1,396 @@
+//! Commands: a command line, and what it must write and answer.
+
+use crate::inserts::{Named, filled};
+use crate::lines::{Item, Line, number, split_at_first, utf8};
+use crate::problem::Problem;
+use crate::shelf::Shelf;
+use crate::words::words;
+use crate::writer::{Manner, Stop, Writer};
+use am_commands::run;
+use std::alloc::Global;
+use std::fs::OpenOptions;
+
+/// What is wanted of a stream.
+#[derive(Drop)]
+enum Wanted {
+    /// Just this.
+    Whole(Vec<u8>),
+    /// This somewhere.
+    Has(Vec<u8>),
+    /// So many lines.
+    Lines(usize),
+}
+
+/// A command line, and what is said of its run.
+#[derive(Drop)]
+pub struct Command {
+    pub line: usize,
+    words: Vec<String>,
+    out: Wanted,
+    err: Wanted,
+    status: Option<u8>,
+    /// Whether anything is said of the run.
+    said: bool,
+    writes: Option<usize>,
+    error_writes: Option<usize>,
+    manner: Manner,
+    error_manner: Manner,
+    stops: bool,
+    error_stops: bool,
+    /// The file that standard output is, if it is one.
+    device: Option<String>,
+}
+
+/// What a run gave.
+#[derive(Drop)]
+struct Ran {
+    status: u8,
+    out: Writer,
+    err: Writer,
+}
+
+/// The command that an item is, with the output that stands below it.
+pub fn read_command(alloc: Global, texts: &[Named], item: &Item<'_>) -> Result<Command, Problem> {
+    let head = item.head.text.strip_prefix(b"$ ").unwrap_or(b"");
+    let mut line = Vec::new(alloc);
+    let count = whole_line(head, item.body.as_slice(), &mut line)?;
+    let words = words(alloc, texts, line.as_slice())?;
+    match words.first() {
+        Some(name) if name.as_str() == "amcover" || name.as_str() == "./amcover" => {}
+        _ => return Err(Problem::about(alloc, "no command of amcover", head)),
+    }
+    let out = output(
+        alloc,
+        texts,
+        item.body.as_slice().get(count..).unwrap_or(&[]),
+    )?;
+    Ok(Command {
+        line: item.head.number,
+        words,
+        said: !out.is_empty(),
+        out: Wanted::Whole(out),
+        err: Wanted::Whole(Vec::new(alloc)),
+        status: None,
+        writes: None,
+        error_writes: None,
+        manner: Manner::WHOLE,
+        error_manner: Manner::WHOLE,
+        stops: false,
+        error_stops: false,
+        device: None,
+    })
+}
+
+/// Puts a command line together, whose lines end in ` \` but for the last. The answer is how many of the lines below the
+/// first belong to it.
+fn whole_line(head: &[u8], body: &[Line<'_>], line: &mut Vec<u8>) -> Result<usize, Problem> {
+    line.extend_from_slice(head)?;
+    for (i, next) in body.iter().enumerate() {
+        if !line.as_slice().ends_with(b" \\") {
+            return Ok(i);
+        }
+        let _ = line.pop();
+        line.extend_from_slice(next.text)?;
+    }
+    Ok(body.len())
+}
+
+/// The lines, each ended by a line feed, with what their inserts stand for.
+pub fn output(alloc: Global, texts: &[Named], lines: &[Line<'_>]) -> Result<Vec<u8>, Problem> {
+    let mut raw = Vec::new(alloc);
+    for line in lines {
+        raw.extend_from_slice(line.text)?;
+        raw.push(b'\n')?;
+    }
+    filled(alloc, texts, raw.as_slice())
+}
+
+impl Command {
+    /// Takes an item that says more of the run; `false` where it does not.
+    pub fn take(
+        &mut self,
+        alloc: Global,
+        texts: &[Named],
+        item: &Item<'_>,
+    ) -> Result<bool, Problem> {
+        let line = item.head.text;
+        let is_expectation = self.take_expectation(alloc, texts, line)?;
+        if !is_expectation && !self.take_manner(alloc, line)? {
+            return Ok(false);
+        }
+        if !item.body.is_empty() {
+            return Err(Problem::about(alloc, "nothing stands below this line", line));
+        }
+        self.said = self.said || is_expectation;
+        Ok(true)
+    }
+
+    fn take_expectation(
+        &mut self,
+        alloc: Global,
+        texts: &[Named],
+        line: &[u8],
+    ) -> Result<bool, Problem> {
+        if let Some(text) = line.strip_prefix(b"stderr: ") {
+            let mut text = filled(alloc, texts, text)?;
+            text.push(b'\n')?;
+            self.err = Wanted::Whole(text);
+        } else if let Some(text) = line.strip_prefix(b"stderr has: ") {
+            self.err = Wanted::Has(filled(alloc, texts, text)?);
+        } else if let Some(text) = line.strip_prefix(b"stdout: ") {
+            self.out = Wanted::Whole(filled(alloc, texts, text)?);
+        } else if let Some(text) = line.strip_prefix(b"stdout has: ") {
+            self.out = Wanted::Has(filled(alloc, texts, text)?);
+        } else {
+            return self.take_number(line);
+        }
+        Ok(true)
+    }
+
+    fn take_number(&mut self, line: &[u8]) -> Result<bool, Problem> {
+        if let Some(count) = number_behind(line, b"status: ") {
+            self.status = u8::try_from(count).ok();
+            return Ok(self.status.is_some());
+        }
+        if let Some(count) = number_behind(line, b"stdout lines: ") {
+            self.out = Wanted::Lines(count);
+        } else if let Some(count) = number_behind(line, b"writes: ") {
+            self.writes = Some(count);
+        } else if let Some(count) = number_behind(line, b"error writes: ") {
+            self.error_writes = Some(count);
+        } else {
+            return Ok(false);
+        }
+        Ok(true)
+    }
+
+    fn take_manner(&mut self, alloc: Global, line: &[u8]) -> Result<bool, Problem> {
+        if let Some(path) = line.strip_prefix(b"writer is ") {
+            let path = utf8(alloc, path)?;
+            self.device = Some(String::from_str(alloc, path)?);
+            return Ok(true);
+        }
+        match line {
+            b"writer stops at each call" => self.stops = true,
+            b"error writer stops at each call" => self.error_stops = true,
+            _ => return Ok(self.take_writers(line)),
+        }
+        Ok(true)
+    }
+
+    fn take_writers(&mut self, line: &[u8]) -> bool {
+        if let Some(words) = line.strip_prefix(b"writer ") {
+            return take_writer(&mut self.manner, words);
+        }
+        match line.strip_prefix(b"error writer ") {
+            Some(words) => take_writer(&mut self.error_manner, words),
+            None => false,
+        }
+    }
+
+    /// Whether the run is as it is said to be.
+    pub fn check(&self, host: &HostRuntime, files: &[Named]) -> Result<(), Problem> {
+        let alloc = host.alloc();
+        if !self.said && self.status.is_none() {
+            return Err(Problem::said(alloc, "a case without an expectation"));
+        }
+        if let Some(path) = &self.device {
+            return self.check_on_device(host, files, path.as_str());
+        }
+        let ran = self.run_over(host, files, self.manner, self.error_manner)?;
+        self.check_outputs(alloc, &ran)?;
+        if self.stops {
+            self.check_stops(host, files, ran.out.calls)?;
+        }
+        if self.error_stops {
+            self.check_error_stops(host, files, ran.err.calls)?;
+        }
+        Ok(())
+    }
+
+    fn wanted_status(&self) -> u8 {
+        self.status.unwrap_or(0)
+    }
+
+    fn run_over(
+        &self,
+        host: &HostRuntime,
+        files: &[Named],
+        manner: Manner,
+        error_manner: Manner,
+    ) -> Result<Ran, Problem> {
+        let alloc = host.alloc();
+        let mut out = Writer::new(alloc, manner);
+        let mut err = Writer::new(alloc, error_manner);
+        let shelf = Shelf { host, files };
+        let status = run(&shelf, self.words.as_slice(), &mut out, &mut err);
+        if out.starved || err.starved || status == 3 && self.wanted_status() != 3 {
+            return Err(Problem::Memory);
+        }
+        Ok(Ran { status, out, err })
+    }
+
+    fn check_outputs(&self, alloc: Global, ran: &Ran) -> Result<(), Problem> {
+        check_stream(alloc, "standard error", &self.err, ran.err.taken.as_slice())?;
+        check_stream(
+            alloc,
+            "standard output",
+            &self.out,
+            ran.out.taken.as_slice(),
+        )?;
+        check_status(alloc, self.wanted_status(), ran.status)?;
+        check_count(alloc, "writes", self.writes, ran.out.calls)?;
+        check_count(alloc, "error writes", self.error_writes, ran.err.calls)
+    }
+
+    /// Runs it again for each write that it makes, which fails or takes nothing.
+    fn check_stops(
+        &self,
+        host: &HostRuntime,
+        files: &[Named],
+        calls: usize,
+    ) -> Result<(), Problem> {
+        let alloc = host.alloc();
+        let Wanted::Whole(page) = &self.out else {
+            return Err(Problem::said(alloc, "the whole output is wanted"));
+        };
+        for call in 1..calls.saturating_add(1) {
+            for how in [Stop::Fails, Stop::TakesNothing] {
+                let manner = self.manner.stopped(call, how);
+                let ran = self.run_over(host, files, manner, self.error_manner)?;
+                if ran.out.calls != call || !ran.out.has_part_of(page.as_slice()) {
+                    let found = ran.out.taken.as_slice();
+                    return Err(Problem::differs(alloc, "output cut short", page.as_slice(), found));
+                }
+                check_status(alloc, 4, ran.status)?;
+                check_text(
+                    alloc,
+                    "standard error",
+                    b"amcover: write\n",
+                    ran.err.taken.as_slice(),
+                )?;
+            }
+        }
+        Ok(())
+    }
+
+    /// Runs it again for each write on standard error, which fails.
+    fn check_error_stops(
+        &self,
+        host: &HostRuntime,
+        files: &[Named],
+        calls: usize,
+    ) -> Result<(), Problem> {
+        let alloc = host.alloc();
+        let Wanted::Whole(line) = &self.err else {
+            return Err(Problem::said(alloc, "the whole of standard error is wanted"));
+        };
+        for call in 1..calls.saturating_add(1) {
+            let manner = self.error_manner.stopped(call, Stop::Fails);
+            let ran = self.run_over(host, files, self.manner, manner)?;
+            if ran.err.calls != call || !ran.err.has_part_of(line.as_slice()) {
+                let found = ran.err.taken.as_slice();
+                return Err(Problem::differs(alloc, "error cut short", line.as_slice(), found));
+            }
+            check_status(alloc, self.wanted_status(), ran.status)?;
+        }
+        Ok(())
+    }
+
+    /// Runs it with a file of the system as its standard output.
+    fn check_on_device(
+        &self,
+        host: &HostRuntime,
+        files: &[Named],
+        path: &str,
+    ) -> Result<(), Problem> {
+        let alloc = host.alloc();
+        let Ok(mut device) = OpenOptions::new().write(true).open(host, path) else {
+            return Err(Problem::said(alloc, "the writer cannot be opened"));
+        };
+        let mut err = Writer::new(alloc, self.error_manner);
+        let shelf = Shelf { host, files };
+        let status = run(&shelf, self.words.as_slice(), &mut device, &mut err);
+        if err.starved || status == 3 {
+            return Err(Problem::Memory);
+        }
+        check_stream(alloc, "standard error", &self.err, err.taken.as_slice())?;
+        check_status(alloc, self.wanted_status(), status)
+    }
+}
+
+fn number_behind(line: &[u8], words: &[u8]) -> Option<usize> {
+    number(line.strip_prefix(words)?)
+}
+
+/// Takes what is said of a writer; `false` where it is none of the words for it.
+fn take_writer(manner: &mut Manner, words: &[u8]) -> bool {
+    if words == b"fails at its flush".as_slice() {
+        manner.flush_fails = true;
+        return true;
+    }
+    if let Some(count) = number_between(words, b"takes ", b" bytes a call") {
+        manner.step = count;
+        return true;
+    }
+    match number_between(words, b"fails after ", b" bytes") {
+        Some(count) => {
+            manner.room = count;
+            true
+        }
+        None => false,
+    }
+}
+
+fn number_between(words: &[u8], before: &[u8], behind: &[u8]) -> Option<usize> {
+    number(words.strip_prefix(before)?.strip_suffix(behind)?)
+}
+
+fn check_stream(alloc: Global, name: &str, wanted: &Wanted, found: &[u8]) -> Result<(), Problem> {
+    match wanted {
+        Wanted::Whole(text) => check_text(alloc, name, text.as_slice(), found),
+        Wanted::Has(text) => check_has(alloc, name, text.as_slice(), found),
+        Wanted::Lines(count) => {
+            let lines = found.iter().filter(|byte| **byte == b'\n').count();
+            check_count(alloc, name, Some(*count), lines)
+        }
+    }
+}
+
+fn check_text(alloc: Global, name: &str, wanted: &[u8], found: &[u8]) -> Result<(), Problem> {
+    if wanted == found {
+        return Ok(());
+    }
+    Err(Problem::differs(alloc, name, wanted, found))
+}
+
+fn check_has(alloc: Global, name: &str, wanted: &[u8], found: &[u8]) -> Result<(), Problem> {
+    if split_at_first(found, wanted).is_some() {
+        return Ok(());
+    }
+    Err(Problem::differs(alloc, name, wanted, found))
+}
+
+fn check_status(alloc: Global, wanted: u8, found: u8) -> Result<(), Problem> {
+    check_count(
+        alloc,
+        "status",
+        Some(usize::from(wanted)),
+        usize::from(found),
+    )
+}
+
+fn check_count(
+    alloc: Global,
+    name: &str,
+    wanted: Option<usize>,
+    found: usize,
+) -> Result<(), Problem> {
+    match wanted {
+        Some(count) if count != found => {
+            let words = format!(in alloc; "{name}: expected {count} and found {found}")?;
+            Err(Problem::Said(words))
+        }
+        _ => Ok(()),
+    }
+}

@@ -1,0 +1,136 @@
+//! Texts that one does not type: `«..»` stands for a named text, for copies, for bytes.
+
+use crate::lines::{number, split_at_first, split_at_last};
+use crate::problem::Problem;
+use std::alloc::Global;
+
+const OPENING: &[u8] = b"\xc2\xab"; // «
+
+const CLOSING: &[u8] = b"\xc2\xbb"; // »
+
+/// The most inserts of one text.
+const MOST: usize = 10_000;
+
+/// A text with a name: what an insert stands for, or a file.
+#[derive(Drop)]
+pub struct Named {
+    pub name: Vec<u8>,
+    pub text: Vec<u8>,
+}
+
+/// The text that has the name; the last, where several have it.
+pub fn text_named<'n>(texts: &'n [Named], name: &[u8]) -> Option<&'n [u8]> {
+    for one in texts.iter().rev() {
+        if one.name.as_slice() == name {
+            return Some(one.text.as_slice());
+        }
+    }
+    None
+}
+
+/// The text with what its inserts stand for, the innermost and the leftmost first.
+pub fn filled(alloc: Global, texts: &[Named], raw: &[u8]) -> Result<Vec<u8>, Problem> {
+    let mut text = Vec::from_slice(alloc, raw)?;
+    for _ in 0..MOST {
+        match filled_once(alloc, texts, text.as_slice())? {
+            Some(more) => text = more,
+            None => return Ok(text),
+        }
+    }
+    Err(Problem::about(alloc, "too many inserts", raw))
+}
+
+fn filled_once(alloc: Global, texts: &[Named], text: &[u8]) -> Result<Option<Vec<u8>>, Problem> {
+    let Some((front, behind)) = split_at_first(text, CLOSING) else {
+        return Ok(None);
+    };
+    let Some((before, words)) = split_at_last(front, OPENING) else {
+        return Err(Problem::about(alloc, "a closing » alone", text));
+    };
+    let mut more = Vec::from_slice(alloc, before)?;
+    insert(alloc, texts, words, &mut more)?;
+    more.extend_from_slice(behind)?;
+    Ok(Some(more))
+}
+
+/// Adds what an insert of these words stands for.
+fn insert(alloc: Global, texts: &[Named], words: &[u8], text: &mut Vec<u8>) -> Result<(), Problem> {
+    if words.is_empty() {
+        return Ok(());
+    }
+    if let Some(digits) = words.strip_prefix(b"bytes ") {
+        return add_bytes(alloc, digits, text);
+    }
+    if let Some(length) = padded_length(words) {
+        return Ok(text.resize(length.max(text.len()), b' ')?);
+    }
+    if let Some((count, copied)) = copies(words) {
+        return add_copies(alloc, count, copied, text);
+    }
+    match text_named(texts, words) {
+        Some(found) => Ok(text.extend_from_slice(found)?),
+        None => Err(Problem::about(alloc, "no text has this name", words)),
+    }
+}
+
+/// Adds the bytes that are written as pairs of hexadecimal digits.
+fn add_bytes(alloc: Global, digits: &[u8], text: &mut Vec<u8>) -> Result<(), Problem> {
+    for pair in digits.split(|byte| *byte == b' ') {
+        match byte_of(pair) {
+            Some(byte) => text.push(byte)?,
+            None => return Err(Problem::about(alloc, "no byte in hexadecimal", pair)),
+        }
+    }
+    Ok(())
+}
+
+fn byte_of(pair: &[u8]) -> Option<u8> {
+    match std::str::from_utf8(pair) {
+        Ok(digits) if digits.len() == 2 => u8::from_str_radix(digits, 16).ok(),
+        _ => None,
+    }
+}
+
+/// The length of `padded to N bytes`.
+fn padded_length(words: &[u8]) -> Option<usize> {
+    number(words.strip_prefix(b"padded to ")?.strip_suffix(b" bytes")?)
+}
+
+/// The count of `N times TEXT`, and the text.
+fn copies(words: &[u8]) -> Option<(usize, &[u8])> {
+    let (count, copied) = split_at_first(words, b" times ")?;
+    Some((number(count)?, copied))
+}
+
+/// Adds so many copies, with a text between where one is given.
+fn add_copies(
+    alloc: Global,
+    count: usize,
+    copied: &[u8],
+    text: &mut Vec<u8>,
+) -> Result<(), Problem> {
+    let (copied, between) = match split_at_last(copied, b" joined by ") {
+        Some((copied, between)) => (copied, between),
+        None => (copied, b"".as_slice()),
+    };
+    for i in 0..count {
+        if i > 0 {
+            text.extend_from_slice(between)?;
+        }
+        add_copy(alloc, i, copied, text)?;
+    }
+    Ok(())
+}
+
+/// Adds a copy, with its number in place of each `#`.
+fn add_copy(alloc: Global, i: usize, copied: &[u8], text: &mut Vec<u8>) -> Result<(), Problem> {
+    let number = format!(in alloc; "{i}")?;
+    for byte in copied {
+        if *byte == b'#' {
+            text.extend_from_slice(number.as_bytes())?;
+        } else {
+            text.push(*byte)?;
+        }
+    }
+    Ok(())
+}

@@ -1,0 +1,78 @@
+//! The lines of a file of cases: what begins at the left, and the indented lines below it.
+
+use crate::problem::Problem;
+use std::alloc::Global;
+
+/// A line, and its number in the file, from 1.
+#[derive(Clone, Copy)]
+pub struct Line<'a> {
+    pub number: usize,
+    pub text: &'a [u8],
+}
+
+/// A line that begins at the left, and the indented lines below it, without their two blanks.
+#[derive(Drop)]
+pub struct Item<'a> {
+    pub head: Line<'a>,
+    pub body: Vec<Line<'a>>,
+}
+
+/// The items of a file, without its comments and blank lines.
+pub fn items(alloc: Global, file: &[u8]) -> Result<Vec<Item<'_>>, Problem> {
+    let mut items = Vec::new(alloc);
+    for (index, text) in file.split(|byte| *byte == b'\n').enumerate() {
+        let number = index.saturating_add(1);
+        add(alloc, &mut items, Line { number, text })?;
+    }
+    Ok(items)
+}
+
+fn add<'a>(alloc: Global, items: &mut Vec<Item<'a>>, line: Line<'a>) -> Result<(), Problem> {
+    if let Some(text) = line.text.strip_prefix(b"  ") {
+        let number = line.number;
+        return match items.last_mut() {
+            Some(item) => Ok(item.body.push(Line { number, text })?),
+            None => Err(Problem::said(alloc, "an indented line below nothing")),
+        };
+    }
+    if !line.text.is_empty() && !line.text.starts_with(b"#") {
+        items.push(Item {
+            head: line,
+            body: Vec::new(alloc),
+        })?;
+    }
+    Ok(())
+}
+
+/// What stands before the last `mark` of a text, and behind it.
+pub fn split_at_last<'a>(text: &'a [u8], mark: &[u8]) -> Option<(&'a [u8], &'a [u8])> {
+    for at in (0..text.len()).rev() {
+        if let Some(behind) = text[at..].strip_prefix(mark) {
+            return Some((&text[..at], behind));
+        }
+    }
+    None
+}
+
+/// What stands before the first `mark` of a text, and behind it.
+pub fn split_at_first<'a>(text: &'a [u8], mark: &[u8]) -> Option<(&'a [u8], &'a [u8])> {
+    for at in 0..text.len() {
+        if let Some(behind) = text[at..].strip_prefix(mark) {
+            return Some((&text[..at], behind));
+        }
+    }
+    None
+}
+
+/// The number that a text is in decimal.
+pub fn number(text: &[u8]) -> Option<usize> {
+    std::str::from_utf8(text).ok()?.parse::<usize>().ok()
+}
+
+/// A text that has to be UTF-8.
+pub fn utf8(alloc: Global, text: &[u8]) -> Result<&str, Problem> {
+    match std::str::from_utf8(text) {
+        Ok(text) => Ok(text),
+        Err(_) => Err(Problem::about(alloc, "this has to be UTF-8", text)),
+    }
+}

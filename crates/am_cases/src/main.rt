@@ -1,0 +1,150 @@
+//! `am_cases`: runs the files of cases of the folder that it is started in, and says which cases are wrong.
+//!
+//! `docs/TESTING.md` says how such a file is written. Without arguments all files are run, in the order of their
+//! names; else those that are named, or of a file the case of one line, as `ask.cases:12`. The exit status is 0 where
+//! every case is right, 1 where one is wrong, and else 3, where memory ran out.
+#![tactic(auto)]
+
+// What a file of cases is made of.
+mod inserts;
+mod lines;
+mod problem;
+mod words;
+// What cases are run over.
+mod shelf;
+mod writer;
+// What is run.
+mod calls;
+mod commands;
+mod script;
+mod tables;
+mod tally;
+mod trees;
+
+use crate::problem::Problem;
+use crate::script::{count_texts, run_file};
+use crate::tally::Tally;
+use std::alloc::Global;
+use std::process::ExitCode;
+use std::{env, fs};
+
+/// The folder of operators' files that cases and documents share.
+const SHARED: &str = "examples";
+
+/// What all files came to.
+#[derive(Drop)]
+struct Totals {
+    cases: usize,
+    wrong: usize,
+    starved: usize,
+}
+
+fn main(rt: HostRuntime) -> ExitCode {
+    let mut totals = Totals {
+        cases: 0,
+        wrong: 0,
+        starved: 0,
+    };
+    let outcome = run_all(&rt, &mut totals);
+    match outcome {
+        Ok(()) if totals.wrong > 0 => ExitCode::from(1),
+        Ok(()) if totals.starved > 0 => ExitCode::from(3),
+        Ok(()) => ExitCode::from(0),
+        Err(Problem::Memory) => ExitCode::from(3),
+        Err(Problem::Said(words)) => {
+            let _ = eprintln!(rt; "am_cases: {words}");
+            ExitCode::from(1)
+        }
+    }
+}
+
+fn run_all(rt: &HostRuntime, totals: &mut Totals) -> Result<(), Problem> {
+    let names = names(rt)?;
+    for name in &names {
+        run_named(rt, name.as_str(), totals)?;
+    }
+    let cases = totals.cases;
+    let wrong = totals.wrong;
+    say(
+        rt,
+        format!(in rt.alloc(); "all: {cases} cases, {wrong} wrong")?.as_str(),
+    )
+}
+
+/// The names of the arguments; where there are none, those of the folder.
+fn names(rt: &HostRuntime) -> Result<Vec<String>, Problem> {
+    let mut names = Vec::new(rt.alloc());
+    let Ok(arguments) = env::args(rt) else {
+        return Err(Problem::said(rt.alloc(), "the arguments are not UTF-8"));
+    };
+    for argument in arguments.skip(1) {
+        names.push(argument)?;
+    }
+    if names.is_empty() {
+        add_names_of_folder(rt, &mut names)?;
+    }
+    Ok(names)
+}
+
+fn add_names_of_folder(rt: &HostRuntime, names: &mut Vec<String>) -> Result<(), Problem> {
+    let unread = "the folder cannot be read";
+    let Ok(entries) = fs::read_dir(rt, ".") else {
+        return Err(Problem::said(rt.alloc(), unread));
+    };
+    for entry in entries {
+        let Ok(entry) = entry else {
+            return Err(Problem::said(rt.alloc(), unread));
+        };
+        let name = entry.file_name();
+        if name != SHARED {
+            names.push(String::from_str(rt.alloc(), name)?)?;
+        }
+    }
+    Ok(names.sort()?)
+}
+
+/// Runs a file, or the case of one of its lines, and says what it came to.
+fn run_named(rt: &HostRuntime, asked: &str, totals: &mut Totals) -> Result<(), Problem> {
+    let (name, only) = file_and_line(asked);
+    let mut tally = Tally::new(rt.alloc(), name, only)?;
+    let outcome = match fs::read(rt, name) {
+        Ok(file) => run_read(rt, name, file.as_slice(), &mut tally),
+        Err(_) => Err(Problem::said(rt.alloc(), "it cannot be read")),
+    };
+    if let Err(problem) = outcome {
+        tally.fail(problem)?;
+    }
+    say(rt, tally.report.as_str())?;
+    totals.cases = totals.cases.saturating_add(tally.cases);
+    totals.wrong = totals.wrong.saturating_add(tally.wrong);
+    totals.starved = totals.starved.saturating_add(tally.starved);
+    Ok(())
+}
+
+fn run_read(rt: &HostRuntime, name: &str, file: &[u8], tally: &mut Tally) -> Result<(), Problem> {
+    if name.ends_with(".texts") {
+        let count = count_texts(rt, file)?;
+        return Ok(tally.end_with(count, "texts")?);
+    }
+    if !name.ends_with(".cases") {
+        return Err(Problem::said(rt.alloc(), "no file of cases"));
+    }
+    run_file(rt, file, tally)?;
+    let cases = tally.cases;
+    Ok(tally.end_with(cases, "cases")?)
+}
+
+/// The file that an argument names, and the line, if it names one.
+fn file_and_line(asked: &str) -> (&str, Option<usize>) {
+    match asked.rsplit_once(':') {
+        Some((name, line)) => (name, line.parse::<usize>().ok()),
+        None => (asked, None),
+    }
+}
+
+fn say(rt: &HostRuntime, text: &str) -> Result<(), Problem> {
+    match println!(rt; "{text}") {
+        Ok(()) => Ok(()),
+        Err(_) => Err(Problem::said(rt.alloc(), "standard output failed")),
+    }
+}

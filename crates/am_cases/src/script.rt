@@ -1,0 +1,227 @@
+//! A file of cases, item by item.
+
+use crate::commands::{Command, output, read_command};
+use crate::inserts::{Named, filled};
+use crate::lines::{Item, items, split_at_first, utf8};
+use crate::problem::Problem;
+use crate::tables::{Mode, Row, Table, mode_named, read_heading, run_table};
+use crate::tally::Tally;
+use std::alloc::Global;
+use std::fs;
+
+/// What a file of cases has said so far.
+#[derive(Drop)]
+struct Script<'a> {
+    texts: Vec<Named>,
+    files: Vec<Named>,
+    /// What is not run yet, since lines that follow may say more of it.
+    command: Option<Command>,
+    table: Option<(usize, Table<'a>)>,
+}
+
+/// Runs the cases of a file.
+pub fn run_file(host: &HostRuntime, file: &[u8], tally: &mut Tally) -> Result<(), Problem> {
+    let alloc = host.alloc();
+    let mut script = Script {
+        texts: Vec::new(alloc),
+        files: Vec::new(alloc),
+        command: None,
+        table: None,
+    };
+    for item in &items(alloc, file)? {
+        if let Err(problem) = script.take(host, item, tally) {
+            tally.count(item.head.number, Err(problem))?;
+        }
+    }
+    script.run_pending(host, tally)?;
+    if tally.cases == 0 && tally.takes_all() {
+        return Err(Problem::said(alloc, "a file without a case"));
+    }
+    Ok(())
+}
+
+/// How many texts and files a file defines for others.
+pub fn count_texts(host: &HostRuntime, file: &[u8]) -> Result<usize, Problem> {
+    let alloc = host.alloc();
+    let mut texts = Vec::new(alloc);
+    let mut files = Vec::new(alloc);
+    define_all(alloc, file, &mut texts, &mut files)?;
+    Ok(texts.len().saturating_add(files.len()))
+}
+
+fn define_all(
+    alloc: Global,
+    file: &[u8],
+    texts: &mut Vec<Named>,
+    files: &mut Vec<Named>,
+) -> Result<(), Problem> {
+    for item in &items(alloc, file)? {
+        if !define(alloc, item, texts, files)? {
+            return Err(Problem::about(alloc, "no text and no file", item.head.text));
+        }
+    }
+    Ok(())
+}
+
+/// Takes the text or the file that an item defines; `false` where it defines none.
+fn define(
+    alloc: Global,
+    item: &Item<'_>,
+    texts: &mut Vec<Named>,
+    files: &mut Vec<Named>,
+) -> Result<bool, Problem> {
+    if let Some(rest) = item.head.text.strip_prefix(b"text ") {
+        if !item.body.is_empty() {
+            return Err(Problem::about(alloc, "a text is one line", rest));
+        }
+        let Some((name, raw)) = split_at_first(rest, b" = ") else {
+            return Err(Problem::about(alloc, "a text wants a name, = and the text", rest));
+        };
+        let text = filled(alloc, texts.as_slice(), raw)?;
+        texts.push(new_named(alloc, name, text)?)?;
+        return Ok(true);
+    }
+    match item.head.text.strip_prefix(b"file ") {
+        Some(rest) => {
+            files.push(file_of(alloc, texts.as_slice(), item, rest)?)?;
+            Ok(true)
+        }
+        None => Ok(false),
+    }
+}
+
+fn new_named(alloc: Global, name: &[u8], text: Vec<u8>) -> Result<Named, Problem> {
+    let name = Vec::from_slice(alloc, name)?;
+    Ok(Named { name, text })
+}
+
+fn file_of(alloc: Global, texts: &[Named], item: &Item<'_>, rest: &[u8]) -> Result<Named, Problem> {
+    match split_at_first(rest, b" = ") {
+        Some((name, raw)) if item.body.is_empty() => {
+            let text = filled(alloc, texts, raw)?;
+            new_named(alloc, name, text)
+        }
+        None => {
+            let text = output(alloc, texts, item.body.as_slice())?;
+            new_named(alloc, rest, text)
+        }
+        _ => Err(Problem::about(alloc, "a file of one line has no more", rest)),
+    }
+}
+
+impl<'a> Script<'a> {
+    fn take(
+        &mut self,
+        host: &HostRuntime,
+        item: &Item<'a>,
+        tally: &mut Tally,
+    ) -> Result<(), Problem> {
+        if self.take_more(host.alloc(), item)? {
+            return Ok(());
+        }
+        self.run_pending(host, tally)?;
+        self.begin(host, item)
+    }
+
+    /// Takes an item that says more of the command or of the table before it; `false` where it does not.
+    fn take_more(&mut self, alloc: Global, item: &Item<'a>) -> Result<bool, Problem> {
+        if let Some(command) = &mut self.command {
+            return command.take(alloc, self.texts.as_slice(), item);
+        }
+        match &mut self.table {
+            Some((_, table)) => take_table(alloc, self.texts.as_slice(), table, item),
+            None => Ok(false),
+        }
+    }
+
+    fn begin(&mut self, host: &HostRuntime, item: &Item<'a>) -> Result<(), Problem> {
+        let alloc = host.alloc();
+        let head = item.head.text;
+        if head.starts_with(b"$ ") {
+            self.command = Some(read_command(alloc, self.texts.as_slice(), item)?);
+            return Ok(());
+        }
+        if define(alloc, item, &mut self.texts, &mut self.files)? {
+            return Ok(());
+        }
+        if let Some(name) = head.strip_prefix(b"use ") {
+            return self.use_texts(host, name);
+        }
+        let mut table = Table {
+            headings: Vec::new(alloc),
+            mode: Mode::Plain,
+            stage: 0,
+            rows: Vec::new(alloc),
+        };
+        if !take_table(alloc, self.texts.as_slice(), &mut table, item)? {
+            return Err(Problem::about(alloc, "no word of a file of cases", head));
+        }
+        self.table = Some((item.head.number, table));
+        Ok(())
+    }
+
+    fn use_texts(&mut self, host: &HostRuntime, name: &[u8]) -> Result<(), Problem> {
+        let alloc = host.alloc();
+        let path = utf8(alloc, name)?;
+        match fs::read(host, path) {
+            Ok(file) if path.ends_with(".texts") => {
+                define_all(alloc, file.as_slice(), &mut self.texts, &mut self.files)
+            }
+            _ => Err(Problem::about(alloc, "no such file of texts", name)),
+        }
+    }
+
+    /// Runs what is not run yet.
+    fn run_pending(&mut self, host: &HostRuntime, tally: &mut Tally) -> Result<(), Problem> {
+        let alloc = host.alloc();
+        if let Some(command) = self.command.take() {
+            if tally.is_asked_for(command.line) {
+                let outcome = command.check(host, self.files.as_slice());
+                tally.count(command.line, outcome)?;
+            }
+        }
+        if let Some((line, table)) = self.table.take() {
+            if let Err(problem) = run_table(alloc, self.texts.as_slice(), &table, tally) {
+                tally.count(line, Err(problem))?;
+            }
+        }
+        Ok(())
+    }
+}
+
+/// Takes an item that says more of a table; `false` where it does not.
+fn take_table<'a>(
+    alloc: Global,
+    texts: &[Named],
+    table: &mut Table<'a>,
+    item: &Item<'a>,
+) -> Result<bool, Problem> {
+    if item.head.text == b"then".as_slice() && table.mode == Mode::Pairs && !table.rows.is_empty() {
+        table.stage = table.stage.saturating_add(1);
+        add_rows(table, item)?;
+        return Ok(true);
+    }
+    if !table.rows.is_empty() {
+        return Ok(false);
+    }
+    if let Some(mode) = mode_named(item.head.text) {
+        if table.headings.is_empty() || table.mode != Mode::Plain {
+            return Ok(false);
+        }
+        table.mode = mode;
+    } else if let Some(heading) = read_heading(alloc, texts, item.head.text)? {
+        table.headings.push(heading)?;
+    } else {
+        return Ok(false);
+    }
+    add_rows(table, item)?;
+    Ok(true)
+}
+
+fn add_rows<'a>(table: &mut Table<'a>, item: &Item<'a>) -> Result<(), Problem> {
+    let stage = table.stage;
+    for line in &item.body {
+        table.rows.push(Row { line: *line, stage })?;
+    }
+    Ok(())
+}

@@ -1,0 +1,126 @@
+//! The files that a command can read: those of the file of cases, and behind them those of the folder.
+
+use crate::inserts::{Named, text_named};
+use std::alloc::{Allocator, Global};
+use std::fs::{File, Metadata, OpenFile, OpenOptions};
+use std::io;
+use std::io::{Cursor, ErrorKind, Read, Seek, SeekFrom, Write};
+use std::rt::Files;
+
+/// The files of a file of cases, over those of the system.
+#[derive(Drop)]
+pub struct Shelf<'s> {
+    pub host: &'s HostRuntime,
+    pub files: &'s [Named],
+}
+
+/// An opened file, of the shelf or of the system.
+#[derive(Drop)]
+pub enum Opened<'s> {
+    Shelved(Cursor<&'s [u8]>),
+    Host(File),
+}
+
+fn unsupported<T>() -> io::Result<T> {
+    Err(io::Error::from(ErrorKind::Unsupported))
+}
+
+impl<'s> Alloc for Shelf<'s> {
+    type A = Global;
+
+    fn alloc(&self) -> Global {
+        self.host.alloc()
+    }
+}
+
+impl<'s> Files for Shelf<'s> {
+    type File = Opened<'s>;
+
+    type Dir = <HostRuntime as Files>::Dir;
+
+    fn open_file(&self, how: &OpenOptions, path: &str) -> io::Result<Opened<'s>> {
+        match text_named(self.files, path.as_bytes()) {
+            Some(bytes) => Ok(Opened::Shelved(Cursor::new(bytes))),
+            None => Ok(Opened::Host(self.host.open_file(how, path)?)),
+        }
+    }
+
+    fn open_dir(&self, path: &str) -> io::Result<Self::Dir> {
+        self.host.open_dir(path)
+    }
+
+    fn metadata(&self, _path: &str) -> io::Result<Metadata> {
+        unsupported()
+    }
+
+    fn symlink_metadata(&self, _path: &str) -> io::Result<Metadata> {
+        unsupported()
+    }
+
+    fn copy(&self, _from: &str, _to: &str) -> io::Result<u64> {
+        unsupported()
+    }
+
+    fn rename(&self, _from: &str, _to: &str) -> io::Result<()> {
+        unsupported()
+    }
+
+    fn remove_file(&self, _path: &str) -> io::Result<()> {
+        unsupported()
+    }
+
+    fn create_dir(&self, _path: &str) -> io::Result<()> {
+        unsupported()
+    }
+
+    fn remove_dir(&self, _path: &str) -> io::Result<()> {
+        unsupported()
+    }
+
+    fn remove_dir_all<B: Allocator>(&self, _alloc: B, _path: &str) -> io::Result<()> {
+        unsupported()
+    }
+}
+
+impl<'s> Read for Opened<'s> {
+    fn read(&mut self, buf: &mut [u8]) -> io::Result<usize> {
+        match self {
+            Opened::Shelved(bytes) => bytes.read(buf),
+            Opened::Host(file) => file.read(buf),
+        }
+    }
+}
+
+impl<'s> Write for Opened<'s> {
+    fn write(&mut self, _bytes: &[u8]) -> io::Result<usize> {
+        Err(io::Error::from(ErrorKind::Unsupported))
+    }
+
+    fn flush(&mut self) -> io::Result<()> {
+        unsupported()
+    }
+}
+
+impl<'s> Seek for Opened<'s> {
+    fn seek(&mut self, _to: SeekFrom) -> io::Result<u64> {
+        unsupported()
+    }
+}
+
+impl<'s> OpenFile for Opened<'s> {
+    fn metadata(&self) -> io::Result<Metadata> {
+        unsupported()
+    }
+
+    fn set_len(&self, _size: u64) -> io::Result<()> {
+        unsupported()
+    }
+
+    fn sync_all(&self) -> io::Result<()> {
+        unsupported()
+    }
+
+    fn sync_data(&self) -> io::Result<()> {
+        unsupported()
+    }
+}

@@ -1,0 +1,336 @@
+//! Tables: a call, and a line for each text that it is handed and what it gives there.
+
+use crate::calls::{Call, call_named, given};
+use crate::inserts::{Named, filled};
+use crate::lines::{Line, split_at_first, split_at_last, utf8};
+use crate::problem::Problem;
+use crate::tally::Tally;
+use crate::writer::{Manner, Stop, Writer};
+use am_commands::{Files, ask};
+use am_labels::Out;
+use std::alloc::Global;
+
+/// A line that names a call: how a text becomes what is handed in, and from where pointers are seen.
+#[derive(Drop)]
+pub struct Heading {
+    call: Call,
+    /// What stands round the text: before it, behind it, and between where it stands more than once.
+    round: Vec<Vec<u8>>,
+    /// The universe file that the call is over.
+    over: Vec<u8>,
+    /// The pointer of the text.
+    at: Vec<u8>,
+}
+
+/// What else is done with the lines of a table.
+#[derive(Clone, Copy, PartialEq, Eq)]
+pub enum Mode {
+    /// Each text is handed in.
+    Plain,
+    /// Each proper prefix of each text, in place of the text.
+    Prefixes,
+    /// Each text, and each two of different stages.
+    Pairs,
+    /// Each text, and over writers that stop.
+    Writers,
+}
+
+/// A mode, by its words.
+pub fn mode_named(words: &[u8]) -> Option<Mode> {
+    match words {
+        b"each proper prefix" => Some(Mode::Prefixes),
+        b"one by one, and two by two" => Some(Mode::Pairs),
+        b"over writers that stop" => Some(Mode::Writers),
+        _ => None,
+    }
+}
+
+/// A line of a table, and its stage: how many lines of `then` stand before it.
+#[derive(Clone, Copy)]
+pub struct Row<'a> {
+    pub line: Line<'a>,
+    pub stage: usize,
+}
+
+#[derive(Drop)]
+pub struct Table<'a> {
+    pub headings: Vec<Heading>,
+    pub mode: Mode,
+    pub stage: usize,
+    pub rows: Vec<Row<'a>>,
+}
+
+/// A line cut into the text and what is given there, with what their inserts stand for.
+#[derive(Drop)]
+struct Wanted {
+    number: usize,
+    stage: usize,
+    text: Vec<u8>,
+    result: Vec<u8>,
+}
+
+/// The heading that a line is, if it names a call.
+pub fn read_heading(
+    alloc: Global,
+    texts: &[Named],
+    line: &[u8],
+) -> Result<Option<Heading>, Problem> {
+    let (name, rest) = split_at_first(line, b" ").unwrap_or((line, b"".as_slice()));
+    let Some(call) = call_named(name) else {
+        return Ok(None);
+    };
+    let (rest, at) = match split_at_last(rest, b" at ") {
+        Some((rest, at)) => (rest, at),
+        None => (rest, b"".as_slice()),
+    };
+    let (template, over) = match template_and_universe(rest) {
+        Some((template, over)) => (template, over),
+        None => (rest, b"".as_slice()),
+    };
+    Ok(Some(Heading {
+        call,
+        round: round_the_text(alloc, texts, template)?,
+        over: filled(alloc, texts, over)?,
+        at: filled(alloc, texts, at)?,
+    }))
+}
+
+/// The parts of a template, cut at each `%`; a line without a template has the text alone.
+fn round_the_text(
+    alloc: Global,
+    texts: &[Named],
+    template: &[u8],
+) -> Result<Vec<Vec<u8>>, Problem> {
+    let whole = if template.is_empty() {
+        b"%".as_slice()
+    } else {
+        template
+    };
+    let mut round = Vec::new(alloc);
+    for part in whole.split(|byte| *byte == b'%') {
+        round.push(filled(alloc, texts, part)?)?;
+    }
+    if round.len() < 2 {
+        return Err(Problem::about(alloc, "no % for the text", template));
+    }
+    Ok(round)
+}
+
+/// What stands before `over UNIVERSE`, and the universe.
+fn template_and_universe(rest: &[u8]) -> Option<(&[u8], &[u8])> {
+    match rest.strip_prefix(b"over ") {
+        Some(over) => Some((b"".as_slice(), over)),
+        None => split_at_last(rest, b" over "),
+    }
+}
+
+/// Runs the lines of a table.
+pub fn run_table(
+    alloc: Global,
+    texts: &[Named],
+    table: &Table<'_>,
+    tally: &mut Tally,
+) -> Result<(), Problem> {
+    if table.rows.is_empty() {
+        return Err(Problem::said(alloc, "a table without a case"));
+    }
+    let mut wanted = Vec::new(alloc);
+    for row in &table.rows {
+        match wanted_of(alloc, texts, row) {
+            Ok(one) => wanted.push(one)?,
+            Err(problem) => tally.count(row.line.number, Err(problem))?,
+        }
+    }
+    for heading in &table.headings {
+        for one in &wanted {
+            run_one(alloc, heading, table.mode, one, tally)?;
+        }
+        if table.mode == Mode::Pairs {
+            run_pairs(alloc, heading, wanted.as_slice(), tally)?;
+        }
+    }
+    Ok(())
+}
+
+fn wanted_of(alloc: Global, texts: &[Named], row: &Row<'_>) -> Result<Wanted, Problem> {
+    let Some((text, result)) = split_at_last(row.line.text, b" => ") else {
+        return Err(Problem::about(alloc, "a case without an expectation", row.line.text));
+    };
+    Ok(Wanted {
+        number: row.line.number,
+        stage: row.stage,
+        text: filled(alloc, texts, text)?,
+        result: filled(alloc, texts, result)?,
+    })
+}
+
+/// Runs a line alone.
+fn run_one(
+    alloc: Global,
+    heading: &Heading,
+    mode: Mode,
+    one: &Wanted,
+    tally: &mut Tally,
+) -> Result<(), Problem> {
+    if !tally.is_asked_for(one.number) {
+        return Ok(());
+    }
+    if mode == Mode::Prefixes {
+        return run_prefixes(alloc, heading, one, tally);
+    }
+    let outcome = check(alloc, heading, one.text.as_slice(), one.result.as_slice());
+    tally.count(one.number, outcome)?;
+    if mode == Mode::Writers {
+        let outcome = check_writers(alloc, heading, one);
+        tally.count(one.number, outcome)?;
+    }
+    Ok(())
+}
+
+fn run_prefixes(
+    alloc: Global,
+    heading: &Heading,
+    one: &Wanted,
+    tally: &mut Tally,
+) -> Result<(), Problem> {
+    for length in 0..one.text.len() {
+        let prefix = one.text.as_slice().get(..length).unwrap_or(b"");
+        let outcome = check(alloc, heading, prefix, one.result.as_slice());
+        tally.count(one.number, outcome)?;
+    }
+    Ok(())
+}
+
+/// Runs each two lines of different stages, in both orders: the earlier stage's result is given.
+fn run_pairs(
+    alloc: Global,
+    heading: &Heading,
+    wanted: &[Wanted],
+    tally: &mut Tally,
+) -> Result<(), Problem> {
+    for first in wanted {
+        for second in wanted {
+            if first.stage < second.stage && tally.is_asked_for(first.number) {
+                run_pair(alloc, heading, first, second, tally)?;
+            }
+        }
+    }
+    Ok(())
+}
+
+fn run_pair(
+    alloc: Global,
+    heading: &Heading,
+    first: &Wanted,
+    second: &Wanted,
+    tally: &mut Tally,
+) -> Result<(), Problem> {
+    let (one, other) = (first.text.as_slice(), second.text.as_slice());
+    for (front, back) in [(one, other), (other, one)] {
+        let both = joined(alloc, front, b",", back)?;
+        let outcome = check(alloc, heading, both.as_slice(), first.result.as_slice());
+        tally.count(first.number, outcome)?;
+    }
+    Ok(())
+}
+
+fn joined(alloc: Global, front: &[u8], between: &[u8], back: &[u8]) -> Result<Vec<u8>, Problem> {
+    let mut text = Vec::from_slice(alloc, front)?;
+    text.extend_from_slice(between)?;
+    text.extend_from_slice(back)?;
+    Ok(text)
+}
+
+/// The text with what stands round it.
+fn placed(alloc: Global, heading: &Heading, text: &[u8]) -> Result<Vec<u8>, Problem> {
+    let mut whole = Vec::new(alloc);
+    for (i, part) in heading.round.iter().enumerate() {
+        if i > 0 {
+            whole.extend_from_slice(text)?;
+        }
+        whole.extend_from_slice(part.as_slice())?;
+    }
+    Ok(whole)
+}
+
+/// Whether the call gives what is wanted.
+fn check(alloc: Global, heading: &Heading, text: &[u8], wanted: &[u8]) -> Result<(), Problem> {
+    let whole = placed(alloc, heading, text)?;
+    let brief = wanted == b"ok".as_slice();
+    let found = given(
+        alloc,
+        heading.call,
+        heading.over.as_slice(),
+        whole.as_slice(),
+        brief,
+    )?;
+    let wanted = seen_from(alloc, heading.at.as_slice(), wanted)?;
+    let found = found.as_slice();
+    if found == wanted.as_slice() || brief && found.starts_with(b"ok: ") {
+        return Ok(());
+    }
+    Err(Problem::differs(alloc, "result", wanted.as_slice(), found))
+}
+
+/// A result with its pointer seen from the whole file.
+fn seen_from(alloc: Global, at: &[u8], wanted: &[u8]) -> Result<Vec<u8>, Problem> {
+    if at.is_empty() || wanted == b"ok".as_slice() || wanted.starts_with(b"ok: ") {
+        return Ok(Vec::from_slice(alloc, wanted)?);
+    }
+    let between: &[u8] = if wanted.starts_with(b"/") { b"" } else { b": " };
+    joined(alloc, at, between, wanted)
+}
+
+/// Whether a page comes whole over a writer that takes a byte a call, and in part over those that stop.
+fn check_writers(alloc: Global, heading: &Heading, one: &Wanted) -> Result<(), Problem> {
+    if heading.call != Call::Ask {
+        return Err(Problem::said(alloc, "this table writes to no writer"));
+    }
+    let whole = placed(alloc, heading, one.text.as_slice())?;
+    let question = utf8(alloc, whole.as_slice())?;
+    let over = heading.over.as_slice();
+    let page = asked(alloc, over, question, Manner::WHOLE)?;
+    let slow = asked(
+        alloc,
+        over,
+        question,
+        Manner {
+            step: 1,
+            ..Manner::WHOLE
+        },
+    )?;
+    if slow.taken.as_slice() != page.taken.as_slice() {
+        return Err(Problem::differs(
+            alloc,
+            "a byte a call",
+            page.taken.as_slice(),
+            slow.taken.as_slice(),
+        ));
+    }
+    for call in 1..page.calls.saturating_add(1) {
+        for how in [Stop::Fails, Stop::TakesNothing] {
+            let stopped = asked(alloc, over, question, Manner::WHOLE.stopped(call, how))?;
+            if stopped.calls != call || !stopped.has_part_of(page.taken.as_slice()) {
+                return Err(Problem::differs(
+                    alloc,
+                    "stopped",
+                    page.taken.as_slice(),
+                    stopped.taken.as_slice(),
+                ));
+            }
+        }
+    }
+    Ok(())
+}
+
+/// A writer of this manner after a page was written to it.
+fn asked(alloc: Global, over: &[u8], question: &str, manner: Manner) -> Result<Writer, Problem> {
+    let mut out = Out::new(Writer::new(alloc, manner));
+    let files = Files { config: None };
+    let _ = ask(alloc, over, &files, question, &mut out);
+    let writer = out.into_inner();
+    if writer.starved {
+        return Err(Problem::Memory);
+    }
+    Ok(writer)
+}

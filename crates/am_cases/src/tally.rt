@@ -1,0 +1,91 @@
+//! What the cases of a file came to.
+
+use crate::problem::Problem;
+use std::alloc::{AllocError, Global};
+
+/// How many cases there were, and a line for each that was not right.
+#[derive(Drop)]
+pub struct Tally {
+    alloc: Global,
+    name: String,
+    /// The one line that is asked for; all of them where there is none.
+    only: Option<usize>,
+    pub cases: usize,
+    pub wrong: usize,
+    /// How many had no outcome because memory ran out.
+    pub starved: usize,
+    pub report: String,
+}
+
+impl Tally {
+    pub fn new(alloc: Global, name: &str, only: Option<usize>) -> Result<Tally, AllocError> {
+        Ok(Tally {
+            alloc,
+            name: String::from_str(alloc, name)?,
+            only,
+            cases: 0,
+            wrong: 0,
+            starved: 0,
+            report: String::new(alloc),
+        })
+    }
+
+    /// Whether the case of this line is asked for.
+    pub fn is_asked_for(&self, number: usize) -> bool {
+        match self.only {
+            Some(only) => only == number,
+            None => true,
+        }
+    }
+
+    /// Whether all cases are asked for.
+    pub fn takes_all(&self) -> bool {
+        self.only.is_none()
+    }
+
+    /// Counts a case, and says what is wrong with it.
+    pub fn count(&mut self, number: usize, outcome: Result<(), Problem>) -> Result<(), AllocError> {
+        if !self.is_asked_for(number) {
+            return Ok(());
+        }
+        self.cases = self.cases.saturating_add(1);
+        match outcome {
+            Ok(()) => Ok(()),
+            Err(Problem::Memory) => self.count_starved(),
+            Err(Problem::Said(words)) => self.count_wrong(number, words.as_str()),
+        }
+    }
+
+    fn count_starved(&mut self) -> Result<(), AllocError> {
+        self.starved = self.starved.saturating_add(1);
+        Ok(())
+    }
+
+    fn count_wrong(&mut self, number: usize, words: &str) -> Result<(), AllocError> {
+        self.wrong = self.wrong.saturating_add(1);
+        let name = self.name.as_str();
+        let line = format!(in self.alloc; "{name}:{number}: {words}\n")?;
+        self.report.push_str(line.as_str())
+    }
+
+    /// Counts a file that is none, or whose cases came to no end.
+    pub fn fail(&mut self, problem: Problem) -> Result<(), AllocError> {
+        match problem {
+            Problem::Memory => self.count_starved(),
+            Problem::Said(words) => {
+                self.wrong = self.wrong.saturating_add(1);
+                let name = self.name.as_str();
+                let line = format!(in self.alloc; "{name}: {words}")?;
+                self.report.push_str(line.as_str())
+            }
+        }
+    }
+
+    /// Ends the report with what the file came to.
+    pub fn end_with(&mut self, count: usize, what: &str) -> Result<(), AllocError> {
+        let name = self.name.as_str();
+        let wrong = self.wrong;
+        let line = format!(in self.alloc; "{name}: {count} {what}, {wrong} wrong")?;
+        self.report.push_str(line.as_str())
+    }
+}

@@ -1,0 +1,82 @@
+//! A configuration, as a text of one line.
+
+use crate::calls::add_matchers;
+use crate::problem::Problem;
+use am_files::{Config, Route};
+use std::alloc::{AllocError, Global};
+
+/// A route that is still to be written, and its path.
+#[derive(Drop)]
+struct Pending<'c> {
+    path: String,
+    route: &'c Route,
+}
+
+/// More routes than a configuration can have.
+const MOST_ROUTES: usize = 1025;
+
+/// The receivers and the routes of a configuration, in preorder.
+pub fn config_text(alloc: Global, config: &Config) -> Result<Vec<u8>, Problem> {
+    let mut text = Vec::from_slice(alloc, b"ok: receivers")?;
+    for i in 0..config.receivers() {
+        text.push(b' ')?;
+        text.extend_from_slice(config.receiver_name(i).as_bytes())?;
+    }
+    let mut pending = Vec::new(alloc);
+    pending.push(Pending {
+        path: String::from_str(alloc, "/")?,
+        route: config.root(),
+    })?;
+    for _ in 0..MOST_ROUTES {
+        match pending.pop() {
+            Some(next) => {
+                add_route(alloc, config, &next, &mut text)?;
+                add_children(alloc, &next, &mut pending)?;
+            }
+            None => return Ok(text),
+        }
+    }
+    Err(Problem::said(alloc, "more routes than there may be"))
+}
+
+/// Adds the children of a route, the first of them last, so that it is the next.
+fn add_children<'c>(
+    alloc: Global,
+    above: &Pending<'c>,
+    pending: &mut Vec<Pending<'c>>,
+) -> Result<(), AllocError> {
+    let routes = above.route.routes();
+    for i in (0..routes.len()).rev() {
+        let path = below(alloc, above.path.as_str(), i)?;
+        let route = &routes[i];
+        pending.push(Pending { path, route })?;
+    }
+    Ok(())
+}
+
+fn below(alloc: Global, path: &str, i: usize) -> Result<String, AllocError> {
+    if path == "/" {
+        return format!(in alloc; "/{i}");
+    }
+    format!(in alloc; "{path}/{i}")
+}
+
+fn add_route(
+    alloc: Global,
+    config: &Config,
+    next: &Pending<'_>,
+    text: &mut Vec<u8>,
+) -> Result<(), Problem> {
+    text.extend_from_slice(b"; ")?;
+    text.extend_from_slice(next.path.as_bytes())?;
+    text.push(b' ')?;
+    let receiver = next.route.receiver();
+    if receiver < config.receivers() {
+        text.extend_from_slice(config.receiver_name(receiver).as_bytes())?;
+    }
+    if next.route.continues() {
+        text.extend_from_slice(b" continue")?;
+    }
+    text.push(b' ')?;
+    add_matchers(alloc, next.route.matchers(), text)
+}
