@@ -126,10 +126,14 @@ fn run_read(rt: &HostRuntime, name: &str, file: &[u8], tally: &mut Tally) -> Res
         let count = count_texts(rt, file)?;
         return Ok(tally.end_with(count, "texts")?);
     }
-    if !name.ends_with(".cases") {
+    let is_mistaken = name.ends_with(".mistakes");
+    if !is_mistaken && !name.ends_with(".cases") {
         return Err(Problem::said(rt.alloc(), "no file of cases"));
     }
     run_file(rt, file, tally)?;
+    if is_mistaken {
+        tally.turn();
+    }
     let cases = tally.cases;
     Ok(tally.end_with(cases, "cases")?)
 }

@@ -34,8 +34,8 @@ pub fn run_file(host: &HostRuntime, file: &[u8], tally: &mut Tally) -> Result<()
         }
     }
     script.run_pending(host, tally)?;
-    if tally.cases == 0 && tally.takes_all() {
-        return Err(Problem::said(alloc, "a file without a case"));
+    if tally.cases == 0 {
+        return Err(Problem::said(alloc, tally.emptiness()));
     }
     Ok(())
 }

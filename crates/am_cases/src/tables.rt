@@ -6,8 +6,8 @@ use crate::lines::{Line, split_at_first, split_at_last, utf8};
 use crate::problem::Problem;
 use crate::tally::Tally;
 use crate::writer::{Manner, Stop, Writer};
-use am_commands::{Files, ask};
-use am_labels::Out;
+use am_commands::{Files, ask, status};
+use am_labels::{Fault, Kind, Out, Place};
 use std::alloc::Global;
 
 /// A line that names a call: how a text becomes what is handed in, and from where pointers are seen.
@@ -289,8 +289,9 @@ fn check_writers(alloc: Global, heading: &Heading, one: &Wanted) -> Result<(), P
     let whole = placed(alloc, heading, one.text.as_slice())?;
     let question = utf8(alloc, whole.as_slice())?;
     let over = heading.over.as_slice();
-    let page = asked(alloc, over, question, Manner::WHOLE)?;
-    let slow = asked(
+    let page = ask_over(alloc, over, question, Manner::WHOLE)?;
+    let whole = page.writer.taken.as_slice();
+    let slow = ask_over(
         alloc,
         over,
         question,
@@ -299,38 +300,52 @@ fn check_writers(alloc: Global, heading: &Heading, one: &Wanted) -> Result<(), P
             ..Manner::WHOLE
         },
     )?;
-    if slow.taken.as_slice() != page.taken.as_slice() {
-        return Err(Problem::differs(
-            alloc,
-            "a byte a call",
-            page.taken.as_slice(),
-            slow.taken.as_slice(),
-        ));
+    let found = slow.writer.taken.as_slice();
+    if slow.fault.is_some() || found != whole {
+        return Err(Problem::differs(alloc, "a byte a call", whole, found));
     }
-    for call in 1..page.calls.saturating_add(1) {
+    for call in 1..page.writer.calls.saturating_add(1) {
         for how in [Stop::Fails, Stop::TakesNothing] {
-            let stopped = asked(alloc, over, question, Manner::WHOLE.stopped(call, how))?;
-            if stopped.calls != call || !stopped.has_part_of(page.taken.as_slice()) {
-                return Err(Problem::differs(
-                    alloc,
-                    "stopped",
-                    page.taken.as_slice(),
-                    stopped.taken.as_slice(),
-                ));
+            let stopped = ask_over(alloc, over, question, Manner::WHOLE.stopped(call, how))?;
+            if !is_cut_short(&stopped, call, whole) {
+                let found = stopped.writer.taken.as_slice();
+                return Err(Problem::differs(alloc, "stopped", whole, found));
             }
         }
     }
     Ok(())
 }
 
-/// A writer of this manner after a page was written to it.
-fn asked(alloc: Global, over: &[u8], question: &str, manner: Manner) -> Result<Writer, Problem> {
+/// Whether the call was the last, a part of the page went out, and the failed write is what is answered.
+fn is_cut_short(stopped: &Asked, call: usize, page: &[u8]) -> bool {
+    match &stopped.fault {
+        Some(fault) => {
+            fault.kind == Kind::Write
+                && fault.place == Place::Output
+                && status(fault) == 4
+                && stopped.writer.calls == call
+                && stopped.writer.has_part_of(page)
+        }
+        None => false,
+    }
+}
+
+/// A writer after a page was written to it, and what was answered.
+#[derive(Drop)]
+struct Asked {
+    writer: Writer,
+    fault: Option<Fault>,
+}
+
+/// A writer of this manner after a page was written to it, and what was answered.
+fn ask_over(alloc: Global, over: &[u8], question: &str, manner: Manner) -> Result<Asked, Problem> {
     let mut out = Out::new(Writer::new(alloc, manner));
     let files = Files { config: None };
-    let _ = ask(alloc, over, &files, question, &mut out);
+    let fault = ask(alloc, over, &files, question, &mut out).err();
     let writer = out.into_inner();
-    if writer.starved {
-        return Err(Problem::Memory);
+    match &fault {
+        Some(fault) if fault.kind == Kind::Memory => Err(Problem::Memory),
+        _ if writer.starved => Err(Problem::Memory),
+        _ => Ok(Asked { writer, fault }),
     }
-    Ok(writer)
 }

@@ -38,9 +38,12 @@ impl Tally {
         }
     }
 
-    /// Whether all cases are asked for.
-    pub fn takes_all(&self) -> bool {
-        self.only.is_none()
+    /// What is wrong where there was no case.
+    pub fn emptiness(&self) -> &'static str {
+        match self.only {
+            Some(_) => "no case begins at this line",
+            None => "a file without a case",
+        }
     }
 
     /// Counts a case, and says what is wrong with it.
@@ -79,6 +82,11 @@ impl Tally {
                 self.report.push_str(line.as_str())
             }
         }
+    }
+
+    /// Counts as wrong what was right, and as right what was wrong: in a file of mistakes each case has to be wrong.
+    pub fn turn(&mut self) {
+        self.wrong = self.cases.saturating_sub(self.wrong);
     }
 
     /// Ends the report with what the file came to.
