@@ -101,6 +101,3 @@ fn set_of_list(alloc: Global, matchers: &[Matcher]) -> Result<LabelSet, AllocErr
     }
     Ok(set)
 }
-
-#[cfg(test)]
-mod tests;

@@ -105,6 +105,3 @@ fn write_pair<W: Sink>(out: &mut W, separator: &[u8], name: &str, value: &str) -
     put_all(out, b"=")?;
     write_text(out, value)
 }
-
-#[cfg(test)]
-mod tests;
