@@ -10,6 +10,7 @@ pub mod Universes
 pub mod AddedLabels
 pub mod Admitted
 pub mod Values
+pub mod ValuesAt
 pub mod SetTexts
 mod Patterns
 mod PatternPieces

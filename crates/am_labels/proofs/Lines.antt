@@ -16,7 +16,7 @@ use Rattle.am_labels.specs.SetText.{pair_text, line}
 use Rattle.am_labels.proofs.PairsOf.{none_of_others}
 use Rattle.am_labels.proofs.Values.{AreOthers-after, find_first, same_text-itself}
 use Rattle.am_labels.proofs.SetTexts.{Pairs, joined, joined-cons, following}
-use Rattle.am_labels.proofs.Rows.{value_in}
+use Rattle.am_labels.proofs.ValuesAt.{value_in}
 
 -- ---- What stands between quotes, and what follows.
 

@@ -8,12 +8,12 @@ use Rattle.std.proofs.lemmas.List.Quantifiers.{position-Some}
 use Rattle.std.proofs.lemmas.Iterator.Adapters.{position_from-zero}
 use Rattle.std.proofs.lemmas.Option.{slice_get-get_or}
 use Rattle.am_labels.specs.Text.{same_text}
-use Rattle.am_labels.specs.Universe.{Label, IsUniverse, sizes}
+use Rattle.am_labels.specs.Universe.{Label, IsUniverse, sizes, values_at, label_position}
 use Rattle.am_labels.specs.Choice.{IsWhole}
 use Rattle.am_labels.specs.LabelSet.{value_of, label_set_of}
 use Rattle.am_labels.specs.Matcher.{Condition, holds, condition_holds, all_hold}
-use Rattle.am_labels.specs.Row.{holds_of, values_at, truths_of, label_position, truth_among, row_of, row_holds, rows_hold}
-use Rattle.am_labels.proofs.Rows.{value_in}
+use Rattle.am_labels.specs.Row.{holds_of, truths_of, truth_among, row_of, row_holds, rows_hold}
+use Rattle.am_labels.proofs.ValuesAt.{value_in}
 use Rattle.am_labels.proofs.Values.{value_of_declared, value_of_undeclared}
 use Rattle.am_labels.proofs.Wholes.{admitted_at}
 

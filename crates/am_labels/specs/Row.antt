@@ -1,8 +1,7 @@
 -- A matcher's truth on each value of its label. (This project's own.)
-use Rattle.std.specs.Prelude.{ℕ, List, [], ◌∷◌, map, Bool, false, slice_get, slice_index, slice_index_or, Option, Some, None, option_map, unwrap_or}
-use Rattle.std.specs.List.{position, list_all}
-use Rattle.am_labels.specs.Text.{same_text}
-use Rattle.am_labels.specs.Universe.{Label, Values}
+use Rattle.std.specs.Prelude.{ℕ, List, [], ◌∷◌, map, Bool, false, slice_index, slice_index_or, Option, Some, None, unwrap_or}
+use Rattle.std.specs.List.{list_all}
+use Rattle.am_labels.specs.Universe.{Label, values_at, label_position}
 use Rattle.am_labels.specs.Matcher.{Condition, holds}
 
 -- The position of the matcher's label, if it is declared, and the truths on that label's values, in declared order. For
@@ -15,18 +14,10 @@ pub record TruthRow : Type 0 where
 abbrev pub holds_of : Condition → Option (List ℕ) → Bool
 holds_of m value = holds m.op m.value (unwrap_or value [])
 
--- the values of the label at a position
-abbrev pub values_at : List Label → ℕ → Values
-values_at u i = unwrap_or (option_map (λ l. l.values) (slice_get u i)) []
-
 -- the truths on the values of the label at a position, or on absence alone where the label is not declared
 abbrev pub truths_of : List Label → Condition → Option ℕ → List Bool
 truths_of u m None = holds_of m None ∷ []
 truths_of u m (Some i) = map (holds_of m) (values_at u i)
-
--- the position of the label of a name
-abbrev pub label_position : List Label → List ℕ → Option ℕ
-label_position u name = position (λ l. same_text l.name name) u
 
 -- the row of a matcher over the labels of a universe
 abbrev pub row_of : List Label → Condition → TruthRow

@@ -1,7 +1,7 @@
 -- A universe of label sets: labels, each with the values that it may have. (This project's own; the form of
 -- a label name is that of the Prometheus data model, "Metric names and labels".)
-use Rattle.std.specs.Prelude.{◌≡◌, ℕ, ◌<◌, ◌≤◌, List, [], ◌∷◌, ◌++◌, length, map, Bool, true, false, not, nat_le, nat_lt, ◌==◌, ◌&&◌, ◌||◌, if◌then◌else◌, Option, Some, None, option_map, IsTrue}
-use Rattle.std.specs.List.{list_all, list_any, AllByRecursion, IsDistinct}
+use Rattle.std.specs.Prelude.{◌≡◌, ℕ, ◌<◌, ◌≤◌, List, [], ◌∷◌, ◌++◌, length, map, Bool, true, false, not, nat_le, nat_lt, ◌==◌, ◌&&◌, ◌||◌, if◌then◌else◌, Option, Some, None, option_map, unwrap_or, slice_get, IsTrue}
+use Rattle.std.specs.List.{list_all, list_any, position, AllByRecursion, IsDistinct}
 use Rattle.std.specs.Char.{is_ascii_alphabetic, is_ascii_digit}
 use Rattle.am_labels.specs.declared.kind.Kind.{Kind}
 use Rattle.am_labels.specs.declared.kind.Kind.TheVariants as kinds
@@ -60,6 +60,14 @@ names u = map (λ l. l.name) u
 -- how many values each label has
 abbrev pub sizes : List Label → List ℕ
 sizes u = map (λ l. length l.values) u
+
+-- the position of the label of a name
+abbrev pub label_position : List Label → List ℕ → Option ℕ
+label_position u name = position (λ l. same_text l.name name) u
+
+-- the values of the label at a position
+abbrev pub values_at : List Label → ℕ → Values
+values_at u i = unwrap_or (option_map (λ l. l.values) (slice_get u i)) []
 
 -- a label by itself: a name of the form, and 1 to 128 distinct values, none of them the empty text
 pub record IsLabel (l : Label) : Type 0 where

@@ -1,6 +1,6 @@
 ghost use Rattle.std.specs.Prelude.{◌≡◌, ◌<◌, [], ◌∷◌, length, map, Some, IfOk, IfSome, slice_get};
-ghost use Rattle.am_labels.specs.Universe.{sizes};
-ghost use Rattle.am_labels.specs.Row.{row_of, truth_at, holds_of, values_at};
+ghost use Rattle.am_labels.specs.Universe.{sizes, values_at};
+ghost use Rattle.am_labels.specs.Row.{row_of, truth_at, holds_of};
 
 use crate::matcher::Test;
 use crate::{Matcher, Universe};

@@ -1,9 +1,8 @@
 ghost use Rattle.std.specs.Prelude.{◌≡◌, ◌<◌, ◌≤◌, ◌==◌, [], ◌∷◌, ◌++◌, length, Some, None, string_bytes, IfErr, IfSome, IfNone, OnOk, OnErr, Contains, slice_get, slice_index, option_map, option_and_then, unwrap_or};
 ghost use Rattle.std.specs.List.{list_any};
-ghost use Rattle.am_labels.specs.Universe.{IsUniverse, max_labels, max_values, names, sizes, same_value, name_fault, count_fault, value_fault, label_values_fault, label_fault, no_memory};
+ghost use Rattle.am_labels.specs.Universe.{IsUniverse, max_labels, max_values, names, sizes, label_position, same_value, name_fault, count_fault, value_fault, label_values_fault, label_fault, no_memory};
 ghost use Rattle.am_labels.specs.UniverseView.{label_of, texts_of};
 ghost use Rattle.am_labels.specs.LabelSet.{value_at};
-ghost use Rattle.am_labels.specs.Row.{label_position};
 ghost use Rattle.am_labels.specs.Choice.{admits};
 ghost use Rattle.am_labels.specs.declared.kind.Kind.TheVariants as kinds;
 

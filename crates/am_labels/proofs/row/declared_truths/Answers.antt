@@ -1,8 +1,10 @@
 use Rattle.std.proofs.Common.{◌≡◌, ◌<◌, [], ◌∷◌, ◌++◌, length, get_or, None, map, ap, ◌∙◌, unwrap_or, arith}
 use Rattle.std.proofs.lemmas.List.{take_all}
 use Rattle.am_labels.specs.Matcher.{holds}
-use Rattle.am_labels.specs.Row.{holds_of, values_at}
-use Rattle.am_labels.proofs.Rows.{size_at, value_is, unwrapped, truths_more}
+use Rattle.am_labels.specs.Universe.{values_at}
+use Rattle.am_labels.specs.Row.{holds_of}
+use Rattle.am_labels.proofs.ValuesAt.{size_at, value_is}
+use Rattle.am_labels.proofs.Rows.{unwrapped, truths_more}
 use Rattle.am_labels.proofs.row.declared_truths.Goals as goal
 
 pub loop-j-preserved : goal.loop-j-preserved
