@@ -3,8 +3,8 @@ use Rattle.std.proofs.Common.{◌≡◌, ◌≢◌, sym, ◌∙◌, ap, subst, i
 use Rattle.std.specs.List.{All}
 use Rattle.std.specs.String.{string_bytes}
 use Rattle.std.proofs.lemmas.List.{map-append, length-map}
-use Rattle.am_labels.specs.declared.kind.Kind.{Kind}
-use Rattle.am_labels.specs.declared.kind.Kind.TheVariants as kinds
+use Rattle.am_universe.specs.declared.kind.Kind.{Kind}
+use Rattle.am_universe.specs.declared.kind.Kind.TheVariants as kinds
 use Rattle.am_labels.specs.declared.matcher_text.Spelled.{Spelled}
 use Rattle.am_labels.specs.Matcher.{max_matchers}
 use Rattle.am_labels.specs.MatcherText.{Spells}

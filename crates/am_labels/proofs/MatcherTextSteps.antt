@@ -1,6 +1,6 @@
 -- The steps of reading a piece, and what each gives for the whole.
 use Rattle.std.proofs.Common.{◌≡◌, refl, inl, inr, ℕ, List, Option, Some}
-use Rattle.am_labels.specs.declared.kind.Kind.{Kind}
+use Rattle.am_universe.specs.declared.kind.Kind.{Kind}
 use Rattle.am_labels.specs.declared.op.Op.{Op}
 use Rattle.am_labels.specs.MatcherText.{unescaped}
 use Rattle.am_labels.specs.MatcherReading.{Fails, ◌>>=◌, read_piece, read_name, read_operator, read_body, trimmed_start, trimmed_end}

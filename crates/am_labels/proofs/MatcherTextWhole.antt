@@ -9,8 +9,8 @@ use Rattle.std.proofs.lemmas.List.{append-nil, take-append-drop, get_or-take, le
 use Rattle.std.proofs.lemmas.Bool.{and_parts, and_from, cases_lt, cases_Bool, eqb-true, not-true, false≢true}
 use Rattle.std.proofs.lemmas.Bool.Decides.{nat_tests}
 use Rattle.std.proofs.lemmas.Option.{same_Some, cond_some, option_and_then_some, some_pair_parts, none-some}
-use Rattle.am_labels.specs.declared.kind.Kind.{Kind}
-use Rattle.am_labels.specs.declared.kind.Kind.TheVariants.{Memory, BadMatcher}
+use Rattle.am_universe.specs.declared.kind.Kind.{Kind}
+use Rattle.am_universe.specs.declared.kind.Kind.TheVariants.{Memory, BadMatcher}
 use Rattle.am_labels.specs.declared.op.Op.{Op}
 use Rattle.am_labels.specs.declared.op.Op.TheVariants.{Equal, NotEqual, Matches, NotMatches}
 use Rattle.am_labels.specs.Matcher.{Condition}

@@ -7,15 +7,15 @@ use Rattle.std.proofs.lemmas.List.{length-map, get_or-map}
 use Rattle.std.proofs.lemmas.List.Quantifiers.{position-Some}
 use Rattle.std.proofs.lemmas.Iterator.Adapters.{position_from-zero}
 use Rattle.std.proofs.lemmas.Option.{slice_get-get_or}
-use Rattle.am_labels.specs.Text.{same_text}
-use Rattle.am_labels.specs.Universe.{Label, IsUniverse, sizes, values_at, label_position}
-use Rattle.am_labels.specs.Choice.{IsWhole}
-use Rattle.am_labels.specs.LabelSet.{value_of, label_set_of}
+use Rattle.am_universe.specs.Text.{same_text}
+use Rattle.am_universe.specs.Universe.{Label, IsUniverse, sizes, values_at, label_position}
+use Rattle.am_universe.specs.Choice.{IsWhole}
+use Rattle.am_universe.specs.LabelSet.{value_of, label_set_of}
 use Rattle.am_labels.specs.Matcher.{Condition, holds, condition_holds, all_hold}
 use Rattle.am_labels.specs.Row.{holds_of, truths_of, truth_among, row_of, row_holds, rows_hold}
-use Rattle.am_labels.proofs.ValuesAt.{value_in}
-use Rattle.am_labels.proofs.Values.{value_of_declared, value_of_undeclared}
-use Rattle.am_labels.proofs.Wholes.{admitted_at}
+use Rattle.am_universe.proofs.ValuesAt.{value_in}
+use Rattle.am_universe.proofs.Values.{value_of_declared, value_of_undeclared}
+use Rattle.am_universe.proofs.Wholes.{admitted_at}
 
 none_from : {X : Type 0} (p : X → Bool) (i : ℕ) (xs : List X) → position_from p i xs ≡ None → (k : ℕ) (d : X) → k < length xs → p (get_or xs k d) ≡ false
 none_from p i [] e k d h = absurd (omega arith)

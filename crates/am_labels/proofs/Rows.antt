@@ -1,7 +1,7 @@
 -- Rows: the truths on the values of a label, value after value.
 use Rattle.std.proofs.Common.{◌≡◌, ℕ, ◌+◌, ◌<◌, Bool, List, [], ◌∷◌, ◌++◌, length, map, take, get_or, Option, Some, None, option_map, unwrap_or, refl, sym, ap, ◌∙◌}
 use Rattle.std.proofs.lemmas.List.{take_more, map-append}
-use Rattle.am_labels.specs.Universe.{Values}
+use Rattle.am_universe.specs.Universe.{Values}
 use Rattle.am_labels.specs.Matcher.{Condition}
 use Rattle.am_labels.specs.Row.{holds_of}
 

@@ -3,9 +3,9 @@ use Rattle.std.specs.Prelude.{ℕ, List, Bool, true, false, not}
 use Rattle.std.specs.List.{list_all}
 use Rattle.am_labels.specs.declared.op.Op.{Op}
 use Rattle.am_labels.specs.declared.op.Op.TheVariants.{Equal, NotEqual, Matches, NotMatches}
-use Rattle.am_labels.specs.Text.{same_text}
+use Rattle.am_universe.specs.Text.{same_text}
 use Rattle.am_labels.specs.Pattern.{finds}
-use Rattle.am_labels.specs.LabelSet.{LabelMap, value_of}
+use Rattle.am_universe.specs.LabelSet.{LabelMap, value_of}
 
 -- what a matcher states: of the value of a label, by an operator
 pub record Condition : Type 0 where

@@ -1,8 +1,8 @@
 -- Why a matcher, a list of matchers or a text of one is refused. (This project's own.) Want of memory is no part of it.
 use Rattle.std.specs.Prelude.{◌≡◌, ◌≢◌, ℕ, ◌<◌, ◌≤◌, List, [], ◌∷◌, ◌++◌, length, Bool, not, ◌&&◌, ◌||◌, if◌then◌else◌, IsTrue, ◌⊎◌}
 use Rattle.std.specs.List.{list_all}
-use Rattle.am_labels.specs.declared.kind.Kind.{Kind}
-use Rattle.am_labels.specs.declared.kind.Kind.TheVariants as kinds
+use Rattle.am_universe.specs.declared.kind.Kind.{Kind}
+use Rattle.am_universe.specs.declared.kind.Kind.TheVariants as kinds
 use Rattle.am_labels.specs.Pattern.{is_pattern}
 use Rattle.am_labels.specs.PatternProfile.{in_profile}
 use Rattle.am_labels.specs.Matcher.{Condition, takes_pattern, max_matchers}

@@ -6,7 +6,7 @@ use Rattle.std.specs.List.{filter, list_all, range_with_len, suffix_len, AllZip}
 use Rattle.std.specs.Char.{is_ascii_whitespace}
 use Rattle.am_labels.specs.declared.op.Op.{Op}
 use Rattle.am_labels.specs.declared.op.Op.TheVariants.{Equal, NotEqual, Matches, NotMatches}
-use Rattle.am_labels.specs.Universe.{begins_label_name, continues_label_name}
+use Rattle.am_universe.specs.Universe.{begins_label_name, continues_label_name}
 use Rattle.am_labels.specs.Matcher.{Condition}
 
 -- ---- bytes

@@ -1,7 +1,7 @@
 -- A matcher's truth on each value of its label. (This project's own.)
 use Rattle.std.specs.Prelude.{ℕ, List, [], ◌∷◌, map, Bool, false, slice_index, slice_index_or, Option, Some, None, unwrap_or}
 use Rattle.std.specs.List.{list_all}
-use Rattle.am_labels.specs.Universe.{Label, values_at, label_position}
+use Rattle.am_universe.specs.Universe.{Label, values_at, label_position}
 use Rattle.am_labels.specs.Matcher.{Condition, holds}
 
 -- The position of the matcher's label, if it is declared, and the truths on that label's values, in declared order. For

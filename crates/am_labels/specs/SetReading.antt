@@ -4,10 +4,10 @@ use Rattle.std.specs.List.{list_all, list_any}
 use Rattle.std.specs.FinMap as finite
 use Rattle.am_labels.specs.declared.op.Op.{Op}
 use Rattle.am_labels.specs.declared.op.Op.TheVariants.{Equal, NotEqual, Matches, NotMatches}
-use Rattle.am_labels.specs.declared.kind.Kind.{Kind}
-use Rattle.am_labels.specs.declared.kind.Kind.TheVariants as kinds
-use Rattle.am_labels.specs.Text.{same_text}
-use Rattle.am_labels.specs.LabelSet.{LabelMap, with_value}
+use Rattle.am_universe.specs.declared.kind.Kind.{Kind}
+use Rattle.am_universe.specs.declared.kind.Kind.TheVariants as kinds
+use Rattle.am_universe.specs.Text.{same_text}
+use Rattle.am_universe.specs.LabelSet.{LabelMap, with_value}
 use Rattle.am_labels.specs.Matcher.{Condition, max_matchers}
 use Rattle.am_labels.specs.MatcherText.{Spells}
 use Rattle.am_labels.specs.MatcherRefusals.{have_sound_values, RefusesText}

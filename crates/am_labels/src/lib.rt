@@ -1,47 +1,48 @@
-//! Label universes, choices, label sets and matchers, and how a label set is written.
+//! Matchers: their patterns, their texts, and which label sets they match.
 //!
-//! A [`Universe`] declares labels and the values that each may have. A [`Choice`] picks one value
-//! of each label, and [`set_of`] gives the [`LabelSet`] that it stands for. [`Matchers`] say which
-//! label sets they match, as Alertmanager's matchers do. What is written goes to a [`Sink`].
+//! A [`Matcher`] asks something of the value of a label, and [`Matchers`] are a list of them, as
+//! Alertmanager has them. [`parse_matchers`] reads a list from a text, and [`parse_set`] a label
+//! set. [`brace_len`] and [`brace_token`] say where the text of a list ends in a question. A
+//! [`Row`] is a matcher's truth on each value of its label in a [`Universe`].
+//!
+//! The public names of the crate `am_universe` that callers need are given again here.
 #![tactic(auto)]
 
-mod braces;
-mod choice;
-mod fault;
-mod history;
-mod kind;
-mod label_fault;
-mod label_name;
-mod label_set;
-pub mod laws;
-mod matcher;
-mod matcher_text;
-mod matchers;
+// The layer below: universes, label sets, sinks and refusals.
+pub use am_universe::{
+    Choice, Fault, History, Kind, LabelFault, LabelPart, LabelSet, Out, Place, Sink, Universe,
+    put_all, put_str, set_of, write_map, write_set, write_text,
+};
+
+// Operators, and the patterns that two of them take: which are accepted, and what they match.
 mod op;
-mod out;
-mod parse;
 mod pattern;
 mod pattern_profile;
-mod place;
-mod row;
-mod sink;
-mod universe;
-mod write;
 
-pub use braces::{brace_len, brace_token};
-pub use choice::Choice;
-pub use fault::Fault;
-pub use history::History;
-pub use kind::Kind;
-pub use label_fault::{LabelFault, LabelPart};
-pub use label_set::{LabelSet, set_of};
+pub use op::Op;
+
+// A matcher, and a list of them.
+mod matcher;
+mod matchers;
+
 pub use matcher::Matcher;
 pub use matchers::Matchers;
-pub use op::Op;
-pub use out::Out;
+
+// Their texts.
+mod matcher_text;
+mod parse;
+
 pub use parse::{parse_matchers, parse_set};
-pub use place::Place;
+
+// Where a text of matchers ends in a question.
+mod braces;
+
+pub use braces::{brace_len, brace_token};
+
+// A matcher's truth on each value of its label.
+mod row;
+
 pub use row::Row;
-pub use sink::Sink;
-pub use universe::Universe;
-pub use write::{put_all, put_str, write_map, write_set, write_text};
+
+// What holds of the definitions by themselves.
+pub mod laws;

@@ -2,10 +2,11 @@ ghost use Rattle.std.specs.Prelude.{◌≡◌, ◌≢◌, [], false, true, IsTru
 ghost use Rattle.am_labels.specs.PatternProfile.{in_profile};
 ghost use Rattle.am_labels.specs.Matcher.{holds, takes_pattern};
 ghost use Rattle.am_labels.specs.MatcherRefusals.{has_sound_value, RefusesCondition};
-ghost use Rattle.am_labels.specs.declared.kind.Kind.TheVariants as kinds;
+ghost use Rattle.am_universe.specs.declared.kind.Kind.TheVariants as kinds;
 
+use crate::Op;
 use crate::pattern::{Pattern, PatternMatcher};
-use crate::{Kind, Op};
+use am_universe::Kind;
 use std::alloc::{AllocError, Global};
 use std::marker::Model;
 

@@ -3,13 +3,13 @@
 ghost use Rattle.std.specs.Prelude.{◌≡◌, ◌≢◌, ◌≤◌, List, [], length, IfOk, IfErr, IsOk, string_bytes};
 ghost use Rattle.std.specs.Str.{IsUtf8, IsAscii};
 ghost use Rattle.std.specs.List.{All, prefix_len};
-ghost use Rattle.am_labels.specs.declared.kind.Kind.TheVariants as kinds;
+ghost use Rattle.am_universe.specs.declared.kind.Kind.TheVariants as kinds;
 ghost use Rattle.am_labels.specs.Matcher.{Condition};
 ghost use Rattle.am_labels.specs.MatcherText.{Spells, is_blank, begins_name, continues_name, unescaped, pieces, without_opening, without_closing};
 ghost use Rattle.am_labels.specs.MatcherReading.{Gives, condition_of, conditions_of, trimmed_start, trimmed_end, first_quote, read_body, read_operator, read_name, read_piece, read_each, read_list};
 
-use crate::label_name::{begins_label_name, continues_label_name};
-use crate::{Kind, Op};
+use crate::Op;
+use am_universe::{Kind, begins_label_name, continues_label_name};
 use std::alloc::{AllocError, Global};
 
 /// A matcher as a text spells it.

@@ -1,8 +1,9 @@
 ghost use Rattle.std.specs.Prelude.{◌≡◌, ◌≢◌, ◌<◌, ◌≤◌, ◌+◌, ◌==◌, [], ◌∷◌, ◌++◌, Some, length, IfOk, IfErr, OnOk, OnErr, slice_get};
 ghost use Rattle.am_labels.specs.Matcher.{max_matchers, all_hold};
-ghost use Rattle.am_labels.specs.declared.kind.Kind.TheVariants as kinds;
+ghost use Rattle.am_universe.specs.declared.kind.Kind.TheVariants as kinds;
 
-use crate::{Kind, LabelSet, Matcher};
+use crate::Matcher;
+use am_universe::{Kind, LabelSet};
 use std::alloc::{AllocError, Global};
 use std::marker::Model;
 

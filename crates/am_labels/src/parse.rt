@@ -1,16 +1,17 @@
 ghost use Rattle.std.specs.Prelude.{◌≡◌, ◌≢◌, ◌≤◌, [], length, IsTrue, IfOk, IfErr, string_bytes};
 ghost use Rattle.std.specs.List.{All, list_any};
-ghost use Rattle.am_labels.specs.Text.{same_text};
+ghost use Rattle.am_universe.specs.Text.{same_text};
 ghost use Rattle.am_labels.specs.Matcher.{max_matchers};
 ghost use Rattle.am_labels.specs.MatcherText.{Spells};
 ghost use Rattle.am_labels.specs.MatcherReading.{conditions_of};
 ghost use Rattle.am_labels.specs.MatcherRefusals.{have_sound_values, RefusesPatterns, RefusesText};
 ghost use Rattle.am_labels.specs.SetReading.{are_equalities, repeats_name, set_of_list, SpellsSet, RefusesSet};
-ghost use Rattle.am_labels.specs.declared.kind.Kind.TheVariants as kinds;
+ghost use Rattle.am_universe.specs.declared.kind.Kind.TheVariants as kinds;
 
 use crate::matcher_text::{Spelled, read_list};
 use crate::matchers::MAX_MATCHERS;
-use crate::{Kind, LabelSet, Matcher, Matchers};
+use crate::{Matcher, Matchers};
+use am_universe::{Kind, LabelSet};
 use std::alloc::{AllocError, Global};
 
 /// Reads a list of matchers in the classic syntax, as `team="db",severity=~"crit.*"`, with or without braces.

@@ -1,10 +1,10 @@
 ghost use Rattle.std.specs.Prelude.{◌≡◌, ◌≢◌, true, false, IfOk, IfErr, OnOk, string_bytes};
 ghost use Rattle.am_labels.specs.Pattern.{anchored, finds, is_pattern};
 ghost use Rattle.am_labels.specs.PatternProfile.{in_profile};
-ghost use Rattle.am_labels.specs.declared.kind.Kind.TheVariants as kinds;
+ghost use Rattle.am_universe.specs.declared.kind.Kind.TheVariants as kinds;
 
-use crate::Kind;
 use crate::pattern_profile::is_in_profile;
+use am_universe::Kind;
 use regex::{Error, Regex};
 use std::alloc::{AllocError, Global};
 use std::marker::Model;

@@ -1,9 +1,10 @@
 ghost use Rattle.std.specs.Prelude.{◌≡◌, ◌<◌, [], ◌∷◌, length, map, Some, IfOk, IfSome, slice_get};
-ghost use Rattle.am_labels.specs.Universe.{sizes, values_at};
+ghost use Rattle.am_universe.specs.Universe.{sizes, values_at};
 ghost use Rattle.am_labels.specs.Row.{row_of, truth_at, holds_of};
 
+use crate::Matcher;
 use crate::matcher::Test;
-use crate::{Matcher, Universe};
+use am_universe::Universe;
 use std::alloc::{AllocError, Global};
 use std::marker::Model;
 

@@ -1,9 +1,9 @@
 use Rattle.std.proofs.Common.{◌≡◌, ◌<◌, [], ◌∷◌, ◌++◌, length, get_or, None, map, ap, ◌∙◌, unwrap_or, arith}
 use Rattle.std.proofs.lemmas.List.{take_all}
 use Rattle.am_labels.specs.Matcher.{holds}
-use Rattle.am_labels.specs.Universe.{values_at}
+use Rattle.am_universe.specs.Universe.{values_at}
 use Rattle.am_labels.specs.Row.{holds_of}
-use Rattle.am_labels.proofs.ValuesAt.{size_at, value_is}
+use Rattle.am_universe.proofs.ValuesAt.{size_at, value_is}
 use Rattle.am_labels.proofs.Rows.{unwrapped, truths_more}
 use Rattle.am_labels.proofs.row.declared_truths.Goals as goal
 

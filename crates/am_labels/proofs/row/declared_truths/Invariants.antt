@@ -1,5 +1,5 @@
 use Rattle.std.proofs.Common.{◌≡◌, take, map}
-use Rattle.am_labels.specs.Universe.{values_at}
+use Rattle.am_universe.specs.Universe.{values_at}
 use Rattle.am_labels.specs.Row.{holds_of}
 use Rattle.am_labels.proofs.row.declared_truths.Given as goal
 

@@ -1,5 +1,0 @@
-use Rattle.am_labels.proofs.LabelMaps.{HasTextsAlone-of_none}
-use Rattle.am_labels.proofs.label_set.LabelSet.empty.Goals as goal
-
-pub invariant_of-result : goal.invariant_of-result
-invariant_of-result c = HasTextsAlone-of_none _ c.new.ensures.empty

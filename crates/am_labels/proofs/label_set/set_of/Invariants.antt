@@ -1,7 +1,0 @@
-use Rattle.std.proofs.Common.{◌≡◌, take}
-use Rattle.am_labels.specs.LabelSet.{label_set_of}
-use Rattle.am_labels.proofs.label_set.set_of.Given as goal
-
--- the set of the first labels
-abbrev pub invariant-loop-i : goal.invariant-loop-i
-invariant-loop-i l = l.set ≡ label_set_of (take l.i l.universe) (take l.i l.choice)

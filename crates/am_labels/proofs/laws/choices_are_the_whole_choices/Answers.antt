@@ -1,5 +1,0 @@
-use Rattle.am_labels.proofs.Choices.{choices_whole}
-use Rattle.am_labels.proofs.laws.choices_are_the_whole_choices.Goals as goal
-
-pub returns : goal.returns
-returns c = choices_whole

@@ -1,5 +1,0 @@
-use Rattle.am_labels.proofs.Values.{value_of_undeclared}
-use Rattle.am_labels.proofs.laws.undeclared_value.Goals as goal
-
-pub returns : goal.returns
-returns c = value_of_undeclared

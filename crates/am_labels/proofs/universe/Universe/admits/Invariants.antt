@@ -1,8 +1,0 @@
-use Rattle.std.proofs.Common.{◌≡◌}
-use Rattle.am_labels.specs.Universe.{sizes}
-use Rattle.am_labels.specs.Choice.{admits}
-use Rattle.am_labels.proofs.Admitted.{admits_from}
-use Rattle.am_labels.proofs.universe.Universe.admits.Given as goal
-
-abbrev pub invariant-loop-i : goal.invariant-loop-i
-invariant-loop-i l = admits (sizes l.self) l.choice ≡ admits_from (sizes l.self) l.choice l.i

@@ -1,5 +1,0 @@
-use Rattle.am_labels.proofs.Universes.{IsUniverse-empty}
-use Rattle.am_labels.proofs.universe.Universe.empty.Goals as goal
-
-pub invariant_of-result : goal.invariant_of-result
-invariant_of-result c = rw c.new.ensures.items IsUniverse-empty

@@ -1,0 +1,242 @@
+-- A label goes behind the labels of a universe exactly where `label_fault` finds nothing.
+use Rattle.std.proofs.Common.{◌≡◌, ◌↔◌, ℕ, ◌<◌, ◌≤◌, ◌==◌, List, [], ◌∷◌, ◌++◌, length, Bool, true, false, ◌||◌, Option, Some, None, IfSome, refl, sym, ap, subst, ◌∙◌, append_assoc, length-append, append-nil, cond, not, nat_le, nat_lt, arith}
+use borrow.Author.Tests.{eqb-false, ltb-false, leb-false, le-ltb, lt-leb}
+use Rattle.std.proofs.lemmas.List.{map-append}
+use Rattle.std.proofs.lemmas.Bool.Decides.{nat_tests}
+use Rattle.am_universe.specs.declared.kind.Kind.{Kind}
+use Rattle.am_universe.specs.declared.kind.Kind.TheVariants as kinds
+use Rattle.am_universe.specs.declared.label_fault.LabelFault.{LabelFault}
+use Rattle.am_universe.specs.declared.label_fault.LabelPart.{LabelPart}
+use Rattle.am_universe.specs.declared.label_fault.LabelPart.TheVariants as parts
+use Rattle.std.specs.List.{AllByRecursion, IsDistinct, list_any}
+use Rattle.am_universe.specs.Text.{same_text}
+use Rattle.am_universe.specs.Universe.{Label, Values, IsLabel, IsUniverse, names, is_label_name, same_value, is_empty_text, name_fault, count_fault, value_fault, values_fault, label_values_fault, label_fault, first_fault, fault_at}
+
+-- ---- Distinct items, with one more.
+
+or_false : (a b : Bool) → (a || b) ≡ false → (a ≡ false) × (b ≡ false)
+or_false true b h = cc
+or_false false b h = (refl, h)
+
+all_push : {A : Type 0} (P : A → Type 0) (xs : List A) (y : A) → AllByRecursion P xs → P y → AllByRecursion P (xs ++ y ∷ [])
+all_push P [] y all here = (here, tt)
+all_push P (x ∷ xs) y all here = (all.0, all_push P xs y all.1 here)
+
+all_pushed : {A : Type 0} (P : A → Type 0) (xs : List A) (y : A) → AllByRecursion P (xs ++ y ∷ []) → AllByRecursion P xs × P y
+all_pushed P [] y all = (tt, all.0)
+all_pushed P (x ∷ xs) y all = let rest = all_pushed P xs y all.1 in ((all.0, rest.0), rest.1)
+
+distinct_none : {A : Type 0} (e : A → A → Bool) → IsDistinct e []
+unfolding IsDistinct
+distinct_none e = tt
+
+distinct_push : {A : Type 0} (e : A → A → Bool) (xs : List A) (y : A) → IsDistinct e xs → list_any (λ z. e z y) xs ≡ false → IsDistinct e (xs ++ y ∷ [])
+unfolding IsDistinct
+distinct_push e [] y d none = (tt, tt)
+distinct_push e (x ∷ xs) y d none =
+    let split = or_false (e x y) (list_any (λ z. e z y) xs) none in
+    (all_push (λ z. e x z ≡ false) xs y d.0 split.0, distinct_push e xs y d.1 split.1)
+
+distinct_pushed : {A : Type 0} (e : A → A → Bool) (xs : List A) (y : A) → IsDistinct e (xs ++ y ∷ []) → IsDistinct e xs × (list_any (λ z. e z y) xs ≡ false)
+unfolding IsDistinct
+distinct_pushed e [] y d = (tt, refl)
+distinct_pushed e (x ∷ xs) y d =
+    let here = all_pushed (λ z. e x z ≡ false) xs y d.0 in
+    let rest = distinct_pushed e xs y d.1 in
+    ((here.0, rest.0), ap (λ b. b || list_any (λ z. e z y) xs) here.1 ∙ rest.1)
+
+-- ---- Values.
+
+-- what the faults of values say of those before and those to come
+pub record AreFine (before values : Values) : Type 0 where
+  pub texts : AllByRecursion (λ v. is_empty_text v ≡ false) values
+  pub distinct : IsDistinct same_value (before ++ values)
+
+tests_fine : (a b : Bool) → cond a (Some kinds.Empty) (cond b (Some kinds.Duplicate) None) ≡ None → (a ≡ false) × (b ≡ false)
+tests_fine true b h = cc
+tests_fine false true h = cc
+tests_fine false false h = (refl, refl)
+
+-- the parts of a value's having no fault
+value_fine : (before : Values) (value : Option (List ℕ)) → value_fault before value ≡ None → (is_empty_text value ≡ false) × (list_any (λ other. same_value other value) before ≡ false)
+value_fine before value h = tests_fine (is_empty_text value) (list_any (λ other. same_value other value) before) h
+
+no_first : {A : Type 0} (a b : Option A) → first_fault a b ≡ None → (a ≡ None) × (b ≡ None)
+no_first None b h = (refl, h)
+no_first (Some a) b h = cc
+
+nothing_at : (part : LabelPart) (found : Option Kind) → fault_at part found ≡ None → found ≡ None
+nothing_at part None h = refl
+nothing_at part (Some kind) h = cc
+
+pub values_fine : (before values : Values) → IsDistinct same_value before → values_fault before values ≡ None → AreFine before values
+values_fine before [] d h = record { texts = tt; distinct = subst (IsDistinct same_value) (sym (append-nil before)) d }
+values_fine before (value ∷ values) d h =
+    let split = no_first (fault_at (parts.Value (length before)) (value_fault before value)) (values_fault (before ++ value ∷ []) values) h in
+    let fine = value_fine before value (nothing_at (parts.Value (length before)) (value_fault before value) split.0) in
+    let rest = values_fine (before ++ value ∷ []) values (distinct_push same_value before value d fine.1) split.1 in
+    record { texts = (fine.0, rest.texts); distinct = subst (IsDistinct same_value) (append_assoc before (value ∷ []) values) rest.distinct }
+
+distinct_front : {A : Type 0} (e : A → A → Bool) (xs ys : List A) → IsDistinct e (xs ++ ys) → IsDistinct e xs
+distinct_front e xs [] d = subst (IsDistinct e) (append-nil xs) d
+distinct_front e xs (y ∷ ys) d =
+    (distinct_pushed e xs y (distinct_front e (xs ++ y ∷ []) ys (subst (IsDistinct e) (sym (append_assoc xs (y ∷ []) ys)) d))).0
+
+pub fine_values : (before values : Values) → AreFine before values → values_fault before values ≡ None
+fine_values before [] fine = refl
+fine_values before (value ∷ values) fine =
+    let longer = subst (IsDistinct same_value) (sym (append_assoc before (value ∷ []) values)) fine.distinct in
+    let apart = (distinct_pushed same_value before value (distinct_front same_value (before ++ value ∷ []) values longer)).1 in
+    let rest = fine_values (before ++ value ∷ []) values (record { texts = fine.texts.1; distinct = longer }) in
+    let here : value_fault before value ≡ None = rw (fine.texts.0, apart) in
+    rw (here, rest)
+
+-- ---- A label.
+
+count_parts : (a b : Bool) → cond a (Some kinds.Empty) (cond b (Some kinds.Limit) None) ≡ None → (a ≡ false) × (b ≡ false)
+count_parts true b h = cc
+count_parts false true h = cc
+count_parts false false h = (refl, refl)
+
+count_fine : (n : ℕ) → count_fault n ≡ None → (0 < n) × (n ≤ 128)
+count_fine n h =
+    let parts = count_parts (n == 0) (nat_lt 128 n) h in
+    let some = eqb-false n 0 parts.0 in
+    (omega (arith, some), ltb-false 128 n parts.1)
+
+fine_count : (n : ℕ) → 0 < n → n ≤ 128 → count_fault n ≡ None
+fine_count n h k =
+    let some : (n == 0) ≡ false = grind (arith, nat_tests) in
+    let few : nat_lt 128 n ≡ false = le-ltb 128 n k in
+    rw (some, few)
+
+name_parts : (a b c : Bool) → cond a (Some kinds.Empty) (cond (not b) (Some kinds.Shape) (cond c (Some kinds.Duplicate) None)) ≡ None → (b ≡ true) × (c ≡ false)
+name_parts true b c h = cc
+name_parts false false c h = cc
+name_parts false true true h = cc
+name_parts false true false h = (refl, refl)
+
+abbrev has : List Label → List ℕ → Bool
+has u name = list_any (λ l. same_text l.name name) u
+
+name_fine : (u : List Label) (name : List ℕ) → name_fault u name ≡ None → (is_label_name name ≡ true) × (has u name ≡ false)
+name_fine u name h = name_parts (length name == 0) (is_label_name name) (has u name) h
+
+some_byte : (name : List ℕ) → is_label_name name ≡ true → (length name == 0) ≡ false
+some_byte [] h = cc
+some_byte (c ∷ cs) h = let ne : 0 < length (c ∷ cs) = omega arith in grind (arith, nat_tests)
+
+fine_name : (u : List Label) (name : List ℕ) → is_label_name name ≡ true → has u name ≡ false → name_fault u name ≡ None
+fine_name u name form free = let some = some_byte name form in rw (some, form, free)
+
+-- the names of a list of labels, one of which is looked for
+has_names : (u : List Label) (name : List ℕ) → list_any (λ n. same_text n name) (names u) ≡ has u name
+has_names [] name = refl
+has_names (l ∷ u) name = ap (λ b. same_text l.name name || b) (has_names u name)
+
+pub IsLabel-from_faults : (l : Label) → is_label_name l.name ≡ true → label_values_fault l.values ≡ None → IsLabel l
+IsLabel-from_faults l form h =
+    let split = no_first (fault_at parts.Values (count_fault (length l.values))) (values_fault [] l.values) h in
+    let count = count_fine (length l.values) (nothing_at parts.Values (count_fault (length l.values)) split.0) in
+    let values = values_fine [] l.values (distinct_none same_value) split.1 in
+    record { name = form; some_value = count.0; at_most = count.1; texts = values.texts; distinct = values.distinct }
+
+pub faults_from_IsLabel : (l : Label) → IsLabel l → label_values_fault l.values ≡ None
+faults_from_IsLabel l h =
+    let count : count_fault (length l.values) ≡ None = fine_count (length l.values) h.some_value h.at_most in
+    let values : values_fault [] l.values ≡ None = fine_values [] l.values (record { texts = h.texts; distinct = h.distinct }) in
+    rw (count, values)
+
+label_parts : (full : Bool) (name : Option Kind) (values : Option LabelFault) → cond full (Some (record { kind = kinds.Limit; part = parts.Label })) (first_fault (fault_at parts.Name name) values) ≡ None → (full ≡ false) × (name ≡ None) × (values ≡ None)
+label_parts true name values h = cc
+label_parts false None values h = (refl, refl, h)
+label_parts false (Some kind) values h = cc
+
+pub added_is_universe : (u : List Label) (l : Label) → IsUniverse u → label_fault u l ≡ None → IsUniverse (u ++ l ∷ [])
+added_is_universe u l h fine =
+    let parts = label_parts (nat_le 64 (length u)) (name_fault u l.name) (label_values_fault l.values) fine in
+    let room = leb-false 64 (length u) parts.0 in
+    let name = name_fine u l.name parts.1 in
+    record {
+      at_most = omega (arith, length-append u (l ∷ []), room);
+      labels = all_push IsLabel u l h.labels (IsLabel-from_faults l name.0 parts.2);
+      distinct = subst (IsDistinct same_text) (sym (map-append (λ (x : Label). x.name) u (l ∷ []))) (distinct_push same_text (names u) l.name h.distinct (has_names u l.name ∙ name.1));
+    }
+
+pub universe_was_added : (u : List Label) (l : Label) → IsUniverse (u ++ l ∷ []) → label_fault u l ≡ None
+universe_was_added u l h =
+    let label = (all_pushed IsLabel u l h.labels).1 in
+    let apart = distinct_pushed same_text (names u) l.name (subst (IsDistinct same_text) (map-append (λ (x : Label). x.name) u (l ∷ [])) h.distinct) in
+    let room : nat_le 64 (length u) ≡ false = lt-leb 64 (length u) (omega (arith, length-append u (l ∷ []), h.at_most)) in
+    let name = fine_name u l.name label.name (sym (has_names u l.name) ∙ apart.1) in
+    let values = faults_from_IsLabel l label in
+    rw (room, name, values)
+
+-- where a label was pushed, or was not
+pub pushed_universe : (u : List Label) (l : Label) (pushed : Bool) → IsUniverse u → label_fault u l ≡ None → IsUniverse (cond pushed (u ++ l ∷ []) u)
+pushed_universe u l true h fine = added_is_universe u l h fine
+pushed_universe u l false h fine = h
+
+-- ---- No fault of a label is want of memory.
+
+abbrev IsOfText : Kind → Type 0
+IsOfText kind = kind ≡ kinds.Memory → ⊥
+
+name_kinds : (a b c : Bool) → IfSome (cond a (Some kinds.Empty) (cond (not b) (Some kinds.Shape) (cond c (Some kinds.Duplicate) None))) IsOfText
+name_kinds true b c = λ e. cc
+name_kinds false false c = λ e. cc
+name_kinds false true true = λ e. cc
+name_kinds false true false = tt
+
+count_kinds : (a b : Bool) → IfSome (cond a (Some kinds.Empty) (cond b (Some kinds.Limit) None)) IsOfText
+count_kinds true b = λ e. cc
+count_kinds false true = λ e. cc
+count_kinds false false = tt
+
+value_kinds : (a b : Bool) → IfSome (cond a (Some kinds.Empty) (cond b (Some kinds.Duplicate) None)) IsOfText
+value_kinds true b = λ e. cc
+value_kinds false true = λ e. cc
+value_kinds false false = tt
+
+kinds_at : (part : LabelPart) (found : Option Kind) → IfSome found IsOfText → IfSome (fault_at part found) (λ fault. IsOfText fault.kind)
+kinds_at part None h = tt
+kinds_at part (Some kind) h = h
+
+kinds_of_first : (a b : Option LabelFault) → IfSome a (λ fault. IsOfText fault.kind) → IfSome b (λ fault. IsOfText fault.kind) → IfSome (first_fault a b) (λ fault. IsOfText fault.kind)
+kinds_of_first None b h k = k
+kinds_of_first (Some fault) b h k = h
+
+values_kinds : (before values : Values) → IfSome (values_fault before values) (λ fault. IsOfText fault.kind)
+values_kinds before [] = tt
+values_kinds before (value ∷ values) =
+    kinds_of_first (fault_at (parts.Value (length before)) (value_fault before value)) (values_fault (before ++ value ∷ []) values)
+    (kinds_at (parts.Value (length before)) (value_fault before value) (value_kinds (is_empty_text value) (list_any (λ other. same_value other value) before)))
+    (values_kinds (before ++ value ∷ []) values)
+
+label_values_kinds : (values : Values) → IfSome (label_values_fault values) (λ fault. IsOfText fault.kind)
+label_values_kinds values =
+    kinds_of_first (fault_at parts.Values (count_fault (length values))) (values_fault [] values)
+    (kinds_at parts.Values (count_fault (length values)) (count_kinds (length values == 0) (nat_lt 128 (length values))))
+    (values_kinds [] values)
+
+full_kinds : (full : Bool) (o : Option LabelFault) → IfSome o (λ fault. IsOfText fault.kind) → IfSome (cond full (Some (record { kind = kinds.Limit; part = parts.Label })) o) (λ fault. IsOfText fault.kind)
+full_kinds true o h = λ e. cc
+full_kinds false o h = h
+
+-- a label's first fault is never want of memory
+pub label_fault-not_memory : (u : List Label) (l : Label) → IfSome (label_fault u l) (λ fault. fault.kind ≡ kinds.Memory → ⊥)
+label_fault-not_memory u l =
+    full_kinds (nat_le 64 (length u)) (first_fault (fault_at parts.Name (name_fault u l.name)) (label_values_fault l.values))
+    (kinds_of_first (fault_at parts.Name (name_fault u l.name)) (label_values_fault l.values)
+    (kinds_at parts.Name (name_fault u l.name) (name_kinds (length l.name == 0) (is_label_name l.name) (has u l.name)))
+    (label_values_kinds l.values))
+
+pub none_of_memory : (u : List Label) (l : Label) (fault : LabelFault) → label_fault u l ≡ Some fault → fault.kind ≡ kinds.Memory → label_fault u l ≡ None
+none_of_memory u l fault h memory =
+    let apart = subst (λ (o : Option LabelFault). IfSome o (λ f. f.kind ≡ kinds.Memory → ⊥)) h (label_fault-not_memory u l) in
+    absurd (apart memory)
+
+-- ---- The law.
+
+pub faults_are_exact : (u : List Label) (label : Label) → IsUniverse u → label_fault u label ≡ None ↔ IsUniverse (u ++ label ∷ [])
+faults_are_exact u label h = (added_is_universe u label h, universe_was_added u label)

@@ -1,0 +1,16 @@
+pub mod Writing
+pub mod Quoting
+pub mod Stored
+pub mod LabelMaps
+pub mod Wholes
+pub mod Members
+pub mod Choices
+pub mod PairsOf
+pub mod Universes
+pub mod AddedLabels
+pub mod Admitted
+pub mod Values
+pub mod ValuesAt
+pub mod SetTexts
+pub mod MapTexts
+pub mod Lines

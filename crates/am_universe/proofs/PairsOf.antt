@@ -1,0 +1,103 @@
+-- The pairs of a choice, label after label, and the label set that they make.
+use Rattle.std.proofs.Common.{◌≡◌, ◌≢◌, ℕ, zero, suc, ◌+◌, ◌<◌, false, cond, List, [], ◌∷◌, ◌++◌, length, take, Option, Some, None, option_map, slice_get, slice_index, option_and_then, ap, sym, ◌∙◌, refl, subst, arith, add-one}
+use Rattle.std.specs.Ordering.{nat_cmp}
+use Rattle.std.specs.Cmp.Lexicographic.{slice_cmp, nat_list_cmp_total}
+use Rattle.std.specs.List.{AllByRecursion, IsDistinct}
+use Rattle.std.specs.FinMap.{find, from_entries, from_entries_push, nat_cmp-IsAntisymmetric, slice_cmp-IsAntisymmetric}
+use Rattle.std.proofs.lemmas.List.{append-nil}
+use Rattle.std.proofs.lemmas.Option.{slice_get-get_or, slice_get-map}
+use Rattle.std.proofs.lemmas.Map.Keys.{IsDistinct-head, IsDistinct-tail}
+use Rattle.am_universe.specs.Text.{same_text}
+use Rattle.am_universe.specs.Universe.{Label, Values, IsLabel, IsUniverse, names, is_empty_text}
+use Rattle.am_universe.specs.LabelSet.{LabelMap, with_value, value_at, pair_before, pairs_of, label_set_of}
+use Rattle.am_universe.proofs.LabelMaps.{with_text, flips}
+
+-- ---- Labels by their places.
+
+pub at_place : {X : Type 0} (P : X → Type 0) (xs : List X) (i : ℕ) (x : X) → AllByRecursion P xs → slice_get xs i ≡ Some x → P x
+at_place P [] i x h e = cc
+at_place P (y ∷ xs) zero x h e = let same : y ≡ x = cc in subst P same h.0
+at_place P (y ∷ xs) (suc i) x h e = at_place P xs i x h.1 e
+
+pub found_at : {X : Type 0} (xs : List X) (i : ℕ) → i < length xs → (x : X) × (slice_get xs i ≡ Some x)
+found_at [] i h = absurd (omega arith)
+found_at (x ∷ xs) zero h = (x, refl)
+found_at (x ∷ xs) (suc i) h = found_at xs i (omega arith)
+
+-- no label of these has the name
+abbrev pub AreOthers : List ℕ → List Label → Type 0
+AreOthers name u = AllByRecursion (λ m. same_text m.name name ≡ false) u
+
+pub apart_from_first : (k : List ℕ) (u : List Label) (i : ℕ) (l : Label) → AllByRecursion (λ y. same_text k y ≡ false) (names u) → slice_get u i ≡ Some l → same_text k l.name ≡ false
+apart_from_first k [] i l h e = cc
+apart_from_first k (m ∷ u) zero l h e = let same : m ≡ l = cc in subst (λ n. same_text k n.name ≡ false) same h.0
+apart_from_first k (m ∷ u) (suc i) l h e = apart_from_first k u i l h.1 e
+
+pub AreOthers-before : (u : List Label) (i : ℕ) (l : Label) → IsDistinct same_text (names u) → slice_get u i ≡ Some l → AreOthers l.name (take i u)
+AreOthers-before u zero l d e = tt
+AreOthers-before [] (suc i) l d e = tt
+AreOthers-before (m ∷ u) (suc i) l d e = (apart_from_first m.name u i l (IsDistinct-head _ _ _ d) e, AreOthers-before u i l (IsDistinct-tail _ _ _ d) e)
+
+no_empty_text : (vs : Values) (j : ℕ) → AllByRecursion (λ v. is_empty_text v ≡ false) vs → option_and_then (λ v. v) (slice_get vs j) ≢ Some []
+no_empty_text [] j h e = cc
+no_empty_text (v ∷ vs) zero h e = cc
+no_empty_text (v ∷ vs) (suc j) h e = no_empty_text vs j h.1 e
+
+pub value_at-text : (u : List Label) (i : ℕ) (l : Label) (p : ℕ) → IsUniverse u → slice_get u i ≡ Some l → value_at l p ≢ Some []
+value_at-text u i l p h e = no_empty_text l.values p (at_place IsLabel u i l h.labels e).texts
+
+-- ---- The pairs of the first labels.
+
+before-append : (name : List ℕ) (value : Option (List ℕ)) (xs ys : List (List ℕ × List ℕ)) → pair_before name value (xs ++ ys) ≡ pair_before name value xs ++ ys
+before-append name None xs ys = refl
+before-append name (Some v) xs ys = refl
+
+pub pairs_of-more : (u : List Label) (c : List ℕ) (i : ℕ) (l : Label) (p : ℕ) → slice_get u i ≡ Some l → slice_get c i ≡ Some p → pairs_of (take (suc i) u) (take (suc i) c) ≡ pairs_of (take i u) (take i c) ++ pair_before l.name (value_at l p) []
+pairs_of-more [] c i l p e f = cc
+pairs_of-more (m ∷ u) [] i l p e f = cc
+pairs_of-more (m ∷ u) (q ∷ c) zero l p e f = let same : m ≡ l = cc in let also : q ≡ p = cc in cc
+pairs_of-more (m ∷ u) (q ∷ c) (suc i) l p e f = ap (pair_before m.name (value_at m q)) (pairs_of-more u c i l p e f) ∙ before-append m.name (value_at m q) _ _
+
+pub find_before : (q name : List ℕ) (value : Option (List ℕ)) (pairs : List (List ℕ × List ℕ)) → same_text name q ≡ false → find (slice_cmp nat_cmp) q (pair_before name value pairs) ≡ find (slice_cmp nat_cmp) q pairs
+find_before q name None pairs h = refl
+find_before q name (Some v) pairs h = ap (λ b. cond b (Some v) (find (slice_cmp nat_cmp) q pairs)) (flips q name ∙ h)
+
+pub none_of_others : (u : List Label) (c q : List ℕ) → AreOthers q u → find (slice_cmp nat_cmp) q (pairs_of u c) ≡ None
+none_of_others [] c q h = refl
+none_of_others (m ∷ u) [] q h = refl
+none_of_others (m ∷ u) (p ∷ c) q h = find_before q m.name (value_at m p) (pairs_of u c) h.0 ∙ none_of_others u c q h.1
+
+-- ---- Their label set.
+
+-- the set with this value of a label, where there is a value
+abbrev pub with_maybe : LabelMap → List ℕ → Option (List ℕ) → LabelMap
+with_maybe s name None = s
+with_maybe s name (Some value) = with_value s name value
+
+from_pairs-push : (pairs : List (List ℕ × List ℕ)) (name : List ℕ) (value : Option (List ℕ)) → find (slice_cmp nat_cmp) name pairs ≡ None → value ≢ Some [] → from_entries {R = slice_cmp nat_cmp} (pairs ++ pair_before name value []) ≡ with_maybe (from_entries pairs) name value
+from_pairs-push pairs name None new some = ap from_entries (append-nil pairs)
+from_pairs-push pairs name (Some v) new some = from_entries_push nat_list_cmp_total (slice_cmp-IsAntisymmetric nat_cmp-IsAntisymmetric) pairs name v new ∙ sym (with_text (from_entries pairs) name v (λ e. some (ap Some e)))
+
+pub label_set_of-more : (u : List Label) (c : List ℕ) (i : ℕ) (l : Label) (p : ℕ) → IsUniverse u → slice_get u i ≡ Some l → slice_get c i ≡ Some p → label_set_of (take (i + 1) u) (take (i + 1) c) ≡ with_maybe (label_set_of (take i u) (take i c)) l.name (value_at l p)
+label_set_of-more u c i l p h e f =
+    let new = none_of_others (take i u) (take i c) l.name (AreOthers-before u i l h.distinct e) in
+    rw add-one (ap from_entries (pairs_of-more u c i l p e f) ∙ from_pairs-push (pairs_of (take i u) (take i c)) l.name (value_at l p) new (value_at-text u i l p h e))
+
+-- ---- One turn: s is the set of the first i labels, and p the position at i.
+
+pub turn_with : (u : List Label) (c : List ℕ) (i p : ℕ) (s : LabelMap) (name text : List ℕ) → IsUniverse u → length c ≡ length u → i < length u → p ≡ slice_index c i → s ≡ label_set_of (take i u) (take i c) → slice_get (names u) i ≡ Some name → Some text ≡ option_and_then (λ l. value_at l p) (slice_get u i) → with_value s name text ≡ label_set_of (take (i + 1) u) (take (i + 1) c)
+turn_with u c i p s name text h whole k is so named valued =
+    let found : (l : Label) × (slice_get u i ≡ Some l) = found_at u i k in
+    let picked : slice_get c i ≡ Some p = slice_get-get_or c i 0 (omega arith) ∙ ap Some (sym is) in
+    let same_name : Some name ≡ Some found.0.name = sym named ∙ slice_get-map (λ l. l.name) u i ∙ ap (option_map (λ l. l.name)) found.1 in
+    let same_value : Some text ≡ value_at found.0 p = valued ∙ ap (option_and_then (λ l. value_at l p)) found.1 in
+    let next : label_set_of (take (i + 1) u) (take (i + 1) c) ≡ with_maybe (label_set_of (take i u) (take i c)) found.0.name (Some text) = label_set_of-more u c i found.0 p h found.1 picked ∙ ap (with_maybe (label_set_of (take i u) (take i c)) found.0.name) (sym same_value) in
+    let same : name ≡ found.0.name = cc in
+    ap (λ t. with_value t name text) so ∙ ap (λ n. with_value (label_set_of (take i u) (take i c)) n text) same ∙ sym next
+
+pub turn_without : (u : List Label) (c : List ℕ) (i p : ℕ) (s : LabelMap) → IsUniverse u → length c ≡ length u → i < length u → p ≡ slice_index c i → s ≡ label_set_of (take i u) (take i c) → None ≡ option_and_then (λ l. value_at l p) (slice_get u i) → s ≡ label_set_of (take (i + 1) u) (take (i + 1) c)
+turn_without u c i p s h whole k is so valued =
+    let found : (l : Label) × (slice_get u i ≡ Some l) = found_at u i k in
+    let picked : slice_get c i ≡ Some p = slice_get-get_or c i 0 (omega arith) ∙ ap Some (sym is) in
+    let same_value : None ≡ value_at found.0 p = valued ∙ ap (option_and_then (λ l. value_at l p)) found.1 in
+    so ∙ sym (label_set_of-more u c i found.0 p h found.1 picked ∙ ap (with_maybe (label_set_of (take i u) (take i c)) found.0.name) (sym same_value))

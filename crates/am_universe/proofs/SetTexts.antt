@@ -1,0 +1,108 @@
+-- The text of a label set, label after label.
+use Rattle.std.proofs.Common.{◌≡◌, ℕ, zero, suc, ◌+◌, ◌<◌, List, [], ◌∷◌, ◌++◌, length, map, take, drop, Option, Some, None, option_map, slice_get, slice_index, option_and_then, ap, sym, ◌∙◌, refl, arith, add-one, append_assoc, append-nil}
+use Rattle.std.specs.List.{join_with_byte}
+use Rattle.std.proofs.lemmas.List.{take_all}
+use Rattle.std.proofs.lemmas.Option.{slice_get-get_or, slice_get-map}
+use Rattle.am_universe.specs.Universe.{Label, names}
+use Rattle.am_universe.specs.LabelSet.{value_at, pair_before, pairs_of}
+use Rattle.am_universe.specs.SetText.{pair_text, pairs_text}
+use Rattle.am_universe.proofs.PairsOf.{found_at, pairs_of-more}
+
+-- ---- Pairs joined by commas.
+
+abbrev pub Pairs : Type 0
+Pairs = List (List ℕ × List ℕ)
+
+-- the pairs in a row, with a comma between each two
+abbrev pub joined : Pairs → List ℕ
+joined pairs = join_with_byte 44 (map pair_text pairs)
+
+-- what separates a pair from those before it
+abbrev pub separator : Pairs → List ℕ
+separator [] = []
+separator (p ∷ ps) = 44 ∷ []
+
+-- the pairs that follow another, each behind its comma
+abbrev pub following : Pairs → List ℕ
+following [] = []
+following (p ∷ ps) = 44 ∷ (pair_text p ++ following ps)
+
+pub joined-cons : (p : List ℕ × List ℕ) (ps : Pairs) → joined (p ∷ ps) ≡ pair_text p ++ following ps
+joined-cons p [] = sym (append-nil (pair_text p))
+joined-cons p (q ∷ ps) = ap (λ t. pair_text p ++ (44 ∷ t)) (joined-cons q ps)
+
+following-append : (ps qs : Pairs) → following (ps ++ qs) ≡ following ps ++ following qs
+following-append [] qs = refl
+following-append (p ∷ ps) qs = ap (λ t. 44 ∷ (pair_text p ++ t)) (following-append ps qs) ∙ ap (λ t. 44 ∷ t) (sym (append_assoc (pair_text p) (following ps) (following qs)))
+
+-- one pair among others
+pub joined_through : (ps : Pairs) (p : List ℕ × List ℕ) (qs : Pairs) → joined (ps ++ p ∷ qs) ≡ joined ps ++ ((separator ps ++ pair_text p) ++ following qs)
+joined_through [] p qs = joined-cons p qs
+joined_through (o ∷ ps) p qs =
+    joined-cons o (ps ++ p ∷ qs) ∙ ap (λ t. pair_text o ++ t) (following-append ps (p ∷ qs)) ∙ sym (append_assoc (pair_text o) (following ps) (following (p ∷ qs)))
+    ∙ ap (λ t. t ++ following (p ∷ qs)) (sym (joined-cons o ps))
+
+-- one pair behind others
+pub joined_more : (ps : Pairs) (p : List ℕ × List ℕ) → joined (ps ++ p ∷ []) ≡ joined ps ++ (separator ps ++ pair_text p)
+joined_more ps p = joined_through ps p [] ∙ ap (λ t. joined ps ++ t) (append-nil (separator ps ++ pair_text p))
+
+pub separator_behind : (ps : Pairs) (p : List ℕ × List ℕ) → 44 ∷ [] ≡ separator (ps ++ p ∷ [])
+separator_behind [] p = refl
+separator_behind (o ∷ ps) p = refl
+
+-- ---- The pairs of a choice: those of the first i labels, the next one if its label has a text, and the others.
+
+before_append : (name : List ℕ) (value : Option (List ℕ)) (xs ys : Pairs) → pair_before name value (xs ++ ys) ≡ pair_before name value xs ++ ys
+before_append name None xs ys = refl
+before_append name (Some v) xs ys = refl
+
+pub pairs_of-split : (u : List Label) (c : List ℕ) (i : ℕ) → length c ≡ length u → pairs_of u c ≡ pairs_of (take i u) (take i c) ++ pairs_of (drop i u) (drop i c)
+pairs_of-split u c zero h = refl
+pairs_of-split [] c (suc i) h = refl
+pairs_of-split (l ∷ u) [] (suc i) h = absurd (omega arith)
+pairs_of-split (l ∷ u) (p ∷ c) (suc i) h = ap (pair_before l.name (value_at l p)) (pairs_of-split u c i (omega arith)) ∙ before_append l.name (value_at l p) _ _
+
+pub next_pair : (u : List Label) (c : List ℕ) (i p : ℕ) (name text : List ℕ) → length c ≡ length u → i < length u → p ≡ slice_index c i → slice_get (names u) i ≡ Some name → Some text ≡ option_and_then (λ l. value_at l p) (slice_get u i)
+    → pairs_of (take (i + 1) u) (take (i + 1) c) ≡ pairs_of (take i u) (take i c) ++ (name, text) ∷ []
+next_pair u c i p name text whole k is named valued =
+    let found : (l : Label) × (slice_get u i ≡ Some l) = found_at u i k in
+    let picked : slice_get c i ≡ Some p = slice_get-get_or c i 0 (omega arith) ∙ ap Some (sym is) in
+    let same_name : Some found.0.name ≡ Some name = sym (sym named ∙ slice_get-map (λ l. l.name) u i ∙ ap (option_map (λ l. l.name)) found.1) in
+    let same_value : value_at found.0 p ≡ Some text = sym (valued ∙ ap (option_and_then (λ l. value_at l p)) found.1) in
+    let same : found.0.name ≡ name = cc in
+    rw add-one (pairs_of-more u c i found.0 p found.1 picked ∙ ap (λ v. pairs_of (take i u) (take i c) ++ pair_before found.0.name v []) same_value
+    ∙ ap (λ n. pairs_of (take i u) (take i c) ++ (n, text) ∷ []) same)
+
+pub no_pair : (u : List Label) (c : List ℕ) (i p : ℕ) → length c ≡ length u → i < length u → p ≡ slice_index c i → None ≡ option_and_then (λ l. value_at l p) (slice_get u i)
+    → pairs_of (take (i + 1) u) (take (i + 1) c) ≡ pairs_of (take i u) (take i c)
+no_pair u c i p whole k is valued =
+    let found : (l : Label) × (slice_get u i ≡ Some l) = found_at u i k in
+    let picked : slice_get c i ≡ Some p = slice_get-get_or c i 0 (omega arith) ∙ ap Some (sym is) in
+    let same_value : value_at found.0 p ≡ None = sym (valued ∙ ap (option_and_then (λ l. value_at l p)) found.1) in
+    rw add-one (pairs_of-more u c i found.0 p found.1 picked ∙ ap (λ v. pairs_of (take i u) (take i c) ++ pair_before found.0.name v []) same_value
+    ∙ append-nil (pairs_of (take i u) (take i c)))
+
+pub pair_among : (u : List Label) (c : List ℕ) (i p : ℕ) (name text : List ℕ) → length c ≡ length u → i < length u → p ≡ slice_index c i → slice_get (names u) i ≡ Some name → Some text ≡ option_and_then (λ l. value_at l p) (slice_get u i)
+    → pairs_of u c ≡ pairs_of (take i u) (take i c) ++ (name, text) ∷ pairs_of (drop (i + 1) u) (drop (i + 1) c)
+pair_among u c i p name text whole k is named valued =
+    let later : Pairs = pairs_of (drop (i + 1) u) (drop (i + 1) c) in
+    pairs_of-split u c (i + 1) whole ∙ ap (λ ps. ps ++ later) (next_pair u c i p name text whole k is named valued)
+    ∙ append_assoc (pairs_of (take i u) (take i c)) ((name, text) ∷ []) later
+
+-- ---- The text in braces: what is written, the next pair behind its separator, and the rest.
+
+pub set_through : (pairs ps : Pairs) (p : List ℕ × List ℕ) (qs : Pairs) (s : List ℕ) → pairs ≡ ps ++ p ∷ qs → s ≡ separator ps
+    → (123 ∷ joined ps) ++ ((s ++ pair_text p) ++ (following qs ++ 125 ∷ [])) ≡ pairs_text pairs
+set_through pairs ps p qs s are is =
+    let next : List ℕ = s ++ pair_text p in
+    ap (λ t. 123 ∷ t) (ap (λ t. joined ps ++ t) (sym (append_assoc next (following qs) (125 ∷ []))) ∙ sym (append_assoc (joined ps) (next ++ following qs) (125 ∷ []))
+    ∙ ap (λ t. t ++ 125 ∷ []) (ap (λ t. joined ps ++ ((t ++ pair_text p) ++ following qs)) is ∙ sym (joined_through ps p qs) ∙ ap joined (sym are)))
+
+pub set_more : (pairs ps : Pairs) (p : List ℕ × List ℕ) (s : List ℕ) → pairs ≡ ps ++ p ∷ [] → s ≡ separator ps → (123 ∷ joined ps) ++ (s ++ pair_text p) ≡ 123 ∷ joined pairs
+set_more pairs ps p s are is = ap (λ t. 123 ∷ t) (ap (λ t. joined ps ++ (t ++ pair_text p)) is ∙ sym (joined_more ps p) ∙ ap joined (sym are))
+
+pub set_end : (u : List Label) (c : List ℕ) (i : ℕ) → length c ≡ length u → i ≡ length u → (123 ∷ joined (pairs_of (take i u) (take i c))) ++ 125 ∷ [] ≡ pairs_text (pairs_of u c)
+set_end u c i whole e =
+    let all : take i u ≡ u = take_all i u (omega arith) in
+    let all_chosen : take i c ≡ c = take_all i c (omega arith) in
+    cc

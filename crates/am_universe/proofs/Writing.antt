@@ -1,0 +1,105 @@
+-- What is written step by step.
+use Rattle.std.proofs.Common.{◌≡◌, ℕ, ◌+◌, ◌-◌, ◌<◌, ◌≤◌, List, [], ◌∷◌, ◌++◌, length, get_or, take, drop, Result, Ok, Err, IsErr, refl, subst, sym, ap, ◌∙◌, append_assoc, append-nil, length-append, length-drop, arith}
+use Rattle.std.proofs.Math.Seq.{take-add, take-append-add}
+use Rattle.std.proofs.lemmas.List.{take-append-le, take_all, take-append-drop, take_more}
+use Rattle.std.proofs.lemmas.Grind.{flat_map-append}
+use Rattle.std.specs.List.{flat_map}
+use Rattle.std.specs.Result.{IsErrAnd}
+use Rattle.am_universe.specs.declared.kind.Kind.{Kind}
+use Rattle.am_universe.specs.Sink.{GrowsByProperPrefix, Wrote, WroteInPart, Writes}
+
+-- ---- A text in pieces, one for each item of a list, between a head and a tail. A loop keeps that the head and the pieces of the first
+-- items are written.
+
+pub pieces_split : {X : Type 0} (f : X → List ℕ) (xs : List X) (i : ℕ) → flat_map f (take i xs) ++ flat_map f (drop i xs) ≡ flat_map f xs
+pieces_split f xs i = sym (flat_map-append f (take i xs) (drop i xs)) ∙ ap (flat_map f) (take-append-drop i xs)
+
+pub pieces_more : {X : Type 0} (head : List ℕ) (f : X → List ℕ) (xs : List X) (i : ℕ) (d : X) → i < length xs
+    → (head ++ flat_map f (take i xs)) ++ f (get_or xs i d) ≡ head ++ flat_map f (take (i + 1) xs)
+pieces_more head f xs i d h =
+    append_assoc head (flat_map f (take i xs)) (f (get_or xs i d)) ∙ ap (λ t. head ++ t) (ap (λ t. flat_map f (take i xs) ++ t) (sym (append-nil (f (get_or xs i d))))
+    ∙ sym (flat_map-append f (take i xs) (get_or xs i d ∷ [])) ∙ ap (flat_map f) (sym (take_more xs i d h)))
+
+pub pieces_end : {X : Type 0} (head : List ℕ) (f : X → List ℕ) (xs : List X) (tail : List ℕ) (i : ℕ) → length xs ≤ i → (head ++ flat_map f (take i xs)) ++ tail ≡ head ++ (flat_map f xs ++ tail)
+pieces_end head f xs tail i h = append_assoc head (flat_map f (take i xs)) tail ∙ ap (λ t. head ++ (flat_map f t ++ tail)) (take_all i xs h)
+
+-- the piece at which the writing stopped, and the rest
+pub pieces_through : {X : Type 0} (head : List ℕ) (f : X → List ℕ) (xs : List X) (tail : List ℕ) (i : ℕ) (d : X) → i < length xs
+    → (head ++ flat_map f (take i xs)) ++ (f (get_or xs i d) ++ (flat_map f (drop (i + 1) xs) ++ tail)) ≡ head ++ (flat_map f xs ++ tail)
+pieces_through head f xs tail i d h =
+    let later : List ℕ = flat_map f (drop (i + 1) xs) in
+    sym (append_assoc (head ++ flat_map f (take i xs)) (f (get_or xs i d)) (later ++ tail)) ∙ ap (λ t. t ++ (later ++ tail)) (pieces_more head f xs i d h)
+    ∙ append_assoc head (flat_map f (take (i + 1) xs)) (later ++ tail) ∙ ap (λ t. head ++ t) (sym (append_assoc (flat_map f (take (i + 1) xs)) later tail) ∙ ap (λ t. t ++ tail) (pieces_split f xs (i + 1)))
+
+-- ---- A text of which some bytes at the front are written.
+
+-- the part of a text from i on, as `&text[i..]` gives it
+rest_from : (i : ℕ) (text : List ℕ) → take (length text - i) (drop i text) ≡ drop i text
+rest_from i text = take_all (length text - i) (drop i text) (omega (arith, length-drop i text))
+
+-- n more bytes behind the first i
+pub more_taken : (start now later text : List ℕ) (i n : ℕ) → now ≡ start ++ take i text → later ≡ now ++ take n (take (length text - i) (drop i text)) → later ≡ start ++ take (i + n) text
+more_taken start now later text i n before more =
+    more ∙ ap (λ t. now ++ take n t) (rest_from i text) ∙ ap (λ t. t ++ take n (drop i text)) before ∙ append_assoc start (take i text) (take n (drop i text)) ∙ ap (λ t. start ++ t) (sym (take-add i n text))
+
+-- ---- A proper prefix of a text, where the text goes on or has been begun.
+
+grows_on : {old new a : List ℕ} (b : List ℕ) → GrowsByProperPrefix old new a → GrowsByProperPrefix old new (a ++ b)
+grows_on {old} {new} {a} b g = record {
+  count = g.count;
+  proper = omega (arith, length-append a b, g.proper);
+  grows = g.grows ∙ ap (λ t. old ++ t) (sym (take-append-le g.count a b (omega (arith, g.proper))));
+}
+
+grows_behind : {old mid new : List ℕ} (a b : List ℕ) → mid ≡ old ++ a → GrowsByProperPrefix mid new b → GrowsByProperPrefix old new (a ++ b)
+grows_behind {old} a b e g = record {
+  count = length a + g.count;
+  proper = omega (arith, length-append a b, g.proper);
+  grows = g.grows ∙ ap (λ t. t ++ take g.count b) e ∙ append_assoc old a (take g.count b) ∙ ap (λ t. old ++ t) (sym (take-append-add a b g.count));
+}
+
+-- ---- One write behind another. A definition that ends `a ++ (b ++ c)` is met by calls that write a, b and c in turn:
+-- `first ⟩ second ⟩ third`, and where the second failed, `first ⟩ fails _ answer second`.
+
+infixr 20 ◌⟩◌
+module _ {S : Type 0} {taken : S → List ℕ} {failures : S → ℕ} where
+  -- nothing is written of the empty text
+  pub wrote_nothing : {s : S} → Wrote taken failures s s []
+  wrote_nothing {s} = record { all = sym (append-nil (taken s)); none_failed = refl }
+
+  pub wrote_then : {s m e : S} {a b : List ℕ} → Wrote taken failures s m a → Wrote taken failures m e b → Wrote taken failures s e (a ++ b)
+  wrote_then {s} {m} {e} {a} {b} v w = record {
+    all = w.all ∙ ap (λ t. t ++ b) v.all ∙ append_assoc (taken s) a b;
+    none_failed = w.none_failed ∙ v.none_failed;
+  }
+
+  pub wrote_as : {s e : S} {a b : List ℕ} → a ≡ b → Wrote taken failures s e a → Wrote taken failures s e b
+  wrote_as {s} same w = record { all = w.all ∙ ap (λ t. taken s ++ t) same; none_failed = w.none_failed }
+
+  -- a write that failed behind one that did not
+  pub stopped_then : {s m e : S} {a b : List ℕ} → Wrote taken failures s m a → WroteInPart taken failures m e b → WroteInPart taken failures s e (a ++ b)
+  stopped_then {s} {m} {e} {a} {b} v w = record {
+    part = grows_behind a b v.all w.part;
+    one_failed = w.one_failed ∙ ap (λ n. n + 1) v.none_failed;
+  }
+
+  -- a failed write of a text is one of any text that goes on from it
+  pub stopped_on : {s e : S} {a : List ℕ} (b : List ℕ) → WroteInPart taken failures s e a → WroteInPart taken failures s e (a ++ b)
+  stopped_on b w = record { part = grows_on b w.part; one_failed = w.one_failed }
+
+  -- a write behind one that did not fail
+  pub ◌⟩◌ : {T : Type 0} {s m e : S} {a b : List ℕ} {r : Result T Kind} → Wrote taken failures s m a → Writes taken failures m e b r → Writes taken failures s e (a ++ b) r
+  ◌⟩◌ {r = Ok t} v w = record { ok = wrote_then v w.ok; err = tt }
+  ◌⟩◌ {r = Err k} v w = record { ok = tt; err = (w.err.0, stopped_then v w.err.1) }
+
+  -- the write that failed, by a `?`, of a text that goes on
+  pub fails : {T U : Type 0} {s e : S} {a : List ℕ} (b : List ℕ) {kind : Kind} {r : Result T Kind} → IsErr r × IsErrAnd r (λ k. k ≡ kind) → Writes {T = U} taken failures s e a (Err kind) → Writes taken failures s e (a ++ b) r
+  fails b {r = Ok t} h w = absurd h.1
+  fails b {r = Err k} h w = record { ok = tt; err = (h.1 ∙ w.err.0, stopped_on b w.err.1) }
+
+  -- all was written, and the answer is of another type
+  pub ends : {T : Type 0} {s e : S} {a : List ℕ} (t : T) → Wrote taken failures s e a → Writes {T = T} taken failures s e a (Ok t)
+  ends t w = record { ok = w; err = tt }
+
+  pub writes_as : {T : Type 0} {s e : S} {a b : List ℕ} {r : Result T Kind} → a ≡ b → Writes taken failures s e a r → Writes taken failures s e b r
+  writes_as {T} {s} {e} {r = r} same w = subst (λ (t : List ℕ). Writes {T = T} taken failures s e t r) same w

@@ -1,0 +1,5 @@
+use Rattle.am_universe.proofs.AddedLabels.{faults_are_exact}
+use Rattle.am_universe.proofs.laws.a_label_is_added_exactly_to_a_universe.Goals as goal
+
+pub returns : goal.returns
+returns c = faults_are_exact

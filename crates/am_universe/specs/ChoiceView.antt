@@ -1,0 +1,16 @@
+-- How a choice is stored: its positions at the front of 64 cells, and 0 in the others.
+use Rattle.std.specs.Prelude.{◌≡◌, ℕ, ◌≤◌, ◌-◌, List, ◌++◌, length, take, replicate}
+use Rattle.am_universe.specs.declared.choice.Choice.TheInside.{Inside}
+use Rattle.am_universe.specs.Choice.{max_positions}
+
+-- the positions of a stored choice
+abbrev pub view_of : Inside → List ℕ
+view_of a = take a.len a.positions
+
+-- the one way in which positions are stored
+abbrev pub stored : List ℕ → Inside
+stored c = record { positions = c ++ replicate (max_positions - length c) 0; len = length c }
+
+-- at most 64 positions, and stored so
+abbrev pub IsStored : Inside → Type 0
+IsStored a = (a.len ≤ max_positions) × (stored (view_of a) ≡ a)

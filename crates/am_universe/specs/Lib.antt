@@ -1,0 +1,11 @@
+pub mod Kind
+pub mod Sink
+pub mod Out
+pub mod Text
+pub mod Universe
+pub mod UniverseView
+pub mod Choice
+pub mod ChoiceView
+pub mod LabelSet
+pub mod LabelSetView
+pub mod SetText

@@ -1,0 +1,86 @@
+ghost use Rattle.std.specs.Prelude.{◌≡◌, ◌==◌, ◌<◌, ◌≤◌, List, [], ◌∷◌, ◌++◌, length, slice_index, IfSome, IfNone};
+ghost use Rattle.am_universe.specs.Choice.{max_positions};
+
+use std::marker::Model;
+
+/// A list of 0 to 64 positions, one for each label of a universe: a whole choice, or a prefix of one.
+///
+/// Positions count from 0.
+#[derive(Clone, Copy)]
+pub struct Choice {
+    positions: [u8; 64],
+    len: usize,
+}
+
+impl Model for Choice {
+    ghost use Rattle.std.specs.Prelude.{List, ℕ};
+    ghost use Rattle.am_universe.specs.ChoiceView.{view_of, IsStored, stored};
+
+    ghost Value = { List ℕ };
+
+    ghost view = { view_of };
+
+    ghost invariant = { IsStored };
+
+    ghost inverse = { stored };
+
+    ghost inverse_ok = { λ a h. h.1 };
+}
+
+impl Choice {
+    /// The choice with no position.
+    pub fn empty() -> Choice
+        ensures { result ≡ [] }
+    {
+        Choice {
+            positions: [0; 64],
+            len: 0,
+        }
+    }
+
+    /// How many positions there are, at most 64.
+    pub fn len(&self) -> usize
+        ensures len { result ≡ length self.now }
+        ensures at_most { result ≤ max_positions }
+    {
+        self.len
+    }
+
+    /// Whether there is no position.
+    pub fn is_empty(&self) -> bool
+        ensures { result ≡ (length self.now == 0) }
+    {
+        self.len() == 0
+    }
+
+    /// The position at `i`.
+    pub fn get(&self, i: usize) -> u8
+        requires { i < length self.now }
+        ensures { result ≡ slice_index self.now i }
+    {
+        self.positions[i]
+    }
+
+    /// Adds a position at the end.
+    pub fn push(&mut self, position: u8)
+        requires { length self.old < max_positions }
+        ensures { self.new ≡ self.old ++ position ∷ [] }
+    {
+        self.positions[self.len] = position;
+        self.len += 1;
+    }
+
+    /// Takes the last position off. With none there is `None`, and nothing changes.
+    pub fn pop(&mut self) -> Option<u8>
+        ensures last { IfSome result (λ position. self.old ≡ self.new ++ position ∷ []) }
+        ensures none { IfNone result ((self.old ≡ []) × (self.new ≡ [])) }
+    {
+        if self.len == 0 {
+            return None;
+        }
+        self.len -= 1;
+        let position = self.positions[self.len];
+        self.positions[self.len] = 0;
+        Some(position)
+    }
+}

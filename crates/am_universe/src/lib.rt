@@ -1,0 +1,49 @@
+//! Universes of labels, the choices and label sets that they have, and how those are written.
+//!
+//! A [`Universe`] declares labels and the values that each may have. A [`Choice`] picks one value
+//! of each label, and [`set_of`] gives the [`LabelSet`] that it stands for. What is written goes to
+//! a [`Sink`], as an [`Out`] over a writer is one. A [`Fault`] says why something was refused, and
+//! where.
+#![tactic(auto)]
+
+// Refusals: why, where, and at which part of a label.
+mod fault;
+mod kind;
+mod label_fault;
+mod place;
+
+pub use fault::Fault;
+pub use kind::Kind;
+pub use label_fault::{LabelFault, LabelPart};
+pub use place::Place;
+
+// Where bytes go, and what has gone there so far.
+mod history;
+mod out;
+mod sink;
+
+pub use history::History;
+pub use out::Out;
+pub use sink::Sink;
+
+// Label names, choices, and the universes that admit them.
+mod choice;
+mod label_name;
+mod universe;
+
+pub use choice::Choice;
+pub use label_name::{begins_label_name, continues_label_name};
+pub use universe::Universe;
+
+// Label sets.
+mod label_set;
+
+pub use label_set::{LabelSet, set_of};
+
+// Writing to a sink: bytes, texts and label sets.
+mod write;
+
+pub use write::{put_all, put_str, write_map, write_set, write_text};
+
+// What holds of the definitions by themselves.
+pub mod laws;

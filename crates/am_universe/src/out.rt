@@ -1,0 +1,72 @@
+ghost use Rattle.std.specs.Prelude.{◌≡◌, ◌++◌, [], Some, IfSome};
+ghost use Rattle.std.specs.Option.{ForSome};
+
+use crate::{History, Kind, Sink};
+use std::io::Write;
+use std::snapshot::Snapshot;
+
+/// A sink over any writer. A write that answers an error or takes no byte is a failed take.
+///
+/// What it has taken is what its writer says it took, and what the writer itself holds where it tells.
+#[derive(Drop)]
+pub struct Out<W: Write> {
+    writer: W,
+    start: Snapshot<W>,
+    taken: History<u8>,
+    failures: History<Kind>,
+    ghost told: { ForSome (W.contents start.value) (λ held. W.contents writer ≡ Some (held ++ taken.items)) },
+}
+
+impl<W: Write> Out<W> {
+    ghost use Rattle.am_universe.specs.Out.{out_taken, out_failures, out_start};
+
+    /// A sink over the writer, which has taken nothing yet.
+    pub fn new(writer: W) -> Out<W>
+        ensures nothing { out_taken result ≡ [] }
+        ensures no_failure { out_failures result ≡ 0 }
+        ensures start { out_start result ≡ writer }
+    {
+        let start = Snapshot::of(&writer);
+        Out {
+            writer,
+            start,
+            taken: History::new(),
+            failures: History::new(),
+        }
+    }
+
+    /// The writer as it is now.
+    pub fn get_ref(&self) -> &W
+        ensures { IfSome (W.contents (out_start self.now)) (λ held. W.contents result.now ≡ Some (held ++ out_taken self.now)) }
+    {
+        &self.writer
+    }
+
+    /// The writer.
+    pub fn into_inner(self) -> W
+        ensures { IfSome (W.contents (out_start self)) (λ held. W.contents result ≡ Some (held ++ out_taken self)) }
+    {
+        self.writer
+    }
+}
+
+impl<W: Write> Sink for Out<W> {
+    ghost use Rattle.am_universe.specs.Out.{out_taken, out_failures};
+
+    ghost taken = { out_taken };
+
+    ghost failures = { out_failures };
+
+    fn take(&mut self, bytes: &[u8]) -> Result<usize, Kind> {
+        match self.writer.write(bytes) {
+            Ok(0) | Err(_) => {
+                self.failures = self.failures.and(&[Kind::Write]);
+                Err(Kind::Write)
+            }
+            Ok(count) => {
+                self.taken = self.taken.and(&bytes[..count]);
+                Ok(count)
+            }
+        }
+    }
+}

@@ -1,0 +1,268 @@
+ghost use Rattle.std.specs.Prelude.{◌≡◌, ◌<◌, ◌≤◌, ◌==◌, [], ◌∷◌, ◌++◌, length, Some, None, string_bytes, IfErr, IfSome, IfNone, OnOk, OnErr, Contains, slice_get, slice_index, option_map, option_and_then, unwrap_or};
+ghost use Rattle.std.specs.List.{list_any};
+ghost use Rattle.am_universe.specs.Universe.{IsUniverse, max_labels, max_values, names, sizes, label_position, same_value, name_fault, count_fault, value_fault, label_values_fault, label_fault, no_memory};
+ghost use Rattle.am_universe.specs.UniverseView.{label_of, texts_of};
+ghost use Rattle.am_universe.specs.LabelSet.{value_at};
+ghost use Rattle.am_universe.specs.Choice.{admits};
+ghost use Rattle.am_universe.specs.declared.kind.Kind.TheVariants as kinds;
+
+use crate::label_name::is_label_name;
+use crate::{Choice, Kind, LabelFault, LabelPart};
+use std::alloc::Global;
+use std::marker::Model;
+
+/// A label and the values that it may have; `None` is absence.
+#[derive(Drop)]
+struct Label {
+    name: String,
+    values: Vec<Option<String>>,
+}
+
+/// A declared, finite universe of label sets: at most 64 labels, each with 1 to 128 distinct values.
+///
+/// A value is a non-empty text or absence. The order of the labels and of their values is the
+/// declared order, in which label sets are written.
+#[derive(Drop)]
+pub struct Universe {
+    labels: Vec<Label>,
+}
+
+impl Model for Label {
+    ghost use Rattle.am_universe.specs.Universe as spec;
+    ghost use Rattle.am_universe.specs.UniverseView.{label_of};
+
+    ghost Value = { spec.Label };
+
+    ghost view = { λ l. label_of l.name l.values };
+}
+
+impl Model for Universe {
+    ghost use Rattle.std.specs.Prelude.{List};
+    ghost use Rattle.am_universe.specs.Universe as spec;
+
+    ghost Value = { List spec.Label };
+
+    ghost view = { λ u. u.labels.items };
+
+    ghost invariant = { λ u. spec.IsUniverse u.labels.items };
+}
+
+impl Universe {
+    /// The most labels of a universe.
+    pub const MAX_LABELS: usize = 64;
+
+    /// The most values of a label.
+    pub const MAX_VALUES: usize = 128;
+
+    /// The universe with no labels, which has one label set, the empty one. It keeps the allocator.
+    pub fn empty(alloc: Global) -> Universe
+        ensures { result ≡ [] }
+    {
+        Universe {
+            labels: Vec::new(alloc),
+        }
+    }
+
+    /// Why a label of this name may not be added; `None` where it may, if its values may too.
+    ///
+    /// The first of: `Empty`, the empty text; `Shape`, not `[a-zA-Z_][a-zA-Z0-9_]*`; `Duplicate`, the name of a label here.
+    pub fn name_fault(&self, name: &str) -> Option<Kind>
+        ensures { result ≡ name_fault self.now name.now }
+    {
+        if name.is_empty() {
+            return Some(Kind::Empty);
+        }
+        if !is_label_name(name.as_bytes()) {
+            return Some(Kind::Shape);
+        }
+        if self.position(name).is_some() {
+            return Some(Kind::Duplicate);
+        }
+        None
+    }
+
+    /// Why a label may not have so many values; `None` where it may.
+    ///
+    /// `Empty` for no value, `Limit` for more than 128.
+    pub fn count_fault(count: usize) -> Option<Kind>
+        ensures { result ≡ count_fault count }
+    {
+        if count == 0 {
+            Some(Kind::Empty)
+        } else if count > Universe::MAX_VALUES {
+            Some(Kind::Limit)
+        } else {
+            None
+        }
+    }
+
+    /// Why a value may not stand behind those before it; `None` where it may.
+    ///
+    /// The first of: `Empty`, the empty text; `Duplicate`, a value as one before it.
+    pub fn value_fault(before: &[Option<String>], value: Option<&str>) -> Option<Kind>
+        ensures { result ≡ value_fault (texts_of before.now) (option_map (λ t. t.now) value.entry) }
+    {
+        if value == Some("") {
+            return Some(Kind::Empty);
+        }
+        if is_among(before, value) {
+            return Some(Kind::Duplicate);
+        }
+        None
+    }
+
+    /// Adds a label behind the others, with its values in declared order.
+    ///
+    /// The first fault is the one answered: `Limit` at `Label` where there are 64 labels already; the faults of
+    /// the name, at `Name`, as `name_fault` has them; of their count, at `Values`, as `count_fault` has them; and at
+    /// the first such value, those of a value, as `value_fault` has them.
+    /// `Memory` at `Label` comes only for a label with no fault, where memory was refused. After an `Err` nothing has
+    /// changed.
+    pub fn add(&mut self, name: String, values: Vec<Option<String>>) -> Result<(), LabelFault>
+        ensures ok { OnOk result (self.new ≡ self.old ++ label_of name values ∷ []) }
+        ensures accepted { OnOk result (label_fault self.old (label_of name values) ≡ None) }
+        ensures first { IfErr result (λ fault. fault ≡ unwrap_or (label_fault self.old (label_of name values)) no_memory) }
+        ensures memory { IfErr result (λ fault. fault.kind ≡ kinds.Memory → label_fault self.old (label_of name values) ≡ None) }
+        ensures err { OnErr result (self.new ≡ self.old) }
+    {
+        if let Some(fault) = self.label_fault(name.as_str(), values.as_slice()) {
+            return Err(fault);
+        }
+        match self.labels.push(Label { name, values }) {
+            Ok(()) => Ok(()),
+            Err(_) => Err(at(LabelPart::Label, Kind::Memory)),
+        }
+    }
+
+    /// The first fault of a label behind those here.
+    fn label_fault(&self, name: &str, values: &[Option<String>]) -> Option<LabelFault>
+        ensures { result ≡ label_fault self.now (record { name = name.now; values = texts_of values.now }) }
+    {
+        if self.labels.len() >= Universe::MAX_LABELS {
+            return Some(at(LabelPart::Label, Kind::Limit));
+        }
+        if let Some(kind) = self.name_fault(name) {
+            return Some(at(LabelPart::Name, kind));
+        }
+        label_values_fault(values)
+    }
+
+    /// How many labels there are, at most 64.
+    pub fn len(&self) -> usize
+        ensures len { result ≡ length self.now }
+        ensures at_most { result ≤ max_labels }
+        ensures universe { IsUniverse self.now }
+    {
+        self.labels.len()
+    }
+
+    /// Whether there is no label.
+    pub fn is_empty(&self) -> bool
+        ensures { result ≡ (length self.now == 0) }
+    {
+        self.labels.is_empty()
+    }
+
+    /// The name of the label at `i`.
+    pub fn name(&self, i: usize) -> &str
+        requires { i < length self.now }
+        ensures { slice_get (names self.now) i ≡ Some result.now }
+    {
+        self.labels[i].name.as_str()
+    }
+
+    /// How many values the label at `i` has, 1 to 128.
+    pub fn size(&self, i: usize) -> usize
+        requires { i < length self.now }
+        ensures size { slice_get (sizes self.now) i ≡ Some result }
+        ensures some { 0 < result }
+        ensures at_most { result ≤ max_values }
+    {
+        self.labels[i].values.len()
+    }
+
+    /// The value at `j` of the label at `i`; `None` is absence.
+    pub fn value(&self, i: usize, j: usize) -> Option<&str>
+        requires label { i < length self.now }
+        requires value { j < slice_index (sizes self.now) i }
+        ensures { option_map (λ t. t.now) result ≡ option_and_then (λ label. value_at label j) (slice_get self.now i) }
+    {
+        match &self.labels[i].values[j] {
+            Some(text) => Some(text.as_str()),
+            None => None,
+        }
+    }
+
+    /// The position of the label of this name, if there is one.
+    pub fn position(&self, name: &str) -> Option<usize>
+        ensures found { IfSome result (λ i. slice_get (names self.now) i ≡ Some name.now) }
+        ensures none { IfNone result (¬ Contains (names self.now) name.now) }
+        ensures position { result ≡ label_position self.now name.now }
+    {
+        self.labels
+            .iter()
+            .position(|label| label.name.as_str() == name)
+    }
+
+    /// Whether the choice is no longer than the list of labels, and each position is below its label's size.
+    pub fn admits(&self, choice: &Choice) -> bool
+        ensures { result ≡ admits (sizes self.now) choice.now }
+    {
+        if choice.len() > self.len() {
+            return false;
+        }
+        for i in 0..choice.len() {
+            if usize::from(choice.get(i)) >= self.size(i) {
+                return false;
+            }
+        }
+        true
+    }
+}
+
+/// The first fault in the values of a label.
+fn label_values_fault(values: &[Option<String>]) -> Option<LabelFault>
+    ensures { result ≡ label_values_fault (texts_of values.now) }
+{
+    if let Some(kind) = Universe::count_fault(values.len()) {
+        return Some(at(LabelPart::Values, kind));
+    }
+    for (i, value) in values.iter().enumerate() {
+        if let Some(kind) = Universe::value_fault(&values[..i], text_of(value)) {
+            return Some(at(LabelPart::Value(i), kind));
+        }
+    }
+    None
+}
+
+/// Whether the value is one of those.
+fn is_among(others: &[Option<String>], value: Option<&str>) -> bool
+    ensures { result ≡ list_any (λ other. same_value other (option_map (λ t. t.now) value.entry)) (texts_of others.now) }
+{
+    others.iter().any(|other| is_same(other, value))
+}
+
+fn is_same(other: &Option<String>, value: Option<&str>) -> bool
+    ensures { result ≡ same_value (option_map string_bytes other.now) (option_map (λ t. t.now) value.entry) }
+{
+    match (other, value) {
+        (Some(other), Some(text)) => other.as_str() == text,
+        (None, None) => true,
+        _ => false,
+    }
+}
+
+fn text_of(value: &Option<String>) -> Option<&str>
+    ensures { option_map (λ t. t.now) result ≡ option_map string_bytes value.now }
+{
+    match value {
+        Some(text) => Some(text.as_str()),
+        None => None,
+    }
+}
+
+fn at(part: LabelPart, kind: Kind) -> LabelFault
+    ensures { result ≡ record { kind = kind; part = part } }
+{
+    LabelFault { kind, part }
+}
