@@ -3,12 +3,12 @@ use Rattle.std.proofs.Common.{◌≡◌, ◌≢◌, ℕ, List, [], ◌∷◌, �
 use Rattle.std.specs.Prelude.{⊤, ok_or, if◌then◌else◌, codes}
 use Rattle.std.specs.List.{list_any}
 use Rattle.serde_json.specs.Data.{Data}
-use Rattle.am_labels.specs.declared.kind.Kind.{Kind}
-use Rattle.am_labels.specs.declared.kind.Kind.TheVariants as kinds
-use Rattle.am_labels.specs.Text.{same_text}
-use Rattle.am_labels.specs.Universe.{Values, Label, max_values, is_label_name, is_empty_text, same_value, name_fault, count_fault, value_fault}
-use Rattle.am_labels.specs.declared.place.Place.{Place}
-use Rattle.am_labels.specs.declared.fault.Fault.{Fault}
+use Rattle.am_universe.specs.declared.kind.Kind.{Kind}
+use Rattle.am_universe.specs.declared.kind.Kind.TheVariants as kinds
+use Rattle.am_universe.specs.Text.{same_text}
+use Rattle.am_universe.specs.Universe.{Values, Label, max_values, is_label_name, is_empty_text, same_value, name_fault, count_fault, value_fault}
+use Rattle.am_universe.specs.declared.place.Place.{Place}
+use Rattle.am_universe.specs.declared.fault.Fault.{Fault}
 use Rattle.am_files.specs.declared.refusal.ReadError.{ReadError}
 use Rattle.am_files.specs.declared.refusal.ReadError.TheVariants as errors
 use Rattle.am_files.specs.Json.{unknown_field, is_null}

@@ -3,13 +3,13 @@ use Rattle.std.proofs.Common.{◌≡◌, ◌≢◌, ℕ, zero, suc, ◌+◌, Lis
 use Rattle.std.specs.Prelude.{ok_or, if◌then◌else◌, codes, is_some, is_none, position, IsOkAnd}
 use Rattle.serde_json.specs.Data.{Data, Members, no_members, member}
 use Rattle.serde_json.specs.Find.{as_bool}
-use Rattle.am_labels.specs.declared.kind.Kind.{Kind}
-use Rattle.am_labels.specs.declared.kind.Kind.TheVariants as kinds
+use Rattle.am_universe.specs.declared.kind.Kind.{Kind}
+use Rattle.am_universe.specs.declared.kind.Kind.TheVariants as kinds
 use Rattle.am_labels.specs.declared.op.Op.{Op}
 use Rattle.am_labels.specs.declared.op.Op.TheVariants.{Equal, Matches}
-use Rattle.am_labels.specs.declared.place.Place.{Place}
-use Rattle.am_labels.specs.declared.fault.Fault.{Fault}
-use Rattle.am_labels.specs.Text.{same_text}
+use Rattle.am_universe.specs.declared.place.Place.{Place}
+use Rattle.am_universe.specs.declared.fault.Fault.{Fault}
+use Rattle.am_universe.specs.Text.{same_text}
 use Rattle.am_labels.specs.Matcher.{Condition, max_matchers}
 use Rattle.am_labels.specs.PatternProfile.{in_profile}
 use Rattle.am_labels.specs.MatcherReading.{read_list}

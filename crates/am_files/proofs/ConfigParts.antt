@@ -5,9 +5,9 @@ use Rattle.std.specs.List.{AllByRecursion, IsDistinct, list_any, position, posit
 use borrow.Author.Tests.{lt-ltb, le-ltb}
 use Rattle.serde_json.specs.Data.{Data, null, boolean, number, string, array, object, Members, no_members, member}
 use Rattle.serde_json.specs.Find.{as_bool}
-use Rattle.am_labels.specs.declared.kind.Kind.TheVariants as kinds
+use Rattle.am_universe.specs.declared.kind.Kind.TheVariants as kinds
 use Rattle.am_labels.specs.declared.op.Op.{Op}
-use Rattle.am_labels.specs.Text.{same_text}
+use Rattle.am_universe.specs.Text.{same_text}
 use Rattle.am_labels.specs.Matcher.{Condition, max_matchers}
 use Rattle.am_labels.specs.MatcherText.{Spells}
 use Rattle.am_labels.specs.MatcherReading.{read_list}

@@ -3,7 +3,7 @@ use Rattle.std.proofs.Common.{◌≡◌, ◌⊎◌, ℕ, List, Bool, true, false
 use Rattle.std.specs.Prelude.{⊤, IsTrue, ok_or}
 use Rattle.serde_json.specs.Data.{Data, null, boolean, number, string, array, object, Members, no_members, member}
 use Rattle.serde_json.specs.Find.{as_object, as_str}
-use Rattle.am_labels.specs.declared.kind.Kind.TheVariants as kinds
+use Rattle.am_universe.specs.declared.kind.Kind.TheVariants as kinds
 use Rattle.am_files.specs.Json.{is_null, is_one_of, is_unknown, field, lesser, unknown_field, items_of, AreOnly, HasOnly}
 use Rattle.am_files.specs.Pointer.{Refusal, here, within, under, to_field}
 use Rattle.am_files.specs.Reading.{◌>>=◌, object_in, text_in, items_in, refuse_field, only_fields, required, required_text, required_items}

@@ -3,7 +3,7 @@ use Rattle.std.proofs.Common.{◌≡◌, ℕ, ◌≤◌, List, Option, Some, Non
 use Rattle.std.specs.Prelude.{⊤, ok_or}
 use Rattle.std.specs.Result.{result_err}
 use borrow.Author.Tests.{ltb-false, le-ltb}
-use Rattle.am_labels.specs.declared.kind.Kind.{Kind}
+use Rattle.am_universe.specs.declared.kind.Kind.{Kind}
 use Rattle.am_files.specs.declared.refusal.ReadError.{ReadError}
 use Rattle.am_files.specs.declared.refusal.ReadError.TheVariants as errors
 use Rattle.am_files.specs.Pointer.{Refusal, under}

@@ -5,15 +5,15 @@ use Rattle.std.specs.List.{AllByRecursion, IsDistinct}
 use Rattle.std.proofs.lemmas.List.{map-append}
 use borrow.Author.Tests.{lt-leb}
 use Rattle.serde_json.specs.Data.{Data, null, boolean, number, string, array, object}
-use Rattle.am_labels.specs.declared.kind.Kind.{Kind}
-use Rattle.am_labels.specs.declared.kind.Kind.TheVariants as kinds
-use Rattle.am_labels.specs.declared.label_fault.LabelFault.{LabelFault}
-use Rattle.am_labels.specs.declared.label_fault.LabelPart.{LabelPart}
-use Rattle.am_labels.specs.Text.{same_text}
-use Rattle.am_labels.specs.declared.label_fault.LabelPart.TheVariants as parts
-use Rattle.am_labels.specs.Universe.{Values, Label, IsLabel, IsUniverse, names, max_labels, name_fault, count_fault, value_fault, values_fault, label_values_fault, label_fault, first_fault, fault_at}
-use Rattle.am_labels.proofs.Universes.{IsUniverse-empty}
-use Rattle.am_labels.proofs.AddedLabels.{added_is_universe, universe_was_added}
+use Rattle.am_universe.specs.declared.kind.Kind.{Kind}
+use Rattle.am_universe.specs.declared.kind.Kind.TheVariants as kinds
+use Rattle.am_universe.specs.declared.label_fault.LabelFault.{LabelFault}
+use Rattle.am_universe.specs.declared.label_fault.LabelPart.{LabelPart}
+use Rattle.am_universe.specs.Text.{same_text}
+use Rattle.am_universe.specs.declared.label_fault.LabelPart.TheVariants as parts
+use Rattle.am_universe.specs.Universe.{Values, Label, IsLabel, IsUniverse, names, max_labels, name_fault, count_fault, value_fault, values_fault, label_values_fault, label_fault, first_fault, fault_at}
+use Rattle.am_universe.proofs.Universes.{IsUniverse-empty}
+use Rattle.am_universe.proofs.AddedLabels.{added_is_universe, universe_was_added}
 use Rattle.am_files.specs.Json.{json_of, Each}
 use Rattle.am_files.specs.Pointer.{Refusal, here, to_field, to_item, under}
 use Rattle.am_files.specs.Reading.{◌>>=◌, unless, at_most, each, text_in, only_fields, required_text, required_items, max_bytes, json_in}

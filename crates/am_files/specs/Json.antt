@@ -7,7 +7,7 @@ use Rattle.std.specs.Str.{is_utf8}
 use Rattle.serde_json.specs.Data.{Data, null, object, Items, no_items, item, Members, no_members, member}
 use Rattle.serde_json.specs.Find.{get, as_null, as_array}
 use Rattle.serde_json.specs.Read.{read}
-use Rattle.am_labels.specs.Text.{same_text}
+use Rattle.am_universe.specs.Text.{same_text}
 
 -- the JSON value of the bytes of a file, if they have one
 abbrev pub json_of : List ℕ → Option Data

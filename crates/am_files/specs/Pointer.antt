@@ -2,7 +2,7 @@
 use Rattle.std.specs.Prelude.{ℕ, List, [], ◌∷◌, ◌++◌, if◌then◌else◌, ◌==◌, Result, Ok, Err, codes}
 use Rattle.std.specs.List.{flat_map}
 use Rattle.std.specs.Fmt.{decimal}
-use Rattle.am_labels.specs.declared.kind.Kind.{Kind}
+use Rattle.am_universe.specs.declared.kind.Kind.{Kind}
 
 -- A byte of a key: `~` is written `~0`, `/` is written `~1`, any other stands for itself. (RFC 6901 section 3.)
 abbrev pub escaped : ℕ → List ℕ

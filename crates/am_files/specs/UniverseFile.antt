@@ -3,7 +3,7 @@
 use Rattle.std.specs.Prelude.{◌≡◌, ◌≤◌, ℕ, List, [], ◌∷◌, length, if◌then◌else◌, Option, Some, None, option_and_then, Result, Ok, codes}
 use Rattle.std.specs.Result.{result_err}
 use Rattle.serde_json.specs.Data.{Data, null, string}
-use Rattle.am_labels.specs.Universe.{Values, Label, max_labels, IsUniverse, name_fault, count_fault, value_fault}
+use Rattle.am_universe.specs.Universe.{Values, Label, max_labels, IsUniverse, name_fault, count_fault, value_fault}
 use Rattle.am_files.specs.Json.{json_of, is_null, field, items_of, HasOnly, Each}
 use Rattle.am_files.specs.Pointer.{Refusal, to_field, under}
 use Rattle.am_files.specs.Reading.{◌>>=◌, unless, at_most, each, text_in, only_fields, required_text, required_items, max_bytes, json_in}

@@ -2,9 +2,9 @@
 
 ghost use Rattle.std.specs.Prelude.{◌≡◌, ◌≢◌, ◌≤◌, ◌<◌, ◌+◌, [], ◌∷◌, ◌++◌, codes, length, map, Some, None, Ok, Err, IfOk, IfErr, OnOk, string_bytes, option_map, position, is_none};
 ghost use Rattle.serde_json.specs.View.{view, members_view};
-ghost use Rattle.am_labels.specs.Text.{same_text};
-ghost use Rattle.am_labels.specs.declared.kind.Kind.TheVariants as kinds;
-ghost use Rattle.am_labels.specs.declared.place.Place.TheVariants as places;
+ghost use Rattle.am_universe.specs.Text.{same_text};
+ghost use Rattle.am_universe.specs.declared.kind.Kind.TheVariants as kinds;
+ghost use Rattle.am_universe.specs.declared.place.Place.TheVariants as places;
 ghost use Rattle.am_files.specs.Pointer as pointer;
 ghost use Rattle.am_files.specs.Pointer.{to_item, to_field};
 ghost use Rattle.am_files.specs.Reading as plain;

@@ -3,7 +3,7 @@
 ghost use Rattle.std.specs.Prelude.{◌≡◌, map, ok_or, option_map};
 ghost use Rattle.serde_json.specs.View.{view, members_view};
 ghost use Rattle.am_files.specs.Json.{json_of, field, is_one_of, is_unknown, unknown_field};
-ghost use Rattle.am_labels.specs.declared.kind.Kind.TheVariants as kinds;
+ghost use Rattle.am_universe.specs.declared.kind.Kind.TheVariants as kinds;
 ghost use Rattle.am_files.specs.Pointer.{here};
 ghost use Rattle.am_files.specs.Reading.{Gives, only_fields, required, required_text, required_items, text_in, items_in, object_in, json_in, unless, at_most};
 

@@ -2,7 +2,7 @@
 
 ghost use Rattle.std.specs.Prelude.{◌≡◌, ◌↔◌, ℕ, List, None, Ok};
 ghost use Rattle.serde_json.specs.Data.{Data};
-ghost use Rattle.am_labels.specs.Universe.{Label};
+ghost use Rattle.am_universe.specs.Universe.{Label};
 ghost use Rattle.am_files.specs.ConfigFile.{Configuration, SaysConfig, FileSaysConfig};
 ghost use Rattle.am_files.specs.ConfigReading.{config_in, config_file, fault_of_config, fault_of_config_file};
 ghost use Rattle.am_files.specs.UniverseFile.{SaysUniverse, FileSaysUniverse, universe_in, universe_file, fault_of_universe, fault_of_universe_file};

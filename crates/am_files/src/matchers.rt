@@ -1,7 +1,7 @@
 //! The matchers of a route.
 
 ghost use Rattle.std.specs.Prelude.{◌≡◌, ◌≢◌, [], ◌∷◌, ◌++◌, map, codes, option_map, Err, IsErrAnd};
-ghost use Rattle.am_labels.specs.declared.kind.Kind.TheVariants as kinds;
+ghost use Rattle.am_universe.specs.declared.kind.Kind.TheVariants as kinds;
 ghost use Rattle.am_files.specs.declared.refusal.ReadError.TheVariants as errors;
 ghost use Rattle.am_files.specs.Pointer.{here, within, to_item};
 ghost use Rattle.serde_json.specs.View.{view, members_view};

@@ -1,7 +1,7 @@
 //! Why a reader gives no value, from the value that is looked at on.
 
 ghost use Rattle.std.specs.Prelude.{◌≡◌, ◌≢◌};
-ghost use Rattle.am_labels.specs.declared.kind.Kind.TheVariants as kinds;
+ghost use Rattle.am_universe.specs.declared.kind.Kind.TheVariants as kinds;
 ghost use Rattle.am_files.specs.declared.refusal.ReadError.TheVariants.{Memory};
 ghost use Rattle.am_files.specs.Pointer.{here};
 ghost use Rattle.am_files.specs.Reading.{Tells, IsFaultOf, refusal_of};
@@ -20,7 +20,7 @@ pub(crate) struct Refusal {
 
 impl Model for Refusal {
     ghost use Rattle.std.specs.Prelude.{string_bytes, ◌≢◌};
-    ghost use Rattle.am_labels.specs.declared.kind.Kind.TheVariants as kinds;
+    ghost use Rattle.am_universe.specs.declared.kind.Kind.TheVariants as kinds;
     ghost use Rattle.am_files.specs.Pointer as spec;
 
     ghost Value = { spec.Refusal };

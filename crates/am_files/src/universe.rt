@@ -2,10 +2,10 @@
 
 ghost use Rattle.std.specs.Prelude.{◌≡◌, ◌≢◌, ◌≤◌, [], ◌∷◌, ◌++◌, length, map, None, Ok, Err, IfOk, IfErr, OnOk, string_bytes, option_map};
 ghost use Rattle.serde_json.specs.View.{view};
-ghost use Rattle.am_labels.specs.declared.kind.Kind.TheVariants as kinds;
-ghost use Rattle.am_labels.specs.declared.place.Place.TheVariants as places;
-ghost use Rattle.am_labels.specs.Universe.{label_fault, max_labels};
-ghost use Rattle.am_labels.specs.UniverseView.{label_of, texts_of};
+ghost use Rattle.am_universe.specs.declared.kind.Kind.TheVariants as kinds;
+ghost use Rattle.am_universe.specs.declared.place.Place.TheVariants as places;
+ghost use Rattle.am_universe.specs.Universe.{label_fault, max_labels};
+ghost use Rattle.am_universe.specs.UniverseView.{label_of, texts_of};
 ghost use Rattle.am_files.specs.declared.refusal.ReadError.TheVariants as errors;
 ghost use Rattle.am_files.specs.Pointer.{to_item, under};
 ghost use Rattle.am_files.specs.Reading.{Gives, refusal_of, each};

@@ -1,4 +1,4 @@
-use Rattle.am_labels.specs.declared.place.Place.TheVariants as places
+use Rattle.am_universe.specs.declared.place.Place.TheVariants as places
 use Rattle.am_files.specs.ConfigView.{config_view}
 use Rattle.am_files.specs.ConfigReading.{config_file}
 use Rattle.am_files.proofs.ConfigSays.{file_says}

@@ -1,4 +1,4 @@
-use Rattle.am_labels.specs.Text.{same_text}
+use Rattle.am_universe.specs.Text.{same_text}
 use Rattle.am_files.proofs.Values.{any-map}
 use Rattle.am_files.proofs.json.is_one_of.Goals as goal
 

@@ -1,7 +1,7 @@
 use Rattle.std.proofs.Common.{[], ◌∷◌, ◌<◌, length, length-append, arith}
 use Rattle.std.proofs.lemmas.Result.{err_from_is_err_and}
 use Rattle.serde_json.specs.View.{view}
-use Rattle.am_labels.specs.UniverseView.{label_of}
+use Rattle.am_universe.specs.UniverseView.{label_of}
 use Rattle.am_files.specs.UniverseFile.{label_behind}
 use Rattle.am_files.proofs.Arrays.{goes_on, ends, is_done}
 use Rattle.am_files.proofs.UniverseSays.{no_fault_read}

@@ -1,4 +1,4 @@
-use Rattle.am_labels.specs.declared.place.Place.TheVariants as places
+use Rattle.am_universe.specs.declared.place.Place.TheVariants as places
 use Rattle.am_files.proofs.UniverseSays.{file_says}
 use Rattle.am_files.proofs.Causes.{input-universe_file, fault_never_of_writing}
 use Rattle.am_files.specs.UniverseFile.{universe_file}

@@ -2,7 +2,7 @@ use Rattle.std.proofs.Common.{◌≡◌, [], ◌∷◌, ◌++◌, string_bytes, 
 use Rattle.std.proofs.lemmas.Result.{err_from_is_err_and}
 use Rattle.std.proofs.lemmas.List.{map_push}
 use Rattle.serde_json.specs.View.{view}
-use Rattle.am_labels.specs.UniverseView.{texts_of}
+use Rattle.am_universe.specs.UniverseView.{texts_of}
 use Rattle.am_files.specs.UniverseFile.{value_behind}
 use Rattle.am_files.proofs.Arrays.{goes_on, ends, is_done}
 use Rattle.am_files.proofs.universe.values_behind.Goals as goal

@@ -1,6 +1,6 @@
 use Rattle.std.proofs.Common.{◌≡◌, [], map, drop}
 use Rattle.serde_json.specs.View.{view}
-use Rattle.am_labels.specs.UniverseView.{texts_of}
+use Rattle.am_universe.specs.UniverseView.{texts_of}
 use Rattle.am_files.specs.Reading.{each}
 use Rattle.am_files.specs.UniverseFile.{value_behind}
 use Rattle.am_files.proofs.universe.values_behind.Given as goal
