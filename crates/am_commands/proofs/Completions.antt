@@ -7,7 +7,7 @@ use Rattle.std.proofs.lemmas.Grind.{flat_map-append}
 use Rattle.std.proofs.lemmas.Bool.{and_parts, ne_eqb}
 use Rattle.std.proofs.lemmas.Bool.Decides.{nat_tests}
 use Rattle.std.proofs.Math.Nat.{eq-or-lt_of_le}
-use Rattle.am_labels.specs.Choice.{counted_from, choices, admits, IsWhole}
+use Rattle.am_universe.specs.Choice.{counted_from, choices, admits, IsWhole}
 use Rattle.am_commands.specs.Completions.{completions}
 
 -- the whole choices below a prefix, label by label: its completions, where the sizes admit it

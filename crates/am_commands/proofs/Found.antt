@@ -5,8 +5,8 @@ use Rattle.std.proofs.lemmas.Bool.{and_parts}
 use Rattle.std.proofs.lemmas.List.{length-map}
 use Rattle.std.proofs.lemmas.List.Elements.{filter-append}
 use Rattle.std.proofs.lemmas.Option.{slice_get_within, get_or_from_slice_get}
-use Rattle.am_labels.specs.Universe.{Label, sizes}
-use Rattle.am_labels.specs.Choice.{counted_from, choices, admits, IsWhole}
+use Rattle.am_universe.specs.Universe.{Label, sizes}
+use Rattle.am_universe.specs.Choice.{counted_from, choices, admits, IsWhole}
 use Rattle.am_commands.specs.Completions.{completions}
 use Rattle.am_commands.proofs.Completions.{below, completions_are_below, completions_of_whole, below_by_next, flat_map_counted, admits_next, choices_are_whole, all_filter}
 

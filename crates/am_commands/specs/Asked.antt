@@ -1,8 +1,8 @@
 -- What a call of `ask` is asked, and which fault of it comes first.
 use Rattle.std.specs.Prelude.{◌≡◌, ℕ, List, [], Some}
-use Rattle.am_labels.specs.declared.place.Place.{Place}
-use Rattle.am_labels.specs.declared.place.Place.TheVariants as places
-use Rattle.am_labels.specs.Universe.{Label}
+use Rattle.am_universe.specs.declared.place.Place.{Place}
+use Rattle.am_universe.specs.declared.place.Place.TheVariants as places
+use Rattle.am_universe.specs.Universe.{Label}
 use Rattle.am_files.specs.Pointer.{Refusal}
 use Rattle.am_files.specs.UniverseFile.{FileSaysUniverse, fault_of_universe_file}
 use Rattle.am_files.specs.ConfigFile.{Configuration, FileSaysConfig}

@@ -1,7 +1,7 @@
 -- What `ask` writes. (This project's own.)
 use Rattle.std.specs.Prelude.{ℕ, List}
-use Rattle.am_labels.specs.Universe.{Label}
-use Rattle.am_labels.specs.Sink.{Wrote, WroteInPart}
+use Rattle.am_universe.specs.Universe.{Label}
+use Rattle.am_universe.specs.Sink.{Wrote, WroteInPart}
 use Rattle.am_commands.specs.declared.trailer.Trailer.{Trailer}
 use Rattle.am_commands.specs.declared.trailer.Trailer.TheVariants.{End}
 use Rattle.am_commands.specs.Question.{Question, answers}

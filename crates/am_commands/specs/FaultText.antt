@@ -2,11 +2,11 @@
 -- then the text of the kind. A fault of writing or of memory has neither place nor pointer. (This project's own.)
 use Rattle.std.specs.Prelude.{ℕ, Bool, true, false, List, [], ◌∷◌, ◌++◌, length, ◌==◌, if◌then◌else◌, codes}
 use Rattle.std.specs.List.{flat_map}
-use Rattle.am_labels.specs.declared.kind.Kind.{Kind}
-use Rattle.am_labels.specs.declared.kind.Kind.TheVariants as kinds
-use Rattle.am_labels.specs.declared.place.Place.{Place}
-use Rattle.am_labels.specs.declared.place.Place.TheVariants as places
-use Rattle.am_labels.specs.Kind.{text_of}
+use Rattle.am_universe.specs.declared.kind.Kind.{Kind}
+use Rattle.am_universe.specs.declared.kind.Kind.TheVariants as kinds
+use Rattle.am_universe.specs.declared.place.Place.{Place}
+use Rattle.am_universe.specs.declared.place.Place.TheVariants as places
+use Rattle.am_universe.specs.Kind.{text_of}
 
 -- the word for a place
 abbrev pub place_text : Place → List ℕ

@@ -1,9 +1,9 @@
 -- What a question says of a label set, and its answers. (This project's own, but for the matchers.)
 use Rattle.std.specs.Prelude.{ℕ, List, Bool}
 use Rattle.std.specs.List.{filter}
-use Rattle.am_labels.specs.Universe.{Label, sizes}
-use Rattle.am_labels.specs.Choice.{choices}
-use Rattle.am_labels.specs.LabelSet.{LabelMap, label_set_of}
+use Rattle.am_universe.specs.Universe.{Label, sizes}
+use Rattle.am_universe.specs.Choice.{choices}
+use Rattle.am_universe.specs.LabelSet.{LabelMap, label_set_of}
 use Rattle.am_labels.specs.Matcher.{Condition, all_hold}
 
 -- A question: a list of matchers.

@@ -1,6 +1,6 @@
 ghost use Rattle.std.specs.Prelude.{◌≡◌, [], ◌∷◌, ◌++◌, IfOk, OnOk, IsTrue};
-ghost use Rattle.am_labels.specs.Universe.{sizes};
-ghost use Rattle.am_labels.specs.Choice.{IsWhole, admits};
+ghost use Rattle.am_universe.specs.Universe.{sizes};
+ghost use Rattle.am_universe.specs.Choice.{IsWhole, admits};
 ghost use Rattle.am_commands.specs.Question.{answers, is_answer};
 ghost use Rattle.std.specs.List.{AllByRecursion, filter};
 ghost use Rattle.am_commands.specs.Completions.{completions};

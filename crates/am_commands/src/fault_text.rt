@@ -1,6 +1,6 @@
 ghost use Rattle.std.specs.Prelude.{◌≡◌, string_bytes};
 ghost use Rattle.std.specs.List.{flat_map};
-ghost use Rattle.am_labels.specs.Sink.{Writes};
+ghost use Rattle.am_universe.specs.Sink.{Writes};
 ghost use Rattle.am_commands.specs.FaultText.{place_text, fault_text, is_placeless, where_part, pointer_part, escaped_in_pointer, status_of};
 
 use am_labels::{Fault, Kind, Place, Sink, put_all, put_str};

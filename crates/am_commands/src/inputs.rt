@@ -1,6 +1,6 @@
 ghost use Rattle.std.specs.Prelude.{◌≡◌, ◌≢◌, [], IfOk, IfErr, string_bytes};
-ghost use Rattle.am_labels.specs.declared.kind.Kind.TheVariants as kinds;
-ghost use Rattle.am_labels.specs.declared.place.Place.TheVariants as places;
+ghost use Rattle.am_universe.specs.declared.kind.Kind.TheVariants as kinds;
+ghost use Rattle.am_universe.specs.declared.place.Place.TheVariants as places;
 ghost use Rattle.am_files.specs.Reading.{refusal_of};
 ghost use Rattle.am_commands.specs.Asked.{Accepts, IsFirstFault};
 ghost use Rattle.am_commands.specs.Files.{inputs_of};

@@ -1,9 +1,9 @@
 ghost use Rattle.std.specs.Prelude.{◌≡◌};
 ghost use Rattle.std.specs.List.{AllByRecursion};
-ghost use Rattle.am_labels.specs.Universe.{sizes};
-ghost use Rattle.am_labels.specs.Choice.{IsWhole};
-ghost use Rattle.am_labels.specs.SetText.{line};
-ghost use Rattle.am_labels.specs.Sink.{Writes};
+ghost use Rattle.am_universe.specs.Universe.{sizes};
+ghost use Rattle.am_universe.specs.Choice.{IsWhole};
+ghost use Rattle.am_universe.specs.SetText.{line};
+ghost use Rattle.am_universe.specs.Sink.{Writes};
 ghost use Rattle.am_commands.specs.PageText.{page_text};
 
 use crate::trailer::{Trailer, write_trailer};

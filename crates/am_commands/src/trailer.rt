@@ -1,5 +1,5 @@
 ghost use Rattle.std.specs.Prelude.{◌≡◌};
-ghost use Rattle.am_labels.specs.Sink.{Writes};
+ghost use Rattle.am_universe.specs.Sink.{Writes};
 ghost use Rattle.am_commands.specs.Trailer.{trailer_text};
 
 use am_labels::{Kind, Sink, put_all};

@@ -1,7 +1,7 @@
 -- Each turn adds the answers of one position more.
 use Rattle.std.proofs.Common.{◌∷◌, [], length, ap, length-append, arith}
 use Rattle.std.proofs.lemmas.Result.{on_ok_weaker}
-use Rattle.am_labels.specs.Universe.{sizes}
+use Rattle.am_universe.specs.Universe.{sizes}
 use Rattle.am_commands.specs.Question.{is_answer}
 use Rattle.am_commands.proofs.Found.{prefix_fits, found_here, longer_admitted, found_more, found_all}
 use Rattle.am_commands.proofs.answers.+add_answers.Goals as goal

@@ -1,5 +1,5 @@
 use Rattle.std.proofs.Common.{◌++◌, ap, codes, string_bytes}
-use Rattle.am_labels.proofs.Writing.{◌⟩◌, fails, writes_as}
+use Rattle.am_universe.proofs.Writing.{◌⟩◌, fails, writes_as}
 use Rattle.am_commands.specs.FaultText.{where_part}
 use Rattle.am_commands.proofs.fault_text.write_fault.Goals as goal
 

@@ -1,6 +1,6 @@
 use Rattle.std.proofs.Common.{◌≡◌, ℕ, Bool, false, cond, List, [], ◌++◌, length, nat_eq, ap, ◌∙◌, sym, codes}
 use Rattle.std.specs.List.{flat_map}
-use Rattle.am_labels.proofs.Writing.{◌⟩◌, fails, wrote_then, wrote_as, writes_as, pieces_more, pieces_through, pieces_end}
+use Rattle.am_universe.proofs.Writing.{◌⟩◌, fails, wrote_then, wrote_as, writes_as, pieces_more, pieces_through, pieces_end}
 use Rattle.am_commands.specs.FaultText.{escaped_in_pointer, pointer_part}
 use Rattle.am_commands.proofs.fault_text.write_pointer.Goals as goal
 

@@ -1,6 +1,6 @@
 use Rattle.std.proofs.Common.{take}
 use Rattle.std.specs.List.{flat_map}
-use Rattle.am_labels.specs.Sink.{Wrote}
+use Rattle.am_universe.specs.Sink.{Wrote}
 use Rattle.am_commands.specs.FaultText.{escaped_in_pointer}
 use Rattle.am_commands.proofs.fault_text.write_pointer.Given as goal
 

@@ -1,7 +1,7 @@
 use Rattle.std.proofs.Common.{◌≡◌, ℕ, Bool, false, cond, List, [], ◌++◌, ap, ◌∙◌, sym, codes, string_bytes}
-use Rattle.am_labels.specs.declared.kind.Kind.{Kind}
-use Rattle.am_labels.specs.declared.place.Place.{Place}
-use Rattle.am_labels.proofs.Writing.{◌⟩◌, fails, writes_as}
+use Rattle.am_universe.specs.declared.kind.Kind.{Kind}
+use Rattle.am_universe.specs.declared.place.Place.{Place}
+use Rattle.am_universe.proofs.Writing.{◌⟩◌, fails, writes_as}
 use Rattle.am_commands.specs.FaultText.{place_text, pointer_part, is_placeless, where_part}
 use Rattle.am_commands.proofs.fault_text.write_where.Goals as goal
 

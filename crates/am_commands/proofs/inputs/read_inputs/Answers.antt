@@ -1,9 +1,9 @@
 use Rattle.std.proofs.Common.{◌≡◌, ◌≢◌, ℕ, List, [], string_bytes, sym, subst, ◌∙◌}
-use Rattle.am_labels.specs.declared.kind.Kind.{Kind}
-use Rattle.am_labels.specs.declared.kind.Kind.TheVariants as kinds
-use Rattle.am_labels.specs.declared.place.Place.{Place}
-use Rattle.am_labels.specs.declared.place.Place.TheVariants as places
-use Rattle.am_labels.specs.declared.fault.Fault.{Fault}
+use Rattle.am_universe.specs.declared.kind.Kind.{Kind}
+use Rattle.am_universe.specs.declared.kind.Kind.TheVariants as kinds
+use Rattle.am_universe.specs.declared.place.Place.{Place}
+use Rattle.am_universe.specs.declared.place.Place.TheVariants as places
+use Rattle.am_universe.specs.declared.fault.Fault.{Fault}
 use Rattle.am_files.specs.Reading.{refusal_of}
 use Rattle.am_files.specs.ConfigFile.{FileSaysConfig}
 use Rattle.am_files.specs.ConfigView.{config_view}

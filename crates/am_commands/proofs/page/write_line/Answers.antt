@@ -1,4 +1,4 @@
-use Rattle.am_labels.proofs.Writing.{◌⟩◌, fails}
+use Rattle.am_universe.proofs.Writing.{◌⟩◌, fails}
 use Rattle.am_commands.proofs.page.write_line.Goals as goal
 
 pub returns-in_err-write_set : goal.returns-in_err-write_set

@@ -1,7 +1,7 @@
 use Rattle.std.proofs.Common.{[], ap}
-use Rattle.am_labels.specs.SetText.{line}
+use Rattle.am_universe.specs.SetText.{line}
 use Rattle.am_commands.specs.Trailer.{trailer_text}
-use Rattle.am_labels.proofs.Writing.{◌⟩◌, fails, wrote_then, wrote_as, writes_as, pieces_more, pieces_through, pieces_end}
+use Rattle.am_universe.proofs.Writing.{◌⟩◌, fails, wrote_then, wrote_as, writes_as, pieces_more, pieces_through, pieces_end}
 use Rattle.am_commands.proofs.page.write_page.Goals as goal
 
 pub returns-in_err-write_line : goal.returns-in_err-write_line
