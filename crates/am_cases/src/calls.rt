@@ -1,7 +1,7 @@
 //! The calls of the libraries that tables name: what each gives at a text, as a text.
 
 ghost use Rattle.std.specs.Prelude.{◌≡◌, Some, IfSome, length, slice_get};
-ghost use Rattle.am_labels.specs.Universe.{sizes};
+ghost use Rattle.am_universe.specs.Universe.{sizes};
 
 use crate::lines::{split_at_first, split_at_last, utf8};
 use crate::problem::Problem;

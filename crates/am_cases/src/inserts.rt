@@ -62,7 +62,10 @@ fn insert(alloc: Global, texts: &[Named], words: &[u8], text: &mut Vec<u8>) -> R
         return add_bytes(alloc, digits, text);
     }
     if let Some(length) = padded_length(words) {
-        return Ok(text.resize(length.max(text.len()), b' ')?);
+        if length < text.len() {
+            return Err(Problem::about(alloc, "the text is longer already", words));
+        }
+        return Ok(text.resize(length, b' ')?);
     }
     if let Some((count, copied)) = copies(words) {
         return add_copies(alloc, count, copied, text);

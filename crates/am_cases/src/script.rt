@@ -1,7 +1,7 @@
 //! A file of cases, item by item.
 
 use crate::commands::{Command, output, read_command};
-use crate::inserts::{Named, filled};
+use crate::inserts::{Named, filled, text_named};
 use crate::lines::{Item, items, split_at_first, utf8};
 use crate::problem::Problem;
 use crate::tables::{Mode, Row, Table, mode_named, read_heading, run_table};
@@ -77,6 +77,9 @@ fn define(
         let Some((name, raw)) = split_at_first(rest, b" = ") else {
             return Err(Problem::about(alloc, "a text wants a name, = and the text", rest));
         };
+        if text_named(texts.as_slice(), name).is_some() {
+            return Err(Problem::about(alloc, "a text of this name is there already", name));
+        }
         let text = filled(alloc, texts.as_slice(), raw)?;
         texts.push(new_named(alloc, name, text)?)?;
         return Ok(true);
@@ -196,7 +199,8 @@ fn take_table<'a>(
     table: &mut Table<'a>,
     item: &Item<'a>,
 ) -> Result<bool, Problem> {
-    if item.head.text == b"then".as_slice() && table.mode == Mode::Pairs && !table.rows.is_empty() {
+    let is_stage = item.head.text == b"then".as_slice() && !item.body.is_empty();
+    if is_stage && table.mode == Mode::Pairs && !table.rows.is_empty() {
         table.stage = table.stage.saturating_add(1);
         add_rows(table, item)?;
         return Ok(true);

@@ -134,6 +134,9 @@ pub fn run_table(
     if table.rows.is_empty() {
         return Err(Problem::said(alloc, "a table without a case"));
     }
+    if table.mode == Mode::Pairs && table.stage == 0 {
+        return Err(Problem::said(alloc, "no `then` between two stages"));
+    }
     let mut wanted = Vec::new(alloc);
     for row in &table.rows {
         match wanted_of(alloc, texts, row) {
@@ -193,6 +196,10 @@ fn run_prefixes(
     one: &Wanted,
     tally: &mut Tally,
 ) -> Result<(), Problem> {
+    if one.text.is_empty() {
+        let none = Problem::said(alloc, "the empty text has no proper prefix");
+        return Ok(tally.count(one.number, Err(none))?);
+    }
     for length in 0..one.text.len() {
         let prefix = one.text.as_slice().get(..length).unwrap_or(b"");
         let outcome = check(alloc, heading, prefix, one.result.as_slice());
