@@ -44,8 +44,8 @@ pub fn call_named(name: &[u8]) -> Option<Call> {
     }
 }
 
-/// What a call gives at a text; `over` is the universe file that it is over, where it is over one. `brief` says that of
-/// what is accepted no more is asked than that it is.
+/// What a call gives at a text; `over` is the universe file that it is over, where it is over one.
+/// `brief` says that of what is accepted no more is asked than that it is.
 pub fn given(
     alloc: Global,
     call: Call,
@@ -210,8 +210,9 @@ fn yes_or_no(truth: bool) -> &'static str {
 }
 
 fn of_row(alloc: Global, over: &[u8], text: &str) -> Result<Vec<u8>, Problem> {
-    let Ok(universe) = read_universe(alloc, over) else {
-        return Err(Problem::said(alloc, "the universe of the row is refused"));
+    let universe = match read_universe(alloc, over) {
+        Ok(universe) => universe,
+        Err(fault) => return fault_behind(alloc, b"", &fault),
     };
     let list = match parse_matchers(alloc, text) {
         Ok(list) => list,
@@ -225,7 +226,8 @@ fn of_row(alloc: Global, over: &[u8], text: &str) -> Result<Vec<u8>, Problem> {
 }
 
 fn row_text(alloc: Global, universe: &Universe, row: &Row) -> Result<Vec<u8>, Problem>
-    requires { IfSome row.now.label (λ i. slice_get (sizes universe.now) i ≡ Some (length row.now.truths)) }
+    requires { IfSome row.now.label
+        (λ i. slice_get (sizes universe.now) i ≡ Some (length row.now.truths)) }
 {
     let (mut text, count) = match row.label() {
         Some(label) if label < universe.len() => {

@@ -26,11 +26,11 @@ enum Wanted {
 pub struct Command {
     pub line: usize,
     words: Vec<String>,
-    out: Wanted,
-    err: Wanted,
+    /// What is wanted of standard output and of standard error, where it is said; else that they
+    /// are empty.
+    out: Option<Wanted>,
+    err: Option<Wanted>,
     status: Option<u8>,
-    /// Whether anything is said of the run.
-    said: bool,
     writes: Option<usize>,
     error_writes: Option<usize>,
     manner: Manner,
@@ -59,17 +59,17 @@ pub fn read_command(alloc: Global, texts: &[Named], item: &Item<'_>) -> Result<C
         Some(name) if name.as_str() == "amcover" || name.as_str() == "./amcover" => {}
         _ => return Err(Problem::about(alloc, "no command of amcover", head)),
     }
-    let out = output(
-        alloc,
-        texts,
-        item.body.as_slice().get(count..).unwrap_or(&[]),
-    )?;
+    let lines = item.body.as_slice().get(count..).unwrap_or(&[]);
+    let out = if lines.is_empty() {
+        None
+    } else {
+        Some(Wanted::Whole(output(alloc, texts, lines)?))
+    };
     Ok(Command {
         line: item.head.number,
         words,
-        said: !out.is_empty(),
-        out: Wanted::Whole(out),
-        err: Wanted::Whole(Vec::new(alloc)),
+        out,
+        err: None,
         status: None,
         writes: None,
         error_writes: None,
@@ -81,8 +81,8 @@ pub fn read_command(alloc: Global, texts: &[Named], item: &Item<'_>) -> Result<C
     })
 }
 
-/// Puts a command line together, whose lines end in ` \` but for the last. The answer is how many of the lines below the
-/// first belong to it.
+/// Puts a command line together, whose lines end in ` \` but for the last. The answer is how many
+/// of the lines below the first belong to it.
 fn whole_line(head: &[u8], body: &[Line<'_>], line: &mut Vec<u8>) -> Result<usize, Problem> {
     line.extend_from_slice(head)?;
     for (i, next) in body.iter().enumerate() {
@@ -114,14 +114,12 @@ impl Command {
         item: &Item<'_>,
     ) -> Result<bool, Problem> {
         let line = item.head.text;
-        let is_expectation = self.take_expectation(alloc, texts, line)?;
-        if !is_expectation && !self.take_manner(alloc, line)? {
+        if !self.take_expectation(alloc, texts, line)? && !self.take_manner(alloc, line)? {
             return Ok(false);
         }
         if !item.body.is_empty() {
             return Err(Problem::about(alloc, "nothing stands below this line", line));
         }
-        self.said = self.said || is_expectation;
         Ok(true)
     }
 
@@ -134,30 +132,34 @@ impl Command {
         if let Some(text) = line.strip_prefix(b"stderr: ") {
             let mut text = filled(alloc, texts, text)?;
             text.push(b'\n')?;
-            self.err = Wanted::Whole(text);
+            say_once(alloc, &mut self.err, Wanted::Whole(text), line)?;
         } else if let Some(text) = line.strip_prefix(b"stderr has: ") {
-            self.err = Wanted::Has(filled(alloc, texts, text)?);
+            let text = filled(alloc, texts, text)?;
+            say_once(alloc, &mut self.err, Wanted::Has(text), line)?;
         } else if let Some(text) = line.strip_prefix(b"stdout: ") {
-            self.out = Wanted::Whole(filled(alloc, texts, text)?);
+            let text = filled(alloc, texts, text)?;
+            say_once(alloc, &mut self.out, Wanted::Whole(text), line)?;
         } else if let Some(text) = line.strip_prefix(b"stdout has: ") {
-            self.out = Wanted::Has(filled(alloc, texts, text)?);
+            let text = filled(alloc, texts, text)?;
+            say_once(alloc, &mut self.out, Wanted::Has(text), line)?;
         } else {
-            return self.take_number(line);
+            return self.take_number(alloc, line);
         }
         Ok(true)
     }
 
-    fn take_number(&mut self, line: &[u8]) -> Result<bool, Problem> {
+    fn take_number(&mut self, alloc: Global, line: &[u8]) -> Result<bool, Problem> {
         if let Some(count) = number_behind(line, b"status: ") {
-            self.status = u8::try_from(count).ok();
-            return Ok(self.status.is_some());
-        }
-        if let Some(count) = number_behind(line, b"stdout lines: ") {
-            self.out = Wanted::Lines(count);
+            let Ok(status) = u8::try_from(count) else {
+                return Err(Problem::about(alloc, "no exit status", line));
+            };
+            say_once(alloc, &mut self.status, status, line)?;
+        } else if let Some(count) = number_behind(line, b"stdout lines: ") {
+            say_once(alloc, &mut self.out, Wanted::Lines(count), line)?;
         } else if let Some(count) = number_behind(line, b"writes: ") {
-            self.writes = Some(count);
+            say_once(alloc, &mut self.writes, count, line)?;
         } else if let Some(count) = number_behind(line, b"error writes: ") {
-            self.error_writes = Some(count);
+            say_once(alloc, &mut self.error_writes, count, line)?;
         } else {
             return Ok(false);
         }
@@ -191,7 +193,7 @@ impl Command {
     /// Whether the run is as it is said to be.
     pub fn check(&self, host: &HostRuntime, files: &[Named]) -> Result<(), Problem> {
         let alloc = host.alloc();
-        if !self.said && self.status.is_none() {
+        if self.out.is_none() && self.err.is_none() && self.status.is_none() {
             return Err(Problem::said(alloc, "a case without an expectation"));
         }
         if let Some(path) = &self.device {
@@ -204,6 +206,9 @@ impl Command {
         }
         if self.error_stops {
             self.check_error_stops(host, files, ran.err.calls)?;
+        }
+        if self.stops && ran.out.calls == 0 || self.error_stops && ran.err.calls == 0 {
+            return Err(Problem::said(alloc, "nothing is written, so no write stops"));
         }
         Ok(())
     }
@@ -251,7 +256,7 @@ impl Command {
         calls: usize,
     ) -> Result<(), Problem> {
         let alloc = host.alloc();
-        let Wanted::Whole(page) = &self.out else {
+        let Some(Wanted::Whole(page)) = &self.out else {
             return Err(Problem::said(alloc, "the whole output is wanted"));
         };
         for call in 1..calls.saturating_add(1) {
@@ -282,7 +287,7 @@ impl Command {
         calls: usize,
     ) -> Result<(), Problem> {
         let alloc = host.alloc();
-        let Wanted::Whole(line) = &self.err else {
+        let Some(Wanted::Whole(line)) = &self.err else {
             return Err(Problem::said(alloc, "the whole of standard error is wanted"));
         };
         for call in 1..calls.saturating_add(1) {
@@ -305,6 +310,9 @@ impl Command {
         path: &str,
     ) -> Result<(), Problem> {
         let alloc = host.alloc();
+        if self.out.is_some() || self.writes.is_some() || self.stops || self.error_stops {
+            return Err(Problem::said(alloc, "no more is known of a file of the system"));
+        }
         let Ok(mut device) = OpenOptions::new().write(true).open(host, path) else {
             return Err(Problem::said(alloc, "the writer cannot be opened"));
         };
@@ -319,6 +327,20 @@ impl Command {
     }
 }
 
+/// Takes what a line says, once.
+fn say_once<T: Drop>(
+    alloc: Global,
+    place: &mut Option<T>,
+    value: T,
+    line: &[u8],
+) -> Result<(), Problem> {
+    if place.is_some() {
+        return Err(Problem::about(alloc, "this was said already", line));
+    }
+    *place = Some(value);
+    Ok(())
+}
+
 fn number_behind(line: &[u8], words: &[u8]) -> Option<usize> {
     number(line.strip_prefix(words)?)
 }
@@ -327,30 +349,35 @@ fn number_behind(line: &[u8], words: &[u8]) -> Option<usize> {
 fn take_writer(manner: &mut Manner, words: &[u8]) -> bool {
     if words == b"fails at its flush".as_slice() {
         manner.flush_fails = true;
-        return true;
-    }
-    if let Some(count) = number_between(words, b"takes ", b" bytes a call") {
+    } else if let Some(count) = number_between(words, b"takes ", b" bytes a call") {
         manner.step = count;
-        return true;
+    } else if let Some(count) = number_between(words, b"fails after ", b" bytes") {
+        manner.room = count;
+    } else if let Some(call) = number_between(words, b"fails at call ", b"") {
+        manner.stop = Some((call, Stop::Fails));
+    } else if let Some(call) = number_between(words, b"takes nothing at call ", b"") {
+        manner.stop = Some((call, Stop::TakesNothing));
+    } else {
+        return false;
     }
-    match number_between(words, b"fails after ", b" bytes") {
-        Some(count) => {
-            manner.room = count;
-            true
-        }
-        None => false,
-    }
+    true
 }
 
 fn number_between(words: &[u8], before: &[u8], behind: &[u8]) -> Option<usize> {
     number(words.strip_prefix(before)?.strip_suffix(behind)?)
 }
 
-fn check_stream(alloc: Global, name: &str, wanted: &Wanted, found: &[u8]) -> Result<(), Problem> {
+fn check_stream(
+    alloc: Global,
+    name: &str,
+    wanted: &Option<Wanted>,
+    found: &[u8],
+) -> Result<(), Problem> {
     match wanted {
-        Wanted::Whole(text) => check_text(alloc, name, text.as_slice(), found),
-        Wanted::Has(text) => check_has(alloc, name, text.as_slice(), found),
-        Wanted::Lines(count) => {
+        None => check_text(alloc, name, b"", found),
+        Some(Wanted::Whole(text)) => check_text(alloc, name, text.as_slice(), found),
+        Some(Wanted::Has(text)) => check_has(alloc, name, text.as_slice(), found),
+        Some(Wanted::Lines(count)) => {
             let lines = found.iter().filter(|byte| **byte == b'\n').count();
             check_count(alloc, name, Some(*count), lines)
         }

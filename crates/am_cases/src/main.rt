@@ -1,8 +1,10 @@
-//! `am_cases`: runs the files of cases of the folder that it is started in, and says which cases are wrong.
+//! `am_cases`: runs the files of cases of the folder that it is started in, and says which cases
+//! are wrong.
 //!
-//! `docs/TESTING.md` says how such a file is written. Without arguments all files are run, in the order of their
-//! names; else those that are named, or of a file the case of one line, as `ask.cases:12`. The exit status is 0 where
-//! every case is right, 1 where one is wrong, and else 3, where memory ran out.
+//! `docs/TESTING.md` says how such a file is written. Without arguments all files are run, in the
+//! order of their names; else those that are named, or of a file the case of one line, as
+//! `ask.cases:12`. The exit status is 0 where every case is right, 1 where one is wrong, and else
+//! 3, where memory ran out.
 #![tactic(auto)]
 
 // What a file of cases is made of.
@@ -74,8 +76,11 @@ fn run_all(rt: &HostRuntime, totals: &mut Totals) -> Result<(), Problem> {
 /// The names of the arguments; where there are none, those of the folder.
 fn names(rt: &HostRuntime) -> Result<Vec<String>, Problem> {
     let mut names = Vec::new(rt.alloc());
-    let Ok(arguments) = env::args(rt) else {
-        return Err(Problem::said(rt.alloc(), "the arguments are not UTF-8"));
+    let arguments = match env::args(rt) {
+        Ok(arguments) => arguments,
+        Err(error) => {
+            return Err(Problem::of(rt.alloc(), &error, "the arguments are not UTF-8"));
+        }
     };
     for argument in arguments.skip(1) {
         names.push(argument)?;
@@ -88,19 +93,24 @@ fn names(rt: &HostRuntime) -> Result<Vec<String>, Problem> {
 
 fn add_names_of_folder(rt: &HostRuntime, names: &mut Vec<String>) -> Result<(), Problem> {
     let unread = "the folder cannot be read";
-    let Ok(entries) = fs::read_dir(rt, ".") else {
-        return Err(Problem::said(rt.alloc(), unread));
+    let entries = match fs::read_dir(rt, ".") {
+        Ok(entries) => entries,
+        Err(error) => return Err(Problem::of(rt.alloc(), &error, unread)),
     };
     for entry in entries {
-        let Ok(entry) = entry else {
-            return Err(Problem::said(rt.alloc(), unread));
-        };
-        let name = entry.file_name();
-        if name != SHARED {
-            names.push(String::from_str(rt.alloc(), name)?)?;
+        match entry {
+            Ok(entry) => add_name(rt, entry.file_name(), names)?,
+            Err(error) => return Err(Problem::of(rt.alloc(), &error, unread)),
         }
     }
     Ok(names.sort()?)
+}
+
+fn add_name(rt: &HostRuntime, name: &str, names: &mut Vec<String>) -> Result<(), Problem> {
+    if name != SHARED {
+        names.push(String::from_str(rt.alloc(), name)?)?;
+    }
+    Ok(())
 }
 
 /// Runs a file, or the case of one of its lines, and says what it came to.
@@ -109,7 +119,7 @@ fn run_named(rt: &HostRuntime, asked: &str, totals: &mut Totals) -> Result<(), P
     let mut tally = Tally::new(rt.alloc(), name, only)?;
     let outcome = match fs::read(rt, name) {
         Ok(file) => run_read(rt, name, file.as_slice(), &mut tally),
-        Err(_) => Err(Problem::said(rt.alloc(), "it cannot be read")),
+        Err(error) => Err(Problem::of(rt.alloc(), &error, "it cannot be read")),
     };
     if let Err(problem) = outcome {
         tally.fail(problem)?;

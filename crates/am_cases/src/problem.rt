@@ -1,6 +1,8 @@
 //! Why a case is not right, or a file of cases not one.
 
 use std::alloc::{AllocError, AllocFailed, Global};
+use std::io;
+use std::io::ErrorKind;
 
 /// Why a case is not right.
 #[derive(Drop)]
@@ -18,6 +20,14 @@ impl Problem {
             Ok(words) => Problem::Said(words),
             Err(_) => Problem::Memory,
         }
+    }
+
+    /// These words, unless the error is that memory ran out.
+    pub fn of(alloc: Global, error: &io::Error, words: &str) -> Problem {
+        if error.kind() == ErrorKind::OutOfMemory {
+            return Problem::Memory;
+        }
+        Problem::said(alloc, words)
     }
 
     /// These words, and the text that they are about.

@@ -30,7 +30,7 @@ pub fn run_file(host: &HostRuntime, file: &[u8], tally: &mut Tally) -> Result<()
     };
     for item in &items(alloc, file)? {
         if let Err(problem) = script.take(host, item, tally) {
-            tally.count(item.head.number, Err(problem))?;
+            tally.note(item.head.number, problem)?;
         }
     }
     script.run_pending(host, tally)?;
@@ -126,7 +126,8 @@ impl<'a> Script<'a> {
         self.begin(host, item)
     }
 
-    /// Takes an item that says more of the command or of the table before it; `false` where it does not.
+    /// Takes an item that says more of the command or of the table before it; `false` where it does
+    /// not.
     fn take_more(&mut self, alloc: Global, item: &Item<'a>) -> Result<bool, Problem> {
         if let Some(command) = &mut self.command {
             return command.take(alloc, self.texts.as_slice(), item);
@@ -166,12 +167,14 @@ impl<'a> Script<'a> {
     fn use_texts(&mut self, host: &HostRuntime, name: &[u8]) -> Result<(), Problem> {
         let alloc = host.alloc();
         let path = utf8(alloc, name)?;
-        match fs::read(host, path) {
-            Ok(file) if path.ends_with(".texts") => {
-                define_all(alloc, file.as_slice(), &mut self.texts, &mut self.files)
-            }
-            _ => Err(Problem::about(alloc, "no such file of texts", name)),
+        if !path.ends_with(".texts") {
+            return Err(Problem::about(alloc, "no file of texts", name));
         }
+        let file = match fs::read(host, path) {
+            Ok(file) => file,
+            Err(error) => return Err(Problem::of(alloc, &error, "no such file of texts")),
+        };
+        define_all(alloc, file.as_slice(), &mut self.texts, &mut self.files)
     }
 
     /// Runs what is not run yet.
@@ -185,7 +188,7 @@ impl<'a> Script<'a> {
         }
         if let Some((line, table)) = self.table.take() {
             if let Err(problem) = run_table(alloc, self.texts.as_slice(), &table, tally) {
-                tally.count(line, Err(problem))?;
+                tally.note(line, problem)?;
             }
         }
         Ok(())

@@ -1,4 +1,5 @@
-//! The files that a command can read: those of the file of cases, and behind them those of the folder.
+//! The files that a command can read: those of the file of cases, and behind them those of the
+//! folder.
 
 use crate::inserts::{Named, text_named};
 use std::alloc::{Allocator, Global};

@@ -10,11 +10,13 @@ use am_commands::{Files, ask, status};
 use am_labels::{Fault, Kind, Out, Place};
 use std::alloc::Global;
 
-/// A line that names a call: how a text becomes what is handed in, and from where pointers are seen.
+/// A line that names a call: how a text becomes what is handed in, and from where pointers are
+/// seen.
 #[derive(Drop)]
 pub struct Heading {
     call: Call,
-    /// What stands round the text: before it, behind it, and between where it stands more than once.
+    /// What stands round the text: before it, behind it, and between where it stands more than
+    /// once.
     round: Vec<Vec<u8>>,
     /// The universe file that the call is over.
     over: Vec<u8>,
@@ -141,7 +143,7 @@ pub fn run_table(
     for row in &table.rows {
         match wanted_of(alloc, texts, row) {
             Ok(one) => wanted.push(one)?,
-            Err(problem) => tally.count(row.line.number, Err(problem))?,
+            Err(problem) => tally.note(row.line.number, problem)?,
         }
     }
     for heading in &table.headings {
@@ -288,7 +290,8 @@ fn seen_from(alloc: Global, at: &[u8], wanted: &[u8]) -> Result<Vec<u8>, Problem
     joined(alloc, at, between, wanted)
 }
 
-/// Whether a page comes whole over a writer that takes a byte a call, and in part over those that stop.
+/// Whether a page comes whole over a writer that takes a byte a call, and in part over those that
+/// stop.
 fn check_writers(alloc: Global, heading: &Heading, one: &Wanted) -> Result<(), Problem> {
     if heading.call != Call::Ask {
         return Err(Problem::said(alloc, "this table writes to no writer"));
@@ -323,7 +326,8 @@ fn check_writers(alloc: Global, heading: &Heading, one: &Wanted) -> Result<(), P
     Ok(())
 }
 
-/// Whether the call was the last, a part of the page went out, and the failed write is what is answered.
+/// Whether the call was the last, a part of the page went out, and the failed write is what is
+/// answered.
 fn is_cut_short(stopped: &Asked, call: usize, page: &[u8]) -> bool {
     match &stopped.fault {
         Some(fault) => {

@@ -59,6 +59,15 @@ impl Tally {
         }
     }
 
+    /// Counts a line that is no right one. Memory that ran out there ends the file: what follows
+    /// would be read otherwise.
+    pub fn note(&mut self, number: usize, problem: Problem) -> Result<(), Problem> {
+        match problem {
+            Problem::Memory => Err(Problem::Memory),
+            said => Ok(self.count(number, Err(said))?),
+        }
+    }
+
     fn count_starved(&mut self) -> Result<(), AllocError> {
         self.starved = self.starved.saturating_add(1);
         Ok(())
@@ -84,7 +93,8 @@ impl Tally {
         }
     }
 
-    /// Counts as wrong what was right, and as right what was wrong: in a file of mistakes each case has to be wrong.
+    /// Counts as wrong what was right, and as right what was wrong: in a file of mistakes each case
+    /// has to be wrong.
     pub fn turn(&mut self) {
         self.wrong = self.cases.saturating_sub(self.wrong);
     }
