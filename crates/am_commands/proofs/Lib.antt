@@ -1,2 +1,3 @@
 pub mod Completions
 pub mod Found
+pub mod QuestionLemmas

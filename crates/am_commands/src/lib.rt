@@ -25,3 +25,6 @@ pub use fault_text::{status, write_fault};
 pub use files::Files;
 pub use program::{refuse_arguments, run};
 pub use trailer::Trailer;
+
+// What holds of the definitions by themselves.
+pub mod laws;
