@@ -7,13 +7,14 @@ use Rattle.std.specs.Ordering.{nat_cmp}
 use Rattle.std.specs.Cmp.Lexicographic.{slice_cmp}
 use Rattle.std.proofs.lemmas.List.Kept.{IsStrictlySortedBy-filter}
 use Rattle.am_universe.specs.Universe.{Label, sizes}
-use Rattle.am_universe.specs.Choice.{choices, IsWhole}
+use Rattle.am_universe.specs.Choice.{IsWhole}
 use Rattle.am_universe.specs.LabelSet.{label_set_of}
 use Rattle.am_universe.proofs.Members.{IsIn, IsIn-from_Contains, Contains-from_IsIn}
 use Rattle.am_universe.proofs.Choices.{choices_whole, choices_sorted}
 use Rattle.am_labels.specs.MatcherText.{Spells}
 use Rattle.am_labels.proofs.BraceTokens.{trimmed_token}
 use Rattle.am_labels.proofs.MatcherTextWhole.{one_list}
+use Rattle.am_commands.specs.Completions.{all_choices}
 use Rattle.am_commands.specs.Question.{Question, satisfies, is_answer, answers}
 use Rattle.am_commands.specs.QuestionText.{Reads}
 
@@ -61,7 +62,7 @@ pub answers_exact : (u : List Label) (question : Question) (c : List ℕ)
     → Contains (answers u question) c
     ↔ (IsWhole (sizes u) c × (satisfies question (label_set_of u c) ≡ true))
 answers_exact u question c =
-    let all : List (List ℕ) = choices (sizes u) in
+    let all : List (List ℕ) = all_choices u in
     let whole = choices_whole (sizes u) c in
     let test : List ℕ → Bool = is_answer u question in (
       λ h.
@@ -75,5 +76,5 @@ answers_exact u question c =
 pub answers_sorted : (u : List Label) (question : Question)
     → IsStrictlySortedBy (slice_cmp nat_cmp) (answers u question)
 answers_sorted u question =
-    IsStrictlySortedBy-filter (slice_cmp nat_cmp) (is_answer u question) (choices (sizes u))
+    IsStrictlySortedBy-filter (slice_cmp nat_cmp) (is_answer u question) (all_choices u)
     (choices_sorted (sizes u))

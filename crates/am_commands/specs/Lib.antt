@@ -1,9 +1,9 @@
 pub mod Trailer
 pub mod PageText
+pub mod Completions
 pub mod Question
 pub mod QuestionText
 pub mod FaultText
-pub mod Completions
 pub mod Asked
 pub mod Files
 pub mod Asking
