@@ -4,6 +4,6 @@ pub mod Completions
 pub mod Question
 pub mod QuestionText
 pub mod FaultText
-pub mod Asked
 pub mod Files
+pub mod Asked
 pub mod Asking

@@ -2,9 +2,8 @@ ghost use Rattle.std.specs.Prelude.{◌≡◌, ◌≢◌, [], IfOk, IfErr, strin
 ghost use Rattle.am_universe.specs.declared.kind.Kind.TheVariants as kinds;
 ghost use Rattle.am_universe.specs.declared.place.Place.TheVariants as places;
 ghost use Rattle.am_files.specs.Reading.{refusal_of};
-ghost use Rattle.am_commands.specs.Asked.{IsFirstFault};
+ghost use Rattle.am_commands.specs.Asked.{inputs_of, IsFirstFault};
 ghost use Rattle.am_commands.specs.Asking.{WroteAnswers, WroteAnswersInPart};
-ghost use Rattle.am_commands.specs.Files.{inputs_of};
 
 use crate::answers::answers_of;
 use crate::files::Files;

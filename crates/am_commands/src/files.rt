@@ -1,4 +1,4 @@
-ghost use Rattle.std.specs.Prelude.{◌≡◌};
+ghost use Rattle.std.specs.Prelude.{◌≡◌, option_copied};
 ghost use Rattle.am_commands.specs.Files.{config_of};
 
 /// The input files beside the universe, each as its bytes, as far as they are handed in.
@@ -15,7 +15,7 @@ const STAND_IN_CONFIG: &[u8] =
 impl<'a> Files<'a> {
     /// The bytes of the configuration, or of what stands in for it.
     pub fn config(&self) -> &'a [u8]
-        ensures { result.now ≡ config_of self.now }
+        ensures { result.now ≡ config_of (option_copied self.now.config) }
     {
         match self.config {
             Some(bytes) => bytes,

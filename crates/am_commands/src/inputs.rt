@@ -2,8 +2,7 @@ ghost use Rattle.std.specs.Prelude.{◌≡◌, ◌≢◌, [], IfOk, IfErr, strin
 ghost use Rattle.am_universe.specs.declared.kind.Kind.TheVariants as kinds;
 ghost use Rattle.am_universe.specs.declared.place.Place.TheVariants as places;
 ghost use Rattle.am_files.specs.Reading.{refusal_of};
-ghost use Rattle.am_commands.specs.Asked.{Accepts, IsFirstFault};
-ghost use Rattle.am_commands.specs.Files.{inputs_of};
+ghost use Rattle.am_commands.specs.Asked.{inputs_of, Accepts, IsFirstFault};
 
 use crate::files::Files;
 use crate::question::read_question;

@@ -8,8 +8,7 @@ use Rattle.am_files.specs.Reading.{refusal_of}
 use Rattle.am_files.specs.ConfigFile.{FileSaysConfig}
 use Rattle.am_files.specs.ConfigView.{config_view}
 use Rattle.am_commands.specs.QuestionText.{Refuses}
-use Rattle.am_commands.specs.Asked.{Inputs, HasUniverse, HasConfig, RefusesQuestion, IsFirstFault}
-use Rattle.am_commands.specs.Files.{inputs_of}
+use Rattle.am_commands.specs.Asked.{Inputs, inputs_of, HasUniverse, HasConfig, RefusesQuestion, IsFirstFault}
 use Rattle.am_commands.proofs.inputs.read_inputs.Goals as goal
 
 -- a fault of the question, behind files that are accepted
