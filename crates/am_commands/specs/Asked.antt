@@ -36,10 +36,12 @@ HasUniverse inputs = (universe : List Label) × FileSaysUniverse inputs.universe
 abbrev pub HasConfig : Inputs → Type 0
 HasConfig inputs = (configuration : Configuration) × FileSaysConfig (config_of inputs.config) configuration
 
--- the inputs are accepted: the files say the universe and a configuration, and the text is read as the question
-pub record Accepts (inputs : Inputs) (universe : List Label) (question : Question) : Type 0 where
+-- the inputs are accepted: the files say the universe and the configuration, and the text is read
+-- as the question
+pub record Accepts (inputs : Inputs) (universe : List Label) (configuration : Configuration)
+    (question : Question) : Type 0 where
   pub says_universe : FileSaysUniverse inputs.universe universe
-  pub says_config : HasConfig inputs
+  pub says_config : FileSaysConfig (config_of inputs.config) configuration
   pub reads : Reads inputs.question question
 
 -- the text of the question is refused for this cause, which stands at no part of a file

@@ -7,7 +7,7 @@ ghost use Rattle.am_commands.specs.Asking.{WroteAnswers, WroteAnswersInPart};
 
 use crate::answers::answers_of;
 use crate::files::Files;
-use crate::inputs::{Accepted, read_inputs};
+use crate::inputs::read_inputs;
 use crate::page::write_page;
 use crate::trailer::Trailer;
 use am_labels::{Fault, Kind, Place, Sink};
@@ -47,13 +47,14 @@ pub fn ask<W: Sink>(
     // Nothing is written after a refusal.
     ensures untouched { IfErr result (λ fault. fault.kind ≢ kinds.Write → out.new ≡ out.old) }
 {
-    let Accepted { universe, question } = read_inputs(alloc, universe, files, question)?;
-    let answers = match answers_of(alloc, &universe, &question) {
+    // No question speaks of the configuration yet, but a file that is handed in has to be one.
+    let accepted = read_inputs(alloc, universe, files, question)?;
+    let answers = match answers_of(alloc, &accepted.universe, &accepted.question) {
         Ok(answers) => answers,
         Err(_) => return Err(Fault::of(alloc, Kind::Memory, Place::Memory)),
     };
     let trailer = Trailer::End;
-    match write_page(&universe, answers.as_slice(), trailer, out) {
+    match write_page(&accepted.universe, answers.as_slice(), trailer, out) {
         Ok(()) => Ok(trailer),
         Err(kind) => Err(Fault::of(alloc, kind, Place::Output)),
     }

@@ -1,12 +1,13 @@
 ghost use Rattle.std.specs.Prelude.{◌≡◌, ◌≢◌, [], IfOk, IfErr, string_bytes};
 ghost use Rattle.am_universe.specs.declared.kind.Kind.TheVariants as kinds;
 ghost use Rattle.am_universe.specs.declared.place.Place.TheVariants as places;
+ghost use Rattle.am_files.specs.ConfigView.{config_view};
 ghost use Rattle.am_files.specs.Reading.{refusal_of};
 ghost use Rattle.am_commands.specs.Asked.{inputs_of, Accepts, IsFirstFault};
 
 use crate::files::Files;
 use crate::question::read_question;
-use am_files::{read_config, read_universe};
+use am_files::{Config, read_config, read_universe};
 use am_labels::{Fault, Kind, Matchers, Place, Universe};
 use std::alloc::Global;
 
@@ -14,6 +15,7 @@ use std::alloc::Global;
 #[derive(Drop)]
 pub struct Accepted {
     pub universe: Universe,
+    pub config: Config,
     pub question: Matchers,
 }
 
@@ -25,7 +27,9 @@ pub fn read_inputs(
     files: &Files<'_>,
     question: &str,
 ) -> Result<Accepted, Fault>
-    ensures accepts { IfOk result (λ accepted. Accepts (inputs_of universe.now files.now question.now) accepted.universe accepted.question) }
+    ensures accepts { IfOk result (λ accepted. Accepts
+        (inputs_of universe.now files.now question.now)
+        accepted.universe (config_view accepted.config) accepted.question) }
     ensures first { IfErr result (λ fault. fault.kind ≢ kinds.Memory
         → IsFirstFault (inputs_of universe.now files.now question.now) fault.place (refusal_of fault)) }
     ensures memory { IfErr result (λ fault. fault.kind ≡ kinds.Memory
@@ -33,10 +37,13 @@ pub fn read_inputs(
     ensures no_write { IfErr result (λ fault. fault.kind ≢ kinds.Write) }
 {
     let universe = read_universe(alloc, universe)?;
-    // No question speaks of the configuration yet, but a file that is handed in has to be one.
-    read_config(alloc, files.config())?;
+    let config = read_config(alloc, files.config())?;
     match read_question(alloc, question) {
-        Ok(question) => Ok(Accepted { universe, question }),
+        Ok(question) => Ok(Accepted {
+            universe,
+            config,
+            question,
+        }),
         Err(kind) => Err(question_fault(alloc, kind)),
     }
 }

@@ -20,8 +20,8 @@ of_question inputs kind fault universe config refused same at bare =
 pub returns-in-Err-clause-first : goal.returns-in-Err-clause-first
 returns-in-Err-clause-first c = λ remembered.
     let inputs : Inputs = inputs_of c.args.universe.now c.args.files.now c.args.question.now in
-    let configuration = config_view c.in_ok-read_config.field-0 in
-    let config : HasConfig inputs = (configuration, subst (λ (bytes : List ℕ). FileSaysConfig bytes configuration) c.config.ensures c.in_ok-read_config.ensures.says) in
+    let configuration = config_view c.in_ok-config.config in
+    let config : HasConfig inputs = (configuration, subst (λ (bytes : List ℕ). FileSaysConfig bytes configuration) c.config.ensures c.in_ok-config.ensures.says) in
     let kind = c.in-Err.kind in
     let given : kind ≢ kinds.Memory = λ e. remembered (c.question_fault.ensures.kind ∙ e) in
     of_question inputs kind c.question_fault.result (c.in_ok-universe.universe, c.in_ok-universe.ensures.says) config
