@@ -5,5 +5,6 @@ pub mod Question
 pub mod QuestionText
 pub mod FaultText
 pub mod Files
+pub mod Faults
 pub mod Asked
 pub mod Asking

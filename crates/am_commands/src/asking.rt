@@ -2,8 +2,9 @@ ghost use Rattle.std.specs.Prelude.{◌≡◌, ◌≢◌, [], IfOk, IfErr, strin
 ghost use Rattle.am_universe.specs.declared.kind.Kind.TheVariants as kinds;
 ghost use Rattle.am_universe.specs.declared.place.Place.TheVariants as places;
 ghost use Rattle.am_files.specs.Reading.{refusal_of};
-ghost use Rattle.am_commands.specs.Asked.{inputs_of, IsFirstFault};
+ghost use Rattle.am_commands.specs.Asked.{inputs_of, ask_stages};
 ghost use Rattle.am_commands.specs.Asking.{WroteAnswers, WroteAnswersInPart};
+ghost use Rattle.am_commands.specs.Faults.{IsFirstFault};
 
 use crate::answers::answers_of;
 use crate::files::Files;
@@ -37,7 +38,8 @@ pub fn ask<W: Sink>(
 
     // No other fault of the inputs comes before the one that is answered, and the pointer is that of the part at fault.
     ensures first { IfErr result (λ fault. fault.kind ≢ kinds.Write → fault.kind ≢ kinds.Memory
-        → IsFirstFault (inputs_of universe.now files.now question.now) fault.place (refusal_of fault)) }
+        → IsFirstFault (ask_stages (inputs_of universe.now files.now question.now))
+        fault.place (refusal_of fault)) }
     ensures memory { IfErr result (λ fault. fault.kind ≡ kinds.Memory
         → (fault.place ≡ places.Memory) × (string_bytes fault.pointer ≡ [])) }
     ensures write { IfErr result (λ fault. fault.kind ≡ kinds.Write

@@ -3,7 +3,8 @@ ghost use Rattle.am_universe.specs.declared.kind.Kind.TheVariants as kinds;
 ghost use Rattle.am_universe.specs.declared.place.Place.TheVariants as places;
 ghost use Rattle.am_files.specs.ConfigView.{config_view};
 ghost use Rattle.am_files.specs.Reading.{refusal_of};
-ghost use Rattle.am_commands.specs.Asked.{inputs_of, Accepts, IsFirstFault};
+ghost use Rattle.am_commands.specs.Asked.{inputs_of, Accepts, ask_stages};
+ghost use Rattle.am_commands.specs.Faults.{IsFirstFault};
 
 use crate::files::Files;
 use crate::question::read_question;
@@ -31,7 +32,8 @@ pub fn read_inputs(
         (inputs_of universe.now files.now question.now)
         accepted.universe (config_view accepted.config) accepted.question) }
     ensures first { IfErr result (λ fault. fault.kind ≢ kinds.Memory
-        → IsFirstFault (inputs_of universe.now files.now question.now) fault.place (refusal_of fault)) }
+        → IsFirstFault (ask_stages (inputs_of universe.now files.now question.now))
+        fault.place (refusal_of fault)) }
     ensures memory { IfErr result (λ fault. fault.kind ≡ kinds.Memory
         → (fault.place ≡ places.Memory) × (string_bytes fault.pointer ≡ [])) }
     ensures no_write { IfErr result (λ fault. fault.kind ≢ kinds.Write) }

@@ -1,0 +1,64 @@
+-- Which fault of a call comes first. (This project's own.)
+use Rattle.std.specs.Prelude.{◌≡◌, ◌⊎◌, ℕ, List, [], ◌∷◌, Some}
+use Rattle.am_universe.specs.declared.place.Place.{Place}
+use Rattle.am_universe.specs.declared.place.Place.TheVariants as places
+use Rattle.am_universe.specs.Universe.{Label}
+use Rattle.am_files.specs.Pointer.{Refusal}
+use Rattle.am_files.specs.UniverseFile.{FileSaysUniverse, fault_of_universe_file}
+use Rattle.am_files.specs.ConfigFile.{Configuration, FileSaysConfig}
+use Rattle.am_files.specs.ConfigReading.{config_file}
+use Rattle.am_files.specs.Judged as judged
+use Rattle.am_commands.specs.Question.{Question}
+use Rattle.am_commands.specs.QuestionText.{Reads, Refuses}
+
+-- A stage of a call, which reads one of its inputs: the place of its faults, that the input is
+-- accepted, and what it may be refused for.
+pub record Stage : Type 1 where
+  pub place : Place
+  pub accepts : Type 0
+  pub refuses : Refusal → Type 0
+
+-- The first fault of a call whose stages come in this order, want of memory apart: one stage
+-- refuses its input for it, and every earlier stage accepts its own.
+abbrev pub IsFirstFault : List Stage → Place → Refusal → Type 0
+IsFirstFault [] place r = ⊥
+IsFirstFault (stage ∷ later) place r =
+    ((place ≡ stage.place) × stage.refuses r) ⊎ (stage.accepts × IsFirstFault later place r)
+
+-- ---- The stages that there are.
+
+-- the bytes of a file say a universe
+abbrev pub SaysSomeUniverse : List ℕ → Type 0
+SaysSomeUniverse bytes = (universe : List Label) × FileSaysUniverse bytes universe
+
+-- the bytes of a file say a configuration
+abbrev pub SaysSomeConfig : List ℕ → Type 0
+SaysSomeConfig bytes = (configuration : Configuration) × FileSaysConfig bytes configuration
+
+-- the text is read as a question
+abbrev pub ReadsSomeQuestion : List ℕ → Type 0
+ReadsSomeQuestion text = (question : Question) × Reads text question
+
+-- the universe file
+abbrev pub universe_stage : List ℕ → Stage
+universe_stage bytes = record {
+  place = places.Universe;
+  accepts = SaysSomeUniverse bytes;
+  refuses = λ r. fault_of_universe_file bytes ≡ Some r;
+}
+
+-- the configuration file
+abbrev pub config_stage : List ℕ → Stage
+config_stage bytes = record {
+  place = places.Config;
+  accepts = SaysSomeConfig bytes;
+  refuses = judged.Refuses (config_file bytes);
+}
+
+-- the text of the question, whose faults stand at no part of a file
+abbrev pub question_stage : List ℕ → Stage
+question_stage text = record {
+  place = places.Question;
+  accepts = ReadsSomeQuestion text;
+  refuses = λ r. Refuses text r.kind × (r.pointer ≡ []);
+}
