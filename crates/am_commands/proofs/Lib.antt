@@ -1,3 +1,3 @@
-pub mod Completions
-pub mod Found
+pub mod CompletionLemmas
+pub mod AnswerLemmas
 pub mod QuestionLemmas

@@ -16,10 +16,10 @@ use Rattle.am_labels.proofs.BraceTokens.{trimmed_token}
 use Rattle.am_labels.proofs.MatcherTextWhole.{one_list}
 use Rattle.am_commands.specs.Completions.{all_choices}
 use Rattle.am_commands.specs.Question.{Question, satisfies, is_answer, answers}
-use Rattle.am_commands.specs.QuestionText.{Reads}
+use Rattle.am_commands.specs.QuestionText.{ReadsQuestion}
 
 -- a text is one brace token at most, which spells one list at most
-pub one_question : (text : List ℕ) (p q : Question) → Reads text p → Reads text q → p ≡ q
+pub one_question : (text : List ℕ) (p q : Question) → ReadsQuestion text p → ReadsQuestion text q → p ≡ q
 one_question text p q h k =
     let same : k.token ≡ h.token =
     sym (trimmed_token text k.token k.is_token) ∙ trimmed_token text h.token h.is_token in

@@ -22,26 +22,26 @@ place_text places.Output = codes "output"
 place_text places.Memory = codes "memory"
 
 -- a byte of a pointer: `\` is written `\\`, a line feed `\n`
-abbrev pub escaped_in_pointer : ℕ → List ℕ
-escaped_in_pointer c = if c == 92 then codes "\\\\" else if c == 10 then codes "\\n" else c ∷ []
+abbrev pub pointer_byte_text : ℕ → List ℕ
+pointer_byte_text c = if c == 92 then codes "\\\\" else if c == 10 then codes "\\n" else c ∷ []
 
 -- the pointer, where there is one, and what separates it from the text of the kind
 abbrev pub pointer_part : List ℕ → List ℕ
-pointer_part pointer = if length pointer == 0 then [] else flat_map escaped_in_pointer pointer ++ codes ": "
+pointer_part pointer = if length pointer == 0 then [] else flat_map pointer_byte_text pointer ++ codes ": "
 
 -- a fault of writing or of memory stands at no part of the input
-abbrev pub is_placeless : Kind → Bool
-is_placeless kinds.Write = true
-is_placeless kinds.Memory = true
-is_placeless _ = false
+abbrev pub has_no_place : Kind → Bool
+has_no_place kinds.Write = true
+has_no_place kinds.Memory = true
+has_no_place _ = false
 
 -- where a fault stands, as it is written
-abbrev pub where_part : Kind → Place → List ℕ → List ℕ
-where_part kind place pointer = if is_placeless kind then [] else place_text place ++ (codes ": " ++ pointer_part pointer)
+abbrev pub place_part : Kind → Place → List ℕ → List ℕ
+place_part kind place pointer = if has_no_place kind then [] else place_text place ++ (codes ": " ++ pointer_part pointer)
 
 -- the line for a fault
 abbrev pub fault_text : Kind → Place → List ℕ → List ℕ
-fault_text kind place pointer = codes "amcover: " ++ (where_part kind place pointer ++ (text_of kind ++ codes "\n"))
+fault_text kind place pointer = codes "amcover: " ++ (place_part kind place pointer ++ (text_of kind ++ codes "\n"))
 
 -- the exit status of the program for a kind of fault: 4 where writing failed, 3 for memory, 1 for refused input
 abbrev pub status_of : Kind → ℕ

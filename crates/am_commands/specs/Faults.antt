@@ -9,7 +9,7 @@ use Rattle.am_files.specs.ConfigFile.{Configuration, FileSaysConfig}
 use Rattle.am_files.specs.ConfigReading.{config_file}
 use Rattle.am_files.specs.Judged as judged
 use Rattle.am_commands.specs.Question.{Question}
-use Rattle.am_commands.specs.QuestionText.{Reads, Refuses}
+use Rattle.am_commands.specs.QuestionText.{ReadsQuestion, RefusesQuestionText}
 
 -- A stage of a call, which reads one of its inputs: the place of its faults, that the input is
 -- accepted, and what it may be refused for.
@@ -37,7 +37,7 @@ SaysSomeConfig bytes = (configuration : Configuration) × FileSaysConfig bytes c
 
 -- the text is read as a question
 abbrev pub ReadsSomeQuestion : List ℕ → Type 0
-ReadsSomeQuestion text = (question : Question) × Reads text question
+ReadsSomeQuestion text = (question : Question) × ReadsQuestion text question
 
 -- the universe file
 abbrev pub universe_stage : List ℕ → Stage
@@ -60,5 +60,5 @@ abbrev pub question_stage : List ℕ → Stage
 question_stage text = record {
   place = places.Question;
   accepts = ReadsSomeQuestion text;
-  refuses = λ r. Refuses text r.kind × (r.pointer ≡ []);
+  refuses = λ r. RefusesQuestionText text r.kind × (r.pointer ≡ []);
 }

@@ -6,5 +6,5 @@ pub mod QuestionText
 pub mod FaultText
 pub mod Files
 pub mod Faults
-pub mod Asked
-pub mod Asking
+pub mod Inputs
+pub mod AskOutcome

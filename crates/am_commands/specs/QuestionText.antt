@@ -10,7 +10,7 @@ use Rattle.am_labels.specs.BraceToken.{IsBraceToken}
 use Rattle.am_commands.specs.Question.{Question}
 
 -- the text is read as the question: it is one brace token, which spells the matchers
-pub record Reads (text : List ℕ) (question : Question) : Type 0 where
+pub record ReadsQuestion (text : List ℕ) (question : Question) : Type 0 where
   pub token : List ℕ
   pub is_token : IsBraceToken text token
   pub spelled : Spells token question
@@ -18,11 +18,11 @@ pub record Reads (text : List ℕ) (question : Question) : Type 0 where
   pub sound : IsTrue (have_sound_values question)
 
 -- the text is a brace token whose matcher list is refused
-pub record RefusesToken (text : List ℕ) (kind : Kind) : Type 0 where
+pub record RefusesBraceToken (text : List ℕ) (kind : Kind) : Type 0 where
   pub token : List ℕ
   pub is_token : IsBraceToken text token
   pub refused : RefusesText token kind
 
 -- The text is refused: it is no brace token, or its matcher list is refused.
-abbrev pub Refuses : List ℕ → Kind → Type 0
-Refuses text kind = ((kind ≡ kinds.QuestionSyntax) × ((token : List ℕ) → IsBraceToken text token → ⊥)) ⊎ RefusesToken text kind
+abbrev pub RefusesQuestionText : List ℕ → Kind → Type 0
+RefusesQuestionText text kind = ((kind ≡ kinds.QuestionSyntax) × ((token : List ℕ) → IsBraceToken text token → ⊥)) ⊎ RefusesBraceToken text kind

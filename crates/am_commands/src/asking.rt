@@ -2,8 +2,8 @@ ghost use Rattle.std.specs.Prelude.{◌≡◌, ◌≢◌, [], IfOk, IfErr, strin
 ghost use Rattle.am_universe.specs.declared.kind.Kind.TheVariants as kinds;
 ghost use Rattle.am_universe.specs.declared.place.Place.TheVariants as places;
 ghost use Rattle.am_files.specs.Reading.{refusal_of};
-ghost use Rattle.am_commands.specs.Asked.{inputs_of, ask_stages};
-ghost use Rattle.am_commands.specs.Asking.{WroteAnswers, WroteAnswersInPart};
+ghost use Rattle.am_commands.specs.Inputs.{inputs_of, ask_stages};
+ghost use Rattle.am_commands.specs.AskOutcome.{WroteAnswers, WroteAnswersInPart};
 ghost use Rattle.am_commands.specs.Faults.{IsFirstFault};
 
 use crate::answers::answers_of;

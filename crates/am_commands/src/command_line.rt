@@ -57,7 +57,7 @@ Exit status: 0 done, 1 refused input, 2 usage, 3 out of memory, 4 the output fai
 
 /// Reads a command line, its first word the program's name. An `Err` has the text to show: of a usage
 /// fault, of help or of the version.
-pub fn read_words<'a>(alloc: Global, words: &'a [String]) -> Result<Request<'a>, Error> {
+pub fn parse_command_line<'a>(alloc: Global, words: &'a [String]) -> Result<Request<'a>, Error> {
     let mut command = command(alloc)?;
     let matches = command.try_get_matches_from_mut(words)?;
     if let Some((_, matches)) = matches.subcommand()

@@ -1,7 +1,7 @@
 ghost use Rattle.std.specs.Prelude.{◌≡◌, string_bytes};
 ghost use Rattle.std.specs.List.{flat_map};
 ghost use Rattle.am_universe.specs.Sink.{Writes};
-ghost use Rattle.am_commands.specs.FaultText.{place_text, fault_text, is_placeless, where_part, pointer_part, escaped_in_pointer, status_of};
+ghost use Rattle.am_commands.specs.FaultText.{place_text, fault_text, has_no_place, place_part, pointer_part, pointer_byte_text, status_of};
 
 use am_labels::{Fault, Kind, Place, Sink, put_all, put_str};
 
@@ -9,29 +9,29 @@ use am_labels::{Fault, Kind, Place, Sink, put_all, put_str};
 ///
 /// The only `Err` is `Kind::Write`. No memory is taken.
 pub fn write_fault<W: Sink>(fault: &Fault, out: &mut W) -> Result<(), Kind>
-    ensures { Writes W.taken W.failures out.old out.new (fault_text fault.now.kind fault.now.place (string_bytes fault.now.pointer)) result }
+    ensures writes { Writes W.taken W.failures out.old out.new (fault_text fault.now.kind fault.now.place (string_bytes fault.now.pointer)) result }
 {
     put_all(out, b"amcover: ")?;
-    write_where(fault, out)?;
+    write_place_part(fault, out)?;
     put_str(out, fault.kind.text())?;
     put_all(out, b"\n")
 }
 
 /// Writes where a fault stands, and nothing for a fault of writing or of memory.
-fn write_where<W: Sink>(fault: &Fault, out: &mut W) -> Result<(), Kind>
-    ensures { Writes W.taken W.failures out.old out.new (where_part fault.now.kind fault.now.place (string_bytes fault.now.pointer)) result }
+fn write_place_part<W: Sink>(fault: &Fault, out: &mut W) -> Result<(), Kind>
+    ensures { Writes W.taken W.failures out.old out.new (place_part fault.now.kind fault.now.place (string_bytes fault.now.pointer)) result }
 {
-    if is_placeless(fault.kind) {
+    if has_no_place(fault.kind) {
         return Ok(());
     }
-    put_str(out, name_of(fault.place))?;
+    put_str(out, place_text(fault.place))?;
     put_all(out, b": ")?;
     write_pointer(fault.pointer.as_str(), out)
 }
 
 /// Whether a fault stands at no part of the input.
-fn is_placeless(kind: Kind) -> bool
-    ensures { result ≡ is_placeless kind }
+fn has_no_place(kind: Kind) -> bool
+    ensures { result ≡ has_no_place kind }
 {
     matches!(kind, Kind::Write | Kind::Memory)
 }
@@ -44,14 +44,14 @@ fn write_pointer<W: Sink>(pointer: &str, out: &mut W) -> Result<(), Kind>
         return Ok(());
     }
     for byte in pointer.as_bytes() {
-        write_byte(*byte, out)?;
+        write_pointer_byte(*byte, out)?;
     }
     put_all(out, b": ")
 }
 
 /// Writes a byte of a pointer, so that the pointer stays on one line.
-fn write_byte<W: Sink>(byte: u8, out: &mut W) -> Result<(), Kind>
-    ensures { Writes W.taken W.failures out.old out.new (escaped_in_pointer byte) result }
+fn write_pointer_byte<W: Sink>(byte: u8, out: &mut W) -> Result<(), Kind>
+    ensures { Writes W.taken W.failures out.old out.new (pointer_byte_text byte) result }
 {
     match byte {
         b'\\' => put_all(out, b"\\\\"),
@@ -60,7 +60,7 @@ fn write_byte<W: Sink>(byte: u8, out: &mut W) -> Result<(), Kind>
     }
 }
 
-fn name_of(place: Place) -> &'static str
+fn place_text(place: Place) -> &'static str
     ensures { result.now ≡ place_text place }
 {
     match place {
@@ -80,7 +80,7 @@ fn name_of(place: Place) -> &'static str
 /// The exit status of the program after a fault: 4 where writing failed, 3 where memory was refused,
 /// 1 where input was refused.
 pub fn status(fault: &Fault) -> u8
-    ensures { result ≡ status_of fault.now.kind }
+    ensures status { result ≡ status_of fault.now.kind }
 {
     match fault.kind {
         Kind::Write => 4,

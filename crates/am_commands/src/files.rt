@@ -15,7 +15,7 @@ const STAND_IN_CONFIG: &[u8] =
 impl<'a> Files<'a> {
     /// The bytes of the configuration, or of what stands in for it.
     pub fn config(&self) -> &'a [u8]
-        ensures { result.now ≡ config_of (option_copied self.now.config) }
+        ensures bytes { result.now ≡ config_of (option_copied self.now.config) }
     {
         match self.config {
             Some(bytes) => bytes,

@@ -3,7 +3,7 @@ ghost use Rattle.am_universe.specs.declared.kind.Kind.TheVariants as kinds;
 ghost use Rattle.am_universe.specs.declared.place.Place.TheVariants as places;
 ghost use Rattle.am_files.specs.ConfigView.{config_view};
 ghost use Rattle.am_files.specs.Reading.{refusal_of};
-ghost use Rattle.am_commands.specs.Asked.{inputs_of, Accepts, ask_stages};
+ghost use Rattle.am_commands.specs.Inputs.{inputs_of, AcceptsInputs, ask_stages};
 ghost use Rattle.am_commands.specs.Faults.{IsFirstFault};
 
 use crate::files::Files;
@@ -14,7 +14,7 @@ use std::alloc::Global;
 
 /// What the inputs of a call say, where they are accepted.
 #[derive(Drop)]
-pub struct Accepted {
+pub struct AcceptedInputs {
     pub universe: Universe,
     pub config: Config,
     pub question: Matchers,
@@ -27,8 +27,8 @@ pub fn read_inputs(
     universe: &[u8],
     files: &Files<'_>,
     question: &str,
-) -> Result<Accepted, Fault>
-    ensures accepts { IfOk result (λ accepted. Accepts
+) -> Result<AcceptedInputs, Fault>
+    ensures accepts { IfOk result (λ accepted. AcceptsInputs
         (inputs_of universe.now files.now question.now)
         accepted.universe (config_view accepted.config) accepted.question) }
     ensures first { IfErr result (λ fault. fault.kind ≢ kinds.Memory
@@ -41,7 +41,7 @@ pub fn read_inputs(
     let universe = read_universe(alloc, universe)?;
     let config = read_config(alloc, files.config())?;
     match read_question(alloc, question) {
-        Ok(question) => Ok(Accepted {
+        Ok(question) => Ok(AcceptedInputs {
             universe,
             config,
             question,

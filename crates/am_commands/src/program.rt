@@ -2,7 +2,7 @@ ghost use Rattle.std.specs.Prelude.{◌≡◌};
 ghost use Rattle.am_commands.specs.FaultText.{status_of};
 
 use crate::asking::ask;
-use crate::command_line::{Request, read_words};
+use crate::command_line::{Request, parse_command_line};
 use crate::fault_text::{status, write_fault};
 use crate::files;
 use crate::read_file::read_file;
@@ -30,9 +30,9 @@ pub fn run<R: Files + AllocGlobal, W: Write + Drop, E: Write + Drop>(
     out: &mut W,
     err: &mut E,
 ) -> u8 {
-    let outcome = match read_words(rt.alloc(), words) {
-        Ok(request) => serve(rt, request, out),
-        Err(error) => show(rt.alloc(), &error, out, err),
+    let outcome = match parse_command_line(rt.alloc(), words) {
+        Ok(request) => run_request(rt, request, out),
+        Err(error) => show_clap_message(rt.alloc(), &error, out, err),
     };
     match outcome {
         Ok(status) => status,
@@ -65,7 +65,7 @@ fn report<E: Write>(alloc: Global, fault: &Fault, err: &mut E) -> u8
 }
 
 /// Reads the files that the request names, and does what it asks for.
-fn serve<R: Files + AllocGlobal, W: Write + Drop>(
+fn run_request<R: Files + AllocGlobal, W: Write + Drop>(
     rt: &R,
     request: Request<'_>,
     out: &mut W,
@@ -125,7 +125,7 @@ fn read_input<R: Files + AllocGlobal>(rt: &R, path: &str, place: Place) -> Resul
 }
 
 /// Shows what the reader of the command line has to say: help and the version on `out`, a usage fault on `err`.
-fn show<W: Write, E: Write>(
+fn show_clap_message<W: Write, E: Write>(
     alloc: Global,
     error: &Error,
     out: &mut W,

@@ -1,6 +1,6 @@
 ghost use Rattle.std.specs.Prelude.{◌≡◌, ◌≢◌, IfOk, IfErr};
 ghost use Rattle.am_universe.specs.declared.kind.Kind.TheVariants as kinds;
-ghost use Rattle.am_commands.specs.QuestionText.{Reads, Refuses};
+ghost use Rattle.am_commands.specs.QuestionText.{ReadsQuestion, RefusesQuestionText};
 
 use am_labels::{Kind, Matchers, brace_token, parse_matchers};
 use std::alloc::Global;
@@ -10,8 +10,8 @@ use std::alloc::Global;
 /// `QuestionSyntax` where the text is anything else; then as `parse_matchers`: `BadMatcher`, `Limit`, and matcher by
 /// matcher `PatternProfile` and `Pattern`. `Memory` only where memory was refused.
 pub fn read_question(alloc: Global, text: &str) -> Result<Matchers, Kind>
-    ensures read { IfOk result (Reads text.now) }
-    ensures refused { IfErr result (λ kind. kind ≢ kinds.Memory → Refuses text.now kind) }
+    ensures read { IfOk result (ReadsQuestion text.now) }
+    ensures refused { IfErr result (λ kind. kind ≢ kinds.Memory → RefusesQuestionText text.now kind) }
 {
     let Some(token) = brace_token(text) else {
         return Err(Kind::QuestionSyntax);

@@ -4,7 +4,7 @@ use std::rt::Files;
 use std::{fs, io};
 
 /// The most bytes that are read of a file: one more than a file may have.
-const MOST: usize = 16_777_217;
+const MAX_BYTES_READ: usize = 16_777_217;
 
 const CHUNK: usize = 65536;
 
@@ -14,8 +14,8 @@ pub fn read_file<R: Files + AllocGlobal>(rt: &R, path: &str) -> Result<Vec<u8>, 
     let mut file = fs::open(rt, path).map_err(|error| kind_of(&error))?;
     let mut bytes = Vec::new(rt.alloc());
     let mut chunk = [0u8; CHUNK];
-    for _ in 0..MOST {
-        let wanted = (MOST - bytes.len()).min(CHUNK);
+    for _ in 0..MAX_BYTES_READ {
+        let wanted = (MAX_BYTES_READ - bytes.len()).min(CHUNK);
         let count = file
             .read(&mut chunk[..wanted])
             .map_err(|error| kind_of(&error))?;

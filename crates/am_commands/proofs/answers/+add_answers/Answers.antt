@@ -3,7 +3,7 @@ use Rattle.std.proofs.Common.{◌∷◌, [], length, ap, length-append, arith}
 use Rattle.std.proofs.lemmas.Result.{on_ok_weaker}
 use Rattle.am_universe.specs.Universe.{sizes}
 use Rattle.am_commands.specs.Question.{is_answer}
-use Rattle.am_commands.proofs.Found.{prefix_fits, found_here, longer_admitted, found_more, found_all}
+use Rattle.am_commands.proofs.AnswerLemmas.{prefix_fits, found_here, longer_admitted, found_more, found_all}
 use Rattle.am_commands.proofs.answers.+add_answers.Goals as goal
 
 pub returns-then-len : goal.returns-then-len

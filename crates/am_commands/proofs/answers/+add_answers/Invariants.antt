@@ -2,7 +2,7 @@ use Rattle.std.proofs.Common.{◌≡◌, ◌++◌, length, ◌-◌}
 use Rattle.std.specs.List.{filter}
 use Rattle.am_universe.specs.Universe.{sizes}
 use Rattle.am_commands.specs.Question.{is_answer}
-use Rattle.am_commands.proofs.Found.{below_first}
+use Rattle.am_commands.proofs.AnswerLemmas.{below_first}
 use Rattle.am_commands.proofs.answers.+add_answers.Given as goal
 
 -- labels left

@@ -1,7 +1,7 @@
 -- What is found with no prefix are the answers.
 use Rattle.am_universe.specs.Universe.{sizes}
 use Rattle.am_commands.specs.Question.{is_answer}
-use Rattle.am_commands.proofs.Found.{found_of_all, found_are_whole}
+use Rattle.am_commands.proofs.AnswerLemmas.{found_of_all, found_are_whole}
 use Rattle.am_commands.proofs.answers.answers_of.Goals as goal
 
 pub returns-clause-answers : goal.returns-clause-answers

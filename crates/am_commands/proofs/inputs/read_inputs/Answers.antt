@@ -5,16 +5,16 @@ use Rattle.am_universe.specs.declared.kind.Kind.TheVariants as kinds
 use Rattle.am_files.specs.ConfigFile.{FileSaysConfig}
 use Rattle.am_files.specs.ConfigView.{config_view}
 use Rattle.am_commands.specs.Files.{config_of}
-use Rattle.am_commands.specs.QuestionText.{Refuses}
+use Rattle.am_commands.specs.QuestionText.{RefusesQuestionText}
 use Rattle.am_commands.proofs.inputs.read_inputs.Goals as goal
 
 pub returns-in-Err-clause-first : goal.returns-in-Err-clause-first
 returns-in-Err-clause-first c = λ remembered.
     let config = config_view c.in_ok-config.config in
     let says_config : FileSaysConfig (config_of (option_copied c.args.files.now.config)) config =
-    subst (λ (bytes : List ℕ). FileSaysConfig bytes config) c.config.ensures c.in_ok-config.ensures.says in
+    subst (λ (bytes : List ℕ). FileSaysConfig bytes config) c.config.ensures.bytes c.in_ok-config.ensures.says in
     let given : c.in-Err.kind ≢ kinds.Memory = λ e. remembered (c.question_fault.ensures.kind ∙ e) in
-    let refused = subst (λ (k : Kind). Refuses c.args.question.now k) (sym c.question_fault.ensures.kind) (c.in-Err.ensures.refused given) in
+    let refused = subst (λ (k : Kind). RefusesQuestionText c.args.question.now k) (sym c.question_fault.ensures.kind) (c.in-Err.ensures.refused given) in
     inr (
       (c.in_ok-universe.universe, c.in_ok-universe.ensures.says),
       inr (

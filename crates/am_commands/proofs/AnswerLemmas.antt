@@ -8,7 +8,7 @@ use Rattle.std.proofs.lemmas.Option.{slice_get_within, get_or_from_slice_get}
 use Rattle.am_universe.specs.Universe.{Label, sizes}
 use Rattle.am_universe.specs.Choice.{counted_from, choices, admits, IsWhole}
 use Rattle.am_commands.specs.Completions.{completions}
-use Rattle.am_commands.proofs.Completions.{below, completions_are_below, completions_of_whole, below_by_next, flat_map_counted, admits_next, choices_are_whole, all_filter}
+use Rattle.am_commands.proofs.CompletionLemmas.{below, completions_are_below, completions_of_whole, below_by_next, flat_map_counted, admits_next, choices_are_whole, all_filter}
 
 pub length-sizes : (u : List Label) → length (sizes u) ≡ length u
 length-sizes u = length-map u (λ l. length l.values)

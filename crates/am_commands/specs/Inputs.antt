@@ -7,7 +7,7 @@ use Rattle.am_files.specs.ConfigFile.{Configuration, FileSaysConfig}
 use Rattle.am_commands.specs.declared.files.Files.{Files}
 use Rattle.am_commands.specs.Files.{config_of}
 use Rattle.am_commands.specs.Question.{Question}
-use Rattle.am_commands.specs.QuestionText.{Reads}
+use Rattle.am_commands.specs.QuestionText.{ReadsQuestion}
 use Rattle.am_commands.specs.Faults.{Stage, universe_stage, config_stage, question_stage}
 
 -- The inputs of a call: the bytes of the universe file, those of the configuration file if there is
@@ -27,11 +27,11 @@ inputs_of universe files question = record {
 
 -- the inputs are accepted: the files say the universe and the configuration, and the text is read
 -- as the question
-pub record Accepts (inputs : Inputs) (universe : List Label) (configuration : Configuration)
+pub record AcceptsInputs (inputs : Inputs) (universe : List Label) (configuration : Configuration)
     (question : Question) : Type 0 where
   pub says_universe : FileSaysUniverse inputs.universe universe
   pub says_config : FileSaysConfig (config_of inputs.config) configuration
-  pub reads : Reads inputs.question question
+  pub reads : ReadsQuestion inputs.question question
 
 -- The stages of `ask`, in order: the universe file, the configuration file or what stands in for
 -- it, the question.
