@@ -6,10 +6,11 @@ ghost use Rattle.am_files.specs.Reading.{refusal_of};
 ghost use Rattle.am_commands.specs.Inputs.{inputs_of, AcceptsInputs, ask_stages};
 ghost use Rattle.am_commands.specs.Faults.{IsFirstFault};
 
+use crate::fault::fault_at;
 use crate::files::Files;
 use crate::question::read_question;
 use am_files::{Config, read_config, read_universe};
-use am_labels::{Fault, Kind, Matchers, Place, Universe};
+use am_labels::{Fault, Matchers, Place, Universe};
 use std::alloc::Global;
 
 /// What the inputs of a call say, where they are accepted.
@@ -46,21 +47,6 @@ pub fn read_inputs(
             config,
             question,
         }),
-        Err(kind) => Err(question_fault(alloc, kind)),
+        Err(kind) => Err(fault_at(alloc, kind, Place::Question)),
     }
-}
-
-/// Where a fault of reading the question stands: want of memory is none of the question's.
-fn question_fault(alloc: Global, kind: Kind) -> Fault
-    ensures kind { result.kind ≡ kind }
-    ensures memory { kind ≡ kinds.Memory → result.place ≡ places.Memory }
-    ensures place { kind ≢ kinds.Memory → result.place ≡ places.Question }
-    ensures pointer { string_bytes result.pointer ≡ [] }
-{
-    let place = if kind == Kind::Memory {
-        Place::Memory
-    } else {
-        Place::Question
-    };
-    Fault::of(alloc, kind, place)
 }

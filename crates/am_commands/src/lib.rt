@@ -10,9 +10,11 @@ mod inputs;
 mod question;
 // What is answered, and how it is written.
 mod answers;
-mod fault_text;
 mod page;
 mod trailer;
+// Faults, and how they are written.
+mod fault;
+mod fault_text;
 // The commands.
 mod asking;
 // The program's run.

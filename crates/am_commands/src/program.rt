@@ -3,6 +3,7 @@ ghost use Rattle.am_commands.specs.FaultText.{status_of};
 
 use crate::asking::ask;
 use crate::command_line::{Request, parse_command_line};
+use crate::fault::fault_at;
 use crate::fault_text::{status, write_fault};
 use crate::files;
 use crate::read_file::read_file;
@@ -119,8 +120,7 @@ fn ask_buffered<W: Write + Drop>(
 fn read_input<R: Files + AllocGlobal>(rt: &R, path: &str, place: Place) -> Result<Vec<u8>, Fault> {
     match read_file(rt, path) {
         Ok(bytes) => Ok(bytes),
-        Err(Kind::Memory) => Err(Fault::of(rt.alloc(), Kind::Memory, Place::Memory)),
-        Err(kind) => Err(Fault::of(rt.alloc(), kind, place)),
+        Err(kind) => Err(fault_at(rt.alloc(), kind, place)),
     }
 }
 

@@ -13,12 +13,12 @@ returns-in-Err-clause-first c = λ remembered.
     let config = config_view c.in_ok-config.config in
     let says_config : FileSaysConfig (config_of (option_copied c.args.files.now.config)) config =
     subst (λ (bytes : List ℕ). FileSaysConfig bytes config) c.config.ensures.bytes c.in_ok-config.ensures.says in
-    let given : c.in-Err.kind ≢ kinds.Memory = λ e. remembered (c.question_fault.ensures.kind ∙ e) in
-    let refused = subst (λ (k : Kind). RefusesQuestionText c.args.question.now k) (sym c.question_fault.ensures.kind) (c.in-Err.ensures.refused given) in
+    let given : c.in-Err.kind ≢ kinds.Memory = λ e. remembered (c.fault_at.ensures.kind ∙ e) in
+    let refused = subst (λ (k : Kind). RefusesQuestionText c.args.question.now k) (sym c.fault_at.ensures.kind) (c.in-Err.ensures.refused given) in
     inr (
       (c.in_ok-universe.universe, c.in_ok-universe.ensures.says),
       inr (
         (config, says_config),
-        inl (c.question_fault.ensures.place given, (refused, c.question_fault.ensures.pointer)),
+        inl (c.fault_at.ensures.place given, (refused, c.fault_at.ensures.pointer)),
       ),
     )
