@@ -1,7 +1,9 @@
 -- The line that the program prints for a fault: `amcover: `, the place, `: `, the pointer and `: ` where there is one,
 -- then the text of the kind. A fault of writing or of memory has neither place nor pointer. (This project's own.)
-use Rattle.std.specs.Prelude.{ℕ, Bool, true, false, List, [], ◌∷◌, ◌++◌, length, ◌==◌, if◌then◌else◌, codes}
+use Rattle.std.specs.Prelude.{ℕ, Bool, true, false, List, [], ◌∷◌, ◌++◌, length, ◌==◌}
+use Rattle.std.specs.Prelude.{if◌then◌else◌, codes, string_bytes}
 use Rattle.std.specs.List.{flat_map}
+use Rattle.am_universe.specs.declared.fault.Fault.{Fault}
 use Rattle.am_universe.specs.declared.kind.Kind.{Kind}
 use Rattle.am_universe.specs.declared.kind.Kind.TheVariants as kinds
 use Rattle.am_universe.specs.declared.place.Place.{Place}
@@ -36,12 +38,14 @@ has_no_place kinds.Memory = true
 has_no_place _ = false
 
 -- where a fault stands, as it is written
-abbrev pub place_part : Kind → Place → List ℕ → List ℕ
-place_part kind place pointer = if has_no_place kind then [] else place_text place ++ (codes ": " ++ pointer_part pointer)
+abbrev pub place_part : Fault → List ℕ
+place_part fault =
+    if has_no_place fault.kind then []
+    else place_text fault.place ++ (codes ": " ++ pointer_part (string_bytes fault.pointer))
 
 -- the line for a fault
-abbrev pub fault_text : Kind → Place → List ℕ → List ℕ
-fault_text kind place pointer = codes "amcover: " ++ (place_part kind place pointer ++ (text_of kind ++ codes "\n"))
+abbrev pub fault_text : Fault → List ℕ
+fault_text fault = codes "amcover: " ++ (place_part fault ++ (text_of fault.kind ++ codes "\n"))
 
 -- the exit status of the program for a kind of fault: 4 where writing failed, 3 for memory, 1 for refused input
 abbrev pub status_of : Kind → ℕ

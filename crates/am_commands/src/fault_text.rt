@@ -1,4 +1,4 @@
-ghost use Rattle.std.specs.Prelude.{◌≡◌, string_bytes};
+ghost use Rattle.std.specs.Prelude.{◌≡◌};
 ghost use Rattle.std.specs.List.{flat_map};
 ghost use Rattle.am_universe.specs.Sink.{Writes};
 ghost use Rattle.am_commands.specs.FaultText.{place_text, fault_text, has_no_place, place_part, pointer_part, pointer_byte_text, status_of};
@@ -9,7 +9,7 @@ use am_labels::{Fault, Kind, Place, Sink, put_all, put_str};
 ///
 /// The only `Err` is `Kind::Write`. No memory is taken.
 pub fn write_fault<W: Sink>(fault: &Fault, out: &mut W) -> Result<(), Kind>
-    ensures writes { Writes W.taken W.failures out.old out.new (fault_text fault.now.kind fault.now.place (string_bytes fault.now.pointer)) result }
+    ensures writes { Writes W.taken W.failures out.old out.new (fault_text fault.now) result }
 {
     put_all(out, b"amcover: ")?;
     write_place_part(fault, out)?;
@@ -19,7 +19,7 @@ pub fn write_fault<W: Sink>(fault: &Fault, out: &mut W) -> Result<(), Kind>
 
 /// Writes where a fault stands, and nothing for a fault of writing or of memory.
 fn write_place_part<W: Sink>(fault: &Fault, out: &mut W) -> Result<(), Kind>
-    ensures { Writes W.taken W.failures out.old out.new (place_part fault.now.kind fault.now.place (string_bytes fault.now.pointer)) result }
+    ensures { Writes W.taken W.failures out.old out.new (place_part fault.now) result }
 {
     if has_no_place(fault.kind) {
         return Ok(());
@@ -60,6 +60,7 @@ fn write_pointer_byte<W: Sink>(byte: u8, out: &mut W) -> Result<(), Kind>
     }
 }
 
+/// The word for a place.
 fn place_text(place: Place) -> &'static str
     ensures { result.now ≡ place_text place }
 {

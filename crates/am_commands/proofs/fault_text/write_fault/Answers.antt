@@ -1,4 +1,4 @@
-use Rattle.std.proofs.Common.{◌++◌, ap, codes, string_bytes}
+use Rattle.std.proofs.Common.{◌++◌, ap, codes}
 use Rattle.am_universe.proofs.Writing.{◌⟩◌, fails, writes_as}
 use Rattle.am_commands.specs.FaultText.{place_part}
 use Rattle.am_commands.proofs.fault_text.write_fault.Goals as goal
@@ -25,8 +25,7 @@ returns-in_err-put_str g c = record {
 
 pub returns : goal.returns
 returns g c =
-    let fault = c.args.fault.now in
-    let place = place_part fault.kind fault.place (string_bytes fault.pointer) in
+    let place = place_part c.args.fault.now in
     record {
       writes =
           writes_as (ap (λ t. codes "amcover: " ++ (place ++ (t ++ codes "\n"))) c.text.ensures)
