@@ -1,9 +1,10 @@
-ghost use Rattle.std.specs.Prelude.{◌≡◌};
-ghost use Rattle.std.specs.List.{flat_map};
+ghost use Rattle.std.specs.Prelude.{◌≡◌, IfOk};
 ghost use Rattle.am_universe.specs.Sink.{Writes};
 ghost use Rattle.am_commands.specs.FaultText.{place_text, fault_text, has_no_place, place_part, pointer_part, pointer_byte_text, status_of};
 
-use am_labels::{Fault, Kind, Place, Sink, put_all, put_str};
+use am_labels::{Fault, History, Kind, Out, Place, Sink, put_all, put_str};
+use std::alloc::{AllocError, Global};
+use std::io::Write;
 
 /// Writes the line for a fault, as `amcover: universe: /labels/0/name: shape`.
 ///
@@ -87,5 +88,58 @@ pub fn status(fault: &Fault) -> u8
         Kind::Write => 4,
         Kind::Memory => 3,
         _ => 1,
+    }
+}
+
+/// Writes the line for a fault on `err`, in one write where there is memory for the line and `err`
+/// takes it whole. The answer is the exit status.
+pub fn report<E: Write>(alloc: Global, fault: &Fault, err: &mut E) -> u8
+    ensures { result ≡ status_of fault.now.kind }
+{
+    let mut err = Out::new(err);
+    // Nothing can be said of a failure to say what failed.
+    let _ = match fault_line(alloc, fault) {
+        Ok(line) => put_all(&mut err, line.as_slice()),
+        Err(_) => write_fault(fault, &mut err),
+    };
+    status(fault)
+}
+
+/// The line for a fault, in memory. An `Err` only where memory was refused.
+fn fault_line(alloc: Global, fault: &Fault) -> Result<Vec<u8>, AllocError>
+    ensures { IfOk result (λ line. line.items ≡ fault_text fault.now) }
+{
+    let mut line = Line {
+        bytes: Vec::new(alloc),
+        refusals: History::new(),
+    };
+    match write_fault(fault, &mut line) {
+        Ok(()) => Ok(line.bytes),
+        Err(_) => Err(AllocError),
+    }
+}
+
+/// A sink in memory. A take fails only where memory was refused.
+#[derive(Drop)]
+struct Line {
+    bytes: Vec<u8>,
+    refusals: History<Kind>,
+}
+
+impl Sink for Line {
+    ghost use Rattle.std.specs.Prelude.{length};
+
+    ghost taken = { λ line. line.bytes.items };
+
+    ghost failures = { λ line. length line.refusals.items };
+
+    fn take(&mut self, bytes: &[u8]) -> Result<usize, Kind> {
+        match self.bytes.extend_from_slice(bytes) {
+            Ok(()) => Ok(bytes.len()),
+            Err(_) => {
+                self.refusals = self.refusals.and(&[Kind::Write]);
+                Err(Kind::Write)
+            }
+        }
     }
 }

@@ -1,13 +1,10 @@
-ghost use Rattle.std.specs.Prelude.{◌≡◌};
-ghost use Rattle.am_commands.specs.FaultText.{status_of};
-
 use crate::asking::ask;
 use crate::command_line::{Request, parse_command_line};
 use crate::fault::fault_at;
-use crate::fault_text::{status, write_fault};
+use crate::fault_text::report;
 use crate::files;
 use crate::read_file::read_file;
-use am_labels::{Fault, Kind, Out, Place, put_all};
+use am_labels::{Fault, Kind, Out, Place};
 use clap::Error;
 use clap::error::ErrorKind;
 use std::alloc::Global;
@@ -49,20 +46,6 @@ pub fn refuse_arguments<E: Write>(error: &io::Error, alloc: Global, err: &mut E)
     }
     let _ = writeln!(err, "error: the command line is not UTF-8");
     USAGE
-}
-
-/// Writes the line for a fault on `err`, in one write where there is memory for the line and `err` takes it whole.
-/// The answer is the exit status.
-fn report<E: Write>(alloc: Global, fault: &Fault, err: &mut E) -> u8
-    ensures { result ≡ status_of fault.now.kind }
-{
-    let mut line = Out::new(Vec::new(alloc));
-    // Nothing can be said of a failure to say what failed.
-    let _ = match write_fault(fault, &mut line) {
-        Ok(()) => put_all(&mut Out::new(err), line.into_inner().as_slice()),
-        Err(_) => write_fault(fault, &mut Out::new(err)),
-    };
-    status(fault)
 }
 
 /// Reads the files that the request names, and does what it asks for.
