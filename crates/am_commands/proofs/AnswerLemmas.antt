@@ -7,8 +7,11 @@ use Rattle.std.proofs.lemmas.List.Elements.{filter-append}
 use Rattle.std.proofs.lemmas.Option.{slice_get_within, get_or_from_slice_get}
 use Rattle.am_universe.specs.Universe.{Label, sizes}
 use Rattle.am_universe.specs.Choice.{counted_from, choices, admits, IsWhole}
+use Rattle.am_universe.proofs.Members.{IsIn, Contains-from_IsIn, AllByRecursion-each}
+use Rattle.am_universe.proofs.Choices.{choices_whole}
 use Rattle.am_commands.specs.Completions.{completions}
-use Rattle.am_commands.proofs.CompletionLemmas.{below, completions_are_below, completions_of_whole, below_by_next, flat_map_counted, admits_next, choices_are_whole, all_filter}
+use Rattle.am_commands.proofs.CompletionLemmas.{below, completions_are_below, completions_of_whole, below_by_next, flat_map_counted, admits_next}
+use Rattle.am_commands.proofs.QuestionLemmas.{passes_from_kept}
 
 pub length-sizes : (u : List Label) → length (sizes u) ≡ length u
 length-sizes u = length-map u (λ l. length l.values)
@@ -72,5 +75,11 @@ found_of_all sizes test before found prefix none start e =
     e ∙ ap (λ xs. xs ++ filter test (completions sizes prefix)) none ∙ ap (λ p. filter test (completions sizes p)) start ∙ ap (filter test) (completions_are_below sizes [] refl)
 
 -- and is whole
-pub found_are_whole : (sizes : List ℕ) (test : List ℕ → Bool) (found : List (List ℕ)) → found ≡ filter test (choices sizes) → AllByRecursion (IsWhole sizes) found
-found_are_whole sizes test found e = subst (AllByRecursion (IsWhole sizes)) (sym e) (all_filter (IsWhole sizes) test (choices sizes) (choices_are_whole sizes))
+pub found_are_whole : (sizes : List ℕ) (test : List ℕ → Bool) (found : List (List ℕ))
+    → found ≡ filter test (choices sizes) → AllByRecursion (IsWhole sizes) found
+found_are_whole sizes test found e =
+    let all : List (List ℕ) = choices sizes in
+    let each : (c : List ℕ) → IsIn (filter test all) c → IsWhole sizes c = λ c i.
+    (choices_whole sizes c).0 (Contains-from_IsIn all c (passes_from_kept test all c i).0) in
+    subst (AllByRecursion (IsWhole sizes)) (sym e)
+    (AllByRecursion-each (IsWhole sizes) (filter test all) each)

@@ -1,6 +1,6 @@
 -- The whole choices that begin with a prefix, as a walk from label to label meets them.
 use Rattle.std.proofs.Common.{◌≡◌, ◌≢◌, ℕ, zero, suc, ◌+◌, ◌<◌, ◌≤◌, Bool, true, false, cond, List, [], ◌∷◌, ◌++◌, length, map, slice_index, nat_lt, nat_eq, ◌&&◌, inl, inr, ap, ◌∙◌, refl, arith, add-one, eq-eqb}
-use Rattle.std.specs.List.{flat_map, AllByRecursion, filter, starts_with}
+use Rattle.std.specs.List.{flat_map, filter, starts_with}
 use Rattle.std.proofs.lemmas.List.{append-nil, map-append}
 use Rattle.std.proofs.lemmas.List.Elements.{filter-append}
 use Rattle.std.proofs.lemmas.Grind.{flat_map-append}
@@ -123,34 +123,3 @@ admits_next (size ∷ sizes) (q ∷ prefix) p a h k =
     let parts = and_parts (nat_lt q size) (admits sizes prefix) a in
     let rest = admits_next sizes prefix p parts.1 (omega arith) k in
     rw (parts.0, rest) refl
-
-all_cond : {X : Type 0} (P : X → Type 0) (b : Bool) (x : X) (xs : List X) → P x → AllByRecursion P xs → AllByRecursion P (cond b (x ∷ xs) xs)
-all_cond P true x xs h all = (h, all)
-all_cond P false x xs h all = all
-
--- ---- Every choice of the list is whole.
-
-whole_with : (p size : ℕ) (sizes c : List ℕ) → p < size → IsWhole sizes c → IsWhole (size ∷ sizes) (p ∷ c)
-whole_with p size sizes c h w = (rw (admitted_first p size (admits sizes c) h w.0) refl, omega (arith, w.1))
-
-all_with : (p size : ℕ) (sizes : List ℕ) (cs : List (List ℕ)) → p < size → AllByRecursion (IsWhole sizes) cs → AllByRecursion (IsWhole (size ∷ sizes)) (map (λ c. p ∷ c) cs)
-all_with p size sizes [] h all = tt
-all_with p size sizes (c ∷ cs) h all = (whole_with p size sizes c h all.0, all_with p size sizes cs h all.1)
-
-all_append : {X : Type 0} (P : X → Type 0) (xs ys : List X) → AllByRecursion P xs → AllByRecursion P ys → AllByRecursion P (xs ++ ys)
-all_append P [] ys a b = b
-all_append P (x ∷ xs) ys a b = (a.0, all_append P xs ys a.1 b)
-
-all_counted : (size first count : ℕ) (sizes : List ℕ) → first + count ≤ size → AllByRecursion (IsWhole sizes) (choices sizes)
-    → AllByRecursion (IsWhole (size ∷ sizes)) (behind first count (choices sizes))
-all_counted size first zero sizes h all = tt
-all_counted size first (suc count) sizes h all =
-    all_append (IsWhole (size ∷ sizes)) _ _ (all_with first size sizes (choices sizes) (omega arith) all) (all_counted size (suc first) count sizes (omega arith) all)
-
-pub choices_are_whole : (sizes : List ℕ) → AllByRecursion (IsWhole sizes) (choices sizes)
-choices_are_whole [] = ((refl, refl), tt)
-choices_are_whole (size ∷ sizes) = all_counted size 0 size sizes (omega arith) (choices_are_whole sizes)
-
-pub all_filter : {X : Type 0} (P : X → Type 0) (test : X → Bool) (xs : List X) → AllByRecursion P xs → AllByRecursion P (filter test xs)
-all_filter P test [] all = tt
-all_filter P test (x ∷ xs) all = all_cond P (test x) x (filter test xs) all.0 (all_filter P test xs all.1)

@@ -35,7 +35,7 @@ kept_step test x y true xs ks e (inr h) rest = let r = rest h in (inr r.0, r.1)
 kept_step test x y false xs ks e h rest = let r = rest h in (inr r.0, r.1)
 
 -- what is kept was there, and passes
-passes_from_kept : {X : Type 0} (test : X → Bool) (xs : List X) (y : X) → IsIn (filter test xs) y
+pub passes_from_kept : {X : Type 0} (test : X → Bool) (xs : List X) (y : X) → IsIn (filter test xs) y
     → IsIn xs y × (test y ≡ true)
 passes_from_kept test [] y h = absurd h
 passes_from_kept test (x ∷ xs) y h =

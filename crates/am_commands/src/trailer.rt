@@ -1,4 +1,3 @@
-ghost use Rattle.std.specs.Prelude.{◌≡◌};
 ghost use Rattle.am_universe.specs.Sink.{Writes};
 ghost use Rattle.am_commands.specs.Trailer.{trailer_text};
 
