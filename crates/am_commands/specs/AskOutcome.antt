@@ -9,18 +9,23 @@ use Rattle.am_commands.specs.Question.{Question, answers}
 use Rattle.am_commands.specs.PageText.{page_text}
 use Rattle.am_commands.specs.Inputs.{Inputs, AcceptsInputs}
 
--- The inputs are accepted, and between two states of the sink the page of the answers was written, all of it.
-pub record WroteAnswers {S : Type 0} (taken : S → List ℕ) (failures : S → ℕ) (before after : S) (inputs : Inputs) (trailer : Trailer) : Type 0 where
+-- The inputs are accepted, and between two states of the sink the page of the answers was written,
+-- all of it.
+pub record WroteAnswers {S : Type 0} (taken : S → List ℕ) (failures : S → ℕ)
+    (before after : S) (inputs : Inputs) (trailer : Trailer) : Type 0 where
   pub universe : List Label
   pub configuration : Configuration
   pub question : Question
   pub accepts : AcceptsInputs inputs universe configuration question
-  pub wrote : Wrote taken failures before after (page_text universe (answers universe question) trailer)
+  pub wrote : Wrote taken failures before after
+      (page_text universe (answers universe question) trailer)
 
 -- The inputs are accepted, and a proper prefix of that page was written before one take failed.
-pub record WroteAnswersInPart {S : Type 0} (taken : S → List ℕ) (failures : S → ℕ) (before after : S) (inputs : Inputs) : Type 0 where
+pub record WroteAnswersInPart {S : Type 0} (taken : S → List ℕ) (failures : S → ℕ)
+    (before after : S) (inputs : Inputs) : Type 0 where
   pub universe : List Label
   pub configuration : Configuration
   pub question : Question
   pub accepts : AcceptsInputs inputs universe configuration question
-  pub wrote : WroteInPart taken failures before after (page_text universe (answers universe question) End)
+  pub wrote : WroteInPart taken failures before after
+      (page_text universe (answers universe question) End)

@@ -1,5 +1,6 @@
--- The line that the program prints for a fault: `amcover: `, the place, `: `, the pointer and `: ` where there is one,
--- then the text of the kind. A fault of writing or of memory has neither place nor pointer. (This project's own.)
+-- The line that the program prints for a fault: `amcover: `, the place, `: `, the pointer and `: `
+-- where there is one, then the text of the kind. A fault of writing or of memory has neither place
+-- nor pointer. (This project's own.)
 use Rattle.std.specs.Prelude.{ℕ, Bool, true, false, List, [], ◌∷◌, ◌++◌, length, ◌==◌}
 use Rattle.std.specs.Prelude.{if◌then◌else◌, codes, string_bytes}
 use Rattle.std.specs.List.{flat_map}
@@ -29,7 +30,8 @@ pointer_byte_text c = if c == 92 then codes "\\\\" else if c == 10 then codes "\
 
 -- the pointer, where there is one, and what separates it from the text of the kind
 abbrev pub pointer_part : List ℕ → List ℕ
-pointer_part pointer = if length pointer == 0 then [] else flat_map pointer_byte_text pointer ++ codes ": "
+pointer_part pointer =
+    if length pointer == 0 then [] else flat_map pointer_byte_text pointer ++ codes ": "
 
 -- a fault of writing or of memory stands at no part of the input
 abbrev pub has_no_place : Kind → Bool
@@ -47,7 +49,8 @@ place_part fault =
 abbrev pub fault_text : Fault → List ℕ
 fault_text fault = codes "amcover: " ++ (place_part fault ++ (text_of fault.kind ++ codes "\n"))
 
--- the exit status of the program for a kind of fault: 4 where writing failed, 3 for memory, 1 for refused input
+-- the exit status of the program for a kind of fault: 4 where writing failed, 3 for memory, 1 for
+-- refused input
 abbrev pub status_of : Kind → ℕ
 status_of kinds.Write = 4
 status_of kinds.Memory = 3

@@ -10,7 +10,8 @@ use Rattle.am_commands.specs.Completions.{all_choices}
 abbrev pub Question : Type 0
 Question = List Condition
 
--- The truth of a question on a label set: every matcher matches. (Alertmanager configuration reference, "Label matchers".)
+-- The truth of a question on a label set: every matcher matches. (Alertmanager configuration
+-- reference, "Label matchers".)
 abbrev pub satisfies : Question → LabelMap → Bool
 satisfies question s = all_hold s question
 

@@ -1,5 +1,5 @@
--- How a question is written: one brace token, a matcher list with its braces. (This project's own; the list is that of the
--- Alertmanager configuration reference, "Label matchers".)
+-- How a question is written: one brace token, a matcher list with its braces. (This project's own;
+-- the list is that of the Alertmanager configuration reference, "Label matchers".)
 use Rattle.std.specs.Prelude.{◌≡◌, ◌≤◌, ◌⊎◌, ℕ, List, length, IsTrue}
 use Rattle.am_universe.specs.declared.kind.Kind.{Kind}
 use Rattle.am_universe.specs.declared.kind.Kind.TheVariants as kinds
@@ -25,4 +25,6 @@ pub record RefusesBraceToken (text : List ℕ) (kind : Kind) : Type 0 where
 
 -- The text is refused: it is no brace token, or its matcher list is refused.
 abbrev pub RefusesQuestionText : List ℕ → Kind → Type 0
-RefusesQuestionText text kind = ((kind ≡ kinds.QuestionSyntax) × ((token : List ℕ) → IsBraceToken text token → ⊥)) ⊎ RefusesBraceToken text kind
+RefusesQuestionText text kind =
+    ((kind ≡ kinds.QuestionSyntax) × ((token : List ℕ) → IsBraceToken text token → ⊥))
+    ⊎ RefusesBraceToken text kind

@@ -14,17 +14,19 @@ use crate::trailer::Trailer;
 use am_labels::{Fault, Kind, Place, Sink};
 use std::alloc::Global;
 
-/// Writes the label sets of the universe that satisfy the question, each once and in declared order, a line for each, and
-/// then the trailer.
+/// Writes the label sets of the universe that satisfy the question, each once and in declared
+/// order, a line for each, and then the trailer.
 ///
-/// `universe` is a universe file, `files` has the configuration file, if there is one, and `question` is a matcher list in
-/// braces. The configuration is read and checked, though no question speaks of it yet. All input is read and all answers
-/// are found before the first byte is written.
+/// `universe` is a universe file, `files` has the configuration file, if there is one, and
+/// `question` is a matcher list in braces. The configuration is read and checked, though no
+/// question speaks of it yet. All input is read and all answers are found before the first byte is
+/// written.
 ///
-/// The first fault is the one answered: a fault of the universe file, at `Universe`, as `read_universe` has it; of the
-/// configuration file, at `Config`, as `read_config` has it; of the question, as `read_question` has it, at `Question` and
-/// with no pointer; `Memory`, at `Memory`, only where memory was refused; `Write`, at `Output`. After any but the last the
-/// sink is as it was.
+/// The first fault is the one answered: a fault of the universe file, at `Universe`, as
+/// `read_universe` has it; of the configuration file, at `Config`, as `read_config` has it; of the
+/// question, as `read_question` has it, at `Question` and with no pointer; `Memory`, at `Memory`,
+/// only where memory was refused; `Write`, at `Output`. After any but the last the sink is as it
+/// was.
 pub fn ask<W: Sink>(
     alloc: Global,
     universe: &[u8],
@@ -36,7 +38,8 @@ pub fn ask<W: Sink>(
     ensures answered { IfOk result (λ trailer. WroteAnswers W.taken W.failures out.old out.new
         (inputs_of universe.now files.now question.now) trailer) }
 
-    // No other fault of the inputs comes before the one that is answered, and the pointer is that of the part at fault.
+    // No other fault of the inputs comes before the one that is answered, and the pointer is that
+    // of the part at fault.
     ensures first { IfErr result (λ fault. fault.kind ≢ kinds.Write → fault.kind ≢ kinds.Memory
         → IsFirstFault (ask_stages (inputs_of universe.now files.now question.now))
         fault.place (refusal_of fault)) }
@@ -44,7 +47,8 @@ pub fn ask<W: Sink>(
         → (fault.place ≡ places.Memory) × (string_bytes fault.pointer ≡ [])) }
     ensures write { IfErr result (λ fault. fault.kind ≡ kinds.Write
         → (fault.place ≡ places.Output) × (string_bytes fault.pointer ≡ [])
-        × WroteAnswersInPart W.taken W.failures out.old out.new (inputs_of universe.now files.now question.now)) }
+        × WroteAnswersInPart W.taken W.failures out.old out.new
+        (inputs_of universe.now files.now question.now)) }
 
     // Nothing is written after a refusal.
     ensures untouched { IfErr result (λ fault. fault.kind ≢ kinds.Write → out.new ≡ out.old) }

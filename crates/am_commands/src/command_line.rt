@@ -55,8 +55,8 @@ writes one line for each label set that matches, in declared order, and then `# 
 
 Exit status: 0 done, 1 refused input, 2 usage, 3 out of memory, 4 the output failed.";
 
-/// Reads a command line, its first word the program's name. An `Err` has the text to show: of a usage
-/// fault, of help or of the version.
+/// Reads a command line, its first word the program's name. An `Err` has the text to show: of a
+/// usage fault, of help or of the version.
 pub fn parse_command_line<'a>(alloc: Global, words: &'a [String]) -> Result<Request<'a>, Error> {
     let mut command = command(alloc)?;
     let matches = command.try_get_matches_from_mut(words)?;

@@ -1,6 +1,7 @@
 ghost use Rattle.std.specs.Prelude.{◌≡◌, IfOk};
 ghost use Rattle.am_universe.specs.Sink.{Writes};
-ghost use Rattle.am_commands.specs.FaultText.{place_text, fault_text, has_no_place, place_part, pointer_part, pointer_byte_text, status_of};
+ghost use Rattle.am_commands.specs.FaultText.{fault_text, has_no_place, place_part, place_text};
+ghost use Rattle.am_commands.specs.FaultText.{pointer_byte_text, pointer_part, status_of};
 
 use am_labels::{Fault, History, Kind, Out, Place, Sink, put_all, put_str};
 use std::alloc::{AllocError, Global};
@@ -37,7 +38,8 @@ fn has_no_place(kind: Kind) -> bool
     matches!(kind, Kind::Write | Kind::Memory)
 }
 
-/// Writes a pointer and what separates it from the text of the kind, and nothing for the empty pointer.
+/// Writes a pointer and what separates it from the text of the kind, and nothing for the empty
+/// pointer.
 fn write_pointer<W: Sink>(pointer: &str, out: &mut W) -> Result<(), Kind>
     ensures { Writes W.taken W.failures out.old out.new (pointer_part pointer.now) result }
 {
@@ -79,8 +81,8 @@ fn place_text(place: Place) -> &'static str
     }
 }
 
-/// The exit status of the program after a fault: 4 where writing failed, 3 where memory was refused,
-/// 1 where input was refused.
+/// The exit status of the program after a fault: 4 where writing failed, 3 where memory was
+/// refused, 1 where input was refused.
 pub fn status(fault: &Fault) -> u8
     ensures status { result ≡ status_of fault.now.kind }
 {

@@ -8,7 +8,8 @@ pub struct Files<'a> {
     pub config: Option<&'a [u8]>,
 }
 
-/// What stands for a configuration that is not handed in: one receiver and the top-level route alone.
+/// What stands for a configuration that is not handed in: one receiver and the top-level route
+/// alone.
 const STAND_IN_CONFIG: &[u8] =
     b"{\"receivers\":[{\"name\":\"none\"}],\"route\":{\"receiver\":\"none\"}}";
 

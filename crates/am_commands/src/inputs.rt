@@ -21,8 +21,9 @@ pub struct AcceptedInputs {
     pub question: Matchers,
 }
 
-/// Reads the inputs of a call: the universe file, then the configuration file, then the question. The first fault is the
-/// one answered, at `Universe`, `Config` or `Question`; or `Memory`, at `Memory`, only where memory was refused.
+/// Reads the inputs of a call: the universe file, then the configuration file, then the question.
+/// The first fault is the one answered, at `Universe`, `Config` or `Question`; or `Memory`, at
+/// `Memory`, only where memory was refused.
 pub fn read_inputs(
     alloc: Global,
     universe: &[u8],

@@ -11,7 +11,8 @@ ghost use Rattle.am_commands.specs.QuestionText.{ReadsQuestion};
 
 /// A text is read as at most one question.
 pub fn one_question_a_text()
-    ensures one { (text : List ℕ) (p q : Question) → ReadsQuestion text p → ReadsQuestion text q → p ≡ q }
+    ensures one { (text : List ℕ) (p q : Question)
+        → ReadsQuestion text p → ReadsQuestion text q → p ≡ q }
 {}
 
 /// A choice is among the answers exactly where it is whole and its label set satisfies the

@@ -8,8 +8,8 @@ ghost use Rattle.am_commands.specs.PageText.{page_text};
 use crate::trailer::{Trailer, write_trailer};
 use am_labels::{Choice, Kind, Sink, Universe, put_all, write_set};
 
-/// Writes a line for each choice, and then the trailer. The only `Err` is `Kind::Write`, after a part of the page from its
-/// front.
+/// Writes a line for each choice, and then the trailer. The only `Err` is `Kind::Write`, after a
+/// part of the page from its front.
 pub fn write_page<W: Sink>(
     universe: &Universe,
     choices: &[Choice],
@@ -17,7 +17,8 @@ pub fn write_page<W: Sink>(
     out: &mut W,
 ) -> Result<(), Kind>
     requires { AllByRecursion (IsWhole (sizes universe.now)) choices.now }
-    ensures { Writes W.taken W.failures out.old out.new (page_text universe.now choices.now trailer) result }
+    ensures { Writes W.taken W.failures out.old out.new
+        (page_text universe.now choices.now trailer) result }
 {
     for choice in choices {
         write_line(universe, choice, out)?;

@@ -20,8 +20,9 @@ const USAGE: u8 = 2;
 /// How many bytes of output are held back before they go out.
 const BUFFER: usize = 65536;
 
-/// Runs the program: `words` are its command line, the program's name first. Answers go to `out`, and a fault is
-/// one line on `err`. The answer is the exit status: 0 done, 1 refused input, 2 usage, 3 memory, 4 writing failed.
+/// Runs the program: `words` are its command line, the program's name first. Answers go to `out`,
+/// and a fault is one line on `err`. The answer is the exit status: 0 done, 1 refused input, 2
+/// usage, 3 memory, 4 writing failed.
 pub fn run<R: Files + AllocGlobal, W: Write + Drop, E: Write + Drop>(
     rt: &R,
     words: &[String],
@@ -38,8 +39,8 @@ pub fn run<R: Files + AllocGlobal, W: Write + Drop, E: Write + Drop>(
     }
 }
 
-/// Says on `err` why the words of a command line could not be had: memory was refused, or they are no text (UTF-8).
-/// The answer is the exit status.
+/// Says on `err` why the words of a command line could not be had: memory was refused, or they are
+/// no text (UTF-8). The answer is the exit status.
 pub fn refuse_arguments<E: Write>(error: &io::Error, alloc: Global, err: &mut E) -> u8 {
     if error.kind() == io::ErrorKind::OutOfMemory {
         return report(alloc, &Fault::of(alloc, Kind::Memory, Place::Memory), err);
@@ -99,7 +100,8 @@ fn ask_buffered<W: Write + Drop>(
     }
 }
 
-/// The bytes of an input file. A file that cannot be read is a fault at its place; want of memory is one at `Memory`.
+/// The bytes of an input file. A file that cannot be read is a fault at its place; want of memory
+/// is one at `Memory`.
 fn read_input<R: Files + AllocGlobal>(rt: &R, path: &str, place: Place) -> Result<Vec<u8>, Fault> {
     match read_file(rt, path) {
         Ok(bytes) => Ok(bytes),
@@ -107,7 +109,8 @@ fn read_input<R: Files + AllocGlobal>(rt: &R, path: &str, place: Place) -> Resul
     }
 }
 
-/// Shows what the reader of the command line has to say: help and the version on `out`, a usage fault on `err`.
+/// Shows what the reader of the command line has to say: help and the version on `out`, a usage
+/// fault on `err`.
 fn show_clap_message<W: Write, E: Write>(
     alloc: Global,
     error: &Error,

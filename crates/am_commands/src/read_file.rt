@@ -8,8 +8,8 @@ const MAX_BYTES_READ: usize = 16_777_217;
 
 const CHUNK: usize = 65536;
 
-/// The bytes of a file, at most one more than a file may have. `Read` where it cannot be opened or a read
-/// answers an error, which is not tried again; `Memory`.
+/// The bytes of a file, at most one more than a file may have. `Read` where it cannot be opened or
+/// a read answers an error, which is not tried again; `Memory`.
 pub fn read_file<R: Files + AllocGlobal>(rt: &R, path: &str) -> Result<Vec<u8>, Kind> {
     let mut file = fs::open(rt, path).map_err(|error| kind_of(&error))?;
     let mut bytes = Vec::new(rt.alloc());

@@ -10,7 +10,8 @@ pub enum Trailer {
     End,
 }
 
-/// Writes the line of a trailer. The only `Err` is `Kind::Write`, after a part of it from its front.
+/// Writes the line of a trailer. The only `Err` is `Kind::Write`, after a part of it from its
+/// front.
 pub fn write_trailer<W: Sink>(trailer: Trailer, out: &mut W) -> Result<(), Kind>
     ensures { Writes W.taken W.failures out.old out.new (trailer_text trailer) result }
 {
