@@ -1,9 +1,10 @@
 ghost use Rattle.std.specs.Prelude.{◌≡◌, ◌≢◌, [], IfOk, IfErr, string_bytes};
 ghost use Rattle.am_universe.specs.declared.kind.Kind.TheVariants as kinds;
 ghost use Rattle.am_universe.specs.declared.place.Place.TheVariants as places;
+ghost use Rattle.am_universe.specs.Sink.{Wrote, WroteInPart};
 ghost use Rattle.am_files.specs.Reading.{refusal_of};
 ghost use Rattle.am_commands.specs.Inputs.{inputs_of, ask_stages};
-ghost use Rattle.am_commands.specs.AskOutcome.{WroteAnswers, WroteAnswersInPart};
+ghost use Rattle.am_commands.specs.AskOutcome.{AnswersInputs};
 ghost use Rattle.am_commands.specs.Faults.{IsFirstFault};
 
 use crate::answers::answers_of;
@@ -35,8 +36,9 @@ pub fn ask<W: Sink>(
     out: &mut W,
 ) -> Result<Trailer, Fault>
     // The lines are exactly the label sets that satisfy the question.
-    ensures answered { IfOk result (λ trailer. WroteAnswers W.taken W.failures out.old out.new
-        (inputs_of universe.now files.now question.now) trailer) }
+    ensures answered { IfOk result (λ trailer. AnswersInputs
+        (inputs_of universe.now files.now question.now) trailer
+        (Wrote W.taken W.failures out.old out.new)) }
 
     // No other fault of the inputs comes before the one that is answered, and the pointer is that
     // of the part at fault.
@@ -47,8 +49,8 @@ pub fn ask<W: Sink>(
         → (fault.place ≡ places.Memory) × (string_bytes fault.pointer ≡ [])) }
     ensures write { IfErr result (λ fault. fault.kind ≡ kinds.Write
         → (fault.place ≡ places.Output) × (string_bytes fault.pointer ≡ [])
-        × WroteAnswersInPart W.taken W.failures out.old out.new
-        (inputs_of universe.now files.now question.now)) }
+        × AnswersInputs (inputs_of universe.now files.now question.now) Trailer.End
+        (WroteInPart W.taken W.failures out.old out.new)) }
 
     // Nothing is written after a refusal.
     ensures untouched { IfErr result (λ fault. fault.kind ≢ kinds.Write → out.new ≡ out.old) }
