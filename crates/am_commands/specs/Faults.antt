@@ -6,8 +6,8 @@ use Rattle.am_universe.specs.Universe.{Label}
 use Rattle.am_files.specs.Pointer.{Refusal}
 use Rattle.am_files.specs.UniverseFile.{FileSaysUniverse, fault_of_universe_file}
 use Rattle.am_files.specs.ConfigFile.{Configuration, FileSaysConfig}
-use Rattle.am_files.specs.ConfigReading.{config_file}
-use Rattle.am_files.specs.Judged as judged
+use Rattle.am_files.specs.ConfigReading.{read_config_file}
+use Rattle.am_files.specs.Reading.{MayRefuse}
 use Rattle.am_commands.specs.Question.{Question}
 use Rattle.am_commands.specs.QuestionText.{ReadsQuestion, RefusesQuestionText}
 
@@ -52,7 +52,7 @@ abbrev pub config_stage : List ℕ → Stage
 config_stage bytes = record {
   place = places.Config;
   accepts = SaysSomeConfig bytes;
-  refuses = judged.Refuses (config_file bytes);
+  refuses = MayRefuse (read_config_file bytes);
 }
 
 -- the text of the question, whose faults stand at no part of a file

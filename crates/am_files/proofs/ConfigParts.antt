@@ -1,9 +1,10 @@
 -- The parts of a configuration: what a part says, reading it gives, and the other way.
-use Rattle.std.proofs.Common.{◌≡◌, ◌≢◌, ℕ, suc, ◌+◌, ◌<◌, ◌≤◌, List, [], ◌∷◌, ◌++◌, length, Bool, true, false, ◌&&◌, ◌||◌, cond, Option, Some, None, option_and_then, Ok, inl, inr, refl, sym, ap, subst, ◌∙◌, append_assoc, append-nil, length-append, arith}
-use Rattle.std.specs.Prelude.{codes, ok_or, IsTrue, is_some}
-use Rattle.std.specs.List.{AllByRecursion, IsDistinct, list_any, position, position_or_len}
+use Rattle.std.proofs.Common.{◌≡◌, ◌≢◌, ℕ, suc, ◌+◌, ◌<◌, ◌≤◌, List, [], ◌∷◌, ◌++◌, length, Bool, true, false, ◌||◌, cond, Option, Some, None, option_and_then, Ok, inl, inr, refl, sym, ap, subst, ◌∙◌, append_assoc, append-nil, length-append, arith}
+use Rattle.std.specs.Prelude.{codes, IsTrue, is_some}
+use Rattle.std.specs.List.{AllByRecursion, AllZip, IsDistinct, list_any, position, position_or_len, enumerate_from, flat_map}
+use Rattle.std.proofs.lemmas.Slice.Zip.{AllZip-long}
 use borrow.Author.Tests.{lt-ltb, le-ltb}
-use Rattle.serde_json.specs.Data.{Data, null, boolean, number, string, array, object, Members, no_members, member}
+use Rattle.serde_json.specs.Data.{Data, null, boolean, number, string, array, object}
 use Rattle.serde_json.specs.Find.{as_bool}
 use Rattle.am_universe.specs.declared.kind.Kind.TheVariants as kinds
 use Rattle.am_labels.specs.declared.op.Op.{Op}
@@ -13,18 +14,16 @@ use Rattle.am_labels.specs.MatcherText.{Spells}
 use Rattle.am_labels.specs.MatcherReading.{read_list}
 use Rattle.am_labels.specs.MatcherRefusals.{has_sound_value, have_sound_values, pattern_refusal}
 use Rattle.am_labels.proofs.MatcherTextWhole.{list_is_spelled}
-use Rattle.am_files.specs.Json.{field, items_of, Each}
-use Rattle.am_files.specs.Pointer as pointer
-use Rattle.am_files.specs.Pointer.{Refusal, here, to_field, to_item}
-use Rattle.am_files.specs.Reading as plain
-use Rattle.am_files.specs.Reading.{unless, at_most, text_in, items_in, object_in, required_text, required_items}
-use Rattle.am_files.specs.Judged.{under}
-use Rattle.am_files.specs.ConfigFile.{SaysName, SaysReceiver, SaysText, HasItems, PairsSay, SaysContinue, joined, max_receivers}
-use Rattle.am_files.specs.ConfigReading.{name_fault, receiver_behind, names_in, receivers_in, named, receiver_of, receiver_in, truth_of, continues_in, some_items, children_in, pattern_fault, join, spelled_at, text_behind, texts_behind, empty_fault, matcher_in, pair_in, pair_behind, pairs_behind}
-use Rattle.am_files.proofs.Readings.{bind_ok, under_ok, unless_ok, at_most_ok, at_most_fits, ok_or_some, same_read}
-use Rattle.am_files.proofs.Arrays.{AllFit, each-says, each-reads, length-Each}
-use Rattle.am_files.proofs.Fields.{text_in_says, object_is, required_text_says, required_text_reads, required_items_says, required_items_reads}
-use Rattle.am_files.proofs.Matching.{matcher_gives, spelled_gives}
+use Rattle.am_files.specs.declared.limits.TheConstants.{MAX_RECEIVERS}
+use Rattle.am_files.specs.Json.{field, items_of}
+use Rattle.am_files.specs.Pointer.{refusal_here, to_field, to_item}
+use Rattle.am_files.specs.Reading.{accept_some, reading_within, refuse_for, check_count, as_text, as_object, required_text, required_items, read_each, read_items}
+use Rattle.am_files.specs.ConfigFile.{SaysName, SaysReceiver, SaysMatcherText, HasItems, SaysNamedText, SaysMatcherPair, SaysContinue}
+use Rattle.am_files.specs.ConfigReading.{receiver_name_fault, read_next_receiver, read_receiver_names, read_receivers, receiver_named, effective_receiver, read_receiver, boolean_or_false, read_continue, optional_items, read_children, pattern_fault, check_patterns, append_matchers, read_matcher_text, read_next_matcher_text, label_name_fault, read_named_text, read_matcher_pair, read_next_pair}
+use Rattle.am_files.proofs.Readings.{bind_ok, within_ok, refuse_for_ok, check_count_ok, check_count_fits, ok_or_some, same_read}
+use Rattle.am_files.proofs.Items.{AllFit, items_say, items_read}
+use Rattle.am_files.proofs.Fields.{as_text_says, as_text_reads, as_object_says, as_object_reads, required_text_says, required_text_reads, required_items_say, required_items_read}
+use Rattle.am_files.proofs.Matching.{both_true, named_passes, name_is_some, pair_gives, text_gives}
 
 or_false : (a b : Bool) → (a || b) ≡ false → (a ≡ false) × (b ≡ false)
 or_false true b h = absurd cc
@@ -63,10 +62,6 @@ distinct_front : {A : Type 0} (e : A → A → Bool) (xs ys : List A) → IsDist
 unfolding IsDistinct
 distinct_front e [] ys d = tt
 distinct_front e (x ∷ xs) ys d = (all_front (λ y. e x y ≡ false) xs ys d.0, distinct_front e xs ys d.1)
-
-pub both_true : (a b : Bool) → (a && b) ≡ true → (a ≡ true) × (b ≡ true)
-both_true true b h = (refl, h)
-both_true false b h = absurd cc
 
 -- ---- The names of receivers.
 
@@ -121,92 +116,83 @@ free_or : (b : Bool) → cond b (Some kinds.Duplicate) None ≡ None → b ≡ f
 free_or true h = absurd cc
 free_or false h = refl
 
-name_is_free : (before : List (List ℕ)) (name : List ℕ) → name_fault before name ≡ None → (name ≢ []) × NameFits before name
+name_is_free : (before : List (List ℕ)) (name : List ℕ) → receiver_name_fault before name ≡ None → (name ≢ []) × NameFits before name
 name_is_free before [] h = absurd cc
 name_is_free before (c ∷ cs) h = (λ e. cc, free_or (is_some (position (λ other. same_text other (c ∷ cs)) before)) h)
 
-free_name : (before : List (List ℕ)) (name : List ℕ) → name ≢ [] → NameFits before name → name_fault before name ≡ None
+free_name : (before : List (List ℕ)) (name : List ℕ) → name ≢ [] → NameFits before name → receiver_name_fault before name ≡ None
 free_name before [] some fits = absurd (some refl)
 free_name before (c ∷ cs) some fits = rw fits refl
 
-object_reads : (d : Data) (ms : Members) → d ≡ object ms → object_in d ≡ Ok ms
-object_reads d ms is = rw is refl
-
-pub object_says : (d : Data) (ms : Members) → object_in d ≡ Ok ms → d ≡ object ms
-object_says d ms h = object_is d ms (ok_or_some _ (here kinds.Shape) ms h)
-
-name_says : (before : List (List ℕ)) (d : Data) (name : List ℕ) → receiver_behind before d ≡ Ok name → SaysName d name × NameFits before name
-unfolding receiver_behind
+name_says : (before : List (List ℕ)) (d : Data) (name : List ℕ) → (read_next_receiver before d).result ≡ Ok name → SaysName d name × NameFits before name
+unfolding read_next_receiver
 name_says before d name h =
-    let members = bind_ok (object_in d) _ name h in
-    let text = bind_ok (required_text (codes "name") d) _ name members.2 in
-    let free = bind_ok (pointer.under (to_field (codes "name")) (unless (name_fault before text.0))) _ name text.2 in
-    let none = name_is_free before text.0 (unless_ok (name_fault before text.0) free.0 (under_ok (to_field (codes "name")) (unless (name_fault before text.0)) free.0 free.1)) in
-    let all : SaysName d text.0 × NameFits before text.0 = ((members.0, object_says d members.0 members.1, required_text_says (codes "name") d text.0 text.1, none.0), none.1) in
+    let members = bind_ok ((as_object d).result) _ name h in
+    let text = bind_ok ((required_text (codes "name") d).result) _ name members.2 in
+    let free = bind_ok ((reading_within (to_field (codes "name")) (refuse_for (receiver_name_fault before text.0))).result) _ name text.2 in
+    let none = name_is_free before text.0 (refuse_for_ok (receiver_name_fault before text.0) free.0 (within_ok (to_field (codes "name")) ((refuse_for (receiver_name_fault before text.0)).result) free.0 free.1)) in
+    let all : SaysName d text.0 × NameFits before text.0 = ((members.0, as_object_says d members.0 members.1, required_text_says (codes "name") d text.0 text.1, none.0), none.1) in
     subst (λ (n : List ℕ). SaysName d n × NameFits before n) (same_read text.0 name free.2) all
 
-name_reads : (before : List (List ℕ)) (d : Data) (name : List ℕ) → SaysName d name → NameFits before name → receiver_behind before d ≡ Ok name
-unfolding receiver_behind
+name_reads : (before : List (List ℕ)) (d : Data) (name : List ℕ) → SaysName d name → NameFits before name → (read_next_receiver before d).result ≡ Ok name
+unfolding read_next_receiver
 name_reads before d name said fits =
-    rw (object_reads d said.0 said.1, required_text_reads (codes "name") d name said.2, free_name before name said.3 fits) refl
+    rw (as_object_reads d said.0 said.1, required_text_reads (codes "name") d name said.2, free_name before name said.3 fits) refl
 
 -- an array of receivers
 pub record SaysNames (d : Data) (names : List (List ℕ)) : Type 0 where
   pub items : List Data
   pub is_array : option_and_then items_of (field (codes "receivers") d) ≡ Some items
-  pub names_are : Each SaysName items names
-  pub few : length names ≤ max_receivers
+  pub names_are : AllZip SaysName items names
+  pub few : length names ≤ MAX_RECEIVERS
   pub distinct : IsDistinct same_text names
 
-pub names_say : (d : Data) (names : List (List ℕ)) → receivers_in d ≡ Ok names → SaysNames d names
-unfolding receivers_in names_in
+pub names_say : (d : Data) (names : List (List ℕ)) → (read_receivers d).result ≡ Ok names → SaysNames d names
+unfolding read_receivers read_receiver_names
 names_say d names h =
-    let items = bind_ok (required_items (codes "receivers") d) _ names h in
-    let read = under_ok (to_field (codes "receivers")) (names_in items.0) names items.2 in
-    let few = bind_ok (at_most max_receivers (length items.0)) (λ _. plain.each receiver_behind [] items.0) names read in
-    let found = each-says SaysName NameFits receiver_behind name_says [] items.0 names few.2 in
-    let said = subst (λ (v : List (List ℕ)). Each SaysName items.0 v) (sym found.1) found.2 in
+    let items = bind_ok ((required_items (codes "receivers") d).result) _ names h in
+    let read = within_ok (to_field (codes "receivers")) ((read_receiver_names items.0).result) names items.2 in
+    let few = bind_ok ((check_count MAX_RECEIVERS (length items.0)).result) (λ _. (read_items read_next_receiver [] items.0).result) names read in
+    let found = items_say SaysName NameFits read_next_receiver name_says [] items.0 names few.2 in
+    let said = subst (λ (v : List (List ℕ)). AllZip SaysName items.0 v) (sym found.1) found.2 in
     let fits = subst (λ (v : List (List ℕ)). AllFit NameFits [] v) (sym found.1) found.3 in
     record {
       items = items.0;
-      is_array = required_items_says (codes "receivers") d items.0 items.1;
+      is_array = required_items_say (codes "receivers") d items.0 items.1;
       names_are = said;
-      few = omega (arith, at_most_ok max_receivers (length items.0) few.0 few.1, length-Each SaysName items.0 names said);
+      few = omega (arith, check_count_ok MAX_RECEIVERS (length items.0) few.0 few.1, AllZip-long SaysName items.0 names said);
       distinct = names_distinct [] names no_names fits;
     }
 
-pub names_read : (d : Data) (names : List (List ℕ)) → SaysNames d names → receivers_in d ≡ Ok names
-unfolding receivers_in names_in
+pub names_read : (d : Data) (names : List (List ℕ)) → SaysNames d names → (read_receivers d).result ≡ Ok names
+unfolding read_receivers read_receiver_names
 names_read d names said =
-    let count : length said.items ≤ 1024 = omega (arith, said.few, length-Each SaysName said.items names said.names_are) in
-    let all = each-reads SaysName NameFits receiver_behind name_reads [] said.items names said.names_are (distinct_names [] names said.distinct) in
-    rw (required_items_reads (codes "receivers") d said.items said.is_array, at_most_fits max_receivers (length said.items) count, all) refl
+    let count : length said.items ≤ MAX_RECEIVERS = omega (arith, said.few, AllZip-long SaysName said.items names said.names_are) in
+    let all = items_read SaysName NameFits read_next_receiver name_reads [] said.items names said.names_are (distinct_names [] names said.distinct) in
+    rw (required_items_read (codes "receivers") d said.items said.is_array, check_count_fits MAX_RECEIVERS (length said.items) count, all) refl
 
 -- ---- The receiver of a route.
 
-text_reads_as : (d : Data) (t : List ℕ) → d ≡ string t → text_in d ≡ Ok t
-text_reads_as d t is = rw is refl
+named_says : (names : List (List ℕ)) (parent : Option ℕ) (d : Data) (name : List ℕ) (r : ℕ) → field (codes "receiver") d ≡ Some (string name) → (receiver_named names parent name).result ≡ Ok r → SaysReceiver names parent d r
+named_says names parent d [] r is h = inr (record { unnamed = inr is; inherited = ok_or_some parent (refusal_here kinds.Shape) r h })
+named_says names parent d (c ∷ cs) r is h = inl (record { name = c ∷ cs; named = is; some = λ e. cc; declared = ok_or_some (position (λ other. same_text other (c ∷ cs)) names) (refusal_here kinds.UndefinedReceiver) r h })
 
-named_says : (names : List (List ℕ)) (parent : Option ℕ) (d : Data) (name : List ℕ) (r : ℕ) → field (codes "receiver") d ≡ Some (string name) → named names parent name ≡ Ok r → SaysReceiver names parent d r
-named_says names parent d [] r is h = inr (record { unnamed = inr is; inherited = ok_or_some parent (here kinds.Shape) r h })
-named_says names parent d (c ∷ cs) r is h = inl (record { name = c ∷ cs; named = is; some = λ e. cc; declared = ok_or_some (position (λ other. same_text other (c ∷ cs)) names) (here kinds.UndefinedReceiver) r h })
-
-found_says : (names : List (List ℕ)) (parent : Option ℕ) (d : Data) (found : Option Data) (r : ℕ) → field (codes "receiver") d ≡ found → receiver_of names parent found ≡ Ok r → SaysReceiver names parent d r
-found_says names parent d None r is h = inr (record { unnamed = inl is; inherited = ok_or_some parent (here kinds.Shape) r h })
+found_says : (names : List (List ℕ)) (parent : Option ℕ) (d : Data) (found : Option Data) (r : ℕ) → field (codes "receiver") d ≡ found → (effective_receiver names parent found).result ≡ Ok r → SaysReceiver names parent d r
+found_says names parent d None r is h = inr (record { unnamed = inl is; inherited = ok_or_some parent (refusal_here kinds.Shape) r h })
 found_says names parent d (Some v) r is h =
-    let name = bind_ok (text_in v) (named names parent) r h in
-    named_says names parent d name.0 r (is ∙ ap (λ (x : Data). Some x) (text_in_says v name.0 name.1)) name.2
+    let name = bind_ok ((as_text v).result) (λ n. (receiver_named names parent n).result) r h in
+    named_says names parent d name.0 r (is ∙ ap (λ (x : Data). Some x) (as_text_says v name.0 name.1)) name.2
 
-pub receiver_says : (names : List (List ℕ)) (parent : Option ℕ) (d : Data) (r : ℕ) → receiver_in names parent d ≡ Ok r → SaysReceiver names parent d r
-unfolding receiver_in
-receiver_says names parent d r h = found_says names parent d (field (codes "receiver") d) r refl (under_ok (to_field (codes "receiver")) (receiver_of names parent (field (codes "receiver") d)) r h)
+pub receiver_says : (names : List (List ℕ)) (parent : Option ℕ) (d : Data) (r : ℕ) → (read_receiver names parent d).result ≡ Ok r → SaysReceiver names parent d r
+unfolding read_receiver
+receiver_says names parent d r h = found_says names parent d (field (codes "receiver") d) r refl (within_ok (to_field (codes "receiver")) ((effective_receiver names parent (field (codes "receiver") d)).result) r h)
 
-named_reads : (names : List (List ℕ)) (parent : Option ℕ) (name : List ℕ) (r : ℕ) → name ≢ [] → position (λ other. same_text other name) names ≡ Some r → named names parent name ≡ Ok r
+named_reads : (names : List (List ℕ)) (parent : Option ℕ) (name : List ℕ) (r : ℕ) → name ≢ [] → position (λ other. same_text other name) names ≡ Some r → (receiver_named names parent name).result ≡ Ok r
 named_reads names parent [] r some is = absurd (some refl)
 named_reads names parent (c ∷ cs) r some is = rw is refl
 
-pub receiver_reads : (names : List (List ℕ)) (parent : Option ℕ) (d : Data) (r : ℕ) → SaysReceiver names parent d r → receiver_in names parent d ≡ Ok r
-unfolding receiver_in
+pub receiver_reads : (names : List (List ℕ)) (parent : Option ℕ) (d : Data) (r : ℕ) → SaysReceiver names parent d r → (read_receiver names parent d).result ≡ Ok r
+unfolding read_receiver
 receiver_reads names parent d r (inl said) = rw (said.named, named_reads names parent said.name r said.some said.declared) refl
 receiver_reads names parent d r (inr said) = elim said.unnamed [ inl is ↦ rw (is, said.inherited) refl | inr is ↦ rw (is, said.inherited) refl ]
 
@@ -220,38 +206,38 @@ bool_is (string s) b h = absurd cc
 bool_is (array ds) b h = absurd cc
 bool_is (object ms) b h = absurd cc
 
-truth_says : (d : Data) (found : Option Data) (b : Bool) → field (codes "continue") d ≡ found → truth_of found ≡ Ok b → SaysContinue d b
+truth_says : (d : Data) (found : Option Data) (b : Bool) → field (codes "continue") d ≡ found → (boolean_or_false found).result ≡ Ok b → SaysContinue d b
 truth_says d None b is h = inl (is, sym (same_read false b h))
-truth_says d (Some v) b is h = inr (is ∙ ap (λ (x : Data). Some x) (bool_is v b (ok_or_some (as_bool v) (here kinds.Shape) b h)))
+truth_says d (Some v) b is h = inr (is ∙ ap (λ (x : Data). Some x) (bool_is v b (ok_or_some (as_bool v) (refusal_here kinds.Shape) b h)))
 
-pub continues_say : (d : Data) (b : Bool) → continues_in d ≡ Ok b → SaysContinue d b
-unfolding continues_in
-continues_say d b h = truth_says d (field (codes "continue") d) b refl (under_ok (to_field (codes "continue")) (truth_of (field (codes "continue") d)) b h)
+pub continue_says : (d : Data) (b : Bool) → (read_continue d).result ≡ Ok b → SaysContinue d b
+unfolding read_continue
+continue_says d b h = truth_says d (field (codes "continue") d) b refl (within_ok (to_field (codes "continue")) ((boolean_or_false (field (codes "continue") d)).result) b h)
 
-pub continues_read : (d : Data) (b : Bool) → SaysContinue d b → continues_in d ≡ Ok b
-unfolding continues_in
-continues_read d b (inl said) = rw (said.0, said.1) refl
-continues_read d b (inr said) = rw said refl
+pub continue_reads : (d : Data) (b : Bool) → SaysContinue d b → (read_continue d).result ≡ Ok b
+unfolding read_continue
+continue_reads d b (inl said) = rw (said.0, said.1) refl
+continue_reads d b (inr said) = rw said refl
 
-pub items_say : (key : List ℕ) (d : Data) (found : Option Data) (items : List Data) → field key d ≡ found → some_items found ≡ Ok items → HasItems key d items
-items_say key d None items is h = inl (is, sym (same_read [] items h))
-items_say key d (Some v) items is h = inr (rw is (ok_or_some (items_of v) (here kinds.Shape) items h))
+pub optional_items_say : (key : List ℕ) (d : Data) (found : Option Data) (items : List Data) → field key d ≡ found → (optional_items found).result ≡ Ok items → HasItems key d items
+optional_items_say key d None items is h = inl (is, sym (same_read [] items h))
+optional_items_say key d (Some v) items is h = inr (rw is (ok_or_some (items_of v) (refusal_here kinds.Shape) items h))
 
-some_read : (found : Option Data) (items : List Data) → option_and_then items_of found ≡ Some items → some_items found ≡ Ok items
+some_read : (found : Option Data) (items : List Data) → option_and_then items_of found ≡ Some items → (optional_items found).result ≡ Ok items
 some_read None items h = absurd cc
 some_read (Some v) items h = rw h refl
 
-pub items_read : (key : List ℕ) (d : Data) (items : List Data) → HasItems key d items → some_items (field key d) ≡ Ok items
-items_read key d items (inl said) = rw (said.0, said.1) refl
-items_read key d items (inr said) = some_read (field key d) items said
+pub optional_items_read : (key : List ℕ) (d : Data) (items : List Data) → HasItems key d items → (optional_items (field key d)).result ≡ Ok items
+optional_items_read key d items (inl said) = rw (said.0, said.1) refl
+optional_items_read key d items (inr said) = some_read (field key d) items said
 
-pub children_say : (d : Data) (items : List Data) → children_in d ≡ Ok items → HasItems (codes "routes") d items
-unfolding children_in
-children_say d items h = items_say (codes "routes") d (field (codes "routes") d) items refl (under_ok (to_field (codes "routes")) (some_items (field (codes "routes") d)) items h)
+pub children_say : (d : Data) (items : List Data) → (read_children d).result ≡ Ok items → HasItems (codes "routes") d items
+unfolding read_children
+children_say d items h = optional_items_say (codes "routes") d (field (codes "routes") d) items refl (within_ok (to_field (codes "routes")) ((optional_items (field (codes "routes") d)).result) items h)
 
-pub children_read : (d : Data) (items : List Data) → HasItems (codes "routes") d items → children_in d ≡ Ok items
-unfolding children_in
-children_read d items said = rw (items_read (codes "routes") d items said) refl
+pub children_read : (d : Data) (items : List Data) → HasItems (codes "routes") d items → (read_children d).result ≡ Ok items
+unfolding read_children
+children_read d items said = rw (optional_items_read (codes "routes") d items said) refl
 
 -- ---- Sound patterns.
 
@@ -279,183 +265,161 @@ sound_apart (x ∷ xs) ys h =
 -- ---- The matchers of a text.
 
 abbrev Joins : List Condition → List Condition → List Condition → Type 0
-Joins before ms all = (all ≡ before ++ ms) × (length before + length ms ≤ 64)
+Joins before ms all = (all ≡ before ++ ms) × (length before + length ms ≤ max_matchers)
 
-join_says : (before ms all : List Condition) → join before ms ≡ Ok all → Joins before ms all
-join_says before ms all h =
-    let few = bind_ok (at_most max_matchers (length before + length ms)) (λ _. Ok (before ++ ms)) all h in
-    (sym (same_read (before ++ ms) all few.2), at_most_ok max_matchers (length before + length ms) few.0 few.1)
+append_says : (before ms all : List Condition) → (append_matchers before ms).result ≡ Ok all → Joins before ms all
+append_says before ms all h =
+    let few = bind_ok ((check_count max_matchers (length before + length ms)).result) (λ _. Ok (before ++ ms)) all h in
+    (sym (same_read (before ++ ms) all few.2), check_count_ok max_matchers (length before + length ms) few.0 few.1)
 
-join_reads : (before ms : List Condition) → length before + length ms ≤ 64 → join before ms ≡ Ok (before ++ ms)
-join_reads before ms le = rw (at_most_fits max_matchers (length before + length ms) le) refl
+append_reads : (before ms : List Condition) → length before + length ms ≤ max_matchers → (append_matchers before ms).result ≡ Ok (before ++ ms)
+append_reads before ms le = rw (check_count_fits max_matchers (length before + length ms) le) refl
 
-spelled_says : (i : ℕ) (text : List ℕ) (all : List Condition) → (spelled_at i text).gives ≡ Ok all → Spells text all × IsTrue (have_sound_values all)
-unfolding spelled_at
-spelled_says i text all h =
-    let ms = bind_ok (pointer.under (to_item i) (ok_or (read_list text) (here kinds.BadMatcher))) _ all h in
-    let few = bind_ok (at_most max_matchers (length ms.0)) _ all ms.2 in
-    let sound = bind_ok (pointer.under (to_item i) (unless (pattern_fault ms.0))) _ all few.2 in
+spelled_says : (part limit : List ℕ) (text : List ℕ) (all : List Condition) → (read_matcher_text part limit text).result ≡ Ok all → Spells text all × IsTrue (have_sound_values all)
+unfolding read_matcher_text
+spelled_says part limit text all h =
+    let ms = bind_ok ((reading_within part (accept_some (read_list text) (refusal_here kinds.BadMatcher))).result) _ all h in
+    let few = bind_ok ((reading_within limit (check_count max_matchers (length ms.0))).result) _ all ms.2 in
+    let sound = bind_ok ((reading_within part (check_patterns ms.0)).result) _ all few.2 in
     let is : ms.0 ≡ all = same_read ms.0 all sound.2 in
-    let spells = list_is_spelled text ms.0 (ok_or_some (read_list text) (here kinds.BadMatcher) ms.0 (under_ok (to_item i) (ok_or (read_list text) (here kinds.BadMatcher)) ms.0 ms.1)) in
-    let fine = passes_sound ms.0 (unless_ok (pattern_fault ms.0) sound.0 (under_ok (to_item i) (unless (pattern_fault ms.0)) sound.0 sound.1)) in
+    let spells = list_is_spelled text ms.0 (ok_or_some (read_list text) (refusal_here kinds.BadMatcher) ms.0 (within_ok part ((accept_some (read_list text) (refusal_here kinds.BadMatcher)).result) ms.0 ms.1)) in
+    let fine = passes_sound ms.0 (refuse_for_ok (pattern_fault ms.0) sound.0 (within_ok part ((check_patterns ms.0).result) sound.0 sound.1)) in
     (subst (λ (ns : List Condition). Spells text ns) is spells, subst (λ (ns : List Condition). IsTrue (have_sound_values ns)) is fine)
 
 -- matchers that are said, behind others
-record Adds (Says : List Condition → Type 0) (before all : List Condition) : Type 0 where
+pub record Adds (Says : List Condition → Type 0) (before all : List Condition) : Type 0 where
   pub matchers : List Condition
   pub says : Says matchers
-  pub joins : Joins before matchers all
+  pub are : all ≡ before ++ matchers
   pub sound : IsTrue (have_sound_values matchers)
+  pub few : length before ≤ max_matchers → length all ≤ max_matchers
 
-text_says : (before : List Condition) (i : ℕ) (d : Data) (all : List Condition) → (text_behind before i d).gives ≡ Ok all → Adds (SaysText d) before all
-unfolding text_behind
-text_says before i d all h =
-    let text = bind_ok (pointer.under (to_item i) (text_in d)) _ all h in
-    let ms = bind_ok ((spelled_at i text.0).gives) _ all text.2 in
-    let said = spelled_says i text.0 ms.0 ms.1 in
+-- none are added
+pub adds_none : (Says : List Condition → Type 0) (before all : List Condition) → before ≡ all → Says [] → Adds Says before all
+adds_none Says before all is says = record {
+  matchers = [];
+  says = says;
+  are = sym is ∙ sym (append-nil before);
+  sound = refl;
+  few = λ le. subst (λ (ms : List Condition). length ms ≤ max_matchers) is le;
+}
+
+-- some are added, and then others behind them
+adds_more : (Says : List Condition → Type 0) (before ms next all : List Condition) → Joins before ms next → IsTrue (have_sound_values ms)
+    → (rest : Adds (λ more. Says (ms ++ more)) next all) → Adds Says before all
+adds_more Says before ms next all joins sound rest =
+    let few : length next ≤ max_matchers = rw joins.0 (omega (arith, length-append before ms, joins.1)) in
     record {
-      matchers = ms.0;
-      says = (text.0, text_in_says d text.0 (under_ok (to_item i) (text_in d) text.0 text.1), said.0);
-      joins = join_says before ms.0 all ms.2;
-      sound = said.1;
-    }
-
-text_reads : (before : List Condition) (i : ℕ) (d : Data) (ms : List Condition) → SaysText d ms → IsTrue (have_sound_values ms) → length before + length ms ≤ 64 → (text_behind before i d).gives ≡ Ok (before ++ ms)
-unfolding text_behind
-text_reads before i d ms said sound le =
-    let few : length ms ≤ 64 = omega (arith, le) in
-    rw (text_reads_as d said.0 said.1, spelled_gives i said.0 ms said.2 few sound, join_reads before ms le) refl
-
--- ---- Texts.
-
-pub record AddTexts (ds : List Data) (before all : List Condition) : Type 0 where
-  pub lists : List (List Condition)
-  pub texts : Each SaysText ds lists
-  pub are : all ≡ before ++ joined lists
-  pub sound : IsTrue (have_sound_values (joined lists))
-  pub few : length before ≤ 64 → length all ≤ 64
-
-pub texts_say : (before : List Condition) (i : ℕ) (ds : List Data) (all : List Condition) → (texts_behind before i ds).gives ≡ Ok all → AddTexts ds before all
-unfolding texts_behind
-texts_say before i [] all h =
-    let is : before ≡ all = same_read before all h in
-    record {
-      lists = [];
-      texts = tt;
-      are = sym is ∙ sym (append-nil before);
-      sound = refl;
-      few = λ le. subst (λ (ms : List Condition). length ms ≤ 64) is le;
-    }
-texts_say before i (d ∷ ds) all h =
-    let next = bind_ok ((text_behind before i d).gives) _ all h in
-    let one = text_says before i d next.0 next.1 in
-    let rest = texts_say next.0 (i + 1) ds all next.2 in
-    let few : length next.0 ≤ 64 = rw one.joins.0 (omega (arith, length-append before one.matchers, one.joins.1)) in
-    record {
-      lists = one.matchers ∷ rest.lists;
-      texts = (one.says, rest.texts);
-      are = rest.are ∙ ap (λ (ms : List Condition). ms ++ joined rest.lists) one.joins.0 ∙ append_assoc before one.matchers (joined rest.lists);
-      sound = sound_append one.matchers (joined rest.lists) one.sound rest.sound;
+      matchers = ms ++ rest.matchers;
+      says = rest.says;
+      are = rest.are ∙ ap (λ (ns : List Condition). ns ++ rest.matchers) joins.0 ∙ append_assoc before ms rest.matchers;
+      sound = sound_append ms rest.matchers sound rest.sound;
       few = λ le. rest.few few;
     }
 
-pub texts_read : (before : List Condition) (i : ℕ) (ds : List Data) (lists : List (List Condition)) → Each SaysText ds lists → IsTrue (have_sound_values (joined lists)) → length before + length (joined lists) ≤ 64
-    → (texts_behind before i ds).gives ≡ Ok (before ++ joined lists)
-unfolding texts_behind
+text_says : (before : List Condition) (i : ℕ) (d : Data) (all : List Condition) → (read_next_matcher_text before (i, d)).result ≡ Ok all
+    → (ms : List Condition) × SaysMatcherText d ms × Joins before ms all × IsTrue (have_sound_values ms)
+unfolding read_next_matcher_text
+text_says before i d all h =
+    let text = bind_ok ((reading_within (to_item i) (as_text d)).result) _ all h in
+    let ms = bind_ok ((read_matcher_text (to_item i) [] text.0).result) (λ ns. (append_matchers before ns).result) all text.2 in
+    let said = spelled_says (to_item i) [] text.0 ms.0 ms.1 in
+    (ms.0, (text.0, as_text_says d text.0 (within_ok (to_item i) ((as_text d).result) text.0 text.1), said.0), append_says before ms.0 all ms.2, said.1)
+
+text_reads : (before : List Condition) (i : ℕ) (d : Data) (ms : List Condition) → SaysMatcherText d ms → IsTrue (have_sound_values ms) → length before + length ms ≤ max_matchers → (read_next_matcher_text before (i, d)).result ≡ Ok (before ++ ms)
+unfolding read_next_matcher_text
+text_reads before i d ms said sound le =
+    let few : length ms ≤ max_matchers = omega (arith, le) in
+    rw (as_text_reads d said.0 said.1, text_gives (to_item i) [] said.0 ms said.2 few sound, append_reads before ms le) refl
+
+-- ---- Texts.
+
+-- the matchers of texts, one behind the other
+pub record SaysTexts (ds : List Data) (ms : List Condition) : Type 0 where
+  pub lists : List (List Condition)
+  pub texts : AllZip SaysMatcherText ds lists
+  pub joined : ms ≡ flat_map (λ ns. ns) lists
+
+more_texts : (d : Data) (ds : List Data) (ms more : List Condition) → SaysMatcherText d ms → SaysTexts ds more → SaysTexts (d ∷ ds) (ms ++ more)
+more_texts d ds ms more said rest = record { lists = ms ∷ rest.lists; texts = (said, rest.texts); joined = ap (λ (ns : List Condition). ms ++ ns) rest.joined }
+
+adds_that : (P Q : List Condition → Type 0) (before all : List Condition) → ((ms : List Condition) → P ms → Q ms) → Adds P before all → Adds Q before all
+adds_that P Q before all f adds = record { matchers = adds.matchers; says = f adds.matchers adds.says; are = adds.are; sound = adds.sound; few = adds.few }
+
+pub texts_say : (before : List Condition) (i : ℕ) (ds : List Data) (all : List Condition) → (read_each read_next_matcher_text before (enumerate_from i ds)).result ≡ Ok all → Adds (SaysTexts ds) before all
+unfolding read_each
+texts_say before i [] all h = adds_none (SaysTexts []) before all (same_read before all h) (record { lists = []; texts = tt; joined = refl })
+texts_say before i (d ∷ ds) all h =
+    let next = bind_ok ((read_next_matcher_text before (i, d)).result) (λ ns. (read_each read_next_matcher_text ns (enumerate_from (i + 1) ds)).result) all h in
+    let one = text_says before i d next.0 next.1 in
+    let rest = texts_say next.0 (i + 1) ds all next.2 in
+    adds_more (SaysTexts (d ∷ ds)) before one.0 next.0 all one.2 one.3 (adds_that (SaysTexts ds) (λ more. SaysTexts (d ∷ ds) (one.0 ++ more)) next.0 all (λ more said. more_texts d ds one.0 more one.1 said) rest)
+
+pub texts_read : (before : List Condition) (i : ℕ) (ds : List Data) (lists : List (List Condition)) → AllZip SaysMatcherText ds lists → IsTrue (have_sound_values (flat_map (λ ms. ms) lists))
+    → length before + length (flat_map (λ ms. ms) lists) ≤ max_matchers → (read_each read_next_matcher_text before (enumerate_from i ds)).result ≡ Ok (before ++ flat_map (λ ms. ms) lists)
+unfolding read_each
 texts_read before i [] [] said sound le = ap (λ (ms : List Condition). Ok ms) (sym (append-nil before))
 texts_read before i [] (ms ∷ more) said sound le = absurd said
 texts_read before i (d ∷ ds) [] said sound le = absurd said
 texts_read before i (d ∷ ds) (ms ∷ more) said sound le =
-    let split = sound_apart ms (joined more) sound in
-    let all : length ms + length (joined more) ≡ length (ms ++ joined more) = sym (length-append ms (joined more)) in
+    let others : List Condition = flat_map (λ ns. ns) more in
+    let split = sound_apart ms others sound in
+    let all : length ms + length others ≡ length (ms ++ others) = sym (length-append ms others) in
     let first = text_reads before i d ms said.0 split.0 (omega (arith, le, all)) in
     let rest = texts_read (before ++ ms) (i + 1) ds more said.1 split.1 (omega (arith, le, all, length-append before ms)) in
-    rw (first, rest) (ap (λ (ns : List Condition). Ok ns) (append_assoc before ms (joined more)))
+    rw (first, rest) (ap (λ (ns : List Condition). Ok ns) (append_assoc before ms others))
 
 -- ---- Pairs.
 
-abbrev SaysPair : Op → List ℕ → Data → Condition → Type 0
-SaysPair op key d m = (m.name ≡ key) × (key ≢ []) × (m.op ≡ op) × (d ≡ string m.value)
+named_text_says : (name : List ℕ) (d : Data) (text : List ℕ) → (read_named_text name d).result ≡ Ok text → SaysNamedText (name, d) name text
+unfolding read_named_text
+named_text_says name d text h =
+    let free = bind_ok ((refuse_for (label_name_fault name)).result) (λ _. (as_text d).result) text h in
+    (refl, name_is_some name (refuse_for_ok (label_name_fault name) free.0 free.1), as_text_says d text free.2)
 
-some_name : (name : List ℕ) → empty_fault name ≡ None → name ≢ []
-some_name [] h = absurd cc
-some_name (c ∷ cs) h = λ e. cc
+named_text_reads : (name : List ℕ) (d : Data) (text : List ℕ) → SaysNamedText (name, d) name text → (read_named_text name d).result ≡ Ok text
+unfolding read_named_text
+named_text_reads name d text said = rw (named_passes name said.1, said.2) refl
 
-name_passes : (name : List ℕ) → name ≢ [] → empty_fault name ≡ None
-name_passes [] some = absurd (some refl)
-name_passes (c ∷ cs) some = refl
+pair_says : (op : Op) (name : List ℕ) (d : Data) (m : Condition) → (read_matcher_pair op name d).result ≡ Ok m → SaysMatcherPair op (name, d) m × IsTrue (have_sound_values (m ∷ []))
+unfolding read_matcher_pair
+pair_says op name d m h =
+    let text = bind_ok ((read_named_text name d).result) _ m h in
+    let sound = bind_ok ((check_patterns (record { name = name; op = op; value = text.0 } ∷ [])).result) _ m text.2 in
+    let is : record { name = name; op = op; value = text.0 } ≡ m = same_read _ m sound.2 in
+    let all : SaysMatcherPair op (name, d) (record { name = name; op = op; value = text.0 }) × IsTrue (have_sound_values (record { name = name; op = op; value = text.0 } ∷ [])) =
+    ((named_text_says name d text.0 text.1, refl), passes_sound (record { name = name; op = op; value = text.0 } ∷ []) (refuse_for_ok (pattern_fault (record { name = name; op = op; value = text.0 } ∷ [])) sound.0 sound.1)) in
+    subst (λ (x : Condition). SaysMatcherPair op (name, d) x × IsTrue (have_sound_values (x ∷ []))) is all
 
-matcher_says : (m n : Condition) → (matcher_in m).gives ≡ Ok n → (m ≡ n) × IsTrue (have_sound_values (m ∷ []))
-unfolding matcher_in
-matcher_says m n h =
-    let name = bind_ok (unless (empty_fault m.name)) _ n h in
-    let sound = bind_ok (unless (pattern_fault (m ∷ []))) _ n name.2 in
-    (same_read m n sound.2, passes_sound (m ∷ []) (unless_ok (pattern_fault (m ∷ [])) sound.0 sound.1))
+same_condition : (m : Condition) (name : List ℕ) (op : Op) → m.name ≡ name → m.op ≡ op → record { name = name; op = op; value = m.value } ≡ m
+same_condition m name op n o = rw (← n, ← o) refl
 
-pair_says : (op : Op) (key : List ℕ) (d : Data) (n : Condition) → (pair_in op key d).gives ≡ Ok n → SaysPair op key d n × IsTrue (have_sound_values (n ∷ []))
-unfolding pair_in
-pair_says op key d n h =
-    let free = bind_ok (unless (empty_fault key)) _ n h in
-    let value = bind_ok (text_in d) _ n free.2 in
-    let m : Condition = record { name = key; op = op; value = value.0 } in
-    let is = matcher_says (record { name = key; op = op; value = value.0 }) n value.2 in
-    let all : SaysPair op key d (record { name = key; op = op; value = value.0 }) × IsTrue (have_sound_values (record { name = key; op = op; value = value.0 } ∷ [])) =
-    ((refl, some_name key (unless_ok (empty_fault key) free.0 free.1), refl, text_in_says d value.0 value.1), is.1) in
-    subst (λ (x : Condition). SaysPair op key d x × IsTrue (have_sound_values (x ∷ []))) is.0 all
+pair_reads : (op : Op) (name : List ℕ) (d : Data) (m : Condition) → SaysMatcherPair op (name, d) m → IsTrue (have_sound_values (m ∷ [])) → (read_matcher_pair op name d).result ≡ Ok m
+pair_reads op name d m said sound =
+    let same : record { name = name; op = op; value = m.value } ≡ m = same_condition m name op said.0.0 said.1 in
+    let fine = subst (λ (x : Condition). IsTrue (has_sound_value x)) (sym same) (both_true (has_sound_value m) true sound).0 in
+    pair_gives op name d m.value (named_text_reads name d m.value (refl, said.0.1, said.0.2)) fine ∙ ap (λ (x : Condition). Ok x) same
 
-same_condition : (m : Condition) (key : List ℕ) (op : Op) → m.name ≡ key → m.op ≡ op → record { name = key; op = op; value = m.value } ≡ m
-same_condition m key op n o = rw (← n, ← o) refl
+pub pairs_say : (op : Op) (before : List Condition) (pairs : List (List ℕ × Data)) (all : List Condition) → (read_each (read_next_pair op) before pairs).result ≡ Ok all → Adds (AllZip (SaysMatcherPair op) pairs) before all
+unfolding read_each read_next_pair
+pairs_say op before [] all h = adds_none (AllZip (SaysMatcherPair op) []) before all (same_read before all h) tt
+pairs_say op before (pair ∷ pairs) all h =
+    let next = bind_ok ((read_next_pair op before pair).result) (λ ns. (read_each (read_next_pair op) ns pairs).result) all h in
+    let m = bind_ok ((reading_within (to_field pair.0) (read_matcher_pair op pair.0 pair.1)).result) (λ n. (append_matchers before (n ∷ [])).result) next.0 next.1 in
+    let said = pair_says op pair.0 pair.1 m.0 (within_ok (to_field pair.0) ((read_matcher_pair op pair.0 pair.1).result) m.0 m.1) in
+    let rest = pairs_say op next.0 pairs all next.2 in
+    adds_more (AllZip (SaysMatcherPair op) (pair ∷ pairs)) before (m.0 ∷ []) next.0 all (append_says before (m.0 ∷ []) next.0 m.2) said.1
+    (adds_that (AllZip (SaysMatcherPair op) pairs) (λ more. AllZip (SaysMatcherPair op) (pair ∷ pairs) (m.0 ∷ [] ++ more)) next.0 all (λ more others. (said.0, others)) rest)
 
-pair_reads : (op : Op) (key : List ℕ) (d : Data) (m : Condition) → SaysPair op key d m → IsTrue (have_sound_values (m ∷ [])) → (pair_in op key d).gives ≡ Ok m
-unfolding pair_in
-pair_reads op key d m said sound =
-    let named : m.name ≢ [] = λ e. said.1 (sym said.0 ∙ e) in
-    let made : (matcher_in m).gives ≡ Ok m = matcher_gives m named (both_true (has_sound_value m) true sound).0 in
-    let one : (matcher_in (record { name = key; op = op; value = m.value })).gives ≡ Ok m = subst (λ (x : Condition). (matcher_in x).gives ≡ Ok m) (sym (same_condition m key op said.0 said.2)) made in
-    rw (name_passes key said.1, text_reads_as d m.value said.3, one) refl
-
-pub record AddPairs (op : Op) (members : Members) (before all : List Condition) : Type 0 where
-  pub matchers : List Condition
-  pub pairs : PairsSay op members matchers
-  pub are : all ≡ before ++ matchers
-  pub sound : IsTrue (have_sound_values matchers)
-  pub few : length before ≤ 64 → length all ≤ 64
-
-pub pairs_say : (op : Op) (before : List Condition) (members : Members) (all : List Condition) → (pairs_behind op before members).gives ≡ Ok all → AddPairs op members before all
-unfolding pairs_behind pair_behind
-pairs_say op before no_members all h =
-    let is : before ≡ all = same_read before all h in
-    record {
-      matchers = [];
-      pairs = tt;
-      are = sym is ∙ sym (append-nil before);
-      sound = refl;
-      few = λ le. subst (λ (ms : List Condition). length ms ≤ 64) is le;
-    }
-pairs_say op before (member key d more) all h =
-    let next = bind_ok ((pair_behind op before key d).gives) _ all h in
-    let m = bind_ok ((under (to_field key) (pair_in op key d)).gives) _ next.0 next.1 in
-    let said = pair_says op key d m.0 (under_ok (to_field key) ((pair_in op key d).gives) m.0 m.1) in
-    let joins = join_says before (m.0 ∷ []) next.0 m.2 in
-    let rest = pairs_say op next.0 more all next.2 in
-    let few : length next.0 ≤ 64 = rw joins.0 (omega (arith, length-append before (m.0 ∷ []), joins.1)) in
-    record {
-      matchers = m.0 ∷ rest.matchers;
-      pairs = (said.0, rest.pairs);
-      are = rest.are ∙ ap (λ (ms : List Condition). ms ++ rest.matchers) joins.0 ∙ append_assoc before (m.0 ∷ []) rest.matchers;
-      sound = sound_append (m.0 ∷ []) rest.matchers said.1 rest.sound;
-      few = λ le. rest.few few;
-    }
-
-pub pairs_read : (op : Op) (before : List Condition) (members : Members) (ms : List Condition) → PairsSay op members ms → IsTrue (have_sound_values ms) → length before + length ms ≤ 64
-    → (pairs_behind op before members).gives ≡ Ok (before ++ ms)
-unfolding pairs_behind pair_behind
-pairs_read op before no_members [] said sound le = ap (λ (ns : List Condition). Ok ns) (sym (append-nil before))
-pairs_read op before no_members (m ∷ ms) said sound le = absurd said
-pairs_read op before (member key d more) [] said sound le = absurd said
-pairs_read op before (member key d more) (m ∷ ms) said sound le =
+pub pairs_read : (op : Op) (before : List Condition) (pairs : List (List ℕ × Data)) (ms : List Condition) → AllZip (SaysMatcherPair op) pairs ms → IsTrue (have_sound_values ms) → length before + length ms ≤ max_matchers
+    → (read_each (read_next_pair op) before pairs).result ≡ Ok (before ++ ms)
+unfolding read_each read_next_pair
+pairs_read op before [] [] said sound le = ap (λ (ns : List Condition). Ok ns) (sym (append-nil before))
+pairs_read op before [] (m ∷ ms) said sound le = absurd said
+pairs_read op before (pair ∷ pairs) [] said sound le = absurd said
+pairs_read op before (pair ∷ pairs) (m ∷ ms) said sound le =
     let split = sound_apart (m ∷ []) ms sound in
-    let first = pair_reads op key d m said.0 split.0 in
-    let joins = join_reads before (m ∷ []) (omega (arith, le)) in
-    let rest = pairs_read op (before ++ m ∷ []) more ms said.1 split.1 (omega (arith, le, length-append before (m ∷ []))) in
+    let first = pair_reads op pair.0 pair.1 m said.0 split.0 in
+    let joins = append_reads before (m ∷ []) (omega (arith, le)) in
+    let rest = pairs_read op (before ++ m ∷ []) pairs ms said.1 split.1 (omega (arith, le, length-append before (m ∷ []))) in
     rw (first, joins, rest) (ap (λ (ns : List Condition). Ok ns) (append_assoc before (m ∷ []) ms))

@@ -11,7 +11,7 @@ use Rattle.std.specs.String.{string_cmp}
 use Rattle.std.proofs.lemmas.Map.Keys.{sorted_head, sorted_tail}
 use Rattle.serde_json.specs.View.{view, members_view}
 use Rattle.serde_json.proofs.Views.{Entry}
-use Rattle.am_files.specs.Json.{is_unknown, lesser, unknown_field}
+use Rattle.am_files.specs.Json.{is_unknown, lesser_key, unknown_field}
 
 -- the keys of what is left of the members ascend
 abbrev pub Ascends : List Entry → Type 0
@@ -26,11 +26,11 @@ below_either key first other Less h k = h
 below_either key first other Equal h k = h
 below_either key first other Greater h k = k
 
-below_lesser : (key first : List ℕ) (found : Option (List ℕ)) → slice_cmp nat_cmp key first ≡ Less → IsBelow key found → slice_cmp nat_cmp key (lesser first found) ≡ Less
+below_lesser : (key first : List ℕ) (found : Option (List ℕ)) → slice_cmp nat_cmp key first ≡ Less → IsBelow key found → slice_cmp nat_cmp key (lesser_key first found) ≡ Less
 below_lesser key first None h k = h
 below_lesser key first (Some other) h k = below_either key first other (slice_cmp nat_cmp first other) h k
 
-below_picked : (key first : List ℕ) (unknown : Bool) (found : Option (List ℕ)) → slice_cmp nat_cmp key first ≡ Less → IsBelow key found → IsBelow key (cond unknown (Some (lesser first found)) found)
+below_picked : (key first : List ℕ) (unknown : Bool) (found : Option (List ℕ)) → slice_cmp nat_cmp key first ≡ Less → IsBelow key found → IsBelow key (cond unknown (Some (lesser_key first found)) found)
 below_picked key first true found h k = below_lesser key first found h k
 below_picked key first false found h k = k
 
@@ -40,7 +40,7 @@ below_all known key [] below = tt
 below_all known key (e ∷ es) below =
     below_picked (string_bytes key) (string_bytes e.0) (is_unknown known (string_bytes e.0) (view e.1)) (unknown_field known (members_view es)) below.0 (below_all known key es below.1)
 
-is_lesser : (key : List ℕ) (found : Option (List ℕ)) → IsBelow key found → lesser key found ≡ key
+is_lesser : (key : List ℕ) (found : Option (List ℕ)) → IsBelow key found → lesser_key key found ≡ key
 is_lesser key None h = refl
 is_lesser key (Some other) h = rw h refl
 

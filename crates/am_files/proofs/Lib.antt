@@ -1,16 +1,13 @@
 pub mod Values
 pub mod Pointers
 pub mod Readings
-pub mod Arrays
+pub mod Items
 pub mod Fields
 pub mod UniverseSays
 pub mod Keys
-pub mod Causes
-pub mod Judgements
 pub mod Matching
 pub mod Positions
 pub mod Routing
 pub mod Sound
 pub mod ConfigParts
 pub mod ConfigSays
-pub mod ConfigCauses

@@ -6,18 +6,18 @@ use Rattle.std.proofs.lemmas.Bool.Decides.{nat_tests}
 use Rattle.std.proofs.lemmas.List.{append-nil}
 use Rattle.std.proofs.lemmas.Str.{encode_ascii, inside_one}
 use lib.Utf8.{encode}
-use Rattle.am_files.specs.Pointer.{escaped}
+use Rattle.am_files.specs.Pointer.{pointer_escape}
 
 -- a byte that stands for itself
-plain : (c : ℕ) → c ≢ 126 → c ≢ 47 → escaped c ≡ c ∷ []
+plain : (c : ℕ) → c ≢ 126 → c ≢ 47 → pointer_escape c ≡ c ∷ []
 plain c tilde slash = grind (arith, nat_tests)
 
 -- bytes that stand for themselves
-stands : (bytes : List ℕ) → ((k : ℕ) → k < length bytes → 128 ≤ get_or bytes k 0) → flat_map escaped bytes ≡ bytes
+stands : (bytes : List ℕ) → ((k : ℕ) → k < length bytes → 128 ≤ get_or bytes k 0) → flat_map pointer_escape bytes ≡ bytes
 stands [] h = refl
 stands (b ∷ bytes) h =
-    let one : escaped b ≡ b ∷ [] = plain b (omega (arith, h 0 (omega arith))) (omega (arith, h 0 (omega arith))) in
-    let rest : flat_map escaped bytes ≡ bytes = stands bytes (λ k lt. h (suc k) (omega arith)) in
+    let one : pointer_escape b ≡ b ∷ [] = plain b (omega (arith, h 0 (omega arith))) (omega (arith, h 0 (omega arith))) in
+    let rest : flat_map pointer_escape bytes ≡ bytes = stands bytes (λ k lt. h (suc k) (omega arith)) in
     rw (one, rest) refl
 
 -- no byte of a longer character is in ASCII
@@ -29,8 +29,8 @@ wide c le k lt =
     ]
 
 -- a character that is no `~` and no `/` is written as it is
-pub escaped_other : (c : ℕ) → c ≢ 126 → c ≢ 47 → flat_map escaped (encode c) ≡ encode c
-escaped_other c tilde slash =
+pub pointer_escape-other : (c : ℕ) → c ≢ 126 → c ≢ 47 → flat_map pointer_escape (encode c) ≡ encode c
+pointer_escape-other c tilde slash =
     elim (cases_lt c 128) [
       | inl small ↦ rw (encode_ascii c small) (rw (plain c tilde slash) refl)
       | inr large ↦ stands (encode c) (wide c large)

@@ -1,12 +1,12 @@
 -- A value says a universe exactly where reading it finds no fault, and then that universe.
-use Rattle.std.proofs.Common.{◌≡◌, ℕ, ◌<◌, ◌≤◌, List, [], ◌∷◌, ◌++◌, length, Bool, true, false, cond, Option, Some, None, Result, Ok, Err, nat_le, refl, sym, ap, subst, ◌∙◌, append_assoc, append-nil, length-append, arith}
-use Rattle.std.specs.Prelude.{codes, ok_or}
-use Rattle.std.specs.List.{AllByRecursion, IsDistinct}
+use Rattle.std.proofs.Common.{◌≡◌, ℕ, ◌<◌, ◌≤◌, List, [], ◌∷◌, ◌++◌, length, Bool, true, false, cond, Option, Some, None, Ok, Err, inl, inr, nat_le, refl, sym, ap, subst, ◌∙◌, append_assoc, append-nil, length-append, arith}
+use Rattle.std.specs.Prelude.{codes}
+use Rattle.std.specs.List.{AllByRecursion, AllZip, IsDistinct}
 use Rattle.std.proofs.lemmas.List.{map-append}
+use Rattle.std.proofs.lemmas.Slice.Zip.{AllZip-long}
 use borrow.Author.Tests.{lt-leb}
 use Rattle.serde_json.specs.Data.{Data, null, boolean, number, string, array, object}
 use Rattle.am_universe.specs.declared.kind.Kind.{Kind}
-use Rattle.am_universe.specs.declared.kind.Kind.TheVariants as kinds
 use Rattle.am_universe.specs.declared.label_fault.LabelFault.{LabelFault}
 use Rattle.am_universe.specs.declared.label_fault.LabelPart.{LabelPart}
 use Rattle.am_universe.specs.Text.{same_text}
@@ -14,13 +14,13 @@ use Rattle.am_universe.specs.declared.label_fault.LabelPart.TheVariants as parts
 use Rattle.am_universe.specs.Universe.{Values, Label, IsLabel, IsUniverse, names, max_labels, name_fault, count_fault, value_fault, values_fault, label_values_fault, label_fault, first_fault, fault_at}
 use Rattle.am_universe.proofs.Universes.{IsUniverse-empty}
 use Rattle.am_universe.proofs.AddedLabels.{added_is_universe, universe_was_added}
-use Rattle.am_files.specs.Json.{json_of, Each}
-use Rattle.am_files.specs.Pointer.{Refusal, here, to_field, to_item, under}
-use Rattle.am_files.specs.Reading.{◌>>=◌, unless, at_most, each, text_in, only_fields, required_text, required_items, max_bytes, json_in}
-use Rattle.am_files.specs.UniverseFile.{file_fields, label_fields, SaysValue, SaysLabel, SaysUniverse, value_in, value_behind, values_in, label_behind, labels_in, universe_in, universe_file, FileSaysUniverse}
-use Rattle.am_files.proofs.Readings.{bind_ok, under_ok, unless_ok, at_most_ok, at_most_fits, ok_or_some, same_read, Decides}
-use Rattle.am_files.proofs.Arrays.{AllFit, each-says, each-reads, length-Each}
-use Rattle.am_files.proofs.Fields.{text_in_says, only_fields_says, only_fields_reads, required_text_says, required_text_reads, required_items_says, required_items_reads}
+use Rattle.am_files.specs.Json.{is_null}
+use Rattle.am_files.specs.Pointer.{Refusal, to_field, to_item}
+use Rattle.am_files.specs.Reading.{Reading, ◌>>=◌, accept, reading_within, refuse_for, check_count, read_items, as_text, check_only_fields, required_text, required_items, read_json, IsPatternRefusal, MayRefuse}
+use Rattle.am_files.specs.UniverseFile.{file_fields, label_fields, SaysValue, SaysLabel, SaysUniverse, read_value, read_next_value, read_values, read_next_label, read_labels, read_universe, read_universe_file, FileSaysUniverse}
+use Rattle.am_files.proofs.Readings.{bind_ok, within_ok, refuse_for_ok, check_count_ok, check_count_fits, same_read, Decides}
+use Rattle.am_files.proofs.Items.{AllFit, items_say, items_read, none_then, none_within, none_items}
+use Rattle.am_files.proofs.Fields.{as_text_says, only_fields_say, only_fields_read, none_only_fields, required_text_says, required_text_reads, none_required_text, required_items_say, required_items_read, none_required_items, json_says, json_reads, none_json}
 
 -- ---- A value.
 
@@ -28,35 +28,35 @@ use Rattle.am_files.proofs.Fields.{text_in_says, only_fields_says, only_fields_r
 abbrev ValueFits : Values → Option (List ℕ) → Type 0
 ValueFits before value = value_fault before value ≡ None
 
-text_says : (d : Data) (r : Result (List ℕ) Refusal) (value : Option (List ℕ)) → text_in d ≡ r → (r >>= λ text. Ok (Some text)) ≡ Ok value → SaysValue d value
-text_says d (Err e) value is h = absurd cc
-text_says d (Ok text) None is h = absurd cc
-text_says d (Ok text) (Some t) is h = let e : text ≡ t = cc in text_in_says d text is ∙ ap (λ (s : List ℕ). string s) e
+text_says : (d : Data) (value : Option (List ℕ)) → (as_text d >>= λ text. accept (Some text)).result ≡ Ok value → SaysValue d value
+text_says d value h =
+    let text = bind_ok ((as_text d).result) (λ t. Ok (Some t)) value h in
+    subst (λ (v : Option (List ℕ)). SaysValue d v) (same_read (Some text.0) value text.2) (as_text_says d text.0 text.1)
 
-value_in_says : (d : Data) (value : Option (List ℕ)) → value_in d ≡ Ok value → SaysValue d value
-value_in_says null None h = refl
-value_in_says null (Some t) h = absurd cc
-value_in_says (boolean b) value h = text_says (boolean b) (text_in (boolean b)) value refl h
-value_in_says (number n) value h = text_says (number n) (text_in (number n)) value refl h
-value_in_says (string s) value h = text_says (string s) (text_in (string s)) value refl h
-value_in_says (array ds) value h = text_says (array ds) (text_in (array ds)) value refl h
-value_in_says (object ms) value h = text_says (object ms) (text_in (object ms)) value refl h
+read_value_says : (d : Data) (value : Option (List ℕ)) → (read_value d).result ≡ Ok value → SaysValue d value
+read_value_says null None h = refl
+read_value_says null (Some t) h = absurd cc
+read_value_says (boolean b) value h = text_says (boolean b) value h
+read_value_says (number n) value h = text_says (number n) value h
+read_value_says (string s) value h = text_says (string s) value h
+read_value_says (array ds) value h = text_says (array ds) value h
+read_value_says (object ms) value h = text_says (object ms) value h
 
-value_in_reads : (d : Data) (value : Option (List ℕ)) → SaysValue d value → value_in d ≡ Ok value
-value_in_reads d None said = rw said refl
-value_in_reads d (Some t) said = rw said refl
+read_value_reads : (d : Data) (value : Option (List ℕ)) → SaysValue d value → (read_value d).result ≡ Ok value
+read_value_reads d None said = rw said refl
+read_value_reads d (Some t) said = rw said refl
 
-value_says : (before : Values) (d : Data) (value : Option (List ℕ)) → value_behind before d ≡ Ok value → SaysValue d value × ValueFits before value
-unfolding value_behind
+value_says : (before : Values) (d : Data) (value : Option (List ℕ)) → (read_next_value before d).result ≡ Ok value → SaysValue d value × ValueFits before value
+unfolding read_next_value
 value_says before d value h =
-    let first = bind_ok (value_in d) (λ v. unless (value_fault before v) >>= λ _. Ok v) value h in
-    let second = bind_ok (unless (value_fault before first.0)) (λ _. Ok first.0) value first.2 in
+    let first = bind_ok ((read_value d).result) _ value h in
+    let second = bind_ok ((refuse_for (value_fault before first.0)).result) _ value first.2 in
     let same : first.0 ≡ value = same_read first.0 value second.2 in
-    (subst (λ (v : Option (List ℕ)). SaysValue d v) same (value_in_says d first.0 first.1), subst (λ (v : Option (List ℕ)). ValueFits before v) same (unless_ok (value_fault before first.0) second.0 second.1))
+    (subst (λ (v : Option (List ℕ)). SaysValue d v) same (read_value_says d first.0 first.1), subst (λ (v : Option (List ℕ)). ValueFits before v) same (refuse_for_ok (value_fault before first.0) second.0 second.1))
 
-value_reads : (before : Values) (d : Data) (value : Option (List ℕ)) → SaysValue d value → ValueFits before value → value_behind before d ≡ Ok value
-unfolding value_behind
-value_reads before d value said fits = rw (value_in_reads d value said, fits) refl
+value_reads : (before : Values) (d : Data) (value : Option (List ℕ)) → SaysValue d value → ValueFits before value → (read_next_value before d).result ≡ Ok value
+unfolding read_next_value
+value_reads before d value said fits = rw (read_value_reads d value said, fits) refl
 
 -- ---- The values of a label.
 
@@ -68,32 +68,32 @@ no_fault_at : (part : LabelPart) (found : Option Kind) → fault_at part found �
 no_fault_at part None h = refl
 no_fault_at part (Some kind) h = absurd cc
 
-values_fit : (before values : Values) → AllFit ValueFits before values → values_fault before values ≡ None
-values_fit before [] fits = refl
-values_fit before (value ∷ values) fits = rw (fits.0, values_fit (before ++ value ∷ []) values fits.1) refl
+fit_none : (before values : Values) → AllFit ValueFits before values → values_fault before values ≡ None
+fit_none before [] fits = refl
+fit_none before (value ∷ values) fits = rw (fits.0, fit_none (before ++ value ∷ []) values fits.1) refl
 
-fit_values : (before values : Values) → values_fault before values ≡ None → AllFit ValueFits before values
-fit_values before [] h = tt
-fit_values before (value ∷ values) h =
+none_fit : (before values : Values) → values_fault before values ≡ None → AllFit ValueFits before values
+none_fit before [] h = tt
+none_fit before (value ∷ values) h =
     let split = no_fault_first (fault_at (parts.Value (length before)) (value_fault before value)) (values_fault (before ++ value ∷ []) values) h in
-    (no_fault_at (parts.Value (length before)) (value_fault before value) split.0, fit_values (before ++ value ∷ []) values split.1)
+    (no_fault_at (parts.Value (length before)) (value_fault before value) split.0, none_fit (before ++ value ∷ []) values split.1)
 
-values_say : (items : List Data) (values : Values) → values_in items ≡ Ok values → Each SaysValue items values × (label_values_fault values ≡ None)
-unfolding values_in
+values_say : (items : List Data) (values : Values) → (read_values items).result ≡ Ok values → AllZip SaysValue items values × (label_values_fault values ≡ None)
+unfolding read_values
 values_say items values h =
-    let count = bind_ok (unless (count_fault (length items))) (λ _. each value_behind [] items) values h in
-    let found = each-says SaysValue ValueFits value_behind value_says [] items values count.2 in
-    let said = subst (λ (vs : Values). Each SaysValue items vs) (sym found.1) found.2 in
-    let fits = values_fit [] values (subst (λ (vs : Values). AllFit ValueFits [] vs) (sym found.1) found.3) in
-    let few : count_fault (length values) ≡ None = ap count_fault (sym (length-Each SaysValue items values said)) ∙ unless_ok (count_fault (length items)) count.0 count.1 in
+    let count = bind_ok ((refuse_for (count_fault (length items))).result) (λ _. (read_items read_next_value [] items).result) values h in
+    let found = items_say SaysValue ValueFits read_next_value value_says [] items values count.2 in
+    let said = subst (λ (vs : Values). AllZip SaysValue items vs) (sym found.1) found.2 in
+    let fits = fit_none [] values (subst (λ (vs : Values). AllFit ValueFits [] vs) (sym found.1) found.3) in
+    let few : count_fault (length values) ≡ None = ap count_fault (AllZip-long SaysValue items values said) ∙ refuse_for_ok (count_fault (length items)) count.0 count.1 in
     (said, rw (few, fits) refl)
 
-values_read : (items : List Data) (values : Values) → Each SaysValue items values → label_values_fault values ≡ None → values_in items ≡ Ok values
-unfolding values_in
+values_read : (items : List Data) (values : Values) → AllZip SaysValue items values → label_values_fault values ≡ None → (read_values items).result ≡ Ok values
+unfolding read_values
 values_read items values said fine =
     let split = no_fault_first (fault_at parts.Values (count_fault (length values))) (values_fault [] values) fine in
-    let few : count_fault (length items) ≡ None = ap count_fault (length-Each SaysValue items values said) ∙ no_fault_at parts.Values (count_fault (length values)) split.0 in
-    let all = each-reads SaysValue ValueFits value_behind value_reads [] items values said (fit_values [] values split.1) in
+    let few : count_fault (length items) ≡ None = ap count_fault (sym (AllZip-long SaysValue items values said)) ∙ no_fault_at parts.Values (count_fault (length values)) split.0 in
+    let all = items_read SaysValue ValueFits read_next_value value_reads [] items values said (none_fit [] values split.1) in
     rw (few, all) refl
 
 -- ---- A label.
@@ -103,44 +103,44 @@ pub record LabelFits (before : List Label) (label : Label) : Type 0 where
   pub name : name_fault before label.name ≡ None
   pub values : label_values_fault label.values ≡ None
 
-label_says : (before : List Label) (d : Data) (label : Label) → label_behind before d ≡ Ok label → SaysLabel d label × LabelFits before label
-unfolding label_behind
+label_says : (before : List Label) (d : Data) (label : Label) → (read_next_label before d).result ≡ Ok label → SaysLabel d label × LabelFits before label
+unfolding read_next_label
 label_says before d label h =
-    let only = bind_ok (only_fields label_fields d) _ label h in
-    let name = bind_ok (required_text (codes "name") d) _ label only.2 in
-    let free = bind_ok (under (to_field (codes "name")) (unless (name_fault before name.0))) _ label name.2 in
-    let items = bind_ok (required_items (codes "values") d) _ label free.2 in
-    let values = bind_ok (under (to_field (codes "values")) (values_in items.0)) _ label items.2 in
+    let only = bind_ok ((check_only_fields label_fields d).result) _ label h in
+    let name = bind_ok ((required_text (codes "name") d).result) _ label only.2 in
+    let free = bind_ok ((reading_within (to_field (codes "name")) (refuse_for (name_fault before name.0))).result) _ label name.2 in
+    let items = bind_ok ((required_items (codes "values") d).result) _ label free.2 in
+    let values = bind_ok ((reading_within (to_field (codes "values")) (read_values items.0)).result) _ label items.2 in
     let is : record { name = name.0; values = values.0 } ≡ label = same_read _ label values.2 in
-    let said = values_say items.0 values.0 (under_ok (to_field (codes "values")) (values_in items.0) values.0 values.1) in
+    let said = values_say items.0 values.0 (within_ok (to_field (codes "values")) ((read_values items.0).result) values.0 values.1) in
     let all : SaysLabel d (record { name = name.0; values = values.0 }) × LabelFits before (record { name = name.0; values = values.0 }) = (
       record {
-        only = only_fields_says label_fields d only.0 only.1;
+        only = only_fields_say label_fields d only.0 only.1;
         name = required_text_says (codes "name") d name.0 name.1;
         items = items.0;
-        is_array = required_items_says (codes "values") d items.0 items.1;
+        is_array = required_items_say (codes "values") d items.0 items.1;
         values = said.0;
       },
       record {
-        name = unless_ok (name_fault before name.0) free.0 (under_ok (to_field (codes "name")) (unless (name_fault before name.0)) free.0 free.1);
+        name = refuse_for_ok (name_fault before name.0) free.0 (within_ok (to_field (codes "name")) ((refuse_for (name_fault before name.0)).result) free.0 free.1);
         values = said.1;
       },
     ) in
     subst (λ (l : Label). SaysLabel d l × LabelFits before l) is all
 
-label_reads : (before : List Label) (d : Data) (label : Label) → SaysLabel d label → LabelFits before label → label_behind before d ≡ Ok label
-unfolding label_behind
+label_reads : (before : List Label) (d : Data) (label : Label) → SaysLabel d label → LabelFits before label → (read_next_label before d).result ≡ Ok label
+unfolding read_next_label
 label_reads before d label said fits =
-    rw (only_fields_reads label_fields d said.only, required_text_reads (codes "name") d label.name said.name, fits.name, required_items_reads (codes "values") d said.items said.is_array, values_read said.items label.values said.values fits.values) refl
+    rw (only_fields_read label_fields d said.only, required_text_reads (codes "name") d label.name said.name, fits.name, required_items_read (codes "values") d said.items said.is_array, values_read said.items label.values said.values fits.values) refl
 
 -- ---- All labels.
 
-no_label_fault : (u : List Label) (label : Label) → length u < 64 → LabelFits u label → label_fault u label ≡ None
-no_label_fault u label room fits = rw (lt-leb 64 (length u) room, fits.name, fits.values) refl
+no_label_fault : (u : List Label) (label : Label) → length u < max_labels → LabelFits u label → label_fault u label ≡ None
+no_label_fault u label room fits = rw (lt-leb max_labels (length u) room, fits.name, fits.values) refl
 
 -- a label that was read has no fault, while there is room
-pub no_fault_read : (u : List Label) (d : Data) (label : Label) → length u < 64 → under (to_item (length u)) (label_behind u d) ≡ Ok label → label_fault u label ≡ None
-no_fault_read u d label room h = no_label_fault u label room (label_says u d label (under_ok (to_item (length u)) (label_behind u d) label h)).1
+pub no_fault_read : (u : List Label) (d : Data) (label : Label) → length u < max_labels → (reading_within (to_item (length u)) (read_next_label u d)).result ≡ Ok label → label_fault u label ≡ None
+no_fault_read u d label room h = no_label_fault u label room (label_says u d label (within_ok (to_item (length u)) ((read_next_label u d).result) label h)).1
 
 no_fault_fits : (full : Bool) (over : LabelFault) (name : Option Kind) (values : Option LabelFault) → cond full (Some over) (first_fault (fault_at parts.Name name) values) ≡ None → (name ≡ None) × (values ≡ None)
 no_fault_fits true over name values h = absurd cc
@@ -150,7 +150,7 @@ no_fault_fits false over name values h =
 
 label_fits : (u : List Label) (label : Label) → label_fault u label ≡ None → LabelFits u label
 label_fits u label h =
-    let split = no_fault_fits (nat_le 64 (length u)) _ (name_fault u label.name) (label_values_fault label.values) h in
+    let split = no_fault_fits (nat_le max_labels (length u)) _ (name_fault u label.name) (label_values_fault label.values) h in
     record { name = split.0; values = split.1 }
 
 all_front : {A : Type 0} (P : A → Type 0) (xs ys : List A) → AllByRecursion P (xs ++ ys) → AllByRecursion P xs
@@ -177,57 +177,107 @@ universe_fits before (label ∷ more) is =
     (label_fits before label (universe_was_added before label (universe_front (before ++ label ∷ []) more whole)), universe_fits (before ++ label ∷ []) more whole)
 
 -- labels that fit go behind a universe, while there is room
-grown : (before more : List Label) → IsUniverse before → AllFit LabelFits before more → length (before ++ more) ≤ 64 → IsUniverse (before ++ more)
+grown : (before more : List Label) → IsUniverse before → AllFit LabelFits before more → length (before ++ more) ≤ max_labels → IsUniverse (before ++ more)
 grown before [] is fits few = subst IsUniverse (sym (append-nil before)) is
 grown before (label ∷ more) is fits few =
-    let room : length before < 64 = omega (arith, length-append before (label ∷ more), few) in
+    let room : length before < max_labels = omega (arith, length-append before (label ∷ more), few) in
     let next = added_is_universe before label is (no_label_fault before label room fits.0) in
-    let few_next : length ((before ++ label ∷ []) ++ more) ≤ 64 = rw (append_assoc before (label ∷ []) more) few in
+    let few_next : length ((before ++ label ∷ []) ++ more) ≤ max_labels = rw (append_assoc before (label ∷ []) more) few in
     subst IsUniverse (append_assoc before (label ∷ []) more) (grown (before ++ label ∷ []) more next fits.1 few_next)
 
 -- ---- The file.
 
-pub universe_says : (d : Data) (u : List Label) → universe_in d ≡ Ok u → SaysUniverse d u
-unfolding universe_in labels_in
+pub universe_says : (d : Data) (u : List Label) → (read_universe d).result ≡ Ok u → SaysUniverse d u
+unfolding read_universe read_labels
 universe_says d u h =
-    let only = bind_ok (only_fields file_fields d) _ u h in
-    let items = bind_ok (required_items (codes "labels") d) _ u only.2 in
-    let labels = under_ok (to_field (codes "labels")) (labels_in items.0) u items.2 in
-    let few = bind_ok (at_most max_labels (length items.0)) (λ _. each label_behind [] items.0) u labels in
-    let found = each-says SaysLabel LabelFits label_behind label_says [] items.0 u few.2 in
-    let said = subst (λ (v : List Label). Each SaysLabel items.0 v) (sym found.1) found.2 in
+    let only = bind_ok ((check_only_fields file_fields d).result) _ u h in
+    let items = bind_ok ((required_items (codes "labels") d).result) _ u only.2 in
+    let labels = within_ok (to_field (codes "labels")) ((read_labels items.0).result) u items.2 in
+    let few = bind_ok ((check_count max_labels (length items.0)).result) (λ _. (read_items read_next_label [] items.0).result) u labels in
+    let found = items_say SaysLabel LabelFits read_next_label label_says [] items.0 u few.2 in
+    let said = subst (λ (v : List Label). AllZip SaysLabel items.0 v) (sym found.1) found.2 in
     let fits = subst (λ (v : List Label). AllFit LabelFits [] v) (sym found.1) found.3 in
-    let count : length u ≤ 64 = omega (arith, at_most_ok max_labels (length items.0) few.0 few.1, length-Each SaysLabel items.0 u said) in
+    let count : length u ≤ max_labels = omega (arith, check_count_ok max_labels (length items.0) few.0 few.1, AllZip-long SaysLabel items.0 u said) in
     record {
-      only = only_fields_says file_fields d only.0 only.1;
+      only = only_fields_say file_fields d only.0 only.1;
       items = items.0;
-      is_array = required_items_says (codes "labels") d items.0 items.1;
+      is_array = required_items_say (codes "labels") d items.0 items.1;
       labels = said;
       is_universe = grown [] u IsUniverse-empty fits count;
     }
 
-pub universe_reads : (d : Data) (u : List Label) → SaysUniverse d u → universe_in d ≡ Ok u
-unfolding universe_in labels_in
+pub universe_reads : (d : Data) (u : List Label) → SaysUniverse d u → (read_universe d).result ≡ Ok u
+unfolding read_universe read_labels
 universe_reads d u said =
-    let count : length said.items ≤ 64 = omega (arith, said.is_universe.at_most, length-Each SaysLabel said.items u said.labels) in
-    let all = each-reads SaysLabel LabelFits label_behind label_reads [] said.items u said.labels (universe_fits [] u said.is_universe) in
-    rw (only_fields_reads file_fields d said.only, required_items_reads (codes "labels") d said.items said.is_array, at_most_fits max_labels (length said.items) count, all) refl
+    let count : length said.items ≤ max_labels = omega (arith, said.is_universe.at_most, AllZip-long SaysLabel said.items u said.labels) in
+    let all = items_read SaysLabel LabelFits read_next_label label_reads [] said.items u said.labels (universe_fits [] u said.is_universe) in
+    rw (only_fields_read file_fields d said.only, required_items_read (codes "labels") d said.items said.is_array, check_count_fits max_labels (length said.items) count, all) refl
 
 -- ---- The bytes of a file.
 
-pub file_says : (bytes : List ℕ) (u : List Label) → universe_file bytes ≡ Ok u → FileSaysUniverse bytes u
-unfolding universe_file json_in
+pub file_says : (bytes : List ℕ) (u : List Label) → (read_universe_file bytes).result ≡ Ok u → FileSaysUniverse bytes u
+unfolding read_universe_file
 file_says bytes u h =
-    let value = bind_ok (json_in bytes) universe_in u h in
-    let few = bind_ok (at_most max_bytes (length bytes)) (λ _. ok_or (json_of bytes) (here kinds.NotJson)) value.0 value.1 in
-    (at_most_ok max_bytes (length bytes) few.0 few.1, value.0, ok_or_some (json_of bytes) (here kinds.NotJson) value.0 few.2, universe_says value.0 u value.2)
+    let value = bind_ok ((read_json bytes).result) (λ d. (read_universe d).result) u h in
+    let read = json_says bytes value.0 value.1 in
+    (read.0, value.0, read.1, universe_says value.0 u value.2)
 
-pub file_reads : (bytes : List ℕ) (u : List Label) → FileSaysUniverse bytes u → universe_file bytes ≡ Ok u
-unfolding universe_file json_in
-file_reads bytes u said = rw (at_most_fits max_bytes (length bytes) said.0, said.2, universe_reads said.1 u said.3) refl
+pub file_reads : (bytes : List ℕ) (u : List Label) → FileSaysUniverse bytes u → (read_universe_file bytes).result ≡ Ok u
+unfolding read_universe_file
+file_reads bytes u said = rw (json_reads bytes said.1 said.0 said.2, universe_reads said.1 u said.3) refl
 
-pub universe_decides : (d : Data) → Decides (SaysUniverse d) (universe_in d)
+pub universe_decides : (d : Data) → Decides (SaysUniverse d) ((read_universe d).result)
 universe_decides d = record { says = universe_says d; reads = universe_reads d }
 
-pub file_decides : (bytes : List ℕ) → Decides (FileSaysUniverse bytes) (universe_file bytes)
+pub file_decides : (bytes : List ℕ) → Decides (FileSaysUniverse bytes) ((read_universe_file bytes).result)
 file_decides bytes = record { says = file_says bytes; reads = file_reads bytes }
+
+-- ---- No pattern is met.
+
+none_read : (d : Data) (b : Bool) → is_null d ≡ b → (read_value d).patterns ≡ []
+none_read d true is = rw is refl
+none_read d false is = rw is (none_then (as_text d) (λ text. accept (Some text)) refl (λ text. refl))
+
+none_value : (before : Values) (d : Data) → (read_next_value before d).patterns ≡ []
+unfolding read_next_value
+none_value before d = none_then (read_value d) (λ value. refuse_for (value_fault before value) >>= λ _. accept value) (none_read d (is_null d) refl) (λ value.
+    none_then (refuse_for (value_fault before value)) (λ _. accept value) refl (λ _. refl))
+
+none_values : (items : List Data) → (read_values items).patterns ≡ []
+unfolding read_values
+none_values items = none_then (refuse_for (count_fault (length items))) (λ _. read_items read_next_value [] items) refl (λ _. none_items read_next_value none_value [] items)
+
+none_label : (u : List Label) (d : Data) → (read_next_label u d).patterns ≡ []
+unfolding read_next_label
+none_label u d =
+    let to_name : List ℕ = to_field (codes "name") in
+    let to_values : List ℕ = to_field (codes "values") in
+    let made : List ℕ → Values → Reading Label = λ name values. accept (record { name = name; values = values }) in
+    let behind_items : List ℕ → List Data → Reading Label = λ name items. reading_within to_values (read_values items) >>= made name in
+    let behind_name : List ℕ → Reading Label = λ name. required_items (codes "values") d >>= behind_items name in
+    let behind_fields : List ℕ → Reading Label = λ name. reading_within to_name (refuse_for (name_fault u name)) >>= λ _. behind_name name in
+    none_then (check_only_fields label_fields d) (λ _. required_text (codes "name") d >>= behind_fields) (none_only_fields label_fields d) (λ _.
+    none_then (required_text (codes "name") d) behind_fields (none_required_text (codes "name") d) (λ name.
+    none_then (reading_within to_name (refuse_for (name_fault u name))) (λ _. behind_name name) refl (λ _.
+    none_then (required_items (codes "values") d) (behind_items name) (none_required_items (codes "values") d) (λ items.
+    none_then (reading_within to_values (read_values items)) (made name) (none_within to_values (read_values items) (none_values items)) (λ values. refl)))))
+
+none_universe : (d : Data) → (read_universe d).patterns ≡ []
+unfolding read_universe read_labels
+none_universe d =
+    let within : List Data → Reading (List Label) = λ items. reading_within (to_field (codes "labels")) (read_labels items) in
+    none_then (check_only_fields file_fields d) (λ _. required_items (codes "labels") d >>= within) (none_only_fields file_fields d) (λ _.
+    none_then (required_items (codes "labels") d) within (none_required_items (codes "labels") d) (λ items.
+    none_within (to_field (codes "labels")) (read_labels items)
+    (none_then (check_count max_labels (length items)) (λ _. read_items read_next_label [] items) refl (λ _. none_items read_next_label none_label [] items))))
+
+pub none_universe_file : (bytes : List ℕ) → (read_universe_file bytes).patterns ≡ []
+unfolding read_universe_file
+none_universe_file bytes = none_then (read_json bytes) read_universe (none_json bytes) none_universe
+
+-- so a refusal is the first fault
+pub file_refuses : (bytes : List ℕ) (r : Refusal) → MayRefuse (read_universe_file bytes) r → (read_universe_file bytes).result ≡ Err r
+file_refuses bytes r (inl h) = h
+file_refuses bytes r (inr h) =
+    let none : IsPatternRefusal [] r = rw (none_universe_file bytes) at h in
+    absurd none

@@ -6,12 +6,12 @@ use Rattle.std.proofs.lemmas.Str.{IsUtf8-from_is_utf8, is_utf8-from_IsUtf8}
 use Rattle.serde_json.specs.Data.{Data}
 use Rattle.serde_json.specs.Read.{read}
 use Rattle.serde_json.specs.View as view
-use Rattle.am_files.specs.Json.{json_of, listed}
+use Rattle.am_files.specs.Json.{json_of, item_list}
 
 -- a list of values, and back
-pub listed-items_of : (ds : List Data) → listed (view.items_of ds) ≡ ds
-listed-items_of [] = refl
-listed-items_of (d ∷ ds) = ap (λ (es : List Data). d ∷ es) (listed-items_of ds)
+pub item_list-items_of : (ds : List Data) → item_list (view.items_of ds) ≡ ds
+item_list-items_of [] = refl
+item_list-items_of (d ∷ ds) = ap (λ (es : List Data). d ∷ es) (item_list-items_of ds)
 
 -- what is read from text is the value of its bytes
 pub json_of_text : (bytes : List ℕ) (d : Data) → IsUtf8 bytes → read bytes ≡ Some d → json_of bytes ≡ Some d

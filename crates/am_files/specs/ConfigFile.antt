@@ -1,23 +1,30 @@
--- The configuration file: which JSON value says which configuration. (Alertmanager configuration reference.)
+-- The configuration file: which JSON value says which configuration.
+-- (Alertmanager configuration reference.)
 use Rattle.std.specs.Prelude.{◌≡◌, ◌≢◌, ◌⊎◌, ◌≤◌, ◌+◌, ℕ, max, List, [], ◌∷◌, ◌++◌, length, Bool, true, false, ◌&&◌, nat_lt, IsTrue, Option, Some, None, option_and_then, position, codes, ⊤}
-use Rattle.std.specs.List.{IsDistinct}
-use Rattle.serde_json.specs.Data.{Data, string, boolean, object, Members, no_members, member}
+use Rattle.std.specs.List.{IsDistinct, AllZip, flat_map}
+use Rattle.serde_json.specs.Data.{Data, string, boolean, object, Members}
 use Rattle.am_universe.specs.Text.{same_text}
 use Rattle.am_labels.specs.Matcher.{Condition, max_matchers}
 use Rattle.am_labels.specs.MatcherText.{Spells}
 use Rattle.am_labels.specs.MatcherRefusals.{have_sound_values}
 use Rattle.am_labels.specs.declared.op.Op.{Op}
 use Rattle.am_labels.specs.declared.op.Op.TheVariants.{Equal, Matches}
-use Rattle.am_files.specs.Json.{json_of, field, items_of, HasOnly, Each}
-use Rattle.am_files.specs.Reading.{max_bytes}
+use Rattle.am_files.specs.declared.limits.TheConstants.{MAX_FILE_BYTES, MAX_RECEIVERS, MAX_ROUTES, MAX_LEVELS}
+use Rattle.am_files.specs.Json.{json_of, field, items_of, member_list, HasOnlyFields}
 
 -- ---- Configurations.
 
+-- What a route says of itself: the position of its receiver, its matchers, and whether later siblings are tried after it.
+-- (Reference, "route".)
+pub record RouteSettings : Type 0 where
+  pub receiver : ℕ
+  pub matchers : List Condition
+  pub continues : Bool
+
 mutual
-  -- A route: the position of its receiver, its matchers, whether later siblings are tried after it, and its children.
-  -- (Reference, "route".)
+  -- a route: what it says of itself, and its children
   pub data RouteTree : Type 0 where
-    route : ℕ → List Condition → Bool → Routes → RouteTree
+    route : RouteSettings → Routes → RouteTree
 
   -- the children of a route, in order
   pub data Routes : Type 0 where
@@ -34,26 +41,30 @@ abbrev pub routes_of : List RouteTree → Routes
 routes_of [] = no_routes
 routes_of (t ∷ ts) = next_route t (routes_of ts)
 
--- the matchers of a route
+-- what a route says of itself
+abbrev pub settings_of : RouteTree → RouteSettings
+settings_of (route settings children) = settings
+
+-- its matchers
 abbrev pub matchers_of : RouteTree → List Condition
-matchers_of (route receiver matchers continues children) = matchers
+matchers_of t = (settings_of t).matchers
 
 -- the position of its receiver
 abbrev pub receiver_of : RouteTree → ℕ
-receiver_of (route receiver matchers continues children) = receiver
+receiver_of t = (settings_of t).receiver
 
 -- whether later siblings are tried after it
 abbrev pub continues_of : RouteTree → Bool
-continues_of (route receiver matchers continues children) = continues
+continues_of t = (settings_of t).continues
 
 -- its children
 abbrev pub children_of : RouteTree → Routes
-children_of (route receiver matchers continues children) = children
+children_of (route settings children) = children
 
 -- how many routes there are
 abbrev mutual
   pub route_count : RouteTree → ℕ
-  route_count (route receiver matchers continues children) = 1 + routes_count children
+  route_count (route settings children) = 1 + routes_count children
 
   pub routes_count : Routes → ℕ
   routes_count no_routes = 0
@@ -62,7 +73,7 @@ abbrev mutual
 -- in how many levels they lie, the route itself in the first
 abbrev mutual
   pub route_levels : RouteTree → ℕ
-  route_levels (route receiver matchers continues children) = 1 + routes_levels children
+  route_levels (route settings children) = 1 + routes_levels children
 
   pub routes_levels : Routes → ℕ
   routes_levels no_routes = 0
@@ -71,35 +82,37 @@ abbrev mutual
 -- each receiver's position is below this number
 abbrev mutual
   pub has_receivers_below : ℕ → RouteTree → Bool
-  has_receivers_below count (route receiver matchers continues children) = nat_lt receiver count && have_receivers_below count children
+  has_receivers_below count (route settings children) = nat_lt settings.receiver count && have_receivers_below count children
 
   pub have_receivers_below : ℕ → Routes → Bool
   have_receivers_below count no_routes = true
   have_receivers_below count (next_route t ts) = has_receivers_below count t && have_receivers_below count ts
 
--- the most receivers (this project's own)
-abbrev pub max_receivers : ℕ
-max_receivers = 1024
-
--- the most routes (this project's own)
-abbrev pub max_routes : ℕ
-max_routes = 1024
-
--- the most levels that they lie in (this project's own)
-abbrev pub max_levels : ℕ
-max_levels = 32
-
--- What holds of every configuration that is read: each receiver is declared, the top-level route has no matchers, and there
--- are no more routes and levels than may be.
+-- What holds of every configuration that is read: each receiver is declared, the top-level route has no matchers, and
+-- there are no more routes and levels than may be.
 pub record IsConfig (c : Configuration) : Type 0 where
-  pub in_range : IsTrue (has_receivers_below (length c.receivers) c.root)
-  pub unmatched : length (matchers_of c.root) ≡ 0
-  pub few : route_count c.root ≤ max_routes
-  pub shallow : route_levels c.root ≤ max_levels
+  pub receivers_declared : IsTrue (has_receivers_below (length c.receivers) c.root)
+  pub root_unmatched : length (matchers_of c.root) ≡ 0
+  pub routes_within_limit : route_count c.root ≤ MAX_ROUTES
+  pub levels_within_limit : route_levels c.root ≤ MAX_LEVELS
 
 -- the fields of a route; how alerts are grouped, and when they are sent, is not read
 abbrev pub route_fields : List (List ℕ)
-route_fields = codes "receiver" ∷ codes "matchers" ∷ codes "match" ∷ codes "match_re" ∷ codes "continue" ∷ codes "routes" ∷ codes "group_by" ∷ codes "group_wait" ∷ codes "group_interval" ∷ codes "repeat_interval" ∷ codes "mute_time_intervals" ∷ codes "active_time_intervals" ∷ []
+route_fields =
+    codes "receiver" ∷ codes "matchers" ∷ codes "match" ∷ codes "match_re" ∷ codes "continue" ∷ codes "routes"
+    ∷ codes "group_by" ∷ codes "group_wait" ∷ codes "group_interval" ∷ codes "repeat_interval"
+    ∷ codes "mute_time_intervals" ∷ codes "active_time_intervals" ∷ []
+
+-- the names of three fields with matchers: an array of texts, and two objects of names and texts, those of the first
+-- for `=` and those of the second for `=~`
+pub record MatcherFields : Type 0 where
+  pub texts : List ℕ
+  pub equalities : List ℕ
+  pub patterns : List ℕ
+
+-- those of a route (reference, "route"; the last two are deprecated)
+abbrev pub route_matcher_fields : MatcherFields
+route_matcher_fields = record { texts = codes "matchers"; equalities = codes "match"; patterns = codes "match_re" }
 
 -- ---- Which value says which configuration.
 
@@ -124,54 +137,53 @@ abbrev pub SaysReceiver : List (List ℕ) → Option ℕ → Data → ℕ → Ty
 SaysReceiver names parent d receiver = NamesReceiver names d receiver ⊎ InheritsReceiver parent d receiver
 
 -- a text of matchers (reference, "matcher")
-abbrev pub SaysText : Data → List Condition → Type 0
-SaysText d matchers = (text : List ℕ) × (d ≡ string text) × Spells text matchers
-
--- lists of matchers, one behind the other
-abbrev pub joined : List (List Condition) → List Condition
-joined [] = []
-joined (ms ∷ more) = ms ++ joined more
+abbrev pub SaysMatcherText : Data → List Condition → Type 0
+SaysMatcherText d matchers = (text : List ℕ) × (d ≡ string text) × Spells text matchers
 
 -- a field with an array, which may be absent; then there are no items
 abbrev pub HasItems : List ℕ → Data → List Data → Type 0
 HasItems key d items = ((field key d ≡ None) × (items ≡ [])) ⊎ (option_and_then items_of (field key d) ≡ Some items)
 
--- each pair of a name and a text says a matcher with this operator
-abbrev pub PairsSay : Op → Members → List Condition → Type 0
-PairsSay op no_members [] = ⊤
-PairsSay op no_members (m ∷ ms) = ⊥
-PairsSay op (member key d rest) [] = ⊥
-PairsSay op (member key d rest) (m ∷ ms) = ((m.name ≡ key) × (key ≢ []) × (m.op ≡ op) × (d ≡ string m.value)) × PairsSay op rest ms
+-- a name, which is not empty, with a text
+abbrev pub SaysNamedText : List ℕ × Data → List ℕ → List ℕ → Type 0
+SaysNamedText pair name text = (name ≡ pair.0) × (pair.0 ≢ []) × (pair.1 ≡ string text)
+
+-- a pair of a name and a text says a matcher with this operator
+abbrev pub SaysMatcherPair : Op → List ℕ × Data → Condition → Type 0
+SaysMatcherPair op pair m = SaysNamedText pair m.name m.value × (m.op ≡ op)
 
 -- a field with an object of names and texts, which may be absent; then there are no matchers
 abbrev pub SaysPairs : Op → List ℕ → Data → List Condition → Type 0
-SaysPairs op key d matchers = ((field key d ≡ None) × (matchers ≡ [])) ⊎ ((members : Members) × (field key d ≡ Some (object members)) × PairsSay op members matchers)
+SaysPairs op key d matchers =
+    ((field key d ≡ None) × (matchers ≡ []))
+    ⊎ ((members : Members) × (field key d ≡ Some (object members)) × AllZip (SaysMatcherPair op) (member_list members) matchers)
 
--- The matchers of a route: those of the texts in `matchers`, then the pairs in `match`, then those in `match_re`, whose
--- texts are patterns. (Reference, "route"; the last two are deprecated.)
-pub record SaysMatchers (d : Data) (matchers : List Condition) : Type 0 where
+-- The matchers of three fields, one behind the other: those of the texts, then the pairs for `=`, then those for `=~`,
+-- whose texts are patterns. (Reference, "route" and "inhibit_rule".)
+pub record SaysMatchers (fields : MatcherFields) (d : Data) (matchers : List Condition) : Type 0 where
   pub items : List Data
-  pub is_array : HasItems (codes "matchers") d items
+  pub is_array : HasItems fields.texts d items
   pub lists : List (List Condition)
-  pub texts : Each SaysText items lists
-  pub equal : List Condition
-  pub match : SaysPairs Equal (codes "match") d equal
-  pub like : List Condition
-  pub match_re : SaysPairs Matches (codes "match_re") d like
-  pub all : matchers ≡ joined lists ++ (equal ++ like)
+  pub texts : AllZip SaysMatcherText items lists
+  pub from_match : List Condition
+  pub match : SaysPairs Equal fields.equalities d from_match
+  pub from_match_re : List Condition
+  pub match_re : SaysPairs Matches fields.patterns d from_match_re
+  pub all : matchers ≡ flat_map (λ ms. ms) lists ++ (from_match ++ from_match_re)
   pub few : length matchers ≤ max_matchers
   pub sound : IsTrue (have_sound_values matchers)
 
 -- whether later siblings are tried, which they are not where the field is absent (reference, "route": `continue`)
 abbrev pub SaysContinue : Data → Bool → Type 0
-SaysContinue d continues = ((field (codes "continue") d ≡ None) × (continues ≡ false)) ⊎ (field (codes "continue") d ≡ Some (boolean continues))
+SaysContinue d continues =
+    ((field (codes "continue") d ≡ None) × (continues ≡ false)) ⊎ (field (codes "continue") d ≡ Some (boolean continues))
 
 -- what a route says of itself; its children's values say the children
-pub record SaysOneRoute (names : List (List ℕ)) (parent : Option ℕ) (d : Data) (receiver : ℕ) (matchers : List Condition) (continues : Bool) (SaysChildren : List Data → Type 0) : Type 0 where
-  pub only : HasOnly route_fields d
-  pub receiver_is : SaysReceiver names parent d receiver
-  pub matchers_are : SaysMatchers d matchers
-  pub continues_is : SaysContinue d continues
+pub record SaysRouteFields (names : List (List ℕ)) (parent : Option ℕ) (d : Data) (settings : RouteSettings) (SaysChildren : List Data → Type 0) : Type 0 where
+  pub only : HasOnlyFields route_fields d
+  pub receiver_is : SaysReceiver names parent d settings.receiver
+  pub matchers_are : SaysMatchers route_matcher_fields d settings.matchers
+  pub continues_is : SaysContinue d settings.continues
   pub items : List Data
   pub is_array : HasItems (codes "routes") d items
   pub children : SaysChildren items
@@ -179,7 +191,8 @@ pub record SaysOneRoute (names : List (List ℕ)) (parent : Option ℕ) (d : Dat
 -- A value says a route, below a parent with this receiver if there is one. (Reference, "route".)
 abbrev mutual
   pub SaysRoute : List (List ℕ) → Option ℕ → Data → RouteTree → Type 0
-  SaysRoute names parent d (route receiver matchers continues children) = SaysOneRoute names parent d receiver matchers continues (λ items. SaysRoutes names receiver items children)
+  SaysRoute names parent d (route settings children) =
+      SaysRouteFields names parent d settings (λ items. SaysRoutes names settings.receiver items children)
 
   pub SaysRoutes : List (List ℕ) → ℕ → List Data → Routes → Type 0
   SaysRoutes names receiver [] no_routes = ⊤
@@ -192,17 +205,17 @@ abbrev mutual
 pub record SaysConfig (d : Data) (c : Configuration) : Type 0 where
   pub items : List Data
   pub is_array : option_and_then items_of (field (codes "receivers") d) ≡ Some items
-  pub names : Each SaysName items c.receivers
-  pub few : length c.receivers ≤ max_receivers
+  pub names : AllZip SaysName items c.receivers
+  pub few : length c.receivers ≤ MAX_RECEIVERS
   pub distinct : IsDistinct same_text c.receivers
   pub root : Data
   pub has_root : field (codes "route") d ≡ Some root
   pub says_root : SaysRoute c.receivers None root c.root
   pub unmatched : matchers_of c.root ≡ []
-  pub few_routes : route_count c.root ≤ max_routes
-  pub few_levels : route_levels c.root ≤ max_levels
+  pub few_routes : route_count c.root ≤ MAX_ROUTES
+  pub few_levels : route_levels c.root ≤ MAX_LEVELS
   pub no_rules : field (codes "inhibit_rules") d ≡ None
 
 -- the bytes of a file say what their JSON value says
 abbrev pub FileSaysConfig : List ℕ → Configuration → Type 0
-FileSaysConfig bytes c = (length bytes ≤ max_bytes) × (d : Data) × (json_of bytes ≡ Some d) × SaysConfig d c
+FileSaysConfig bytes c = (length bytes ≤ MAX_FILE_BYTES) × (d : Data) × (json_of bytes ≡ Some d) × SaysConfig d c

@@ -1,16 +1,24 @@
--- The configuration that a `Config` stands for, and what a route says of itself.
+-- The configuration that a `Config` stands for, and what is read of a route before its children.
 use Rattle.std.specs.Prelude.{map}
 use Rattle.serde_json.specs.View.{view}
 use Rattle.am_files.specs.declared.config.Config.{Config}
 use Rattle.am_files.specs.declared.config_file as declared
-use Rattle.am_files.specs.ConfigFile.{Configuration}
-use Rattle.am_files.specs.ConfigReading.{Head}
+use Rattle.am_files.specs.declared.route_matchers as keys
+use Rattle.am_files.specs.ConfigFile.{Configuration, MatcherFields}
+use Rattle.am_files.specs.ConfigReading.{RouteFields}
 use Rattle.am_files.specs.RouteView.{route_view, names_of}
 
 -- the configuration that a `Config` stands for
 abbrev pub config_view : Config → Configuration
 config_view c = record { receivers = names_of c.receivers.items; root = route_view c.root }
 
--- what a route says of itself, with the JSON values of its children
-abbrev pub head_view : declared.Head.Head → Head
-head_view h = record { receiver = h.receiver; matchers = h.matchers; continues = h.continues; items = map view h.items.now }
+-- what is read of a route before its children, with their JSON values
+abbrev pub fields_view : declared.RouteFields.RouteFields → RouteFields
+fields_view f = record {
+  settings = record { receiver = f.receiver; matchers = f.matchers; continues = f.continues };
+  items = map view f.items.now;
+}
+
+-- the names of three fields with matchers
+abbrev pub matcher_fields_view : keys.MatcherFields.MatcherFields → MatcherFields
+matcher_fields_view f = record { texts = f.texts.now; equalities = f.equalities.now; patterns = f.patterns.now }

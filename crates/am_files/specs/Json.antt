@@ -18,12 +18,12 @@ abbrev pub is_null : Data → Bool
 is_null d = is_some (as_null d)
 
 -- A field that is `null` is absent. (This project's choice.)
-abbrev pub unless_null : Data → Option Data
-unless_null d = if is_null d then None else Some d
+abbrev pub non_null : Data → Option Data
+non_null d = if is_null d then None else Some d
 
 -- the value of a field
 abbrev pub field : List ℕ → Data → Option Data
-field key d = option_and_then unless_null (get key d)
+field key d = option_and_then non_null (get key d)
 
 -- the key is one of these names
 abbrev pub is_one_of : List ℕ → List (List ℕ) → Bool
@@ -34,36 +34,34 @@ abbrev pub is_unknown : List (List ℕ) → List ℕ → Data → Bool
 is_unknown known key d = not (is_null d) && not (is_one_of key known)
 
 -- the lesser of two keys, by their bytes
-abbrev pub lesser : List ℕ → Option (List ℕ) → List ℕ
-lesser key None = key
-lesser key (Some other) = match_ordering (slice_cmp nat_cmp key other) key key other
+abbrev pub lesser_key : List ℕ → Option (List ℕ) → List ℕ
+lesser_key key None = key
+lesser_key key (Some other) = match_ordering (slice_cmp nat_cmp key other) key key other
 
 -- the least field that is none of these
 abbrev pub unknown_field : List (List ℕ) → Members → Option (List ℕ)
 unknown_field known no_members = None
-unknown_field known (member key d rest) = if is_unknown known key d then Some (lesser key (unknown_field known rest)) else unknown_field known rest
+unknown_field known (member key d rest) = if is_unknown known key d then Some (lesser_key key (unknown_field known rest)) else unknown_field known rest
 
 -- the items as a list
-abbrev pub listed : Items → List Data
-listed no_items = []
-listed (item d ds) = d ∷ listed ds
+abbrev pub item_list : Items → List Data
+item_list no_items = []
+item_list (item d ds) = d ∷ item_list ds
 
 -- the items of an array, in order
 abbrev pub items_of : Data → Option (List Data)
-items_of d = option_map listed (as_array d)
+items_of d = option_map item_list (as_array d)
+
+-- the members as a list of keys and values
+abbrev pub member_list : Members → List (List ℕ × Data)
+member_list no_members = []
+member_list (member key d rest) = (key, d) ∷ member_list rest
 
 -- each member has one of these names, or is `null`
-abbrev pub AreOnly : List (List ℕ) → Members → Type 0
-AreOnly known no_members = ⊤
-AreOnly known (member key d rest) = ((d ≡ null) ⊎ IsTrue (is_one_of key known)) × AreOnly known rest
+abbrev pub AreOnlyFields : List (List ℕ) → Members → Type 0
+AreOnlyFields known no_members = ⊤
+AreOnlyFields known (member key d rest) = ((d ≡ null) ⊎ IsTrue (is_one_of key known)) × AreOnlyFields known rest
 
 -- an object that has no fields but these
-abbrev pub HasOnly : List (List ℕ) → Data → Type 0
-HasOnly known d = (members : Members) × (d ≡ object members) × AreOnly known members
-
--- each item says the value at its place
-abbrev pub Each : {A : Type 0} → (Data → A → Type 0) → List Data → List A → Type 0
-Each Says [] [] = ⊤
-Each Says [] (x ∷ xs) = ⊥
-Each Says (d ∷ ds) [] = ⊥
-Each Says (d ∷ ds) (x ∷ xs) = Says d x × Each Says ds xs
+abbrev pub HasOnlyFields : List (List ℕ) → Data → Type 0
+HasOnlyFields known d = (members : Members) × (d ≡ object members) × AreOnlyFields known members

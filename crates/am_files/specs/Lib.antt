@@ -2,7 +2,6 @@ pub mod Json
 pub mod Pointer
 pub mod Reading
 pub mod UniverseFile
-pub mod Judged
 pub mod ConfigFile
 pub mod ConfigReading
 pub mod RouteView

@@ -1,43 +1,109 @@
 -- Reading a JSON value field by field, with the first fault that is met. (This project's own.)
-use Rattle.std.specs.Prelude.{◌≡◌, ◌≢◌, ℕ, List, [], ◌∷◌, ◌++◌, length, nat_lt, if◌then◌else◌, Option, Some, None, ok_or, Result, Ok, Err, IsErrAnd, string_bytes, ⊤}
+use Rattle.std.specs.Prelude.{◌≡◌, ◌≢◌, ◌⊎◌, ℕ, List, [], ◌∷◌, ◌++◌, length, map, nat_lt, if◌then◌else◌, Option, Some, None, option_map, ok_or, Result, Ok, Err, IsErrAnd, string_bytes, ⊤}
+use Rattle.std.specs.Result.{result_map_both}
 use Rattle.serde_json.specs.Data.{Data, Members}
-use Rattle.serde_json.specs.Find.{as_object, as_str}
+use Rattle.serde_json.specs.Find as find
 use Rattle.am_universe.specs.declared.kind.Kind.{Kind}
 use Rattle.am_universe.specs.declared.kind.Kind.TheVariants as kinds
 use Rattle.am_universe.specs.declared.place.Place.{Place}
 use Rattle.am_universe.specs.declared.place.Place.TheVariants as places
 use Rattle.am_universe.specs.declared.fault.Fault.{Fault}
-use Rattle.am_files.specs.declared.refusal.ReadError.{ReadError}
-use Rattle.am_files.specs.declared.refusal.ReadError.TheVariants as errors
+use Rattle.am_files.specs.declared.read_error.ReadError.{ReadError}
+use Rattle.am_files.specs.declared.read_error.ReadError.TheVariants as errors
+use Rattle.am_files.specs.declared.limits.TheConstants.{MAX_FILE_BYTES}
 use Rattle.am_files.specs.Json.{json_of, field, unknown_field, items_of}
-use Rattle.am_files.specs.Pointer.{Refusal, here, within, under, to_field, to_item}
+use Rattle.am_files.specs.Pointer.{Refusal, refusal_here, refusal_within, to_field, to_item}
+
+-- ---- Readings.
+
+-- What reading a value comes to. Whether the engine builds a pattern that its grammar reads is the engine's to say, so a
+-- refusal is left open at each pattern of the profile that is met. All else is exact.
+pub record Reading (A : Type 0) : Type 0 where
+  -- the value, or the first fault, where the engine builds each pattern that its grammar reads
+  pub result : Result A Refusal
+  -- the pointers of the patterns of the profile that were met, in order
+  pub patterns : List (List ℕ)
+
+-- a result, and no pattern is met
+abbrev pub without_patterns : {A : Type 0} → Result A Refusal → Reading A
+without_patterns result = record { result = result; patterns = [] }
+
+-- the value is accepted
+abbrev pub accept : {A : Type 0} → A → Reading A
+accept x = without_patterns (Ok x)
+
+-- the value that there is, or else this refusal
+abbrev pub accept_some : {A : Type 0} → Option A → Refusal → Reading A
+accept_some found r = without_patterns (ok_or found r)
+
+-- refused so
+abbrev pub refuse : {A : Type 0} → Refusal → Reading A
+refuse r = without_patterns (Err r)
+
+-- refused so, where there is a refusal
+abbrev pub err_where : Option Refusal → Result ⊤ Refusal
+err_where None = Ok tt
+err_where (Some r) = Err r
+
+abbrev pub refuse_where : Option Refusal → Reading ⊤
+refuse_where found = without_patterns (err_where found)
+
+-- the result of what is read of a value, or the refusal that there is none
+abbrev pub result_then : {A B : Type 0} → Result A Refusal → (A → Result B Refusal) → Result B Refusal
+result_then (Ok x) f = f x
+result_then (Err r) f = Err r
+
+-- the patterns that are met in reading of a value, which are none where there is none
+abbrev pub patterns_then : {A : Type 0} → Result A Refusal → (A → List (List ℕ)) → List (List ℕ)
+patterns_then (Ok x) f = f x
+patterns_then (Err r) f = []
 
 -- one reading, and then another of what it gave; the first refusal counts
 infixl 10 ◌>>=◌
-abbrev pub ◌>>=◌ : {A B : Type 0} → Result A Refusal → (A → Result B Refusal) → Result B Refusal
-(Ok x) >>= f = f x
-(Err r) >>= f = Err r
+abbrev pub ◌>>=◌ : {A B : Type 0} → Reading A → (A → Reading B) → Reading B
+m >>= f = record {
+  result = result_then m.result (λ x. (f x).result);
+  patterns = m.patterns ++ patterns_then m.result (λ x. (f x).patterns);
+}
 
--- the error tells of this refusal, or that memory ran out
-abbrev pub Tells : ReadError → Refusal → Type 0
-Tells errors.Memory r = Unit {0}
-Tells (errors.Refused found) r = found ≡ r
+-- what reading a part comes to, seen from the value that has the part
+abbrev pub reading_within : {A : Type 0} → List ℕ → Reading A → Reading A
+reading_within part m = record {
+  result = result_map_both (λ x. x) (refusal_within part) m.result;
+  patterns = map (λ pointer. part ++ pointer) m.patterns;
+}
 
--- What a reader fails with is what the reading gives, unless memory ran out.
-abbrev pub Fails : {Y : Type 0} → ReadError → Result Y Refusal → Type 0
+-- the refusal is that of a pattern at one of these pointers
+abbrev pub IsPatternRefusal : List (List ℕ) → Refusal → Type 0
+IsPatternRefusal [] r = ⊥
+IsPatternRefusal (pointer ∷ more) r = (r ≡ record { kind = kinds.Pattern; pointer = pointer }) ⊎ IsPatternRefusal more r
+
+-- A reading may refuse so: it is the first fault, or the refusal of a pattern that was met before it.
+abbrev pub MayRefuse : {A : Type 0} → Reading A → Refusal → Type 0
+MayRefuse m r = (m.result ≡ Err r) ⊎ IsPatternRefusal m.patterns r
+
+-- ---- What a reader returns.
+
+-- the error is this refusal, or want of memory
+abbrev pub IsRefusalOrMemory : ReadError → Refusal → Type 0
+IsRefusalOrMemory errors.Memory r = Unit {0}
+IsRefusalOrMemory (errors.Refused found) r = found ≡ r
+
+-- What a reader fails with is a refusal of the reading, unless memory ran out.
+abbrev pub Fails : {Y : Type 0} → ReadError → Reading Y → Type 0
 Fails errors.Memory reading = Unit {0}
-Fails (errors.Refused r) reading = reading ≡ Err r
+Fails (errors.Refused r) reading = MayRefuse reading r
 
 -- What a reader returned, seen by view, is what the reading gives, unless memory ran out.
-abbrev pub Gives : {X Y : Type 0} → (X → Y) → Result X ReadError → Result Y Refusal → Type 0
-Gives view (Ok x) reading = reading ≡ Ok (view x)
+abbrev pub Gives : {X Y : Type 0} → (X → Y) → Result X ReadError → Reading Y → Type 0
+Gives view (Ok x) reading = reading.result ≡ Ok (view x)
 Gives view (Err e) reading = Fails e reading
 
 -- What reading a part returned, seen from the value that has the part.
-abbrev pub IsUnder : {X : Type 0} → List ℕ → Result X ReadError → Result X ReadError → Type 0
-IsUnder part (Ok x) seen = seen ≡ Ok x
-IsUnder part (Err errors.Memory) seen = seen ≡ Err errors.Memory
-IsUnder part (Err (errors.Refused r)) seen = IsErrAnd seen (λ e. Tells e (within part r))
+abbrev pub IsReadingWithin : {X : Type 0} → List ℕ → Result X ReadError → Result X ReadError → Type 0
+IsReadingWithin part (Ok x) seen = seen ≡ Ok x
+IsReadingWithin part (Err errors.Memory) seen = seen ≡ Err errors.Memory
+IsReadingWithin part (Err (errors.Refused r)) seen = IsErrAnd seen (λ e. IsRefusalOrMemory e (refusal_within part r))
 
 -- ---- The fault of a file.
 
@@ -45,82 +111,99 @@ IsUnder part (Err (errors.Refused r)) seen = IsErrAnd seen (λ e. Tells e (withi
 abbrev pub refusal_of : Fault → Refusal
 refusal_of fault = record { kind = fault.kind; pointer = string_bytes fault.pointer }
 
+-- a refusal in the file at this place
+pub record IsFaultAt (place : Place) (r : Refusal) (fault : Fault) : Type 0 where
+  pub memory : fault.kind ≢ kinds.Memory
+  pub no_write : fault.kind ≢ kinds.Write
+  pub place_is : fault.place ≡ place
+  pub refusal_is : refusal_of fault ≡ r
+
+-- want of memory
+pub record IsMemoryFault (fault : Fault) : Type 0 where
+  pub kind_is : fault.kind ≡ kinds.Memory
+  pub place_is : fault.place ≡ places.Memory
+  pub pointer_is : string_bytes fault.pointer ≡ []
+
 -- the fault that a reader's error is, in the file at this place
 abbrev pub IsFaultOf : Place → ReadError → Fault → Type 0
-IsFaultOf place errors.Memory fault = (fault.kind ≡ kinds.Memory) × (fault.place ≡ places.Memory) × (string_bytes fault.pointer ≡ [])
-IsFaultOf place (errors.Refused r) fault = (fault.kind ≢ kinds.Memory) × (fault.place ≡ place) × (refusal_of fault ≡ r)
+IsFaultOf place errors.Memory fault = IsMemoryFault fault
+IsFaultOf place (errors.Refused r) fault = IsFaultAt place r fault
 
 -- ---- Checks.
 
 -- refused here, where there is a cause
-abbrev pub unless : Option Kind → Result ⊤ Refusal
-unless None = Ok tt
-unless (Some kind) = Err (here kind)
+abbrev pub refuse_for : Option Kind → Reading ⊤
+refuse_for cause = refuse_where (option_map refusal_here cause)
 
--- an array, or another list, has no more than so many items
-abbrev pub at_most : ℕ → ℕ → Result ⊤ Refusal
-at_most limit count = if nat_lt limit count then Err (here kinds.Limit) else Ok tt
+-- there are no more than so many
+abbrev pub check_count : ℕ → ℕ → Reading ⊤
+check_count limit count = refuse_for (if nat_lt limit count then Some kinds.Limit else None)
 
 -- ---- The kinds of values.
 
 -- the members of an object
-abbrev pub object_in : Data → Result Members Refusal
-object_in d = ok_or (as_object d) (here kinds.Shape)
+abbrev pub as_object : Data → Reading Members
+as_object d = accept_some (find.as_object d) (refusal_here kinds.Shape)
 
 -- the text that the value is
-abbrev pub text_in : Data → Result (List ℕ) Refusal
-text_in d = ok_or (as_str d) (here kinds.Shape)
+abbrev pub as_text : Data → Reading (List ℕ)
+as_text d = accept_some (find.as_str d) (refusal_here kinds.Shape)
 
 -- the items of an array
-abbrev pub items_in : Data → Result (List Data) Refusal
-items_in d = ok_or (items_of d) (here kinds.Shape)
+abbrev pub as_items : Data → Reading (List Data)
+as_items d = accept_some (items_of d) (refusal_here kinds.Shape)
 
 -- ---- The fields of an object.
 
 -- refused at this field, where there is one
-abbrev pub refuse_field : Option (List ℕ) → Result ⊤ Refusal
-refuse_field None = Ok tt
-refuse_field (Some key) = Err (within (to_field key) (here kinds.UnknownField))
+abbrev pub refuse_unknown_field : Option (List ℕ) → Reading ⊤
+refuse_unknown_field found = refuse_where (option_map (λ key. refusal_within (to_field key) (refusal_here kinds.UnknownField)) found)
 
 -- an object that has no fields but these
-unfoldable pub only_fields : List (List ℕ) → Data → Result ⊤ Refusal
-only_fields known d = do
-  members ← object_in d
-  refuse_field (unknown_field known members)
+unfoldable pub check_only_fields : List (List ℕ) → Data → Reading ⊤
+check_only_fields known d = do
+  members ← as_object d
+  refuse_unknown_field (unknown_field known members)
 
 -- a field that has to be there
-abbrev pub required : List ℕ → Data → Result Data Refusal
-required key d = ok_or (field key d) (within (to_field key) (here kinds.Shape))
+abbrev pub required_field : List ℕ → Data → Reading Data
+required_field key d = accept_some (field key d) (refusal_within (to_field key) (refusal_here kinds.Shape))
 
 -- the text in a field that has to be there
-unfoldable pub required_text : List ℕ → Data → Result (List ℕ) Refusal
+unfoldable pub required_text : List ℕ → Data → Reading (List ℕ)
 required_text key d = do
-  value ← required key d
-  under (to_field key) (text_in value)
+  value ← required_field key d
+  reading_within (to_field key) (as_text value)
 
 -- the items of the array in a field that has to be there
-unfoldable pub required_items : List ℕ → Data → Result (List Data) Refusal
+unfoldable pub required_items : List ℕ → Data → Reading (List Data)
 required_items key d = do
-  value ← required key d
-  under (to_field key) (items_in value)
+  value ← required_field key d
+  reading_within (to_field key) (as_items value)
 
--- ---- The items of an array.
+-- ---- One behind the other.
 
--- The items behind those that were read already; `read` reads one behind others.
-unfoldable pub each : {A : Type 0} → (List A → Data → Result A Refusal) → List A → List Data → Result (List A) Refusal
-each read before [] = Ok before
-each read before (d ∷ ds) = do
-  x ← under (to_item (length before)) (read before d)
-  each read (before ++ x ∷ []) ds
+-- what is read of a list, where `read` reads one behind what was read before it
+unfoldable pub read_each : {A X : Type 0} → (A → X → Reading A) → A → List X → Reading A
+read_each read before [] = accept before
+read_each read before (x ∷ xs) = do
+  next ← read before x
+  read_each read next xs
+
+-- an item of an array, whose position is the number of those before it, with them
+unfoldable pub read_next_item : {A : Type 0} → (List A → Data → Reading A) → List A → Data → Reading (List A)
+read_next_item read before d = do
+  x ← reading_within (to_item (length before)) (read before d)
+  accept (before ++ x ∷ [])
+
+-- the items behind those that were read already, where `read` reads one behind others
+abbrev pub read_items : {A : Type 0} → (List A → Data → Reading A) → List A → List Data → Reading (List A)
+read_items read = read_each (read_next_item read)
 
 -- ---- A file.
 
--- the most bytes of a file
-abbrev pub max_bytes : ℕ
-max_bytes = 16777216
-
 -- the JSON value of a file
-unfoldable pub json_in : List ℕ → Result Data Refusal
-json_in bytes = do
-  _ ← at_most max_bytes (length bytes)
-  ok_or (json_of bytes) (here kinds.NotJson)
+unfoldable pub read_json : List ℕ → Reading Data
+read_json bytes = do
+  _ ← check_count MAX_FILE_BYTES (length bytes)
+  accept_some (json_of bytes) (refusal_here kinds.NotJson)

@@ -1,39 +1,31 @@
 //! Reading the configuration file.
 
-ghost use Rattle.std.specs.Prelude.{◌≡◌, ◌≢◌, ◌≤◌, ◌<◌, ◌+◌, [], ◌∷◌, ◌++◌, codes, length, map, Some, None, Ok, Err, IfOk, IfErr, OnOk, string_bytes, option_map, position, is_none};
+ghost use Rattle.std.specs.Prelude.{◌≡◌, ◌≢◌, ◌≤◌, ◌<◌, ◌+◌, [], ◌∷◌, ◌++◌, codes, length, map, Some, None, Ok, Err, IfOk, IfErr, OnOk, string_bytes, option_map, position};
 ghost use Rattle.serde_json.specs.View.{view, members_view};
 ghost use Rattle.am_universe.specs.Text.{same_text};
 ghost use Rattle.am_universe.specs.declared.kind.Kind.TheVariants as kinds;
 ghost use Rattle.am_universe.specs.declared.place.Place.TheVariants as places;
-ghost use Rattle.am_files.specs.Pointer as pointer;
-ghost use Rattle.am_files.specs.Pointer.{to_item, to_field};
-ghost use Rattle.am_files.specs.Reading as plain;
-ghost use Rattle.am_files.specs.Reading.{Gives, refusal_of};
-ghost use Rattle.am_files.specs.Judged as judged;
+ghost use Rattle.am_files.specs.Pointer.{to_item};
+ghost use Rattle.am_files.specs.Reading.{Gives, MayRefuse, refusal_of, reading_within, read_items};
 ghost use Rattle.am_files.specs.RouteView.{route_view, names_of};
-ghost use Rattle.am_files.specs.ConfigView.{config_view, head_view};
-ghost use Rattle.am_files.specs.ConfigFile.{Configuration, FileSaysConfig, max_levels, max_routes, route_count, routes_count, routes_of};
-ghost use Rattle.am_files.specs.ConfigReading.{name_fault, receiver_behind, names_in, receivers_in, inherited, declared, named, receiver_of, receiver_in, truth_of, continues_in, no_rules, route_in, tail_in, matched_in, fields_in, head_in, children_in, children_behind, config_in, config_file};
+ghost use Rattle.am_files.specs.ConfigView.{config_view, fields_view};
+ghost use Rattle.am_files.specs.ConfigFile.{FileSaysConfig, route_count, routes_count, routes_of};
+ghost use Rattle.am_files.specs.ConfigReading.{receiver_name_fault, read_next_receiver, read_receiver_names, read_receivers, parent_receiver, receiver_position, effective_receiver, read_receiver, boolean_or_false, read_continue, refuse_inhibit_rules, read_route, read_route_fields, read_children, read_next_child, read_config, read_config_file};
 ghost use Rattle.am_files.specs.Json.{field};
 
 use crate::config::Config;
 use crate::json::{
-    at_most, field, items, json, object, only_fields, required, required_items, required_text,
-    text, unless,
+    as_items, as_object, as_text, check_count, check_only_fields, field, read_json, refuse_for,
+    required_field, required_items, required_text,
 };
-use crate::matchers::matchers;
+use crate::limits::{MAX_LEVELS, MAX_RECEIVERS, MAX_ROUTES};
 use crate::pointer::{within_field, within_item};
-use crate::refusal::ReadError;
+use crate::read_error::ReadError;
 use crate::route::Route;
+use crate::route_matchers::{MatcherFields, read_matchers};
 use am_labels::{Fault, Kind, Matchers, Place};
 use serde_json::Value;
 use std::alloc::Global;
-
-const MAX_RECEIVERS: usize = 1024;
-
-const MAX_ROUTES: usize = 1024;
-
-const MAX_LEVELS: usize = 32;
 
 /// The fields of a route. How alerts are grouped, and when they are sent, is not read.
 const ROUTE_FIELDS: [&str; 12] = [
@@ -86,103 +78,108 @@ const ROUTE_FIELDS: [&str; 12] = [
 /// at the first that the engine's grammar does not read. `Memory`, at the place `Memory` and the empty pointer, comes only
 /// where memory was refused.
 pub fn read_config(alloc: Global, bytes: &[u8]) -> Result<Config, Fault>
-    ensures found { IfOk result (λ c. (config_file bytes.now).gives ≡ Ok (config_view c)) }
+    ensures found { IfOk result (λ c. (read_config_file bytes.now).result ≡ Ok (config_view c)) }
     ensures says { IfOk result (λ c. FileSaysConfig bytes.now (config_view c)) }
     ensures first { IfErr result (λ fault. fault.kind ≢ kinds.Memory
-        → (fault.place ≡ places.Config) × judged.Refuses (config_file bytes.now) (refusal_of fault)) }
+        → (fault.place ≡ places.Config) × MayRefuse (read_config_file bytes.now) (refusal_of fault)) }
     ensures memory { IfErr result (λ fault. fault.kind ≡ kinds.Memory
         → (fault.place ≡ places.Memory) × (string_bytes fault.pointer ≡ [])) }
     ensures no_write { IfErr result (λ fault. fault.kind ≢ kinds.Write) }
 {
-    match config_file(alloc, bytes) {
+    match read_config_file(alloc, bytes) {
         Ok(config) => Ok(config),
         Err(error) => Err(error.at(alloc, Place::Config)),
     }
 }
 
-#[tactic(auto, unfolding(crate::specs::ConfigReading::config_file))]
-fn config_file(alloc: Global, bytes: &[u8]) -> Result<Config, ReadError>
-    ensures { judged.Gives config_view result (config_file bytes.now) }
+#[tactic(auto, using(crate::proofs::Readings::steps), unfolding(crate::specs::ConfigReading::read_config_file))]
+fn read_config_file(alloc: Global, bytes: &[u8]) -> Result<Config, ReadError>
+    ensures { Gives config_view result (read_config_file bytes.now) }
 {
-    let value = json(alloc, bytes)?;
-    config_in(alloc, &value)
+    let value = read_json(alloc, bytes)?;
+    read_config_object(alloc, &value)
 }
 
-#[tactic(auto, unfolding(crate::specs::ConfigReading::config_in))]
-fn config_in(alloc: Global, value: &Value) -> Result<Config, ReadError>
-    ensures { judged.Gives config_view result (config_in (view value.now)) }
+#[tactic(auto, using(crate::proofs::Readings::steps), unfolding(crate::specs::ConfigReading::read_config))]
+fn read_config_object(alloc: Global, value: &Value) -> Result<Config, ReadError>
+    ensures { Gives config_view result (read_config (view value.now)) }
 {
-    object(alloc, value)?;
-    let receivers = receivers(alloc, value)?;
-    let root = required(alloc, value, "route")?;
-    let root = within_field(alloc, "route", root_route(alloc, &receivers, root))?;
-    no_rules(alloc, value)?;
+    as_object(alloc, value)?;
+    let receivers = read_receivers(alloc, value)?;
+    let root = required_field(alloc, value, "route")?;
+    let root = within_field(alloc, "route", read_root(alloc, &receivers, root))?;
+    refuse_inhibit_rules(alloc, value)?;
     Ok(Config { receivers, root })
 }
 
 /// Inhibition rules are not read yet.
-fn no_rules(alloc: Global, value: &Value) -> Result<(), ReadError>
-    ensures { Gives (λ _. tt) result (no_rules (field (codes "inhibit_rules") (view value.now))) }
+fn refuse_inhibit_rules(alloc: Global, value: &Value) -> Result<(), ReadError>
+    ensures { Gives (λ _. tt) result (refuse_inhibit_rules (field (codes "inhibit_rules") (view value.now))) }
 {
     match field(value, "inhibit_rules") {
         None => Ok(()),
         Some(_) => within_field(
             alloc,
             "inhibit_rules",
-            Err(ReadError::here(alloc, Kind::UnknownField)),
+            Err(ReadError::refused(alloc, Kind::UnknownField)),
         ),
     }
 }
 
 // ---- The receivers.
 
-#[tactic(auto, unfolding(crate::specs::ConfigReading::receivers_in))]
-fn receivers(alloc: Global, value: &Value) -> Result<Vec<String>, ReadError>
-    ensures { Gives (λ names. names_of names.items) result (receivers_in (view value.now)) }
+#[tactic(auto, using(crate::proofs::Readings::steps), unfolding(crate::specs::ConfigReading::read_receivers))]
+fn read_receivers(alloc: Global, value: &Value) -> Result<Vec<String>, ReadError>
+    ensures { Gives (λ names. names_of names.items) result (read_receivers (view value.now)) }
 {
     let items = required_items(alloc, value, "receivers")?;
-    within_field(alloc, "receivers", names(alloc, items))
+    within_field(alloc, "receivers", read_receiver_names(alloc, items))
 }
 
-#[tactic(auto, unfolding(crate::specs::ConfigReading::names_in))]
-fn names(alloc: Global, items: &[Value]) -> Result<Vec<String>, ReadError>
-    ensures { Gives (λ names. names_of names.items) result (names_in (map view items.now)) }
+#[tactic(auto, unfolding(crate::specs::ConfigReading::read_receiver_names))]
+fn read_receiver_names(alloc: Global, items: &[Value]) -> Result<Vec<String>, ReadError>
+    ensures { Gives (λ names. names_of names.items) result (read_receiver_names (map view items.now)) }
 {
-    at_most(alloc, MAX_RECEIVERS, items.len())?;
-    names_behind(alloc, items)
+    check_count(alloc, MAX_RECEIVERS, items.len())?;
+    read_each_receiver(alloc, items)
 }
 
-fn names_behind(alloc: Global, items: &[Value]) -> Result<Vec<String>, ReadError>
-    ensures { Gives (λ names. names_of names.items) result (plain.each receiver_behind [] (map view items.now)) }
+fn read_each_receiver(alloc: Global, items: &[Value]) -> Result<Vec<String>, ReadError>
+    ensures { Gives (λ names. names_of names.items) result (read_items read_next_receiver [] (map view items.now)) }
 {
     let mut names = Vec::new(alloc);
     for item in items {
-        let name = next_name(alloc, names.as_slice(), item)?;
+        let name = read_receiver_item(alloc, names.as_slice(), item)?;
         names.push(name)?;
     }
     Ok(names)
 }
 
 /// The item whose position is the number of names so far.
-fn next_name(alloc: Global, before: &[String], item: &Value) -> Result<String, ReadError>
-    ensures { Gives string_bytes result (pointer.under (to_item (length (names_of before.now))) (receiver_behind (names_of before.now) (view item.now))) }
+fn read_receiver_item(alloc: Global, before: &[String], item: &Value) -> Result<String, ReadError>
+    ensures { Gives string_bytes result
+        (reading_within (to_item (length (names_of before.now))) (read_next_receiver (names_of before.now) (view item.now))) }
 {
-    within_item(alloc, before.len(), name(alloc, before, item))
+    within_item(alloc, before.len(), read_next_receiver(alloc, before, item))
 }
 
 /// The name of a receiver behind others.
-#[tactic(auto, unfolding(crate::specs::ConfigReading::receiver_behind))]
-fn name(alloc: Global, before: &[String], value: &Value) -> Result<String, ReadError>
-    ensures { Gives string_bytes result (receiver_behind (names_of before.now) (view value.now)) }
+#[tactic(auto, using(crate::proofs::Readings::steps), unfolding(crate::specs::ConfigReading::read_next_receiver))]
+fn read_next_receiver(alloc: Global, before: &[String], value: &Value) -> Result<String, ReadError>
+    ensures { Gives string_bytes result (read_next_receiver (names_of before.now) (view value.now)) }
 {
-    object(alloc, value)?;
+    as_object(alloc, value)?;
     let name = required_text(alloc, value, "name")?;
-    within_field(alloc, "name", unless(alloc, name_fault(before, name)))?;
+    within_field(
+        alloc,
+        "name",
+        refuse_for(alloc, receiver_name_fault(before, name)),
+    )?;
     Ok(String::from_str(alloc, name)?)
 }
 
-fn name_fault(before: &[String], name: &str) -> Option<Kind>
-    ensures { result ≡ name_fault (names_of before.now) name.now }
+fn receiver_name_fault(before: &[String], name: &str) -> Option<Kind>
+    ensures { result ≡ receiver_name_fault (names_of before.now) name.now }
 {
     if name.is_empty() {
         return Some(Kind::Empty);
@@ -202,78 +199,48 @@ fn position(names: &[String], name: &str) -> Option<usize>
 
 // ---- The routes.
 
-fn root_route(alloc: Global, names: &[String], value: &Value) -> Result<Route, ReadError>
-    ensures { judged.Gives route_view result (route_in (names_of names.now) max_levels None 0 (view value.now)) }
+fn read_root(alloc: Global, names: &[String], value: &Value) -> Result<Route, ReadError>
+    ensures { Gives route_view result (read_route (names_of names.now) MAX_LEVELS None 0 (view value.now)) }
 {
-    let (root, _) = route(alloc, names, MAX_LEVELS, None, 0, value)?;
+    let (root, _) = read_route(alloc, names, MAX_LEVELS, None, 0, value)?;
     Ok(root)
 }
 
-/// What a route says of itself.
+/// The names of the fields of a route that have its matchers.
+const MATCHER_FIELDS: MatcherFields<'static> = MatcherFields {
+    texts: "matchers",
+    equalities: "match",
+    patterns: "match_re",
+};
+
+/// What is read of a route before its children: what it says of itself, and their values.
 #[derive(Drop)]
-struct Head<'v> {
+struct RouteFields<'v> {
     receiver: usize,
     matchers: Matchers,
     continues: bool,
     items: &'v [Value],
 }
 
-/// What a route says of itself, with so many others before it in preorder.
-#[tactic(auto, unfolding(crate::specs::ConfigReading::head_in))]
-fn route_head<'v>(
+/// The fields of a route with so many others before it in preorder.
+#[tactic(auto, using(crate::proofs::Readings::steps), unfolding(crate::specs::ConfigReading::read_route_fields))]
+fn read_route_fields<'v>(
     alloc: Global,
     names: &[String],
     parent: Option<usize>,
     before: usize,
     value: &'v Value,
-) -> Result<Head<'v>, ReadError>
-    requires { before ≤ max_routes }
-    ensures { judged.Gives head_view result (head_in (names_of names.now) parent before (view value.now)) }
+) -> Result<RouteFields<'v>, ReadError>
+    requires { before ≤ MAX_ROUTES }
+    ensures { Gives fields_view result (read_route_fields (names_of names.now) parent before (view value.now)) }
 {
-    at_most(alloc, MAX_ROUTES, before + 1)?;
-    fields(alloc, names, parent, value)
-}
-
-#[tactic(auto, unfolding(crate::specs::ConfigReading::fields_in))]
-fn fields<'v>(
-    alloc: Global,
-    names: &[String],
-    parent: Option<usize>,
-    value: &'v Value,
-) -> Result<Head<'v>, ReadError>
-    ensures { judged.Gives head_view result (fields_in (names_of names.now) parent (view value.now)) }
-{
-    only_fields(alloc, value, &ROUTE_FIELDS)?;
-    let receiver = receiver(alloc, names, parent, value)?;
-    matched(alloc, parent.is_none(), receiver, value)
-}
-
-/// The fields from the matchers on.
-#[tactic(auto, unfolding(crate::specs::ConfigReading::matched_in))]
-fn matched(
-    alloc: Global,
-    is_root: bool,
-    receiver: usize,
-    value: &Value,
-) -> Result<Head<'_>, ReadError>
-    ensures { judged.Gives head_view result (matched_in is_root receiver (view value.now)) }
-{
-    let matchers = matchers(alloc, is_root, value)?;
-    last_fields(alloc, receiver, matchers, value)
-}
-
-#[tactic(auto, unfolding(crate::specs::ConfigReading::tail_in))]
-fn last_fields(
-    alloc: Global,
-    receiver: usize,
-    matchers: Matchers,
-    value: &Value,
-) -> Result<Head<'_>, ReadError>
-    ensures { judged.Gives head_view result (tail_in receiver matchers (view value.now)) }
-{
-    let continues = continues(alloc, value)?;
-    let items = children(alloc, value)?;
-    Ok(Head {
+    check_count(alloc, MAX_ROUTES, before + 1)?;
+    check_only_fields(alloc, value, &ROUTE_FIELDS)?;
+    let receiver = read_receiver(alloc, names, parent, value)?;
+    let matchers = read_matchers(alloc, MATCHER_FIELDS, parent.is_none(), value)?;
+    let continues = read_continue(alloc, value)?;
+    let items = read_children(alloc, value)?;
+    Ok(RouteFields {
         receiver,
         matchers,
         continues,
@@ -284,7 +251,7 @@ fn last_fields(
 /// A route with the levels that are left, its own included, the receiver of its parent, if it has one, and the number
 /// of routes that stand before it in preorder. With it comes the number before the one that follows it.
 #[cycle(routes)]
-fn route(
+fn read_route(
     alloc: Global,
     names: &[String],
     levels: usize,
@@ -292,30 +259,30 @@ fn route(
     before: usize,
     value: &Value,
 ) -> Result<(Route, usize), ReadError>
-    requires { before ≤ max_routes }
-    ensures reads { judged.Gives (λ r. route_view r.0) result (route_in (names_of names.now) levels parent before (view value.now)) }
-    ensures number { IfOk result (λ r. (r.1 ≡ before + route_count (route_view r.0)) × (r.1 ≤ max_routes)) }
+    requires { before ≤ MAX_ROUTES }
+    ensures reads { Gives (λ r. route_view r.0) result (read_route (names_of names.now) levels parent before (view value.now)) }
+    ensures number { IfOk result (λ r. (r.1 ≡ before + route_count (route_view r.0)) × (r.1 ≤ MAX_ROUTES)) }
 {
     if levels == 0 {
-        return Err(ReadError::here(alloc, Kind::Limit));
+        return Err(ReadError::refused(alloc, Kind::Limit));
     }
-    let head = route_head(alloc, names, parent, before, value)?;
+    let fields = read_route_fields(alloc, names, parent, before, value)?;
     let (routes, after) = within_field(
         alloc,
         "routes",
-        routes(
+        read_routes(
             alloc,
             names,
             levels - 1,
-            head.receiver,
+            fields.receiver,
             before + 1,
-            head.items,
+            fields.items,
         ),
     )?;
     let route = Route {
-        receiver: head.receiver,
-        matchers: head.matchers,
-        continues: head.continues,
+        receiver: fields.receiver,
+        matchers: fields.matchers,
+        continues: fields.continues,
         routes,
     };
     Ok((route, after))
@@ -323,7 +290,7 @@ fn route(
 
 /// The children of a route with this receiver, and the number of routes before what follows them.
 #[cycle(routes)]
-fn routes(
+fn read_routes(
     alloc: Global,
     names: &[String],
     levels: usize,
@@ -331,14 +298,16 @@ fn routes(
     before: usize,
     items: &[Value],
 ) -> Result<(Vec<Route>, usize), ReadError>
-    requires { before ≤ max_routes }
-    ensures reads { judged.Gives (λ rs. map route_view rs.0.items) result (judged.each (children_behind (names_of names.now) levels receiver before) [] (map view items.now)) }
-    ensures number { IfOk result (λ rs. (rs.1 ≡ before + routes_count (routes_of (map route_view rs.0.items))) × (rs.1 ≤ max_routes)) }
+    requires { before ≤ MAX_ROUTES }
+    ensures reads { Gives (λ rs. map route_view rs.0.items) result
+        (read_items (read_next_child (names_of names.now) levels receiver before) [] (map view items.now)) }
+    ensures number { IfOk result (λ rs.
+        (rs.1 ≡ before + routes_count (routes_of (map route_view rs.0.items))) × (rs.1 ≤ MAX_ROUTES)) }
 {
     let mut routes = Vec::new(alloc);
     let mut after = before;
     for item in items {
-        let found = route(alloc, names, levels, Some(receiver), after, item);
+        let found = read_route(alloc, names, levels, Some(receiver), after, item);
         let (route, next) = within_item(alloc, routes.len(), found)?;
         routes.push(route)?;
         after = next;
@@ -347,85 +316,90 @@ fn routes(
 }
 
 /// The values of a route's children.
-#[tactic(auto, unfolding(crate::specs::ConfigReading::children_in))]
-fn children(alloc: Global, value: &Value) -> Result<&[Value], ReadError>
-    ensures { Gives (λ items. map view items.now) result (children_in (view value.now)) }
+#[tactic(auto, unfolding(crate::specs::ConfigReading::read_children))]
+fn read_children(alloc: Global, value: &Value) -> Result<&[Value], ReadError>
+    ensures { Gives (λ items. map view items.now) result (read_children (view value.now)) }
 {
     match field(value, "routes") {
         None => Ok(&[]),
-        Some(found) => within_field(alloc, "routes", items(alloc, found)),
+        Some(found) => within_field(alloc, "routes", as_items(alloc, found)),
     }
 }
 
 /// The receiver of a route: its own, or that of its parent where it names none.
-#[tactic(auto, unfolding(crate::specs::ConfigReading::receiver_in))]
-fn receiver(
+#[tactic(auto, using(crate::proofs::Readings::within_gives), unfolding(crate::specs::ConfigReading::read_receiver))]
+fn read_receiver(
     alloc: Global,
     names: &[String],
     parent: Option<usize>,
     value: &Value,
 ) -> Result<usize, ReadError>
-    ensures { Gives (λ r. r) result (receiver_in (names_of names.now) parent (view value.now)) }
+    ensures { Gives (λ r. r) result (read_receiver (names_of names.now) parent (view value.now)) }
 {
     within_field(
         alloc,
         "receiver",
-        receiver_of(alloc, names, parent, field(value, "receiver")),
+        effective_receiver(alloc, names, parent, field(value, "receiver")),
     )
 }
 
-fn receiver_of(
+fn effective_receiver(
     alloc: Global,
     names: &[String],
     parent: Option<usize>,
     found: Option<&Value>,
 ) -> Result<usize, ReadError>
-    ensures { Gives (λ r. r) result (receiver_of (names_of names.now) parent (option_map (λ v. view v.now) found.entry)) }
+    ensures { Gives (λ r. r) result
+        (effective_receiver (names_of names.now) parent (option_map (λ v. view v.now) found.entry)) }
 {
     let Some(found) = found else {
-        return inherited(alloc, parent);
+        return parent_receiver(alloc, parent);
     };
-    let name = text(alloc, found)?;
+    let name = as_text(alloc, found)?;
     if name.is_empty() {
-        return inherited(alloc, parent);
+        return parent_receiver(alloc, parent);
     }
-    declared(alloc, names, name)
+    receiver_position(alloc, names, name)
 }
 
-fn inherited(alloc: Global, parent: Option<usize>) -> Result<usize, ReadError>
-    ensures { Gives (λ r. r) result (inherited parent) }
+fn parent_receiver(alloc: Global, parent: Option<usize>) -> Result<usize, ReadError>
+    ensures { Gives (λ r. r) result (parent_receiver parent) }
 {
     match parent {
         Some(receiver) => Ok(receiver),
-        None => Err(ReadError::here(alloc, Kind::Shape)),
+        None => Err(ReadError::refused(alloc, Kind::Shape)),
     }
 }
 
-fn declared(alloc: Global, names: &[String], name: &str) -> Result<usize, ReadError>
-    ensures { Gives (λ r. r) result (declared (names_of names.now) name.now) }
+fn receiver_position(alloc: Global, names: &[String], name: &str) -> Result<usize, ReadError>
+    ensures { Gives (λ r. r) result (receiver_position (names_of names.now) name.now) }
 {
     match position(names, name) {
         Some(receiver) => Ok(receiver),
-        None => Err(ReadError::here(alloc, Kind::UndefinedReceiver)),
+        None => Err(ReadError::refused(alloc, Kind::UndefinedReceiver)),
     }
 }
 
 /// Whether later siblings of a route are tried after it.
-#[tactic(auto, unfolding(crate::specs::ConfigReading::continues_in))]
-fn continues(alloc: Global, value: &Value) -> Result<bool, ReadError>
-    ensures { Gives (λ b. b) result (continues_in (view value.now)) }
+#[tactic(auto, using(crate::proofs::Readings::within_gives), unfolding(crate::specs::ConfigReading::read_continue))]
+fn read_continue(alloc: Global, value: &Value) -> Result<bool, ReadError>
+    ensures { Gives (λ b. b) result (read_continue (view value.now)) }
 {
-    within_field(alloc, "continue", truth_of(alloc, field(value, "continue")))
+    within_field(
+        alloc,
+        "continue",
+        boolean_or_false(alloc, field(value, "continue")),
+    )
 }
 
-fn truth_of(alloc: Global, found: Option<&Value>) -> Result<bool, ReadError>
-    ensures { Gives (λ b. b) result (truth_of (option_map (λ v. view v.now) found.entry)) }
+fn boolean_or_false(alloc: Global, found: Option<&Value>) -> Result<bool, ReadError>
+    ensures { Gives (λ b. b) result (boolean_or_false (option_map (λ v. view v.now) found.entry)) }
 {
     let Some(found) = found else {
         return Ok(false);
     };
     match found.as_bool() {
         Some(truth) => Ok(truth),
-        None => Err(ReadError::here(alloc, Kind::Shape)),
+        None => Err(ReadError::refused(alloc, Kind::Shape)),
     }
 }

@@ -1,31 +1,30 @@
 //! The parts of a JSON value, each refused where it is not of its kind.
 
-ghost use Rattle.std.specs.Prelude.{◌≡◌, map, ok_or, option_map};
+ghost use Rattle.std.specs.Prelude.{◌≡◌, ◌≢◌, Some, map, option_map};
 ghost use Rattle.serde_json.specs.View.{view, members_view};
 ghost use Rattle.am_files.specs.Json.{json_of, field, is_one_of, is_unknown, unknown_field};
 ghost use Rattle.am_universe.specs.declared.kind.Kind.TheVariants as kinds;
-ghost use Rattle.am_files.specs.Pointer.{here};
-ghost use Rattle.am_files.specs.Reading.{Gives, only_fields, required, required_text, required_items, text_in, items_in, object_in, json_in, unless, at_most};
+ghost use Rattle.am_files.specs.Pointer.{refusal_here};
+ghost use Rattle.am_files.specs.Reading.{Gives, accept_some, check_only_fields, required_field, required_text, required_items, as_text, as_items, as_object, read_json, refuse_for, check_count};
 
+use crate::limits::MAX_FILE_BYTES;
 use crate::pointer::within_field;
-use crate::refusal::ReadError;
+use crate::read_error::ReadError;
 use am_labels::Kind;
 use serde_json::{Map, Value};
 use std::alloc::Global;
 
-const MAX_BYTES: usize = 16_777_216;
-
-/// The JSON value of a file: refused as `Limit` past 16,777,216 bytes, and as `NotJson` where it has none.
-#[tactic(auto, unfolding(crate::specs::Reading::json_in))]
-pub(crate) fn json(alloc: Global, bytes: &[u8]) -> Result<Value, ReadError>
-    ensures { Gives view result (json_in bytes.now) }
+/// The JSON value of a file: refused as `Limit` where it has too many bytes, and as `NotJson` where they have no value.
+#[tactic(auto, unfolding(crate::specs::Reading::read_json))]
+pub(crate) fn read_json(alloc: Global, bytes: &[u8]) -> Result<Value, ReadError>
+    ensures { Gives view result (read_json bytes.now) }
 {
-    at_most(alloc, MAX_BYTES, bytes.len())?;
+    check_count(alloc, MAX_FILE_BYTES, bytes.len())?;
     value_of(alloc, bytes)
 }
 
 fn value_of(alloc: Global, bytes: &[u8]) -> Result<Value, ReadError>
-    ensures { Gives view result (ok_or (json_of bytes.now) (here kinds.NotJson)) }
+    ensures { Gives view result (accept_some (json_of bytes.now) (refusal_here kinds.NotJson)) }
 {
     match Value::from_slice(alloc, bytes) {
         Ok(value) => Ok(value),
@@ -33,69 +32,78 @@ fn value_of(alloc: Global, bytes: &[u8]) -> Result<Value, ReadError>
             if error.is_memory() {
                 return Err(ReadError::Memory);
             }
-            Err(ReadError::here(alloc, Kind::NotJson))
+            Err(ReadError::refused(alloc, Kind::NotJson))
         }
     }
 }
 
 /// Refused as `Limit` where there are more than so many.
-pub(crate) fn at_most(alloc: Global, limit: usize, count: usize) -> Result<(), ReadError>
-    ensures { Gives (λ _. tt) result (at_most limit count) }
+pub(crate) fn check_count(alloc: Global, limit: usize, count: usize) -> Result<(), ReadError>
+    ensures { Gives (λ _. tt) result (check_count limit count) }
 {
     if count > limit {
-        return Err(ReadError::here(alloc, Kind::Limit));
+        return Err(ReadError::refused(alloc, Kind::Limit));
     }
     Ok(())
 }
 
 /// Refused where there is a cause.
-pub(crate) fn unless(alloc: Global, cause: Option<Kind>) -> Result<(), ReadError>
-    ensures { Gives (λ _. tt) result (unless cause) }
+pub(crate) fn refuse_for(alloc: Global, cause: Option<Kind>) -> Result<(), ReadError>
+    requires { cause ≢ Some kinds.Write }
+    ensures { Gives (λ _. tt) result (refuse_for cause) }
 {
     match cause {
         None => Ok(()),
-        Some(kind) => Err(ReadError::here(alloc, kind)),
+        Some(kind) => Err(ReadError::refused(alloc, kind)),
     }
 }
 
 /// The members of an object; `Shape` where the value is none.
-pub(crate) fn object(alloc: Global, value: &Value) -> Result<&Map<String, Value>, ReadError>
-    ensures { Gives (λ m. members_view m.now.entries) result (object_in (view value.now)) }
+pub(crate) fn as_object(alloc: Global, value: &Value) -> Result<&Map<String, Value>, ReadError>
+    ensures { Gives (λ m. members_view m.now.entries) result (as_object (view value.now)) }
 {
     match value.as_object() {
         Some(members) => Ok(members),
-        None => Err(ReadError::here(alloc, Kind::Shape)),
+        None => Err(ReadError::refused(alloc, Kind::Shape)),
     }
 }
 
 /// A text; `Shape` where the value is none.
-pub(crate) fn text(alloc: Global, value: &Value) -> Result<&str, ReadError>
-    ensures { Gives (λ t. t.now) result (text_in (view value.now)) }
+pub(crate) fn as_text(alloc: Global, value: &Value) -> Result<&str, ReadError>
+    ensures { Gives (λ t. t.now) result (as_text (view value.now)) }
 {
     match value.as_str() {
         Some(text) => Ok(text),
-        None => Err(ReadError::here(alloc, Kind::Shape)),
+        None => Err(ReadError::refused(alloc, Kind::Shape)),
     }
 }
 
 /// The items of an array; `Shape` where the value is none.
-pub(crate) fn items(alloc: Global, value: &Value) -> Result<&[Value], ReadError>
-    ensures { Gives (λ items. map view items.now) result (items_in (view value.now)) }
+pub(crate) fn as_items(alloc: Global, value: &Value) -> Result<&[Value], ReadError>
+    ensures { Gives (λ items. map view items.now) result (as_items (view value.now)) }
 {
     match value.as_array() {
         Some(items) => Ok(items.as_slice()),
-        None => Err(ReadError::here(alloc, Kind::Shape)),
+        None => Err(ReadError::refused(alloc, Kind::Shape)),
     }
 }
 
 /// Refused as `Shape` where the value is no object, and as `UnknownField` at its least field that is none of these.
-#[tactic(auto, unfolding(crate::specs::Reading::only_fields))]
-pub(crate) fn only_fields(alloc: Global, value: &Value, known: &[&str]) -> Result<(), ReadError>
-    ensures { Gives (λ _. tt) result (only_fields (map (λ key. key.now) known.now) (view value.now)) }
+#[tactic(auto, unfolding(crate::specs::Reading::check_only_fields))]
+pub(crate) fn check_only_fields(
+    alloc: Global,
+    value: &Value,
+    known: &[&str],
+) -> Result<(), ReadError>
+    ensures { Gives (λ _. tt) result (check_only_fields (map (λ key. key.now) known.now) (view value.now)) }
 {
-    let members = object(alloc, value)?;
+    let members = as_object(alloc, value)?;
     match unknown_field(members, known) {
-        Some(key) => within_field(alloc, key, Err(ReadError::here(alloc, Kind::UnknownField))),
+        Some(key) => within_field(
+            alloc,
+            key,
+            Err(ReadError::refused(alloc, Kind::UnknownField)),
+        ),
         None => Ok(()),
     }
 }
@@ -136,16 +144,16 @@ pub(crate) fn field<'v>(value: &'v Value, key: &str) -> Option<&'v Value>
 }
 
 /// The value of a field; `Shape` at the field where it is absent.
-pub(crate) fn required<'v>(
+pub(crate) fn required_field<'v>(
     alloc: Global,
     value: &'v Value,
     key: &str,
 ) -> Result<&'v Value, ReadError>
-    ensures { Gives (λ v. view v.now) result (required key.now (view value.now)) }
+    ensures { Gives (λ v. view v.now) result (required_field key.now (view value.now)) }
 {
     match field(value, key) {
         Some(found) => Ok(found),
-        None => within_field(alloc, key, Err(ReadError::here(alloc, Kind::Shape))),
+        None => within_field(alloc, key, Err(ReadError::refused(alloc, Kind::Shape))),
     }
 }
 
@@ -158,8 +166,8 @@ pub(crate) fn required_text<'v>(
 ) -> Result<&'v str, ReadError>
     ensures { Gives (λ t. t.now) result (required_text key.now (view value.now)) }
 {
-    let found = required(alloc, value, key)?;
-    within_field(alloc, key, text(alloc, found))
+    let found = required_field(alloc, value, key)?;
+    within_field(alloc, key, as_text(alloc, found))
 }
 
 /// The items of the array in a field; `Shape` at the field where there is none.
@@ -171,6 +179,6 @@ pub(crate) fn required_items<'v>(
 ) -> Result<&'v [Value], ReadError>
     ensures { Gives (λ items. map view items.now) result (required_items key.now (view value.now)) }
 {
-    let found = required(alloc, value, key)?;
-    within_field(alloc, key, items(alloc, found))
+    let found = required_field(alloc, value, key)?;
+    within_field(alloc, key, as_items(alloc, found))
 }

@@ -8,13 +8,14 @@ mod config;
 mod config_file;
 mod json;
 pub mod laws;
-mod matchers;
+pub mod limits;
 mod pointer;
-mod refusal;
+mod read_error;
 mod route;
-mod universe;
+mod route_matchers;
+mod universe_file;
 
 pub use config::Config;
 pub use config_file::read_config;
 pub use route::Route;
-pub use universe::read_universe;
+pub use universe_file::read_universe;

@@ -1,10 +1,10 @@
 //! JSON Pointers (RFC 6901) to the part of a file that is at fault.
 
 ghost use Rattle.std.specs.Prelude.{◌≡◌, ◌++◌, string_bytes, encode_utf8, flat_map, IfOk, OnOk};
-ghost use Rattle.am_files.specs.Pointer.{escaped, to_field, to_item, within};
-ghost use Rattle.am_files.specs.Reading.{Tells, IsUnder};
+ghost use Rattle.am_files.specs.Pointer.{pointer_escape, to_field, to_item, refusal_within};
+ghost use Rattle.am_files.specs.Reading.{IsRefusalOrMemory, IsReadingWithin};
 
-use crate::refusal::{ReadError, Refusal};
+use crate::read_error::{ReadError, Refusal};
 use std::alloc::{AllocError, Global};
 
 /// What reading the field of this name gave, seen from the object that has it.
@@ -13,7 +13,7 @@ pub(crate) fn within_field<T: Drop>(
     key: &str,
     read: Result<T, ReadError>,
 ) -> Result<T, ReadError>
-    ensures { IsUnder (to_field key.now) read result }
+    ensures { IsReadingWithin (to_field key.now) read result }
 {
     match read {
         Ok(value) => Ok(value),
@@ -28,7 +28,7 @@ pub(crate) fn within_item<T: Drop>(
     position: usize,
     read: Result<T, ReadError>,
 ) -> Result<T, ReadError>
-    ensures { IsUnder (to_item position) read result }
+    ensures { IsReadingWithin (to_item position) read result }
 {
     match read {
         Ok(value) => Ok(value),
@@ -39,7 +39,7 @@ pub(crate) fn within_item<T: Drop>(
 
 /// The refusal of a part, seen from the value that has the part.
 pub(crate) fn within(mut part: String, refusal: Refusal) -> ReadError
-    ensures { Tells result (within (string_bytes part) refusal) }
+    ensures { IsRefusalOrMemory result (refusal_within (string_bytes part) refusal) }
 {
     match part.push_str(refusal.pointer.as_str()) {
         Ok(()) => ReadError::Refused(Refusal {
@@ -62,7 +62,8 @@ fn to_field(alloc: Global, key: &str) -> Result<String, AllocError>
 }
 
 fn push_escaped(part: &mut String, character: char) -> Result<(), AllocError>
-    ensures { OnOk result (string_bytes part.new ≡ string_bytes part.old ++ flat_map escaped (encode_utf8 character)) }
+    ensures { OnOk result (string_bytes part.new
+        ≡ string_bytes part.old ++ flat_map pointer_escape (encode_utf8 character)) }
 {
     if character == '~' {
         part.push_str("~0")

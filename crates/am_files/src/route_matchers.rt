@@ -1,0 +1,253 @@
+//! The matchers of a route: those of three fields, one behind the other.
+
+ghost use Rattle.std.specs.Prelude.{◌≡◌, ◌≢◌, [], ◌∷◌, ◌++◌, map, option_map, Err, IsErrAnd, OnOk};
+ghost use Rattle.std.specs.List.{enumerate_from};
+ghost use Rattle.am_universe.specs.declared.kind.Kind.TheVariants as kinds;
+ghost use Rattle.am_files.specs.declared.read_error.ReadError.TheVariants as errors;
+ghost use Rattle.am_files.specs.Pointer.{refusal_here, refusal_within, to_item};
+ghost use Rattle.serde_json.specs.View.{view, members_view};
+ghost use Rattle.am_files.specs.Json.{member_list};
+ghost use Rattle.am_files.specs.Reading.{Gives, IsRefusalOrMemory, read_each};
+ghost use Rattle.am_files.specs.ConfigView.{matcher_fields_view};
+ghost use Rattle.am_files.specs.ConfigReading.{read_matchers, optional_texts, read_texts, read_matcher_texts, read_next_matcher_text, read_matcher_text, append_matchers, optional_pairs, read_pairs, read_next_pair, read_matcher_pair, read_named_text, label_name_fault, refuse_root_matchers};
+
+use crate::json::{as_items, as_object, as_text, field, refuse_for};
+use crate::pointer::{within_field, within_item};
+use crate::read_error::ReadError;
+use am_labels::{Kind, Matcher, Matchers, Op, parse_matchers};
+use serde_json::{Map, Value};
+use std::alloc::Global;
+
+/// The names of three fields with matchers: an array of texts, an object of names and texts for `=`, and one for `=~`.
+#[derive(Clone, Copy)]
+pub(crate) struct MatcherFields<'n> {
+    pub(crate) texts: &'n str,
+    pub(crate) equalities: &'n str,
+    pub(crate) patterns: &'n str,
+}
+
+/// The matchers of the three fields, one behind the other.
+#[tactic(auto, using(crate::proofs::Readings::steps), unfolding(crate::specs::ConfigReading::read_matchers))]
+pub(crate) fn read_matchers(
+    alloc: Global,
+    fields: MatcherFields<'_>,
+    is_root: bool,
+    value: &Value,
+) -> Result<Matchers, ReadError>
+    ensures { Gives (λ ms. ms) result (read_matchers (matcher_fields_view fields.entry) is_root (view value.now)) }
+{
+    let MatcherFields {
+        texts,
+        equalities,
+        patterns,
+    } = fields;
+    let found = optional_texts(alloc, is_root, texts, field(value, texts))?;
+    let equal = field(value, equalities);
+    let found = optional_pairs(alloc, is_root, Op::Equal, equalities, found, equal)?;
+    let matched = field(value, patterns);
+    optional_pairs(alloc, is_root, Op::Matches, patterns, found, matched)
+}
+
+#[tactic(auto, using(crate::proofs::Readings::steps))]
+fn optional_texts(
+    alloc: Global,
+    is_root: bool,
+    key: &str,
+    found: Option<&Value>,
+) -> Result<Matchers, ReadError>
+    ensures { Gives (λ ms. ms) result (optional_texts is_root key.now (option_map (λ v. view v.now) found.entry)) }
+{
+    match found {
+        None => Ok(Matchers::empty(alloc)),
+        Some(value) => within_field(alloc, key, read_texts(alloc, is_root, value)),
+    }
+}
+
+#[tactic(auto, using(crate::proofs::Readings::steps), unfolding(crate::specs::ConfigReading::read_texts))]
+fn read_texts(alloc: Global, is_root: bool, value: &Value) -> Result<Matchers, ReadError>
+    ensures { Gives (λ ms. ms) result (read_texts is_root (view value.now)) }
+{
+    let items = as_items(alloc, value)?;
+    let found = read_each_text(alloc, items)?;
+    refuse_root_matchers(alloc, is_root, found)
+}
+
+fn read_each_text(alloc: Global, items: &[Value]) -> Result<Matchers, ReadError>
+    ensures { Gives (λ ms. ms) result (read_matcher_texts (map view items.now)) }
+{
+    let mut found = Matchers::empty(alloc);
+    for (i, item) in items.iter().enumerate() {
+        found = read_next_matcher_text(alloc, found, i, item)?;
+    }
+    Ok(found)
+}
+
+/// The matchers of a text, which stands at this position, behind others.
+#[tactic(auto, using(crate::proofs::Readings::steps), unfolding(crate::specs::ConfigReading::read_next_matcher_text))]
+fn read_next_matcher_text(
+    alloc: Global,
+    before: Matchers,
+    i: usize,
+    item: &Value,
+) -> Result<Matchers, ReadError>
+    ensures { Gives (λ ms. ms) result (read_next_matcher_text before (i, view item.now)) }
+{
+    let text = within_item(alloc, i, as_text(alloc, item))?;
+    let more = read_matcher_text_at(alloc, i, text)?;
+    append_matchers(alloc, before, more)
+}
+
+/// The matchers of a text. Its limit is refused at the array, and any other fault at the text.
+fn read_matcher_text_at(alloc: Global, i: usize, text: &str) -> Result<Matchers, ReadError>
+    ensures { Gives (λ ms. ms) result (read_matcher_text (to_item i) [] text.now) }
+{
+    match parse_matchers(alloc, text) {
+        Ok(found) => Ok(found),
+        Err(kind) => refuse_text(alloc, i, kind),
+    }
+}
+
+fn refuse_text(alloc: Global, i: usize, kind: Kind) -> Result<Matchers, ReadError>
+    requires { kind ≢ kinds.Write }
+    ensures limit { kind ≡ kinds.Limit → IsErrAnd result (λ e. IsRefusalOrMemory e (refusal_here kinds.Limit)) }
+    ensures other { kind ≢ kinds.Limit → kind ≢ kinds.Memory
+        → IsErrAnd result (λ e. IsRefusalOrMemory e (refusal_within (to_item i) (refusal_here kind))) }
+    ensures memory { kind ≡ kinds.Memory → result ≡ Err errors.Memory }
+{
+    match kind {
+        Kind::Limit => Err(ReadError::refused(alloc, Kind::Limit)),
+        other => within_item(alloc, i, Err(ReadError::refused(alloc, other))),
+    }
+}
+
+/// Both lists, one behind the other.
+fn append_matchers(alloc: Global, before: Matchers, more: Matchers) -> Result<Matchers, ReadError>
+    ensures { Gives (λ ms. ms) result (append_matchers before more) }
+{
+    let mut all = before;
+    match all.append(more) {
+        Ok(()) => Ok(all),
+        Err(kind) => Err(ReadError::refused(alloc, kind)),
+    }
+}
+
+#[tactic(auto, using(crate::proofs::Readings::steps))]
+fn optional_pairs(
+    alloc: Global,
+    is_root: bool,
+    op: Op,
+    key: &str,
+    before: Matchers,
+    found: Option<&Value>,
+) -> Result<Matchers, ReadError>
+    ensures { Gives (λ ms. ms) result
+        (optional_pairs is_root op key.now before (option_map (λ v. view v.now) found.entry)) }
+{
+    match found {
+        None => Ok(before),
+        Some(value) => within_field(alloc, key, read_pairs(alloc, is_root, op, before, value)),
+    }
+}
+
+#[tactic(auto, using(crate::proofs::Readings::steps), unfolding(crate::specs::ConfigReading::read_pairs))]
+fn read_pairs(
+    alloc: Global,
+    is_root: bool,
+    op: Op,
+    before: Matchers,
+    value: &Value,
+) -> Result<Matchers, ReadError>
+    ensures { Gives (λ ms. ms) result (read_pairs is_root op before (view value.now)) }
+{
+    let members = as_object(alloc, value)?;
+    let found = read_each_pair(alloc, op, before, members)?;
+    refuse_root_matchers(alloc, is_root, found)
+}
+
+fn read_each_pair(
+    alloc: Global,
+    op: Op,
+    before: Matchers,
+    members: &Map<String, Value>,
+) -> Result<Matchers, ReadError>
+    ensures { Gives (λ ms. ms) result
+        (read_each (read_next_pair op) before (member_list (members_view members.now.entries))) }
+{
+    let mut found = before;
+    for (name, value) in members.iter() {
+        found = read_next_pair(alloc, op, found, name.as_str(), value)?;
+    }
+    Ok(found)
+}
+
+#[tactic(auto, using(crate::proofs::Readings::steps), unfolding(crate::specs::ConfigReading::read_next_pair))]
+fn read_next_pair(
+    alloc: Global,
+    op: Op,
+    before: Matchers,
+    name: &str,
+    value: &Value,
+) -> Result<Matchers, ReadError>
+    ensures { Gives (λ ms. ms) result (read_next_pair op before (name.now, view value.now)) }
+{
+    let matcher = within_field(alloc, name, read_matcher_pair(alloc, op, name, value))?;
+    push_matcher(alloc, before, matcher)
+}
+
+/// The list with a matcher behind it.
+fn push_matcher(alloc: Global, before: Matchers, matcher: Matcher) -> Result<Matchers, ReadError>
+    ensures { Gives (λ ms. ms) result (append_matchers before (matcher ∷ [])) }
+{
+    let mut all = before;
+    match all.push(matcher) {
+        Ok(()) => Ok(all),
+        Err(kind) => Err(ReadError::refused(alloc, kind)),
+    }
+}
+
+/// The matcher of a name and a text.
+#[tactic(auto, using(crate::proofs::Readings::steps), unfolding(crate::specs::ConfigReading::read_matcher_pair))]
+fn read_matcher_pair(alloc: Global, op: Op, name: &str, value: &Value) -> Result<Matcher, ReadError>
+    ensures { Gives (λ m. m) result (read_matcher_pair op name.now (view value.now)) }
+{
+    let text = read_named_text(alloc, name, value)?;
+    let name = String::from_str(alloc, name)?;
+    let text = String::from_str(alloc, text)?;
+    match Matcher::new(alloc, name, op, text) {
+        Ok(matcher) => Ok(matcher),
+        Err(kind) => Err(ReadError::refused(alloc, kind)),
+    }
+}
+
+/// The text of a name in an object of names and texts. The name is not empty.
+#[tactic(auto, unfolding(crate::specs::ConfigReading::read_named_text))]
+fn read_named_text<'v>(alloc: Global, name: &str, value: &'v Value) -> Result<&'v str, ReadError>
+    ensures { Gives (λ t. t.now) result (read_named_text name.now (view value.now)) }
+{
+    refuse_for(alloc, label_name_fault(name))?;
+    as_text(alloc, value)
+}
+
+fn label_name_fault(name: &str) -> Option<Kind>
+    ensures { result ≡ label_name_fault name.now }
+{
+    if name.is_empty() {
+        Some(Kind::Empty)
+    } else {
+        None
+    }
+}
+
+/// The top-level route has no matchers.
+fn refuse_root_matchers(
+    alloc: Global,
+    is_root: bool,
+    found: Matchers,
+) -> Result<Matchers, ReadError>
+    ensures { Gives (λ ms. ms) result (refuse_root_matchers is_root found) }
+{
+    if is_root && !found.is_empty() {
+        return Err(ReadError::refused(alloc, Kind::RootMatchers));
+    }
+    Ok(found)
+}

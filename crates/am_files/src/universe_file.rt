@@ -1,0 +1,203 @@
+//! The universe file.
+
+ghost use Rattle.std.specs.Prelude.{◌≡◌, ◌≢◌, ◌≤◌, [], ◌∷◌, ◌++◌, length, map, None, Ok, Err, IfOk, IfErr, OnOk, string_bytes, option_map};
+ghost use Rattle.serde_json.specs.View.{view};
+ghost use Rattle.am_universe.specs.declared.kind.Kind.TheVariants as kinds;
+ghost use Rattle.am_universe.specs.declared.place.Place.TheVariants as places;
+ghost use Rattle.am_universe.specs.Universe.{label_fault, max_labels};
+ghost use Rattle.am_universe.specs.UniverseView.{label_of, texts_of};
+ghost use Rattle.am_files.specs.declared.read_error.ReadError.TheVariants as errors;
+ghost use Rattle.am_files.specs.Pointer.{to_item};
+ghost use Rattle.am_files.specs.Reading.{Gives, refusal_of, reading_within, read_items};
+ghost use Rattle.am_files.specs.UniverseFile.{read_value, read_next_value, read_values, read_next_label, read_labels, read_universe, read_universe_file, FileSaysUniverse};
+
+use crate::json::{
+    as_text, check_count, check_only_fields, read_json, refuse_for, required_items, required_text,
+};
+use crate::pointer::{within_field, within_item};
+use crate::read_error::ReadError;
+use am_labels::{Fault, Kind, Place, Universe};
+use serde_json::Value;
+use std::alloc::{AllocError, Global};
+
+/// The universe that a file says.
+///
+/// The file is an object with the one field `labels`: an array of at most 64 objects, each with a `name` and `values`,
+/// an array of 1 to 128 values, each a text or `null`, for absence. A field that is `null` is absent.
+///
+/// The first fault is the one answered, at the place `Universe` and at the pointer of the part at fault, in this order:
+/// - the bytes, at the empty pointer: `Limit` for more than 16,777,216, `NotJson` where they have no JSON value;
+/// - the file, and each label when it is reached: `Shape` where it is no object, `UnknownField` at its least other field;
+/// - `labels`: `Shape` where it is no array, or absent; `Limit` for more than 64; then the labels in order;
+/// - `name`: `Shape` where it is no text, or absent; `Empty`; `Shape` where it is not of the form of a label name;
+///   `Duplicate` where it is the name of an earlier label;
+/// - `values`: `Shape` where it is no array, or absent; `Empty`; `Limit` for more than 128; then the values in order;
+/// - a value: `Shape` where it is neither a text nor `null`; `Empty`; `Duplicate` of an earlier one.
+///
+/// `Memory`, at the place `Memory` and the empty pointer, comes only where memory was refused.
+pub fn read_universe(alloc: Global, bytes: &[u8]) -> Result<Universe, Fault>
+    ensures found { IfOk result (λ u. (read_universe_file bytes.now).result ≡ Ok u) }
+    ensures says { IfOk result (λ u. FileSaysUniverse bytes.now u) }
+    ensures first { IfErr result (λ fault. fault.kind ≢ kinds.Memory
+        → (fault.place ≡ places.Universe) × ((read_universe_file bytes.now).result ≡ Err (refusal_of fault))) }
+    ensures memory { IfErr result (λ fault. fault.kind ≡ kinds.Memory
+        → (fault.place ≡ places.Memory) × (string_bytes fault.pointer ≡ [])) }
+    ensures no_write { IfErr result (λ fault. fault.kind ≢ kinds.Write) }
+{
+    match read_universe_file(alloc, bytes) {
+        Ok(universe) => Ok(universe),
+        Err(error) => Err(error.at(alloc, Place::Universe)),
+    }
+}
+
+#[tactic(auto, using(crate::proofs::Readings::steps), unfolding(crate::specs::UniverseFile::read_universe_file))]
+fn read_universe_file(alloc: Global, bytes: &[u8]) -> Result<Universe, ReadError>
+    ensures { Gives (λ u. u) result (read_universe_file bytes.now) }
+{
+    let value = read_json(alloc, bytes)?;
+    read_universe_object(alloc, &value)
+}
+
+#[tactic(auto, using(crate::proofs::Readings::steps), unfolding(crate::specs::UniverseFile::read_universe))]
+fn read_universe_object(alloc: Global, value: &Value) -> Result<Universe, ReadError>
+    ensures { Gives (λ u. u) result (read_universe (view value.now)) }
+{
+    check_only_fields(alloc, value, &["labels"])?;
+    let items = required_items(alloc, value, "labels")?;
+    within_field(alloc, "labels", read_labels(alloc, items))
+}
+
+#[tactic(auto, unfolding(crate::specs::UniverseFile::read_labels))]
+fn read_labels(alloc: Global, items: &[Value]) -> Result<Universe, ReadError>
+    ensures { Gives (λ u. u) result (read_labels (map view items.now)) }
+{
+    check_count(alloc, Universe::MAX_LABELS, items.len())?;
+    read_each_label(alloc, items)
+}
+
+fn read_each_label(alloc: Global, items: &[Value]) -> Result<Universe, ReadError>
+    requires { length items.now ≤ max_labels }
+    ensures { Gives (λ u. u) result (read_items read_next_label [] (map view items.now)) }
+{
+    let mut universe = Universe::empty(alloc);
+    for item in items {
+        let label = read_label_item(alloc, &universe, item)?;
+        add(&mut universe, label)?;
+    }
+    Ok(universe)
+}
+
+/// Adds a label that has no fault, which fails for want of memory alone.
+fn add(universe: &mut Universe, label: (String, Vec<Option<String>>)) -> Result<(), ReadError>
+    requires { label_fault universe.old (label_of label.0 label.1) ≡ None }
+    ensures ok { OnOk result (universe.new ≡ universe.old ++ label_of label.0 label.1 ∷ []) }
+    ensures memory { IfErr result (λ e. e ≡ errors.Memory) }
+{
+    let (name, values) = label;
+    match universe.add(name, values) {
+        Ok(()) => Ok(()),
+        Err(fault) => {
+            prove!(fault.kind == Kind::Memory);
+            Err(ReadError::Memory)
+        }
+    }
+}
+
+/// The item whose position is the number of labels so far.
+#[tactic(auto, using(crate::proofs::Readings::steps))]
+fn read_label_item(
+    alloc: Global,
+    universe: &Universe,
+    item: &Value,
+) -> Result<(String, Vec<Option<String>>), ReadError>
+    ensures { Gives (λ label. label_of label.0 label.1) result
+        (reading_within (to_item (length universe.now)) (read_next_label universe.now (view item.now))) }
+{
+    within_item(
+        alloc,
+        universe.len(),
+        read_next_label(alloc, universe, item),
+    )
+}
+
+/// A label behind those of the universe: its name and its values.
+#[tactic(auto, using(crate::proofs::Readings::steps), unfolding(crate::specs::UniverseFile::read_next_label))]
+fn read_next_label(
+    alloc: Global,
+    universe: &Universe,
+    value: &Value,
+) -> Result<(String, Vec<Option<String>>), ReadError>
+    ensures { Gives (λ label. label_of label.0 label.1) result (read_next_label universe.now (view value.now)) }
+{
+    check_only_fields(alloc, value, &["name", "values"])?;
+    let name = required_text(alloc, value, "name")?;
+    within_field(alloc, "name", refuse_for(alloc, universe.name_fault(name)))?;
+    let items = required_items(alloc, value, "values")?;
+    let values = within_field(alloc, "values", read_values(alloc, items))?;
+    Ok((String::from_str(alloc, name)?, values))
+}
+
+#[tactic(auto, unfolding(crate::specs::UniverseFile::read_values))]
+fn read_values(alloc: Global, items: &[Value]) -> Result<Vec<Option<String>>, ReadError>
+    ensures { Gives (λ values. texts_of values.items) result (read_values (map view items.now)) }
+{
+    refuse_for(alloc, Universe::count_fault(items.len()))?;
+    read_each_value(alloc, items)
+}
+
+fn read_each_value(alloc: Global, items: &[Value]) -> Result<Vec<Option<String>>, ReadError>
+    ensures { Gives (λ values. texts_of values.items) result (read_items read_next_value [] (map view items.now)) }
+{
+    let mut values = Vec::new(alloc);
+    for item in items {
+        let value = read_value_item(alloc, values.as_slice(), item)?;
+        values.push(value)?;
+    }
+    Ok(values)
+}
+
+/// The item whose position is the number of values so far.
+fn read_value_item(
+    alloc: Global,
+    before: &[Option<String>],
+    item: &Value,
+) -> Result<Option<String>, ReadError>
+    ensures { Gives (option_map string_bytes) result
+        (reading_within (to_item (length (texts_of before.now))) (read_next_value (texts_of before.now) (view item.now))) }
+{
+    within_item(alloc, before.len(), read_next_value(alloc, before, item))
+}
+
+/// A value behind those before it.
+#[tactic(auto, unfolding(crate::specs::UniverseFile::read_next_value))]
+fn read_next_value(
+    alloc: Global,
+    before: &[Option<String>],
+    value: &Value,
+) -> Result<Option<String>, ReadError>
+    ensures { Gives (option_map string_bytes) result (read_next_value (texts_of before.now) (view value.now)) }
+{
+    let value = read_value(alloc, value)?;
+    refuse_for(alloc, Universe::value_fault(before, value))?;
+    Ok(owned(alloc, value)?)
+}
+
+/// A text, or `None` for `null`.
+fn read_value(alloc: Global, value: &Value) -> Result<Option<&str>, ReadError>
+    ensures { Gives (option_map (λ text. text.now)) result (read_value (view value.now)) }
+{
+    if value.is_null() {
+        return Ok(None);
+    }
+    let text = as_text(alloc, value)?;
+    Ok(Some(text))
+}
+
+fn owned(alloc: Global, value: Option<&str>) -> Result<Option<String>, AllocError>
+    ensures { IfOk result (λ o. option_map string_bytes o ≡ option_map (λ text. text.now) value.entry) }
+{
+    match value {
+        Some(text) => Ok(Some(String::from_str(alloc, text)?)),
+        None => Ok(None),
+    }
+}
