@@ -1,5 +1,5 @@
 -- Matchers that are built, and those that are refused.
-use Rattle.std.proofs.Common.{◌≡◌, ◌≢◌, ◌⊎◌, ℕ, ◌≤◌, List, [], ◌∷◌, ◌++◌, length, Bool, true, false, ◌&&◌, cond, Option, Some, None, Result, Ok, Err, IsTrue, inl, inr, refl, sym, subst, ◌∙◌}
+use Rattle.std.proofs.Common.{◌≡◌, ◌≢◌, ℕ, ◌≤◌, List, [], ◌∷◌, ◌++◌, length, Bool, true, false, ◌&&◌, cond, Option, Some, None, Result, Ok, Err, IsTrue, inl, inr, refl, sym, subst}
 use Rattle.std.specs.Prelude.{IsErrAnd}
 use Rattle.serde_json.specs.Data.{Data}
 use Rattle.am_labels.specs.declared.op.Op.{Op}
@@ -14,10 +14,10 @@ use Rattle.am_labels.specs.MatcherRefusals.{has_sound_value, have_sound_values, 
 use Rattle.am_labels.proofs.MatcherTextWhole.{list_is_read, list_is_spelled}
 use Rattle.am_files.specs.declared.read_error.ReadError.{ReadError}
 use Rattle.am_files.specs.declared.read_error.ReadError.TheVariants as errors
-use Rattle.am_files.specs.Pointer.{Refusal, refusal_here, refusal_within, to_item}
+use Rattle.am_files.specs.Pointer.{Refusal, refusal_here, refusal_within}
 use Rattle.am_files.specs.Reading.{Reading, ◌>>=◌, accept, accept_some, reading_within, refuse_for, check_count, IsPatternRefusal, MayRefuse, IsRefusalOrMemory, Fails, Gives}
-use Rattle.am_files.specs.ConfigReading.{pattern_fault, profile_patterns, check_patterns, read_matcher_text, read_named_text, read_matcher_pair, label_name_fault}
-use Rattle.am_files.proofs.Readings.{pattern_right, refuses_first, refuses_later, refuses_within, here_fails, err_gives, memory_gives, fails_later, check_count_fits, check_count_over, bind_ok, refuse_for_ok}
+use Rattle.am_files.specs.ConfigReading.{pattern_fault, profile_patterns, check_patterns, read_matcher_text, text_refusal, read_named_text, read_matcher_pair, label_name_fault}
+use Rattle.am_files.proofs.Readings.{pattern_right, refuses_first, refuses_later, refuses_within, here_fails, fails_later, check_count_fits, check_count_over, bind_ok, refuse_for_ok}
 
 pub both_true : (a b : Bool) → (a && b) ≡ true → (a ≡ true) × (b ≡ true)
 both_true true b h = (refl, h)
@@ -97,22 +97,15 @@ pair_fails op name d text kind e is refused tells memory =
 
 -- ---- A text.
 
+abbrev err_of : ReadError → Result (List Condition) ReadError
+err_of e = Err e
+
+refused_is_no_memory : (found : Refusal) → err_of (errors.Refused found) ≡ err_of errors.Memory → ⊥
+refused_is_no_memory found h = cc
+
 pub text_gives : (part limit : List ℕ) (text : List ℕ) (ms : List Condition) → Spells text ms → length ms ≤ max_matchers → IsTrue (have_sound_values ms) → (read_matcher_text part limit text).result ≡ Ok ms
 unfolding read_matcher_text
 text_gives part limit text ms spells le sound = rw (list_is_read text ms spells, check_count_fits max_matchers (length ms) le, sound_passes ms sound) refl
-
-no_limit : (p : List ℕ) (profile : Bool) → in_profile p ≡ profile → kinds.Limit ≡ pattern_refusal p → ⊥
-no_limit p true is h = let e : kinds.Limit ≡ kinds.Pattern = rw is at h in cc
-no_limit p false is h = let e : kinds.Limit ≡ kinds.PatternProfile = rw is at h in cc
-
-text_limit : (part limit : List ℕ) (text : List ℕ) → RefusesText text kinds.Limit → MayRefuse (read_matcher_text part limit text) (refusal_within limit (refusal_here kinds.Limit))
-unfolding read_matcher_text
-text_limit part limit text (inl bad) = absurd cc
-text_limit part limit text (inr s) =
-    elim s.refused [
-      | inl long ↦ inl (rw (list_is_read text s.list s.spelled, check_count_over max_matchers (length s.list) long.0) refl)
-      | inr short ↦ absurd (no_limit short.1.refused.value (in_profile short.1.refused.value) refl short.1.value.kind_is)
-    ]
 
 none_read : (text : List ℕ) (found : Option (List Condition)) → read_list text ≡ found → ((ms : List Condition) → Spells text ms → ⊥) → read_list text ≡ None
 none_read text None is none = is
@@ -131,54 +124,26 @@ text_patterns part limit text ms r spells le h =
     let behind = refuses_later (reading_within limit (check_count max_matchers (length ms))) (λ _. patterns ms) tt (refusal_within part r) second third in
     refuses_later (reading_within part (accept_some (read_list text) (refusal_here kinds.BadMatcher))) few ms (refusal_within part r) first behind
 
-text_refused : (part limit : List ℕ) (text : List ℕ) (kind : Kind) → kind ≢ kinds.Limit → RefusesText text kind → MayRefuse (read_matcher_text part limit text) (refusal_within part (refusal_here kind))
+pattern_text_refusal : (part limit : List ℕ) (profile : Bool) → text_refusal part limit (cond profile kinds.Pattern kinds.PatternProfile) ≡ refusal_within part (refusal_here (cond profile kinds.Pattern kinds.PatternProfile))
+pattern_text_refusal part limit true = refl
+pattern_text_refusal part limit false = refl
+
+text_refused : (part limit : List ℕ) (text : List ℕ) (kind : Kind) → RefusesText text kind → MayRefuse (read_matcher_text part limit text) (text_refusal part limit kind)
 unfolding read_matcher_text
-text_refused part limit text kind other (inl bad) = inl (rw (none_read text (read_list text) refl bad.1, bad.0) refl)
-text_refused part limit text kind other (inr s) =
+text_refused part limit text kind (inl bad) = rw bad.0 (inl (rw (none_read text (read_list text) refl bad.1) refl))
+text_refused part limit text kind (inr s) =
     elim s.refused [
-      | inl long ↦ absurd (other long.1)
-      | inr short ↦ text_patterns part limit text s.list (refusal_here kind) s.spelled short.0 (patterns_refused s.list kind short.1)
+      | inl long ↦ rw long.1 (inl (rw (list_is_read text s.list s.spelled, check_count_over max_matchers (length s.list) long.0) refl))
+      | inr short ↦
+          let is : kind ≡ pattern_refusal short.1.refused.value = short.1.value.kind_is in
+          let at = text_patterns part limit text s.list (refusal_here kind) s.spelled short.0 (patterns_refused s.list kind short.1) in
+          let same : text_refusal part limit kind ≡ refusal_within part (refusal_here kind) = rw is (pattern_text_refusal part limit (in_profile short.1.refused.value)) in
+          subst (λ (r : Refusal). MayRefuse (read_matcher_text part limit text) r) (sym same) at
     ]
 
-limit_is_no_memory : kinds.Limit ≡ kinds.Memory → ⊥
-limit_is_no_memory h = cc
-
--- a kind is want of memory, a limit, or neither
-abbrev Which : Kind → Type 0
-Which kind = (kind ≡ kinds.Memory) ⊎ ((kind ≡ kinds.Limit) ⊎ ((kind ≢ kinds.Limit) × (kind ≢ kinds.Memory)))
-
-which : (kind : Kind) → Which kind
-which kinds.NotJson = inr (inr (λ h. cc, λ h. cc))
-which kinds.Shape = inr (inr (λ h. cc, λ h. cc))
-which kinds.UnknownField = inr (inr (λ h. cc, λ h. cc))
-which kinds.BadMatcher = inr (inr (λ h. cc, λ h. cc))
-which kinds.PatternProfile = inr (inr (λ h. cc, λ h. cc))
-which kinds.Pattern = inr (inr (λ h. cc, λ h. cc))
-which kinds.Duplicate = inr (inr (λ h. cc, λ h. cc))
-which kinds.Empty = inr (inr (λ h. cc, λ h. cc))
-which kinds.UndefinedReceiver = inr (inr (λ h. cc, λ h. cc))
-which kinds.RootMatchers = inr (inr (λ h. cc, λ h. cc))
-which kinds.BadTime = inr (inr (λ h. cc, λ h. cc))
-which kinds.Limit = inr (inl refl)
-which kinds.QuestionSyntax = inr (inr (λ h. cc, λ h. cc))
-which kinds.UnknownReceiver = inr (inr (λ h. cc, λ h. cc))
-which kinds.UnknownRoute = inr (inr (λ h. cc, λ h. cc))
-which kinds.BadToken = inr (inr (λ h. cc, λ h. cc))
-which kinds.NeedAt = inr (inr (λ h. cc, λ h. cc))
-which kinds.Write = inr (inr (λ h. cc, λ h. cc))
-which kinds.Memory = inl refl
-which kinds.Read = inr (inr (λ h. cc, λ h. cc))
-
-pub text_fails : (i : ℕ) (text : List ℕ) (kind : Kind) (result : Result (List Condition) ReadError) → (kind ≢ kinds.Memory → RefusesText text kind)
-    → (kind ≡ kinds.Limit → IsErrAnd result (λ e. IsRefusalOrMemory e (refusal_here kinds.Limit)))
-    → (kind ≢ kinds.Limit → kind ≢ kinds.Memory → IsErrAnd result (λ e. IsRefusalOrMemory e (refusal_within (to_item i) (refusal_here kind))))
-    → (kind ≡ kinds.Memory → result ≡ Err errors.Memory) → Gives (λ ms. ms) result (read_matcher_text (to_item i) [] text)
-text_fails i text kind result refused limit other memory =
-    let whole : Reading (List Condition) = read_matcher_text (to_item i) [] text in
-    elim (which kind) [
-      | inl is ↦ memory_gives (λ ms. ms) result whole (memory is)
-      | inr rest ↦ elim rest [
-        | inl is ↦ err_gives (λ ms. ms) (refusal_here kinds.Limit) result whole (limit is) (text_limit (to_item i) [] text (subst (λ (k : Kind). RefusesText text k) is (refused (λ h. limit_is_no_memory (sym is ∙ h)))))
-        | inr neither ↦ err_gives (λ ms. ms) (refusal_within (to_item i) (refusal_here kind)) result whole (other neither.0 neither.1) (text_refused (to_item i) [] text kind neither.0 (refused neither.1))
-      ]
-    ]
+pub text_fails : (part limit : List ℕ) (text : List ℕ) (kind : Kind) (result : Result (List Condition) ReadError) → (kind ≢ kinds.Memory → RefusesText text kind)
+    → IsErrAnd result (λ e. IsRefusalOrMemory e (text_refusal part limit kind)) → (kind ≡ kinds.Memory → result ≡ Err errors.Memory) → Gives (λ ms. ms) result (read_matcher_text part limit text)
+text_fails part limit text kind (Ok ms) refused is memory = absurd is
+text_fails part limit text kind (Err errors.Memory) refused is memory = tt
+text_fails part limit text kind (Err (errors.Refused found)) refused is memory =
+    rw is (text_refused part limit text kind (refused (λ e. refused_is_no_memory found (memory e))))

@@ -120,15 +120,6 @@ here_fails kind errors.Memory m tells memory refuses = tt
 here_fails kind (errors.Refused found) m tells memory refuses =
     fails_refused (errors.Refused found) m (refusal_here kind) tells (refuses (λ h. no_memory found (memory h)))
 
--- a result that is an error of this refusal
-pub err_gives : {X Y : Type 0} (view : X → Y) (r : Refusal) (result : Result X ReadError) (m : Reading Y) → IsErrAnd result (λ e. IsRefusalOrMemory e r)
-    → MayRefuse m r → Gives view result m
-err_gives view r (Ok x) m is refuses = absurd is
-err_gives view r (Err e) m is refuses = fails_refused e m r is refuses
-
-pub memory_gives : {X Y : Type 0} (view : X → Y) (result : Result X ReadError) (m : Reading Y) → result ≡ Err errors.Memory → Gives view result m
-memory_gives view result m is = rw is tt
-
 -- ---- Steps that have no fault.
 
 -- the value of a step that has no fault

@@ -127,6 +127,11 @@ read_matcher_text part limit_part text = do
   _ ← reading_within part (check_patterns ms)
   accept ms
 
+-- the refusal of that text, by its kind
+abbrev pub text_refusal : List ℕ → List ℕ → Kind → Refusal
+text_refusal part limit_part kinds.Limit = refusal_within limit_part (refusal_here kinds.Limit)
+text_refusal part limit_part kind = refusal_within part (refusal_here kind)
+
 -- the same of an item, with its position, behind the matchers of others; there the limit is refused at the array
 unfoldable pub read_next_matcher_text : List Condition → ℕ × Data → Reading (List Condition)
 read_next_matcher_text before item = do

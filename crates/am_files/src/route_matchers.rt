@@ -4,12 +4,12 @@ ghost use Rattle.std.specs.Prelude.{◌≡◌, ◌≢◌, [], ◌∷◌, ◌++�
 ghost use Rattle.std.specs.List.{enumerate_from};
 ghost use Rattle.am_universe.specs.declared.kind.Kind.TheVariants as kinds;
 ghost use Rattle.am_files.specs.declared.read_error.ReadError.TheVariants as errors;
-ghost use Rattle.am_files.specs.Pointer.{refusal_here, refusal_within, to_item};
+ghost use Rattle.am_files.specs.Pointer.{to_item};
 ghost use Rattle.serde_json.specs.View.{view, members_view};
 ghost use Rattle.am_files.specs.Json.{member_list};
 ghost use Rattle.am_files.specs.Reading.{Gives, IsRefusalOrMemory, read_each};
 ghost use Rattle.am_files.specs.ConfigView.{matcher_fields_view};
-ghost use Rattle.am_files.specs.ConfigReading.{read_matchers, optional_texts, read_texts, read_matcher_texts, read_next_matcher_text, read_matcher_text, append_matchers, optional_pairs, read_pairs, read_next_pair, read_matcher_pair, read_named_text, label_name_fault, refuse_root_matchers};
+ghost use Rattle.am_files.specs.ConfigReading.{read_matchers, optional_texts, read_texts, read_matcher_texts, read_next_matcher_text, read_matcher_text, text_refusal, append_matchers, optional_pairs, read_pairs, read_next_pair, read_matcher_pair, read_named_text, label_name_fault, refuse_root_matchers};
 
 use crate::json::{as_items, as_object, as_text, field, refuse_for};
 use crate::pointer::{within_field, within_item};
@@ -109,9 +109,7 @@ fn read_matcher_text_at(alloc: Global, i: usize, text: &str) -> Result<Matchers,
 
 fn refuse_text(alloc: Global, i: usize, kind: Kind) -> Result<Matchers, ReadError>
     requires { kind ≢ kinds.Write }
-    ensures limit { kind ≡ kinds.Limit → IsErrAnd result (λ e. IsRefusalOrMemory e (refusal_here kinds.Limit)) }
-    ensures other { kind ≢ kinds.Limit → kind ≢ kinds.Memory
-        → IsErrAnd result (λ e. IsRefusalOrMemory e (refusal_within (to_item i) (refusal_here kind))) }
+    ensures refusal { IsErrAnd result (λ e. IsRefusalOrMemory e (text_refusal (to_item i) [] kind)) }
     ensures memory { kind ≡ kinds.Memory → result ≡ Err errors.Memory }
 {
     match kind {

@@ -7,4 +7,4 @@ pub returns-in-Ok : goal.returns-in-Ok
 returns-in-Ok c = text_gives (to_item c.args.i) [] c.args.text.now c.in-Ok.found c.in-Ok.ensures.spelled c.in-Ok.ensures.at_most c.in-Ok.ensures.sound
 
 pub returns-in-Err : goal.returns-in-Err
-returns-in-Err c = text_fails c.args.i c.args.text.now c.in-Err.kind c.refuse_text.result c.in-Err.ensures.refused c.refuse_text.ensures.limit c.refuse_text.ensures.other c.refuse_text.ensures.memory
+returns-in-Err c = text_fails (to_item c.args.i) [] c.args.text.now c.in-Err.kind c.refuse_text.result c.in-Err.ensures.refused c.refuse_text.ensures.refusal c.refuse_text.ensures.memory
