@@ -1,7 +1,7 @@
 -- The parts of a configuration: what a part says, reading it gives, and the other way.
 use Rattle.std.proofs.Common.{◌≡◌, ◌≢◌, ℕ, suc, ◌+◌, ◌<◌, ◌≤◌, List, [], ◌∷◌, ◌++◌, length, Bool, true, false, ◌||◌, cond, Option, Some, None, option_and_then, Ok, inl, inr, refl, sym, ap, subst, ◌∙◌, append_assoc, append-nil, length-append, arith}
 use Rattle.std.specs.Prelude.{codes, IsTrue, is_some}
-use Rattle.std.specs.List.{AllByRecursion, AllZip, IsDistinct, list_any, position, position_or_len, enumerate_from, flat_map}
+use Rattle.std.specs.List.{AllZip, IsDistinct, list_any, position, position_or_len, enumerate_from, flat_map}
 use Rattle.std.proofs.lemmas.Slice.Zip.{AllZip-long}
 use borrow.Author.Tests.{lt-ltb, le-ltb}
 use Rattle.serde_json.specs.Data.{Data, null, boolean, number, string, array, object}
@@ -23,45 +23,8 @@ use Rattle.am_files.specs.ConfigReading.{receiver_name_fault, read_next_receiver
 use Rattle.am_files.proofs.Readings.{bind_ok, within_ok, refuse_for_ok, check_count_ok, check_count_fits, ok_or_some, same_read}
 use Rattle.am_files.proofs.Items.{AllFit, items_say, items_read}
 use Rattle.am_files.proofs.Fields.{as_text_says, as_text_reads, as_object_says, as_object_reads, required_text_says, required_text_reads, required_items_say, required_items_read}
+use Rattle.am_files.proofs.Distinct.{or_false, distinct_push, distinct_pushed, distinct_front}
 use Rattle.am_files.proofs.Matching.{both_true, named_passes, name_is_some, pair_gives, text_gives}
-
-or_false : (a b : Bool) → (a || b) ≡ false → (a ≡ false) × (b ≡ false)
-or_false true b h = absurd cc
-or_false false b h = (refl, h)
-
--- ---- Distinct items, with one more.
-
-all_push : {A : Type 0} (P : A → Type 0) (xs : List A) (y : A) → AllByRecursion P xs → P y → AllByRecursion P (xs ++ y ∷ [])
-all_push P [] y all here = (here, tt)
-all_push P (x ∷ xs) y all here = (all.0, all_push P xs y all.1 here)
-
-all_pushed : {A : Type 0} (P : A → Type 0) (xs : List A) (y : A) → AllByRecursion P (xs ++ y ∷ []) → AllByRecursion P xs × P y
-all_pushed P [] y all = (tt, all.0)
-all_pushed P (x ∷ xs) y all = let rest = all_pushed P xs y all.1 in ((all.0, rest.0), rest.1)
-
-distinct_push : {A : Type 0} (e : A → A → Bool) (xs : List A) (y : A) → IsDistinct e xs → list_any (λ z. e z y) xs ≡ false → IsDistinct e (xs ++ y ∷ [])
-unfolding IsDistinct
-distinct_push e [] y d none = (tt, tt)
-distinct_push e (x ∷ xs) y d none =
-    let split = or_false (e x y) (list_any (λ z. e z y) xs) none in
-    (all_push (λ z. e x z ≡ false) xs y d.0 split.0, distinct_push e xs y d.1 split.1)
-
-distinct_pushed : {A : Type 0} (e : A → A → Bool) (xs : List A) (y : A) → IsDistinct e (xs ++ y ∷ []) → IsDistinct e xs × (list_any (λ z. e z y) xs ≡ false)
-unfolding IsDistinct
-distinct_pushed e [] y d = (tt, refl)
-distinct_pushed e (x ∷ xs) y d =
-    let here = all_pushed (λ z. e x z ≡ false) xs y d.0 in
-    let rest = distinct_pushed e xs y d.1 in
-    ((here.0, rest.0), ap (λ b. b || list_any (λ z. e z y) xs) here.1 ∙ rest.1)
-
-all_front : {A : Type 0} (P : A → Type 0) (xs ys : List A) → AllByRecursion P (xs ++ ys) → AllByRecursion P xs
-all_front P [] ys all = tt
-all_front P (x ∷ xs) ys all = (all.0, all_front P xs ys all.1)
-
-distinct_front : {A : Type 0} (e : A → A → Bool) (xs ys : List A) → IsDistinct e (xs ++ ys) → IsDistinct e xs
-unfolding IsDistinct
-distinct_front e [] ys d = tt
-distinct_front e (x ∷ xs) ys d = (all_front (λ y. e x y ≡ false) xs ys d.0, distinct_front e xs ys d.1)
 
 -- ---- The names of receivers.
 

@@ -10,12 +10,12 @@ use Rattle.am_labels.specs.MatcherRefusals.{have_sound_values}
 use Rattle.am_files.specs.declared.limits.TheConstants.{MAX_ROUTES, MAX_LEVELS}
 use Rattle.am_files.specs.Json.{field, member_list, HasOnlyFields}
 use Rattle.am_files.specs.Pointer.{to_field, to_item}
-use Rattle.am_files.specs.Reading.{reading_within, check_count, as_items, as_object, check_only_fields, required_field, read_each, read_next_item, read_items, read_json}
+use Rattle.am_files.specs.Reading.{reading_within, as_items, as_object, required_field, read_each, read_next_item, read_items, read_json}
 use Rattle.am_files.specs.ConfigFile.{RouteSettings, RouteTree, route, Routes, no_routes, next_route, Configuration, MatcherFields, route_matcher_fields, routes_of, matchers_of, route_count, routes_count, route_levels, routes_levels, route_fields, SaysMatcherText, HasItems, SaysMatcherPair, SaysPairs, SaysMatchers, SaysReceiver, SaysContinue, SaysRoute, SaysRoutes, SaysConfig, FileSaysConfig}
-use Rattle.am_files.specs.ConfigReading.{RouteFields, read_receivers, read_receiver, read_continue, read_children, optional_items, refuse_root_matchers, read_matcher_texts, read_next_pair, read_texts, read_pairs, optional_texts, optional_pairs, read_matchers, read_route_fields, read_route, read_next_child, refuse_inhibit_rules, read_config, read_config_file}
+use Rattle.am_files.specs.ConfigReading.{RouteFields, read_receivers, optional_items, refuse_root_matchers, read_matcher_texts, read_next_pair, read_texts, read_pairs, optional_texts, optional_pairs, read_matchers, read_route_fields, read_route, read_next_child, refuse_inhibit_rules, read_config, read_config_file}
 use Rattle.am_files.proofs.Readings.{bind_ok, within_ok, ok_or_some, same_read, check_count_fits, Decides}
-use Rattle.am_files.proofs.Fields.{only_fields_say, only_fields_read, as_object_says, json_says, json_reads}
-use Rattle.am_files.proofs.Routing.{count_push}
+use Rattle.am_files.proofs.Fields.{only_fields_read, as_object_says, json_says, json_reads}
+use Rattle.am_files.proofs.Routing.{are_read, count_push}
 use Rattle.am_files.proofs.Sound.{is_read, no_level, root_unmatched, route_sound}
 use Rattle.am_files.proofs.ConfigParts.{names_say, names_read, receiver_says, receiver_reads, continue_says, continue_reads, optional_items_say, optional_items_read, children_say, children_read, Adds, adds_none, SaysTexts, texts_say, texts_read, pairs_say, pairs_read, sound_append, sound_apart}
 
@@ -141,23 +141,15 @@ pub record SaysFields (names : List (List ℕ)) (parent : Option ℕ) (d : Data)
   pub is_array : HasItems (codes "routes") d fields.items
 
 fields_say : (names : List (List ℕ)) (parent : Option ℕ) (before : ℕ) (d : Data) (fields : RouteFields) → (read_route_fields names parent before d).result ≡ Ok fields → SaysFields names parent d fields
-unfolding read_route_fields
 fields_say names parent before d fields h =
-    let room = bind_ok ((check_count MAX_ROUTES (before + 1)).result) _ fields h in
-    let only = bind_ok ((check_only_fields route_fields d).result) _ fields room.2 in
-    let receiver = bind_ok ((read_receiver names parent d).result) _ fields only.2 in
-    let matchers = bind_ok ((read_matchers route_matcher_fields (is_none parent) d).result) _ fields receiver.2 in
-    let continues = bind_ok ((read_continue d).result) _ fields matchers.2 in
-    let items = bind_ok ((read_children d).result) _ fields continues.2 in
-    let is : record { settings = record { receiver = receiver.0; matchers = matchers.0; continues = continues.0 }; items = items.0 } ≡ fields = same_read _ fields items.2 in
-    let all : SaysFields names parent d (record { settings = record { receiver = receiver.0; matchers = matchers.0; continues = continues.0 }; items = items.0 }) = record {
-      only = only_fields_say route_fields d only.0 only.1;
-      receiver_is = receiver_says names parent d receiver.0 receiver.1;
-      matchers_are = matchers_say route_matcher_fields (is_none parent) d matchers.0 matchers.1;
-      continues_is = continue_says d continues.0 continues.1;
-      is_array = children_say d items.0 items.1;
-    } in
-    subst (λ (x : RouteFields). SaysFields names parent d x) is all
+    let read = are_read names parent before d fields h in
+    record {
+      only = read.only;
+      receiver_is = receiver_says names parent d fields.settings.receiver read.receiver;
+      matchers_are = matchers_say route_matcher_fields (is_none parent) d fields.settings.matchers read.matchers;
+      continues_is = continue_says d fields.settings.continues read.continues;
+      is_array = children_say d fields.items read.items;
+    }
 
 fields_read : (names : List (List ℕ)) (parent : Option ℕ) (before : ℕ) (d : Data) (fields : RouteFields) → SaysFields names parent d fields → before + 1 ≤ MAX_ROUTES → (is_none parent ≡ true → fields.settings.matchers ≡ []) → (read_route_fields names parent before d).result ≡ Ok fields
 unfolding read_route_fields

@@ -2,6 +2,7 @@ pub mod Values
 pub mod Pointers
 pub mod Readings
 pub mod Items
+pub mod Distinct
 pub mod Fields
 pub mod UniverseSays
 pub mod Keys

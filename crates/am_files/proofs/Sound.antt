@@ -1,7 +1,7 @@
 -- What holds of each configuration that was read: its receivers are in range, its root has no matchers, and its routes are
 -- not too many and not too deep.
 use Rattle.std.proofs.Common.{◌≡◌, ℕ, zero, suc, ◌+◌, ◌<◌, ◌≤◌, List, [], ◌∷◌, ◌++◌, length, Bool, true, ◌&&◌, nat_lt, Option, Some, None, Ok, refl, sym, ap, subst, ◌∙◌, arith}
-use Rattle.std.specs.Prelude.{codes, is_none, IfSome}
+use Rattle.std.specs.Prelude.{codes, IfSome}
 use Rattle.std.specs.List.{position}
 use Rattle.std.proofs.lemmas.List.Quantifiers.{position-Some}
 use borrow.Author.Tests.{lt-ltb}
@@ -14,12 +14,12 @@ use Rattle.am_universe.specs.Text.{same_text}
 use Rattle.am_files.specs.declared.limits.TheConstants.{MAX_ROUTES, MAX_LEVELS}
 use Rattle.am_files.specs.Json.{field, member_list}
 use Rattle.am_files.specs.Pointer.{refusal_here, to_field, to_item}
-use Rattle.am_files.specs.Reading.{reading_within, check_count, as_text, as_items, as_object, check_only_fields, read_each, read_next_item, read_items}
-use Rattle.am_files.specs.ConfigFile.{RouteSettings, RouteTree, route, Routes, no_routes, IsConfig, MatcherFields, route_matcher_fields, routes_of, matchers_of, route_count, routes_count, route_levels, routes_levels, has_receivers_below, have_receivers_below, route_fields}
-use Rattle.am_files.specs.ConfigReading.{RouteFields, parent_receiver, receiver_position, receiver_named, effective_receiver, read_receiver, read_continue, read_children, refuse_root_matchers, read_matcher_texts, read_next_pair, read_texts, read_pairs, optional_texts, optional_pairs, read_matchers, read_route_fields, read_route, read_next_child}
+use Rattle.am_files.specs.Reading.{reading_within, as_text, as_items, as_object, read_each, read_next_item, read_items}
+use Rattle.am_files.specs.ConfigFile.{RouteSettings, RouteTree, route, Routes, no_routes, IsConfig, MatcherFields, route_matcher_fields, routes_of, matchers_of, route_count, routes_count, route_levels, routes_levels, has_receivers_below, have_receivers_below}
+use Rattle.am_files.specs.ConfigReading.{RouteFields, parent_receiver, receiver_position, receiver_named, effective_receiver, read_receiver, refuse_root_matchers, read_matcher_texts, read_next_pair, read_texts, read_pairs, optional_texts, optional_pairs, read_matchers, read_route_fields, read_route, read_next_child}
 use Rattle.am_files.proofs.Readings.{bind_ok, within_ok, ok_or_some, same_read}
 use Rattle.am_files.proofs.Matching.{both_true}
-use Rattle.am_files.proofs.Routing.{fields_room, count_push}
+use Rattle.am_files.proofs.Routing.{are_read, count_push}
 
 -- ---- Receivers.
 
@@ -79,29 +79,6 @@ root_matchers_none fields d all h =
     let equal = bind_ok ((optional_pairs true Equal fields.equalities texts.0 (field fields.equalities d)).result) _ all texts.2 in
     let none = texts_none fields.texts (field fields.texts d) texts.0 texts.1 in
     pairs_none Matches fields.patterns equal.0 (field fields.patterns d) all (pairs_none Equal fields.equalities texts.0 (field fields.equalities d) equal.0 none equal.1) equal.2
-
--- ---- The fields of a route.
-
--- the receiver and the matchers that it has
-pub record AreFields (names : List (List ℕ)) (parent : Option ℕ) (d : Data) (fields : RouteFields) : Type 0 where
-  pub receiver : (read_receiver names parent d).result ≡ Ok fields.settings.receiver
-  pub matchers : (read_matchers route_matcher_fields (is_none parent) d).result ≡ Ok fields.settings.matchers
-
-are_fields : (names : List (List ℕ)) (parent : Option ℕ) (before : ℕ) (d : Data) (fields : RouteFields) → (read_route_fields names parent before d).result ≡ Ok fields → AreFields names parent d fields
-unfolding read_route_fields
-are_fields names parent before d fields h =
-    let room = bind_ok ((check_count MAX_ROUTES (before + 1)).result) _ fields h in
-    let only = bind_ok ((check_only_fields route_fields d).result) _ fields room.2 in
-    let receiver = bind_ok ((read_receiver names parent d).result) _ fields only.2 in
-    let matchers = bind_ok ((read_matchers route_matcher_fields (is_none parent) d).result) _ fields receiver.2 in
-    let continues = bind_ok ((read_continue d).result) _ fields matchers.2 in
-    let items = bind_ok ((read_children d).result) _ fields continues.2 in
-    let is : record { settings = record { receiver = receiver.0; matchers = matchers.0; continues = continues.0 }; items = items.0 } ≡ fields = same_read _ fields items.2 in
-    let all : AreFields names parent d (record { settings = record { receiver = receiver.0; matchers = matchers.0; continues = continues.0 }; items = items.0 }) = record {
-      receiver = receiver.1;
-      matchers = matchers.1;
-    } in
-    subst (λ (f : RouteFields). AreFields names parent d f) is all
 
 -- ---- Routes.
 
@@ -184,8 +161,8 @@ pub route_sound : (names : List (List ℕ)) (left : ℕ) (parent : Option ℕ) (
 route_sound names zero parent before d t below h = absurd (no_level names parent before d t h)
 route_sound names (suc left) parent before d t below h =
     let read = is_read names left parent before d t h in
-    let receiver = receiver_below names parent d read.fields.settings.receiver below (are_fields names parent before d read.fields read.fields_are).receiver in
-    let room = fields_room names parent before d read.fields read.fields_are in
+    let receiver = receiver_below names parent d read.fields.settings.receiver below (are_read names parent before d read.fields read.fields_are).receiver in
+    let room = (are_read names parent before d read.fields read.fields_are).room in
     let none : AreSound (length names) left (before + 1) no_routes = record { in_range = refl; levels = omega arith; number = omega (arith, room) } in
     let all = children_sound names left read.fields.settings.receiver (before + 1) (λ n e s. route_sound names left (Some read.fields.settings.receiver) n e s receiver) [] read.fields.items read.children none read.children_are in
     subst (λ (s : RouteTree). IsSound (length names) (suc left) before s) read.is (route_is_sound (length names) left before read.fields.settings (routes_of read.children) receiver all)
@@ -194,7 +171,7 @@ pub root_unmatched : (names : List (List ℕ)) (left before : ℕ) (d : Data) (t
 root_unmatched names zero before d t h = absurd (no_level names None before d t h)
 root_unmatched names (suc left) before d t h =
     let read = is_read names left None before d t h in
-    let none = root_matchers_none route_matcher_fields d read.fields.settings.matchers (are_fields names None before d read.fields read.fields_are).matchers in
+    let none = root_matchers_none route_matcher_fields d read.fields.settings.matchers (are_read names None before d read.fields read.fields_are).matchers in
     ap matchers_of (sym read.is) ∙ none
 
 -- ---- The configuration.

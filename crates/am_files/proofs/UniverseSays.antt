@@ -1,7 +1,7 @@
 -- A value says a universe exactly where reading it finds no fault, and then that universe.
 use Rattle.std.proofs.Common.{◌≡◌, ℕ, ◌<◌, ◌≤◌, List, [], ◌∷◌, ◌++◌, length, Bool, true, false, cond, Option, Some, None, Ok, Err, inl, inr, nat_le, refl, sym, ap, subst, ◌∙◌, append_assoc, append-nil, length-append, arith}
 use Rattle.std.specs.Prelude.{codes}
-use Rattle.std.specs.List.{AllByRecursion, AllZip, IsDistinct}
+use Rattle.std.specs.List.{AllZip, IsDistinct}
 use Rattle.std.proofs.lemmas.List.{map-append}
 use Rattle.std.proofs.lemmas.Slice.Zip.{AllZip-long}
 use borrow.Author.Tests.{lt-leb}
@@ -20,6 +20,7 @@ use Rattle.am_files.specs.Reading.{Reading, ◌>>=◌, accept, reading_within, r
 use Rattle.am_files.specs.UniverseFile.{file_fields, label_fields, SaysValue, SaysLabel, SaysUniverse, read_value, read_next_value, read_values, read_next_label, read_labels, read_universe, read_universe_file, FileSaysUniverse}
 use Rattle.am_files.proofs.Readings.{bind_ok, within_ok, refuse_for_ok, check_count_ok, check_count_fits, same_read, Decides}
 use Rattle.am_files.proofs.Items.{AllFit, items_say, items_read, none_then, none_within, none_items}
+use Rattle.am_files.proofs.Distinct.{all_front, distinct_front}
 use Rattle.am_files.proofs.Fields.{as_text_says, only_fields_say, only_fields_read, none_only_fields, required_text_says, required_text_reads, none_required_text, required_items_say, required_items_read, none_required_items, json_says, json_reads, none_json}
 
 -- ---- A value.
@@ -152,15 +153,6 @@ label_fits : (u : List Label) (label : Label) → label_fault u label ≡ None �
 label_fits u label h =
     let split = no_fault_fits (nat_le max_labels (length u)) _ (name_fault u label.name) (label_values_fault label.values) h in
     record { name = split.0; values = split.1 }
-
-all_front : {A : Type 0} (P : A → Type 0) (xs ys : List A) → AllByRecursion P (xs ++ ys) → AllByRecursion P xs
-all_front P [] ys all = tt
-all_front P (x ∷ xs) ys all = (all.0, all_front P xs ys all.1)
-
-distinct_front : {A : Type 0} (e : A → A → Bool) (xs ys : List A) → IsDistinct e (xs ++ ys) → IsDistinct e xs
-unfolding IsDistinct
-distinct_front e [] ys d = tt
-distinct_front e (x ∷ xs) ys d = (all_front (λ y. e x y ≡ false) xs ys d.0, distinct_front e xs ys d.1)
 
 -- the labels in front are a universe too
 universe_front : (before more : List Label) → IsUniverse (before ++ more) → IsUniverse before

@@ -6,11 +6,11 @@ ghost use Rattle.am_universe.specs.Text.{same_text};
 ghost use Rattle.am_universe.specs.declared.kind.Kind.TheVariants as kinds;
 ghost use Rattle.am_universe.specs.declared.place.Place.TheVariants as places;
 ghost use Rattle.am_files.specs.Pointer.{to_item};
-ghost use Rattle.am_files.specs.Reading.{Gives, MayRefuse, refusal_of, reading_within, read_items};
+ghost use Rattle.am_files.specs.Reading.{Gives, MayRefuse, refusal_of, reading_within, check_only_fields, read_items};
 ghost use Rattle.am_files.specs.RouteView.{route_view, names_of};
 ghost use Rattle.am_files.specs.ConfigView.{config_view, fields_view};
-ghost use Rattle.am_files.specs.ConfigFile.{FileSaysConfig, route_count, routes_count, routes_of};
-ghost use Rattle.am_files.specs.ConfigReading.{receiver_name_fault, read_next_receiver, read_receiver_names, read_receivers, parent_receiver, receiver_position, effective_receiver, read_receiver, boolean_or_false, read_continue, refuse_inhibit_rules, read_route, read_route_fields, read_children, read_next_child, read_config, read_config_file};
+ghost use Rattle.am_files.specs.ConfigFile.{FileSaysConfig, route_fields, route_matcher_fields, route_count, routes_count, routes_of};
+ghost use Rattle.am_files.specs.ConfigReading.{receiver_name_fault, read_next_receiver, read_receiver_names, read_receivers, parent_receiver, receiver_position, effective_receiver, read_receiver, boolean_or_false, read_continue, refuse_inhibit_rules, read_route, read_route_fields, read_matchers, read_children, read_next_child, read_config, read_config_file};
 ghost use Rattle.am_files.specs.Json.{field};
 
 use crate::config::Config;
@@ -235,9 +235,9 @@ fn read_route_fields<'v>(
     ensures { Gives fields_view result (read_route_fields (names_of names.now) parent before (view value.now)) }
 {
     check_count(alloc, MAX_ROUTES, before + 1)?;
-    check_only_fields(alloc, value, &ROUTE_FIELDS)?;
+    check_route_fields(alloc, value)?;
     let receiver = read_receiver(alloc, names, parent, value)?;
-    let matchers = read_matchers(alloc, MATCHER_FIELDS, parent.is_none(), value)?;
+    let matchers = read_route_matchers(alloc, parent.is_none(), value)?;
     let continues = read_continue(alloc, value)?;
     let items = read_children(alloc, value)?;
     Ok(RouteFields {
@@ -246,6 +246,19 @@ fn read_route_fields<'v>(
         continues,
         items,
     })
+}
+
+/// A route has no other fields than those of the form.
+fn check_route_fields(alloc: Global, value: &Value) -> Result<(), ReadError>
+    ensures { Gives (λ _. tt) result (check_only_fields route_fields (view value.now)) }
+{
+    check_only_fields(alloc, value, &ROUTE_FIELDS)
+}
+
+fn read_route_matchers(alloc: Global, is_root: bool, value: &Value) -> Result<Matchers, ReadError>
+    ensures { Gives (λ ms. ms) result (read_matchers route_matcher_fields is_root (view value.now)) }
+{
+    read_matchers(alloc, MATCHER_FIELDS, is_root, value)
 }
 
 /// A route with the levels that are left, its own included, the receiver of its parent, if it has one, and the number

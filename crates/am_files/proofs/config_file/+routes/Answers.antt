@@ -12,7 +12,7 @@ use Rattle.am_files.specs.ConfigFile.{RouteTree, routes_count, routes_of, route_
 use Rattle.am_files.specs.ConfigReading.{read_next_child}
 use Rattle.am_files.proofs.Readings.{leads-refl, within_gives, within_if_ok}
 use Rattle.am_files.proofs.Items.{item_goes_on, item_ends, items_done}
-use Rattle.am_files.proofs.Routing.{too_deep, fields_fail, children_fail, children_give, fields_room, count_push}
+use Rattle.am_files.proofs.Routing.{too_deep, fields_fail, children_fail, children_give, are_read, count_push}
 use Rattle.am_files.proofs.config_file.+routes.Goals as goal
 
 pub read_route-returns-then-levels-eq0-clause-reads : goal.read_route-returns-then-levels-eq0-clause-reads
@@ -24,7 +24,7 @@ read_route-returns-in_err-fields-clause-reads t c =
     rw (p.1, p.2) (fields_fail (names_of c.args.names.now) c.args.levels c.args.parent c.args.before (view c.args.value.now) c.in_err-fields.field-0.0 c.if-levels-eq0.false c.in_err-fields.ensures)
 
 pub read_route-read_routes-requires : goal.read_route-read_routes-requires
-read_route-read_routes-requires t c = (omega (arith, c.decreases, c.if-levels-eq0.false), fields_room (names_of c.args.names.now) c.args.parent c.args.before (view c.args.value.now) (fields_view c.in_ok-fields.fields) c.in_ok-fields.ensures)
+read_route-read_routes-requires t c = (omega (arith, c.decreases, c.if-levels-eq0.false), (are_read (names_of c.args.names.now) c.args.parent c.args.before (view c.args.value.now) (fields_view c.in_ok-fields.fields) c.in_ok-fields.ensures).room)
 
 pub read_route-returns-in_err-routes-clause-reads : goal.read_route-returns-in_err-routes-clause-reads
 read_route-returns-in_err-routes-clause-reads t c =
