@@ -73,7 +73,7 @@ impl ReadError {
         ensures { IsFaultOf place self result }
     {
         match self {
-            ReadError::Memory => Fault::of(alloc, Kind::Memory, Place::Memory),
+            ReadError::Memory => Fault::memory(alloc),
             ReadError::Refused(refusal) => refusal.at(place),
         }
     }

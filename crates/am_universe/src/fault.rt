@@ -1,4 +1,6 @@
 ghost use Rattle.std.specs.Prelude.{◌≡◌, [], string_bytes};
+ghost use Rattle.am_universe.specs.declared.kind.Kind.TheVariants as kinds;
+ghost use Rattle.am_universe.specs.declared.place.Place.TheVariants as places;
 
 use crate::{Kind, Place};
 use std::alloc::Global;
@@ -27,5 +29,14 @@ impl Fault {
             place,
             pointer: String::new(alloc),
         }
+    }
+
+    /// Want of memory, which stands at a place of its own. No memory is taken.
+    pub fn memory(alloc: Global) -> Fault
+        ensures kind { result.kind ≡ kinds.Memory }
+        ensures place { result.place ≡ places.Memory }
+        ensures pointer { string_bytes result.pointer ≡ [] }
+    {
+        Fault::of(alloc, Kind::Memory, Place::Memory)
     }
 }
