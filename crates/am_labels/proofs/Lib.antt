@@ -1,5 +1,7 @@
 mod Patterns
-mod PatternPieces
+mod PatternCuts
+mod PatternForms
+mod PatternJoins
 mod PatternWords
 pub mod MatcherTextPlaces
 pub mod MatcherTextUtf8

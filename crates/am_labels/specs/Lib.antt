@@ -1,4 +1,5 @@
 pub mod PatternProfile
+pub mod PatternCut
 pub mod PatternSteps
 pub mod Pattern
 pub mod PatternView

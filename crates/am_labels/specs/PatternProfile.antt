@@ -1,36 +1,150 @@
--- The profile of patterns. It leaves out forms that Go's engine and the crate `regex` are known to refuse or to read
--- differently, but not all of them. (This project's choice.) A pattern is cut into pieces from left to right, outside or
--- inside a class, and is of the profile where none of them is refused. It is cut by bytes: what has a meaning of its own
--- is ASCII, and a byte from 128 on is plain or stands behind a backslash, so that cutting by characters gives the same.
-use Rattle.std.specs.Prelude.{ℕ, zero, suc, ◌+◌, ◌-◌, List, [], ◌∷◌, ◌++◌, length, take, drop, Bool, true, false, not, ◌==◌, ◌&&◌, ◌||◌, nat_eq, nat_lt, if◌then◌else◌, Option, Some, None, option_map, unwrap_or, codes}
-use Rattle.std.specs.List.{list_any, find, flat_map, starts_with, prefix_len, position}
+-- The profile of patterns. It leaves out forms that Go's engine and the crate `regex` are known to
+-- refuse or to read differently, but not all of them. (This project's choice.) A pattern is a join
+-- of pieces, each of a form that may stand there, outside or inside a class, and it is of the
+-- profile where none of them is refused. Texts are lists of bytes: what has a meaning of its own is
+-- ASCII, and a byte from 128 on is plain or stands behind a backslash, so that pieces of characters
+-- would be the same.
+use Rattle.std.specs.Prelude.{◌≡◌, ◌≢◌, ℕ, List, [], ◌∷◌, ◌++◌, length, slice_index, Bool, true}
+use Rattle.std.specs.Prelude.{false, not, ◌==◌, ◌&&◌, ◌||◌, nat_eq, nat_lt, if◌then◌else◌, IsTrue}
+use Rattle.std.specs.Prelude.{IsFalse, Contains, ⊤, codes}
+use Rattle.std.specs.List.{list_any, list_all, flat_map, starts_with}
 use Rattle.std.specs.Char.{is_ascii_digit, is_ascii_alphabetic}
 use Rattle.regex_syntax.specs.Reading.{◌∈◌, begins}
-use Rattle.am_labels.specs.declared.pattern_profile.Region.{Region}
-use Rattle.am_labels.specs.declared.pattern_profile.Region.TheVariants.{Outside, Inside}
 
--- What stands at the front of a text. A length counts bytes.
+-- where a piece stands
+pub data ClassContext : Type 0 where
+  outside_class : ClassContext
+  inside_class : ClassContext
+
+-- ---- The forms of pieces.
+
 pub data Piece : Type 0 where
-  -- a backslash and the character after it, with the length of the braces that are taken together with them
-  escape : ℕ → ℕ → Piece
+  -- a backslash and the character after it
+  escape : ℕ → Piece
+  -- the same with braces: the character, and what stands between `{` and `}`
+  braced_escape : ℕ → List ℕ → Piece
+  -- the same with braces that are not closed, at the end of the pattern
+  open_escape : ℕ → List ℕ → Piece
   -- a backslash at the end of the pattern
   last_backslash : Piece
-  -- outside a class, `(?`; with the longest run of letters and `-` that follows
+  -- outside, `(?` and the letters and `-` that follow
   flags : List ℕ → Piece
-  -- outside a class, `{`; whether it begins `{n}`, `{n,}` or `{n,m}`
-  brace : Bool → Piece
-  -- the beginning of a class, and its length
-  class_start : ℕ → Piece
-  -- inside a class, `[:NAME:]` or `[:^NAME:]`, and its length
-  named_class : ℕ → Piece
-  -- inside a class, any other `[`
+  -- outside, `{n}`, `{n,}` or `{n,m}`: the n, and what stands between it and the `}`
+  count : List ℕ → List ℕ → Piece
+  -- outside, any other `{`
+  brace : Piece
+  -- outside, the beginning of a class: `[`, then `^` or not, then `]` or not
+  class_start : Bool → Bool → Piece
+  -- inside, `[:NAME:]` or `[:^NAME:]`
+  named_class : List ℕ → Piece
+  -- inside, any other `[`
   bracket : Piece
-  -- inside a class, `&&`, `--` or `~~`
-  pair : Piece
-  -- inside a class, `]`
+  -- inside, `&&`, `--` or `~~`
+  pair : ℕ → Piece
+  -- inside, `]`
   class_end : Piece
   -- every other character
-  plain : Piece
+  plain : ℕ → Piece
+
+-- the text of a piece
+abbrev pub piece_text : Piece → List ℕ
+piece_text (escape c) = 92 ∷ c ∷ []
+piece_text (braced_escape c inner) = 92 ∷ c ∷ 123 ∷ (inner ++ 125 ∷ [])
+piece_text (open_escape c inner) = 92 ∷ c ∷ 123 ∷ inner
+piece_text last_backslash = codes "\\"
+piece_text (flags run) = 40 ∷ 63 ∷ run
+piece_text (count least more) = 123 ∷ (least ++ (more ++ 125 ∷ []))
+piece_text brace = codes "{"
+piece_text (class_start negated closing) =
+    91 ∷ ((if negated then codes "^" else []) ++ (if closing then codes "]" else []))
+piece_text (named_class text) = text
+piece_text bracket = codes "["
+piece_text (pair c) = c ∷ c ∷ []
+piece_text class_end = codes "]"
+piece_text (plain c) = c ∷ []
+
+-- the characters whose escape takes a directly following `{` and all up to the next `}`
+abbrev pub takes_braces : ℕ → Bool
+takes_braces c = c ∈ "xpP"
+
+-- no `}` stands in the text
+abbrev pub has_no_closing : List ℕ → Bool
+has_no_closing text = list_all (λ c. not (c == 125)) text
+
+-- what may stand in the run behind `(?`: a letter or `-`
+abbrev pub is_flag : ℕ → Bool
+is_flag c = is_ascii_alphabetic c || c == 45
+
+-- a number: one digit or more
+abbrev pub is_number : List ℕ → Bool
+is_number n = nat_lt 0 (length n) && list_all is_ascii_digit n
+
+-- what may stand behind the n of a count: nothing, or `,` and an m, which may be missing
+abbrev pub is_upper : List ℕ → Bool
+is_upper [] = true
+is_upper (c ∷ m) = c == 44 && list_all is_ascii_digit m
+
+-- each NAME of `[:NAME:]`
+unfoldable pub class_names : List (List ℕ)
+class_names =
+    codes "alnum" ∷ codes "alpha" ∷ codes "ascii" ∷ codes "blank" ∷ codes "cntrl"
+    ∷ codes "digit" ∷ codes "graph" ∷ codes "lower" ∷ codes "print" ∷ codes "punct"
+    ∷ codes "space" ∷ codes "upper" ∷ codes "word" ∷ codes "xdigit" ∷ []
+
+-- `[:NAME:]` and `[:^NAME:]`
+unfoldable pub named_classes : List (List ℕ)
+named_classes =
+    flat_map
+    (λ name. (codes "[:" ++ name ++ codes ":]") ∷ (codes "[:^" ++ name ++ codes ":]") ∷ [])
+    class_names
+
+-- a named class begins there
+abbrev pub begins_named_class : List ℕ → Bool
+begins_named_class text = list_any (λ named. starts_with nat_eq text named) named_classes
+
+-- The beginning of a class is as long as it can be, given what follows it.
+abbrev pub is_longest_start : Bool → Bool → List ℕ → Bool
+is_longest_start negated true rest = true
+is_longest_start true false rest = not (begins "]" rest)
+is_longest_start false false rest = not (begins "^" rest || begins "]" rest)
+
+-- outside a class every other form begins with one of these, or with `(?`
+abbrev pub is_plain_outside : ℕ → List ℕ → Bool
+is_plain_outside c rest = not (c ∈ "\\{[" || c == 40 && begins "?" rest)
+
+-- inside a class every other form begins with one of these, or is two characters side by side
+abbrev pub is_plain_inside : ℕ → List ℕ → Bool
+is_plain_inside c rest = not (c ∈ "\\[]" || c ∈ "&-~" && slice_index rest 0 == c)
+
+-- A piece may stand in a context before the rest of the pattern: its form is one of that context,
+-- and goes as far as it can.
+abbrev pub StandsIn : ClassContext → Piece → List ℕ → Type 0
+StandsIn context (escape c) rest = IsFalse (takes_braces c && begins "{" rest)
+StandsIn context (braced_escape c inner) rest = IsTrue (takes_braces c && has_no_closing inner)
+StandsIn context (open_escape c inner) rest =
+    IsTrue (takes_braces c && has_no_closing inner) × (rest ≡ [])
+StandsIn context last_backslash rest = rest ≡ []
+StandsIn outside_class (flags run) rest =
+    IsTrue (list_all is_flag run && not (is_flag (slice_index rest 0)))
+StandsIn outside_class (count least more) rest = IsTrue (is_number least && is_upper more)
+StandsIn outside_class brace rest =
+    (least more after : List ℕ) → IsTrue (is_number least && is_upper more)
+    → rest ≢ least ++ (more ++ 125 ∷ after)
+StandsIn outside_class (class_start negated closing) rest =
+    IsTrue (is_longest_start negated closing rest)
+StandsIn outside_class (plain c) rest = IsTrue (is_plain_outside c rest)
+StandsIn inside_class (named_class text) rest = Contains named_classes text
+StandsIn inside_class bracket rest = IsFalse (begins_named_class (91 ∷ rest))
+StandsIn inside_class (pair c) rest = IsTrue (c ∈ "&-~")
+StandsIn inside_class class_end rest = ⊤
+StandsIn inside_class (plain c) rest = IsTrue (is_plain_inside c rest)
+StandsIn context piece rest = ⊥
+
+-- where the next piece stands
+abbrev pub context_after : ClassContext → Piece → ClassContext
+context_after context (class_start negated closing) = inside_class
+context_after context class_end = outside_class
+context_after context _ = context
 
 -- ---- What is refused.
 
@@ -40,7 +154,8 @@ is_escape_letter c = list_any (λ letter. letter == c) (codes "dDwWsSbBtnrfvaAzx
 
 -- a backslash may not stand before `<`, `>`, a digit, or any other letter
 abbrev pub is_refused_escape : ℕ → Bool
-is_refused_escape c = c ∈ "<>" || is_ascii_digit c || is_ascii_alphabetic c && not (is_escape_letter c)
+is_refused_escape c =
+    c ∈ "<>" || is_ascii_digit c || is_ascii_alphabetic c && not (is_escape_letter c)
 
 -- the letters that no run of flags may hold
 abbrev pub is_refused_flag : ℕ → Bool
@@ -48,120 +163,28 @@ is_refused_flag c = c ∈ "xuR"
 
 -- a piece that may stand in no pattern of the profile
 abbrev pub is_refused : Piece → Bool
-is_refused (escape c braces) = is_refused_escape c
-is_refused last_backslash = false
+is_refused (escape c) = is_refused_escape c
 is_refused (flags run) = list_any is_refused_flag run
-is_refused (brace begins_count) = not begins_count
-is_refused (class_start n) = false
-is_refused (named_class n) = false
+is_refused brace = true
 is_refused bracket = true
-is_refused pair = true
-is_refused class_end = false
-is_refused plain = false
+is_refused (pair c) = true
+is_refused _ = false
 
--- ---- How a pattern is cut.
+-- ---- Patterns.
 
--- The length of what is taken together. (The rest of a run of flags and of a count is plain by itself.)
-abbrev pub width : Piece → ℕ
-width (escape c braces) = 2 + braces
-width last_backslash = 1
-width (flags run) = 2
-width (brace begins_count) = 1
-width (class_start n) = n
-width (named_class n) = n
-width bracket = 1
-width pair = 2
-width class_end = 1
-width plain = 1
+-- the pieces stand there, one behind the other, the first of them in this context
+abbrev pub Stand : ClassContext → List Piece → Type 0
+Stand context [] = ⊤
+Stand context (piece ∷ pieces) =
+    StandsIn context piece (flat_map piece_text pieces) × Stand (context_after context piece) pieces
 
--- where the next piece stands
-abbrev pub region_after : Region → Piece → Region
-region_after region (class_start n) = Inside
-region_after region class_end = Outside
-region_after region p = region
+-- A pattern is a join of these pieces. It begins outside a class.
+pub record IsJoinOf (pattern : List ℕ) (pieces : List Piece) : Type 0 where
+  pub join : pattern ≡ flat_map piece_text pieces
+  pub stand : Stand outside_class pieces
 
--- up to the next `}`, or to the end
-abbrev pub up_to_brace : List ℕ → ℕ
-up_to_brace t = unwrap_or (option_map (λ i. i + 1) (position (λ c. c == 125) t)) (length t)
-
--- After `\x`, `\p` and `\P` a directly following `{` is taken together with all up to the next `}`.
-abbrev pub braces_len : ℕ → List ℕ → ℕ
-braces_len c t = if c ∈ "xpP" && begins "{" t then up_to_brace t else 0
-
--- behind a backslash
-abbrev pub escape_piece : List ℕ → Piece
-escape_piece [] = last_backslash
-escape_piece (c ∷ t) = escape c (braces_len c t)
-
--- behind the `(?`
-abbrev pub flag_run_len : List ℕ → ℕ
-flag_run_len t = prefix_len (λ c. is_ascii_alphabetic c || c == 45) t
-
--- the letters and `-` directly behind the `(?`
-abbrev pub flag_run : List ℕ → List ℕ
-flag_run t = take (flag_run_len t) t
-
--- how many digits a text begins with
-abbrev pub digits_len : List ℕ → ℕ
-digits_len t = prefix_len is_ascii_digit t
-
--- behind the `{`: `n}`, `n,}` or `n,m}`, each number of one digit or more
-abbrev pub begins_count : List ℕ → Bool
-begins_count t =
-    let after = drop (digits_len t) t in
-    nat_lt 0 (digits_len t)
-    && (begins "}" after || begins "," after && begins "}" (drop (digits_len (drop 1 after)) (drop 1 after)))
-
--- `[`, then `^` if it follows directly, then `]` if it follows directly
-abbrev pub class_start_len : List ℕ → ℕ
-class_start_len t = if begins "[^]" t then 3 else if begins "[^" t then 2 else if begins "[]" t then 2 else 1
-
--- each NAME of `[:NAME:]`
-unfoldable pub class_names : List (List ℕ)
-class_names =
-    codes "alnum" ∷ codes "alpha" ∷ codes "ascii" ∷ codes "blank" ∷ codes "cntrl" ∷ codes "digit" ∷ codes "graph"
-    ∷ codes "lower" ∷ codes "print" ∷ codes "punct" ∷ codes "space" ∷ codes "upper" ∷ codes "word" ∷ codes "xdigit" ∷ []
-
--- `[:NAME:]` and `[:^NAME:]`
-unfoldable pub named_classes : List (List ℕ)
-named_classes = flat_map (λ name. (codes "[:" ++ name ++ codes ":]") ∷ (codes "[:^" ++ name ++ codes ":]") ∷ []) class_names
-
--- the named class that a text begins with, if it begins with one
-abbrev pub named_class_at : List ℕ → Option (List ℕ)
-named_class_at t = find (λ named. starts_with nat_eq t named) named_classes
-
--- the piece at a `[` inside a class, given the named class that begins there, if one does
-abbrev pub bracket_piece : Option (List ℕ) → Piece
-bracket_piece None = bracket
-bracket_piece (Some named) = named_class (length named)
-
--- the first piece of a text that is not empty
-unfoldable pub first_piece : Region → List ℕ → Piece
-first_piece Outside t =
-    if begins "\\" t then escape_piece (drop 1 t)
-    else if begins "(?" t then flags (flag_run (drop 2 t))
-    else if begins "{" t then brace (begins_count (drop 1 t))
-    else if begins "[" t then class_start (class_start_len t)
-    else plain
-first_piece Inside t =
-    if begins "\\" t then escape_piece (drop 1 t)
-    else if begins "[" t then bracket_piece (named_class_at t)
-    else if begins "&&" t || begins "--" t || begins "~~" t then pair
-    else if begins "]" t then class_end
-    else plain
-
--- The pieces of a text. The number bounds how many there are: each takes one character at least.
-unfoldable pub pieces : ℕ → Region → List ℕ → List Piece
-pieces zero region t = []
-pieces (suc n) region [] = []
-pieces (suc n) region (c ∷ t) =
-    let piece = first_piece region (c ∷ t) in
-    piece ∷ pieces n (region_after region piece) (drop (width piece - 1) t)
-
--- nothing refused stands in a text that begins there
-unfoldable pub is_clean : Region → List ℕ → Bool
-is_clean region t = not (list_any is_refused (pieces (length t) region t))
-
--- A pattern of the profile. It begins outside a class.
-abbrev pub in_profile : List ℕ → Bool
-in_profile pattern = is_clean Outside pattern
+-- a pattern of the profile: a join of pieces, none of which is refused
+pub record IsInProfile (pattern : List ℕ) : Type 0 where
+  pub pieces : List Piece
+  pub is_join : IsJoinOf pattern pieces
+  pub none_refused : list_any is_refused pieces ≡ false

@@ -1,9 +1,21 @@
--- A piece of a pattern as the code keeps it.
-use Rattle.std.specs.Prelude.{Option, Some, None, if◌then◌else◌}
-use Rattle.am_labels.specs.PatternProfile.{Piece, is_refused, width, region_after}
+-- Where a piece of a pattern stands, and a step through it, as the code keeps them.
+use Rattle.std.specs.Prelude.{Option, option_map}
+use Rattle.am_labels.specs.PatternProfile.{ClassContext, outside_class, inside_class}
+use Rattle.am_labels.specs.PatternCut.{CutStep}
 use Rattle.am_labels.specs.declared.pattern_profile.Region.{Region}
+use Rattle.am_labels.specs.declared.pattern_profile.Region.TheVariants.{Outside, Inside}
 use Rattle.am_labels.specs.declared.pattern_profile.Step.{Step}
 
--- how far a piece goes and where the next one stands; nothing where it is refused
-abbrev pub step_of : Region → Piece → Option Step
-step_of region piece = if is_refused piece then None else Some (record { width = width piece; next = region_after region piece })
+-- the context that a region is
+abbrev pub context_of : Region → ClassContext
+context_of Outside = outside_class
+context_of Inside = inside_class
+
+-- and back
+abbrev pub region_of : ClassContext → Region
+region_of outside_class = Outside
+region_of inside_class = Inside
+
+-- a step, if there is one
+abbrev pub step_of : Option CutStep → Option Step
+step_of found = option_map (λ s. record { width = s.width; next = region_of s.next }) found

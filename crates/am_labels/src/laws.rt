@@ -1,9 +1,11 @@
 //! Facts about the definitions alone: each is the contract of a function with an empty body.
-ghost use Rattle.std.specs.Prelude.{◌≡◌, ◌↔◌, ℕ, List, Some};
+ghost use Rattle.std.specs.Prelude.{◌≡◌, ◌↔◌, ℕ, List, Some, IsTrue};
 ghost use Rattle.am_universe.specs.Universe as spec;
 ghost use Rattle.am_universe.specs.Choice.{IsWhole};
 ghost use Rattle.am_universe.specs.LabelSet.{label_set_of};
 ghost use Rattle.am_labels.specs.Matcher.{Condition, condition_holds, all_hold};
+ghost use Rattle.am_labels.specs.PatternProfile.{Piece, IsJoinOf, IsInProfile};
+ghost use Rattle.am_labels.specs.PatternCut.{in_profile};
 ghost use Rattle.am_labels.specs.Row.{row_of, row_holds, rows_hold};
 ghost use Rattle.am_labels.specs.MatcherText.{Spells};
 ghost use Rattle.am_labels.specs.MatcherReading.{read_list};
@@ -12,6 +14,16 @@ pub use am_universe::laws::{
     a_label_is_added_exactly_to_a_universe, choices_are_the_whole_choices, choices_ascend,
     declared_value, one_choice_a_line, same_text_decides, undeclared_value,
 };
+
+/// Every pattern is a join of pieces.
+pub fn each_pattern_is_a_join()
+    ensures { (pattern : List ℕ) → (pieces : List Piece) × IsJoinOf pattern pieces }
+{}
+
+/// A pattern is of the profile exactly where the test passes that cuts it step by step.
+pub fn the_profile_is_decided()
+    ensures { (pattern : List ℕ) → IsInProfile pattern ↔ IsTrue (in_profile pattern) }
+{}
 
 /// A text spells at most one list of matchers.
 pub fn one_list_a_text()
@@ -29,7 +41,8 @@ pub fn a_row_decides_a_matcher()
         → condition_holds (label_set_of u c) m ≡ row_holds (row_of u m) c }
 {}
 
-/// The truth of a list of matchers on the label set of a whole choice: each one's row is true at that choice.
+/// The truth of a list of matchers on the label set of a whole choice: each one's row is true at
+/// that choice.
 pub fn rows_decide_a_list()
     ensures { (u : List spec.Label) (c : List ℕ) (ms : List Condition) → spec.IsUniverse u → IsWhole (spec.sizes u) c
         → all_hold (label_set_of u c) ms ≡ rows_hold u ms c }

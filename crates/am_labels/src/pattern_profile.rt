@@ -1,7 +1,8 @@
-ghost use Rattle.std.specs.Prelude.{◌≡◌, ◌≤◌, ◌<◌, ◌-◌, length, Some, None, true, false, if◌then◌else◌, option_map, map, IfSome, ◌==◌, nat_eq, ◌+◌, not};
+ghost use Rattle.std.specs.Prelude.{◌≡◌, ◌≤◌, ◌<◌, length, option_map, map, IfSome, ◌==◌, nat_eq, ◌+◌, not};
 ghost use Rattle.std.specs.List.{list_any, find, starts_with, position};
-ghost use Rattle.am_labels.specs.PatternProfile.{in_profile, width, first_piece, escape_piece, is_refused_escape, is_refused_flag, flag_run, flag_run_len, begins_count, digits_len, class_start_len, named_class_at, up_to_brace, braces_len};
-ghost use Rattle.am_labels.specs.PatternSteps.{step_of};
+ghost use Rattle.am_labels.specs.PatternProfile.{outside_class, inside_class, is_refused_escape, is_refused_flag};
+ghost use Rattle.am_labels.specs.PatternCut.{in_profile, first_step, escape_len, flag_run, flag_run_len, begins_count, digits_len, class_start_len, named_class_at, up_to_brace, braces_len};
+ghost use Rattle.am_labels.specs.PatternSteps.{context_of, step_of};
 
 /// Where a piece of a pattern stands: outside or inside a class.
 #[derive(Clone, Copy)]
@@ -10,7 +11,7 @@ enum Region {
     Inside,
 }
 
-/// A piece of a pattern that the profile has: its length, and where the next one stands.
+/// A step through a pattern: how far it goes, and where what follows stands.
 #[derive(Clone, Copy)]
 struct Step {
     width: usize,
@@ -42,10 +43,10 @@ pub(crate) fn is_in_profile(pattern: &str) -> bool
     true
 }
 
-/// The first piece of a text; `None` where it is refused.
+/// The first step through a text; `None` where it is refused.
 fn first_step(region: Region, text: &[u8]) -> Option<Step>
     requires { 0 < length text.now }
-    ensures value { result ≡ step_of region (first_piece region text.now) }
+    ensures value { result ≡ step_of (first_step (context_of region) text.now) }
     ensures within { IfSome result (λ step. step.width ≤ length text.now) }
     ensures some { IfSome result (λ step. 0 < step.width) }
 {
@@ -55,16 +56,17 @@ fn first_step(region: Region, text: &[u8]) -> Option<Step>
     }
 }
 
-/// The first piece of a text outside a class.
-#[tactic(auto, unfolding(crate::specs::PatternProfile::first_piece))]
+/// The first step through a text outside a class.
+#[tactic(auto, unfolding(crate::specs::PatternCut::first_step))]
 fn outside_step(text: &[u8]) -> Option<Step>
     requires { 0 < length text.now }
-    ensures value { result ≡ step_of Region.Outside (first_piece Region.Outside text.now) }
+    ensures value { result ≡ step_of (first_step outside_class text.now) }
     ensures within { IfSome result (λ step. step.width ≤ length text.now) }
     ensures some { IfSome result (λ step. 0 < step.width) }
 {
     if text.starts_with(b"\\") {
-        return escape_step(Region::Outside, &text[1..]);
+        let width = escape_len(&text[1..])?;
+        return Some(Step::to(width, Region::Outside));
     }
     if text.starts_with(b"(?") {
         return has_only_common_flags(&text[2..]).then_some(Step::to(2, Region::Outside));
@@ -78,16 +80,17 @@ fn outside_step(text: &[u8]) -> Option<Step>
     Some(Step::to(1, Region::Outside))
 }
 
-/// The first piece of a text inside a class.
-#[tactic(auto, unfolding(crate::specs::PatternProfile::first_piece))]
+/// The first step through a text inside a class.
+#[tactic(auto, unfolding(crate::specs::PatternCut::first_step))]
 fn inside_step(text: &[u8]) -> Option<Step>
     requires { 0 < length text.now }
-    ensures value { result ≡ step_of Region.Inside (first_piece Region.Inside text.now) }
+    ensures value { result ≡ step_of (first_step inside_class text.now) }
     ensures within { IfSome result (λ step. step.width ≤ length text.now) }
     ensures some { IfSome result (λ step. 0 < step.width) }
 {
     if text.starts_with(b"\\") {
-        return escape_step(Region::Inside, &text[1..]);
+        let width = escape_len(&text[1..])?;
+        return Some(Step::to(width, Region::Inside));
     }
     if text.starts_with(b"[") {
         let width = named_class_len(text)?;
@@ -102,19 +105,19 @@ fn inside_step(text: &[u8]) -> Option<Step>
     Some(Step::to(1, Region::Inside))
 }
 
-/// The piece that a backslash begins, from what stands behind it.
-fn escape_step(region: Region, after: &[u8]) -> Option<Step>
-    ensures value { result ≡ step_of region (escape_piece after.now) }
-    ensures within { IfSome result (λ step. step.width ≤ length after.now + 1) }
-    ensures some { IfSome result (λ step. 0 < step.width) }
+/// The length of the escape that a backslash begins, from what stands behind it; `None` where it is refused.
+fn escape_len(after: &[u8]) -> Option<usize>
+    ensures value { result ≡ escape_len after.now }
+    ensures within { IfSome result (λ n. n ≤ length after.now + 1) }
+    ensures some { IfSome result (λ n. 0 < n) }
 {
     match after {
-        [] => Some(Step::to(1, region)),
+        [] => Some(1),
         [byte, rest @ ..] => {
             if is_refused_escape(*byte) {
                 return None;
             }
-            Some(Step::to(2 + braces_len(*byte, rest), region))
+            Some(2 + braces_len(*byte, rest))
         }
     }
 }

@@ -1,0 +1,257 @@
+-- Every pattern is a join of pieces, and it is of the profile where none of them is refused.
+use Rattle.std.proofs.Common.{◌≡◌, ◌↔◌, refl, sym, ◌∙◌, ap, subst, inl, inr, ◌⊎◌, ℕ, zero, suc, ◌+◌}
+use Rattle.std.proofs.Common.{◌-◌, ◌<◌, ◌≤◌, List, [], ◌∷◌, ◌++◌, length, take, drop, get_or, Bool}
+use Rattle.std.proofs.Common.{true, false, not, ◌&&◌, ◌||◌, cond, arith, Contains, nat_eq, IsTrue}
+use Rattle.std.specs.Prelude.{◌==◌}
+use Rattle.std.specs.List.{list_all, list_any, flat_map, starts_with, prefix_len}
+use Rattle.std.proofs.lemmas.List.{append_assoc, append-nil, length-append, take-append-drop}
+use Rattle.std.proofs.lemmas.Bool.{and_parts, and_from, cases_Bool, eqb-true, not-true}
+use Rattle.std.proofs.lemmas.Bool.{not_from_false, false≢true}
+use Rattle.regex_syntax.specs.Reading.{◌∈◌, begins}
+use Rattle.am_labels.specs.PatternProfile.{ClassContext, outside_class, inside_class, Piece, escape}
+use Rattle.am_labels.specs.PatternProfile.{braced_escape, open_escape, last_backslash, flags, count}
+use Rattle.am_labels.specs.PatternProfile.{brace, class_start, named_class, bracket, pair}
+use Rattle.am_labels.specs.PatternProfile.{class_end, plain, piece_text, takes_braces}
+use Rattle.am_labels.specs.PatternProfile.{has_no_closing, is_flag, is_number, is_upper}
+use Rattle.am_labels.specs.PatternProfile.{named_classes, begins_named_class, is_plain_outside}
+use Rattle.am_labels.specs.PatternProfile.{is_plain_inside, StandsIn, context_after, is_refused}
+use Rattle.am_labels.specs.PatternProfile.{Stand, IsJoinOf, IsInProfile}
+use Rattle.am_labels.specs.PatternCut.{begins_count, is_clean, in_profile}
+use Rattle.am_labels.proofs.PatternCuts.{is_clean-nil}
+use Rattle.am_labels.proofs.PatternForms.{CountAt, count_at, count_begins, begins_one, found_first}
+use Rattle.am_labels.proofs.PatternForms.{cut_off}
+use Rattle.am_labels.proofs.MatcherTextLists.{all_of_prefix, first_after_prefix}
+
+-- ---- The piece at the front of a text.
+
+record Front (context : ClassContext) (text : List ℕ) : Type 0 where
+  piece : Piece
+  rest : List ℕ
+  whole : text ≡ piece_text piece ++ rest
+  stands : StandsIn context piece rest
+
+-- a text up to its first `}`
+record Closed (text : List ℕ) : Type 0 where
+  inner : List ℕ
+  rest : List ℕ
+  whole : text ≡ inner ++ 125 ∷ rest
+  free : has_no_closing inner ≡ true
+
+up_to_closing : (text : List ℕ) → Closed text ⊎ (has_no_closing text ≡ true)
+up_to_closing [] = inr refl
+up_to_closing (c ∷ text) = elim (cases_Bool (c == 125)) [
+  | inl e ↦ inl (record { inner = []; rest = text; whole = ap (λ d. d ∷ text) (eqb-true c 125 e); free = refl })
+  | inr f ↦ elim (up_to_closing text) [
+    | inl s ↦ inl (record { inner = c ∷ s.inner; rest = s.rest; whole = ap (λ r. c ∷ r) s.whole; free = rw f s.free })
+    | inr free ↦ inr (rw f free)
+  ]
+]
+
+escape_front : (context : ClassContext) (t : List ℕ) → Front context (92 ∷ t)
+escape_front context [] = record { piece = last_backslash; rest = []; whole = refl; stands = refl }
+escape_front context (d ∷ u) = elim (cases_Bool (takes_braces d && begins "{" u)) [
+  | inl taken ↦
+      let parts = and_parts (takes_braces d) (begins "{" u) taken in
+      let opened : u ≡ 123 ∷ drop 1 u = begins_one 123 u parts.1 in
+      elim (up_to_closing (drop 1 u)) [
+        | inl s ↦ record {
+          piece = braced_escape d s.inner;
+          rest = s.rest;
+          whole = ap (λ r. 92 ∷ d ∷ r) (opened ∙ ap (λ r. 123 ∷ r) (s.whole ∙ sym (append_assoc s.inner (125 ∷ []) s.rest)));
+          stands = and_from (takes_braces d) (has_no_closing s.inner) parts.0 s.free;
+        }
+        | inr free ↦ record {
+          piece = open_escape d (drop 1 u);
+          rest = [];
+          whole = ap (λ r. 92 ∷ d ∷ r) (opened ∙ ap (λ r. 123 ∷ r) (sym (append-nil (drop 1 u))));
+          stands = (and_from (takes_braces d) (has_no_closing (drop 1 u)) parts.0 free, refl);
+        }
+      ]
+  | inr alone ↦ record { piece = escape d; rest = u; whole = refl; stands = alone }
+]
+
+flags_front : (t : List ℕ) → Front outside_class (40 ∷ 63 ∷ t)
+flags_front t =
+    let run : List ℕ = take (prefix_len is_flag t) t in
+    let rest : List ℕ = drop (prefix_len is_flag t) t in
+    record {
+      piece = flags run;
+      rest = rest;
+      whole = ap (λ r. 40 ∷ 63 ∷ r) (sym (take-append-drop (prefix_len is_flag t) t));
+      stands = and_from (list_all is_flag run) (not (is_flag (get_or rest 0 0))) (all_of_prefix is_flag t) (not_from_false (is_flag (get_or rest 0 0)) (first_after_prefix is_flag t refl));
+    }
+
+no_count : (t : List ℕ) → begins_count t ≡ false → (least more after : List ℕ)
+    → (is_number least && is_upper more) ≡ true → t ≡ least ++ (more ++ 125 ∷ after) → ⊥
+no_count t none least more after h e = false≢true (sym none ∙ ap begins_count e ∙ count_begins least more after h)
+
+brace_front : (t : List ℕ) → Front outside_class (123 ∷ t)
+brace_front t = elim (cases_Bool (begins_count t)) [
+  | inl here ↦
+      let c = count_at t here in
+      record {
+        piece = count c.least c.more;
+        rest = c.after;
+        whole = ap (λ r. 123 ∷ r) (c.whole ∙ ap (λ r. c.least ++ r) (sym (append_assoc c.more (125 ∷ []) c.after)) ∙ sym (append_assoc c.least (c.more ++ 125 ∷ []) c.after));
+        stands = c.is_count;
+      }
+  | inr other ↦ record { piece = brace; rest = t; whole = refl; stands = no_count t other }
+]
+
+start_behind : (t : List ℕ) → Front outside_class (91 ∷ 94 ∷ t)
+start_behind [] = record { piece = class_start true false; rest = []; whole = refl; stands = refl }
+start_behind (r ∷ t) = elim (cases_Bool (93 == r)) [
+  | inl e ↦ record { piece = class_start true true; rest = t; whole = ap (λ x. 91 ∷ 94 ∷ x ∷ t) (sym (eqb-true 93 r e)); stands = refl }
+  | inr f ↦ record { piece = class_start true false; rest = r ∷ t; whole = refl; stands = rw f refl }
+]
+
+start_front : (t : List ℕ) → Front outside_class (91 ∷ t)
+start_front [] = record { piece = class_start false false; rest = []; whole = refl; stands = refl }
+start_front (r ∷ t) = elim (cases_Bool (94 == r)) [
+  | inl e ↦ subst (λ (x : ℕ). Front outside_class (91 ∷ x ∷ t)) (eqb-true 94 r e) (start_behind t)
+  | inr f ↦ elim (cases_Bool (93 == r)) [
+    | inl e ↦ record { piece = class_start false true; rest = t; whole = ap (λ x. 91 ∷ x ∷ t) (sym (eqb-true 93 r e)); stands = refl }
+    | inr g ↦ record { piece = class_start false false; rest = r ∷ t; whole = refl; stands = rw (f, g) refl }
+  ]
+]
+
+-- the text with its first byte known
+at_first : (context : ClassContext) (x c : ℕ) (t : List ℕ) → (c == x) ≡ true → Front context (x ∷ t)
+    → Front context (c ∷ t)
+at_first context x c t e f = subst (λ (d : ℕ). Front context (d ∷ t)) (sym (eqb-true c x e)) f
+
+outside_front : (c : ℕ) (t : List ℕ) → Front outside_class (c ∷ t)
+outside_front c t = elim (cases_Bool (c == 92)) [
+  | inl e ↦ at_first outside_class 92 c t e (escape_front outside_class t)
+  | inr backslash ↦ elim (cases_Bool (c == 123)) [
+    | inl e ↦ at_first outside_class 123 c t e (brace_front t)
+    | inr not_brace ↦ elim (cases_Bool (c == 91)) [
+      | inl e ↦ at_first outside_class 91 c t e (start_front t)
+      | inr not_bracket ↦ elim (cases_Bool (c == 40 && begins "?" t)) [
+        | inl group ↦
+            let parts = and_parts (c == 40) (begins "?" t) group in
+            at_first outside_class 40 c t parts.0 (subst (λ (u : List ℕ). Front outside_class (40 ∷ u)) (sym (begins_one 63 t parts.1)) (flags_front (drop 1 t)))
+        | inr none ↦ record { piece = plain c; rest = t; whole = refl; stands = rw (backslash, not_brace, not_bracket, none) refl }
+      ]
+    ]
+  ]
+]
+
+starts_split : (t w : List ℕ) → starts_with nat_eq t w ≡ true → t ≡ w ++ drop (length w) t
+starts_split t [] h = refl
+starts_split [] (x ∷ w) h = absurd (false≢true h)
+starts_split (c ∷ t) (x ∷ w) h =
+    let parts = and_parts (x == c) (starts_with nat_eq t w) h in
+    ap (λ d. d ∷ t) (sym (eqb-true x c parts.0)) ∙ ap (λ r. x ∷ r) (starts_split t w parts.1)
+
+-- the elements of a list that pass a test
+any_of : {X : Type 0} (test : X → Bool) (xs : List X) → list_any test xs ≡ true
+    → (x : X) × Contains xs x × (test x ≡ true)
+any_of test [] h = absurd (false≢true h)
+any_of test (y ∷ ys) h = elim (cases_Bool (test y)) [
+  | inl passes ↦ (y, (0, omega arith, refl), passes)
+  | inr fails ↦
+      let later = any_of test ys (rw fails at h) in
+      (later.0, (suc later.1.0, omega (arith, later.1.1), later.1.2), later.2)
+]
+
+bracket_front : (t : List ℕ) → Front inside_class (91 ∷ t)
+bracket_front t = elim (cases_Bool (begins_named_class (91 ∷ t))) [
+  | inl here ↦
+      let named = any_of (λ named. starts_with nat_eq (91 ∷ t) named) named_classes here in
+      record { piece = named_class named.0; rest = drop (length named.0) (91 ∷ t); whole = starts_split (91 ∷ t) named.0 named.2; stands = named.1 }
+  | inr other ↦ record { piece = bracket; rest = t; whole = refl; stands = other }
+]
+
+twice : (c : ℕ) (t : List ℕ) → (c ∈ "&-~") ≡ true → (get_or t 0 0 == c) ≡ true → t ≡ c ∷ drop 1 t
+twice c [] among e = absurd (false≢true (subst (λ (d : ℕ). (d ∈ "&-~") ≡ true) (sym (eqb-true 0 c e)) among))
+twice c (d ∷ t) among e = ap (λ x. x ∷ t) (eqb-true d c e)
+
+inside_front : (c : ℕ) (t : List ℕ) → Front inside_class (c ∷ t)
+inside_front c t = elim (cases_Bool (c == 92)) [
+  | inl e ↦ at_first inside_class 92 c t e (escape_front inside_class t)
+  | inr backslash ↦ elim (cases_Bool (c == 91)) [
+    | inl e ↦ at_first inside_class 91 c t e (bracket_front t)
+    | inr not_bracket ↦ elim (cases_Bool (c == 93)) [
+      | inl e ↦ at_first inside_class 93 c t e (record { piece = class_end; rest = t; whole = refl; stands = tt })
+      | inr closing ↦ elim (cases_Bool (c ∈ "&-~" && get_or t 0 0 == c)) [
+        | inl both ↦
+            let parts = and_parts (c ∈ "&-~") (get_or t 0 0 == c) both in
+            record { piece = pair c; rest = drop 1 t; whole = ap (λ r. c ∷ r) (twice c t parts.0 parts.1); stands = parts.0 }
+        | inr single ↦ record { piece = plain c; rest = t; whole = refl; stands = rw (backslash, not_bracket, closing, single) refl }
+      ]
+    ]
+  ]
+]
+
+front : (context : ClassContext) (c : ℕ) (t : List ℕ) → Front context (c ∷ t)
+front outside_class c t = outside_front c t
+front inside_class c t = inside_front c t
+
+-- ---- All pieces of a text.
+
+some_text : (context : ClassContext) (piece : Piece) (rest : List ℕ) → StandsIn context piece rest
+    → 0 < length (piece_text piece)
+some_text context (escape c) rest h = omega arith
+some_text context (braced_escape c inner) rest h = omega arith
+some_text context (open_escape c inner) rest h = omega arith
+some_text context last_backslash rest h = omega arith
+some_text context (flags run) rest h = omega arith
+some_text context (count least more) rest h = omega arith
+some_text context brace rest h = omega arith
+some_text context (class_start negated closing) rest h = omega arith
+some_text outside_class (named_class text) rest h = absurd h
+some_text inside_class (named_class text) rest h = omega (arith, (found_first text h []).3)
+some_text context bracket rest h = omega arith
+some_text context (pair c) rest h = omega arith
+some_text context class_end rest h = omega arith
+some_text context (plain c) rest h = omega arith
+
+record Join (context : ClassContext) (text : List ℕ) : Type 0 where
+  pieces : List Piece
+  join : text ≡ flat_map piece_text pieces
+  stand : Stand context pieces
+
+joined_within : (n : ℕ) (context : ClassContext) (text : List ℕ) → length text ≤ n
+    → Join context text
+joined_within n context [] le = record { pieces = []; join = refl; stand = tt }
+joined_within zero context (c ∷ t) le = absurd (omega arith)
+joined_within (suc n) context (c ∷ t) le =
+    let first = front context c t in
+    let some = some_text context first.piece first.rest first.stands in
+    let size : length (c ∷ t) ≡ length (piece_text first.piece) + length first.rest = ap length first.whole ∙ length-append (piece_text first.piece) first.rest in
+    let later = joined_within n (context_after context first.piece) first.rest (omega arith) in
+    record {
+      pieces = first.piece ∷ later.pieces;
+      join = first.whole ∙ ap (λ r. piece_text first.piece ++ r) later.join;
+      stand = (subst (StandsIn context first.piece) later.join first.stands, later.stand);
+    }
+
+pub each_is_join : (pattern : List ℕ) → (pieces : List Piece) × IsJoinOf pattern pieces
+each_is_join pattern =
+    let whole = joined_within (length pattern) outside_class pattern (omega arith) in
+    (whole.pieces, record { join = whole.join; stand = whole.stand })
+
+-- ---- Whether one of them is refused.
+
+clean_by : (b c : Bool) → cond b false (not c) ≡ not (b || c)
+clean_by true c = refl
+clean_by false c = refl
+
+clean_join : (context : ClassContext) (pieces : List Piece) → Stand context pieces
+    → is_clean context (flat_map piece_text pieces) ≡ not (list_any is_refused pieces)
+clean_join context [] s = is_clean-nil context
+clean_join context (piece ∷ pieces) s =
+    cut_off piece context (flat_map piece_text pieces) s.0 ∙ ap (cond (is_refused piece) false) (clean_join (context_after context piece) pieces s.1) ∙ clean_by (is_refused piece) (list_any is_refused pieces)
+
+clean_pattern : (pattern : List ℕ) (pieces : List Piece) → IsJoinOf pattern pieces
+    → in_profile pattern ≡ not (list_any is_refused pieces)
+clean_pattern pattern pieces j = ap (is_clean outside_class) j.join ∙ clean_join outside_class pieces j.stand
+
+pub profile_is_decided : (pattern : List ℕ) → IsInProfile pattern ↔ IsTrue (in_profile pattern)
+profile_is_decided pattern = (
+  λ p. clean_pattern pattern p.pieces p.is_join ∙ ap not p.none_refused,
+  λ t.
+      let whole = each_is_join pattern in
+      record { pieces = whole.0; is_join = whole.1; none_refused = not-true (list_any is_refused whole.0) (sym (clean_pattern pattern whole.0 whole.1) ∙ t) },
+)

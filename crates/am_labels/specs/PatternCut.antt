@@ -1,0 +1,102 @@
+-- How a pattern is cut from left to right, as a function, and the test whether it is of the
+-- profile. What counts is the relation that the test decides, `IsInProfile`.
+use Rattle.std.specs.Prelude.{ℕ, zero, suc, ◌+◌, ◌-◌, List, [], ◌∷◌, length, take, drop, Bool, true}
+use Rattle.std.specs.Prelude.{false, ◌==◌, ◌&&◌, ◌||◌, nat_eq, nat_lt, if◌then◌else◌, Option, Some}
+use Rattle.std.specs.Prelude.{None, option_map, unwrap_or}
+use Rattle.std.specs.List.{list_any, find, starts_with, prefix_len, position}
+use Rattle.std.specs.Char.{is_ascii_digit}
+use Rattle.regex_hir.specs.Text.{is_some_and}
+use Rattle.regex_syntax.specs.Reading.{begins}
+use Rattle.am_labels.specs.PatternProfile.{ClassContext, outside_class, inside_class, takes_braces}
+use Rattle.am_labels.specs.PatternProfile.{is_flag, named_classes, is_refused_escape}
+use Rattle.am_labels.specs.PatternProfile.{is_refused_flag}
+
+-- how far a cut goes in bytes, and where what follows stands
+pub record CutStep : Type 0 where
+  pub width : ℕ
+  pub next : ClassContext
+
+-- a step of this width
+abbrev pub step_to : ClassContext → ℕ → Option CutStep
+step_to next width = Some (record { width = width; next = next })
+
+-- the same, if there is a width
+abbrev pub step_by : ClassContext → Option ℕ → Option CutStep
+step_by next width = option_map (λ n. record { width = n; next = next }) width
+
+-- up to the next `}`, or to the end
+abbrev pub up_to_brace : List ℕ → ℕ
+up_to_brace t = unwrap_or (option_map (λ i. i + 1) (position (λ c. c == 125) t)) (length t)
+
+-- the braces that belong to an escape, from what stands behind it
+abbrev pub braces_len : ℕ → List ℕ → ℕ
+braces_len c t = if takes_braces c && begins "{" t then up_to_brace t else 0
+
+-- an escape, from what stands behind the backslash
+abbrev pub escape_len : List ℕ → Option ℕ
+escape_len [] = Some 1
+escape_len (c ∷ t) = if is_refused_escape c then None else Some (2 + braces_len c t)
+
+-- how many letters and `-` a text begins with
+abbrev pub flag_run_len : List ℕ → ℕ
+flag_run_len t = prefix_len is_flag t
+
+-- those letters and `-`
+abbrev pub flag_run : List ℕ → List ℕ
+flag_run t = take (flag_run_len t) t
+
+-- how many digits a text begins with
+abbrev pub digits_len : List ℕ → ℕ
+digits_len t = prefix_len is_ascii_digit t
+
+-- behind the `{`: `n}`, `n,}` or `n,m}`, each number of one digit or more
+abbrev pub begins_count : List ℕ → Bool
+begins_count t =
+    let after = drop (digits_len t) t in
+    let most = drop 1 after in
+    nat_lt 0 (digits_len t)
+    && (begins "}" after || begins "," after && begins "}" (drop (digits_len most) most))
+
+-- `[`, then `^` if it follows directly, then `]` if it follows directly
+abbrev pub class_start_len : List ℕ → ℕ
+class_start_len t =
+    if begins "[^]" t then 3
+    else if begins "[^" t || begins "[]" t then 2
+    else 1
+
+-- the named class that a text begins with, if it begins with one
+abbrev pub named_class_at : List ℕ → Option (List ℕ)
+named_class_at t = find (λ named. starts_with nat_eq t named) named_classes
+
+-- The first step through a text that is not empty; nothing where it is refused. (The rest of a run
+-- of flags and of a count is plain by itself.)
+unfoldable pub first_step : ClassContext → List ℕ → Option CutStep
+first_step outside_class t =
+    if begins "\\" t then step_by outside_class (escape_len (drop 1 t))
+    else if begins "(?" t then
+    (if list_any is_refused_flag (flag_run (drop 2 t)) then None else step_to outside_class 2)
+    else if begins "{" t then (if begins_count (drop 1 t) then step_to outside_class 1 else None)
+    else if begins "[" t then step_to inside_class (class_start_len t)
+    else step_to outside_class 1
+first_step inside_class t =
+    if begins "\\" t then step_by inside_class (escape_len (drop 1 t))
+    else if begins "[" t then step_by inside_class (option_map length (named_class_at t))
+    else if begins "&&" t || begins "--" t || begins "~~" t then None
+    else if begins "]" t then step_to outside_class 1
+    else step_to inside_class 1
+
+-- Nothing refused stands from there on. The number bounds how many steps there are: each takes one
+-- byte at least.
+unfoldable pub is_clean_within : ℕ → ClassContext → List ℕ → Bool
+is_clean_within zero context t = true
+is_clean_within (suc n) context [] = true
+is_clean_within (suc n) context (c ∷ t) =
+    is_some_and (first_step context (c ∷ t)) (λ s. is_clean_within n s.next (drop (s.width - 1) t))
+
+-- the same, with steps enough
+unfoldable pub is_clean : ClassContext → List ℕ → Bool
+is_clean context t = is_clean_within (length t) context t
+
+-- A pattern of the profile. It begins outside a class.
+abbrev pub in_profile : List ℕ → Bool
+in_profile pattern = is_clean outside_class pattern
