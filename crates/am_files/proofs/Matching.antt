@@ -7,7 +7,7 @@ use Rattle.am_universe.specs.declared.kind.Kind.{Kind}
 use Rattle.am_universe.specs.declared.kind.Kind.TheVariants as kinds
 use Rattle.am_labels.specs.Matcher.{Condition, max_matchers, takes_pattern}
 use Rattle.am_labels.specs.Pattern.{is_pattern}
-use Rattle.am_labels.specs.PatternProfile.{in_profile}
+use Rattle.am_labels.specs.PatternCut.{in_profile}
 use Rattle.am_labels.specs.MatcherText.{Spells}
 use Rattle.am_labels.specs.MatcherReading.{read_list}
 use Rattle.am_labels.specs.MatcherRefusals.{has_sound_value, have_sound_values, pattern_refusal, RefusesCondition, RefusesPatterns, RefusesText}

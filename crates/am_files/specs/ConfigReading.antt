@@ -10,7 +10,7 @@ use Rattle.am_labels.specs.declared.op.Op.{Op}
 use Rattle.am_labels.specs.declared.op.Op.TheVariants.{Equal, Matches}
 use Rattle.am_universe.specs.Text.{same_text}
 use Rattle.am_labels.specs.Matcher.{Condition, max_matchers, takes_pattern}
-use Rattle.am_labels.specs.PatternProfile.{in_profile}
+use Rattle.am_labels.specs.PatternCut.{in_profile}
 use Rattle.am_labels.specs.MatcherReading.{read_list}
 use Rattle.am_labels.specs.MatcherRefusals.{has_sound_value, pattern_refusal}
 use Rattle.am_files.specs.declared.limits.TheConstants.{MAX_RECEIVERS, MAX_ROUTES, MAX_LEVELS}
