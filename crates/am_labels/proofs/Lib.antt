@@ -12,5 +12,6 @@ pub mod MatcherTextBodies
 pub mod MatcherTextWhole
 pub mod BraceTokens
 pub mod MatcherLists
+mod SetValues
 pub mod Rows
 pub mod RowLaws

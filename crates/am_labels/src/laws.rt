@@ -1,14 +1,15 @@
 //! Facts about the definitions alone: each is the contract of a function with an empty body.
-ghost use Rattle.std.specs.Prelude.{◌≡◌, ◌↔◌, ℕ, List, Some, IsTrue};
+ghost use Rattle.std.specs.Prelude.{◌≡◌, ◌↔◌, ℕ, List, [], Some, map, false, IsTrue, Contains};
 ghost use Rattle.am_universe.specs.Universe as spec;
 ghost use Rattle.am_universe.specs.Choice.{IsWhole};
-ghost use Rattle.am_universe.specs.LabelSet.{label_set_of};
+ghost use Rattle.am_universe.specs.LabelSet.{label_set_of, value_of};
 ghost use Rattle.am_labels.specs.Matcher.{Condition, condition_holds, all_hold};
 ghost use Rattle.am_labels.specs.PatternProfile.{Piece, IsJoinOf, IsInProfile};
 ghost use Rattle.am_labels.specs.PatternCut.{in_profile};
 ghost use Rattle.am_labels.specs.Row.{row_of, row_holds, rows_hold};
 ghost use Rattle.am_labels.specs.MatcherText.{Spells};
 ghost use Rattle.am_labels.specs.MatcherReading.{read_list};
+ghost use Rattle.am_labels.specs.SetReading.{repeats_name, set_of_list};
 
 pub use am_universe::laws::{
     a_label_is_added_exactly_to_a_universe, choices_are_the_whole_choices, choices_ascend,
@@ -33,6 +34,18 @@ pub fn one_list_a_text()
 /// A text spells a list exactly where reading it step by step gives that list.
 pub fn texts_are_read()
     ensures { (text : List ℕ) (ms : List Condition) → Spells text ms ↔ (read_list text ≡ Some ms) }
+{}
+
+/// In the set of a list that repeats no name, each name of the list has its value.
+pub fn listed_value()
+    ensures { (ms : List Condition) (m : Condition) → repeats_name ms ≡ false → Contains ms m
+        → value_of (set_of_list ms) m.name ≡ m.value }
+{}
+
+/// In the set of a list a name that is not in the list has the empty text.
+pub fn unlisted_value()
+    ensures { (ms : List Condition) (name : List ℕ) → ¬ Contains (map (λ m. m.name) ms) name
+        → value_of (set_of_list ms) name ≡ [] }
 {}
 
 /// The truth of a matcher on the label set of a whole choice is its row's truth at that choice.
