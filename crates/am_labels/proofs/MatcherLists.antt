@@ -6,7 +6,7 @@ use Rattle.std.proofs.lemmas.List.{map-append, length-map}
 use Rattle.am_universe.specs.declared.kind.Kind.{Kind}
 use Rattle.am_universe.specs.declared.kind.Kind.TheVariants as kinds
 use Rattle.am_labels.specs.declared.matcher_text.Spelled.{Spelled}
-use Rattle.am_labels.specs.Matcher.{max_matchers}
+use Rattle.am_labels.specs.declared.limits.TheConstants.{MAX_MATCHERS}
 use Rattle.am_labels.specs.MatcherText.{Spells}
 use Rattle.am_labels.specs.MatcherReading.{condition_of, conditions_of}
 use Rattle.am_labels.specs.MatcherRefusals.{have_sound_values, RefusesCondition, RefusesPatterns, RefusesText}
@@ -36,7 +36,7 @@ refused_at before x after list kind e named sound refused =
 
 -- a text that spells a list is refused where the list is, unless that is too long
 pub text_refused : {X : Type 0} (r : Result X Kind) (text : List ℕ) (list : List Spelled)
-    → Spells text (conditions_of list) → length list ≤ max_matchers
+    → Spells text (conditions_of list) → length list ≤ MAX_MATCHERS
     → IfErr r (λ kind. kind ≢ kinds.Memory → RefusesPatterns (conditions_of list) kind)
     → IfErr r (λ kind. kind ≢ kinds.Memory → RefusesText text kind)
 text_refused (Ok x) text list spelled few refused = tt

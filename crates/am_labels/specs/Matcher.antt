@@ -13,10 +13,6 @@ pub record Condition : Type 0 where
   pub op : Op
   pub value : List ℕ
 
--- the most matchers of a list (this project's choice)
-abbrev pub max_matchers : ℕ
-max_matchers = 64
-
 -- the operators whose value is a pattern
 abbrev pub takes_pattern : Op → Bool
 takes_pattern Equal = false

@@ -5,7 +5,8 @@ use Rattle.am_universe.specs.declared.kind.Kind.{Kind}
 use Rattle.am_universe.specs.declared.kind.Kind.TheVariants as kinds
 use Rattle.am_labels.specs.Pattern.{is_pattern}
 use Rattle.am_labels.specs.PatternCut.{in_profile}
-use Rattle.am_labels.specs.Matcher.{Condition, takes_pattern, max_matchers}
+use Rattle.am_labels.specs.declared.limits.TheConstants.{MAX_MATCHERS}
+use Rattle.am_labels.specs.Matcher.{Condition, takes_pattern}
 use Rattle.am_labels.specs.MatcherText.{Spells}
 
 -- its value, if it is a pattern, is of the profile, and the grammar reads it
@@ -40,7 +41,7 @@ pub record RefusesPatterns (ms : List Condition) (kind : Kind) : Type 0 where
 
 -- a list of conditions is refused: it is too long, or else one of its patterns is refused
 abbrev pub RefusesConditions : List Condition → Kind → Type 0
-RefusesConditions ms kind = ((max_matchers < length ms) × (kind ≡ kinds.Limit)) ⊎ ((length ms ≤ max_matchers) × RefusesPatterns ms kind)
+RefusesConditions ms kind = ((MAX_MATCHERS < length ms) × (kind ≡ kinds.Limit)) ⊎ ((length ms ≤ MAX_MATCHERS) × RefusesPatterns ms kind)
 
 -- a text spells a list that is refused
 pub record SpellsRefused (text : List ℕ) (kind : Kind) : Type 0 where

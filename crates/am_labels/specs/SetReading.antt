@@ -8,7 +8,8 @@ use Rattle.am_universe.specs.declared.kind.Kind.{Kind}
 use Rattle.am_universe.specs.declared.kind.Kind.TheVariants as kinds
 use Rattle.am_universe.specs.Text.{same_text}
 use Rattle.am_universe.specs.LabelSet.{LabelMap, with_value}
-use Rattle.am_labels.specs.Matcher.{Condition, max_matchers}
+use Rattle.am_labels.specs.declared.limits.TheConstants.{MAX_MATCHERS}
+use Rattle.am_labels.specs.Matcher.{Condition}
 use Rattle.am_labels.specs.MatcherText.{Spells}
 use Rattle.am_labels.specs.MatcherRefusals.{have_sound_values, RefusesText}
 
@@ -32,11 +33,11 @@ repeats_name (m ∷ ms) = list_any (λ other. same_text other.name m.name) ms ||
 abbrev pub set_of_list : List Condition → LabelMap
 set_of_list ms = fold (λ s m. with_value s m.name m.value) finite.empty ms
 
--- a text gives a set: that of the list that it spells, of at most 64 matchers, each with `=`, no name twice
+-- a text gives a set: that of the list that it spells, not too long, each matcher with `=`, no name twice
 pub record SpellsSet (text : List ℕ) (set : LabelMap) : Type 0 where
   pub list : List Condition
   pub spelled : Spells text list
-  pub at_most : length list ≤ max_matchers
+  pub at_most : length list ≤ MAX_MATCHERS
   pub equalities : IsTrue (are_equalities list)
   pub distinct : repeats_name list ≡ false
   pub set_is : set ≡ set_of_list list
@@ -51,7 +52,7 @@ RefusesSetOf ms kind =
 pub record SpellsNoSet (text : List ℕ) (kind : Kind) : Type 0 where
   pub list : List Condition
   pub spelled : Spells text list
-  pub at_most : length list ≤ max_matchers
+  pub at_most : length list ≤ MAX_MATCHERS
   pub sound : IsTrue (have_sound_values list)
   pub refused : RefusesSetOf list kind
 

@@ -3,6 +3,7 @@ ghost use Rattle.std.specs.Prelude.{◌≡◌, ◌↔◌, ℕ, List, [], Some, m
 ghost use Rattle.am_universe.specs.Universe as spec;
 ghost use Rattle.am_universe.specs.Choice.{IsWhole};
 ghost use Rattle.am_universe.specs.LabelSet.{label_set_of, value_of};
+ghost use Rattle.am_labels.specs.declared.limits.TheConstants.{MAX_MATCHERS};
 ghost use Rattle.am_labels.specs.Matcher.{Condition, condition_holds, all_hold};
 ghost use Rattle.am_labels.specs.PatternProfile.{Piece, IsJoinOf, IsInProfile};
 ghost use Rattle.am_labels.specs.PatternCut.{in_profile};
@@ -13,8 +14,13 @@ ghost use Rattle.am_labels.specs.SetReading.{repeats_name, set_of_list};
 
 pub use am_universe::laws::{
     a_label_is_added_exactly_to_a_universe, choices_are_the_whole_choices, choices_ascend,
-    declared_value, one_choice_a_line, same_text_decides, undeclared_value,
+    declared_value, limits_of_universes, one_choice_a_line, same_text_decides, undeclared_value,
 };
+
+/// How many matchers a list may have.
+pub fn limit_of_matchers()
+    ensures { MAX_MATCHERS ≡ 64 }
+{}
 
 /// Every pattern is a join of pieces.
 pub fn each_pattern_is_a_join()

@@ -8,6 +8,9 @@
 //! The public names of the crate `am_universe` that callers need are given again here.
 #![tactic(auto)]
 
+// How much there may be.
+pub mod limits;
+
 // The layer below: universes, label sets, sinks and refusals.
 pub use am_universe::{
     Choice, Fault, History, Kind, LabelFault, LabelPart, LabelSet, Out, Place, Sink, Universe,

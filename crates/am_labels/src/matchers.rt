@@ -1,13 +1,14 @@
 ghost use Rattle.std.specs.Prelude.{◌≡◌, ◌≢◌, ◌<◌, ◌≤◌, ◌+◌, ◌==◌, [], ◌∷◌, ◌++◌, Some, length, IfOk, IfErr, OnOk, OnErr, slice_get};
-ghost use Rattle.am_labels.specs.Matcher.{max_matchers, all_hold};
+ghost use Rattle.am_labels.specs.Matcher.{all_hold};
 ghost use Rattle.am_universe.specs.declared.kind.Kind.TheVariants as kinds;
 
 use crate::Matcher;
+use crate::limits::MAX_MATCHERS;
 use am_universe::{Kind, LabelSet};
 use std::alloc::{AllocError, Global};
 use std::marker::Model;
 
-/// A list of at most 64 matchers, all of which a label set has to match.
+/// A list of at most [`MAX_MATCHERS`] matchers, all of which a label set has to match.
 #[derive(Drop)]
 pub struct Matchers {
     matchers: Vec<Matcher>,
@@ -15,17 +16,15 @@ pub struct Matchers {
 
 impl Model for Matchers {
     ghost use Rattle.std.specs.Prelude.{List, ◌≤◌, length};
-    ghost use Rattle.am_labels.specs.Matcher.{Condition, max_matchers};
+    ghost use Rattle.am_labels.specs.declared.limits.TheConstants.{MAX_MATCHERS};
+    ghost use Rattle.am_labels.specs.Matcher.{Condition};
 
     ghost Value = { List Condition };
 
     ghost view = { λ a. a.matchers.items };
 
-    ghost invariant = { λ a. length a.matchers.items ≤ max_matchers };
+    ghost invariant = { λ a. length a.matchers.items ≤ MAX_MATCHERS };
 }
-
-/// The most matchers of a list.
-pub(crate) const MAX_MATCHERS: usize = 64;
 
 impl Matchers {
     /// The empty list, which every label set matches. It keeps the allocator.
@@ -37,12 +36,12 @@ impl Matchers {
         }
     }
 
-    /// Adds a matcher at the end. `Limit` for a 65th; `Memory`. After an `Err` nothing has changed.
+    /// Adds a matcher at the end. `Limit` for one more than [`MAX_MATCHERS`]; `Memory`. After an `Err` nothing has changed.
     pub fn push(&mut self, matcher: Matcher) -> Result<(), Kind>
         ensures ok { OnOk result (self.new ≡ self.old ++ matcher ∷ []) }
-        ensures room { OnOk result (length self.old < max_matchers) }
-        ensures full { length self.old ≡ max_matchers → result ≡ Err kinds.Limit }
-        ensures refused { IfErr result (λ kind. kind ≢ kinds.Memory → (kind ≡ kinds.Limit) × (length self.old ≡ max_matchers)) }
+        ensures room { OnOk result (length self.old < MAX_MATCHERS) }
+        ensures full { length self.old ≡ MAX_MATCHERS → result ≡ Err kinds.Limit }
+        ensures refused { IfErr result (λ kind. kind ≢ kinds.Memory → (kind ≡ kinds.Limit) × (length self.old ≡ MAX_MATCHERS)) }
         ensures err { OnErr result (self.new ≡ self.old) }
     {
         if self.len() >= MAX_MATCHERS {
@@ -54,13 +53,13 @@ impl Matchers {
         }
     }
 
-    /// Adds the matchers of another list at the end, in their order. `Limit` exactly where there would be more than 64
-    /// together, or else `Memory`. After an `Err` nothing has changed, and the other list is dropped.
+    /// Adds the matchers of another list at the end, in their order. `Limit` exactly where there would be more than
+    /// [`MAX_MATCHERS`] together, or else `Memory`. After an `Err` nothing has changed, and the other list is dropped.
     pub fn append(&mut self, other: Matchers) -> Result<(), Kind>
         ensures ok { OnOk result (self.new ≡ self.old ++ other) }
-        ensures room { OnOk result (length self.old + length other ≤ max_matchers) }
-        ensures full { max_matchers < length self.old + length other → result ≡ Err kinds.Limit }
-        ensures refused { IfErr result (λ kind. kind ≢ kinds.Memory → (kind ≡ kinds.Limit) × (max_matchers < length self.old + length other)) }
+        ensures room { OnOk result (length self.old + length other ≤ MAX_MATCHERS) }
+        ensures full { MAX_MATCHERS < length self.old + length other → result ≡ Err kinds.Limit }
+        ensures refused { IfErr result (λ kind. kind ≢ kinds.Memory → (kind ≡ kinds.Limit) × (MAX_MATCHERS < length self.old + length other)) }
         ensures err { OnErr result (self.new ≡ self.old) }
     {
         if self.len() + other.len() > MAX_MATCHERS {
@@ -73,10 +72,10 @@ impl Matchers {
         }
     }
 
-    /// How many matchers there are, at most 64.
+    /// How many matchers there are, at most [`MAX_MATCHERS`].
     pub fn len(&self) -> usize
         ensures len { result ≡ length self.now }
-        ensures at_most { result ≤ max_matchers }
+        ensures at_most { result ≤ MAX_MATCHERS }
     {
         self.matchers.len()
     }

@@ -1,27 +1,26 @@
 ghost use Rattle.std.specs.Prelude.{◌≡◌, ◌≢◌, ◌≤◌, [], length, IsTrue, IfOk, IfErr, string_bytes};
 ghost use Rattle.std.specs.List.{All, list_any};
 ghost use Rattle.am_universe.specs.Text.{same_text};
-ghost use Rattle.am_labels.specs.Matcher.{max_matchers};
 ghost use Rattle.am_labels.specs.MatcherText.{Spells};
 ghost use Rattle.am_labels.specs.MatcherReading.{conditions_of};
 ghost use Rattle.am_labels.specs.MatcherRefusals.{have_sound_values, RefusesPatterns, RefusesText};
 ghost use Rattle.am_labels.specs.SetReading.{are_equalities, repeats_name, set_of_list, SpellsSet, RefusesSet};
 ghost use Rattle.am_universe.specs.declared.kind.Kind.TheVariants as kinds;
 
+use crate::limits::MAX_MATCHERS;
 use crate::matcher_text::{Spelled, read_list};
-use crate::matchers::MAX_MATCHERS;
 use crate::{Matcher, Matchers};
 use am_universe::{Kind, LabelSet};
 use std::alloc::{AllocError, Global};
 
 /// Reads a list of matchers in the classic syntax, as `team="db",severity=~"crit.*"`, with or without braces.
 ///
-/// The first of: `BadMatcher`, the text spells no list; `Limit`, it spells one of more than 64 matchers; and then, matcher
+/// The first of: `BadMatcher`, the text spells no list; `Limit`, it spells one of more than [`MAX_MATCHERS`]; and then, matcher
 /// by matcher, `PatternProfile` for a pattern outside the profile and `Pattern` for one of the profile that the engine
 /// refuses, as it does wherever its grammar does not read it. `Memory` comes wherever memory was refused.
 pub fn parse_matchers(alloc: Global, text: &str) -> Result<Matchers, Kind>
     ensures spelled { IfOk result (λ ms. Spells text.now ms) }
-    ensures at_most { IfOk result (λ ms. length ms ≤ max_matchers) }
+    ensures at_most { IfOk result (λ ms. length ms ≤ MAX_MATCHERS) }
     ensures sound { IfOk result (λ ms. IsTrue (have_sound_values ms)) }
     ensures refused { IfErr result (λ kind. kind ≢ kinds.Memory → RefusesText text.now kind) }
 {
@@ -35,7 +34,7 @@ pub fn parse_matchers(alloc: Global, text: &str) -> Result<Matchers, Kind>
 /// The matchers that were read, each with its pattern built.
 fn matchers_of(alloc: Global, list: Vec<Spelled>) -> Result<Matchers, Kind>
     requires named { All (λ s. string_bytes s.name ≢ []) list.items }
-    requires at_most { length list.items ≤ max_matchers }
+    requires at_most { length list.items ≤ MAX_MATCHERS }
     ensures ok { IfOk result (λ ms. ms ≡ conditions_of list.items) }
     ensures sound { IfOk result (λ ms. IsTrue (have_sound_values ms)) }
     ensures refused { IfErr result (λ kind. kind ≢ kinds.Memory → RefusesPatterns (conditions_of list.items) kind) }

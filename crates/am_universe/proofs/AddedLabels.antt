@@ -3,6 +3,7 @@ use Rattle.std.proofs.Common.{◌≡◌, ◌↔◌, ℕ, ◌<◌, ◌≤◌, ◌
 use borrow.Author.Tests.{eqb-false, ltb-false, leb-false, le-ltb, lt-leb}
 use Rattle.std.proofs.lemmas.List.{map-append}
 use Rattle.std.proofs.lemmas.Bool.Decides.{nat_tests}
+use Rattle.am_universe.specs.declared.limits.TheConstants.{MAX_LABELS, MAX_VALUES}
 use Rattle.am_universe.specs.declared.kind.Kind.{Kind}
 use Rattle.am_universe.specs.declared.kind.Kind.TheVariants as kinds
 use Rattle.am_universe.specs.declared.label_fault.LabelFault.{LabelFault}
@@ -98,16 +99,16 @@ count_parts true b h = cc
 count_parts false true h = cc
 count_parts false false h = (refl, refl)
 
-count_fine : (n : ℕ) → count_fault n ≡ None → (0 < n) × (n ≤ 128)
+count_fine : (n : ℕ) → count_fault n ≡ None → (0 < n) × (n ≤ MAX_VALUES)
 count_fine n h =
-    let parts = count_parts (n == 0) (nat_lt 128 n) h in
+    let parts = count_parts (n == 0) (nat_lt MAX_VALUES n) h in
     let some = eqb-false n 0 parts.0 in
-    (omega (arith, some), ltb-false 128 n parts.1)
+    (omega (arith, some), ltb-false MAX_VALUES n parts.1)
 
-fine_count : (n : ℕ) → 0 < n → n ≤ 128 → count_fault n ≡ None
+fine_count : (n : ℕ) → 0 < n → n ≤ MAX_VALUES → count_fault n ≡ None
 fine_count n h k =
     let some : (n == 0) ≡ false = grind (arith, nat_tests) in
-    let few : nat_lt 128 n ≡ false = le-ltb 128 n k in
+    let few : nat_lt MAX_VALUES n ≡ false = le-ltb MAX_VALUES n k in
     rw (some, few)
 
 name_parts : (a b c : Bool) → cond a (Some kinds.Empty) (cond (not b) (Some kinds.Shape) (cond c (Some kinds.Duplicate) None)) ≡ None → (b ≡ true) × (c ≡ false)
@@ -154,8 +155,8 @@ label_parts false (Some kind) values h = cc
 
 pub added_is_universe : (u : List Label) (l : Label) → IsUniverse u → label_fault u l ≡ None → IsUniverse (u ++ l ∷ [])
 added_is_universe u l h fine =
-    let parts = label_parts (nat_le 64 (length u)) (name_fault u l.name) (label_values_fault l.values) fine in
-    let room = leb-false 64 (length u) parts.0 in
+    let parts = label_parts (nat_le MAX_LABELS (length u)) (name_fault u l.name) (label_values_fault l.values) fine in
+    let room = leb-false MAX_LABELS (length u) parts.0 in
     let name = name_fine u l.name parts.1 in
     record {
       at_most = omega (arith, length-append u (l ∷ []), room);
@@ -167,7 +168,7 @@ pub universe_was_added : (u : List Label) (l : Label) → IsUniverse (u ++ l ∷
 universe_was_added u l h =
     let label = (all_pushed IsLabel u l h.labels).1 in
     let apart = distinct_pushed same_text (names u) l.name (subst (IsDistinct same_text) (map-append (λ (x : Label). x.name) u (l ∷ [])) h.distinct) in
-    let room : nat_le 64 (length u) ≡ false = lt-leb 64 (length u) (omega (arith, length-append u (l ∷ []), h.at_most)) in
+    let room : nat_le MAX_LABELS (length u) ≡ false = lt-leb MAX_LABELS (length u) (omega (arith, length-append u (l ∷ []), h.at_most)) in
     let name = fine_name u l.name label.name (sym (has_names u l.name) ∙ apart.1) in
     let values = faults_from_IsLabel l label in
     rw (room, name, values)
@@ -216,7 +217,7 @@ values_kinds before (value ∷ values) =
 label_values_kinds : (values : Values) → IfSome (label_values_fault values) (λ fault. IsOfText fault.kind)
 label_values_kinds values =
     kinds_of_first (fault_at parts.Values (count_fault (length values))) (values_fault [] values)
-    (kinds_at parts.Values (count_fault (length values)) (count_kinds (length values == 0) (nat_lt 128 (length values))))
+    (kinds_at parts.Values (count_fault (length values)) (count_kinds (length values == 0) (nat_lt MAX_VALUES (length values))))
     (values_kinds [] values)
 
 full_kinds : (full : Bool) (o : Option LabelFault) → IfSome o (λ fault. IsOfText fault.kind) → IfSome (cond full (Some (record { kind = kinds.Limit; part = parts.Label })) o) (λ fault. IsOfText fault.kind)
@@ -226,7 +227,7 @@ full_kinds false o h = h
 -- a label's first fault is never want of memory
 pub label_fault-not_memory : (u : List Label) (l : Label) → IfSome (label_fault u l) (λ fault. fault.kind ≡ kinds.Memory → ⊥)
 label_fault-not_memory u l =
-    full_kinds (nat_le 64 (length u)) (first_fault (fault_at parts.Name (name_fault u l.name)) (label_values_fault l.values))
+    full_kinds (nat_le MAX_LABELS (length u)) (first_fault (fault_at parts.Name (name_fault u l.name)) (label_values_fault l.values))
     (kinds_of_first (fault_at parts.Name (name_fault u l.name)) (label_values_fault l.values)
     (kinds_at parts.Name (name_fault u l.name) (name_kinds (length l.name == 0) (is_label_name l.name) (has u l.name)))
     (label_values_kinds l.values))

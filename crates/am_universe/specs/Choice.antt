@@ -3,10 +3,6 @@
 use Rattle.std.specs.Prelude.{◌≡◌, ℕ, zero, suc, List, [], ◌∷◌, length, map, Bool, true, false, nat_lt, ◌&&◌, IsTrue}
 use Rattle.std.specs.List.{flat_map}
 
--- the most positions of a choice, one for each label that a universe may have
-abbrev pub max_positions : ℕ
-max_positions = 64
-
 -- so many numbers, counted up from the first
 abbrev pub counted_from : ℕ → ℕ → List ℕ
 counted_from first zero = []

@@ -1,7 +1,7 @@
--- How a choice is stored: its positions at the front of 64 cells, and 0 in the others.
+-- How a choice is stored: its positions at the front of `MAX_POSITIONS` cells, and 0 in the others.
 use Rattle.std.specs.Prelude.{◌≡◌, ℕ, ◌≤◌, ◌-◌, List, ◌++◌, length, take, replicate}
 use Rattle.am_universe.specs.declared.choice.Choice.TheInside.{Inside}
-use Rattle.am_universe.specs.Choice.{max_positions}
+use Rattle.am_universe.specs.declared.limits.TheConstants.{MAX_POSITIONS}
 
 -- the positions of a stored choice
 abbrev pub view_of : Inside → List ℕ
@@ -9,8 +9,8 @@ view_of a = take a.len a.positions
 
 -- the one way in which positions are stored
 abbrev pub stored : List ℕ → Inside
-stored c = record { positions = c ++ replicate (max_positions - length c) 0; len = length c }
+stored c = record { positions = c ++ replicate (MAX_POSITIONS - length c) 0; len = length c }
 
--- at most 64 positions, and stored so
+-- no more positions than cells, and stored so
 abbrev pub IsStored : Inside → Type 0
-IsStored a = (a.len ≤ max_positions) × (stored (view_of a) ≡ a)
+IsStored a = (a.len ≤ MAX_POSITIONS) × (stored (view_of a) ≡ a)

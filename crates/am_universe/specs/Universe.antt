@@ -3,6 +3,7 @@
 use Rattle.std.specs.Prelude.{◌≡◌, ℕ, ◌<◌, ◌≤◌, List, [], ◌∷◌, ◌++◌, length, map, Bool, true, false, not, nat_le, nat_lt, ◌==◌, ◌&&◌, ◌||◌, if◌then◌else◌, Option, Some, None, option_map, unwrap_or, slice_get, IsTrue}
 use Rattle.std.specs.List.{list_all, list_any, position, AllByRecursion, IsDistinct}
 use Rattle.std.specs.Char.{is_ascii_alphabetic, is_ascii_digit}
+use Rattle.am_universe.specs.declared.limits.TheConstants.{MAX_LABELS, MAX_VALUES}
 use Rattle.am_universe.specs.declared.kind.Kind.{Kind}
 use Rattle.am_universe.specs.declared.kind.Kind.TheVariants as kinds
 use Rattle.am_universe.specs.declared.label_fault.LabelFault.{LabelFault}
@@ -18,14 +19,6 @@ Values = List (Option (List ℕ))
 pub record Label : Type 0 where
   pub name : List ℕ
   pub values : Values
-
--- the most labels of a universe
-abbrev pub max_labels : ℕ
-max_labels = 64
-
--- the most values of a label
-abbrev pub max_values : ℕ
-max_values = 128
 
 -- what a label name begins with: `[a-zA-Z_]`
 abbrev pub begins_label_name : ℕ → Bool
@@ -69,17 +62,17 @@ label_position u name = position (λ l. same_text l.name name) u
 abbrev pub values_at : List Label → ℕ → Values
 values_at u i = unwrap_or (option_map (λ l. l.values) (slice_get u i)) []
 
--- a label by itself: a name of the form, and 1 to 128 distinct values, none of them the empty text
+-- a label by itself: a name of the form, and at least one and at most so many distinct values, none of them the empty text
 pub record IsLabel (l : Label) : Type 0 where
   pub name : IsTrue (is_label_name l.name)
   pub some_value : 0 < length l.values
-  pub at_most : length l.values ≤ max_values
+  pub at_most : length l.values ≤ MAX_VALUES
   pub texts : AllByRecursion (λ v. is_empty_text v ≡ false) l.values
   pub distinct : IsDistinct same_value l.values
 
--- a universe: at most 64 labels, whose names are distinct
+-- a universe: at most so many labels, whose names are distinct
 pub record IsUniverse (u : List Label) : Type 0 where
-  pub at_most : length u ≤ max_labels
+  pub at_most : length u ≤ MAX_LABELS
   pub labels : AllByRecursion IsLabel u
   pub distinct : IsDistinct same_text (names u)
 
@@ -104,7 +97,7 @@ name_fault u name =
 
 -- how many values a label may have
 abbrev pub count_fault : ℕ → Option Kind
-count_fault count = if count == 0 then Some kinds.Empty else if nat_lt max_values count then Some kinds.Limit else None
+count_fault count = if count == 0 then Some kinds.Empty else if nat_lt MAX_VALUES count then Some kinds.Limit else None
 
 -- a value behind those before it
 abbrev pub value_fault : Values → Option (List ℕ) → Option Kind
@@ -125,7 +118,7 @@ label_values_fault values = first_fault (fault_at parts.Values (count_fault (len
 -- a label behind the labels of a universe
 abbrev pub label_fault : List Label → Label → Option LabelFault
 label_fault u label =
-    if nat_le max_labels (length u) then Some (record { kind = kinds.Limit; part = parts.Label })
+    if nat_le MAX_LABELS (length u) then Some (record { kind = kinds.Limit; part = parts.Label })
     else first_fault (fault_at parts.Name (name_fault u label.name)) (label_values_fault label.values)
 
 -- the answer where memory was refused for a label

@@ -1,14 +1,14 @@
 ghost use Rattle.std.specs.Prelude.{◌≡◌, ◌==◌, ◌<◌, ◌≤◌, List, [], ◌∷◌, ◌++◌, length, slice_index, IfSome, IfNone};
-ghost use Rattle.am_universe.specs.Choice.{max_positions};
 
+use crate::limits::MAX_POSITIONS;
 use std::marker::Model;
 
-/// A list of 0 to 64 positions, one for each label of a universe: a whole choice, or a prefix of one.
+/// A list of at most [`MAX_POSITIONS`] positions, one for each label of a universe: a whole choice, or a prefix of one.
 ///
 /// Positions count from 0.
 #[derive(Clone, Copy)]
 pub struct Choice {
-    positions: [u8; 64],
+    positions: [u8; MAX_POSITIONS],
     len: usize,
 }
 
@@ -33,15 +33,15 @@ impl Choice {
         ensures { result ≡ [] }
     {
         Choice {
-            positions: [0; 64],
+            positions: [0; MAX_POSITIONS],
             len: 0,
         }
     }
 
-    /// How many positions there are, at most 64.
+    /// How many positions there are, at most [`MAX_POSITIONS`].
     pub fn len(&self) -> usize
         ensures len { result ≡ length self.now }
-        ensures at_most { result ≤ max_positions }
+        ensures at_most { result ≤ MAX_POSITIONS }
     {
         self.len
     }
@@ -63,7 +63,7 @@ impl Choice {
 
     /// Adds a position at the end.
     pub fn push(&mut self, position: u8)
-        requires { length self.old < max_positions }
+        requires { length self.old < MAX_POSITIONS }
         ensures { self.new ≡ self.old ++ position ∷ [] }
     {
         self.positions[self.len] = position;

@@ -3,11 +3,19 @@ ghost use Rattle.std.specs.Prelude.{◌≡◌, ◌↔◌, ℕ, List, [], ◌∷�
 ghost use Rattle.std.specs.Ordering.{nat_cmp};
 ghost use Rattle.std.specs.Cmp.Lexicographic.{slice_cmp};
 ghost use Rattle.std.specs.List.Sorted.{IsStrictlySortedBy};
+ghost use Rattle.am_universe.specs.declared.limits.TheConstants.{MAX_LABELS, MAX_VALUES, MAX_POSITIONS};
 ghost use Rattle.am_universe.specs.Text.{same_text};
 ghost use Rattle.am_universe.specs.Universe as spec;
 ghost use Rattle.am_universe.specs.Choice.{choices, IsWhole};
 ghost use Rattle.am_universe.specs.LabelSet.{value_of, value_at, label_set_of};
 ghost use Rattle.am_universe.specs.SetText.{line};
+
+/// How much there may be: labels of a universe, values of a label, positions of a choice.
+pub fn limits_of_universes()
+    ensures labels { MAX_LABELS ≡ 64 }
+    ensures values { MAX_VALUES ≡ 128 }
+    ensures positions { MAX_POSITIONS ≡ 64 }
+{}
 
 /// The test whether two texts are the same is true where they are equal, and only there.
 pub fn same_text_decides()

@@ -6,6 +6,9 @@
 //! where.
 #![tactic(auto)]
 
+// How much there may be.
+pub mod limits;
+
 // Refusals: why, where, and at which part of a label.
 mod fault;
 mod kind;

@@ -1,12 +1,13 @@
 ghost use Rattle.std.specs.Prelude.{◌≡◌, ◌<◌, ◌≤◌, ◌==◌, [], ◌∷◌, ◌++◌, length, Some, None, string_bytes, IfErr, IfSome, IfNone, OnOk, OnErr, Contains, slice_get, slice_index, option_map, option_and_then, unwrap_or};
 ghost use Rattle.std.specs.List.{list_any};
-ghost use Rattle.am_universe.specs.Universe.{IsUniverse, max_labels, max_values, names, sizes, label_position, same_value, name_fault, count_fault, value_fault, label_values_fault, label_fault, no_memory};
+ghost use Rattle.am_universe.specs.Universe.{IsUniverse, names, sizes, label_position, same_value, name_fault, count_fault, value_fault, label_values_fault, label_fault, no_memory};
 ghost use Rattle.am_universe.specs.UniverseView.{label_of, texts_of};
 ghost use Rattle.am_universe.specs.LabelSet.{value_at};
 ghost use Rattle.am_universe.specs.Choice.{admits};
 ghost use Rattle.am_universe.specs.declared.kind.Kind.TheVariants as kinds;
 
 use crate::label_name::is_label_name;
+use crate::limits::{MAX_LABELS, MAX_VALUES};
 use crate::{Choice, Kind, LabelFault, LabelPart};
 use std::alloc::Global;
 use std::marker::Model;
@@ -18,7 +19,7 @@ struct Label {
     values: Vec<Option<String>>,
 }
 
-/// A declared, finite universe of label sets: at most 64 labels, each with 1 to 128 distinct values.
+/// A declared, finite universe of label sets: at most [`MAX_LABELS`] labels, each with 1 to [`MAX_VALUES`] distinct values.
 ///
 /// A value is a non-empty text or absence. The order of the labels and of their values is the
 /// declared order, in which label sets are written.
@@ -48,12 +49,6 @@ impl Model for Universe {
 }
 
 impl Universe {
-    /// The most labels of a universe.
-    pub const MAX_LABELS: usize = 64;
-
-    /// The most values of a label.
-    pub const MAX_VALUES: usize = 128;
-
     /// The universe with no labels, which has one label set, the empty one. It keeps the allocator.
     pub fn empty(alloc: Global) -> Universe
         ensures { result ≡ [] }
@@ -83,13 +78,13 @@ impl Universe {
 
     /// Why a label may not have so many values; `None` where it may.
     ///
-    /// `Empty` for no value, `Limit` for more than 128.
+    /// `Empty` for no value, `Limit` for more than [`MAX_VALUES`].
     pub fn count_fault(count: usize) -> Option<Kind>
         ensures { result ≡ count_fault count }
     {
         if count == 0 {
             Some(Kind::Empty)
-        } else if count > Universe::MAX_VALUES {
+        } else if count > MAX_VALUES {
             Some(Kind::Limit)
         } else {
             None
@@ -113,7 +108,7 @@ impl Universe {
 
     /// Adds a label behind the others, with its values in declared order.
     ///
-    /// The first fault is the one answered: `Limit` at `Label` where there are 64 labels already; the faults of
+    /// The first fault is the one answered: `Limit` at `Label` where there are [`MAX_LABELS`] already; the faults of
     /// the name, at `Name`, as `name_fault` has them; of their count, at `Values`, as `count_fault` has them; and at
     /// the first such value, those of a value, as `value_fault` has them.
     /// `Memory` at `Label` comes only for a label with no fault, where memory was refused. After an `Err` nothing has
@@ -138,7 +133,7 @@ impl Universe {
     fn label_fault(&self, name: &str, values: &[Option<String>]) -> Option<LabelFault>
         ensures { result ≡ label_fault self.now (record { name = name.now; values = texts_of values.now }) }
     {
-        if self.labels.len() >= Universe::MAX_LABELS {
+        if self.labels.len() >= MAX_LABELS {
             return Some(at(LabelPart::Label, Kind::Limit));
         }
         if let Some(kind) = self.name_fault(name) {
@@ -147,10 +142,10 @@ impl Universe {
         label_values_fault(values)
     }
 
-    /// How many labels there are, at most 64.
+    /// How many labels there are, at most [`MAX_LABELS`].
     pub fn len(&self) -> usize
         ensures len { result ≡ length self.now }
-        ensures at_most { result ≤ max_labels }
+        ensures at_most { result ≤ MAX_LABELS }
         ensures universe { IsUniverse self.now }
     {
         self.labels.len()
@@ -171,12 +166,12 @@ impl Universe {
         self.labels[i].name.as_str()
     }
 
-    /// How many values the label at `i` has, 1 to 128.
+    /// How many values the label at `i` has, 1 to [`MAX_VALUES`].
     pub fn size(&self, i: usize) -> usize
         requires { i < length self.now }
         ensures size { slice_get (sizes self.now) i ≡ Some result }
         ensures some { 0 < result }
-        ensures at_most { result ≤ max_values }
+        ensures at_most { result ≤ MAX_VALUES }
     {
         self.labels[i].values.len()
     }
