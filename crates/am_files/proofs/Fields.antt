@@ -1,14 +1,21 @@
 -- The fields of an object: what reading one with no fault says of the JSON value, and back.
-use Rattle.std.proofs.Common.{◌≡◌, ◌⊎◌, ℕ, ◌≤◌, List, [], length, Bool, true, false, not, ◌&&◌, Option, Some, None, option_and_then, Ok, inl, inr, refl, ap, ◌∙◌, cond}
+use Rattle.std.proofs.Common.{◌≡◌, ◌⊎◌, ℕ, ◌≤◌, List, [], length, Bool, true, false, not, ◌&&◌}
+use Rattle.std.proofs.Common.{Option, Some, None, option_and_then, Ok, inl, inr, refl, ap, ◌∙◌}
+use Rattle.std.proofs.Common.{cond}
 use Rattle.std.specs.Prelude.{⊤, IsTrue}
-use Rattle.serde_json.specs.Data.{Data, null, boolean, number, string, array, object, Members, no_members, member}
+use Rattle.serde_json.specs.Data.{Data, null, boolean, number, string, array, object, Members}
+use Rattle.serde_json.specs.Data.{no_members, member}
 use Rattle.serde_json.specs.Find as find
 use Rattle.am_universe.specs.declared.kind.Kind.TheVariants as kinds
 use Rattle.am_files.specs.declared.limits.TheConstants.{MAX_FILE_BYTES}
-use Rattle.am_files.specs.Json.{json_of, is_null, is_one_of, is_unknown, field, lesser_key, unknown_field, items_of, AreOnlyFields, HasOnlyFields}
+use Rattle.am_files.specs.Json.{json_of, is_null, is_one_of, is_unknown, field, lesser_key}
+use Rattle.am_files.specs.Json.{unknown_field, items_of, AreOnlyFields, HasOnlyFields}
 use Rattle.am_files.specs.Pointer.{Refusal, refusal_here, refusal_within, to_field}
-use Rattle.am_files.specs.Reading.{◌>>=◌, reading_within, accept_some, as_object, as_text, as_items, refuse_unknown_field, check_only_fields, required_field, required_text, required_items, check_count, read_json}
-use Rattle.am_files.proofs.Readings.{bind_ok, within_ok, check_count_ok, check_count_fits, ok_or_some}
+use Rattle.am_files.specs.Reading.{◌>>=◌, reading_within, accept_some, as_object, as_text, as_items}
+use Rattle.am_files.specs.Reading.{refuse_unknown_field, check_only_fields, required_field}
+use Rattle.am_files.specs.Reading.{required_text, required_items, check_count, read_json}
+use Rattle.am_files.proofs.Readings.{bind_ok, within_ok, check_count_ok, check_count_fits}
+use Rattle.am_files.proofs.Readings.{ok_or_some}
 use Rattle.am_files.proofs.Items.{none_then}
 
 -- ---- The kinds of values.
@@ -44,7 +51,8 @@ pub as_text_reads : (d : Data) (t : List ℕ) → d ≡ string t → (as_text d)
 as_text_reads d t is = rw is refl
 
 pub as_object_says : (d : Data) (ms : Members) → (as_object d).result ≡ Ok ms → d ≡ object ms
-as_object_says d ms h = object_is d ms (ok_or_some (find.as_object d) (refusal_here kinds.Shape) ms h)
+as_object_says d ms h =
+    object_is d ms (ok_or_some (find.as_object d) (refusal_here kinds.Shape) ms h)
 
 pub as_object_reads : (d : Data) (ms : Members) → d ≡ object ms → (as_object d).result ≡ Ok ms
 as_object_reads d ms is = rw is refl
@@ -56,14 +64,18 @@ known_says true known h = inl refl
 known_says false true h = inr refl
 known_says false false h = absurd cc
 
-picked : (b : Bool) (key : List ℕ) (rest : Option (List ℕ)) → cond b (Some key) rest ≡ None → (b ≡ false) × (rest ≡ None)
+picked : (b : Bool) (key : List ℕ) (rest : Option (List ℕ)) → cond b (Some key) rest ≡ None
+    → (b ≡ false) × (rest ≡ None)
 picked true key rest h = absurd cc
 picked false key rest h = (refl, h)
 
-none_says : (known : List (List ℕ)) (ms : Members) → unknown_field known ms ≡ None → AreOnlyFields known ms
+none_says : (known : List (List ℕ)) (ms : Members) → unknown_field known ms ≡ None
+    → AreOnlyFields known ms
 none_says known no_members h = tt
 none_says known (member key d rest) h =
-    let split = picked (is_unknown known key d) (lesser_key key (unknown_field known rest)) (unknown_field known rest) h in
+    let split =
+    picked (is_unknown known key d) (lesser_key key (unknown_field known rest))
+    (unknown_field known rest) h in
     let here = known_says (is_null d) (is_one_of key known) split.0 in
     (elim here [ inl e ↦ inl (null_is d e) | inr e ↦ inr e ], none_says known rest split.1)
 
@@ -71,81 +83,118 @@ not_both : (b : Bool) → (b && false) ≡ false
 not_both true = refl
 not_both false = refl
 
-known_reads : (known : List (List ℕ)) (key : List ℕ) (d : Data) → (d ≡ null) ⊎ IsTrue (is_one_of key known) → is_unknown known key d ≡ false
+known_reads : (known : List (List ℕ)) (key : List ℕ) (d : Data) → (d ≡ null)
+    ⊎ IsTrue (is_one_of key known) → is_unknown known key d ≡ false
 known_reads known key d (inl e) = rw e refl
 known_reads known key d (inr e) = rw e (not_both (not (is_null d)))
 
-only_none : (known : List (List ℕ)) (ms : Members) → AreOnlyFields known ms → unknown_field known ms ≡ None
+only_none : (known : List (List ℕ)) (ms : Members) → AreOnlyFields known ms
+    → unknown_field known ms ≡ None
 only_none known no_members only = refl
-only_none known (member key d rest) only = rw (known_reads known key d only.0) (only_none known rest only.1)
+only_none known (member key d rest) only =
+    rw (known_reads known key d only.0) (only_none known rest only.1)
 
-not_refused : (found : Option (List ℕ)) (x : ⊤) → (refuse_unknown_field found).result ≡ Ok x → found ≡ None
+not_refused : (found : Option (List ℕ)) (x : ⊤) → (refuse_unknown_field found).result ≡ Ok x
+    → found ≡ None
 not_refused None x h = refl
 not_refused (Some key) x h = absurd cc
 
-pub only_fields_say : (known : List (List ℕ)) (d : Data) (x : ⊤) → (check_only_fields known d).result ≡ Ok x → HasOnlyFields known d
+pub only_fields_say : (known : List (List ℕ)) (d : Data) (x : ⊤)
+    → (check_only_fields known d).result ≡ Ok x → HasOnlyFields known d
 unfolding check_only_fields
 only_fields_say known d x h =
-    let members = bind_ok ((as_object d).result) (λ ms. (refuse_unknown_field (unknown_field known ms)).result) x h in
-    (members.0, as_object_says d members.0 members.1, none_says known members.0 (not_refused (unknown_field known members.0) x members.2))
+    let members =
+    bind_ok ((as_object d).result)
+    (λ ms. (refuse_unknown_field (unknown_field known ms)).result) x h in (
+      members.0,
+      as_object_says d members.0 members.1,
+      none_says known members.0 (not_refused (unknown_field known members.0) x members.2),
+    )
 
-pub only_fields_read : (known : List (List ℕ)) (d : Data) → HasOnlyFields known d → (check_only_fields known d).result ≡ Ok tt
+pub only_fields_read : (known : List (List ℕ)) (d : Data) → HasOnlyFields known d
+    → (check_only_fields known d).result ≡ Ok tt
 unfolding check_only_fields
 only_fields_read known d only = rw (only.1, only_none known only.0 only.2) refl
 
-pub none_only_fields : (known : List (List ℕ)) (d : Data) → (check_only_fields known d).patterns ≡ []
+pub none_only_fields : (known : List (List ℕ)) (d : Data)
+    → (check_only_fields known d).patterns ≡ []
 unfolding check_only_fields
-none_only_fields known d = none_then (as_object d) (λ ms. refuse_unknown_field (unknown_field known ms)) refl (λ ms. refl)
+none_only_fields known d =
+    none_then (as_object d) (λ ms. refuse_unknown_field (unknown_field known ms)) refl (λ ms. refl)
 
 -- ---- A field that has to be there.
 
-pub required_text_says : (key : List ℕ) (d : Data) (t : List ℕ) → (required_text key d).result ≡ Ok t → field key d ≡ Some (string t)
+pub required_text_says : (key : List ℕ) (d : Data) (t : List ℕ)
+    → (required_text key d).result ≡ Ok t → field key d ≡ Some (string t)
 unfolding required_text
 required_text_says key d t h =
-    let value = bind_ok ((required_field key d).result) (λ v. (reading_within (to_field key) (as_text v)).result) t h in
-    let is = as_text_says value.0 t (within_ok (to_field key) ((as_text value.0).result) t value.2) in
+    let value =
+    bind_ok ((required_field key d).result)
+    (λ v. (reading_within (to_field key) (as_text v)).result) t h in
+    let is =
+    as_text_says value.0 t (within_ok (to_field key) ((as_text value.0).result) t value.2) in
     ok_or_some (field key d) _ value.0 value.1 ∙ ap (λ (v : Data). Some v) is
 
-pub required_text_reads : (key : List ℕ) (d : Data) (t : List ℕ) → field key d ≡ Some (string t) → (required_text key d).result ≡ Ok t
+pub required_text_reads : (key : List ℕ) (d : Data) (t : List ℕ) → field key d ≡ Some (string t)
+    → (required_text key d).result ≡ Ok t
 unfolding required_text
 required_text_reads key d t h = rw h refl
 
 pub none_required_text : (key : List ℕ) (d : Data) → (required_text key d).patterns ≡ []
 unfolding required_text
-none_required_text key d = none_then (required_field key d) (λ v. reading_within (to_field key) (as_text v)) refl (λ v. refl)
+none_required_text key d =
+    none_then (required_field key d) (λ v. reading_within (to_field key) (as_text v)) refl
+    (λ v. refl)
 
-pub required_items_say : (key : List ℕ) (d : Data) (items : List Data) → (required_items key d).result ≡ Ok items → option_and_then items_of (field key d) ≡ Some items
+pub required_items_say : (key : List ℕ) (d : Data) (items : List Data)
+    → (required_items key d).result ≡ Ok items → option_and_then items_of (field key d) ≡ Some items
 unfolding required_items
 required_items_say key d items h =
-    let value = bind_ok ((required_field key d).result) (λ v. (reading_within (to_field key) (as_items v)).result) items h in
-    let are = ok_or_some (items_of value.0) (refusal_here kinds.Shape) items (within_ok (to_field key) ((as_items value.0).result) items value.2) in
+    let value =
+    bind_ok ((required_field key d).result)
+    (λ v. (reading_within (to_field key) (as_items v)).result) items h in
+    let are =
+    ok_or_some (items_of value.0) (refusal_here kinds.Shape) items
+    (within_ok (to_field key) ((as_items value.0).result) items value.2) in
     rw (ok_or_some (field key d) _ value.0 value.1) are
 
-items_are_read : (key : List ℕ) (found : Option Data) (r : Refusal) (items : List Data) → option_and_then items_of found ≡ Some items
+items_are_read : (key : List ℕ) (found : Option Data) (r : Refusal) (items : List Data)
+    → option_and_then items_of found ≡ Some items
     → (accept_some found r >>= λ v. reading_within (to_field key) (as_items v)).result ≡ Ok items
 items_are_read key None r items h = absurd cc
 items_are_read key (Some v) r items h = rw h refl
 
-pub required_items_read : (key : List ℕ) (d : Data) (items : List Data) → option_and_then items_of (field key d) ≡ Some items → (required_items key d).result ≡ Ok items
+pub required_items_read : (key : List ℕ) (d : Data) (items : List Data)
+    → option_and_then items_of (field key d) ≡ Some items → (required_items key d).result ≡ Ok items
 unfolding required_items
-required_items_read key d items h = items_are_read key (field key d) (refusal_within (to_field key) (refusal_here kinds.Shape)) items h
+required_items_read key d items h =
+    items_are_read key (field key d) (refusal_within (to_field key) (refusal_here kinds.Shape))
+    items h
 
 pub none_required_items : (key : List ℕ) (d : Data) → (required_items key d).patterns ≡ []
 unfolding required_items
-none_required_items key d = none_then (required_field key d) (λ v. reading_within (to_field key) (as_items v)) refl (λ v. refl)
+none_required_items key d =
+    none_then (required_field key d) (λ v. reading_within (to_field key) (as_items v)) refl
+    (λ v. refl)
 
 -- ---- A file.
 
-pub json_says : (bytes : List ℕ) (d : Data) → (read_json bytes).result ≡ Ok d → (length bytes ≤ MAX_FILE_BYTES) × (json_of bytes ≡ Some d)
+pub json_says : (bytes : List ℕ) (d : Data) → (read_json bytes).result ≡ Ok d
+    → (length bytes ≤ MAX_FILE_BYTES) × (json_of bytes ≡ Some d)
 unfolding read_json
 json_says bytes d h =
-    let few = bind_ok ((check_count MAX_FILE_BYTES (length bytes)).result) _ d h in
-    (check_count_ok MAX_FILE_BYTES (length bytes) few.0 few.1, ok_or_some (json_of bytes) (refusal_here kinds.NotJson) d few.2)
+    let few = bind_ok ((check_count MAX_FILE_BYTES (length bytes)).result) _ d h in (
+      check_count_ok MAX_FILE_BYTES (length bytes) few.0 few.1,
+      ok_or_some (json_of bytes) (refusal_here kinds.NotJson) d few.2,
+    )
 
-pub json_reads : (bytes : List ℕ) (d : Data) → length bytes ≤ MAX_FILE_BYTES → json_of bytes ≡ Some d → (read_json bytes).result ≡ Ok d
+pub json_reads : (bytes : List ℕ) (d : Data) → length bytes ≤ MAX_FILE_BYTES
+    → json_of bytes ≡ Some d → (read_json bytes).result ≡ Ok d
 unfolding read_json
 json_reads bytes d few is = rw (check_count_fits MAX_FILE_BYTES (length bytes) few, is) refl
 
 pub none_json : (bytes : List ℕ) → (read_json bytes).patterns ≡ []
 unfolding read_json
-none_json bytes = none_then (check_count MAX_FILE_BYTES (length bytes)) (λ _. accept_some (json_of bytes) (refusal_here kinds.NotJson)) refl (λ _. refl)
+none_json bytes =
+    none_then (check_count MAX_FILE_BYTES (length bytes))
+    (λ _. accept_some (json_of bytes) (refusal_here kinds.NotJson)) refl (λ _. refl)

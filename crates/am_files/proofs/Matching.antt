@@ -1,5 +1,7 @@
 -- Matchers that are built, and those that are refused.
-use Rattle.std.proofs.Common.{◌≡◌, ◌≢◌, ℕ, ◌≤◌, List, [], ◌∷◌, ◌++◌, length, Bool, true, false, ◌&&◌, cond, Option, Some, None, Result, Ok, Err, IsTrue, inl, inr, refl, sym, subst}
+use Rattle.std.proofs.Common.{◌≡◌, ◌≢◌, ℕ, ◌≤◌, List, [], ◌∷◌, ◌++◌, length, Bool, true, false}
+use Rattle.std.proofs.Common.{◌&&◌, cond, Option, Some, None, Result, Ok, Err, IsTrue, inl, inr}
+use Rattle.std.proofs.Common.{refl, sym, subst}
 use Rattle.std.specs.Prelude.{IsErrAnd}
 use Rattle.serde_json.specs.Data.{Data}
 use Rattle.am_labels.specs.declared.op.Op.{Op}
@@ -10,14 +12,21 @@ use Rattle.am_labels.specs.Pattern.{is_pattern}
 use Rattle.am_labels.specs.PatternCut.{in_profile}
 use Rattle.am_labels.specs.MatcherText.{Spells}
 use Rattle.am_labels.specs.MatcherReading.{read_list}
-use Rattle.am_labels.specs.MatcherRefusals.{has_sound_value, have_sound_values, pattern_refusal, RefusesCondition, RefusesPatterns, RefusesText}
+use Rattle.am_labels.specs.MatcherRefusals.{has_sound_value, have_sound_values, pattern_refusal}
+use Rattle.am_labels.specs.MatcherRefusals.{RefusesCondition, RefusesPatterns, RefusesText}
 use Rattle.am_labels.proofs.MatcherTextWhole.{list_is_read, list_is_spelled}
 use Rattle.am_files.specs.declared.read_error.ReadError.{ReadError}
 use Rattle.am_files.specs.declared.read_error.ReadError.TheVariants as errors
 use Rattle.am_files.specs.Pointer.{Refusal, refusal_here, refusal_within}
-use Rattle.am_files.specs.Reading.{Reading, ◌>>=◌, accept, accept_some, reading_within, refuse_for, check_count, IsPatternRefusal, MayRefuse, IsRefusalOrMemory, Fails, Gives}
-use Rattle.am_files.specs.ConfigReading.{pattern_fault, profile_patterns, check_patterns, read_matcher_text, text_refusal, read_named_text, read_matcher_pair, label_name_fault}
-use Rattle.am_files.proofs.Readings.{pattern_right, refuses_first, refuses_later, refuses_within, here_fails, fails_later, check_count_fits, check_count_over, bind_ok, refuse_for_ok}
+use Rattle.am_files.specs.Reading.{Reading, ◌>>=◌, accept, accept_some, reading_within, refuse_for}
+use Rattle.am_files.specs.Reading.{check_count, IsPatternRefusal, MayRefuse, IsRefusalOrMemory}
+use Rattle.am_files.specs.Reading.{Fails, Gives}
+use Rattle.am_files.specs.ConfigReading.{pattern_fault, profile_patterns, check_patterns}
+use Rattle.am_files.specs.ConfigReading.{read_matcher_text, text_refusal, read_named_text}
+use Rattle.am_files.specs.ConfigReading.{read_matcher_pair, label_name_fault}
+use Rattle.am_files.proofs.Readings.{pattern_right, refuses_first, refuses_later, refuses_within}
+use Rattle.am_files.proofs.Readings.{here_fails, fails_later, check_count_fits, check_count_over}
+use Rattle.am_files.proofs.Readings.{bind_ok, refuse_for_ok}
 
 pub both_true : (a b : Bool) → (a && b) ≡ true → (a ≡ true) × (b ≡ true)
 both_true true b h = (refl, h)
@@ -32,28 +41,40 @@ sound_passes (m ∷ ms) h =
     let split = both_true (has_sound_value m) (have_sound_values ms) h in
     rw (split.0, sound_passes ms split.1) refl
 
-refused_first : (m : Condition) (after : List Condition) (takes profile pattern : Bool) → takes_pattern m.op ≡ takes → in_profile m.value ≡ profile → is_pattern m.value ≡ pattern → takes ≡ true
+refused_first : (m : Condition) (after : List Condition) (takes profile pattern : Bool)
+    → takes_pattern m.op ≡ takes → in_profile m.value ≡ profile → is_pattern m.value ≡ pattern
+    → takes ≡ true
     → MayRefuse (check_patterns (m ∷ after)) (refusal_here (pattern_refusal m.value))
 refused_first m after true true pattern t p q h = inr (rw (t, p) (inl refl))
 refused_first m after true false pattern t p q h = inl (rw (t, p) refl)
 refused_first m after false profile pattern t p q h = absurd cc
 
-refused_behind : (x : Condition) (ms : List Condition) (r : Refusal) → has_sound_value x ≡ true → MayRefuse (check_patterns ms) r → MayRefuse (check_patterns (x ∷ ms)) r
+refused_behind : (x : Condition) (ms : List Condition) (r : Refusal) → has_sound_value x ≡ true
+    → MayRefuse (check_patterns ms) r → MayRefuse (check_patterns (x ∷ ms)) r
 refused_behind x ms r sound (inl h) = inl (rw sound h)
 refused_behind x ms r sound (inr h) =
-    let later : IsPatternRefusal (cond (has_sound_value x) (profile_patterns ms) []) r = rw sound h in
-    inr (pattern_right (cond (takes_pattern x.op && in_profile x.value) ([] ∷ []) []) (cond (has_sound_value x) (profile_patterns ms) []) r later)
+    let later : IsPatternRefusal (cond (has_sound_value x) (profile_patterns ms) []) r =
+    rw sound h in
+    inr (pattern_right (cond (takes_pattern x.op && in_profile x.value) ([] ∷ []) [])
+    (cond (has_sound_value x) (profile_patterns ms) []) r later)
 
-refused_at : (before : List Condition) (m : Condition) (after : List Condition) → IsTrue (have_sound_values before) → IsTrue (takes_pattern m.op)
+refused_at : (before : List Condition) (m : Condition) (after : List Condition)
+    → IsTrue (have_sound_values before) → IsTrue (takes_pattern m.op)
     → MayRefuse (check_patterns (before ++ m ∷ after)) (refusal_here (pattern_refusal m.value))
-refused_at [] m after sound takes = refused_first m after (takes_pattern m.op) (in_profile m.value) (is_pattern m.value) refl refl refl takes
+refused_at [] m after sound takes =
+    refused_first m after (takes_pattern m.op) (in_profile m.value) (is_pattern m.value) refl refl
+    refl takes
 refused_at (x ∷ before) m after sound takes =
     let split = both_true (has_sound_value x) (have_sound_values before) sound in
-    refused_behind x (before ++ m ∷ after) (refusal_here (pattern_refusal m.value)) split.0 (refused_at before m after split.1 takes)
+    refused_behind x (before ++ m ∷ after) (refusal_here (pattern_refusal m.value)) split.0
+    (refused_at before m after split.1 takes)
 
-patterns_refused : (ms : List Condition) (kind : Kind) → RefusesPatterns ms kind → MayRefuse (check_patterns ms) (refusal_here kind)
+patterns_refused : (ms : List Condition) (kind : Kind) → RefusesPatterns ms kind
+    → MayRefuse (check_patterns ms) (refusal_here kind)
 patterns_refused ms kind refused =
-    rw (refused.parts, refused.value.kind_is) (refused_at refused.before refused.refused refused.after refused.earlier refused.value.pattern)
+    rw (refused.parts, refused.value.kind_is)
+    (refused_at refused.before refused.refused refused.after refused.earlier
+    refused.value.pattern)
 
 -- ---- A pair of a name and a text.
 
@@ -65,7 +86,8 @@ pub name_is_some : (name : List ℕ) → label_name_fault name ≡ None → name
 name_is_some [] h = absurd cc
 name_is_some (c ∷ cs) h = λ e. cc
 
-pub text_has_name : (name : List ℕ) (d : Data) (text : List ℕ) → (read_named_text name d).result ≡ Ok text → name ≢ []
+pub text_has_name : (name : List ℕ) (d : Data) (text : List ℕ)
+    → (read_named_text name d).result ≡ Ok text → name ≢ []
 unfolding read_named_text
 text_has_name name d text h =
     let free = bind_ok ((refuse_for (label_name_fault name)).result) _ text h in
@@ -73,26 +95,38 @@ text_has_name name d text h =
 
 -- the matcher of a pair, behind the reading of its text
 abbrev pub behind_text : Op → List ℕ → List ℕ → Reading Condition
-behind_text op name text = check_patterns (record { name = name; op = op; value = text } ∷ []) >>= λ _. accept (record { name = name; op = op; value = text })
+behind_text op name text =
+    check_patterns (record { name = name; op = op; value = text } ∷ [])
+    >>= λ _. accept (record { name = name; op = op; value = text })
 
-pub pair_gives : (op : Op) (name : List ℕ) (d : Data) (text : List ℕ) → (read_named_text name d).result ≡ Ok text
-    → IsTrue (has_sound_value (record { name = name; op = op; value = text })) → (read_matcher_pair op name d).result ≡ Ok (record { name = name; op = op; value = text })
+pub pair_gives : (op : Op) (name : List ℕ) (d : Data) (text : List ℕ)
+    → (read_named_text name d).result ≡ Ok text
+    → IsTrue (has_sound_value (record { name = name; op = op; value = text }))
+    → (read_matcher_pair op name d).result ≡ Ok (record { name = name; op = op; value = text })
 unfolding read_matcher_pair
 pair_gives op name d text is sound = rw (is, sound) refl
 
-pair_refused : (op : Op) (name text : List ℕ) (kind : Kind) → name ≢ [] → RefusesCondition (record { name = name; op = op; value = text }) kind → MayRefuse (behind_text op name text) (refusal_here kind)
+pair_refused : (op : Op) (name text : List ℕ) (kind : Kind) → name ≢ []
+    → RefusesCondition (record { name = name; op = op; value = text }) kind
+    → MayRefuse (behind_text op name text) (refusal_here kind)
 pair_refused op name text kind some (inl unnamed) = absurd (some unnamed.0)
 pair_refused op name text kind some (inr value) =
     let m : Condition = record { name = name; op = op; value = text } in
-    let at : MayRefuse (check_patterns (m ∷ [])) (refusal_here kind) = rw value.1.kind_is (refused_at [] m [] refl value.1.pattern) in
+    let at : MayRefuse (check_patterns (m ∷ [])) (refusal_here kind) =
+    rw value.1.kind_is (refused_at [] m [] refl value.1.pattern) in
     refuses_first (check_patterns (m ∷ [])) (λ _. accept m) (refusal_here kind) at
 
-pub pair_fails : (op : Op) (name : List ℕ) (d : Data) (text : List ℕ) (kind : Kind) (e : ReadError) → (read_named_text name d).result ≡ Ok text
-    → (kind ≢ kinds.Memory → RefusesCondition (record { name = name; op = op; value = text }) kind) → IsRefusalOrMemory e (refusal_here kind) → (kind ≡ kinds.Memory → e ≡ errors.Memory) → Fails e (read_matcher_pair op name d)
+pub pair_fails : (op : Op) (name : List ℕ) (d : Data) (text : List ℕ) (kind : Kind) (e : ReadError)
+    → (read_named_text name d).result ≡ Ok text
+    → (kind ≢ kinds.Memory → RefusesCondition (record { name = name; op = op; value = text }) kind)
+    → IsRefusalOrMemory e (refusal_here kind) → (kind ≡ kinds.Memory → e ≡ errors.Memory)
+    → Fails e (read_matcher_pair op name d)
 unfolding read_matcher_pair
 pair_fails op name d text kind e is refused tells memory =
     let some = text_has_name name d text is in
-    let here = here_fails kind e (behind_text op name text) tells memory (λ other. pair_refused op name text kind some (refused other)) in
+    let here =
+    here_fails kind e (behind_text op name text) tells memory
+    (λ other. pair_refused op name text kind some (refused other)) in
     fails_later e (read_named_text name d) (behind_text op name) text is here
 
 -- ---- A text.
@@ -103,46 +137,81 @@ err_of e = Err e
 refused_is_no_memory : (found : Refusal) → err_of (errors.Refused found) ≡ err_of errors.Memory → ⊥
 refused_is_no_memory found h = cc
 
-pub text_gives : (part limit : List ℕ) (text : List ℕ) (ms : List Condition) → Spells text ms → length ms ≤ max_matchers → IsTrue (have_sound_values ms) → (read_matcher_text part limit text).result ≡ Ok ms
+pub text_gives : (part limit : List ℕ) (text : List ℕ) (ms : List Condition) → Spells text ms
+    → length ms ≤ max_matchers → IsTrue (have_sound_values ms)
+    → (read_matcher_text part limit text).result ≡ Ok ms
 unfolding read_matcher_text
-text_gives part limit text ms spells le sound = rw (list_is_read text ms spells, check_count_fits max_matchers (length ms) le, sound_passes ms sound) refl
+text_gives part limit text ms spells le sound =
+    rw (
+      list_is_read text ms spells,
+      check_count_fits max_matchers (length ms) le,
+      sound_passes ms sound,
+    ) refl
 
-none_read : (text : List ℕ) (found : Option (List Condition)) → read_list text ≡ found → ((ms : List Condition) → Spells text ms → ⊥) → read_list text ≡ None
+none_read : (text : List ℕ) (found : Option (List Condition)) → read_list text ≡ found
+    → ((ms : List Condition) → Spells text ms → ⊥) → read_list text ≡ None
 none_read text None is none = is
 none_read text (Some ms) is none = absurd (none ms (list_is_spelled text ms is))
 
-text_patterns : (part limit : List ℕ) (text : List ℕ) (ms : List Condition) (r : Refusal) → Spells text ms → length ms ≤ max_matchers → MayRefuse (check_patterns ms) r
+text_patterns : (part limit : List ℕ) (text : List ℕ) (ms : List Condition) (r : Refusal)
+    → Spells text ms → length ms ≤ max_matchers → MayRefuse (check_patterns ms) r
     → MayRefuse (read_matcher_text part limit text) (refusal_within part r)
 unfolding read_matcher_text
 text_patterns part limit text ms r spells le h =
-    let read : (accept_some (read_list text) (refusal_here kinds.BadMatcher)).result ≡ Ok ms = rw (list_is_read text ms spells) refl in
-    let first : (reading_within part (accept_some (read_list text) (refusal_here kinds.BadMatcher))).result ≡ Ok ms = rw read refl in
-    let second : (reading_within limit (check_count max_matchers (length ms))).result ≡ Ok tt = rw (check_count_fits max_matchers (length ms) le) refl in
-    let patterns : List Condition → Reading (List Condition) = λ ns. reading_within part (check_patterns ns) >>= λ _. accept ns in
-    let few : List Condition → Reading (List Condition) = λ ns. reading_within limit (check_count max_matchers (length ns)) >>= λ _. patterns ns in
-    let third = refuses_first (reading_within part (check_patterns ms)) (λ _. accept ms) (refusal_within part r) (refuses_within part (check_patterns ms) r h) in
-    let behind = refuses_later (reading_within limit (check_count max_matchers (length ms))) (λ _. patterns ms) tt (refusal_within part r) second third in
-    refuses_later (reading_within part (accept_some (read_list text) (refusal_here kinds.BadMatcher))) few ms (refusal_within part r) first behind
+    let read : (accept_some (read_list text) (refusal_here kinds.BadMatcher)).result ≡ Ok ms =
+    rw (list_is_read text ms spells) refl in
+    let first : (reading_within part
+    (accept_some (read_list text) (refusal_here kinds.BadMatcher))).result ≡ Ok ms = rw read
+    refl in
+    let second : (reading_within limit (check_count max_matchers (length ms))).result ≡ Ok tt =
+    rw (check_count_fits max_matchers (length ms) le) refl in
+    let patterns : List Condition → Reading (List Condition) =
+    λ ns. reading_within part (check_patterns ns) >>= λ _. accept ns in
+    let few : List Condition → Reading (List Condition) =
+    λ ns. reading_within limit (check_count max_matchers (length ns)) >>= λ _. patterns ns in
+    let third =
+    refuses_first (reading_within part (check_patterns ms)) (λ _. accept ms)
+    (refusal_within part r) (refuses_within part (check_patterns ms) r h) in
+    let behind =
+    refuses_later (reading_within limit (check_count max_matchers (length ms)))
+    (λ _. patterns ms) tt (refusal_within part r) second third in
+    refuses_later (reading_within part
+    (accept_some (read_list text) (refusal_here kinds.BadMatcher))) few ms
+    (refusal_within part r) first behind
 
-pattern_text_refusal : (part limit : List ℕ) (profile : Bool) → text_refusal part limit (cond profile kinds.Pattern kinds.PatternProfile) ≡ refusal_within part (refusal_here (cond profile kinds.Pattern kinds.PatternProfile))
+pattern_text_refusal : (part limit : List ℕ) (profile : Bool)
+    → text_refusal part limit (cond profile kinds.Pattern kinds.PatternProfile) ≡ refusal_within
+    part (refusal_here (cond profile kinds.Pattern kinds.PatternProfile))
 pattern_text_refusal part limit true = refl
 pattern_text_refusal part limit false = refl
 
-text_refused : (part limit : List ℕ) (text : List ℕ) (kind : Kind) → RefusesText text kind → MayRefuse (read_matcher_text part limit text) (text_refusal part limit kind)
+text_refused : (part limit : List ℕ) (text : List ℕ) (kind : Kind) → RefusesText text kind
+    → MayRefuse (read_matcher_text part limit text) (text_refusal part limit kind)
 unfolding read_matcher_text
-text_refused part limit text kind (inl bad) = rw bad.0 (inl (rw (none_read text (read_list text) refl bad.1) refl))
+text_refused part limit text kind (inl bad) =
+    rw bad.0 (inl (rw (none_read text (read_list text) refl bad.1) refl))
 text_refused part limit text kind (inr s) =
     elim s.refused [
-      | inl long ↦ rw long.1 (inl (rw (list_is_read text s.list s.spelled, check_count_over max_matchers (length s.list) long.0) refl))
+      | inl long ↦ rw long.1
+          (inl (rw (
+            list_is_read text s.list s.spelled,
+            check_count_over max_matchers (length s.list) long.0,
+          ) refl))
       | inr short ↦
           let is : kind ≡ pattern_refusal short.1.refused.value = short.1.value.kind_is in
-          let at = text_patterns part limit text s.list (refusal_here kind) s.spelled short.0 (patterns_refused s.list kind short.1) in
-          let same : text_refusal part limit kind ≡ refusal_within part (refusal_here kind) = rw is (pattern_text_refusal part limit (in_profile short.1.refused.value)) in
+          let at =
+          text_patterns part limit text s.list (refusal_here kind) s.spelled short.0
+          (patterns_refused s.list kind short.1) in
+          let same : text_refusal part limit kind ≡ refusal_within part (refusal_here kind) =
+          rw is (pattern_text_refusal part limit (in_profile short.1.refused.value)) in
           subst (λ (r : Refusal). MayRefuse (read_matcher_text part limit text) r) (sym same) at
     ]
 
-pub text_fails : (part limit : List ℕ) (text : List ℕ) (kind : Kind) (result : Result (List Condition) ReadError) → (kind ≢ kinds.Memory → RefusesText text kind)
-    → IsErrAnd result (λ e. IsRefusalOrMemory e (text_refusal part limit kind)) → (kind ≡ kinds.Memory → result ≡ Err errors.Memory) → Gives (λ ms. ms) result (read_matcher_text part limit text)
+pub text_fails : (part limit : List ℕ) (text : List ℕ) (kind : Kind)
+    (result : Result (List Condition) ReadError) → (kind ≢ kinds.Memory → RefusesText text kind)
+    → IsErrAnd result (λ e. IsRefusalOrMemory e (text_refusal part limit kind))
+    → (kind ≡ kinds.Memory → result ≡ Err errors.Memory)
+    → Gives (λ ms. ms) result (read_matcher_text part limit text)
 text_fails part limit text kind (Ok ms) refused is memory = absurd is
 text_fails part limit text kind (Err errors.Memory) refused is memory = tt
 text_fails part limit text kind (Err (errors.Refused found)) refused is memory =

@@ -1,6 +1,8 @@
--- What holds of each configuration that was read: its receivers are in range, its root has no matchers, and its routes are
--- not too many and not too deep.
-use Rattle.std.proofs.Common.{◌≡◌, ℕ, zero, suc, ◌+◌, ◌<◌, ◌≤◌, List, [], ◌∷◌, ◌++◌, length, Bool, true, ◌&&◌, nat_lt, Option, Some, None, Ok, refl, sym, ap, subst, ◌∙◌, arith}
+-- What holds of each configuration that was read: its receivers are in range, its root has no
+-- matchers, and its routes are not too many and not too deep.
+use Rattle.std.proofs.Common.{◌≡◌, ℕ, zero, suc, ◌+◌, ◌<◌, ◌≤◌, List, [], ◌∷◌, ◌++◌, length, Bool}
+use Rattle.std.proofs.Common.{true, ◌&&◌, nat_lt, Option, Some, None, Ok, refl, sym, ap, subst, ◌∙◌}
+use Rattle.std.proofs.Common.{arith}
 use Rattle.std.specs.Prelude.{codes, IfSome}
 use Rattle.std.specs.List.{position}
 use Rattle.std.proofs.lemmas.List.Quantifiers.{position-Some}
@@ -14,9 +16,18 @@ use Rattle.am_universe.specs.Text.{same_text}
 use Rattle.am_files.specs.declared.limits.TheConstants.{MAX_ROUTES, MAX_LEVELS}
 use Rattle.am_files.specs.Json.{field, member_list}
 use Rattle.am_files.specs.Pointer.{refusal_here, to_field, to_item}
-use Rattle.am_files.specs.Reading.{reading_within, as_text, as_items, as_object, read_each, read_next_item, read_items}
-use Rattle.am_files.specs.ConfigFile.{RouteSettings, RouteTree, route, Routes, no_routes, IsConfig, MatcherFields, route_matcher_fields, routes_of, matchers_of, route_count, routes_count, route_levels, routes_levels, has_receivers_below, have_receivers_below}
-use Rattle.am_files.specs.ConfigReading.{RouteFields, parent_receiver, receiver_position, receiver_named, effective_receiver, read_receiver, refuse_root_matchers, read_matcher_texts, read_next_pair, read_texts, read_pairs, optional_texts, optional_pairs, read_matchers, read_route_fields, read_route, read_next_child}
+use Rattle.am_files.specs.Reading.{reading_within, as_text, as_items, as_object, read_each}
+use Rattle.am_files.specs.Reading.{read_next_item, read_items}
+use Rattle.am_files.specs.ConfigFile.{RouteSettings, RouteTree, route, Routes, no_routes, IsConfig}
+use Rattle.am_files.specs.ConfigFile.{MatcherFields, route_matcher_fields, routes_of, matchers_of}
+use Rattle.am_files.specs.ConfigFile.{route_count, routes_count, route_levels, routes_levels}
+use Rattle.am_files.specs.ConfigFile.{has_receivers_below, have_receivers_below}
+use Rattle.am_files.specs.ConfigReading.{RouteFields, parent_receiver, receiver_position}
+use Rattle.am_files.specs.ConfigReading.{receiver_named, effective_receiver, read_receiver}
+use Rattle.am_files.specs.ConfigReading.{refuse_root_matchers, read_matcher_texts, read_next_pair}
+use Rattle.am_files.specs.ConfigReading.{read_texts, read_pairs, optional_texts, optional_pairs}
+use Rattle.am_files.specs.ConfigReading.{read_matchers, read_route_fields, read_route}
+use Rattle.am_files.specs.ConfigReading.{read_next_child}
 use Rattle.am_files.proofs.Readings.{bind_ok, within_ok, ok_or_some, same_read}
 use Rattle.am_files.proofs.Matching.{both_true}
 use Rattle.am_files.proofs.Routing.{are_read, count_push}
@@ -26,27 +37,41 @@ use Rattle.am_files.proofs.Routing.{are_read, count_push}
 abbrev IsBelow : ℕ → Option ℕ → Type 0
 IsBelow count parent = IfSome parent (λ p. p < count)
 
-inherited_below : (count : ℕ) (parent : Option ℕ) (r : ℕ) → IsBelow count parent → (parent_receiver parent).result ≡ Ok r → r < count
+inherited_below : (count : ℕ) (parent : Option ℕ) (r : ℕ) → IsBelow count parent
+    → (parent_receiver parent).result ≡ Ok r → r < count
 inherited_below count None r below h = absurd cc
-inherited_below count (Some p) r below h = let e : p ≡ r = same_read p r h in subst (λ n. n < count) e below
+inherited_below count (Some p) r below h = let e : p ≡ r =
+    same_read p r h in subst (λ n. n < count) e below
 
-declared_below : (names : List (List ℕ)) (name : List ℕ) (r : ℕ) → (receiver_position names name).result ≡ Ok r → r < length names
+declared_below : (names : List (List ℕ)) (name : List ℕ) (r : ℕ)
+    → (receiver_position names name).result ≡ Ok r → r < length names
 declared_below names name r h =
-    (position-Some (λ other. same_text other name) names r [] (ok_or_some (position (λ other. same_text other name) names) (refusal_here kinds.UndefinedReceiver) r h)).0
+    (position-Some (λ other. same_text other name) names r []
+    (ok_or_some (position (λ other. same_text other name) names)
+    (refusal_here kinds.UndefinedReceiver) r h)).0
 
-named_below : (names : List (List ℕ)) (parent : Option ℕ) (name : List ℕ) (r : ℕ) → IsBelow (length names) parent → (receiver_named names parent name).result ≡ Ok r → r < length names
+named_below : (names : List (List ℕ)) (parent : Option ℕ) (name : List ℕ) (r : ℕ)
+    → IsBelow (length names) parent → (receiver_named names parent name).result ≡ Ok r
+    → r < length names
 named_below names parent [] r below h = inherited_below (length names) parent r below h
 named_below names parent (c ∷ cs) r below h = declared_below names (c ∷ cs) r h
 
-effective_below : (names : List (List ℕ)) (parent : Option ℕ) (found : Option Data) (r : ℕ) → IsBelow (length names) parent → (effective_receiver names parent found).result ≡ Ok r → r < length names
+effective_below : (names : List (List ℕ)) (parent : Option ℕ) (found : Option Data) (r : ℕ)
+    → IsBelow (length names) parent → (effective_receiver names parent found).result ≡ Ok r
+    → r < length names
 effective_below names parent None r below h = inherited_below (length names) parent r below h
 effective_below names parent (Some d) r below h =
     let name = bind_ok ((as_text d).result) (λ n. (receiver_named names parent n).result) r h in
     named_below names parent name.0 r below name.2
 
-receiver_below : (names : List (List ℕ)) (parent : Option ℕ) (d : Data) (r : ℕ) → IsBelow (length names) parent → (read_receiver names parent d).result ≡ Ok r → r < length names
+receiver_below : (names : List (List ℕ)) (parent : Option ℕ) (d : Data) (r : ℕ)
+    → IsBelow (length names) parent → (read_receiver names parent d).result ≡ Ok r
+    → r < length names
 unfolding read_receiver
-receiver_below names parent d r below h = effective_below names parent (field (codes "receiver") d) r below (within_ok (to_field (codes "receiver")) ((effective_receiver names parent (field (codes "receiver") d)).result) r h)
+receiver_below names parent d r below h =
+    effective_below names parent (field (codes "receiver") d) r below
+    (within_ok (to_field (codes "receiver"))
+    ((effective_receiver names parent (field (codes "receiver") d)).result) r h)
 
 -- ---- The matchers of the top-level route.
 
@@ -54,31 +79,44 @@ root_none : (ms all : List Condition) → (refuse_root_matchers true ms).result 
 root_none [] all h = sym (same_read [] all h)
 root_none (m ∷ ms) all h = absurd cc
 
-texts_none : (key : List ℕ) (found : Option Data) (all : List Condition) → (optional_texts true key found).result ≡ Ok all → all ≡ []
+texts_none : (key : List ℕ) (found : Option Data) (all : List Condition)
+    → (optional_texts true key found).result ≡ Ok all → all ≡ []
 unfolding read_texts
 texts_none key None all h = sym (same_read [] all h)
 texts_none key (Some d) all h =
     let read = within_ok (to_field key) ((read_texts true d).result) all h in
     let items = bind_ok ((as_items d).result) _ all read in
-    let ms = bind_ok ((read_matcher_texts items.0).result) (λ ns. (refuse_root_matchers true ns).result) all items.2 in
+    let ms =
+    bind_ok ((read_matcher_texts items.0).result) (λ ns. (refuse_root_matchers true ns).result)
+    all items.2 in
     root_none ms.0 all ms.2
 
-pairs_none : (op : Op) (key : List ℕ) (before : List Condition) (found : Option Data) (all : List Condition) → before ≡ [] → (optional_pairs true op key before found).result ≡ Ok all → all ≡ []
+pairs_none : (op : Op) (key : List ℕ) (before : List Condition) (found : Option Data)
+    (all : List Condition) → before ≡ [] → (optional_pairs true op key before found).result ≡ Ok all
+    → all ≡ []
 unfolding read_pairs
 pairs_none op key before None all none h = sym (same_read before all h) ∙ none
 pairs_none op key before (Some d) all none h =
     let read = within_ok (to_field key) ((read_pairs true op before d).result) all h in
     let members = bind_ok ((as_object d).result) _ all read in
-    let ms = bind_ok ((read_each (read_next_pair op) before (member_list members.0)).result) (λ ns. (refuse_root_matchers true ns).result) all members.2 in
+    let ms =
+    bind_ok ((read_each (read_next_pair op) before (member_list members.0)).result)
+    (λ ns. (refuse_root_matchers true ns).result) all members.2 in
     root_none ms.0 all ms.2
 
-root_matchers_none : (fields : MatcherFields) (d : Data) (all : List Condition) → (read_matchers fields true d).result ≡ Ok all → all ≡ []
+root_matchers_none : (fields : MatcherFields) (d : Data) (all : List Condition)
+    → (read_matchers fields true d).result ≡ Ok all → all ≡ []
 unfolding read_matchers
 root_matchers_none fields d all h =
-    let texts = bind_ok ((optional_texts true fields.texts (field fields.texts d)).result) _ all h in
-    let equal = bind_ok ((optional_pairs true Equal fields.equalities texts.0 (field fields.equalities d)).result) _ all texts.2 in
+    let texts =
+    bind_ok ((optional_texts true fields.texts (field fields.texts d)).result) _ all h in
+    let equal =
+    bind_ok ((optional_pairs true Equal fields.equalities texts.0
+    (field fields.equalities d)).result) _ all texts.2 in
     let none = texts_none fields.texts (field fields.texts d) texts.0 texts.1 in
-    pairs_none Matches fields.patterns equal.0 (field fields.patterns d) all (pairs_none Equal fields.equalities texts.0 (field fields.equalities d) equal.0 none equal.1) equal.2
+    pairs_none Matches fields.patterns equal.0 (field fields.patterns d) all
+    (pairs_none Equal fields.equalities texts.0 (field fields.equalities d) equal.0 none
+    equal.1) equal.2
 
 -- ---- Routes.
 
@@ -96,27 +134,46 @@ record AreSound (count left before : ℕ) (ts : Routes) : Type 0 where
 both : (a b : Bool) → a ≡ true → b ≡ true → (a && b) ≡ true
 both a b h k = rw (h, k) refl
 
-push_in_range : (count : ℕ) (ts : List RouteTree) (t : RouteTree) → have_receivers_below count (routes_of ts) ≡ true → has_receivers_below count t ≡ true → have_receivers_below count (routes_of (ts ++ t ∷ [])) ≡ true
+push_in_range : (count : ℕ) (ts : List RouteTree) (t : RouteTree)
+    → have_receivers_below count (routes_of ts) ≡ true → has_receivers_below count t ≡ true
+    → have_receivers_below count (routes_of (ts ++ t ∷ [])) ≡ true
 push_in_range count [] t h k = rw k refl
 push_in_range count (s ∷ ts) t h k =
-    let split = both_true (has_receivers_below count s) (have_receivers_below count (routes_of ts)) h in
-    both (has_receivers_below count s) (have_receivers_below count (routes_of (ts ++ t ∷ []))) split.0 (push_in_range count ts t split.1 k)
+    let split =
+    both_true (has_receivers_below count s) (have_receivers_below count (routes_of ts)) h in
+    both (has_receivers_below count s) (have_receivers_below count (routes_of (ts ++ t ∷ [])))
+    split.0 (push_in_range count ts t split.1 k)
 
-push_levels : (left : ℕ) (ts : List RouteTree) (t : RouteTree) → routes_levels (routes_of ts) ≤ left → route_levels t ≤ left → routes_levels (routes_of (ts ++ t ∷ [])) ≤ left
+push_levels : (left : ℕ) (ts : List RouteTree) (t : RouteTree) → routes_levels (routes_of ts) ≤ left
+    → route_levels t ≤ left → routes_levels (routes_of (ts ++ t ∷ [])) ≤ left
 push_levels left [] t h k = omega (arith, k)
 push_levels left (s ∷ ts) t h k = omega (arith, h, k, push_levels left ts t (omega (arith, h)) k)
 
-children_sound : (names : List (List ℕ)) (left receiver before : ℕ) → ((n : ℕ) (d : Data) (t : RouteTree) → (read_route names left (Some receiver) n d).result ≡ Ok t → IsSound (length names) left n t)
-    → (earlier : List RouteTree) (ds : List Data) (all : List RouteTree) → AreSound (length names) left before (routes_of earlier)
-    → (read_items (read_next_child names left receiver before) earlier ds).result ≡ Ok all → AreSound (length names) left before (routes_of all)
+children_sound : (names : List (List ℕ)) (left receiver before : ℕ)
+    → ((n : ℕ) (d : Data) (t : RouteTree)
+    → (read_route names left (Some receiver) n d).result ≡ Ok t → IsSound (length names) left n t)
+    → (earlier : List RouteTree) (ds : List Data) (all : List RouteTree)
+    → AreSound (length names) left before (routes_of earlier)
+    → (read_items (read_next_child names left receiver before) earlier ds).result ≡ Ok all
+    → AreSound (length names) left before (routes_of all)
 unfolding read_each read_next_item
-children_sound names left receiver before one earlier [] all sound h = subst (λ (ts : List RouteTree). AreSound (length names) left before (routes_of ts)) (same_read earlier all h) sound
+children_sound names left receiver before one earlier [] all sound h =
+    subst (λ (ts : List RouteTree). AreSound (length names) left before (routes_of ts))
+    (same_read earlier all h) sound
 children_sound names left receiver before one earlier (d ∷ ds) all sound h =
     let read = read_next_child names left receiver before in
-    let next = bind_ok ((read_next_item read earlier d).result) (λ ts. (read_items read ts ds).result) all h in
-    let child = bind_ok ((reading_within (to_item (length earlier)) (read earlier d)).result) (λ t. Ok (earlier ++ t ∷ [])) next.0 next.1 in
-    let is = one (before + routes_count (routes_of earlier)) d child.0 (within_ok (to_item (length earlier)) ((read earlier d).result) child.0 child.1) in
-    let after = subst (λ (ts : List RouteTree). (read_items read ts ds).result ≡ Ok all) (sym (same_read (earlier ++ child.0 ∷ []) next.0 child.2)) next.2 in
+    let next =
+    bind_ok ((read_next_item read earlier d).result) (λ ts. (read_items read ts ds).result) all
+    h in
+    let child =
+    bind_ok ((reading_within (to_item (length earlier)) (read earlier d)).result)
+    (λ t. Ok (earlier ++ t ∷ [])) next.0 next.1 in
+    let is =
+    one (before + routes_count (routes_of earlier)) d child.0
+    (within_ok (to_item (length earlier)) ((read earlier d).result) child.0 child.1) in
+    let after =
+    subst (λ (ts : List RouteTree). (read_items read ts ds).result ≡ Ok all)
+    (sym (same_read (earlier ++ child.0 ∷ []) next.0 child.2)) next.2 in
     let more : AreSound (length names) left before (routes_of (earlier ++ child.0 ∷ [])) = record {
       in_range = push_in_range (length names) earlier child.0 sound.in_range is.in_range;
       levels = push_levels left earlier child.0 sound.levels is.levels;
@@ -124,27 +181,38 @@ children_sound names left receiver before one earlier (d ∷ ds) all sound h =
     } in
     children_sound names left receiver before one (earlier ++ child.0 ∷ []) ds all more after
 
-route_is_sound : (count left before : ℕ) (settings : RouteSettings) (ts : Routes) → settings.receiver < count → AreSound count left (before + 1) ts → IsSound count (suc left) before (route settings ts)
+route_is_sound : (count left before : ℕ) (settings : RouteSettings) (ts : Routes)
+    → settings.receiver < count → AreSound count left (before + 1) ts
+    → IsSound count (suc left) before (route settings ts)
 route_is_sound count left before settings ts below sound = record {
-  in_range = both (nat_lt settings.receiver count) (have_receivers_below count ts) (lt-ltb settings.receiver count below) sound.in_range;
+  in_range =
+      both (nat_lt settings.receiver count) (have_receivers_below count ts)
+      (lt-ltb settings.receiver count below) sound.in_range;
   levels = omega (arith, sound.levels);
   number = omega (arith, sound.number);
 }
 
 -- what was read of a route: its fields, and its children
-pub record IsRead (names : List (List ℕ)) (left : ℕ) (parent : Option ℕ) (before : ℕ) (d : Data) (t : RouteTree) : Type 0 where
+pub record IsRead (names : List (List ℕ)) (left : ℕ) (parent : Option ℕ) (before : ℕ) (d : Data)
+    (t : RouteTree) : Type 0 where
   pub fields : RouteFields
   pub fields_are : (read_route_fields names parent before d).result ≡ Ok fields
   pub children : List RouteTree
-  pub children_are : (read_items (read_next_child names left fields.settings.receiver (before + 1)) [] fields.items).result ≡ Ok children
+  pub children_are : (read_items (read_next_child names left fields.settings.receiver (before + 1))
+      [] fields.items).result ≡ Ok children
   pub is : route fields.settings (routes_of children) ≡ t
 
-pub is_read : (names : List (List ℕ)) (left : ℕ) (parent : Option ℕ) (before : ℕ) (d : Data) (t : RouteTree) → (read_route names (suc left) parent before d).result ≡ Ok t → IsRead names left parent before d t
+pub is_read : (names : List (List ℕ)) (left : ℕ) (parent : Option ℕ) (before : ℕ) (d : Data)
+    (t : RouteTree) → (read_route names (suc left) parent before d).result ≡ Ok t
+    → IsRead names left parent before d t
 unfolding read_route
 is_read names left parent before d t h =
     let fields = bind_ok ((read_route_fields names parent before d).result) _ t h in
-    let read = read_items (read_next_child names left fields.0.settings.receiver (before + 1)) [] fields.0.items in
-    let children = bind_ok ((reading_within (to_field (codes "routes")) read).result) _ t fields.2 in
+    let read =
+    read_items (read_next_child names left fields.0.settings.receiver (before + 1))
+    [] fields.0.items in
+    let children =
+    bind_ok ((reading_within (to_field (codes "routes")) read).result) _ t fields.2 in
     record {
       fields = fields.0;
       fields_are = fields.1;
@@ -153,30 +221,46 @@ is_read names left parent before d t h =
       is = same_read _ t children.2;
     }
 
-pub no_level : (names : List (List ℕ)) (parent : Option ℕ) (before : ℕ) (d : Data) (t : RouteTree) → (read_route names zero parent before d).result ≡ Ok t → ⊥
+pub no_level : (names : List (List ℕ)) (parent : Option ℕ) (before : ℕ) (d : Data) (t : RouteTree)
+    → (read_route names zero parent before d).result ≡ Ok t → ⊥
 unfolding read_route
 no_level names parent before d t h = cc
 
-pub route_sound : (names : List (List ℕ)) (left : ℕ) (parent : Option ℕ) (before : ℕ) (d : Data) (t : RouteTree) → IsBelow (length names) parent → (read_route names left parent before d).result ≡ Ok t → IsSound (length names) left before t
+pub route_sound : (names : List (List ℕ)) (left : ℕ) (parent : Option ℕ) (before : ℕ) (d : Data)
+    (t : RouteTree) → IsBelow (length names) parent
+    → (read_route names left parent before d).result ≡ Ok t → IsSound (length names) left before t
 route_sound names zero parent before d t below h = absurd (no_level names parent before d t h)
 route_sound names (suc left) parent before d t below h =
     let read = is_read names left parent before d t h in
-    let receiver = receiver_below names parent d read.fields.settings.receiver below (are_read names parent before d read.fields read.fields_are).receiver in
+    let receiver =
+    receiver_below names parent d read.fields.settings.receiver below
+    (are_read names parent before d read.fields read.fields_are).receiver in
     let room = (are_read names parent before d read.fields read.fields_are).room in
-    let none : AreSound (length names) left (before + 1) no_routes = record { in_range = refl; levels = omega arith; number = omega (arith, room) } in
-    let all = children_sound names left read.fields.settings.receiver (before + 1) (λ n e s. route_sound names left (Some read.fields.settings.receiver) n e s receiver) [] read.fields.items read.children none read.children_are in
-    subst (λ (s : RouteTree). IsSound (length names) (suc left) before s) read.is (route_is_sound (length names) left before read.fields.settings (routes_of read.children) receiver all)
+    let none : AreSound (length names) left (before + 1) no_routes =
+    record { in_range = refl; levels = omega arith; number = omega (arith, room) } in
+    let all =
+    children_sound names left read.fields.settings.receiver (before + 1)
+    (λ n e s. route_sound names left (Some read.fields.settings.receiver) n e s receiver)
+    [] read.fields.items read.children none read.children_are in
+    subst (λ (s : RouteTree). IsSound (length names) (suc left) before s) read.is
+    (route_is_sound (length names) left before read.fields.settings (routes_of read.children)
+    receiver all)
 
-pub root_unmatched : (names : List (List ℕ)) (left before : ℕ) (d : Data) (t : RouteTree) → (read_route names left None before d).result ≡ Ok t → matchers_of t ≡ []
+pub root_unmatched : (names : List (List ℕ)) (left before : ℕ) (d : Data) (t : RouteTree)
+    → (read_route names left None before d).result ≡ Ok t → matchers_of t ≡ []
 root_unmatched names zero before d t h = absurd (no_level names None before d t h)
 root_unmatched names (suc left) before d t h =
     let read = is_read names left None before d t h in
-    let none = root_matchers_none route_matcher_fields d read.fields.settings.matchers (are_read names None before d read.fields read.fields_are).matchers in
+    let none =
+    root_matchers_none route_matcher_fields d read.fields.settings.matchers
+    (are_read names None before d read.fields read.fields_are).matchers in
     ap matchers_of (sym read.is) ∙ none
 
 -- ---- The configuration.
 
-pub config_sound : (names : List (List ℕ)) (d : Data) (t : RouteTree) → (read_route names MAX_LEVELS None 0 d).result ≡ Ok t → IsConfig (record { receivers = names; root = t })
+pub config_sound : (names : List (List ℕ)) (d : Data) (t : RouteTree)
+    → (read_route names MAX_LEVELS None 0 d).result ≡ Ok t
+    → IsConfig (record { receivers = names; root = t })
 config_sound names d t h =
     let is = route_sound names MAX_LEVELS None 0 d t tt h in
     record {

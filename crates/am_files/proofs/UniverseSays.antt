@@ -1,5 +1,7 @@
 -- A value says a universe exactly where reading it finds no fault, and then that universe.
-use Rattle.std.proofs.Common.{◌≡◌, ℕ, ◌<◌, ◌≤◌, List, [], ◌∷◌, ◌++◌, length, Bool, true, false, cond, Option, Some, None, Ok, Err, inl, inr, nat_le, refl, sym, ap, subst, ◌∙◌, append_assoc, append-nil, length-append, arith}
+use Rattle.std.proofs.Common.{◌≡◌, ℕ, ◌<◌, ◌≤◌, List, [], ◌∷◌, ◌++◌, length, Bool, true, false}
+use Rattle.std.proofs.Common.{cond, Option, Some, None, Ok, Err, inl, inr, nat_le, refl, sym, ap}
+use Rattle.std.proofs.Common.{subst, ◌∙◌, append_assoc, append-nil, length-append, arith}
 use Rattle.std.specs.Prelude.{codes}
 use Rattle.std.specs.List.{AllZip, IsDistinct}
 use Rattle.std.proofs.lemmas.List.{map-append}
@@ -11,17 +13,28 @@ use Rattle.am_universe.specs.declared.label_fault.LabelFault.{LabelFault}
 use Rattle.am_universe.specs.declared.label_fault.LabelPart.{LabelPart}
 use Rattle.am_universe.specs.Text.{same_text}
 use Rattle.am_universe.specs.declared.label_fault.LabelPart.TheVariants as parts
-use Rattle.am_universe.specs.Universe.{Values, Label, IsLabel, IsUniverse, names, max_labels, name_fault, count_fault, value_fault, values_fault, label_values_fault, label_fault, first_fault, fault_at}
+use Rattle.am_universe.specs.Universe.{Values, Label, IsLabel, IsUniverse, names, max_labels}
+use Rattle.am_universe.specs.Universe.{name_fault, count_fault, value_fault, values_fault}
+use Rattle.am_universe.specs.Universe.{label_values_fault, label_fault, first_fault, fault_at}
 use Rattle.am_universe.proofs.Universes.{IsUniverse-empty}
 use Rattle.am_universe.proofs.AddedLabels.{added_is_universe, universe_was_added}
 use Rattle.am_files.specs.Json.{is_null}
 use Rattle.am_files.specs.Pointer.{Refusal, to_field, to_item}
-use Rattle.am_files.specs.Reading.{Reading, ◌>>=◌, accept, reading_within, refuse_for, check_count, read_items, as_text, check_only_fields, required_text, required_items, read_json, IsPatternRefusal, MayRefuse}
-use Rattle.am_files.specs.UniverseFile.{file_fields, label_fields, SaysValue, SaysLabel, SaysUniverse, read_value, read_next_value, read_values, read_next_label, read_labels, read_universe, read_universe_file, FileSaysUniverse}
-use Rattle.am_files.proofs.Readings.{bind_ok, within_ok, refuse_for_ok, check_count_ok, check_count_fits, same_read, Decides}
+use Rattle.am_files.specs.Reading.{Reading, ◌>>=◌, accept, reading_within, refuse_for, check_count}
+use Rattle.am_files.specs.Reading.{read_items, as_text, check_only_fields, required_text}
+use Rattle.am_files.specs.Reading.{required_items, read_json, IsPatternRefusal, MayRefuse}
+use Rattle.am_files.specs.UniverseFile.{file_fields, label_fields, SaysValue, SaysLabel}
+use Rattle.am_files.specs.UniverseFile.{SaysUniverse, read_value, read_next_value, read_values}
+use Rattle.am_files.specs.UniverseFile.{read_next_label, read_labels, read_universe}
+use Rattle.am_files.specs.UniverseFile.{read_universe_file, FileSaysUniverse}
+use Rattle.am_files.proofs.Readings.{bind_ok, within_ok, refuse_for_ok, check_count_ok}
+use Rattle.am_files.proofs.Readings.{check_count_fits, same_read, Decides}
 use Rattle.am_files.proofs.Items.{AllFit, items_say, items_read, none_then, none_within, none_items}
 use Rattle.am_files.proofs.Distinct.{all_front, distinct_front}
-use Rattle.am_files.proofs.Fields.{as_text_says, only_fields_say, only_fields_read, none_only_fields, required_text_says, required_text_reads, none_required_text, required_items_say, required_items_read, none_required_items, json_says, json_reads, none_json}
+use Rattle.am_files.proofs.Fields.{as_text_says, only_fields_say, only_fields_read}
+use Rattle.am_files.proofs.Fields.{none_only_fields, required_text_says, required_text_reads}
+use Rattle.am_files.proofs.Fields.{none_required_text, required_items_say, required_items_read}
+use Rattle.am_files.proofs.Fields.{none_required_items, json_says, json_reads, none_json}
 
 -- ---- A value.
 
@@ -29,12 +42,15 @@ use Rattle.am_files.proofs.Fields.{as_text_says, only_fields_say, only_fields_re
 abbrev ValueFits : Values → Option (List ℕ) → Type 0
 ValueFits before value = value_fault before value ≡ None
 
-text_says : (d : Data) (value : Option (List ℕ)) → (as_text d >>= λ text. accept (Some text)).result ≡ Ok value → SaysValue d value
+text_says : (d : Data) (value : Option (List ℕ))
+    → (as_text d >>= λ text. accept (Some text)).result ≡ Ok value → SaysValue d value
 text_says d value h =
     let text = bind_ok ((as_text d).result) (λ t. Ok (Some t)) value h in
-    subst (λ (v : Option (List ℕ)). SaysValue d v) (same_read (Some text.0) value text.2) (as_text_says d text.0 text.1)
+    subst (λ (v : Option (List ℕ)). SaysValue d v) (same_read (Some text.0) value text.2)
+    (as_text_says d text.0 text.1)
 
-read_value_says : (d : Data) (value : Option (List ℕ)) → (read_value d).result ≡ Ok value → SaysValue d value
+read_value_says : (d : Data) (value : Option (List ℕ)) → (read_value d).result ≡ Ok value
+    → SaysValue d value
 read_value_says null None h = refl
 read_value_says null (Some t) h = absurd cc
 read_value_says (boolean b) value h = text_says (boolean b) value h
@@ -43,19 +59,25 @@ read_value_says (string s) value h = text_says (string s) value h
 read_value_says (array ds) value h = text_says (array ds) value h
 read_value_says (object ms) value h = text_says (object ms) value h
 
-read_value_reads : (d : Data) (value : Option (List ℕ)) → SaysValue d value → (read_value d).result ≡ Ok value
+read_value_reads : (d : Data) (value : Option (List ℕ)) → SaysValue d value
+    → (read_value d).result ≡ Ok value
 read_value_reads d None said = rw said refl
 read_value_reads d (Some t) said = rw said refl
 
-value_says : (before : Values) (d : Data) (value : Option (List ℕ)) → (read_next_value before d).result ≡ Ok value → SaysValue d value × ValueFits before value
+value_says : (before : Values) (d : Data) (value : Option (List ℕ))
+    → (read_next_value before d).result ≡ Ok value → SaysValue d value × ValueFits before value
 unfolding read_next_value
 value_says before d value h =
     let first = bind_ok ((read_value d).result) _ value h in
     let second = bind_ok ((refuse_for (value_fault before first.0)).result) _ value first.2 in
-    let same : first.0 ≡ value = same_read first.0 value second.2 in
-    (subst (λ (v : Option (List ℕ)). SaysValue d v) same (read_value_says d first.0 first.1), subst (λ (v : Option (List ℕ)). ValueFits before v) same (refuse_for_ok (value_fault before first.0) second.0 second.1))
+    let same : first.0 ≡ value = same_read first.0 value second.2 in (
+      subst (λ (v : Option (List ℕ)). SaysValue d v) same (read_value_says d first.0 first.1),
+      subst (λ (v : Option (List ℕ)). ValueFits before v) same
+          (refuse_for_ok (value_fault before first.0) second.0 second.1),
+    )
 
-value_reads : (before : Values) (d : Data) (value : Option (List ℕ)) → SaysValue d value → ValueFits before value → (read_next_value before d).result ≡ Ok value
+value_reads : (before : Values) (d : Data) (value : Option (List ℕ)) → SaysValue d value
+    → ValueFits before value → (read_next_value before d).result ≡ Ok value
 unfolding read_next_value
 value_reads before d value said fits = rw (read_value_reads d value said, fits) refl
 
@@ -69,32 +91,53 @@ no_fault_at : (part : LabelPart) (found : Option Kind) → fault_at part found �
 no_fault_at part None h = refl
 no_fault_at part (Some kind) h = absurd cc
 
-fit_none : (before values : Values) → AllFit ValueFits before values → values_fault before values ≡ None
+fit_none : (before values : Values) → AllFit ValueFits before values
+    → values_fault before values ≡ None
 fit_none before [] fits = refl
-fit_none before (value ∷ values) fits = rw (fits.0, fit_none (before ++ value ∷ []) values fits.1) refl
+fit_none before (value ∷ values) fits =
+    rw (fits.0, fit_none (before ++ value ∷ []) values fits.1) refl
 
-none_fit : (before values : Values) → values_fault before values ≡ None → AllFit ValueFits before values
+none_fit : (before values : Values) → values_fault before values ≡ None
+    → AllFit ValueFits before values
 none_fit before [] h = tt
 none_fit before (value ∷ values) h =
-    let split = no_fault_first (fault_at (parts.Value (length before)) (value_fault before value)) (values_fault (before ++ value ∷ []) values) h in
-    (no_fault_at (parts.Value (length before)) (value_fault before value) split.0, none_fit (before ++ value ∷ []) values split.1)
+    let split =
+    no_fault_first (fault_at (parts.Value (length before)) (value_fault before value))
+    (values_fault (before ++ value ∷ []) values) h in (
+      no_fault_at (parts.Value (length before)) (value_fault before value) split.0,
+      none_fit (before ++ value ∷ []) values split.1,
+    )
 
-values_say : (items : List Data) (values : Values) → (read_values items).result ≡ Ok values → AllZip SaysValue items values × (label_values_fault values ≡ None)
+values_say : (items : List Data) (values : Values) → (read_values items).result ≡ Ok values
+    → AllZip SaysValue items values × (label_values_fault values ≡ None)
 unfolding read_values
 values_say items values h =
-    let count = bind_ok ((refuse_for (count_fault (length items))).result) (λ _. (read_items read_next_value [] items).result) values h in
+    let count =
+    bind_ok ((refuse_for (count_fault (length items))).result)
+    (λ _. (read_items read_next_value [] items).result) values h in
     let found = items_say SaysValue ValueFits read_next_value value_says [] items values count.2 in
     let said = subst (λ (vs : Values). AllZip SaysValue items vs) (sym found.1) found.2 in
-    let fits = fit_none [] values (subst (λ (vs : Values). AllFit ValueFits [] vs) (sym found.1) found.3) in
-    let few : count_fault (length values) ≡ None = ap count_fault (AllZip-long SaysValue items values said) ∙ refuse_for_ok (count_fault (length items)) count.0 count.1 in
+    let fits =
+    fit_none [] values (subst (λ (vs : Values). AllFit ValueFits [] vs)
+    (sym found.1) found.3) in
+    let few : count_fault (length values) ≡ None =
+    ap count_fault (AllZip-long SaysValue items values said)
+    ∙ refuse_for_ok (count_fault (length items)) count.0 count.1 in
     (said, rw (few, fits) refl)
 
-values_read : (items : List Data) (values : Values) → AllZip SaysValue items values → label_values_fault values ≡ None → (read_values items).result ≡ Ok values
+values_read : (items : List Data) (values : Values) → AllZip SaysValue items values
+    → label_values_fault values ≡ None → (read_values items).result ≡ Ok values
 unfolding read_values
 values_read items values said fine =
-    let split = no_fault_first (fault_at parts.Values (count_fault (length values))) (values_fault [] values) fine in
-    let few : count_fault (length items) ≡ None = ap count_fault (sym (AllZip-long SaysValue items values said)) ∙ no_fault_at parts.Values (count_fault (length values)) split.0 in
-    let all = items_read SaysValue ValueFits read_next_value value_reads [] items values said (none_fit [] values split.1) in
+    let split =
+    no_fault_first (fault_at parts.Values (count_fault (length values)))
+    (values_fault [] values) fine in
+    let few : count_fault (length items) ≡ None =
+    ap count_fault (sym (AllZip-long SaysValue items values said))
+    ∙ no_fault_at parts.Values (count_fault (length values)) split.0 in
+    let all =
+    items_read SaysValue ValueFits read_next_value value_reads [] items values said
+    (none_fit [] values split.1) in
     rw (few, all) refl
 
 -- ---- A label.
@@ -104,17 +147,26 @@ pub record LabelFits (before : List Label) (label : Label) : Type 0 where
   pub name : name_fault before label.name ≡ None
   pub values : label_values_fault label.values ≡ None
 
-label_says : (before : List Label) (d : Data) (label : Label) → (read_next_label before d).result ≡ Ok label → SaysLabel d label × LabelFits before label
+label_says : (before : List Label) (d : Data) (label : Label)
+    → (read_next_label before d).result ≡ Ok label → SaysLabel d label × LabelFits before label
 unfolding read_next_label
 label_says before d label h =
     let only = bind_ok ((check_only_fields label_fields d).result) _ label h in
     let name = bind_ok ((required_text (codes "name") d).result) _ label only.2 in
-    let free = bind_ok ((reading_within (to_field (codes "name")) (refuse_for (name_fault before name.0))).result) _ label name.2 in
+    let free =
+    bind_ok ((reading_within (to_field (codes "name"))
+    (refuse_for (name_fault before name.0))).result) _ label name.2 in
     let items = bind_ok ((required_items (codes "values") d).result) _ label free.2 in
-    let values = bind_ok ((reading_within (to_field (codes "values")) (read_values items.0)).result) _ label items.2 in
+    let values =
+    bind_ok ((reading_within (to_field (codes "values")) (read_values items.0)).result) _ label
+    items.2 in
     let is : record { name = name.0; values = values.0 } ≡ label = same_read _ label values.2 in
-    let said = values_say items.0 values.0 (within_ok (to_field (codes "values")) ((read_values items.0).result) values.0 values.1) in
-    let all : SaysLabel d (record { name = name.0; values = values.0 }) × LabelFits before (record { name = name.0; values = values.0 }) = (
+    let said =
+    values_say items.0 values.0
+    (within_ok (to_field (codes "values")) ((read_values items.0).result) values.0
+    values.1) in
+    let all : SaysLabel d (record { name = name.0; values = values.0 })
+    × LabelFits before (record { name = name.0; values = values.0 }) = (
       record {
         only = only_fields_say label_fields d only.0 only.1;
         name = required_text_says (codes "name") d name.0 name.1;
@@ -123,27 +175,45 @@ label_says before d label h =
         values = said.0;
       },
       record {
-        name = refuse_for_ok (name_fault before name.0) free.0 (within_ok (to_field (codes "name")) ((refuse_for (name_fault before name.0)).result) free.0 free.1);
+        name = refuse_for_ok (name_fault before name.0) free.0
+            (within_ok (to_field (codes "name")) ((refuse_for (name_fault before name.0)).result)
+            free.0 free.1);
         values = said.1;
       },
     ) in
     subst (λ (l : Label). SaysLabel d l × LabelFits before l) is all
 
-label_reads : (before : List Label) (d : Data) (label : Label) → SaysLabel d label → LabelFits before label → (read_next_label before d).result ≡ Ok label
+label_reads : (before : List Label) (d : Data) (label : Label) → SaysLabel d label
+    → LabelFits before label → (read_next_label before d).result ≡ Ok label
 unfolding read_next_label
 label_reads before d label said fits =
-    rw (only_fields_read label_fields d said.only, required_text_reads (codes "name") d label.name said.name, fits.name, required_items_read (codes "values") d said.items said.is_array, values_read said.items label.values said.values fits.values) refl
+    rw (
+      only_fields_read label_fields d said.only,
+      required_text_reads (codes "name") d label.name said.name,
+      fits.name,
+      required_items_read (codes "values") d said.items said.is_array,
+      values_read said.items label.values said.values fits.values,
+    ) refl
 
 -- ---- All labels.
 
-no_label_fault : (u : List Label) (label : Label) → length u < max_labels → LabelFits u label → label_fault u label ≡ None
-no_label_fault u label room fits = rw (lt-leb max_labels (length u) room, fits.name, fits.values) refl
+no_label_fault : (u : List Label) (label : Label) → length u < max_labels → LabelFits u label
+    → label_fault u label ≡ None
+no_label_fault u label room fits =
+    rw (lt-leb max_labels (length u) room, fits.name, fits.values) refl
 
 -- a label that was read has no fault, while there is room
-pub no_fault_read : (u : List Label) (d : Data) (label : Label) → length u < max_labels → (reading_within (to_item (length u)) (read_next_label u d)).result ≡ Ok label → label_fault u label ≡ None
-no_fault_read u d label room h = no_label_fault u label room (label_says u d label (within_ok (to_item (length u)) ((read_next_label u d).result) label h)).1
+pub no_fault_read : (u : List Label) (d : Data) (label : Label) → length u < max_labels
+    → (reading_within (to_item (length u)) (read_next_label u d)).result ≡ Ok label
+    → label_fault u label ≡ None
+no_fault_read u d label room h =
+    no_label_fault u label room
+    (label_says u d label (within_ok (to_item (length u)) ((read_next_label u d).result) label
+    h)).1
 
-no_fault_fits : (full : Bool) (over : LabelFault) (name : Option Kind) (values : Option LabelFault) → cond full (Some over) (first_fault (fault_at parts.Name name) values) ≡ None → (name ≡ None) × (values ≡ None)
+no_fault_fits : (full : Bool) (over : LabelFault) (name : Option Kind) (values : Option LabelFault)
+    → cond full (Some over) (first_fault (fault_at parts.Name name) values) ≡ None
+    → (name ≡ None) × (values ≡ None)
 no_fault_fits true over name values h = absurd cc
 no_fault_fits false over name values h =
     let split = no_fault_first (fault_at parts.Name name) values h in
@@ -151,7 +221,9 @@ no_fault_fits false over name values h =
 
 label_fits : (u : List Label) (label : Label) → label_fault u label ≡ None → LabelFits u label
 label_fits u label h =
-    let split = no_fault_fits (nat_le max_labels (length u)) _ (name_fault u label.name) (label_values_fault label.values) h in
+    let split =
+    no_fault_fits (nat_le max_labels (length u)) _ (name_fault u label.name)
+    (label_values_fault label.values) h in
     record { name = split.0; values = split.1 }
 
 -- the labels in front are a universe too
@@ -159,23 +231,35 @@ universe_front : (before more : List Label) → IsUniverse (before ++ more) → 
 universe_front before more is = record {
   at_most = omega (arith, length-append before more, is.at_most);
   labels = all_front IsLabel before more is.labels;
-  distinct = distinct_front same_text (names before) (names more) (subst (IsDistinct same_text) (map-append (λ (l : Label). l.name) before more) is.distinct);
+  distinct =
+      distinct_front same_text (names before) (names more)
+      (subst (IsDistinct same_text) (map-append (λ (l : Label). l.name) before more)
+      is.distinct);
 }
 
-universe_fits : (before more : List Label) → IsUniverse (before ++ more) → AllFit LabelFits before more
+universe_fits : (before more : List Label) → IsUniverse (before ++ more)
+    → AllFit LabelFits before more
 universe_fits before [] is = tt
 universe_fits before (label ∷ more) is =
-    let whole : IsUniverse ((before ++ label ∷ []) ++ more) = subst IsUniverse (sym (append_assoc before (label ∷ []) more)) is in
-    (label_fits before label (universe_was_added before label (universe_front (before ++ label ∷ []) more whole)), universe_fits (before ++ label ∷ []) more whole)
+    let whole : IsUniverse ((before ++ label ∷ []) ++ more) =
+    subst IsUniverse (sym (append_assoc before (label ∷ []) more)) is in (
+      label_fits before label (universe_was_added before label
+          (universe_front (before ++ label ∷ []) more whole)),
+      universe_fits (before ++ label ∷ []) more whole,
+    )
 
 -- labels that fit go behind a universe, while there is room
-grown : (before more : List Label) → IsUniverse before → AllFit LabelFits before more → length (before ++ more) ≤ max_labels → IsUniverse (before ++ more)
+grown : (before more : List Label) → IsUniverse before → AllFit LabelFits before more
+    → length (before ++ more) ≤ max_labels → IsUniverse (before ++ more)
 grown before [] is fits few = subst IsUniverse (sym (append-nil before)) is
 grown before (label ∷ more) is fits few =
-    let room : length before < max_labels = omega (arith, length-append before (label ∷ more), few) in
+    let room : length before < max_labels =
+    omega (arith, length-append before (label ∷ more), few) in
     let next = added_is_universe before label is (no_label_fault before label room fits.0) in
-    let few_next : length ((before ++ label ∷ []) ++ more) ≤ max_labels = rw (append_assoc before (label ∷ []) more) few in
-    subst IsUniverse (append_assoc before (label ∷ []) more) (grown (before ++ label ∷ []) more next fits.1 few_next)
+    let few_next : length ((before ++ label ∷ []) ++ more) ≤ max_labels =
+    rw (append_assoc before (label ∷ []) more) few in
+    subst IsUniverse (append_assoc before (label ∷ []) more)
+    (grown (before ++ label ∷ []) more next fits.1 few_next)
 
 -- ---- The file.
 
@@ -185,11 +269,18 @@ universe_says d u h =
     let only = bind_ok ((check_only_fields file_fields d).result) _ u h in
     let items = bind_ok ((required_items (codes "labels") d).result) _ u only.2 in
     let labels = within_ok (to_field (codes "labels")) ((read_labels items.0).result) u items.2 in
-    let few = bind_ok ((check_count max_labels (length items.0)).result) (λ _. (read_items read_next_label [] items.0).result) u labels in
+    let few =
+    bind_ok ((check_count max_labels (length items.0)).result)
+    (λ _. (read_items read_next_label [] items.0).result) u labels in
     let found = items_say SaysLabel LabelFits read_next_label label_says [] items.0 u few.2 in
     let said = subst (λ (v : List Label). AllZip SaysLabel items.0 v) (sym found.1) found.2 in
     let fits = subst (λ (v : List Label). AllFit LabelFits [] v) (sym found.1) found.3 in
-    let count : length u ≤ max_labels = omega (arith, check_count_ok max_labels (length items.0) few.0 few.1, AllZip-long SaysLabel items.0 u said) in
+    let count : length u ≤ max_labels =
+    omega (
+      arith,
+      check_count_ok max_labels (length items.0) few.0 few.1,
+      AllZip-long SaysLabel items.0 u said,
+    ) in
     record {
       only = only_fields_say file_fields d only.0 only.1;
       items = items.0;
@@ -198,77 +289,110 @@ universe_says d u h =
       is_universe = grown [] u IsUniverse-empty fits count;
     }
 
-pub universe_reads : (d : Data) (u : List Label) → SaysUniverse d u → (read_universe d).result ≡ Ok u
+pub universe_reads : (d : Data) (u : List Label) → SaysUniverse d u
+    → (read_universe d).result ≡ Ok u
 unfolding read_universe read_labels
 universe_reads d u said =
-    let count : length said.items ≤ max_labels = omega (arith, said.is_universe.at_most, AllZip-long SaysLabel said.items u said.labels) in
-    let all = items_read SaysLabel LabelFits read_next_label label_reads [] said.items u said.labels (universe_fits [] u said.is_universe) in
-    rw (only_fields_read file_fields d said.only, required_items_read (codes "labels") d said.items said.is_array, check_count_fits max_labels (length said.items) count, all) refl
+    let count : length said.items ≤ max_labels =
+    omega (arith, said.is_universe.at_most, AllZip-long SaysLabel said.items u said.labels) in
+    let all =
+    items_read SaysLabel LabelFits read_next_label label_reads [] said.items u said.labels
+    (universe_fits [] u said.is_universe) in
+    rw (
+      only_fields_read file_fields d said.only,
+      required_items_read (codes "labels") d said.items said.is_array,
+      check_count_fits max_labels (length said.items) count,
+      all,
+    ) refl
 
 -- ---- The bytes of a file.
 
-pub file_says : (bytes : List ℕ) (u : List Label) → (read_universe_file bytes).result ≡ Ok u → FileSaysUniverse bytes u
+pub file_says : (bytes : List ℕ) (u : List Label) → (read_universe_file bytes).result ≡ Ok u
+    → FileSaysUniverse bytes u
 unfolding read_universe_file
 file_says bytes u h =
     let value = bind_ok ((read_json bytes).result) (λ d. (read_universe d).result) u h in
     let read = json_says bytes value.0 value.1 in
     (read.0, value.0, read.1, universe_says value.0 u value.2)
 
-pub file_reads : (bytes : List ℕ) (u : List Label) → FileSaysUniverse bytes u → (read_universe_file bytes).result ≡ Ok u
+pub file_reads : (bytes : List ℕ) (u : List Label) → FileSaysUniverse bytes u
+    → (read_universe_file bytes).result ≡ Ok u
 unfolding read_universe_file
-file_reads bytes u said = rw (json_reads bytes said.1 said.0 said.2, universe_reads said.1 u said.3) refl
+file_reads bytes u said =
+    rw (json_reads bytes said.1 said.0 said.2, universe_reads said.1 u said.3) refl
 
 pub universe_decides : (d : Data) → Decides (SaysUniverse d) ((read_universe d).result)
 universe_decides d = record { says = universe_says d; reads = universe_reads d }
 
-pub file_decides : (bytes : List ℕ) → Decides (FileSaysUniverse bytes) ((read_universe_file bytes).result)
+pub file_decides : (bytes : List ℕ)
+    → Decides (FileSaysUniverse bytes) ((read_universe_file bytes).result)
 file_decides bytes = record { says = file_says bytes; reads = file_reads bytes }
 
 -- ---- No pattern is met.
 
 none_read : (d : Data) (b : Bool) → is_null d ≡ b → (read_value d).patterns ≡ []
 none_read d true is = rw is refl
-none_read d false is = rw is (none_then (as_text d) (λ text. accept (Some text)) refl (λ text. refl))
+none_read d false is =
+    rw is (none_then (as_text d) (λ text. accept (Some text)) refl (λ text. refl))
 
 none_value : (before : Values) (d : Data) → (read_next_value before d).patterns ≡ []
 unfolding read_next_value
-none_value before d = none_then (read_value d) (λ value. refuse_for (value_fault before value) >>= λ _. accept value) (none_read d (is_null d) refl) (λ value.
+none_value before d =
+    none_then (read_value d) (λ value. refuse_for (value_fault before value) >>= λ _. accept value)
+    (none_read d (is_null d) refl) (λ value.
     none_then (refuse_for (value_fault before value)) (λ _. accept value) refl (λ _. refl))
 
 none_values : (items : List Data) → (read_values items).patterns ≡ []
 unfolding read_values
-none_values items = none_then (refuse_for (count_fault (length items))) (λ _. read_items read_next_value [] items) refl (λ _. none_items read_next_value none_value [] items)
+none_values items =
+    none_then (refuse_for (count_fault (length items))) (λ _. read_items read_next_value [] items)
+    refl (λ _. none_items read_next_value none_value [] items)
 
 none_label : (u : List Label) (d : Data) → (read_next_label u d).patterns ≡ []
 unfolding read_next_label
 none_label u d =
     let to_name : List ℕ = to_field (codes "name") in
     let to_values : List ℕ = to_field (codes "values") in
-    let made : List ℕ → Values → Reading Label = λ name values. accept (record { name = name; values = values }) in
-    let behind_items : List ℕ → List Data → Reading Label = λ name items. reading_within to_values (read_values items) >>= made name in
-    let behind_name : List ℕ → Reading Label = λ name. required_items (codes "values") d >>= behind_items name in
-    let behind_fields : List ℕ → Reading Label = λ name. reading_within to_name (refuse_for (name_fault u name)) >>= λ _. behind_name name in
-    none_then (check_only_fields label_fields d) (λ _. required_text (codes "name") d >>= behind_fields) (none_only_fields label_fields d) (λ _.
-    none_then (required_text (codes "name") d) behind_fields (none_required_text (codes "name") d) (λ name.
-    none_then (reading_within to_name (refuse_for (name_fault u name))) (λ _. behind_name name) refl (λ _.
-    none_then (required_items (codes "values") d) (behind_items name) (none_required_items (codes "values") d) (λ items.
-    none_then (reading_within to_values (read_values items)) (made name) (none_within to_values (read_values items) (none_values items)) (λ values. refl)))))
+    let made : List ℕ → Values → Reading Label =
+    λ name values. accept (record { name = name; values = values }) in
+    let behind_items : List ℕ → List Data → Reading Label =
+    λ name items. reading_within to_values (read_values items) >>= made name in
+    let behind_name : List ℕ → Reading Label =
+    λ name. required_items (codes "values") d >>= behind_items name in
+    let behind_fields : List ℕ → Reading Label =
+    λ name. reading_within to_name (refuse_for (name_fault u name)) >>= λ _. behind_name name in
+    none_then (check_only_fields label_fields d)
+    (λ _. required_text (codes "name") d >>= behind_fields) (none_only_fields label_fields d)
+    (λ _.
+    none_then (required_text (codes "name") d) behind_fields (none_required_text (codes "name") d)
+    (λ name.
+    none_then (reading_within to_name (refuse_for (name_fault u name))) (λ _. behind_name name) refl
+    (λ _.
+    none_then (required_items (codes "values") d) (behind_items name)
+    (none_required_items (codes "values") d) (λ items.
+    none_then (reading_within to_values (read_values items)) (made name)
+    (none_within to_values (read_values items) (none_values items)) (λ values. refl)))))
 
 none_universe : (d : Data) → (read_universe d).patterns ≡ []
 unfolding read_universe read_labels
 none_universe d =
-    let within : List Data → Reading (List Label) = λ items. reading_within (to_field (codes "labels")) (read_labels items) in
-    none_then (check_only_fields file_fields d) (λ _. required_items (codes "labels") d >>= within) (none_only_fields file_fields d) (λ _.
-    none_then (required_items (codes "labels") d) within (none_required_items (codes "labels") d) (λ items.
+    let within : List Data → Reading (List Label) =
+    λ items. reading_within (to_field (codes "labels")) (read_labels items) in
+    none_then (check_only_fields file_fields d) (λ _. required_items (codes "labels") d >>= within)
+    (none_only_fields file_fields d) (λ _.
+    none_then (required_items (codes "labels") d) within (none_required_items (codes "labels") d)
+    (λ items.
     none_within (to_field (codes "labels")) (read_labels items)
-    (none_then (check_count max_labels (length items)) (λ _. read_items read_next_label [] items) refl (λ _. none_items read_next_label none_label [] items))))
+    (none_then (check_count max_labels (length items)) (λ _. read_items read_next_label [] items)
+    refl (λ _. none_items read_next_label none_label [] items))))
 
 pub none_universe_file : (bytes : List ℕ) → (read_universe_file bytes).patterns ≡ []
 unfolding read_universe_file
 none_universe_file bytes = none_then (read_json bytes) read_universe (none_json bytes) none_universe
 
 -- so a refusal is the first fault
-pub file_refuses : (bytes : List ℕ) (r : Refusal) → MayRefuse (read_universe_file bytes) r → (read_universe_file bytes).result ≡ Err r
+pub file_refuses : (bytes : List ℕ) (r : Refusal) → MayRefuse (read_universe_file bytes) r
+    → (read_universe_file bytes).result ≡ Err r
 file_refuses bytes r (inl h) = h
 file_refuses bytes r (inr h) =
     let none : IsPatternRefusal [] r = rw (none_universe_file bytes) at h in

@@ -1,6 +1,8 @@
 -- The configuration file: which JSON value says which configuration.
 -- (Alertmanager configuration reference.)
-use Rattle.std.specs.Prelude.{◌≡◌, ◌≢◌, ◌⊎◌, ◌≤◌, ◌+◌, ℕ, max, List, [], ◌∷◌, ◌++◌, length, Bool, true, false, ◌&&◌, nat_lt, IsTrue, Option, Some, None, option_and_then, position, codes, ⊤}
+use Rattle.std.specs.Prelude.{◌≡◌, ◌≢◌, ◌⊎◌, ◌≤◌, ◌+◌, ℕ, max, List, [], ◌∷◌, ◌++◌, length, Bool}
+use Rattle.std.specs.Prelude.{true, false, ◌&&◌, nat_lt, IsTrue, Option, Some, None}
+use Rattle.std.specs.Prelude.{option_and_then, position, codes, ⊤}
 use Rattle.std.specs.List.{IsDistinct, AllZip, flat_map}
 use Rattle.serde_json.specs.Data.{Data, string, boolean, object, Members}
 use Rattle.am_universe.specs.Text.{same_text}
@@ -9,13 +11,14 @@ use Rattle.am_labels.specs.MatcherText.{Spells}
 use Rattle.am_labels.specs.MatcherRefusals.{have_sound_values}
 use Rattle.am_labels.specs.declared.op.Op.{Op}
 use Rattle.am_labels.specs.declared.op.Op.TheVariants.{Equal, Matches}
-use Rattle.am_files.specs.declared.limits.TheConstants.{MAX_FILE_BYTES, MAX_RECEIVERS, MAX_ROUTES, MAX_LEVELS}
+use Rattle.am_files.specs.declared.limits.TheConstants.{MAX_FILE_BYTES, MAX_RECEIVERS, MAX_ROUTES}
+use Rattle.am_files.specs.declared.limits.TheConstants.{MAX_LEVELS}
 use Rattle.am_files.specs.Json.{json_of, field, items_of, member_list, HasOnlyFields}
 
 -- ---- Configurations.
 
--- What a route says of itself: the position of its receiver, its matchers, and whether later siblings are tried after it.
--- (Reference, "route".)
+-- What a route says of itself: the position of its receiver, its matchers, and whether later
+-- siblings are tried after it. (Reference, "route".)
 pub record RouteSettings : Type 0 where
   pub receiver : ℕ
   pub matchers : List Condition
@@ -82,14 +85,16 @@ abbrev mutual
 -- each receiver's position is below this number
 abbrev mutual
   pub has_receivers_below : ℕ → RouteTree → Bool
-  has_receivers_below count (route settings children) = nat_lt settings.receiver count && have_receivers_below count children
+  has_receivers_below count (route settings children) =
+      nat_lt settings.receiver count && have_receivers_below count children
 
   pub have_receivers_below : ℕ → Routes → Bool
   have_receivers_below count no_routes = true
-  have_receivers_below count (next_route t ts) = has_receivers_below count t && have_receivers_below count ts
+  have_receivers_below count (next_route t ts) =
+      has_receivers_below count t && have_receivers_below count ts
 
--- What holds of every configuration that is read: each receiver is declared, the top-level route has no matchers, and
--- there are no more routes and levels than may be.
+-- What holds of every configuration that is read: each receiver is declared, the top-level route
+-- has no matchers, and there are no more routes and levels than may be.
 pub record IsConfig (c : Configuration) : Type 0 where
   pub receivers_declared : IsTrue (has_receivers_below (length c.receivers) c.root)
   pub root_unmatched : length (matchers_of c.root) ≡ 0
@@ -99,12 +104,12 @@ pub record IsConfig (c : Configuration) : Type 0 where
 -- the fields of a route; how alerts are grouped, and when they are sent, is not read
 abbrev pub route_fields : List (List ℕ)
 route_fields =
-    codes "receiver" ∷ codes "matchers" ∷ codes "match" ∷ codes "match_re" ∷ codes "continue" ∷ codes "routes"
-    ∷ codes "group_by" ∷ codes "group_wait" ∷ codes "group_interval" ∷ codes "repeat_interval"
-    ∷ codes "mute_time_intervals" ∷ codes "active_time_intervals" ∷ []
+    codes "receiver" ∷ codes "matchers" ∷ codes "match" ∷ codes "match_re" ∷ codes "continue"
+    ∷ codes "routes" ∷ codes "group_by" ∷ codes "group_wait" ∷ codes "group_interval"
+    ∷ codes "repeat_interval" ∷ codes "mute_time_intervals" ∷ codes "active_time_intervals" ∷ []
 
--- the names of three fields with matchers: an array of texts, and two objects of names and texts, those of the first
--- for `=` and those of the second for `=~`
+-- the names of three fields with matchers: an array of texts, and two objects of names and texts,
+-- those of the first for `=` and those of the second for `=~`
 pub record MatcherFields : Type 0 where
   pub texts : List ℕ
   pub equalities : List ℕ
@@ -112,13 +117,16 @@ pub record MatcherFields : Type 0 where
 
 -- those of a route (reference, "route"; the last two are deprecated)
 abbrev pub route_matcher_fields : MatcherFields
-route_matcher_fields = record { texts = codes "matchers"; equalities = codes "match"; patterns = codes "match_re" }
+route_matcher_fields =
+    record { texts = codes "matchers"; equalities = codes "match"; patterns = codes "match_re" }
 
 -- ---- Which value says which configuration.
 
 -- an object with a name (reference, "receiver")
 abbrev pub SaysName : Data → List ℕ → Type 0
-SaysName d name = (members : Members) × (d ≡ object members) × (field (codes "name") d ≡ Some (string name)) × (name ≢ [])
+SaysName d name =
+    (members : Members) × (d ≡ object members) × (field (codes "name") d ≡ Some (string name))
+    × (name ≢ [])
 
 -- a route names a receiver, whose position it has (reference, "route": `receiver`)
 pub record NamesReceiver (names : List (List ℕ)) (d : Data) (receiver : ℕ) : Type 0 where
@@ -129,12 +137,14 @@ pub record NamesReceiver (names : List (List ℕ)) (d : Data) (receiver : ℕ) :
 
 -- or it names none, and has that of its parent; the empty text is none
 pub record InheritsReceiver (parent : Option ℕ) (d : Data) (receiver : ℕ) : Type 0 where
-  pub unnamed : (field (codes "receiver") d ≡ None) ⊎ (field (codes "receiver") d ≡ Some (string []))
+  pub unnamed : (field (codes "receiver") d ≡ None)
+      ⊎ (field (codes "receiver") d ≡ Some (string []))
   pub inherited : parent ≡ Some receiver
 
 -- the position of the receiver that a route has
 abbrev pub SaysReceiver : List (List ℕ) → Option ℕ → Data → ℕ → Type 0
-SaysReceiver names parent d receiver = NamesReceiver names d receiver ⊎ InheritsReceiver parent d receiver
+SaysReceiver names parent d receiver =
+    NamesReceiver names d receiver ⊎ InheritsReceiver parent d receiver
 
 -- a text of matchers (reference, "matcher")
 abbrev pub SaysMatcherText : Data → List Condition → Type 0
@@ -142,7 +152,9 @@ SaysMatcherText d matchers = (text : List ℕ) × (d ≡ string text) × Spells 
 
 -- a field with an array, which may be absent; then there are no items
 abbrev pub HasItems : List ℕ → Data → List Data → Type 0
-HasItems key d items = ((field key d ≡ None) × (items ≡ [])) ⊎ (option_and_then items_of (field key d) ≡ Some items)
+HasItems key d items =
+    ((field key d ≡ None) × (items ≡ []))
+    ⊎ (option_and_then items_of (field key d) ≡ Some items)
 
 -- a name, which is not empty, with a text
 abbrev pub SaysNamedText : List ℕ × Data → List ℕ → List ℕ → Type 0
@@ -156,11 +168,13 @@ SaysMatcherPair op pair m = SaysNamedText pair m.name m.value × (m.op ≡ op)
 abbrev pub SaysPairs : Op → List ℕ → Data → List Condition → Type 0
 SaysPairs op key d matchers =
     ((field key d ≡ None) × (matchers ≡ []))
-    ⊎ ((members : Members) × (field key d ≡ Some (object members)) × AllZip (SaysMatcherPair op) (member_list members) matchers)
+    ⊎ ((members : Members) × (field key d ≡ Some (object members))
+    × AllZip (SaysMatcherPair op) (member_list members) matchers)
 
--- The matchers of three fields, one behind the other: those of the texts, then the pairs for `=`, then those for `=~`,
--- whose texts are patterns. (Reference, "route" and "inhibit_rule".)
-pub record SaysMatchers (fields : MatcherFields) (d : Data) (matchers : List Condition) : Type 0 where
+-- The matchers of three fields, one behind the other: those of the texts, then the pairs for `=`,
+-- then those for `=~`, whose texts are patterns. (Reference, "route" and "inhibit_rule".)
+pub record SaysMatchers (fields : MatcherFields) (d : Data) (matchers : List Condition)
+    : Type 0 where
   pub items : List Data
   pub is_array : HasItems fields.texts d items
   pub lists : List (List Condition)
@@ -173,13 +187,16 @@ pub record SaysMatchers (fields : MatcherFields) (d : Data) (matchers : List Con
   pub few : length matchers ≤ max_matchers
   pub sound : IsTrue (have_sound_values matchers)
 
--- whether later siblings are tried, which they are not where the field is absent (reference, "route": `continue`)
+-- whether later siblings are tried, which they are not where the field is absent (reference,
+-- "route": `continue`)
 abbrev pub SaysContinue : Data → Bool → Type 0
 SaysContinue d continues =
-    ((field (codes "continue") d ≡ None) × (continues ≡ false)) ⊎ (field (codes "continue") d ≡ Some (boolean continues))
+    ((field (codes "continue") d ≡ None) × (continues ≡ false))
+    ⊎ (field (codes "continue") d ≡ Some (boolean continues))
 
 -- what a route says of itself; its children's values say the children
-pub record SaysRouteFields (names : List (List ℕ)) (parent : Option ℕ) (d : Data) (settings : RouteSettings) (SaysChildren : List Data → Type 0) : Type 0 where
+pub record SaysRouteFields (names : List (List ℕ)) (parent : Option ℕ) (d : Data)
+    (settings : RouteSettings) (SaysChildren : List Data → Type 0) : Type 0 where
   pub only : HasOnlyFields route_fields d
   pub receiver_is : SaysReceiver names parent d settings.receiver
   pub matchers_are : SaysMatchers route_matcher_fields d settings.matchers
@@ -192,16 +209,18 @@ pub record SaysRouteFields (names : List (List ℕ)) (parent : Option ℕ) (d : 
 abbrev mutual
   pub SaysRoute : List (List ℕ) → Option ℕ → Data → RouteTree → Type 0
   SaysRoute names parent d (route settings children) =
-      SaysRouteFields names parent d settings (λ items. SaysRoutes names settings.receiver items children)
+      SaysRouteFields names parent d settings
+      (λ items. SaysRoutes names settings.receiver items children)
 
   pub SaysRoutes : List (List ℕ) → ℕ → List Data → Routes → Type 0
   SaysRoutes names receiver [] no_routes = ⊤
   SaysRoutes names receiver (d ∷ ds) no_routes = ⊥
   SaysRoutes names receiver [] (next_route t ts) = ⊥
-  SaysRoutes names receiver (d ∷ ds) (next_route t ts) = SaysRoute names (Some receiver) d t × SaysRoutes names receiver ds ts
+  SaysRoutes names receiver (d ∷ ds) (next_route t ts) =
+      SaysRoute names (Some receiver) d t × SaysRoutes names receiver ds ts
 
--- An object with receivers of different names and a route, which has no matchers. There are no inhibition rules; other
--- fields are not read. (Reference, "File layout".)
+-- An object with receivers of different names and a route, which has no matchers. There are no
+-- inhibition rules; other fields are not read. (Reference, "File layout".)
 pub record SaysConfig (d : Data) (c : Configuration) : Type 0 where
   pub items : List Data
   pub is_array : option_and_then items_of (field (codes "receivers") d) ≡ Some items
@@ -218,4 +237,5 @@ pub record SaysConfig (d : Data) (c : Configuration) : Type 0 where
 
 -- the bytes of a file say what their JSON value says
 abbrev pub FileSaysConfig : List ℕ → Configuration → Type 0
-FileSaysConfig bytes c = (length bytes ≤ MAX_FILE_BYTES) × (d : Data) × (json_of bytes ≡ Some d) × SaysConfig d c
+FileSaysConfig bytes c =
+    (length bytes ≤ MAX_FILE_BYTES) × (d : Data) × (json_of bytes ≡ Some d) × SaysConfig d c

@@ -1,5 +1,7 @@
 -- Reading a configuration file, with the first fault that is met.
-use Rattle.std.specs.Prelude.{◌+◌, ℕ, zero, suc, List, [], ◌∷◌, ◌++◌, length, Bool, true, false, not, ◌&&◌, if◌then◌else◌, is_some, is_none, Option, Some, None, position, codes, ⊤}
+use Rattle.std.specs.Prelude.{◌+◌, ℕ, zero, suc, List, [], ◌∷◌, ◌++◌, length, Bool, true, false}
+use Rattle.std.specs.Prelude.{not, ◌&&◌, if◌then◌else◌, is_some, is_none, Option, Some, None}
+use Rattle.std.specs.Prelude.{position, codes, ⊤}
 use Rattle.std.specs.Result.{result_err}
 use Rattle.std.specs.List.{enumerate_from}
 use Rattle.serde_json.specs.Data.{Data}
@@ -16,8 +18,12 @@ use Rattle.am_labels.specs.MatcherRefusals.{has_sound_value, pattern_refusal}
 use Rattle.am_files.specs.declared.limits.TheConstants.{MAX_RECEIVERS, MAX_ROUTES, MAX_LEVELS}
 use Rattle.am_files.specs.Json.{field, member_list}
 use Rattle.am_files.specs.Pointer.{Refusal, refusal_here, refusal_within, to_field, to_item}
-use Rattle.am_files.specs.Reading.{Reading, ◌>>=◌, accept, accept_some, refuse, reading_within, refuse_for, check_count, as_object, as_text, as_items, check_only_fields, required_field, required_text, required_items, read_each, read_items, read_json}
-use Rattle.am_files.specs.ConfigFile.{RouteSettings, RouteTree, route, Configuration, MatcherFields, route_matcher_fields, routes_of, routes_count, route_fields}
+use Rattle.am_files.specs.Reading.{Reading, ◌>>=◌, accept, accept_some, refuse, reading_within}
+use Rattle.am_files.specs.Reading.{refuse_for, check_count, as_object, as_text, as_items}
+use Rattle.am_files.specs.Reading.{check_only_fields, required_field, required_text, required_items}
+use Rattle.am_files.specs.Reading.{read_each, read_items, read_json}
+use Rattle.am_files.specs.ConfigFile.{RouteSettings, RouteTree, route, Configuration, MatcherFields}
+use Rattle.am_files.specs.ConfigFile.{route_matcher_fields, routes_of, routes_count, route_fields}
 
 -- ---- The receivers.
 
@@ -56,17 +62,21 @@ read_receivers d = do
 
 -- ---- The receiver of a route, and whether later siblings are tried.
 
--- A receiver that is not set is inherited from the parent route. The top-level route has none. (Reference, "route".)
+-- A receiver that is not set is inherited from the parent route. The top-level route has none.
+-- (Reference, "route".)
 abbrev pub parent_receiver : Option ℕ → Reading ℕ
 parent_receiver parent = accept_some parent (refusal_here kinds.Shape)
 
 -- the position of the receiver of this name
 abbrev pub receiver_position : List (List ℕ) → List ℕ → Reading ℕ
-receiver_position names name = accept_some (position (λ other. same_text other name) names) (refusal_here kinds.UndefinedReceiver)
+receiver_position names name =
+    accept_some (position (λ other. same_text other name) names)
+    (refusal_here kinds.UndefinedReceiver)
 
 -- the receiver that a route names; the empty text names none
 abbrev pub receiver_named : List (List ℕ) → Option ℕ → List ℕ → Reading ℕ
-receiver_named names parent name = if is_empty name then parent_receiver parent else receiver_position names name
+receiver_named names parent name =
+    if is_empty name then parent_receiver parent else receiver_position names name
 
 -- the same, where the field may be absent
 abbrev pub effective_receiver : List (List ℕ) → Option ℕ → Option Data → Reading ℕ
@@ -76,7 +86,8 @@ effective_receiver names parent (Some d) = as_text d >>= receiver_named names pa
 -- the receiver of a route (reference, "route": `receiver`)
 unfoldable pub read_receiver : List (List ℕ) → Option ℕ → Data → Reading ℕ
 read_receiver names parent d =
-    reading_within (to_field (codes "receiver")) (effective_receiver names parent (field (codes "receiver") d))
+    reading_within (to_field (codes "receiver"))
+    (effective_receiver names parent (field (codes "receiver") d))
 
 -- a truth value, which is false where it is not set
 abbrev pub boolean_or_false : Option Data → Reading Bool
@@ -85,7 +96,8 @@ boolean_or_false (Some d) = accept_some (as_bool d) (refusal_here kinds.Shape)
 
 -- whether an alert continues matching subsequent siblings (reference, "route": `continue`)
 unfoldable pub read_continue : Data → Reading Bool
-read_continue d = reading_within (to_field (codes "continue")) (boolean_or_false (field (codes "continue") d))
+read_continue d =
+    reading_within (to_field (codes "continue")) (boolean_or_false (field (codes "continue") d))
 
 -- the items of an array that may be absent
 abbrev pub optional_items : Option Data → Reading (List Data)
@@ -94,14 +106,16 @@ optional_items (Some d) = as_items d
 
 -- the values of a route's children (reference, "route": `routes`)
 unfoldable pub read_children : Data → Reading (List Data)
-read_children d = reading_within (to_field (codes "routes")) (optional_items (field (codes "routes") d))
+read_children d =
+    reading_within (to_field (codes "routes")) (optional_items (field (codes "routes") d))
 
 -- ---- Matchers.
 
 -- the first pattern that is refused though the engine builds each that its grammar reads
 abbrev pub pattern_fault : List Condition → Option Kind
 pattern_fault [] = None
-pattern_fault (m ∷ ms) = if has_sound_value m then pattern_fault ms else Some (pattern_refusal m.value)
+pattern_fault (m ∷ ms) =
+    if has_sound_value m then pattern_fault ms else Some (pattern_refusal m.value)
 
 -- the patterns of the profile up to that one, each at the pointer of what is looked at
 abbrev pub profile_patterns : List Condition → List (List ℕ)
@@ -112,14 +126,16 @@ profile_patterns (m ∷ ms) =
 
 -- the patterns of matchers, in order
 abbrev pub check_patterns : List Condition → Reading ⊤
-check_patterns ms = record { result = (refuse_for (pattern_fault ms)).result; patterns = profile_patterns ms }
+check_patterns ms =
+    record { result = (refuse_for (pattern_fault ms)).result; patterns = profile_patterns ms }
 
 -- matchers behind others, of which there are not more than 64 together
 abbrev pub append_matchers : List Condition → List Condition → Reading (List Condition)
-append_matchers before ms = check_count max_matchers (length before + length ms) >>= λ _. accept (before ++ ms)
+append_matchers before ms =
+    check_count max_matchers (length before + length ms) >>= λ _. accept (before ++ ms)
 
--- The matchers of the text at this part of what is looked at. That one text has too many is refused at a part that the
--- caller names.
+-- The matchers of the text at this part of what is looked at. That one text has too many is refused
+-- at a part that the caller names.
 unfoldable pub read_matcher_text : List ℕ → List ℕ → List ℕ → Reading (List Condition)
 read_matcher_text part limit_part text = do
   ms ← reading_within part (accept_some (read_list text) (refusal_here kinds.BadMatcher))
@@ -132,7 +148,8 @@ abbrev pub text_refusal : List ℕ → List ℕ → Kind → Refusal
 text_refusal part limit_part kinds.Limit = refusal_within limit_part (refusal_here kinds.Limit)
 text_refusal part limit_part kind = refusal_within part (refusal_here kind)
 
--- the same of an item, with its position, behind the matchers of others; there the limit is refused at the array
+-- the same of an item, with its position, behind the matchers of others; there the limit is refused
+-- at the array
 unfoldable pub read_next_matcher_text : List Condition → ℕ × Data → Reading (List Condition)
 read_next_matcher_text before item = do
   text ← reading_within (to_item item.0) (as_text item.1)
@@ -169,7 +186,8 @@ read_next_pair op before pair = do
 -- the top-level route has no matchers
 abbrev pub refuse_root_matchers : Bool → List Condition → Reading (List Condition)
 refuse_root_matchers is_root ms =
-    refuse_for (if is_root && not (is_empty ms) then Some kinds.RootMatchers else None) >>= λ _. accept ms
+    refuse_for (if is_root && not (is_empty ms) then Some kinds.RootMatchers else None)
+    >>= λ _. accept ms
 
 -- the matchers of an array of texts
 unfoldable pub read_texts : Bool → Data → Reading (List Condition)
@@ -191,9 +209,11 @@ optional_texts is_root key None = accept []
 optional_texts is_root key (Some d) = reading_within (to_field key) (read_texts is_root d)
 
 -- those of an object that may be absent (reference, "route": `match` and `match_re`)
-abbrev pub optional_pairs : Bool → Op → List ℕ → List Condition → Option Data → Reading (List Condition)
+abbrev pub optional_pairs : Bool → Op → List ℕ → List Condition → Option Data
+    → Reading (List Condition)
 optional_pairs is_root op key before None = accept before
-optional_pairs is_root op key before (Some d) = reading_within (to_field key) (read_pairs is_root op before d)
+optional_pairs is_root op key before (Some d) =
+    reading_within (to_field key) (read_pairs is_root op before d)
 
 -- the matchers of three fields, one behind the other
 unfoldable pub read_matchers : MatcherFields → Bool → Data → Reading (List Condition)
@@ -209,8 +229,8 @@ pub record RouteFields : Type 0 where
   pub settings : RouteSettings
   pub items : List Data
 
--- Those of a route with so many others before it in preorder, below a parent with this receiver if there is one.
--- (Reference, "route".)
+-- Those of a route with so many others before it in preorder, below a parent with this receiver if
+-- there is one. (Reference, "route".)
 unfoldable pub read_route_fields : List (List ℕ) → Option ℕ → ℕ → Data → Reading RouteFields
 read_route_fields names parent before d = do
   _ ← check_count MAX_ROUTES (before + 1)
@@ -219,15 +239,21 @@ read_route_fields names parent before d = do
   matchers ← read_matchers route_matcher_fields (is_none parent) d
   continues ← read_continue d
   items ← read_children d
-  accept (record { settings = record { receiver = receiver; matchers = matchers; continues = continues }; items = items })
+  accept (record {
+    settings = record { receiver = receiver; matchers = matchers; continues = continues };
+    items = items;
+  })
 
--- Where so many levels are left, and so many routes stand before it in preorder: the route, below a parent with this
--- receiver if there is one.
+-- Where so many levels are left, and so many routes stand before it in preorder: the route, below a
+-- parent with this receiver if there is one.
 unfoldable pub read_route : List (List ℕ) → ℕ → Option ℕ → ℕ → Data → Reading RouteTree
 read_route names zero parent before d = refuse (refusal_here kinds.Limit)
 read_route names (suc left) parent before d = do
   fields ← read_route_fields names parent before d
-  children ← reading_within (to_field (codes "routes")) (read_items (λ earlier. read_route names left (Some fields.settings.receiver) (before + 1 + routes_count (routes_of earlier))) [] fields.items)
+  children ← reading_within (to_field (codes "routes")) (read_items
+      (λ earlier. read_route names left (Some fields.settings.receiver)
+      (before + 1 + routes_count (routes_of earlier)))
+      [] fields.items)
   accept (route fields.settings (routes_of children))
 
 -- a child of a route, behind those that were read already
@@ -240,7 +266,8 @@ read_next_child names left receiver before earlier =
 -- inhibition rules, which are not read yet
 abbrev pub refuse_inhibit_rules : Option Data → Reading ⊤
 refuse_inhibit_rules None = accept tt
-refuse_inhibit_rules (Some d) = refuse (refusal_within (to_field (codes "inhibit_rules")) (refusal_here kinds.UnknownField))
+refuse_inhibit_rules (Some d) =
+    refuse (refusal_within (to_field (codes "inhibit_rules")) (refusal_here kinds.UnknownField))
 
 -- the configuration that a value says, or its first fault
 unfoldable pub read_config : Data → Reading Configuration
@@ -258,7 +285,8 @@ read_config_file bytes = do
   d ← read_json bytes
   read_config d
 
--- the first fault of a value, and of a file, where the engine builds each pattern that its grammar reads
+-- the first fault of a value, and of a file, where the engine builds each pattern that its grammar
+-- reads
 abbrev pub fault_of_config : Data → Option Refusal
 fault_of_config d = result_err ((read_config d).result)
 

@@ -21,4 +21,5 @@ fields_view f = record {
 
 -- the names of three fields with matchers
 abbrev pub matcher_fields_view : keys.MatcherFields.MatcherFields → MatcherFields
-matcher_fields_view f = record { texts = f.texts.now; equalities = f.equalities.now; patterns = f.patterns.now }
+matcher_fields_view f =
+    record { texts = f.texts.now; equalities = f.equalities.now; patterns = f.patterns.now }

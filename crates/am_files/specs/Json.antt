@@ -1,10 +1,12 @@
 -- The JSON value of a file, and its parts. (RFC 8259; the reading is that of `serde_json`.)
-use Rattle.std.specs.Prelude.{◌≡◌, ◌⊎◌, ℕ, List, [], ◌∷◌, Bool, not, ◌&&◌, if◌then◌else◌, Option, Some, None, is_some, option_map, option_and_then, IsTrue, ⊤}
+use Rattle.std.specs.Prelude.{◌≡◌, ◌⊎◌, ℕ, List, [], ◌∷◌, Bool, not, ◌&&◌, if◌then◌else◌, Option}
+use Rattle.std.specs.Prelude.{Some, None, is_some, option_map, option_and_then, IsTrue, ⊤}
 use Rattle.std.specs.Ordering.{nat_cmp, match_ordering}
 use Rattle.std.specs.Cmp.Lexicographic.{slice_cmp}
 use Rattle.std.specs.List.{list_any}
 use Rattle.std.specs.Str.{is_utf8}
-use Rattle.serde_json.specs.Data.{Data, null, object, Items, no_items, item, Members, no_members, member}
+use Rattle.serde_json.specs.Data.{Data, null, object, Items, no_items, item, Members, no_members}
+use Rattle.serde_json.specs.Data.{member}
 use Rattle.serde_json.specs.Find.{get, as_null, as_array}
 use Rattle.serde_json.specs.Read.{read}
 use Rattle.am_universe.specs.Text.{same_text}
@@ -41,7 +43,9 @@ lesser_key key (Some other) = match_ordering (slice_cmp nat_cmp key other) key k
 -- the least field that is none of these
 abbrev pub unknown_field : List (List ℕ) → Members → Option (List ℕ)
 unknown_field known no_members = None
-unknown_field known (member key d rest) = if is_unknown known key d then Some (lesser_key key (unknown_field known rest)) else unknown_field known rest
+unknown_field known (member key d rest) =
+    if is_unknown known key d then Some (lesser_key key (unknown_field known rest))
+    else unknown_field known rest
 
 -- the items as a list
 abbrev pub item_list : Items → List Data
@@ -60,7 +64,8 @@ member_list (member key d rest) = (key, d) ∷ member_list rest
 -- each member has one of these names, or is `null`
 abbrev pub AreOnlyFields : List (List ℕ) → Members → Type 0
 AreOnlyFields known no_members = ⊤
-AreOnlyFields known (member key d rest) = ((d ≡ null) ⊎ IsTrue (is_one_of key known)) × AreOnlyFields known rest
+AreOnlyFields known (member key d rest) =
+    ((d ≡ null) ⊎ IsTrue (is_one_of key known)) × AreOnlyFields known rest
 
 -- an object that has no fields but these
 abbrev pub HasOnlyFields : List (List ℕ) → Data → Type 0

@@ -1,5 +1,7 @@
 -- Reading a JSON value field by field, with the first fault that is met. (This project's own.)
-use Rattle.std.specs.Prelude.{◌≡◌, ◌≢◌, ◌⊎◌, ℕ, List, [], ◌∷◌, ◌++◌, length, map, nat_lt, if◌then◌else◌, Option, Some, None, option_map, ok_or, Result, Ok, Err, IsErrAnd, string_bytes, ⊤}
+use Rattle.std.specs.Prelude.{◌≡◌, ◌≢◌, ◌⊎◌, ℕ, List, [], ◌∷◌, ◌++◌, length, map, nat_lt}
+use Rattle.std.specs.Prelude.{if◌then◌else◌, Option, Some, None, option_map, ok_or, Result, Ok, Err}
+use Rattle.std.specs.Prelude.{IsErrAnd, string_bytes, ⊤}
 use Rattle.std.specs.Result.{result_map_both}
 use Rattle.serde_json.specs.Data.{Data, Members}
 use Rattle.serde_json.specs.Find as find
@@ -16,8 +18,9 @@ use Rattle.am_files.specs.Pointer.{Refusal, refusal_here, refusal_within, to_fie
 
 -- ---- Readings.
 
--- What reading a value comes to. Whether the engine builds a pattern that its grammar reads is the engine's to say, so a
--- refusal is left open at each pattern of the profile that is met. All else is exact.
+-- What reading a value comes to. Whether the engine builds a pattern that its grammar reads is the
+-- engine's to say, so a refusal is left open at each pattern of the profile that is met. All else
+-- is exact.
 pub record Reading (A : Type 0) : Type 0 where
   -- the value, or the first fault, where the engine builds each pattern that its grammar reads
   pub result : Result A Refusal
@@ -49,7 +52,8 @@ abbrev pub refuse_where : Option Refusal → Reading ⊤
 refuse_where found = without_patterns (err_where found)
 
 -- the result of what is read of a value, or the refusal that there is none
-abbrev pub result_then : {A B : Type 0} → Result A Refusal → (A → Result B Refusal) → Result B Refusal
+abbrev pub result_then : {A B : Type 0} → Result A Refusal → (A → Result B Refusal)
+    → Result B Refusal
 result_then (Ok x) f = f x
 result_then (Err r) f = Err r
 
@@ -76,9 +80,11 @@ reading_within part m = record {
 -- the refusal is that of a pattern at one of these pointers
 abbrev pub IsPatternRefusal : List (List ℕ) → Refusal → Type 0
 IsPatternRefusal [] r = ⊥
-IsPatternRefusal (pointer ∷ more) r = (r ≡ record { kind = kinds.Pattern; pointer = pointer }) ⊎ IsPatternRefusal more r
+IsPatternRefusal (pointer ∷ more) r =
+    (r ≡ record { kind = kinds.Pattern; pointer = pointer }) ⊎ IsPatternRefusal more r
 
--- A reading may refuse so: it is the first fault, or the refusal of a pattern that was met before it.
+-- A reading may refuse so: it is the first fault, or the refusal of a pattern that was met before
+-- it.
 abbrev pub MayRefuse : {A : Type 0} → Reading A → Refusal → Type 0
 MayRefuse m r = (m.result ≡ Err r) ⊎ IsPatternRefusal m.patterns r
 
@@ -100,10 +106,12 @@ Gives view (Ok x) reading = reading.result ≡ Ok (view x)
 Gives view (Err e) reading = Fails e reading
 
 -- What reading a part returned, seen from the value that has the part.
-abbrev pub IsReadingWithin : {X : Type 0} → List ℕ → Result X ReadError → Result X ReadError → Type 0
+abbrev pub IsReadingWithin : {X : Type 0} → List ℕ → Result X ReadError → Result X ReadError
+    → Type 0
 IsReadingWithin part (Ok x) seen = seen ≡ Ok x
 IsReadingWithin part (Err errors.Memory) seen = seen ≡ Err errors.Memory
-IsReadingWithin part (Err (errors.Refused r)) seen = IsErrAnd seen (λ e. IsRefusalOrMemory e (refusal_within part r))
+IsReadingWithin part (Err (errors.Refused r)) seen =
+    IsErrAnd seen (λ e. IsRefusalOrMemory e (refusal_within part r))
 
 -- ---- The fault of a file.
 
@@ -157,7 +165,9 @@ as_items d = accept_some (items_of d) (refusal_here kinds.Shape)
 
 -- refused at this field, where there is one
 abbrev pub refuse_unknown_field : Option (List ℕ) → Reading ⊤
-refuse_unknown_field found = refuse_where (option_map (λ key. refusal_within (to_field key) (refusal_here kinds.UnknownField)) found)
+refuse_unknown_field found =
+    refuse_where
+    (option_map (λ key. refusal_within (to_field key) (refusal_here kinds.UnknownField)) found)
 
 -- an object that has no fields but these
 unfoldable pub check_only_fields : List (List ℕ) → Data → Reading ⊤
@@ -167,7 +177,8 @@ check_only_fields known d = do
 
 -- a field that has to be there
 abbrev pub required_field : List ℕ → Data → Reading Data
-required_field key d = accept_some (field key d) (refusal_within (to_field key) (refusal_here kinds.Shape))
+required_field key d =
+    accept_some (field key d) (refusal_within (to_field key) (refusal_here kinds.Shape))
 
 -- the text in a field that has to be there
 unfoldable pub required_text : List ℕ → Data → Reading (List ℕ)
@@ -191,13 +202,15 @@ read_each read before (x ∷ xs) = do
   read_each read next xs
 
 -- an item of an array, whose position is the number of those before it, with them
-unfoldable pub read_next_item : {A : Type 0} → (List A → Data → Reading A) → List A → Data → Reading (List A)
+unfoldable pub read_next_item : {A : Type 0} → (List A → Data → Reading A) → List A → Data
+    → Reading (List A)
 read_next_item read before d = do
   x ← reading_within (to_item (length before)) (read before d)
   accept (before ++ x ∷ [])
 
 -- the items behind those that were read already, where `read` reads one behind others
-abbrev pub read_items : {A : Type 0} → (List A → Data → Reading A) → List A → List Data → Reading (List A)
+abbrev pub read_items : {A : Type 0} → (List A → Data → Reading A) → List A → List Data
+    → Reading (List A)
 read_items read = read_each (read_next_item read)
 
 -- ---- A file.

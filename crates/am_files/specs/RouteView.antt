@@ -7,7 +7,9 @@ use Rattle.am_files.specs.ConfigFile.{RouteTree, route, routes_of}
 
 -- one level, with each child already seen
 abbrev pub view_step : Route-F RouteTree → RouteTree
-view_step r = route (record { receiver = r.receiver; matchers = r.matchers; continues = r.continues }) (routes_of r.routes.items)
+view_step r =
+    route (record { receiver = r.receiver; matchers = r.matchers; continues = r.continues })
+    (routes_of r.routes.items)
 
 -- the route with all that is below it
 abbrev pub route_view : Route → RouteTree

@@ -1,14 +1,18 @@
 -- The universe file: which JSON value says which universe, and reading one with its first fault.
 -- (This project's own form.)
-use Rattle.std.specs.Prelude.{◌≡◌, ◌≤◌, ℕ, List, [], ◌∷◌, length, if◌then◌else◌, Option, Some, None, option_and_then, codes}
+use Rattle.std.specs.Prelude.{◌≡◌, ◌≤◌, ℕ, List, [], ◌∷◌, length, if◌then◌else◌, Option, Some, None}
+use Rattle.std.specs.Prelude.{option_and_then, codes}
 use Rattle.std.specs.Result.{result_err}
 use Rattle.std.specs.List.{AllZip}
 use Rattle.serde_json.specs.Data.{Data, null, string}
-use Rattle.am_universe.specs.Universe.{Values, Label, max_labels, IsUniverse, name_fault, count_fault, value_fault}
+use Rattle.am_universe.specs.Universe.{Values, Label, max_labels, IsUniverse, name_fault}
+use Rattle.am_universe.specs.Universe.{count_fault, value_fault}
 use Rattle.am_files.specs.declared.limits.TheConstants.{MAX_FILE_BYTES}
 use Rattle.am_files.specs.Json.{json_of, is_null, field, items_of, HasOnlyFields}
 use Rattle.am_files.specs.Pointer.{Refusal, to_field}
-use Rattle.am_files.specs.Reading.{Reading, ◌>>=◌, accept, reading_within, refuse_for, check_count, read_items, as_text, check_only_fields, required_text, required_items, read_json}
+use Rattle.am_files.specs.Reading.{Reading, ◌>>=◌, accept, reading_within, refuse_for, check_count}
+use Rattle.am_files.specs.Reading.{read_items, as_text, check_only_fields, required_text}
+use Rattle.am_files.specs.Reading.{required_items, read_json}
 
 -- the fields of the file
 abbrev pub file_fields : List (List ℕ)
@@ -43,7 +47,8 @@ pub record SaysUniverse (d : Data) (u : List Label) : Type 0 where
 
 -- the bytes of a file say what their JSON value says
 abbrev pub FileSaysUniverse : List ℕ → List Label → Type 0
-FileSaysUniverse bytes u = (length bytes ≤ MAX_FILE_BYTES) × (d : Data) × (json_of bytes ≡ Some d) × SaysUniverse d u
+FileSaysUniverse bytes u =
+    (length bytes ≤ MAX_FILE_BYTES) × (d : Data) × (json_of bytes ≡ Some d) × SaysUniverse d u
 
 -- ---- Reading it, with the first fault that is met.
 

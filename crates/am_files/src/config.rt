@@ -10,7 +10,8 @@ use crate::route::Route;
 pub struct Config {
     pub(crate) receivers: Vec<String>,
     pub(crate) root: Route,
-    pub(crate) ghost sound: { IsConfig (record { receivers = names_of receivers.items; root = route_view root }) },
+    pub(crate) ghost sound: { IsConfig
+        (record { receivers = names_of receivers.items; root = route_view root }) },
 }
 
 impl Config {
@@ -34,8 +35,8 @@ impl Config {
         self.receivers[i].as_str()
     }
 
-    /// The top-level route, which has no matchers. There are at most 1,024 routes in at most 32 levels, and the position
-    /// of each one's receiver is that of a declared one.
+    /// The top-level route, which has no matchers. There are at most 1,024 routes in at most 32
+    /// levels, and the position of each one's receiver is that of a declared one.
     pub fn root(&self) -> &Route
         ensures root { route_view result.now ≡ (config_view self.now).root }
         ensures sound { IsConfig (config_view self.now) }

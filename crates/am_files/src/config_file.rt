@@ -1,16 +1,26 @@
 //! Reading the configuration file.
 
-ghost use Rattle.std.specs.Prelude.{◌≡◌, ◌≢◌, ◌≤◌, ◌<◌, ◌+◌, [], ◌∷◌, ◌++◌, codes, length, map, Some, None, Ok, Err, IfOk, IfErr, OnOk, string_bytes, option_map, position};
+ghost use Rattle.std.specs.Prelude.{◌≡◌, ◌≢◌, ◌≤◌, ◌<◌, ◌+◌, [], ◌∷◌, ◌++◌, codes, length, map};
+ghost use Rattle.std.specs.Prelude.{Some, None, Ok, Err, IfOk, IfErr, OnOk, string_bytes};
+ghost use Rattle.std.specs.Prelude.{option_map, position};
 ghost use Rattle.serde_json.specs.View.{view, members_view};
 ghost use Rattle.am_universe.specs.Text.{same_text};
 ghost use Rattle.am_universe.specs.declared.kind.Kind.TheVariants as kinds;
 ghost use Rattle.am_universe.specs.declared.place.Place.TheVariants as places;
 ghost use Rattle.am_files.specs.Pointer.{to_item};
-ghost use Rattle.am_files.specs.Reading.{Gives, MayRefuse, refusal_of, reading_within, check_only_fields, read_items};
+ghost use Rattle.am_files.specs.Reading.{Gives, MayRefuse, refusal_of, reading_within};
+ghost use Rattle.am_files.specs.Reading.{check_only_fields, read_items};
 ghost use Rattle.am_files.specs.RouteView.{route_view, names_of};
 ghost use Rattle.am_files.specs.ConfigView.{config_view, fields_view};
-ghost use Rattle.am_files.specs.ConfigFile.{FileSaysConfig, route_fields, route_matcher_fields, route_count, routes_count, routes_of};
-ghost use Rattle.am_files.specs.ConfigReading.{receiver_name_fault, read_next_receiver, read_receiver_names, read_receivers, parent_receiver, receiver_position, effective_receiver, read_receiver, boolean_or_false, read_continue, refuse_inhibit_rules, read_route, read_route_fields, read_matchers, read_children, read_next_child, read_config, read_config_file};
+ghost use Rattle.am_files.specs.ConfigFile.{FileSaysConfig, route_fields, route_matcher_fields};
+ghost use Rattle.am_files.specs.ConfigFile.{route_count, routes_count, routes_of};
+ghost use Rattle.am_files.specs.ConfigReading.{receiver_name_fault, read_next_receiver};
+ghost use Rattle.am_files.specs.ConfigReading.{read_receiver_names, read_receivers};
+ghost use Rattle.am_files.specs.ConfigReading.{parent_receiver, receiver_position};
+ghost use Rattle.am_files.specs.ConfigReading.{effective_receiver, read_receiver, boolean_or_false};
+ghost use Rattle.am_files.specs.ConfigReading.{read_continue, refuse_inhibit_rules, read_route};
+ghost use Rattle.am_files.specs.ConfigReading.{read_route_fields, read_matchers, read_children};
+ghost use Rattle.am_files.specs.ConfigReading.{read_next_child, read_config, read_config_file};
 ghost use Rattle.am_files.specs.Json.{field};
 
 use crate::config::Config;
@@ -45,43 +55,47 @@ const ROUTE_FIELDS: [&str; 12] = [
 
 /// The configuration that a file says.
 ///
-/// The file is an object. Its `receivers` are an array of at most 1,024 objects, each with a `name`, and its `route` is
-/// the top-level route. A field that is `null` is absent, and fields that are not named here are not read, but for those
-/// of a route, which has no others than these: `receiver`, `matchers`, `match`, `match_re`, `continue` and `routes`, and,
-/// not read, `group_by`, `group_wait`, `group_interval`, `repeat_interval`, `mute_time_intervals` and
+/// The file is an object. Its `receivers` are an array of at most 1,024 objects, each with a
+/// `name`, and its `route` is the top-level route. A field that is `null` is absent, and fields
+/// that are not named here are not read, but for those of a route, which has no others than these:
+/// `receiver`, `matchers`, `match`, `match_re`, `continue` and `routes`, and, not read, `group_by`,
+/// `group_wait`, `group_interval`, `repeat_interval`, `mute_time_intervals` and
 /// `active_time_intervals`.
 ///
-/// A first fault is the one answered, at the place `Config` and at the pointer of the part at fault, in this order:
-/// - the bytes, at the empty pointer: `Limit` for more than 16,777,216, `NotJson` where they have no JSON value;
+/// A first fault is the one answered, at the place `Config` and at the pointer of the part at
+/// fault, in this order:
+/// - the bytes, at the empty pointer: `Limit` for more than 16,777,216, `NotJson` where they have
+///   no JSON value;
 /// - the file: `Shape` where it is no object;
-/// - `receivers`: `Shape` where it is no array, or absent; `Limit` for more than 1,024; then the receivers in order, each
-///   `Shape` where it is no object, and then its `name`: `Shape` where it is no text, or absent; `Empty`; `Duplicate`
-///   where it is an earlier name;
+/// - `receivers`: `Shape` where it is no array, or absent; `Limit` for more than 1,024; then the
+///   receivers in order, each `Shape` where it is no object, and then its `name`: `Shape` where it
+///   is no text, or absent; `Empty`; `Duplicate` where it is an earlier name;
 /// - `route`: `Shape` where it is absent; then the top-level route;
 /// - `inhibit_rules`: `UnknownField` where it is there, since inhibition rules are not read yet.
 ///
-/// Of a route, when it is reached: `Limit` below the 32nd level, and for the 1,025th in preorder; `Shape` where it is no
-/// object; `UnknownField` at its least other field; then
-/// - `receiver`: `Shape` where it is no text; where it is absent or empty it is that of the parent, and `Shape` on the
-///   top-level route; `UndefinedReceiver` where it is not declared;
-/// - `matchers`: `Shape` where it is no array; then each text: `Shape` where it is no text, `BadMatcher`, `Limit` at the
-///   array for more than 64 matchers, `PatternProfile` and `Pattern`; `Limit` at the array where there are more than 64
-///   together;
-/// - `match` and `match_re`: `Shape` where it is no object; then by the bytes of the keys each pair: `Empty` for the empty
-///   key, `Shape` where the value is no text, `PatternProfile` and `Pattern` in `match_re`; `Limit` at the object for the
-///   65th matcher of the route;
+/// Of a route, when it is reached: `Limit` below the 32nd level, and for the 1,025th in preorder;
+/// `Shape` where it is no object; `UnknownField` at its least other field; then
+/// - `receiver`: `Shape` where it is no text; where it is absent or empty it is that of the parent,
+///   and `Shape` on the top-level route; `UndefinedReceiver` where it is not declared;
+/// - `matchers`: `Shape` where it is no array; then each text: `Shape` where it is no text,
+///   `BadMatcher`, `Limit` at the array for more than 64 matchers, `PatternProfile` and `Pattern`;
+///   `Limit` at the array where there are more than 64 together;
+/// - `match` and `match_re`: `Shape` where it is no object; then by the bytes of the keys each
+///   pair: `Empty` for the empty key, `Shape` where the value is no text, `PatternProfile` and
+///   `Pattern` in `match_re`; `Limit` at the object for the 65th matcher of the route;
 /// - on the top-level route, after each of these three: `RootMatchers` where it gave a matcher;
 /// - `continue`: `Shape` where it is no truth value;
 /// - `routes`: `Shape` where it is no array; then the children in order.
 ///
-/// `Pattern` may come at each pattern of the profile that is reached, since its size is the engine's to judge, and comes
-/// at the first that the engine's grammar does not read. `Memory`, at the place `Memory` and the empty pointer, comes only
-/// where memory was refused.
+/// `Pattern` may come at each pattern of the profile that is reached, since its size is the
+/// engine's to judge, and comes at the first that the engine's grammar does not read. `Memory`, at
+/// the place `Memory` and the empty pointer, comes only where memory was refused.
 pub fn read_config(alloc: Global, bytes: &[u8]) -> Result<Config, Fault>
     ensures found { IfOk result (λ c. (read_config_file bytes.now).result ≡ Ok (config_view c)) }
     ensures says { IfOk result (λ c. FileSaysConfig bytes.now (config_view c)) }
     ensures first { IfErr result (λ fault. fault.kind ≢ kinds.Memory
-        → (fault.place ≡ places.Config) × MayRefuse (read_config_file bytes.now) (refusal_of fault)) }
+        → (fault.place ≡ places.Config)
+        × MayRefuse (read_config_file bytes.now) (refusal_of fault)) }
     ensures memory { IfErr result (λ fault. fault.kind ≡ kinds.Memory
         → (fault.place ≡ places.Memory) × (string_bytes fault.pointer ≡ [])) }
     ensures no_write { IfErr result (λ fault. fault.kind ≢ kinds.Write) }
@@ -114,7 +128,8 @@ fn read_config_object(alloc: Global, value: &Value) -> Result<Config, ReadError>
 
 /// Inhibition rules are not read yet.
 fn refuse_inhibit_rules(alloc: Global, value: &Value) -> Result<(), ReadError>
-    ensures { Gives (λ _. tt) result (refuse_inhibit_rules (field (codes "inhibit_rules") (view value.now))) }
+    ensures { Gives (λ _. tt) result
+        (refuse_inhibit_rules (field (codes "inhibit_rules") (view value.now))) }
 {
     match field(value, "inhibit_rules") {
         None => Ok(()),
@@ -138,14 +153,16 @@ fn read_receivers(alloc: Global, value: &Value) -> Result<Vec<String>, ReadError
 
 #[tactic(auto, unfolding(crate::specs::ConfigReading::read_receiver_names))]
 fn read_receiver_names(alloc: Global, items: &[Value]) -> Result<Vec<String>, ReadError>
-    ensures { Gives (λ names. names_of names.items) result (read_receiver_names (map view items.now)) }
+    ensures { Gives (λ names. names_of names.items) result
+        (read_receiver_names (map view items.now)) }
 {
     check_count(alloc, MAX_RECEIVERS, items.len())?;
     read_each_receiver(alloc, items)
 }
 
 fn read_each_receiver(alloc: Global, items: &[Value]) -> Result<Vec<String>, ReadError>
-    ensures { Gives (λ names. names_of names.items) result (read_items read_next_receiver [] (map view items.now)) }
+    ensures { Gives (λ names. names_of names.items) result
+        (read_items read_next_receiver [] (map view items.now)) }
 {
     let mut names = Vec::new(alloc);
     for item in items {
@@ -158,7 +175,8 @@ fn read_each_receiver(alloc: Global, items: &[Value]) -> Result<Vec<String>, Rea
 /// The item whose position is the number of names so far.
 fn read_receiver_item(alloc: Global, before: &[String], item: &Value) -> Result<String, ReadError>
     ensures { Gives string_bytes result
-        (reading_within (to_item (length (names_of before.now))) (read_next_receiver (names_of before.now) (view item.now))) }
+        (reading_within (to_item (length (names_of before.now)))
+        (read_next_receiver (names_of before.now) (view item.now))) }
 {
     within_item(alloc, before.len(), read_next_receiver(alloc, before, item))
 }
@@ -166,7 +184,8 @@ fn read_receiver_item(alloc: Global, before: &[String], item: &Value) -> Result<
 /// The name of a receiver behind others.
 #[tactic(auto, using(crate::proofs::Readings::steps), unfolding(crate::specs::ConfigReading::read_next_receiver))]
 fn read_next_receiver(alloc: Global, before: &[String], value: &Value) -> Result<String, ReadError>
-    ensures { Gives string_bytes result (read_next_receiver (names_of before.now) (view value.now)) }
+    ensures { Gives string_bytes result
+        (read_next_receiver (names_of before.now) (view value.now)) }
 {
     as_object(alloc, value)?;
     let name = required_text(alloc, value, "name")?;
@@ -200,7 +219,8 @@ fn position(names: &[String], name: &str) -> Option<usize>
 // ---- The routes.
 
 fn read_root(alloc: Global, names: &[String], value: &Value) -> Result<Route, ReadError>
-    ensures { Gives route_view result (read_route (names_of names.now) MAX_LEVELS None 0 (view value.now)) }
+    ensures { Gives route_view result
+        (read_route (names_of names.now) MAX_LEVELS None 0 (view value.now)) }
 {
     let (root, _) = read_route(alloc, names, MAX_LEVELS, None, 0, value)?;
     Ok(root)
@@ -232,7 +252,8 @@ fn read_route_fields<'v>(
     value: &'v Value,
 ) -> Result<RouteFields<'v>, ReadError>
     requires { before ≤ MAX_ROUTES }
-    ensures { Gives fields_view result (read_route_fields (names_of names.now) parent before (view value.now)) }
+    ensures { Gives fields_view result
+        (read_route_fields (names_of names.now) parent before (view value.now)) }
 {
     check_count(alloc, MAX_ROUTES, before + 1)?;
     check_route_fields(alloc, value)?;
@@ -256,13 +277,15 @@ fn check_route_fields(alloc: Global, value: &Value) -> Result<(), ReadError>
 }
 
 fn read_route_matchers(alloc: Global, is_root: bool, value: &Value) -> Result<Matchers, ReadError>
-    ensures { Gives (λ ms. ms) result (read_matchers route_matcher_fields is_root (view value.now)) }
+    ensures { Gives (λ ms. ms) result
+        (read_matchers route_matcher_fields is_root (view value.now)) }
 {
     read_matchers(alloc, MATCHER_FIELDS, is_root, value)
 }
 
-/// A route with the levels that are left, its own included, the receiver of its parent, if it has one, and the number
-/// of routes that stand before it in preorder. With it comes the number before the one that follows it.
+/// A route with the levels that are left, its own included, the receiver of its parent, if it has
+/// one, and the number of routes that stand before it in preorder. With it comes the number before
+/// the one that follows it.
 #[cycle(routes)]
 fn read_route(
     alloc: Global,
@@ -273,8 +296,10 @@ fn read_route(
     value: &Value,
 ) -> Result<(Route, usize), ReadError>
     requires { before ≤ MAX_ROUTES }
-    ensures reads { Gives (λ r. route_view r.0) result (read_route (names_of names.now) levels parent before (view value.now)) }
-    ensures number { IfOk result (λ r. (r.1 ≡ before + route_count (route_view r.0)) × (r.1 ≤ MAX_ROUTES)) }
+    ensures reads { Gives (λ r. route_view r.0) result
+        (read_route (names_of names.now) levels parent before (view value.now)) }
+    ensures number { IfOk result (λ r. (r.1 ≡ before + route_count (route_view r.0))
+        × (r.1 ≤ MAX_ROUTES)) }
 {
     if levels == 0 {
         return Err(ReadError::refused(alloc, Kind::Limit));
@@ -313,9 +338,11 @@ fn read_routes(
 ) -> Result<(Vec<Route>, usize), ReadError>
     requires { before ≤ MAX_ROUTES }
     ensures reads { Gives (λ rs. map route_view rs.0.items) result
-        (read_items (read_next_child (names_of names.now) levels receiver before) [] (map view items.now)) }
+        (read_items (read_next_child (names_of names.now) levels receiver before) []
+        (map view items.now)) }
     ensures number { IfOk result (λ rs.
-        (rs.1 ≡ before + routes_count (routes_of (map route_view rs.0.items))) × (rs.1 ≤ MAX_ROUTES)) }
+        (rs.1 ≡ before + routes_count (routes_of (map route_view rs.0.items)))
+        × (rs.1 ≤ MAX_ROUTES)) }
 {
     let mut routes = Vec::new(alloc);
     let mut after = before;
@@ -363,7 +390,8 @@ fn effective_receiver(
     found: Option<&Value>,
 ) -> Result<usize, ReadError>
     ensures { Gives (λ r. r) result
-        (effective_receiver (names_of names.now) parent (option_map (λ v. view v.now) found.entry)) }
+        (effective_receiver (names_of names.now) parent
+        (option_map (λ v. view v.now) found.entry)) }
 {
     let Some(found) = found else {
         return parent_receiver(alloc, parent);

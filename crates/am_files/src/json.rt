@@ -5,7 +5,9 @@ ghost use Rattle.serde_json.specs.View.{view, members_view};
 ghost use Rattle.am_files.specs.Json.{json_of, field, is_one_of, is_unknown, unknown_field};
 ghost use Rattle.am_universe.specs.declared.kind.Kind.TheVariants as kinds;
 ghost use Rattle.am_files.specs.Pointer.{refusal_here};
-ghost use Rattle.am_files.specs.Reading.{Gives, accept_some, check_only_fields, required_field, required_text, required_items, as_text, as_items, as_object, read_json, refuse_for, check_count};
+ghost use Rattle.am_files.specs.Reading.{Gives, accept_some, check_only_fields, required_field};
+ghost use Rattle.am_files.specs.Reading.{required_text, required_items, as_text, as_items};
+ghost use Rattle.am_files.specs.Reading.{as_object, read_json, refuse_for, check_count};
 
 use crate::limits::MAX_FILE_BYTES;
 use crate::pointer::within_field;
@@ -14,7 +16,8 @@ use am_labels::Kind;
 use serde_json::{Map, Value};
 use std::alloc::Global;
 
-/// The JSON value of a file: refused as `Limit` where it has too many bytes, and as `NotJson` where they have no value.
+/// The JSON value of a file: refused as `Limit` where it has too many bytes, and as `NotJson` where
+/// they have no value.
 #[tactic(auto, unfolding(crate::specs::Reading::read_json))]
 pub(crate) fn read_json(alloc: Global, bytes: &[u8]) -> Result<Value, ReadError>
     ensures { Gives view result (read_json bytes.now) }
@@ -88,14 +91,16 @@ pub(crate) fn as_items(alloc: Global, value: &Value) -> Result<&[Value], ReadErr
     }
 }
 
-/// Refused as `Shape` where the value is no object, and as `UnknownField` at its least field that is none of these.
+/// Refused as `Shape` where the value is no object, and as `UnknownField` at its least field that
+/// is none of these.
 #[tactic(auto, unfolding(crate::specs::Reading::check_only_fields))]
 pub(crate) fn check_only_fields(
     alloc: Global,
     value: &Value,
     known: &[&str],
 ) -> Result<(), ReadError>
-    ensures { Gives (λ _. tt) result (check_only_fields (map (λ key. key.now) known.now) (view value.now)) }
+    ensures { Gives (λ _. tt) result
+        (check_only_fields (map (λ key. key.now) known.now) (view value.now)) }
 {
     let members = as_object(alloc, value)?;
     match unknown_field(members, known) {

@@ -3,40 +3,55 @@
 ghost use Rattle.std.specs.Prelude.{◌≡◌, ◌↔◌, ℕ, List, None, Ok};
 ghost use Rattle.serde_json.specs.Data.{Data};
 ghost use Rattle.am_universe.specs.Universe.{Label};
-ghost use Rattle.am_files.specs.declared.limits.TheConstants.{MAX_FILE_BYTES, MAX_LEVELS, MAX_RECEIVERS, MAX_ROUTES};
+ghost use Rattle.am_files.specs.declared.limits.TheConstants.{MAX_FILE_BYTES, MAX_LEVELS};
+ghost use Rattle.am_files.specs.declared.limits.TheConstants.{MAX_RECEIVERS, MAX_ROUTES};
 ghost use Rattle.am_files.specs.ConfigFile.{Configuration, SaysConfig, FileSaysConfig};
-ghost use Rattle.am_files.specs.ConfigReading.{read_config, read_config_file, fault_of_config, fault_of_config_file};
-ghost use Rattle.am_files.specs.UniverseFile.{SaysUniverse, FileSaysUniverse, read_universe, read_universe_file, fault_of_universe, fault_of_universe_file};
+ghost use Rattle.am_files.specs.ConfigReading.{read_config, read_config_file, fault_of_config};
+ghost use Rattle.am_files.specs.ConfigReading.{fault_of_config_file};
+ghost use Rattle.am_files.specs.UniverseFile.{SaysUniverse, FileSaysUniverse, read_universe};
+ghost use Rattle.am_files.specs.UniverseFile.{read_universe_file, fault_of_universe};
+ghost use Rattle.am_files.specs.UniverseFile.{fault_of_universe_file};
 
-/// A JSON value says a universe exactly where reading it gives that universe. So it says at most one, and it has no
-/// fault exactly where it says one.
+/// A JSON value says a universe exactly where reading it gives that universe. So it says at most
+/// one, and it has no fault exactly where it says one.
 pub fn universes_are_read()
-    ensures read { (d : Data) (u : List Label) → SaysUniverse d u ↔ ((read_universe d).result ≡ Ok u) }
+    ensures read { (d : Data) (u : List Label)
+        → SaysUniverse d u ↔ ((read_universe d).result ≡ Ok u) }
     ensures one { (d : Data) (u v : List Label) → SaysUniverse d u → SaysUniverse d v → u ≡ v }
-    ensures faults { (d : Data) → (fault_of_universe d ≡ None) ↔ ((u : List Label) × SaysUniverse d u) }
+    ensures faults { (d : Data)
+        → (fault_of_universe d ≡ None) ↔ ((u : List Label) × SaysUniverse d u) }
 {}
 
 /// The same of the bytes of a file.
 pub fn universe_files_are_read()
-    ensures read { (bytes : List ℕ) (u : List Label) → FileSaysUniverse bytes u ↔ ((read_universe_file bytes).result ≡ Ok u) }
-    ensures one { (bytes : List ℕ) (u v : List Label) → FileSaysUniverse bytes u → FileSaysUniverse bytes v → u ≡ v }
-    ensures faults { (bytes : List ℕ) → (fault_of_universe_file bytes ≡ None) ↔ ((u : List Label) × FileSaysUniverse bytes u) }
+    ensures read { (bytes : List ℕ) (u : List Label)
+        → FileSaysUniverse bytes u ↔ ((read_universe_file bytes).result ≡ Ok u) }
+    ensures one { (bytes : List ℕ) (u v : List Label) → FileSaysUniverse bytes u
+        → FileSaysUniverse bytes v → u ≡ v }
+    ensures faults { (bytes : List ℕ)
+        → (fault_of_universe_file bytes ≡ None) ↔ ((u : List Label) × FileSaysUniverse bytes u) }
 {}
 
-/// A JSON value says a configuration exactly where reading it gives that configuration, with each pattern built that the
-/// engine's grammar reads. So it says at most one, and it has no first fault exactly where it says one. Beside the first
-/// fault only the refusals of patterns before it are open.
+/// A JSON value says a configuration exactly where reading it gives that configuration, with each
+/// pattern built that the engine's grammar reads. So it says at most one, and it has no first fault
+/// exactly where it says one. Beside the first fault only the refusals of patterns before it are
+/// open.
 pub fn configurations_are_read()
-    ensures read { (d : Data) (c : Configuration) → SaysConfig d c ↔ ((read_config d).result ≡ Ok c) }
+    ensures read { (d : Data) (c : Configuration)
+        → SaysConfig d c ↔ ((read_config d).result ≡ Ok c) }
     ensures one { (d : Data) (b c : Configuration) → SaysConfig d b → SaysConfig d c → b ≡ c }
-    ensures faults { (d : Data) → (fault_of_config d ≡ None) ↔ ((c : Configuration) × SaysConfig d c) }
+    ensures faults { (d : Data)
+        → (fault_of_config d ≡ None) ↔ ((c : Configuration) × SaysConfig d c) }
 {}
 
 /// The same of the bytes of a file.
 pub fn configuration_files_are_read()
-    ensures read { (bytes : List ℕ) (c : Configuration) → FileSaysConfig bytes c ↔ ((read_config_file bytes).result ≡ Ok c) }
-    ensures one { (bytes : List ℕ) (b c : Configuration) → FileSaysConfig bytes b → FileSaysConfig bytes c → b ≡ c }
-    ensures faults { (bytes : List ℕ) → (fault_of_config_file bytes ≡ None) ↔ ((c : Configuration) × FileSaysConfig bytes c) }
+    ensures read { (bytes : List ℕ) (c : Configuration)
+        → FileSaysConfig bytes c ↔ ((read_config_file bytes).result ≡ Ok c) }
+    ensures one { (bytes : List ℕ) (b c : Configuration) → FileSaysConfig bytes b
+        → FileSaysConfig bytes c → b ≡ c }
+    ensures faults { (bytes : List ℕ)
+        → (fault_of_config_file bytes ≡ None) ↔ ((c : Configuration) × FileSaysConfig bytes c) }
 {}
 
 /// The limits of the files.

@@ -10,8 +10,8 @@ use am_labels::{Fault, Kind, Place};
 use std::alloc::{AllocError, AllocFailed, Global};
 use std::marker::Model;
 
-/// Why a file is refused, which is never want of memory nor a failed write, and at which part: a JSON Pointer (RFC 6901),
-/// from the value that is looked at.
+/// Why a file is refused, which is never want of memory nor a failed write, and at which part: a
+/// JSON Pointer (RFC 6901), from the value that is looked at.
 #[derive(Drop)]
 pub(crate) struct Refusal {
     pub(crate) kind: Kind,

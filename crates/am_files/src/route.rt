@@ -1,7 +1,8 @@
 //! Routes, as they are kept in memory.
 
 ghost use Rattle.std.specs.Prelude.{◌≡◌, map};
-ghost use Rattle.am_files.specs.ConfigFile.{matchers_of, continues_of, receiver_of, children_of, routes_of};
+ghost use Rattle.am_files.specs.ConfigFile.{matchers_of, continues_of, receiver_of, children_of};
+ghost use Rattle.am_files.specs.ConfigFile.{routes_of};
 ghost use Rattle.am_files.specs.RouteView.{route_view};
 
 use am_labels::Matchers;

@@ -9,7 +9,12 @@ ghost use Rattle.serde_json.specs.View.{view, members_view};
 ghost use Rattle.am_files.specs.Json.{member_list};
 ghost use Rattle.am_files.specs.Reading.{Gives, IsRefusalOrMemory, read_each};
 ghost use Rattle.am_files.specs.ConfigView.{matcher_fields_view};
-ghost use Rattle.am_files.specs.ConfigReading.{read_matchers, optional_texts, read_texts, read_matcher_texts, read_next_matcher_text, read_matcher_text, text_refusal, append_matchers, optional_pairs, read_pairs, read_next_pair, read_matcher_pair, read_named_text, label_name_fault, refuse_root_matchers};
+ghost use Rattle.am_files.specs.ConfigReading.{read_matchers, optional_texts, read_texts};
+ghost use Rattle.am_files.specs.ConfigReading.{read_matcher_texts, read_next_matcher_text};
+ghost use Rattle.am_files.specs.ConfigReading.{read_matcher_text, text_refusal, append_matchers};
+ghost use Rattle.am_files.specs.ConfigReading.{optional_pairs, read_pairs, read_next_pair};
+ghost use Rattle.am_files.specs.ConfigReading.{read_matcher_pair, read_named_text};
+ghost use Rattle.am_files.specs.ConfigReading.{label_name_fault, refuse_root_matchers};
 
 use crate::json::{as_items, as_object, as_text, field, refuse_for};
 use crate::pointer::{within_field, within_item};
@@ -18,7 +23,8 @@ use am_labels::{Kind, Matcher, Matchers, Op, parse_matchers};
 use serde_json::{Map, Value};
 use std::alloc::Global;
 
-/// The names of three fields with matchers: an array of texts, an object of names and texts for `=`, and one for `=~`.
+/// The names of three fields with matchers: an array of texts, an object of names and texts for
+/// `=`, and one for `=~`.
 #[derive(Clone, Copy)]
 pub(crate) struct MatcherFields<'n> {
     pub(crate) texts: &'n str,
@@ -34,7 +40,8 @@ pub(crate) fn read_matchers(
     is_root: bool,
     value: &Value,
 ) -> Result<Matchers, ReadError>
-    ensures { Gives (λ ms. ms) result (read_matchers (matcher_fields_view fields.entry) is_root (view value.now)) }
+    ensures { Gives (λ ms. ms) result
+        (read_matchers (matcher_fields_view fields.entry) is_root (view value.now)) }
 {
     let MatcherFields {
         texts,
@@ -55,7 +62,8 @@ fn optional_texts(
     key: &str,
     found: Option<&Value>,
 ) -> Result<Matchers, ReadError>
-    ensures { Gives (λ ms. ms) result (optional_texts is_root key.now (option_map (λ v. view v.now) found.entry)) }
+    ensures { Gives (λ ms. ms) result
+        (optional_texts is_root key.now (option_map (λ v. view v.now) found.entry)) }
 {
     match found {
         None => Ok(Matchers::empty(alloc)),
@@ -109,7 +117,8 @@ fn read_matcher_text_at(alloc: Global, i: usize, text: &str) -> Result<Matchers,
 
 fn refuse_text(alloc: Global, i: usize, kind: Kind) -> Result<Matchers, ReadError>
     requires { kind ≢ kinds.Write }
-    ensures refusal { IsErrAnd result (λ e. IsRefusalOrMemory e (text_refusal (to_item i) [] kind)) }
+    ensures refusal { IsErrAnd result
+        (λ e. IsRefusalOrMemory e (text_refusal (to_item i) [] kind)) }
     ensures memory { kind ≡ kinds.Memory → result ≡ Err errors.Memory }
 {
     match kind {

@@ -1,6 +1,7 @@
 //! The universe file.
 
-ghost use Rattle.std.specs.Prelude.{◌≡◌, ◌≢◌, ◌≤◌, [], ◌∷◌, ◌++◌, length, map, None, Ok, Err, IfOk, IfErr, OnOk, string_bytes, option_map};
+ghost use Rattle.std.specs.Prelude.{◌≡◌, ◌≢◌, ◌≤◌, [], ◌∷◌, ◌++◌, length, map, None, Ok, Err, IfOk};
+ghost use Rattle.std.specs.Prelude.{IfErr, OnOk, string_bytes, option_map};
 ghost use Rattle.serde_json.specs.View.{view};
 ghost use Rattle.am_universe.specs.declared.kind.Kind.TheVariants as kinds;
 ghost use Rattle.am_universe.specs.declared.place.Place.TheVariants as places;
@@ -9,7 +10,9 @@ ghost use Rattle.am_universe.specs.UniverseView.{label_of, texts_of};
 ghost use Rattle.am_files.specs.declared.read_error.ReadError.TheVariants as errors;
 ghost use Rattle.am_files.specs.Pointer.{to_item};
 ghost use Rattle.am_files.specs.Reading.{Gives, refusal_of, reading_within, read_items};
-ghost use Rattle.am_files.specs.UniverseFile.{read_value, read_next_value, read_values, read_next_label, read_labels, read_universe, read_universe_file, FileSaysUniverse};
+ghost use Rattle.am_files.specs.UniverseFile.{read_value, read_next_value, read_values};
+ghost use Rattle.am_files.specs.UniverseFile.{read_next_label, read_labels, read_universe};
+ghost use Rattle.am_files.specs.UniverseFile.{read_universe_file, FileSaysUniverse};
 
 use crate::json::{
     as_text, check_count, check_only_fields, read_json, refuse_for, required_items, required_text,
@@ -22,24 +25,32 @@ use std::alloc::{AllocError, Global};
 
 /// The universe that a file says.
 ///
-/// The file is an object with the one field `labels`: an array of at most 64 objects, each with a `name` and `values`,
-/// an array of 1 to 128 values, each a text or `null`, for absence. A field that is `null` is absent.
+/// The file is an object with the one field `labels`: an array of at most 64 objects, each with a
+/// `name` and `values`, an array of 1 to 128 values, each a text or `null`, for absence. A field
+/// that is `null` is absent.
 ///
-/// The first fault is the one answered, at the place `Universe` and at the pointer of the part at fault, in this order:
-/// - the bytes, at the empty pointer: `Limit` for more than 16,777,216, `NotJson` where they have no JSON value;
-/// - the file, and each label when it is reached: `Shape` where it is no object, `UnknownField` at its least other field;
-/// - `labels`: `Shape` where it is no array, or absent; `Limit` for more than 64; then the labels in order;
-/// - `name`: `Shape` where it is no text, or absent; `Empty`; `Shape` where it is not of the form of a label name;
-///   `Duplicate` where it is the name of an earlier label;
-/// - `values`: `Shape` where it is no array, or absent; `Empty`; `Limit` for more than 128; then the values in order;
-/// - a value: `Shape` where it is neither a text nor `null`; `Empty`; `Duplicate` of an earlier one.
+/// The first fault is the one answered, at the place `Universe` and at the pointer of the part at
+/// fault, in this order:
+/// - the bytes, at the empty pointer: `Limit` for more than 16,777,216, `NotJson` where they have
+///   no JSON value;
+/// - the file, and each label when it is reached: `Shape` where it is no object, `UnknownField` at
+///   its least other field;
+/// - `labels`: `Shape` where it is no array, or absent; `Limit` for more than 64; then the labels
+///   in order;
+/// - `name`: `Shape` where it is no text, or absent; `Empty`; `Shape` where it is not of the form
+///   of a label name; `Duplicate` where it is the name of an earlier label;
+/// - `values`: `Shape` where it is no array, or absent; `Empty`; `Limit` for more than 128; then
+///   the values in order;
+/// - a value: `Shape` where it is neither a text nor `null`; `Empty`; `Duplicate` of an earlier
+///   one.
 ///
 /// `Memory`, at the place `Memory` and the empty pointer, comes only where memory was refused.
 pub fn read_universe(alloc: Global, bytes: &[u8]) -> Result<Universe, Fault>
     ensures found { IfOk result (λ u. (read_universe_file bytes.now).result ≡ Ok u) }
     ensures says { IfOk result (λ u. FileSaysUniverse bytes.now u) }
     ensures first { IfErr result (λ fault. fault.kind ≢ kinds.Memory
-        → (fault.place ≡ places.Universe) × ((read_universe_file bytes.now).result ≡ Err (refusal_of fault))) }
+        → (fault.place ≡ places.Universe)
+        × ((read_universe_file bytes.now).result ≡ Err (refusal_of fault))) }
     ensures memory { IfErr result (λ fault. fault.kind ≡ kinds.Memory
         → (fault.place ≡ places.Memory) × (string_bytes fault.pointer ≡ [])) }
     ensures no_write { IfErr result (λ fault. fault.kind ≢ kinds.Write) }
@@ -111,7 +122,8 @@ fn read_label_item(
     item: &Value,
 ) -> Result<(String, Vec<Option<String>>), ReadError>
     ensures { Gives (λ label. label_of label.0 label.1) result
-        (reading_within (to_item (length universe.now)) (read_next_label universe.now (view item.now))) }
+        (reading_within (to_item (length universe.now))
+        (read_next_label universe.now (view item.now))) }
 {
     within_item(
         alloc,
@@ -127,7 +139,8 @@ fn read_next_label(
     universe: &Universe,
     value: &Value,
 ) -> Result<(String, Vec<Option<String>>), ReadError>
-    ensures { Gives (λ label. label_of label.0 label.1) result (read_next_label universe.now (view value.now)) }
+    ensures { Gives (λ label. label_of label.0 label.1) result
+        (read_next_label universe.now (view value.now)) }
 {
     check_only_fields(alloc, value, &["name", "values"])?;
     let name = required_text(alloc, value, "name")?;
@@ -146,7 +159,8 @@ fn read_values(alloc: Global, items: &[Value]) -> Result<Vec<Option<String>>, Re
 }
 
 fn read_each_value(alloc: Global, items: &[Value]) -> Result<Vec<Option<String>>, ReadError>
-    ensures { Gives (λ values. texts_of values.items) result (read_items read_next_value [] (map view items.now)) }
+    ensures { Gives (λ values. texts_of values.items) result
+        (read_items read_next_value [] (map view items.now)) }
 {
     let mut values = Vec::new(alloc);
     for item in items {
@@ -163,7 +177,8 @@ fn read_value_item(
     item: &Value,
 ) -> Result<Option<String>, ReadError>
     ensures { Gives (option_map string_bytes) result
-        (reading_within (to_item (length (texts_of before.now))) (read_next_value (texts_of before.now) (view item.now))) }
+        (reading_within (to_item (length (texts_of before.now)))
+        (read_next_value (texts_of before.now) (view item.now))) }
 {
     within_item(alloc, before.len(), read_next_value(alloc, before, item))
 }
@@ -175,7 +190,8 @@ fn read_next_value(
     before: &[Option<String>],
     value: &Value,
 ) -> Result<Option<String>, ReadError>
-    ensures { Gives (option_map string_bytes) result (read_next_value (texts_of before.now) (view value.now)) }
+    ensures { Gives (option_map string_bytes) result
+        (read_next_value (texts_of before.now) (view value.now)) }
 {
     let value = read_value(alloc, value)?;
     refuse_for(alloc, Universe::value_fault(before, value))?;
@@ -194,7 +210,8 @@ fn read_value(alloc: Global, value: &Value) -> Result<Option<&str>, ReadError>
 }
 
 fn owned(alloc: Global, value: Option<&str>) -> Result<Option<String>, AllocError>
-    ensures { IfOk result (λ o. option_map string_bytes o ≡ option_map (λ text. text.now) value.entry) }
+    ensures { IfOk result (λ o. option_map string_bytes o ≡ option_map (λ text. text.now)
+        value.entry) }
 {
     match value {
         Some(text) => Ok(Some(String::from_str(alloc, text)?)),

@@ -11,7 +11,10 @@ use Rattle.am_files.proofs.config_file.+routes.Given as goal
 -- what is left behind the children so far leads the reading of all, and they are counted
 abbrev pub invariant-read_routes-loop-item : goal.invariant-read_routes-loop-item
 invariant-read_routes-loop-item l = record {
-  leads : Leads (read_items (read_next_child (names_of l.names) l.levels l.receiver l.before) (map route_view l.routes.items) (map view (drop l.item-index l.items))) (read_items (read_next_child (names_of l.names) l.levels l.receiver l.before) [] (map view l.items));
+  leads : Leads (read_items (read_next_child (names_of l.names) l.levels l.receiver l.before)
+      (map route_view l.routes.items) (map view (drop l.item-index l.items)))
+      (read_items (read_next_child (names_of l.names) l.levels l.receiver l.before) []
+      (map view l.items));
   counted : l.after ≡ l.before + routes_count (routes_of (map route_view l.routes.items));
   few : l.after ≤ MAX_ROUTES;
 }

@@ -6,4 +6,8 @@ use Rattle.am_files.proofs.Positions.{position-map}
 use Rattle.am_files.proofs.config_file.position.Goals as goal
 
 pub returns : goal.returns
-returns c = rw (position-map (λ other. same_text other c.args.name.now) string_bytes c.args.names.now) (position_from_yields_List (λ other. same_text (string_bytes other) c.args.name.now) _ _ _ c.position.ensures.ran (YieldsList-from_slice c.args.names.now cc) (λ x b q k. search (rules, tests)))
+returns c =
+    rw (position-map (λ other. same_text other c.args.name.now) string_bytes c.args.names.now)
+    (position_from_yields_List (λ other. same_text (string_bytes other) c.args.name.now) _ _ _
+    c.position.ensures.ran (YieldsList-from_slice c.args.names.now cc)
+    (λ x b q k. search (rules, tests)))

@@ -13,6 +13,11 @@ invariant_of-result c =
     let names = names_of c.in_ok-receivers.receivers.items in
     let d = view c.in_ok-root.root.now in
     let read = rw c.deref.ensures.value at c.read_root.ensures in
-    let g = within_gives route_view (to_field (codes "route")) c.read_root.result c.within_field.result (read_route names MAX_LEVELS None 0 d) read c.within_field.ensures in
+    let g = within_gives route_view (to_field (codes "route")) c.read_root.result
+    c.within_field.result (read_route names MAX_LEVELS None 0 d) read c.within_field.ensures in
     let h = rw c.in_ok-root-2.was at g in
-    record { sound = config_sound names d (route_view c.in_ok-root-2.root) (within_ok (to_field (codes "route")) ((read_route names MAX_LEVELS None 0 d).result) (route_view c.in_ok-root-2.root) h) }
+    record {
+      sound = config_sound names d (route_view c.in_ok-root-2.root)
+          (within_ok (to_field (codes "route")) ((read_route names MAX_LEVELS None 0 d).result)
+          (route_view c.in_ok-root-2.root) h);
+    }

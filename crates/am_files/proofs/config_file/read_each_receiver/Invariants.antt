@@ -8,4 +8,7 @@ use Rattle.am_files.proofs.config_file.read_each_receiver.Given as goal
 
 -- what is left behind the names so far leads the reading of all
 abbrev pub invariant-loop-item : goal.invariant-loop-item
-invariant-loop-item l = Leads (read_items read_next_receiver (names_of l.names.items) (map view (drop l.item-index l.items))) (read_items read_next_receiver [] (map view l.items))
+invariant-loop-item l =
+    Leads (read_items read_next_receiver (names_of l.names.items)
+    (map view (drop l.item-index l.items)))
+    (read_items read_next_receiver [] (map view l.items))

@@ -4,4 +4,9 @@ use Rattle.am_files.proofs.Values.{item_list-items_of}
 use Rattle.am_files.proofs.json.as_items.Goals as goal
 
 pub returns-in-Some : goal.returns-in-Some
-returns-in-Some c = rw (← c.in-Some.ensures, item_list-items_of (map view c.in-Some.items.now.items), c.as_slice.ensures.value) refl
+returns-in-Some c =
+    rw (
+      ← c.in-Some.ensures,
+      item_list-items_of (map view c.in-Some.items.now.items),
+      c.as_slice.ensures.value,
+    ) refl

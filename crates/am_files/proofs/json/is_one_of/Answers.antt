@@ -3,4 +3,6 @@ use Rattle.am_files.proofs.Values.{any-map}
 use Rattle.am_files.proofs.json.is_one_of.Goals as goal
 
 pub returns : goal.returns
-returns c = rw (any-map (λ name. same_text name c.args.key.now) (λ name. name.now) c.args.names.now) c.contains.ensures.value
+returns c =
+    rw (any-map (λ name. same_text name c.args.key.now) (λ name. name.now) c.args.names.now)
+    c.contains.ensures.value

@@ -7,6 +7,7 @@ use Rattle.am_files.proofs.json.unknown_field.Given as goal
 -- what is left has the same least unknown field as all members
 abbrev pub invariant-loop-key : goal.invariant-loop-key
 invariant-loop-key l = record {
-  same : unknown_field (map (λ name. name.now) l.known) (members_view l.key-iterator) ≡ unknown_field (map (λ name. name.now) l.known) (members_view l.members.entries);
+  same : unknown_field (map (λ name. name.now) l.known) (members_view l.key-iterator)
+      ≡ unknown_field (map (λ name. name.now) l.known) (members_view l.members.entries);
   ascends : Ascends l.key-iterator;
 }

@@ -10,9 +10,15 @@ use Rattle.am_files.proofs.Readings.{fails_refused}
 use Rattle.am_files.proofs.json.value_of.Goals as goal
 
 pub returns-in-Ok : goal.returns-in-Ok
-returns-in-Ok c = rw (json_of_text c.args.bytes.now (view c.in-Ok.value) c.in-Ok.ensures.ok.0 c.in-Ok.ensures.ok.1) refl
+returns-in-Ok c =
+    rw (json_of_text c.args.bytes.now (view c.in-Ok.value) c.in-Ok.ensures.ok.0
+    c.in-Ok.ensures.ok.1) refl
 
 pub returns-else-is_memory : goal.returns-else-is_memory
 returns-else-is_memory c =
-    let none = json_of_none c.args.bytes.now (c.in-Err.ensures.err (λ memory. false≢true (c.if-is_memory.ensures.1 memory))) in
-    rw none (fails_refused c.refused.result (accept_some {A = Data} None (refusal_here kinds.NotJson)) (refusal_here kinds.NotJson) c.refused.ensures.refusal (inl refl))
+    let none =
+    json_of_none c.args.bytes.now
+    (c.in-Err.ensures.err (λ memory. false≢true (c.if-is_memory.ensures.1 memory))) in
+    rw none (fails_refused c.refused.result
+    (accept_some {A = Data} None (refusal_here kinds.NotJson)) (refusal_here kinds.NotJson)
+    c.refused.ensures.refusal (inl refl))

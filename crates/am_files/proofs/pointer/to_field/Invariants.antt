@@ -5,4 +5,5 @@ use Rattle.am_files.proofs.pointer.to_field.Given as goal
 
 -- what is written, and what is left to write
 abbrev pub invariant-loop-character : goal.invariant-loop-character
-invariant-loop-character l = string_bytes l.part ++ flat_map pointer_escape l.character-iterator.rest.now ≡ to_field l.key
+invariant-loop-character l =
+    string_bytes l.part ++ flat_map pointer_escape l.character-iterator.rest.now ≡ to_field l.key

@@ -8,4 +8,6 @@ use Rattle.am_files.proofs.route_matchers.read_each_text.Given as goal
 
 -- what is left behind the matchers so far leads the reading of all
 abbrev pub invariant-loop-i : goal.invariant-loop-i
-invariant-loop-i l = Leads (read_each read_next_matcher_text l.found (enumerate_from l.i (map view (drop l.i l.items)))) (read_matcher_texts (map view l.items))
+invariant-loop-i l =
+    Leads (read_each read_next_matcher_text l.found
+    (enumerate_from l.i (map view (drop l.i l.items)))) (read_matcher_texts (map view l.items))

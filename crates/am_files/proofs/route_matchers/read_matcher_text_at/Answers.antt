@@ -4,7 +4,11 @@ use Rattle.am_files.proofs.Matching.{text_gives, text_fails}
 use Rattle.am_files.proofs.route_matchers.read_matcher_text_at.Goals as goal
 
 pub returns-in-Ok : goal.returns-in-Ok
-returns-in-Ok c = text_gives (to_item c.args.i) [] c.args.text.now c.in-Ok.found c.in-Ok.ensures.spelled c.in-Ok.ensures.at_most c.in-Ok.ensures.sound
+returns-in-Ok c =
+    text_gives (to_item c.args.i) [] c.args.text.now c.in-Ok.found c.in-Ok.ensures.spelled
+    c.in-Ok.ensures.at_most c.in-Ok.ensures.sound
 
 pub returns-in-Err : goal.returns-in-Err
-returns-in-Err c = text_fails (to_item c.args.i) [] c.args.text.now c.in-Err.kind c.refuse_text.result c.in-Err.ensures.refused c.refuse_text.ensures.refusal c.refuse_text.ensures.memory
+returns-in-Err c =
+    text_fails (to_item c.args.i) [] c.args.text.now c.in-Err.kind c.refuse_text.result
+    c.in-Err.ensures.refused c.refuse_text.ensures.refusal c.refuse_text.ensures.memory

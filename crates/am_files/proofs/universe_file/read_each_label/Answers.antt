@@ -20,15 +20,25 @@ pub returns-in_err-label : goal.returns-in_err-label
 returns-in_err-label c =
     let l = c.loop-item in
     let p = err_from_is_err_and c.from_residual.result c.from_residual.ensures.1 in
-    rw (p.1, p.2) (item_ends view read_next_label c.in_err-label.field-0.0 l.universe c.args.items.now l.item-index c.item-item.result _ c.loop-item-test.true c.item-item.is c.in_err-label.ensures l.invariant.leads)
+    rw (p.1, p.2) (item_ends view read_next_label c.in_err-label.field-0.0 l.universe
+    c.args.items.now l.item-index c.item-item.result _ c.loop-item-test.true c.item-item.is
+    c.in_err-label.ensures l.invariant.leads)
 
 pub loop-item-preserved : goal.loop-item-preserved
 loop-item-preserved c =
     let l = c.loop-item in
     let label = c.in_ok-label.label in
     record {
-      leads = rw c.in_ok-add.ensures.ok (item_goes_on view read_next_label l.universe c.args.items.now l.item-index c.item-item.result (label_of label.0 label.1) _ c.loop-item-test.true c.item-item.is c.in_ok-label.ensures l.invariant.leads);
-      count = rw c.in_ok-add.ensures.ok (omega (arith, length-append l.universe (label_of label.0 label.1 ∷ []), l.invariant.count));
+      leads = rw c.in_ok-add.ensures.ok
+          (item_goes_on view read_next_label l.universe c.args.items.now l.item-index
+          c.item-item.result (label_of label.0 label.1) _ c.loop-item-test.true c.item-item.is
+          c.in_ok-label.ensures l.invariant.leads);
+      count = rw c.in_ok-add.ensures.ok
+          (omega (
+            arith,
+            length-append l.universe (label_of label.0 label.1 ∷ []),
+            l.invariant.count,
+          ));
     }
 
 -- what was read has no fault, and there is room
@@ -36,8 +46,12 @@ pub add-requires : goal.add-requires
 add-requires c =
     let l = c.loop-item in
     let label = c.in_ok-label.label in
-    let room : length l.universe < max_labels = omega (arith, l.invariant.count, c.loop-item-test.true, c.requires) in
-    no_fault_read l.universe (view c.item-item.result) (label_of label.0 label.1) room c.in_ok-label.ensures
+    let room : length l.universe < max_labels =
+    omega (arith, l.invariant.count, c.loop-item-test.true, c.requires) in
+    no_fault_read l.universe (view c.item-item.result) (label_of label.0 label.1) room
+    c.in_ok-label.ensures
 
 pub returns : goal.returns
-returns c = items_done view read_next_label c.loop-item.universe c.args.items.now c.loop-item.item-index _ c.loop-item-test.false c.loop-item.invariant.leads
+returns c =
+    items_done view read_next_label c.loop-item.universe c.args.items.now c.loop-item.item-index _
+    c.loop-item-test.false c.loop-item.invariant.leads

@@ -8,6 +8,7 @@ use Rattle.am_files.proofs.universe_file.read_each_label.Given as goal
 -- what is left behind the labels so far leads the reading of all
 abbrev pub invariant-loop-item : goal.invariant-loop-item
 invariant-loop-item l = record {
-  leads : Leads (read_items read_next_label l.universe (map view (drop l.item-index l.items))) (read_items read_next_label [] (map view l.items));
+  leads : Leads (read_items read_next_label l.universe (map view (drop l.item-index l.items)))
+      (read_items read_next_label [] (map view l.items));
   count : length l.universe ≡ l.item-index;
 }

@@ -8,4 +8,6 @@ use Rattle.am_files.proofs.universe_file.read_each_value.Given as goal
 
 -- what is left behind the values so far leads the reading of all
 abbrev pub invariant-loop-item : goal.invariant-loop-item
-invariant-loop-item l = Leads (read_items read_next_value (texts_of l.values.items) (map view (drop l.item-index l.items))) (read_items read_next_value [] (map view l.items))
+invariant-loop-item l =
+    Leads (read_items read_next_value (texts_of l.values.items)
+    (map view (drop l.item-index l.items))) (read_items read_next_value [] (map view l.items))

@@ -10,5 +10,7 @@ returns-in-Ok-clause-says c = file_says c.args.bytes.now c.in-Ok.universe c.in-O
 
 pub returns-in-Err-clause-first : goal.returns-in-Err-clause-first
 returns-in-Err-clause-first c = λ other.
-    let is = fault_of_file places.Universe c.in-Err.error c.at.result (read_universe_file c.args.bytes.now) c.at.ensures c.in-Err.ensures other in
+    let is =
+    fault_of_file places.Universe c.in-Err.error c.at.result
+    (read_universe_file c.args.bytes.now) c.at.ensures c.in-Err.ensures other in
     (is.0, file_refuses c.args.bytes.now (refusal_of c.at.result) is.1)

@@ -10,4 +10,7 @@ use Rattle.am_files.proofs.universe_file.read_value_item.Goals as goal
 pub returns : goal.returns
 returns c =
     let before = c.args.before.now in
-    rw (length-map before (option_map string_bytes)) (within_gives (option_map string_bytes) (to_item (length before)) c.read_next_value.result c.within_item.result (read_next_value (texts_of before) (view c.args.item.now)) c.read_next_value.ensures c.within_item.ensures)
+    rw (length-map before (option_map string_bytes))
+    (within_gives (option_map string_bytes) (to_item (length before)) c.read_next_value.result
+    c.within_item.result (read_next_value (texts_of before) (view c.args.item.now))
+    c.read_next_value.ensures c.within_item.ensures)
