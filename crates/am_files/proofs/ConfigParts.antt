@@ -6,6 +6,7 @@ use Rattle.std.proofs.Common.{length-append, arith}
 use Rattle.std.specs.Prelude.{codes, IsTrue, is_some}
 use Rattle.std.specs.List.{AllZip, IsDistinct, list_any, position, position_or_len, enumerate_from}
 use Rattle.std.specs.List.{flat_map}
+use Rattle.std.proofs.lemmas.Bool.{and_parts, or_parts}
 use Rattle.std.proofs.lemmas.Slice.Zip.{AllZip-long}
 use borrow.Author.Tests.{lt-ltb, le-ltb}
 use Rattle.serde_json.specs.Data.{Data, null, boolean, number, string, array, object}
@@ -39,8 +40,8 @@ use Rattle.am_files.proofs.Items.{AllFit, items_say, items_read}
 use Rattle.am_files.proofs.Fields.{as_text_says, as_text_reads, as_object_says, as_object_reads}
 use Rattle.am_files.proofs.Fields.{required_text_says, required_text_reads, required_items_say}
 use Rattle.am_files.proofs.Fields.{required_items_read}
-use Rattle.am_files.proofs.Distinct.{or_false, distinct_push, distinct_pushed, distinct_front}
-use Rattle.am_files.proofs.Matching.{both_true, named_passes, name_is_some, pair_gives, text_gives}
+use Rattle.am_files.proofs.Distinct.{distinct_push, distinct_pushed, distinct_front}
+use Rattle.am_files.proofs.Matching.{named_passes, name_is_some, pair_gives, text_gives}
 
 -- ---- The names of receivers.
 
@@ -63,7 +64,7 @@ none_found : {X : Type 0} (p : X → Bool) (xs : List X) → list_any p xs ≡ f
     → position_or_len p xs ≡ length xs
 none_found p [] h = refl
 none_found p (x ∷ xs) h =
-    let split = or_false (p x) (list_any p xs) h in
+    let split = or_parts (p x) (list_any p xs) h in
     rw (split.0, none_found p xs split.1) (omega arith)
 
 position_any : {X : Type 0} (p : X → Bool) (xs : List X) (b : Bool) → list_any p xs ≡ b
@@ -333,14 +334,14 @@ pub sound_append : (xs ys : List Condition) → IsTrue (have_sound_values xs)
     → IsTrue (have_sound_values ys) → IsTrue (have_sound_values (xs ++ ys))
 sound_append [] ys h k = k
 sound_append (x ∷ xs) ys h k =
-    let split = both_true (has_sound_value x) (have_sound_values xs) h in
+    let split = and_parts (has_sound_value x) (have_sound_values xs) h in
     rw (split.0, sound_append xs ys split.1 k) refl
 
 pub sound_apart : (xs ys : List Condition) → IsTrue (have_sound_values (xs ++ ys))
     → IsTrue (have_sound_values xs) × IsTrue (have_sound_values ys)
 sound_apart [] ys h = (refl, h)
 sound_apart (x ∷ xs) ys h =
-    let split = both_true (has_sound_value x) (have_sound_values (xs ++ ys)) h in
+    let split = and_parts (has_sound_value x) (have_sound_values (xs ++ ys)) h in
     let rest = sound_apart xs ys split.1 in
     (rw (split.0, rest.0) refl, rest.1)
 
@@ -573,7 +574,7 @@ pair_reads op name d m said sound =
     same_condition m name op said.0.0 said.1 in
     let fine =
     subst (λ (x : Condition). IsTrue (has_sound_value x)) (sym same)
-    (both_true (has_sound_value m) true sound).0 in
+    (and_parts (has_sound_value m) true sound).0 in
     pair_gives op name d m.value (named_text_reads name d m.value (refl, said.0.1, said.0.2)) fine
     ∙ ap (λ (x : Condition). Ok x) same
 

@@ -1,10 +1,7 @@
 -- Lists of distinct items: with one more, and in front of others.
-use Rattle.std.proofs.Common.{◌≡◌, List, [], ◌∷◌, ◌++◌, Bool, true, false, ◌||◌, refl, ap, ◌∙◌}
+use Rattle.std.proofs.Common.{◌≡◌, List, [], ◌∷◌, ◌++◌, Bool, false, ◌||◌, refl, ap, ◌∙◌}
 use Rattle.std.specs.List.{AllByRecursion, IsDistinct, list_any}
-
-pub or_false : (a b : Bool) → (a || b) ≡ false → (a ≡ false) × (b ≡ false)
-or_false true b h = absurd cc
-or_false false b h = (refl, h)
+use Rattle.std.proofs.lemmas.Bool.{or_parts}
 
 all_push : {A : Type 0} (P : A → Type 0) (xs : List A) (y : A) → AllByRecursion P xs → P y
     → AllByRecursion P (xs ++ y ∷ [])
@@ -21,7 +18,7 @@ pub distinct_push : {A : Type 0} (e : A → A → Bool) (xs : List A) (y : A) �
 unfolding IsDistinct
 distinct_push e [] y d none = (tt, tt)
 distinct_push e (x ∷ xs) y d none =
-    let split = or_false (e x y) (list_any (λ z. e z y) xs) none in
+    let split = or_parts (e x y) (list_any (λ z. e z y) xs) none in
     (all_push (λ z. e x z ≡ false) xs y d.0 split.0, distinct_push e xs y d.1 split.1)
 
 pub distinct_pushed : {A : Type 0} (e : A → A → Bool) (xs : List A) (y : A)

@@ -3,6 +3,7 @@ use Rattle.std.proofs.Common.{◌≡◌, ◌⊎◌, ℕ, ◌≤◌, List, [], le
 use Rattle.std.proofs.Common.{Option, Some, None, option_and_then, Ok, inl, inr, refl, ap, ◌∙◌}
 use Rattle.std.proofs.Common.{cond}
 use Rattle.std.specs.Prelude.{⊤, IsTrue}
+use Rattle.std.proofs.Math.Bool.{and-false}
 use Rattle.serde_json.specs.Data.{Data, null, boolean, number, string, array, object, Members}
 use Rattle.serde_json.specs.Data.{no_members, member}
 use Rattle.serde_json.specs.Find as find
@@ -79,14 +80,10 @@ none_says known (member key d rest) h =
     let here = known_says (is_null d) (is_one_of key known) split.0 in
     (elim here [ inl e ↦ inl (null_is d e) | inr e ↦ inr e ], none_says known rest split.1)
 
-not_both : (b : Bool) → (b && false) ≡ false
-not_both true = refl
-not_both false = refl
-
 known_reads : (known : List (List ℕ)) (key : List ℕ) (d : Data) → (d ≡ null)
     ⊎ IsTrue (is_one_of key known) → is_unknown known key d ≡ false
 known_reads known key d (inl e) = rw e refl
-known_reads known key d (inr e) = rw e (not_both (not (is_null d)))
+known_reads known key d (inr e) = rw e (and-false (not (is_null d)))
 
 only_none : (known : List (List ℕ)) (ms : Members) → AreOnlyFields known ms
     → unknown_field known ms ≡ None

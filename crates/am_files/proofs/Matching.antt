@@ -3,6 +3,7 @@ use Rattle.std.proofs.Common.{◌≡◌, ◌≢◌, ℕ, ◌≤◌, List, [], �
 use Rattle.std.proofs.Common.{◌&&◌, cond, Option, Some, None, Result, Ok, Err, IsTrue, inl, inr}
 use Rattle.std.proofs.Common.{refl, sym, subst}
 use Rattle.std.specs.Prelude.{IsErrAnd}
+use Rattle.std.proofs.lemmas.Bool.{and_parts}
 use Rattle.serde_json.specs.Data.{Data}
 use Rattle.am_labels.specs.declared.op.Op.{Op}
 use Rattle.am_universe.specs.declared.kind.Kind.{Kind}
@@ -28,17 +29,13 @@ use Rattle.am_files.proofs.Readings.{pattern_right, refuses_first, refuses_later
 use Rattle.am_files.proofs.Readings.{here_fails, fails_later, check_count_fits, check_count_over}
 use Rattle.am_files.proofs.Readings.{bind_ok, refuse_for_ok}
 
-pub both_true : (a b : Bool) → (a && b) ≡ true → (a ≡ true) × (b ≡ true)
-both_true true b h = (refl, h)
-both_true false b h = absurd cc
-
 -- ---- Patterns.
 
 -- sound values have no fault
 pub sound_passes : (ms : List Condition) → IsTrue (have_sound_values ms) → pattern_fault ms ≡ None
 sound_passes [] h = refl
 sound_passes (m ∷ ms) h =
-    let split = both_true (has_sound_value m) (have_sound_values ms) h in
+    let split = and_parts (has_sound_value m) (have_sound_values ms) h in
     rw (split.0, sound_passes ms split.1) refl
 
 refused_first : (m : Condition) (after : List Condition) (takes profile pattern : Bool)
@@ -65,7 +62,7 @@ refused_at [] m after sound takes =
     refused_first m after (takes_pattern m.op) (in_profile m.value) (is_pattern m.value) refl refl
     refl takes
 refused_at (x ∷ before) m after sound takes =
-    let split = both_true (has_sound_value x) (have_sound_values before) sound in
+    let split = and_parts (has_sound_value x) (have_sound_values before) sound in
     refused_behind x (before ++ m ∷ after) (refusal_here (pattern_refusal m.value)) split.0
     (refused_at before m after split.1 takes)
 

@@ -1,11 +1,12 @@
 -- What holds of each configuration that was read: its receivers are in range, its root has no
 -- matchers, and its routes are not too many and not too deep.
-use Rattle.std.proofs.Common.{◌≡◌, ℕ, zero, suc, ◌+◌, ◌<◌, ◌≤◌, List, [], ◌∷◌, ◌++◌, length, Bool}
-use Rattle.std.proofs.Common.{true, ◌&&◌, nat_lt, Option, Some, None, Ok, refl, sym, ap, subst, ◌∙◌}
+use Rattle.std.proofs.Common.{◌≡◌, ℕ, zero, suc, ◌+◌, ◌<◌, ◌≤◌, List, [], ◌∷◌, ◌++◌, length}
+use Rattle.std.proofs.Common.{true, nat_lt, Option, Some, None, Ok, refl, sym, ap, subst, ◌∙◌}
 use Rattle.std.proofs.Common.{arith}
 use Rattle.std.specs.Prelude.{codes, IfSome}
 use Rattle.std.specs.List.{position}
 use Rattle.std.proofs.lemmas.List.Quantifiers.{position-Some}
+use Rattle.std.proofs.lemmas.Bool.{and_parts, and_from}
 use borrow.Author.Tests.{lt-ltb}
 use Rattle.serde_json.specs.Data.{Data}
 use Rattle.am_labels.specs.declared.op.Op.{Op}
@@ -29,7 +30,6 @@ use Rattle.am_files.specs.ConfigReading.{read_texts, read_pairs, optional_texts,
 use Rattle.am_files.specs.ConfigReading.{read_matchers, read_route_fields, read_route}
 use Rattle.am_files.specs.ConfigReading.{read_next_child}
 use Rattle.am_files.proofs.Readings.{bind_ok, within_ok, ok_or_some, same_read}
-use Rattle.am_files.proofs.Matching.{both_true}
 use Rattle.am_files.proofs.Routing.{are_read, count_push}
 
 -- ---- Receivers.
@@ -131,17 +131,14 @@ record AreSound (count left before : ℕ) (ts : Routes) : Type 0 where
   pub levels : routes_levels ts ≤ left
   pub number : before + routes_count ts ≤ MAX_ROUTES
 
-both : (a b : Bool) → a ≡ true → b ≡ true → (a && b) ≡ true
-both a b h k = rw (h, k) refl
-
 push_in_range : (count : ℕ) (ts : List RouteTree) (t : RouteTree)
     → have_receivers_below count (routes_of ts) ≡ true → has_receivers_below count t ≡ true
     → have_receivers_below count (routes_of (ts ++ t ∷ [])) ≡ true
 push_in_range count [] t h k = rw k refl
 push_in_range count (s ∷ ts) t h k =
     let split =
-    both_true (has_receivers_below count s) (have_receivers_below count (routes_of ts)) h in
-    both (has_receivers_below count s) (have_receivers_below count (routes_of (ts ++ t ∷ [])))
+    and_parts (has_receivers_below count s) (have_receivers_below count (routes_of ts)) h in
+    and_from (has_receivers_below count s) (have_receivers_below count (routes_of (ts ++ t ∷ [])))
     split.0 (push_in_range count ts t split.1 k)
 
 push_levels : (left : ℕ) (ts : List RouteTree) (t : RouteTree) → routes_levels (routes_of ts) ≤ left
@@ -186,7 +183,7 @@ route_is_sound : (count left before : ℕ) (settings : RouteSettings) (ts : Rout
     → IsSound count (suc left) before (route settings ts)
 route_is_sound count left before settings ts below sound = record {
   in_range =
-      both (nat_lt settings.receiver count) (have_receivers_below count ts)
+      and_from (nat_lt settings.receiver count) (have_receivers_below count ts)
       (lt-ltb settings.receiver count below) sound.in_range;
   levels = omega (arith, sound.levels);
   number = omega (arith, sound.number);

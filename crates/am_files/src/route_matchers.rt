@@ -1,4 +1,4 @@
-//! The matchers of a route: those of three fields, one behind the other.
+//! The matchers of three fields of an object, one behind the other, as a route has them.
 
 ghost use Rattle.std.specs.Prelude.{◌≡◌, ◌≢◌, [], ◌∷◌, ◌++◌, map, option_map, Err, IsErrAnd, OnOk};
 ghost use Rattle.std.specs.List.{enumerate_from};
