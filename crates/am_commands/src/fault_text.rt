@@ -122,6 +122,9 @@ fn fault_line(alloc: Global, fault: &Fault) -> Result<Vec<u8>, AllocError>
 }
 
 /// A sink in memory. A take fails only where memory was refused.
+///
+/// What an `Out` says of its writer speaks of the writer at its start, which a call over any sink
+/// does not say it keeps; here the bytes taken are those in memory.
 #[derive(Drop)]
 struct Line {
     bytes: Vec<u8>,
