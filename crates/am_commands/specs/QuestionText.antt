@@ -3,7 +3,7 @@
 use Rattle.std.specs.Prelude.{◌≡◌, ◌≤◌, ◌⊎◌, ℕ, List, length, IsTrue}
 use Rattle.am_universe.specs.declared.kind.Kind.{Kind}
 use Rattle.am_universe.specs.declared.kind.Kind.TheVariants as kinds
-use Rattle.am_labels.specs.Matcher.{max_matchers}
+use Rattle.am_labels.specs.declared.limits.TheConstants.{MAX_MATCHERS}
 use Rattle.am_labels.specs.MatcherText.{Spells}
 use Rattle.am_labels.specs.MatcherRefusals.{have_sound_values, RefusesText}
 use Rattle.am_labels.specs.BraceToken.{IsBraceToken}
@@ -14,7 +14,7 @@ pub record ReadsQuestion (text : List ℕ) (question : Question) : Type 0 where
   pub token : List ℕ
   pub is_token : IsBraceToken text token
   pub spelled : Spells token question
-  pub at_most : length question ≤ max_matchers
+  pub at_most : length question ≤ MAX_MATCHERS
   pub sound : IsTrue (have_sound_values question)
 
 -- the text is a brace token whose matcher list is refused

@@ -14,7 +14,8 @@ use Rattle.serde_json.specs.Find.{as_bool}
 use Rattle.am_universe.specs.declared.kind.Kind.TheVariants as kinds
 use Rattle.am_labels.specs.declared.op.Op.{Op}
 use Rattle.am_universe.specs.Text.{same_text}
-use Rattle.am_labels.specs.Matcher.{Condition, max_matchers}
+use Rattle.am_labels.specs.declared.limits.TheConstants.{MAX_MATCHERS}
+use Rattle.am_labels.specs.Matcher.{Condition}
 use Rattle.am_labels.specs.MatcherText.{Spells}
 use Rattle.am_labels.specs.MatcherReading.{read_list}
 use Rattle.am_labels.specs.MatcherRefusals.{has_sound_value, have_sound_values, pattern_refusal}
@@ -348,21 +349,21 @@ sound_apart (x ∷ xs) ys h =
 -- ---- The matchers of a text.
 
 abbrev Joins : List Condition → List Condition → List Condition → Type 0
-Joins before ms all = (all ≡ before ++ ms) × (length before + length ms ≤ max_matchers)
+Joins before ms all = (all ≡ before ++ ms) × (length before + length ms ≤ MAX_MATCHERS)
 
 append_says : (before ms all : List Condition) → (append_matchers before ms).result ≡ Ok all
     → Joins before ms all
 append_says before ms all h =
     let few =
-    bind_ok ((check_count max_matchers (length before + length ms)).result)
+    bind_ok ((check_count MAX_MATCHERS (length before + length ms)).result)
     (λ _. Ok (before ++ ms)) all h in (
       sym (same_read (before ++ ms) all few.2),
-      check_count_ok max_matchers (length before + length ms) few.0 few.1,
+      check_count_ok MAX_MATCHERS (length before + length ms) few.0 few.1,
     )
 
-append_reads : (before ms : List Condition) → length before + length ms ≤ max_matchers
+append_reads : (before ms : List Condition) → length before + length ms ≤ MAX_MATCHERS
     → (append_matchers before ms).result ≡ Ok (before ++ ms)
-append_reads before ms le = rw (check_count_fits max_matchers (length before + length ms) le) refl
+append_reads before ms le = rw (check_count_fits MAX_MATCHERS (length before + length ms) le) refl
 
 spelled_says : (part limit : List ℕ) (text : List ℕ) (all : List Condition)
     → (read_matcher_text part limit text).result ≡ Ok all
@@ -373,7 +374,7 @@ spelled_says part limit text all h =
     bind_ok ((reading_within part
     (accept_some (read_list text) (refusal_here kinds.BadMatcher))).result) _ all h in
     let few =
-    bind_ok ((reading_within limit (check_count max_matchers (length ms.0))).result) _ all
+    bind_ok ((reading_within limit (check_count MAX_MATCHERS (length ms.0))).result) _ all
     ms.2 in
     let sound = bind_ok ((reading_within part (check_patterns ms.0)).result) _ all few.2 in
     let is : ms.0 ≡ all = same_read ms.0 all sound.2 in
@@ -395,7 +396,7 @@ pub record Adds (Says : List Condition → Type 0) (before all : List Condition)
   pub says : Says matchers
   pub are : all ≡ before ++ matchers
   pub sound : IsTrue (have_sound_values matchers)
-  pub few : length before ≤ max_matchers → length all ≤ max_matchers
+  pub few : length before ≤ MAX_MATCHERS → length all ≤ MAX_MATCHERS
 
 -- none are added
 pub adds_none : (Says : List Condition → Type 0) (before all : List Condition) → before ≡ all
@@ -405,7 +406,7 @@ adds_none Says before all is says = record {
   says = says;
   are = sym is ∙ sym (append-nil before);
   sound = refl;
-  few = λ le. subst (λ (ms : List Condition). length ms ≤ max_matchers) is le;
+  few = λ le. subst (λ (ms : List Condition). length ms ≤ MAX_MATCHERS) is le;
 }
 
 -- some are added, and then others behind them
@@ -413,7 +414,7 @@ adds_more : (Says : List Condition → Type 0) (before ms next all : List Condit
     → Joins before ms next → IsTrue (have_sound_values ms)
     → (rest : Adds (λ more. Says (ms ++ more)) next all) → Adds Says before all
 adds_more Says before ms next all joins sound rest =
-    let few : length next ≤ max_matchers =
+    let few : length next ≤ MAX_MATCHERS =
     rw joins.0 (omega (arith, length-append before ms, joins.1)) in
     record {
       matchers = ms ++ rest.matchers;
@@ -448,11 +449,11 @@ text_says before i d all h =
 
 text_reads : (before : List Condition) (i : ℕ) (d : Data) (ms : List Condition)
     → SaysMatcherText d ms → IsTrue (have_sound_values ms)
-    → length before + length ms ≤ max_matchers
+    → length before + length ms ≤ MAX_MATCHERS
     → (read_next_matcher_text before (i, d)).result ≡ Ok (before ++ ms)
 unfolding read_next_matcher_text
 text_reads before i d ms said sound le =
-    let few : length ms ≤ max_matchers = omega (arith, le) in
+    let few : length ms ≤ MAX_MATCHERS = omega (arith, le) in
     rw (
       as_text_reads d said.0 said.1,
       text_gives (to_item i) [] said.0 ms said.2 few sound,
@@ -507,7 +508,7 @@ texts_say before i (d ∷ ds) all h =
 
 pub texts_read : (before : List Condition) (i : ℕ) (ds : List Data) (lists : List (List Condition))
     → AllZip SaysMatcherText ds lists → IsTrue (have_sound_values (flat_map (λ ms. ms) lists))
-    → length before + length (flat_map (λ ms. ms) lists) ≤ max_matchers
+    → length before + length (flat_map (λ ms. ms) lists) ≤ MAX_MATCHERS
     → (read_each read_next_matcher_text before (enumerate_from i ds)).result ≡ Ok
     (before ++ flat_map (λ ms. ms) lists)
 unfolding read_each
@@ -602,7 +603,7 @@ pairs_say op before (pair ∷ pairs) all h =
 
 pub pairs_read : (op : Op) (before : List Condition) (pairs : List (List ℕ × Data))
     (ms : List Condition) → AllZip (SaysMatcherPair op) pairs ms → IsTrue (have_sound_values ms)
-    → length before + length ms ≤ max_matchers
+    → length before + length ms ≤ MAX_MATCHERS
     → (read_each (read_next_pair op) before pairs).result ≡ Ok (before ++ ms)
 unfolding read_each read_next_pair
 pairs_read op before [] [] said sound le =

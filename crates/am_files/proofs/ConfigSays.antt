@@ -8,7 +8,8 @@ use Rattle.std.specs.List.{AllZip, flat_map}
 use Rattle.serde_json.specs.Data.{Data, null, boolean, number, string, array, object, Members}
 use Rattle.am_labels.specs.declared.op.Op.{Op}
 use Rattle.am_labels.specs.declared.op.Op.TheVariants.{Equal, Matches}
-use Rattle.am_labels.specs.Matcher.{Condition, max_matchers}
+use Rattle.am_labels.specs.declared.limits.TheConstants.{MAX_MATCHERS}
+use Rattle.am_labels.specs.Matcher.{Condition}
 use Rattle.am_labels.specs.MatcherRefusals.{have_sound_values}
 use Rattle.am_files.specs.declared.limits.TheConstants.{MAX_ROUTES, MAX_LEVELS}
 use Rattle.am_files.specs.Json.{field, member_list, HasOnlyFields}
@@ -150,7 +151,7 @@ optional_texts_read : (is_root : Bool) (key : List ℕ) (found : Option Data) (i
     (lists : List (List Condition)) → (optional_items found).result ≡ Ok items
     → AllZip SaysMatcherText items lists
     → IsTrue (have_sound_values (flat_map (λ ms. ms) lists))
-    → length (flat_map (λ ms. ms) lists) ≤ max_matchers
+    → length (flat_map (λ ms. ms) lists) ≤ MAX_MATCHERS
     → (is_root ≡ true → flat_map (λ ms. ms) lists ≡ [])
     → (optional_texts is_root key found).result ≡ Ok (flat_map (λ ms. ms) lists)
 unfolding read_texts
@@ -166,7 +167,7 @@ optional_texts_read is_root key (Some v) items lists h said sound le none =
 
 optional_pairs_read : (is_root : Bool) (op : Op) (key : List ℕ) (d : Data)
     (before ms : List Condition) → SaysPairs op key d ms → IsTrue (have_sound_values ms)
-    → length before + length ms ≤ max_matchers → (is_root ≡ true → before ++ ms ≡ [])
+    → length before + length ms ≤ MAX_MATCHERS → (is_root ≡ true → before ++ ms ≡ [])
     → (optional_pairs is_root op key before (field key d)).result ≡ Ok (before ++ ms)
 unfolding read_pairs
 optional_pairs_read is_root op key d before ms (inl said) sound le none =
@@ -193,7 +194,7 @@ matchers_read fields is_root d all said none =
     let sound =
     sound_apart xs (said.from_match ++ said.from_match_re) (rw said.all at said.sound) in
     let more = sound_apart said.from_match said.from_match_re sound.1 in
-    let few : length ((xs ++ said.from_match) ++ said.from_match_re) ≤ max_matchers =
+    let few : length ((xs ++ said.from_match) ++ said.from_match_re) ≤ MAX_MATCHERS =
     rw whole at said.few in
     let two : length (xs ++ said.from_match) ≡ length xs + length said.from_match =
     length-append xs said.from_match in

@@ -8,7 +8,8 @@ use Rattle.serde_json.specs.Data.{Data}
 use Rattle.am_labels.specs.declared.op.Op.{Op}
 use Rattle.am_universe.specs.declared.kind.Kind.{Kind}
 use Rattle.am_universe.specs.declared.kind.Kind.TheVariants as kinds
-use Rattle.am_labels.specs.Matcher.{Condition, max_matchers, takes_pattern}
+use Rattle.am_labels.specs.declared.limits.TheConstants.{MAX_MATCHERS}
+use Rattle.am_labels.specs.Matcher.{Condition, takes_pattern}
 use Rattle.am_labels.specs.Pattern.{is_pattern}
 use Rattle.am_labels.specs.PatternCut.{in_profile}
 use Rattle.am_labels.specs.MatcherText.{Spells}
@@ -135,13 +136,13 @@ refused_is_no_memory : (found : Refusal) → err_of (errors.Refused found) ≡ e
 refused_is_no_memory found h = cc
 
 pub text_gives : (part limit : List ℕ) (text : List ℕ) (ms : List Condition) → Spells text ms
-    → length ms ≤ max_matchers → IsTrue (have_sound_values ms)
+    → length ms ≤ MAX_MATCHERS → IsTrue (have_sound_values ms)
     → (read_matcher_text part limit text).result ≡ Ok ms
 unfolding read_matcher_text
 text_gives part limit text ms spells le sound =
     rw (
       list_is_read text ms spells,
-      check_count_fits max_matchers (length ms) le,
+      check_count_fits MAX_MATCHERS (length ms) le,
       sound_passes ms sound,
     ) refl
 
@@ -151,7 +152,7 @@ none_read text None is none = is
 none_read text (Some ms) is none = absurd (none ms (list_is_spelled text ms is))
 
 text_patterns : (part limit : List ℕ) (text : List ℕ) (ms : List Condition) (r : Refusal)
-    → Spells text ms → length ms ≤ max_matchers → MayRefuse (check_patterns ms) r
+    → Spells text ms → length ms ≤ MAX_MATCHERS → MayRefuse (check_patterns ms) r
     → MayRefuse (read_matcher_text part limit text) (refusal_within part r)
 unfolding read_matcher_text
 text_patterns part limit text ms r spells le h =
@@ -160,17 +161,17 @@ text_patterns part limit text ms r spells le h =
     let first : (reading_within part
     (accept_some (read_list text) (refusal_here kinds.BadMatcher))).result ≡ Ok ms = rw read
     refl in
-    let second : (reading_within limit (check_count max_matchers (length ms))).result ≡ Ok tt =
-    rw (check_count_fits max_matchers (length ms) le) refl in
+    let second : (reading_within limit (check_count MAX_MATCHERS (length ms))).result ≡ Ok tt =
+    rw (check_count_fits MAX_MATCHERS (length ms) le) refl in
     let patterns : List Condition → Reading (List Condition) =
     λ ns. reading_within part (check_patterns ns) >>= λ _. accept ns in
     let few : List Condition → Reading (List Condition) =
-    λ ns. reading_within limit (check_count max_matchers (length ns)) >>= λ _. patterns ns in
+    λ ns. reading_within limit (check_count MAX_MATCHERS (length ns)) >>= λ _. patterns ns in
     let third =
     refuses_first (reading_within part (check_patterns ms)) (λ _. accept ms)
     (refusal_within part r) (refuses_within part (check_patterns ms) r h) in
     let behind =
-    refuses_later (reading_within limit (check_count max_matchers (length ms)))
+    refuses_later (reading_within limit (check_count MAX_MATCHERS (length ms)))
     (λ _. patterns ms) tt (refusal_within part r) second third in
     refuses_later (reading_within part
     (accept_some (read_list text) (refusal_here kinds.BadMatcher))) few ms
@@ -192,7 +193,7 @@ text_refused part limit text kind (inr s) =
       | inl long ↦ rw long.1
           (inl (rw (
             list_is_read text s.list s.spelled,
-            check_count_over max_matchers (length s.list) long.0,
+            check_count_over MAX_MATCHERS (length s.list) long.0,
           ) refl))
       | inr short ↦
           let is : kind ≡ pattern_refusal short.1.refused.value = short.1.value.kind_is in

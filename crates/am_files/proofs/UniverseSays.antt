@@ -13,7 +13,8 @@ use Rattle.am_universe.specs.declared.label_fault.LabelFault.{LabelFault}
 use Rattle.am_universe.specs.declared.label_fault.LabelPart.{LabelPart}
 use Rattle.am_universe.specs.Text.{same_text}
 use Rattle.am_universe.specs.declared.label_fault.LabelPart.TheVariants as parts
-use Rattle.am_universe.specs.Universe.{Values, Label, IsLabel, IsUniverse, names, max_labels}
+use Rattle.am_universe.specs.declared.limits.TheConstants.{MAX_LABELS}
+use Rattle.am_universe.specs.Universe.{Values, Label, IsLabel, IsUniverse, names}
 use Rattle.am_universe.specs.Universe.{name_fault, count_fault, value_fault, values_fault}
 use Rattle.am_universe.specs.Universe.{label_values_fault, label_fault, first_fault, fault_at}
 use Rattle.am_universe.proofs.Universes.{IsUniverse-empty}
@@ -197,13 +198,13 @@ label_reads before d label said fits =
 
 -- ---- All labels.
 
-no_label_fault : (u : List Label) (label : Label) → length u < max_labels → LabelFits u label
+no_label_fault : (u : List Label) (label : Label) → length u < MAX_LABELS → LabelFits u label
     → label_fault u label ≡ None
 no_label_fault u label room fits =
-    rw (lt-leb max_labels (length u) room, fits.name, fits.values) refl
+    rw (lt-leb MAX_LABELS (length u) room, fits.name, fits.values) refl
 
 -- a label that was read has no fault, while there is room
-pub no_fault_read : (u : List Label) (d : Data) (label : Label) → length u < max_labels
+pub no_fault_read : (u : List Label) (d : Data) (label : Label) → length u < MAX_LABELS
     → (reading_within (to_item (length u)) (read_next_label u d)).result ≡ Ok label
     → label_fault u label ≡ None
 no_fault_read u d label room h =
@@ -222,7 +223,7 @@ no_fault_fits false over name values h =
 label_fits : (u : List Label) (label : Label) → label_fault u label ≡ None → LabelFits u label
 label_fits u label h =
     let split =
-    no_fault_fits (nat_le max_labels (length u)) _ (name_fault u label.name)
+    no_fault_fits (nat_le MAX_LABELS (length u)) _ (name_fault u label.name)
     (label_values_fault label.values) h in
     record { name = split.0; values = split.1 }
 
@@ -250,13 +251,13 @@ universe_fits before (label ∷ more) is =
 
 -- labels that fit go behind a universe, while there is room
 grown : (before more : List Label) → IsUniverse before → AllFit LabelFits before more
-    → length (before ++ more) ≤ max_labels → IsUniverse (before ++ more)
+    → length (before ++ more) ≤ MAX_LABELS → IsUniverse (before ++ more)
 grown before [] is fits few = subst IsUniverse (sym (append-nil before)) is
 grown before (label ∷ more) is fits few =
-    let room : length before < max_labels =
+    let room : length before < MAX_LABELS =
     omega (arith, length-append before (label ∷ more), few) in
     let next = added_is_universe before label is (no_label_fault before label room fits.0) in
-    let few_next : length ((before ++ label ∷ []) ++ more) ≤ max_labels =
+    let few_next : length ((before ++ label ∷ []) ++ more) ≤ MAX_LABELS =
     rw (append_assoc before (label ∷ []) more) few in
     subst IsUniverse (append_assoc before (label ∷ []) more)
     (grown (before ++ label ∷ []) more next fits.1 few_next)
@@ -270,15 +271,15 @@ universe_says d u h =
     let items = bind_ok ((required_items (codes "labels") d).result) _ u only.2 in
     let labels = within_ok (to_field (codes "labels")) ((read_labels items.0).result) u items.2 in
     let few =
-    bind_ok ((check_count max_labels (length items.0)).result)
+    bind_ok ((check_count MAX_LABELS (length items.0)).result)
     (λ _. (read_items read_next_label [] items.0).result) u labels in
     let found = items_say SaysLabel LabelFits read_next_label label_says [] items.0 u few.2 in
     let said = subst (λ (v : List Label). AllZip SaysLabel items.0 v) (sym found.1) found.2 in
     let fits = subst (λ (v : List Label). AllFit LabelFits [] v) (sym found.1) found.3 in
-    let count : length u ≤ max_labels =
+    let count : length u ≤ MAX_LABELS =
     omega (
       arith,
-      check_count_ok max_labels (length items.0) few.0 few.1,
+      check_count_ok MAX_LABELS (length items.0) few.0 few.1,
       AllZip-long SaysLabel items.0 u said,
     ) in
     record {
@@ -293,7 +294,7 @@ pub universe_reads : (d : Data) (u : List Label) → SaysUniverse d u
     → (read_universe d).result ≡ Ok u
 unfolding read_universe read_labels
 universe_reads d u said =
-    let count : length said.items ≤ max_labels =
+    let count : length said.items ≤ MAX_LABELS =
     omega (arith, said.is_universe.at_most, AllZip-long SaysLabel said.items u said.labels) in
     let all =
     items_read SaysLabel LabelFits read_next_label label_reads [] said.items u said.labels
@@ -301,7 +302,7 @@ universe_reads d u said =
     rw (
       only_fields_read file_fields d said.only,
       required_items_read (codes "labels") d said.items said.is_array,
-      check_count_fits max_labels (length said.items) count,
+      check_count_fits MAX_LABELS (length said.items) count,
       all,
     ) refl
 
@@ -383,7 +384,7 @@ none_universe d =
     none_then (required_items (codes "labels") d) within (none_required_items (codes "labels") d)
     (λ items.
     none_within (to_field (codes "labels")) (read_labels items)
-    (none_then (check_count max_labels (length items)) (λ _. read_items read_next_label [] items)
+    (none_then (check_count MAX_LABELS (length items)) (λ _. read_items read_next_label [] items)
     refl (λ _. none_items read_next_label none_label [] items))))
 
 pub none_universe_file : (bytes : List ℕ) → (read_universe_file bytes).patterns ≡ []

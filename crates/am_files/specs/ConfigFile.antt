@@ -6,7 +6,8 @@ use Rattle.std.specs.Prelude.{option_and_then, position, codes, ⊤}
 use Rattle.std.specs.List.{IsDistinct, AllZip, flat_map}
 use Rattle.serde_json.specs.Data.{Data, string, boolean, object, Members}
 use Rattle.am_universe.specs.Text.{same_text}
-use Rattle.am_labels.specs.Matcher.{Condition, max_matchers}
+use Rattle.am_labels.specs.declared.limits.TheConstants.{MAX_MATCHERS}
+use Rattle.am_labels.specs.Matcher.{Condition}
 use Rattle.am_labels.specs.MatcherText.{Spells}
 use Rattle.am_labels.specs.MatcherRefusals.{have_sound_values}
 use Rattle.am_labels.specs.declared.op.Op.{Op}
@@ -184,7 +185,7 @@ pub record SaysMatchers (fields : MatcherFields) (d : Data) (matchers : List Con
   pub from_match_re : List Condition
   pub match_re : SaysPairs Matches fields.patterns d from_match_re
   pub all : matchers ≡ flat_map (λ ms. ms) lists ++ (from_match ++ from_match_re)
-  pub few : length matchers ≤ max_matchers
+  pub few : length matchers ≤ MAX_MATCHERS
   pub sound : IsTrue (have_sound_values matchers)
 
 -- whether later siblings are tried, which they are not where the field is absent (reference,

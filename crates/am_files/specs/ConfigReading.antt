@@ -11,7 +11,8 @@ use Rattle.am_universe.specs.declared.kind.Kind.TheVariants as kinds
 use Rattle.am_labels.specs.declared.op.Op.{Op}
 use Rattle.am_labels.specs.declared.op.Op.TheVariants.{Equal, Matches}
 use Rattle.am_universe.specs.Text.{same_text}
-use Rattle.am_labels.specs.Matcher.{Condition, max_matchers, takes_pattern}
+use Rattle.am_labels.specs.declared.limits.TheConstants.{MAX_MATCHERS}
+use Rattle.am_labels.specs.Matcher.{Condition, takes_pattern}
 use Rattle.am_labels.specs.PatternCut.{in_profile}
 use Rattle.am_labels.specs.MatcherReading.{read_list}
 use Rattle.am_labels.specs.MatcherRefusals.{has_sound_value, pattern_refusal}
@@ -132,14 +133,14 @@ check_patterns ms =
 -- matchers behind others, of which there are not more than 64 together
 abbrev pub append_matchers : List Condition → List Condition → Reading (List Condition)
 append_matchers before ms =
-    check_count max_matchers (length before + length ms) >>= λ _. accept (before ++ ms)
+    check_count MAX_MATCHERS (length before + length ms) >>= λ _. accept (before ++ ms)
 
 -- The matchers of the text at this part of what is looked at. That one text has too many is refused
 -- at a part that the caller names.
 unfoldable pub read_matcher_text : List ℕ → List ℕ → List ℕ → Reading (List Condition)
 read_matcher_text part limit_part text = do
   ms ← reading_within part (accept_some (read_list text) (refusal_here kinds.BadMatcher))
-  _ ← reading_within limit_part (check_count max_matchers (length ms))
+  _ ← reading_within limit_part (check_count MAX_MATCHERS (length ms))
   _ ← reading_within part (check_patterns ms)
   accept ms
 

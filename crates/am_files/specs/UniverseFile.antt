@@ -5,7 +5,8 @@ use Rattle.std.specs.Prelude.{option_and_then, codes}
 use Rattle.std.specs.Result.{result_err}
 use Rattle.std.specs.List.{AllZip}
 use Rattle.serde_json.specs.Data.{Data, null, string}
-use Rattle.am_universe.specs.Universe.{Values, Label, max_labels, IsUniverse, name_fault}
+use Rattle.am_universe.specs.declared.limits.TheConstants.{MAX_LABELS}
+use Rattle.am_universe.specs.Universe.{Values, Label, IsUniverse, name_fault}
 use Rattle.am_universe.specs.Universe.{count_fault, value_fault}
 use Rattle.am_files.specs.declared.limits.TheConstants.{MAX_FILE_BYTES}
 use Rattle.am_files.specs.Json.{json_of, is_null, field, items_of, HasOnlyFields}
@@ -82,7 +83,7 @@ read_next_label u d = do
 -- the labels of the file
 unfoldable pub read_labels : List Data → Reading (List Label)
 read_labels items = do
-  _ ← check_count max_labels (length items)
+  _ ← check_count MAX_LABELS (length items)
   read_items read_next_label [] items
 
 -- the universe that a value says, or its first fault

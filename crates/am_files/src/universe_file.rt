@@ -5,7 +5,7 @@ ghost use Rattle.std.specs.Prelude.{IfErr, OnOk, string_bytes, option_map};
 ghost use Rattle.serde_json.specs.View.{view};
 ghost use Rattle.am_universe.specs.declared.kind.Kind.TheVariants as kinds;
 ghost use Rattle.am_universe.specs.declared.place.Place.TheVariants as places;
-ghost use Rattle.am_universe.specs.Universe.{label_fault, max_labels};
+ghost use Rattle.am_universe.specs.Universe.{label_fault};
 ghost use Rattle.am_universe.specs.UniverseView.{label_of, texts_of};
 ghost use Rattle.am_files.specs.declared.read_error.ReadError.TheVariants as errors;
 ghost use Rattle.am_files.specs.Pointer.{to_item};
@@ -20,6 +20,7 @@ use crate::json::{
 use crate::pointer::{within_field, within_item};
 use crate::read_error::ReadError;
 use am_labels::{Fault, Kind, Place, Universe};
+use am_universe::limits::MAX_LABELS;
 use serde_json::Value;
 use std::alloc::{AllocError, Global};
 
@@ -82,12 +83,12 @@ fn read_universe_object(alloc: Global, value: &Value) -> Result<Universe, ReadEr
 fn read_labels(alloc: Global, items: &[Value]) -> Result<Universe, ReadError>
     ensures { Gives (λ u. u) result (read_labels (map view items.now)) }
 {
-    check_count(alloc, Universe::MAX_LABELS, items.len())?;
+    check_count(alloc, MAX_LABELS, items.len())?;
     read_each_label(alloc, items)
 }
 
 fn read_each_label(alloc: Global, items: &[Value]) -> Result<Universe, ReadError>
-    requires { length items.now ≤ max_labels }
+    requires { length items.now ≤ MAX_LABELS }
     ensures { Gives (λ u. u) result (read_items read_next_label [] (map view items.now)) }
 {
     let mut universe = Universe::empty(alloc);

@@ -1,7 +1,7 @@
 use Rattle.std.proofs.Common.{[], ◌∷◌, ◌<◌, length, map, refl, length-append, arith}
 use Rattle.std.proofs.lemmas.Result.{err_from_is_err_and}
 use Rattle.serde_json.specs.View.{view}
-use Rattle.am_universe.specs.Universe.{max_labels}
+use Rattle.am_universe.specs.declared.limits.TheConstants.{MAX_LABELS}
 use Rattle.am_universe.specs.UniverseView.{label_of}
 use Rattle.am_files.specs.Reading.{read_items}
 use Rattle.am_files.specs.UniverseFile.{read_next_label}
@@ -46,7 +46,7 @@ pub add-requires : goal.add-requires
 add-requires c =
     let l = c.loop-item in
     let label = c.in_ok-label.label in
-    let room : length l.universe < max_labels =
+    let room : length l.universe < MAX_LABELS =
     omega (arith, l.invariant.count, c.loop-item-test.true, c.requires) in
     no_fault_read l.universe (view c.item-item.result) (label_of label.0 label.1) room
     c.in_ok-label.ensures
