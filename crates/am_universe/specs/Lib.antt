@@ -1,4 +1,5 @@
 pub mod Kind
+pub mod Place
 pub mod Sink
 pub mod Out
 pub mod Text

@@ -1,3 +1,6 @@
+ghost use Rattle.std.specs.Prelude.{◌≡◌};
+ghost use Rattle.am_universe.specs.Place.{place_text};
+
 /// Where a fault stands.
 #[derive(Clone, Copy, Debug, PartialEq, Eq)]
 pub enum Place {
@@ -21,4 +24,24 @@ pub enum Place {
     Output,
     /// Memory.
     Memory,
+}
+
+impl Place {
+    /// The word for the place that the program prints, as `universe`.
+    pub fn text(self) -> &'static str
+        ensures { result.now ≡ place_text self }
+    {
+        match self {
+            Place::Universe => "universe",
+            Place::Config => "config",
+            Place::Silences => "silences",
+            Place::Alerts => "alerts",
+            Place::Instant => "instant",
+            Place::Question => "question",
+            Place::Set => "set",
+            Place::Token => "token",
+            Place::Output => "output",
+            Place::Memory => "memory",
+        }
+    }
 }

@@ -1,0 +1,17 @@
+-- The places where a fault may stand: a text for each. (This project's own.)
+use Rattle.std.specs.Prelude.{ℕ, List, codes}
+use Rattle.am_universe.specs.declared.place.Place.{Place}
+use Rattle.am_universe.specs.declared.place.Place.TheVariants.{Universe, Config, Silences, Alerts, Instant, Question, Set, Token, Output, Memory}
+
+-- the word for a place that the program prints
+abbrev pub place_text : Place → List ℕ
+place_text Universe = codes "universe"
+place_text Config = codes "config"
+place_text Silences = codes "silences"
+place_text Alerts = codes "alerts"
+place_text Instant = codes "instant"
+place_text Question = codes "question"
+place_text Set = codes "set"
+place_text Token = codes "token"
+place_text Output = codes "output"
+place_text Memory = codes "memory"
