@@ -8,21 +8,8 @@ use Rattle.am_universe.specs.declared.fault.Fault.{Fault}
 use Rattle.am_universe.specs.declared.kind.Kind.{Kind}
 use Rattle.am_universe.specs.declared.kind.Kind.TheVariants as kinds
 use Rattle.am_universe.specs.declared.place.Place.{Place}
-use Rattle.am_universe.specs.declared.place.Place.TheVariants as places
 use Rattle.am_universe.specs.Kind.{text_of}
-
--- the word for a place
-abbrev pub place_text : Place → List ℕ
-place_text places.Universe = codes "universe"
-place_text places.Config = codes "config"
-place_text places.Silences = codes "silences"
-place_text places.Alerts = codes "alerts"
-place_text places.Instant = codes "instant"
-place_text places.Question = codes "question"
-place_text places.Set = codes "set"
-place_text places.Token = codes "token"
-place_text places.Output = codes "output"
-place_text places.Memory = codes "memory"
+use Rattle.am_universe.specs.Place.{place_text}
 
 -- a byte of a pointer: `\` is written `\\`, a line feed `\n`
 abbrev pub pointer_byte_text : ℕ → List ℕ

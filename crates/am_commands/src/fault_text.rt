@@ -1,9 +1,9 @@
 ghost use Rattle.std.specs.Prelude.{◌≡◌, IfOk};
 ghost use Rattle.am_universe.specs.Sink.{Writes};
-ghost use Rattle.am_commands.specs.FaultText.{fault_text, has_no_place, place_part, place_text};
+ghost use Rattle.am_commands.specs.FaultText.{fault_text, has_no_place, place_part};
 ghost use Rattle.am_commands.specs.FaultText.{pointer_byte_text, pointer_part, status_of};
 
-use am_labels::{Fault, History, Kind, Out, Place, Sink, put_all, put_str};
+use am_labels::{Fault, History, Kind, Out, Sink, put_all, put_str};
 use std::alloc::{AllocError, Global};
 use std::io::Write;
 
@@ -26,7 +26,7 @@ fn write_place_part<W: Sink>(fault: &Fault, out: &mut W) -> Result<(), Kind>
     if has_no_place(fault.kind) {
         return Ok(());
     }
-    put_str(out, place_text(fault.place))?;
+    put_str(out, fault.place.text())?;
     put_all(out, b": ")?;
     write_pointer(fault.pointer.as_str(), out)
 }
@@ -60,24 +60,6 @@ fn write_pointer_byte<W: Sink>(byte: u8, out: &mut W) -> Result<(), Kind>
         b'\\' => put_all(out, b"\\\\"),
         b'\n' => put_all(out, b"\\n"),
         _ => put_all(out, &[byte]),
-    }
-}
-
-/// The word for a place.
-fn place_text(place: Place) -> &'static str
-    ensures { result.now ≡ place_text place }
-{
-    match place {
-        Place::Universe => "universe",
-        Place::Config => "config",
-        Place::Silences => "silences",
-        Place::Alerts => "alerts",
-        Place::Instant => "instant",
-        Place::Question => "question",
-        Place::Set => "set",
-        Place::Token => "token",
-        Place::Output => "output",
-        Place::Memory => "memory",
     }
 }
 

@@ -1,7 +1,8 @@
 use Rattle.std.proofs.Common.{◌≡◌, ℕ, Bool, false, cond, List, [], ◌++◌, ap, ◌∙◌, sym, codes, refl, string_bytes}
 use Rattle.am_universe.specs.declared.fault.Fault.{Fault}
 use Rattle.am_universe.proofs.Writing.{◌⟩◌, fails, writes_as}
-use Rattle.am_commands.specs.FaultText.{place_text, pointer_part, has_no_place, place_part}
+use Rattle.am_universe.specs.Place.{place_text}
+use Rattle.am_commands.specs.FaultText.{pointer_part, has_no_place, place_part}
 use Rattle.am_commands.proofs.fault_text.write_place_part.Goals as goal
 
 -- what is written where a fault has a place
@@ -17,12 +18,12 @@ pub returns-in_err-put_all : goal.returns-in_err-put_all
 returns-in_err-put_all g c =
     let fault = c.args.fault.now in
     let placed = sym c.has_no_place.ensures ∙ c.if-has_no_place.false in
-    writes_as (with_place fault c.place_text.result.now (string_bytes fault.pointer) placed c.place_text.ensures refl)
+    writes_as (with_place fault c.text.result.now (string_bytes fault.pointer) placed c.text.ensures refl)
     (c.in_ok-put_str.ensures.ok ⟩ fails _ c.from_residual-in_err-put_all.ensures c.in_err-put_all.ensures)
 
 pub returns : goal.returns
 returns g c =
     let fault = c.args.fault.now in
     let placed = sym c.has_no_place.ensures ∙ c.if-has_no_place.false in
-    writes_as (with_place fault c.place_text.result.now c.as_str.result.now placed c.place_text.ensures c.as_str.ensures.value)
+    writes_as (with_place fault c.text.result.now c.as_str.result.now placed c.text.ensures c.as_str.ensures.value)
     (c.in_ok-put_str.ensures.ok ⟩ c.in_ok-put_all.ensures.ok ⟩ c.write_pointer.ensures)
