@@ -11,40 +11,8 @@ use Rattle.am_universe.specs.declared.label_fault.LabelPart.{LabelPart}
 use Rattle.am_universe.specs.declared.label_fault.LabelPart.TheVariants as parts
 use Rattle.std.specs.List.{AllByRecursion, IsDistinct, list_any}
 use Rattle.am_universe.specs.Text.{same_text}
+use Rattle.am_universe.proofs.DistinctLists.{all_push, all_pushed, distinct_none, distinct_push, distinct_pushed, distinct_front}
 use Rattle.am_universe.specs.Universe.{Label, Values, IsLabel, IsUniverse, names, is_label_name, same_value, is_empty_text, name_fault, count_fault, value_fault, values_fault, label_values_fault, label_fault, first_fault, fault_at}
-
--- ---- Distinct items, with one more.
-
-or_false : (a b : Bool) → (a || b) ≡ false → (a ≡ false) × (b ≡ false)
-or_false true b h = cc
-or_false false b h = (refl, h)
-
-all_push : {A : Type 0} (P : A → Type 0) (xs : List A) (y : A) → AllByRecursion P xs → P y → AllByRecursion P (xs ++ y ∷ [])
-all_push P [] y all here = (here, tt)
-all_push P (x ∷ xs) y all here = (all.0, all_push P xs y all.1 here)
-
-all_pushed : {A : Type 0} (P : A → Type 0) (xs : List A) (y : A) → AllByRecursion P (xs ++ y ∷ []) → AllByRecursion P xs × P y
-all_pushed P [] y all = (tt, all.0)
-all_pushed P (x ∷ xs) y all = let rest = all_pushed P xs y all.1 in ((all.0, rest.0), rest.1)
-
-distinct_none : {A : Type 0} (e : A → A → Bool) → IsDistinct e []
-unfolding IsDistinct
-distinct_none e = tt
-
-distinct_push : {A : Type 0} (e : A → A → Bool) (xs : List A) (y : A) → IsDistinct e xs → list_any (λ z. e z y) xs ≡ false → IsDistinct e (xs ++ y ∷ [])
-unfolding IsDistinct
-distinct_push e [] y d none = (tt, tt)
-distinct_push e (x ∷ xs) y d none =
-    let split = or_false (e x y) (list_any (λ z. e z y) xs) none in
-    (all_push (λ z. e x z ≡ false) xs y d.0 split.0, distinct_push e xs y d.1 split.1)
-
-distinct_pushed : {A : Type 0} (e : A → A → Bool) (xs : List A) (y : A) → IsDistinct e (xs ++ y ∷ []) → IsDistinct e xs × (list_any (λ z. e z y) xs ≡ false)
-unfolding IsDistinct
-distinct_pushed e [] y d = (tt, refl)
-distinct_pushed e (x ∷ xs) y d =
-    let here = all_pushed (λ z. e x z ≡ false) xs y d.0 in
-    let rest = distinct_pushed e xs y d.1 in
-    ((here.0, rest.0), ap (λ b. b || list_any (λ z. e z y) xs) here.1 ∙ rest.1)
 
 -- ---- Values.
 
@@ -77,11 +45,6 @@ values_fine before (value ∷ values) d h =
     let fine = value_fine before value (nothing_at (parts.Value (length before)) (value_fault before value) split.0) in
     let rest = values_fine (before ++ value ∷ []) values (distinct_push same_value before value d fine.1) split.1 in
     record { texts = (fine.0, rest.texts); distinct = subst (IsDistinct same_value) (append_assoc before (value ∷ []) values) rest.distinct }
-
-distinct_front : {A : Type 0} (e : A → A → Bool) (xs ys : List A) → IsDistinct e (xs ++ ys) → IsDistinct e xs
-distinct_front e xs [] d = subst (IsDistinct e) (append-nil xs) d
-distinct_front e xs (y ∷ ys) d =
-    (distinct_pushed e xs y (distinct_front e (xs ++ y ∷ []) ys (subst (IsDistinct e) (sym (append_assoc xs (y ∷ []) ys)) d))).0
 
 pub fine_values : (before values : Values) → AreFine before values → values_fault before values ≡ None
 fine_values before [] fine = refl

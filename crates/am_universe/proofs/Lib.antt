@@ -4,6 +4,7 @@ pub mod Stored
 pub mod LabelMaps
 pub mod Wholes
 pub mod Members
+pub mod DistinctLists
 pub mod Choices
 pub mod PairsOf
 pub mod Universes
