@@ -13,7 +13,7 @@ use Rattle.am_universe.specs.Choice.{counted_from, choices, admits, IsWhole}
 use Rattle.am_universe.proofs.Members.{IsIn, IsIn-from_Contains, Contains-from_IsIn, IsIn-left, IsIn-right, IsIn-split, IsIn-map, IsIn-unmap, IsStrictlySortedBy-append, IsStrictlySortedBy-map}
 
 -- each of these choices behind each of n positions from `first`
-abbrev behind : ℕ → ℕ → List (List ℕ) → List (List ℕ)
+abbrev pub behind : ℕ → ℕ → List (List ℕ) → List (List ℕ)
 behind first n cs = flat_map (λ p. map (λ c. p ∷ c) cs) (counted_from first n)
 
 -- a choice that begins with one of n positions from `first`, and goes on with one of these
@@ -39,7 +39,7 @@ into_behind first (suc n) cs p c low high i = elim (eq-or-lt_of_le low) [
   | inr l ↦ IsIn-right (map (λ c. first ∷ c) cs) (behind (suc first) n cs) (p ∷ c) (into_behind (suc first) n cs p c l (omega arith) i)
 ]
 
-whole_from_in : (sizes c : List ℕ) → IsIn (choices sizes) c → IsWhole sizes c
+pub whole_from_in : (sizes c : List ℕ) → IsIn (choices sizes) c → IsWhole sizes c
 whole_from_in [] c (inl e) = subst (IsWhole []) e (refl, refl)
 whole_from_in [] c (inr h) = absurd h
 whole_from_in (n ∷ sizes) c h =

@@ -6,6 +6,7 @@ pub mod Wholes
 pub mod Members
 pub mod DistinctLists
 pub mod Choices
+pub mod Completions
 pub mod PairsOf
 pub mod Universes
 pub mod AddedLabels

@@ -7,6 +7,7 @@ pub mod Universe
 pub mod UniverseView
 pub mod Choice
 pub mod ChoiceView
+pub mod Completions
 pub mod LabelSet
 pub mod LabelSetView
 pub mod SetText

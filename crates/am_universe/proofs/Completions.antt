@@ -1,0 +1,136 @@
+-- The whole choices that begin with a prefix, as a walk from label to label meets them.
+use Rattle.std.proofs.Common.{◌≡◌, ◌≢◌, ℕ, zero, suc, ◌+◌, ◌<◌, ◌≤◌, Bool, true, false, cond, List, [], ◌∷◌, ◌++◌, length, map, slice_index, nat_lt, nat_eq, ◌&&◌, inl, inr, ap, ◌∙◌, refl, arith, add-one, eq-eqb}
+use Rattle.std.specs.List.{flat_map, AllByRecursion, filter, starts_with}
+use Rattle.std.proofs.lemmas.List.{append-nil, map-append}
+use Rattle.std.proofs.lemmas.List.Elements.{filter-append}
+use Rattle.std.proofs.lemmas.Grind.{flat_map-append}
+use Rattle.std.proofs.lemmas.Bool.{and_parts, ne_eqb}
+use Rattle.std.proofs.lemmas.Bool.Decides.{nat_tests}
+use Rattle.std.proofs.Math.Nat.{eq-or-lt_of_le}
+use Rattle.am_universe.specs.Choice.{counted_from, choices, admits, IsWhole}
+use Rattle.am_universe.specs.Completions.{completions}
+use Rattle.am_universe.proofs.Members.{AllByRecursion-each}
+use Rattle.am_universe.proofs.Choices.{behind, whole_from_in}
+
+-- the whole choices below a prefix, label by label: its completions, where the sizes admit it
+abbrev pub below : List ℕ → List ℕ → List (List ℕ)
+below sizes [] = choices sizes
+below [] (p ∷ prefix) = []
+below (size ∷ sizes) (p ∷ prefix) = map (λ c. p ∷ c) (below sizes prefix)
+
+-- ---- What stands below a prefix are its completions.
+
+-- those of a list of choices that begin with a prefix
+abbrev beginning : List ℕ → List (List ℕ) → List (List ℕ)
+beginning prefix cs = filter (λ c. starts_with nat_eq c prefix) cs
+
+all_kept : {X : Type 0} (xs : List X) → filter (λ x. true) xs ≡ xs
+all_kept [] = refl
+all_kept (x ∷ xs) = ap (λ l. x ∷ l) (all_kept xs)
+
+none_kept : {X : Type 0} (xs : List X) → filter (λ x. false) xs ≡ []
+none_kept [] = refl
+none_kept (x ∷ xs) = none_kept xs
+
+map_of_cond : {X Y : Type 0} (f : X → Y) (b : Bool) (x : X) (xs : List X) → cond b (f x ∷ map f xs) (map f xs) ≡ map f (cond b (x ∷ xs) xs)
+map_of_cond f true x xs = refl
+map_of_cond f false x xs = refl
+
+filter_of_map : {X Y : Type 0} (f : X → Y) (test : Y → Bool) (xs : List X) → filter test (map f xs) ≡ map f (filter (λ x. test (f x)) xs)
+filter_of_map f test [] = refl
+filter_of_map f test (x ∷ xs) = ap (λ l. cond (test (f x)) (f x ∷ l) l) (filter_of_map f test xs) ∙ map_of_cond f (test (f x)) x (filter (λ x. test (f x)) xs)
+
+-- behind one position, those that begin with a position and a prefix
+at_one : (p q : ℕ) (prefix : List ℕ) (cs : List (List ℕ)) → beginning (p ∷ prefix) (map (λ c. q ∷ c) cs) ≡ map (λ c. q ∷ c) (filter (λ c. nat_eq p q && starts_with nat_eq c prefix) cs)
+at_one p q prefix cs = filter_of_map (λ c. q ∷ c) (λ c. starts_with nat_eq c (p ∷ prefix)) cs
+
+at_same : (p : ℕ) (prefix : List ℕ) (cs : List (List ℕ)) → beginning (p ∷ prefix) (map (λ c. p ∷ c) cs) ≡ map (λ c. p ∷ c) (beginning prefix cs)
+at_same p prefix cs = at_one p p prefix cs ∙ ap (λ b. map (λ c. p ∷ c) (filter (λ c. b && starts_with nat_eq c prefix) cs)) (eq-eqb p p refl)
+
+at_other : (p q : ℕ) (prefix : List ℕ) (cs : List (List ℕ)) → p ≢ q → beginning (p ∷ prefix) (map (λ c. q ∷ c) cs) ≡ []
+at_other p q prefix cs other =
+    at_one p q prefix cs ∙ ap (λ b. map (λ c. q ∷ c) (filter (λ c. b && starts_with nat_eq c prefix) cs)) (ne_eqb p q other) ∙ ap (map (λ c. q ∷ c)) (none_kept cs)
+
+-- behind so many positions: none if the position stands before them, and those behind it if it is one of them
+at_none : (p first count : ℕ) (prefix : List ℕ) (cs : List (List ℕ)) → p < first → beginning (p ∷ prefix) (behind first count cs) ≡ []
+at_none p first zero prefix cs h = refl
+at_none p first (suc count) prefix cs h =
+    filter-append (λ c. starts_with nat_eq c (p ∷ prefix)) (map (λ c. first ∷ c) cs) (behind (suc first) count cs)
+    ∙ rw (at_other p first prefix cs (λ e. omega (arith, h, e)), at_none p (suc first) count prefix cs (omega arith)) refl
+
+at_its_own : (p first count : ℕ) (prefix : List ℕ) (cs : List (List ℕ)) → first ≤ p → p < first + count → beginning (p ∷ prefix) (behind first count cs) ≡ map (λ c. p ∷ c) (beginning prefix cs)
+at_its_own p first zero prefix cs low high = absurd (omega arith)
+at_its_own p first (suc count) prefix cs low high =
+    filter-append (λ c. starts_with nat_eq c (p ∷ prefix)) (map (λ c. first ∷ c) cs) (behind (suc first) count cs)
+    ∙ elim (eq-or-lt_of_le low) [
+      | inl e ↦ rw (e, at_same p prefix cs, at_none p (suc p) count prefix cs (omega arith)) (append-nil (map (λ c. p ∷ c) (beginning prefix cs)))
+      | inr l ↦ rw (at_other p first prefix cs (λ e. omega (arith, l, e)), at_its_own p (suc first) count prefix cs l (omega arith)) refl
+    ]
+
+pub completions_are_below : (sizes prefix : List ℕ) → admits sizes prefix ≡ true → completions sizes prefix ≡ below sizes prefix
+completions_are_below sizes [] a = all_kept (choices sizes)
+completions_are_below [] (p ∷ prefix) a = cc
+completions_are_below (size ∷ sizes) (p ∷ prefix) a =
+    let parts = and_parts (nat_lt p size) (admits sizes prefix) a in
+    let high : p < 0 + size = grind (arith, nat_tests, parts.0) in
+    at_its_own p 0 size prefix (choices sizes) (omega arith) high ∙ ap (map (λ c. p ∷ c)) (completions_are_below sizes prefix parts.1)
+
+-- ---- What stands below a prefix, by the next position.
+
+-- a whole choice stands alone below itself
+below_whole : (sizes c : List ℕ) → length c ≡ length sizes → below sizes c ≡ c ∷ []
+below_whole [] [] e = refl
+below_whole [] (p ∷ c) e = absurd (omega arith)
+below_whole (size ∷ sizes) [] e = absurd (omega arith)
+below_whole (size ∷ sizes) (p ∷ c) e = ap (map (λ d. p ∷ d)) (below_whole sizes c (omega arith))
+
+-- and is its own one completion
+pub completions_of_whole : (sizes c : List ℕ) → IsWhole sizes c → completions sizes c ≡ c ∷ []
+completions_of_whole sizes c w = completions_are_below sizes c w.0 ∙ below_whole sizes c w.1
+
+map_of_flat_map : {X : Type 0} (p : ℕ) (f : X → List (List ℕ)) (xs : List X) → map (λ c. p ∷ c) (flat_map f xs) ≡ flat_map (λ x. map (λ c. p ∷ c) (f x)) xs
+map_of_flat_map p f [] = refl
+map_of_flat_map p f (x ∷ xs) = map-append (λ c. p ∷ c) (f x) (flat_map f xs) ∙ ap (λ t. map (λ c. p ∷ c) (f x) ++ t) (map_of_flat_map p f xs)
+
+-- below a prefix stands what is below the prefixes that are longer by one position
+pub below_by_next : (sizes prefix : List ℕ) → length prefix < length sizes
+    → below sizes prefix ≡ flat_map (λ p. below sizes (prefix ++ p ∷ [])) (counted_from 0 (slice_index sizes (length prefix)))
+below_by_next [] prefix h = absurd (omega arith)
+below_by_next (size ∷ sizes) [] h = refl
+below_by_next (size ∷ sizes) (q ∷ prefix) h =
+    ap (map (λ c. q ∷ c)) (below_by_next sizes prefix (omega arith)) ∙ map_of_flat_map q (λ p. below sizes (prefix ++ p ∷ [])) _
+
+-- one number more
+pub counted_from-suc : (first count : ℕ) → counted_from first (suc count) ≡ counted_from first count ++ (first + count) ∷ []
+counted_from-suc first zero = ap (λ n. n ∷ []) (omega arith)
+counted_from-suc first (suc count) = ap (λ t. first ∷ t) (counted_from-suc (suc first) count ∙ ap (λ n. counted_from (suc first) count ++ n ∷ []) (omega arith))
+
+pub flat_map_counted : {X : Type 0} (f : ℕ → List X) (count : ℕ) → flat_map f (counted_from 0 (count + 1)) ≡ flat_map f (counted_from 0 count) ++ f count
+flat_map_counted f count =
+    ap (λ n. flat_map f (counted_from 0 n)) (add-one count) ∙ ap (flat_map f) (counted_from-suc 0 count ∙ ap (λ n. counted_from 0 count ++ n ∷ []) (omega arith))
+    ∙ flat_map-append f (counted_from 0 count) (count ∷ []) ∙ ap (λ t. flat_map f (counted_from 0 count) ++ t) (append-nil (f count))
+
+-- a prefix that is admitted, with one position more
+admitted_first : (p size : ℕ) (b : Bool) → p < size → b ≡ true → (nat_lt p size && b) ≡ true
+admitted_first p size b h e = grind (arith, nat_tests)
+
+pub admits_next : (sizes prefix : List ℕ) (p : ℕ) → admits sizes prefix ≡ true → length prefix < length sizes → p < slice_index sizes (length prefix) → admits sizes (prefix ++ p ∷ []) ≡ true
+admits_next [] prefix p a h k = absurd (omega arith)
+admits_next (size ∷ sizes) [] p a h k = admitted_first p size true k refl
+admits_next (size ∷ sizes) (q ∷ prefix) p a h k =
+    let parts = and_parts (nat_lt q size) (admits sizes prefix) a in
+    let rest = admits_next sizes prefix p parts.1 (omega arith) k in
+    rw (parts.0, rest) refl
+
+-- ---- Every choice of the list is whole.
+
+pub choices_are_whole : (sizes : List ℕ) → AllByRecursion (IsWhole sizes) (choices sizes)
+choices_are_whole sizes = AllByRecursion-each (IsWhole sizes) (choices sizes) (whole_from_in sizes)
+
+all_cond : {X : Type 0} (P : X → Type 0) (b : Bool) (x : X) (xs : List X) → P x → AllByRecursion P xs → AllByRecursion P (cond b (x ∷ xs) xs)
+all_cond P true x xs h all = (h, all)
+all_cond P false x xs h all = all
+
+pub all_filter : {X : Type 0} (P : X → Type 0) (test : X → Bool) (xs : List X) → AllByRecursion P xs → AllByRecursion P (filter test xs)
+all_filter P test [] all = tt
+all_filter P test (x ∷ xs) all = all_cond P (test x) x (filter test xs) all.0 (all_filter P test xs all.1)
