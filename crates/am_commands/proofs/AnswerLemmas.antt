@@ -9,8 +9,8 @@ use Rattle.am_universe.specs.Universe.{Label, sizes}
 use Rattle.am_universe.specs.Choice.{counted_from, choices, admits, IsWhole}
 use Rattle.am_universe.proofs.Members.{IsIn, Contains-from_IsIn, AllByRecursion-each}
 use Rattle.am_universe.proofs.Choices.{choices_whole}
-use Rattle.am_commands.specs.Completions.{completions}
-use Rattle.am_commands.proofs.CompletionLemmas.{below, completions_are_below, completions_of_whole, below_by_next, flat_map_counted, admits_next}
+use Rattle.am_universe.specs.Completions.{completions}
+use Rattle.am_universe.proofs.Completions.{below, completions_are_below, completions_of_whole, below_by_next, flat_map_counted, admits_next}
 use Rattle.am_commands.proofs.QuestionLemmas.{passes_from_kept}
 
 pub length-sizes : (u : List Label) → length (sizes u) ≡ length u

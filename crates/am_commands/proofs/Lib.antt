@@ -1,3 +1,2 @@
-pub mod CompletionLemmas
 pub mod AnswerLemmas
 pub mod QuestionLemmas

@@ -1,6 +1,5 @@
 pub mod Trailer
 pub mod PageText
-pub mod Completions
 pub mod Question
 pub mod QuestionText
 pub mod FaultText

@@ -3,7 +3,7 @@ ghost use Rattle.am_universe.specs.Universe.{sizes};
 ghost use Rattle.am_universe.specs.Choice.{IsWhole, admits};
 ghost use Rattle.am_commands.specs.Question.{answers, is_answer};
 ghost use Rattle.std.specs.List.{AllByRecursion, filter};
-ghost use Rattle.am_commands.specs.Completions.{completions};
+ghost use Rattle.am_universe.specs.Completions.{completions};
 
 use am_labels::{Choice, Matchers, Universe, set_of};
 use std::alloc::{AllocError, Global};
