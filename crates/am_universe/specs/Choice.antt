@@ -2,6 +2,7 @@
 -- (This project's own.)
 use Rattle.std.specs.Prelude.{◌≡◌, ℕ, zero, suc, List, [], ◌∷◌, length, map, Bool, true, false, nat_lt, ◌&&◌, IsTrue}
 use Rattle.std.specs.List.{flat_map}
+use Rattle.am_universe.specs.Universe.{Label, sizes}
 
 -- so many numbers, counted up from the first
 abbrev pub counted_from : ℕ → ℕ → List ℕ
@@ -13,6 +14,10 @@ counted_from first (suc count) = first ∷ counted_from (suc first) count
 abbrev pub choices : List ℕ → List (List ℕ)
 choices [] = [] ∷ []
 choices (size ∷ sizes) = flat_map (λ p. map (λ c. p ∷ c) (choices sizes)) (counted_from 0 size)
+
+-- all choices of a universe
+abbrev pub all_choices : List Label → List (List ℕ)
+all_choices u = choices (sizes u)
 
 -- no longer than the list of labels, and each position below its label's size
 abbrev pub admits : List ℕ → List ℕ → Bool
