@@ -14,7 +14,7 @@ use Rattle.am_universe.proofs.Choices.{choices_whole, choices_sorted}
 use Rattle.am_labels.specs.MatcherText.{Spells}
 use Rattle.am_labels.proofs.BraceTokens.{trimmed_token}
 use Rattle.am_labels.proofs.MatcherTextWhole.{one_list}
-use Rattle.am_universe.specs.Completions.{all_choices}
+use Rattle.am_universe.specs.Choice.{all_choices}
 use Rattle.am_commands.specs.Question.{Question, satisfies, is_answer, answers}
 use Rattle.am_commands.specs.QuestionText.{ReadsQuestion}
 

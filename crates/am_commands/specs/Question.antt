@@ -2,9 +2,9 @@
 use Rattle.std.specs.Prelude.{ℕ, List, Bool}
 use Rattle.std.specs.List.{filter}
 use Rattle.am_universe.specs.Universe.{Label}
+use Rattle.am_universe.specs.Choice.{all_choices}
 use Rattle.am_universe.specs.LabelSet.{LabelMap, label_set_of}
 use Rattle.am_labels.specs.Matcher.{Condition, all_hold}
-use Rattle.am_universe.specs.Completions.{all_choices}
 
 -- A question: a list of matchers.
 abbrev pub Question : Type 0
