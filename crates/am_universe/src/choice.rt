@@ -3,12 +3,13 @@ ghost use Rattle.std.specs.Prelude.{◌≡◌, ◌==◌, ◌<◌, ◌≤◌, Lis
 use crate::limits::MAX_POSITIONS;
 use std::marker::Model;
 
+/// A position among the values of a label. Positions count from 0.
+pub type Position = u8;
+
 /// A list of at most [`MAX_POSITIONS`] positions, one for each label of a universe: a whole choice, or a prefix of one.
-///
-/// Positions count from 0.
-#[derive(Clone, Copy)]
+#[derive(Clone, Copy, Debug)]
 pub struct Choice {
-    positions: [u8; MAX_POSITIONS],
+    positions: [Position; MAX_POSITIONS],
     len: usize,
 }
 
@@ -54,7 +55,7 @@ impl Choice {
     }
 
     /// The position at `i`.
-    pub fn get(&self, i: usize) -> u8
+    pub fn get(&self, i: usize) -> Position
         requires { i < length self.now }
         ensures { result ≡ slice_index self.now i }
     {
@@ -62,7 +63,7 @@ impl Choice {
     }
 
     /// Adds a position at the end.
-    pub fn push(&mut self, position: u8)
+    pub fn push(&mut self, position: Position)
         requires { length self.old < MAX_POSITIONS }
         ensures { self.new ≡ self.old ++ position ∷ [] }
     {
@@ -71,7 +72,7 @@ impl Choice {
     }
 
     /// Takes the last position off. With none there is `None`, and nothing changes.
-    pub fn pop(&mut self) -> Option<u8>
+    pub fn pop(&mut self) -> Option<Position>
         ensures last { IfSome result (λ position. self.old ≡ self.new ++ position ∷ []) }
         ensures none { IfNone result ((self.old ≡ []) × (self.new ≡ [])) }
     {
@@ -83,4 +84,25 @@ impl Choice {
         self.positions[self.len] = 0;
         Some(position)
     }
+}
+
+// Two choices are the same where their positions are, one by one.
+impl PartialEq for Choice {
+    ghost use Rattle.std.specs.Cmp.{partial_equiv_from_equiv};
+    ghost use Rattle.std.specs.Cmp.Lexicographic.{nat_list_eq_equiv};
+    ghost use Rattle.am_universe.specs.Text.{same_text};
+
+    ghost eq = { same_text };
+
+    ghost laws = { partial_equiv_from_equiv nat_list_eq_equiv };
+
+    fn eq(&self, other: &Choice) -> bool {
+        self.positions[..self.len] == other.positions[..other.len]
+    }
+}
+
+impl Eq for Choice {
+    ghost use Rattle.std.specs.Cmp.Lexicographic.{nat_list_eq_equiv};
+
+    ghost laws = { nat_list_eq_equiv };
 }

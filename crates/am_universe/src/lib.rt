@@ -34,7 +34,7 @@ mod choice;
 mod label_name;
 mod universe;
 
-pub use choice::Choice;
+pub use choice::{Choice, Position};
 pub use label_name::{begins_label_name, continues_label_name};
 pub use universe::Universe;
 
