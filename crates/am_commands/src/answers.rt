@@ -5,7 +5,7 @@ ghost use Rattle.am_commands.specs.Question.{answers, is_answer};
 ghost use Rattle.std.specs.List.{AllByRecursion, filter};
 ghost use Rattle.am_universe.specs.Completions.{completions};
 
-use am_labels::{Choice, Matchers, Universe, set_of};
+use am_labels::{Choice, Matchers, Position, Universe, set_of};
 use std::alloc::{AllocError, Global};
 
 /// The whole choices, in declared order, whose label sets satisfy the question. An `Err` only where
@@ -42,7 +42,7 @@ fn add_answers(
     }
     for position in 0..universe.size(prefix.len()) {
         let mut longer = prefix;
-        longer.push(position as u8);
+        longer.push(position as Position);
         add_answers(alloc, universe, question, longer, found)?;
     }
     Ok(())
