@@ -5,6 +5,7 @@ pub mod Pattern
 pub mod PatternView
 pub mod Matcher
 pub mod MatcherText
+pub mod QuoteState
 pub mod MatcherReading
 pub mod MatcherRefusals
 pub mod SetReading

@@ -3,6 +3,8 @@
 ghost use Rattle.std.specs.Prelude.{◌≡◌, ◌<◌, ℕ, List, length, IfSome, IfNone};
 ghost use Rattle.am_labels.specs.BraceToken.{first_closing, brace_len, IsBraceToken};
 
+use crate::quotes::QuoteState;
+
 /// The length in bytes of the brace token that a text begins with: from its `{` to the first `}` outside quoted parts,
 /// which are those of a matcher text. `None` where it begins with no `{`, or no such `}` follows.
 pub fn brace_len(text: &str) -> Option<usize>
@@ -20,17 +22,12 @@ fn first_closing(text: &[u8]) -> Option<usize>
     ensures place { result ≡ first_closing text.now }
     ensures within { IfSome result (λ i. i < length text.now) }
 {
-    // Whether an odd number of backslashes stands directly before the byte, and whether it is in a quoted part.
-    let mut escaped = false;
-    let mut quoted = false;
+    let mut state = QuoteState::start();
     for (i, byte) in text.iter().enumerate() {
-        if *byte == b'}' && !quoted {
+        if *byte == b'}' && !state.is_quoted() {
             return Some(i);
         }
-        if *byte == b'"' && !escaped {
-            quoted = !quoted;
-        }
-        escaped = *byte == b'\\' && !escaped;
+        state = state.next(*byte);
     }
     None
 }

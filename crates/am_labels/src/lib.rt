@@ -34,6 +34,7 @@ pub use matchers::Matchers;
 // Their texts.
 mod matcher_text;
 mod parse;
+mod quotes;
 
 pub use parse::{parse_matchers, parse_set};
 

@@ -9,6 +9,7 @@ ghost use Rattle.am_labels.specs.MatcherText.{Spells, is_blank, begins_name, con
 ghost use Rattle.am_labels.specs.MatcherReading.{Gives, condition_of, conditions_of, trimmed_start, trimmed_end, first_quote, read_body, read_operator, read_name, read_piece, read_each, read_list};
 
 use crate::Op;
+use crate::quotes::QuoteState;
 use am_universe::{Kind, begins_label_name, continues_label_name};
 use std::alloc::{AllocError, Global};
 
@@ -65,18 +66,13 @@ fn read_pieces(alloc: Global, text: &[u8]) -> Result<Vec<Spelled>, Kind>
 {
     let mut list = Vec::new(alloc);
     let mut start = 0;
-    // Whether an odd number of backslashes stands directly before the byte, and whether it is in a quoted part.
-    let mut escaped = false;
-    let mut quoted = false;
+    let mut state = QuoteState::start();
     for (i, byte) in text.iter().enumerate() {
-        if *byte == b',' && !quoted {
+        if *byte == b',' && !state.is_quoted() {
             list.push(read_piece(alloc, &text[start..i])?)?;
             start = i + 1;
         }
-        if *byte == b'"' && !escaped {
-            quoted = !quoted;
-        }
-        escaped = *byte == b'\\' && !escaped;
+        state = state.next(*byte);
     }
     let last = &text[start..];
     if !is_blank(last) {
@@ -202,12 +198,12 @@ fn first_quote(text: &[u8]) -> usize
     ensures at_most { result ≤ length text.now }
     ensures first { result ≡ first_quote text.now }
 {
-    let mut escaped = false;
+    let mut state = QuoteState::start();
     for (i, byte) in text.iter().enumerate() {
-        if *byte == b'"' && !escaped {
+        if state.is_quote(*byte) {
             return i;
         }
-        escaped = *byte == b'\\' && !escaped;
+        state = state.next(*byte);
     }
     text.len()
 }

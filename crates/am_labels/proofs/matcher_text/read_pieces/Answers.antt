@@ -1,18 +1,16 @@
-use Rattle.std.proofs.Common.{◌≡◌, arith, rules, true, false, get_or, ◌<◌}
+use Rattle.std.proofs.Common.{◌≡◌, refl, arith, true, false, get_or, ◌<◌}
 use Rattle.std.proofs.lemmas.Grind.{common_steps}
 use Rattle.std.proofs.lemmas.List.{take_rest}
 use Rattle.std.proofs.lemmas.Result.{err_from_is_err_and}
 use Rattle.std.proofs.lemmas.Str.{IsUtf8-between, IsUtf8-drop, IsCharBoundary-start, IsCharBoundary-before_ascii, IsCharBoundary-after_ascii}
 use Rattle.am_labels.specs.MatcherText.{is_cut}
-use Rattle.am_labels.proofs.MatcherTextPlaces.{escaped_next, quoted_next}
 use Rattle.am_labels.proofs.MatcherTextPieces.{told_at_first, told_at_cut, told_past, refused_at_cut, refused_at_end, told_at_end, told_at_blank}
 use Rattle.am_labels.proofs.matcher_text.read_pieces.Goals as goal
-use Rattle.am_labels.proofs.matcher_text.read_pieces.Goals.{then-byte-eq44+then-not-quoted+in_ok-read_piece+in_ok-push, else-byte-eq44, else-byte-eq44-via-then-byte-eq44+else-not-quoted, else-byte-eq44-via-else-byte-eq44, then-not-is_blank+in_ok-read_piece-2+in_ok-push-2, else-not-is_blank}
+use Rattle.am_labels.proofs.matcher_text.read_pieces.Goals.{then-byte-eq44+then-not-is_quoted+in_ok-read_piece+in_ok-push, else-byte-eq44, else-byte-eq44-via-then-byte-eq44+else-not-is_quoted, else-byte-eq44-via-else-byte-eq44, then-not-is_blank+in_ok-read_piece-2+in_ok-push-2, else-not-is_blank}
 
 pub loop-i-init : goal.loop-i-init
 loop-i-init c = record {
-  escaped = search rules;
-  quoted = search rules;
+  state = c.start-state.ensures c.args.text.now;
   behind = omega arith;
   boundary = IsCharBoundary-start c.args.text.now c.requires;
   told = rw c.new-list.ensures.items (told_at_first c.args.text.now);
@@ -27,28 +25,31 @@ read_piece-requires c =
 pub returns-in_err-read_piece : goal.returns-in_err-read_piece
 returns-in_err-read_piece c =
     let p = err_from_is_err_and c.from_residual.result c.from_residual.ensures.1 in
+    let outside = c.is_quoted.ensures c.args.text.now c.loop-i.i c.loop-i.invariant.state in
     let cut : is_cut c.args.text.now c.loop-i.i ≡ true = grind (arith, common_steps) in
     rw (p.1, p.2) (refused_at_cut c.in_err-read_piece.field-0.0 c.args.text.now c.loop-i.start c.loop-i.i c.loop-i.list.items _ (omega arith) cut c.in_err-read_piece.ensures c.loop-i.invariant.told)
 
 pub loop-i-preserved : goal.loop-i-preserved
 loop-i-preserved c = record {
-  escaped = rw (escaped_next c.args.text.now c.loop-i.i (omega arith)) (grind (arith, common_steps));
-  quoted = rw (quoted_next c.args.text.now c.loop-i.i) (grind (arith, common_steps));
-  behind = elim c.if-byte-eq44.branch [ then-byte-eq44+then-not-quoted+in_ok-read_piece+in_ok-push w ↦ omega arith | else-byte-eq44 w ↦ omega arith ];
+  state = c.next-state.ensures c.args.text.now c.loop-i.i (omega arith) refl c.loop-i.invariant.state;
+  behind = elim c.if-byte-eq44.branch [ then-byte-eq44+then-not-is_quoted+in_ok-read_piece+in_ok-push w ↦ omega arith | else-byte-eq44 w ↦ omega arith ];
   boundary = elim c.if-byte-eq44.branch [
-    | then-byte-eq44+then-not-quoted+in_ok-read_piece+in_ok-push w ↦
+    | then-byte-eq44+then-not-is_quoted+in_ok-read_piece+in_ok-push w ↦
         let here : get_or c.args.text.now c.loop-i.i 0 < 128 = grind (arith, common_steps) in
         rw w.start-is (IsCharBoundary-after_ascii c.args.text.now c.loop-i.i c.requires (omega arith) here)
     | else-byte-eq44 w ↦ rw w.start-is c.loop-i.invariant.boundary
   ];
   told = elim c.if-byte-eq44.branch [
-    | then-byte-eq44+then-not-quoted+in_ok-read_piece+in_ok-push w ↦
+    | then-byte-eq44+then-not-is_quoted+in_ok-read_piece+in_ok-push w ↦
+        let outside = w.is_quoted.ensures c.args.text.now c.loop-i.i c.loop-i.invariant.state in
         let cut : is_cut c.args.text.now c.loop-i.i ≡ true = grind (arith, common_steps) in
         rw (w.list-is, w.start-is, w.in_ok-push.ensures.items)
         (told_at_cut c.args.text.now c.loop-i.start c.loop-i.i c.loop-i.list.items w.in_ok-read_piece.field-0 _ (omega arith) cut w.in_ok-read_piece.ensures c.loop-i.invariant.told)
     | else-byte-eq44 w ↦
         let whole : is_cut c.args.text.now c.loop-i.i ≡ false = elim w.else-byte-eq44.branch [
-          | else-byte-eq44-via-then-byte-eq44+else-not-quoted v ↦ grind (arith, common_steps)
+          | else-byte-eq44-via-then-byte-eq44+else-not-is_quoted v ↦
+              let inside = v.is_quoted.ensures c.args.text.now c.loop-i.i c.loop-i.invariant.state in
+              grind (arith, common_steps)
           | else-byte-eq44-via-else-byte-eq44 v ↦ grind (arith, common_steps)
         ] in
         rw (w.list-is, w.start-is) (told_past c.args.text.now c.loop-i.start c.loop-i.i c.loop-i.list.items _ (omega arith) whole c.loop-i.invariant.told)

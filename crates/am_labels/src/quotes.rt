@@ -1,0 +1,55 @@
+//! Quoted parts and escapes of a matcher text.
+
+ghost use Rattle.std.specs.Prelude.{◌≡◌, ◌+◌, ◌<◌, ℕ, List, length, slice_index};
+ghost use Rattle.am_labels.specs.MatcherText.{is_quote, is_quoted};
+ghost use Rattle.am_labels.specs.QuoteState.{IsStateAt};
+
+/// What the bytes before a place of a text say of it.
+#[derive(Clone, Copy)]
+pub(crate) struct QuoteState {
+    /// An odd number of backslashes stands directly before it.
+    escaped: bool,
+    /// It is in a quoted part.
+    quoted: bool,
+}
+
+impl QuoteState {
+    /// The state of the first place of a text.
+    pub(crate) fn start() -> QuoteState
+        ensures { (text : List ℕ) → IsStateAt text 0 result }
+    {
+        QuoteState {
+            escaped: false,
+            quoted: false,
+        }
+    }
+
+    /// The state of the next place, behind this byte.
+    pub(crate) fn next(self, byte: u8) -> QuoteState
+        ensures { (text : List ℕ) (i : ℕ) → i < length text → slice_index text i ≡ byte → IsStateAt text i self → IsStateAt text (i + 1) result }
+    {
+        let quoted = if self.is_quote(byte) {
+            !self.quoted
+        } else {
+            self.quoted
+        };
+        QuoteState {
+            escaped: byte == b'\\' && !self.escaped,
+            quoted,
+        }
+    }
+
+    /// Whether the byte at the place is a quote that is not escaped.
+    pub(crate) fn is_quote(self, byte: u8) -> bool
+        ensures { (text : List ℕ) (i : ℕ) → slice_index text i ≡ byte → IsStateAt text i self → result ≡ is_quote text i }
+    {
+        byte == b'"' && !self.escaped
+    }
+
+    /// Whether the place is in a quoted part.
+    pub(crate) fn is_quoted(self) -> bool
+        ensures { (text : List ℕ) (i : ℕ) → IsStateAt text i self → result ≡ is_quoted text i }
+    {
+        self.quoted
+    }
+}
