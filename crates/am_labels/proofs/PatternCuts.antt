@@ -1,12 +1,12 @@
 -- A pattern is cut step by step.
 use Rattle.std.proofs.Common.{◌≡◌, ℕ, zero, suc, ◌-◌, ◌<◌, ◌≤◌, List, [], ◌∷◌, length, drop, Bool}
-use Rattle.std.proofs.Common.{true, false, Option, None, Some, refl, sym, ap, ◌∙◌, arith, ◌==◌}
+use Rattle.std.proofs.Common.{true, false, Option, None, Some, refl, ap, ◌∙◌, arith, ◌==◌}
 use Rattle.std.proofs.lemmas.List.{length-drop}
 use Rattle.std.proofs.lemmas.Option.{same_Some}
 use Rattle.std.proofs.lemmas.Bool.Decides.{nat_tests}
 use Rattle.regex_hir.specs.Text.{is_some_and}
 use Rattle.am_labels.specs.PatternProfile.{ClassContext, outside_class, inside_class}
-use Rattle.am_labels.specs.PatternCut.{CutStep, step_to, first_step, is_clean_within, is_clean}
+use Rattle.am_labels.specs.PatternCut.{CutStep, first_step, is_clean_within, is_clean}
 use Rattle.am_labels.specs.PatternSteps.{context_of, region_of, step_of}
 use Rattle.am_labels.specs.declared.pattern_profile.Step.{Step}
 

@@ -1,11 +1,11 @@
 -- Each form of a piece is cut off as one, and is refused as one.
-use Rattle.std.proofs.Common.{◌≡◌, ◌≢◌, refl, sym, ◌∙◌, ap, subst, inl, inr, ℕ, zero, suc, ◌+◌, ◌-◌}
-use Rattle.std.proofs.Common.{◌<◌, ◌≤◌, List, [], ◌∷◌, ◌++◌, length, take, drop, get_or, Bool, true}
+use Rattle.std.proofs.Common.{◌≡◌, ◌≢◌, refl, sym, ◌∙◌, ap, inl, inr, ℕ, suc, ◌+◌, ◌-◌}
+use Rattle.std.proofs.Common.{◌<◌, List, [], ◌∷◌, ◌++◌, length, take, drop, get_or, Bool, true}
 use Rattle.std.proofs.Common.{false, not, ◌&&◌, ◌||◌, cond, arith, Option, Some, None, option_map}
 use Rattle.std.proofs.Common.{Contains, nat_eq, nat_lt}
 use Rattle.std.specs.Prelude.{◌==◌}
 use Rattle.std.specs.List.{list_all, list_any, find, starts_with, prefix_len, AllByRecursion}
-use Rattle.std.specs.Char.{is_ascii_digit, is_ascii_alphabetic}
+use Rattle.std.specs.Char.{is_ascii_digit}
 use Rattle.std.proofs.lemmas.List.{append_assoc, append-nil, length-append, length-take-le}
 use Rattle.std.proofs.lemmas.List.{take-append-drop, drop_at, drop_all}
 use Rattle.std.proofs.lemmas.List.Elements.{All-contains, All-from_recursion}
@@ -23,10 +23,10 @@ use Rattle.am_labels.specs.PatternProfile.{class_names, named_classes, begins_na
 use Rattle.am_labels.specs.PatternProfile.{is_longest_start, is_plain_outside, is_plain_inside}
 use Rattle.am_labels.specs.PatternProfile.{StandsIn, context_after, is_refused_escape}
 use Rattle.am_labels.specs.PatternProfile.{is_refused_flag, is_refused}
-use Rattle.am_labels.specs.PatternCut.{CutStep, step_to, step_by, up_to_brace, flag_run, digits_len}
+use Rattle.am_labels.specs.PatternCut.{step_to, step_by, up_to_brace, flag_run, digits_len}
 use Rattle.am_labels.specs.PatternCut.{begins_count, class_start_len, named_class_at, first_step}
 use Rattle.am_labels.specs.PatternCut.{is_clean}
-use Rattle.am_labels.proofs.PatternCuts.{by_step, by_none, is_clean-nil}
+use Rattle.am_labels.proofs.PatternCuts.{by_step, by_none}
 use Rattle.std.proofs.lemmas.List.Sums.{prefix_len-le-length}
 use Rattle.am_labels.proofs.MatcherTextLists.{prefix_whole, drop_prefix, take_prefix, all_of_prefix}
 

@@ -1,6 +1,6 @@
 -- Every pattern is a join of pieces, and it is of the profile where none of them is refused.
 use Rattle.std.proofs.Common.{◌≡◌, ◌↔◌, refl, sym, ◌∙◌, ap, subst, inl, inr, ◌⊎◌, ℕ, zero, suc, ◌+◌}
-use Rattle.std.proofs.Common.{◌-◌, ◌<◌, ◌≤◌, List, [], ◌∷◌, ◌++◌, length, take, drop, get_or, Bool}
+use Rattle.std.proofs.Common.{◌<◌, ◌≤◌, List, [], ◌∷◌, ◌++◌, length, take, drop, get_or, Bool}
 use Rattle.std.proofs.Common.{true, false, not, ◌&&◌, ◌||◌, cond, arith, Contains, nat_eq, IsTrue}
 use Rattle.std.specs.Prelude.{◌==◌}
 use Rattle.std.specs.List.{list_all, list_any, flat_map, starts_with, prefix_len}
@@ -13,12 +13,12 @@ use Rattle.am_labels.specs.PatternProfile.{braced_escape, open_escape, last_back
 use Rattle.am_labels.specs.PatternProfile.{brace, class_start, named_class, bracket, pair}
 use Rattle.am_labels.specs.PatternProfile.{class_end, plain, piece_text, takes_braces}
 use Rattle.am_labels.specs.PatternProfile.{has_no_closing, is_flag, is_number, is_upper}
-use Rattle.am_labels.specs.PatternProfile.{named_classes, begins_named_class, is_plain_outside}
-use Rattle.am_labels.specs.PatternProfile.{is_plain_inside, StandsIn, context_after, is_refused}
+use Rattle.am_labels.specs.PatternProfile.{named_classes, begins_named_class}
+use Rattle.am_labels.specs.PatternProfile.{StandsIn, context_after, is_refused}
 use Rattle.am_labels.specs.PatternProfile.{Stand, IsJoinOf, IsInProfile}
 use Rattle.am_labels.specs.PatternCut.{begins_count, is_clean, in_profile}
 use Rattle.am_labels.proofs.PatternCuts.{is_clean-nil}
-use Rattle.am_labels.proofs.PatternForms.{CountAt, count_at, count_begins, begins_one, found_first}
+use Rattle.am_labels.proofs.PatternForms.{count_at, count_begins, begins_one, found_first}
 use Rattle.am_labels.proofs.PatternForms.{cut_off}
 use Rattle.am_labels.proofs.MatcherTextLists.{all_of_prefix, first_after_prefix}
 

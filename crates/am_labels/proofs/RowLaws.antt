@@ -15,6 +15,7 @@ use Rattle.am_labels.specs.Matcher.{Condition, holds, condition_holds, all_hold}
 use Rattle.am_labels.specs.Row.{holds_of, truths_of, truth_among, row_of, row_holds, rows_hold}
 use Rattle.am_universe.proofs.ValuesAt.{value_in}
 use Rattle.am_universe.proofs.Values.{value_of_declared, value_of_undeclared}
+use Rattle.am_universe.proofs.Universes.{no_label}
 use Rattle.am_universe.proofs.Wholes.{admitted_at}
 
 none_from : {X : Type 0} (p : X → Bool) (i : ℕ) (xs : List X) → position_from p i xs ≡ None → (k : ℕ) (d : X) → k < length xs → p (get_or xs k d) ≡ false
@@ -29,9 +30,6 @@ none_from p i (x ∷ xs) e (suc k) d h =
 -- where there is no first place at which a test passes, it passes nowhere
 none_passes : {X : Type 0} (p : X → Bool) (xs : List X) → position p xs ≡ None → (k : ℕ) (d : X) → k < length xs → p (get_or xs k d) ≡ false
 none_passes p xs e = none_from p 0 xs (sym (position_from-zero p xs) ∙ e)
-
-abbrev no_label : Label
-no_label = record { name = []; values = [] }
 
 declared : (u : List Label) (c : List ℕ) (m : Condition) (i : ℕ) → IsUniverse u → IsWhole (sizes u) c → label_position u m.name ≡ Some i
     → condition_holds (label_set_of u c) m ≡ truth_among (Some i) (truths_of u m (Some i)) (slice_index c i)

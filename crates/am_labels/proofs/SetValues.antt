@@ -1,6 +1,6 @@
 -- The values that the set of a list has.
-use Rattle.std.proofs.Common.{◌≡◌, ℕ, true, false, ◌||◌, cond, List, [], ◌∷◌, map, Bool, Option}
-use Rattle.std.proofs.Common.{Some, None, unwrap_or, Contains, ap, sym, ◌∙◌, refl, subst, inl, inr}
+use Rattle.std.proofs.Common.{◌≡◌, ℕ, true, false, cond, List, [], ◌∷◌, map, Bool, Option}
+use Rattle.std.proofs.Common.{Some, None, unwrap_or, Contains, ap, ◌∙◌, refl, subst, inl, inr}
 use Rattle.std.specs.Prelude.{fold}
 use Rattle.std.specs.Ordering.{nat_cmp}
 use Rattle.std.specs.Cmp.Lexicographic.{slice_cmp, bytes_decides}

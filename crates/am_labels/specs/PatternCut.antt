@@ -1,7 +1,7 @@
 -- How a pattern is cut from left to right, as a function, and the test whether it is of the
 -- profile. What counts is the relation that the test decides, `IsInProfile`.
 use Rattle.std.specs.Prelude.{ℕ, zero, suc, ◌+◌, ◌-◌, List, [], ◌∷◌, length, take, drop, Bool, true}
-use Rattle.std.specs.Prelude.{false, ◌==◌, ◌&&◌, ◌||◌, nat_eq, nat_lt, if◌then◌else◌, Option, Some}
+use Rattle.std.specs.Prelude.{◌==◌, ◌&&◌, ◌||◌, nat_eq, nat_lt, if◌then◌else◌, Option, Some}
 use Rattle.std.specs.Prelude.{None, option_map, unwrap_or}
 use Rattle.std.specs.List.{list_any, find, starts_with, prefix_len, position}
 use Rattle.std.specs.Char.{is_ascii_digit}

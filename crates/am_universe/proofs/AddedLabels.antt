@@ -1,6 +1,7 @@
 -- A label goes behind the labels of a universe exactly where `label_fault` finds nothing.
 use Rattle.std.proofs.Common.{◌≡◌, ◌↔◌, ℕ, ◌<◌, ◌≤◌, ◌==◌, List, [], ◌∷◌, ◌++◌, length, Bool, true, false, ◌||◌, Option, Some, None, IfSome, refl, sym, ap, subst, ◌∙◌, append_assoc, length-append, append-nil, cond, not, nat_le, nat_lt, arith}
 use borrow.Author.Tests.{eqb-false, ltb-false, leb-false, le-ltb, lt-leb}
+use Rattle.std.proofs.lemmas.Bool.{not-false}
 use Rattle.std.proofs.lemmas.List.{map-append}
 use Rattle.std.proofs.lemmas.Bool.Decides.{nat_tests}
 use Rattle.am_universe.specs.declared.limits.TheConstants.{MAX_LABELS, MAX_VALUES}
@@ -14,6 +15,13 @@ use Rattle.am_universe.specs.Text.{same_text}
 use Rattle.am_universe.proofs.DistinctLists.{all_push, all_pushed, distinct_none, distinct_push, distinct_pushed, distinct_front}
 use Rattle.am_universe.specs.Universe.{Label, Values, IsLabel, IsUniverse, names, is_label_name, same_value, is_empty_text, name_fault, count_fault, value_fault, values_fault, label_values_fault, label_fault, first_fault, fault_at}
 
+-- ---- Tests, each with a fault.
+
+-- a test that gives no fault, and what stands behind it
+passed : {A : Type 0} (test : Bool) (fault : A) (later : Option A) → cond test (Some fault) later ≡ None → (test ≡ false) × (later ≡ None)
+passed true fault later h = cc
+passed false fault later h = (refl, h)
+
 -- ---- Values.
 
 -- what the faults of values say of those before and those to come
@@ -21,14 +29,11 @@ pub record AreFine (before values : Values) : Type 0 where
   pub texts : AllByRecursion (λ v. is_empty_text v ≡ false) values
   pub distinct : IsDistinct same_value (before ++ values)
 
-tests_fine : (a b : Bool) → cond a (Some kinds.Empty) (cond b (Some kinds.Duplicate) None) ≡ None → (a ≡ false) × (b ≡ false)
-tests_fine true b h = cc
-tests_fine false true h = cc
-tests_fine false false h = (refl, refl)
-
 -- the parts of a value's having no fault
 value_fine : (before : Values) (value : Option (List ℕ)) → value_fault before value ≡ None → (is_empty_text value ≡ false) × (list_any (λ other. same_value other value) before ≡ false)
-value_fine before value h = tests_fine (is_empty_text value) (list_any (λ other. same_value other value) before) h
+value_fine before value h =
+    let text = passed (is_empty_text value) kinds.Empty _ h in
+    (text.0, (passed (list_any (λ other. same_value other value) before) kinds.Duplicate None text.1).0)
 
 no_first : {A : Type 0} (a b : Option A) → first_fault a b ≡ None → (a ≡ None) × (b ≡ None)
 no_first None b h = (refl, h)
@@ -57,16 +62,12 @@ fine_values before (value ∷ values) fine =
 
 -- ---- A label.
 
-count_parts : (a b : Bool) → cond a (Some kinds.Empty) (cond b (Some kinds.Limit) None) ≡ None → (a ≡ false) × (b ≡ false)
-count_parts true b h = cc
-count_parts false true h = cc
-count_parts false false h = (refl, refl)
-
 count_fine : (n : ℕ) → count_fault n ≡ None → (0 < n) × (n ≤ MAX_VALUES)
 count_fine n h =
-    let parts = count_parts (n == 0) (nat_lt MAX_VALUES n) h in
-    let some = eqb-false n 0 parts.0 in
-    (omega (arith, some), ltb-false MAX_VALUES n parts.1)
+    let first = passed (n == 0) kinds.Empty _ h in
+    let second = passed (nat_lt MAX_VALUES n) kinds.Limit None first.1 in
+    let some = eqb-false n 0 first.0 in
+    (omega (arith, some), ltb-false MAX_VALUES n second.0)
 
 fine_count : (n : ℕ) → 0 < n → n ≤ MAX_VALUES → count_fault n ≡ None
 fine_count n h k =
@@ -74,17 +75,14 @@ fine_count n h k =
     let few : nat_lt MAX_VALUES n ≡ false = le-ltb MAX_VALUES n k in
     rw (some, few)
 
-name_parts : (a b c : Bool) → cond a (Some kinds.Empty) (cond (not b) (Some kinds.Shape) (cond c (Some kinds.Duplicate) None)) ≡ None → (b ≡ true) × (c ≡ false)
-name_parts true b c h = cc
-name_parts false false c h = cc
-name_parts false true true h = cc
-name_parts false true false h = (refl, refl)
-
 abbrev has : List Label → List ℕ → Bool
 has u name = list_any (λ l. same_text l.name name) u
 
 name_fine : (u : List Label) (name : List ℕ) → name_fault u name ≡ None → (is_label_name name ≡ true) × (has u name ≡ false)
-name_fine u name h = name_parts (length name == 0) (is_label_name name) (has u name) h
+name_fine u name h =
+    let first = passed (length name == 0) kinds.Empty _ h in
+    let second = passed (not (is_label_name name)) kinds.Shape _ first.1 in
+    (not-false (is_label_name name) second.0, (passed (has u name) kinds.Duplicate None second.1).0)
 
 some_byte : (name : List ℕ) → is_label_name name ≡ true → (length name == 0) ≡ false
 some_byte [] h = cc
@@ -111,19 +109,15 @@ faults_from_IsLabel l h =
     let values : values_fault [] l.values ≡ None = fine_values [] l.values (record { texts = h.texts; distinct = h.distinct }) in
     rw (count, values)
 
-label_parts : (full : Bool) (name : Option Kind) (values : Option LabelFault) → cond full (Some (record { kind = kinds.Limit; part = parts.Label })) (first_fault (fault_at parts.Name name) values) ≡ None → (full ≡ false) × (name ≡ None) × (values ≡ None)
-label_parts true name values h = cc
-label_parts false None values h = (refl, refl, h)
-label_parts false (Some kind) values h = cc
-
 pub added_is_universe : (u : List Label) (l : Label) → IsUniverse u → label_fault u l ≡ None → IsUniverse (u ++ l ∷ [])
 added_is_universe u l h fine =
-    let parts = label_parts (nat_le MAX_LABELS (length u)) (name_fault u l.name) (label_values_fault l.values) fine in
-    let room = leb-false MAX_LABELS (length u) parts.0 in
-    let name = name_fine u l.name parts.1 in
+    let full = passed (nat_le MAX_LABELS (length u)) (record { kind = kinds.Limit; part = parts.Label }) _ fine in
+    let room = leb-false MAX_LABELS (length u) full.0 in
+    let split = no_first (fault_at parts.Name (name_fault u l.name)) (label_values_fault l.values) full.1 in
+    let name = name_fine u l.name (nothing_at parts.Name (name_fault u l.name) split.0) in
     record {
       at_most = omega (arith, length-append u (l ∷ []), room);
-      labels = all_push IsLabel u l h.labels (IsLabel-from_faults l name.0 parts.2);
+      labels = all_push IsLabel u l h.labels (IsLabel-from_faults l name.0 split.1);
       distinct = subst (IsDistinct same_text) (sym (map-append (λ (x : Label). x.name) u (l ∷ []))) (distinct_push same_text (names u) l.name h.distinct (has_names u l.name ∙ name.1));
     }
 
@@ -146,21 +140,25 @@ pushed_universe u l false h fine = h
 abbrev IsOfText : Kind → Type 0
 IsOfText kind = kind ≡ kinds.Memory → ⊥
 
-name_kinds : (a b c : Bool) → IfSome (cond a (Some kinds.Empty) (cond (not b) (Some kinds.Shape) (cond c (Some kinds.Duplicate) None))) IsOfText
-name_kinds true b c = λ e. cc
-name_kinds false false c = λ e. cc
-name_kinds false true true = λ e. cc
-name_kinds false true false = tt
+-- of a test with a fault, and what stands behind it
+each_fault : {A : Type 0} (P : A → Type 0) (test : Bool) (fault : A) (later : Option A) → P fault → IfSome later P → IfSome (cond test (Some fault) later) P
+each_fault P true fault later h k = h
+each_fault P false fault later h k = k
 
-count_kinds : (a b : Bool) → IfSome (cond a (Some kinds.Empty) (cond b (Some kinds.Limit) None)) IsOfText
-count_kinds true b = λ e. cc
-count_kinds false true = λ e. cc
-count_kinds false false = tt
+name_kinds : (u : List Label) (name : List ℕ) → IfSome (name_fault u name) IsOfText
+name_kinds u name =
+    each_fault IsOfText (length name == 0) kinds.Empty _ (λ e. cc)
+    (each_fault IsOfText (not (is_label_name name)) kinds.Shape _ (λ e. cc)
+    (each_fault IsOfText (has u name) kinds.Duplicate None (λ e. cc) tt))
 
-value_kinds : (a b : Bool) → IfSome (cond a (Some kinds.Empty) (cond b (Some kinds.Duplicate) None)) IsOfText
-value_kinds true b = λ e. cc
-value_kinds false true = λ e. cc
-value_kinds false false = tt
+count_kinds : (n : ℕ) → IfSome (count_fault n) IsOfText
+count_kinds n =
+    each_fault IsOfText (n == 0) kinds.Empty _ (λ e. cc) (each_fault IsOfText (nat_lt MAX_VALUES n) kinds.Limit None (λ e. cc) tt)
+
+value_kinds : (before : Values) (value : Option (List ℕ)) → IfSome (value_fault before value) IsOfText
+value_kinds before value =
+    each_fault IsOfText (is_empty_text value) kinds.Empty _ (λ e. cc)
+    (each_fault IsOfText (list_any (λ other. same_value other value) before) kinds.Duplicate None (λ e. cc) tt)
 
 kinds_at : (part : LabelPart) (found : Option Kind) → IfSome found IsOfText → IfSome (fault_at part found) (λ fault. IsOfText fault.kind)
 kinds_at part None h = tt
@@ -174,25 +172,21 @@ values_kinds : (before values : Values) → IfSome (values_fault before values) 
 values_kinds before [] = tt
 values_kinds before (value ∷ values) =
     kinds_of_first (fault_at (parts.Value (length before)) (value_fault before value)) (values_fault (before ++ value ∷ []) values)
-    (kinds_at (parts.Value (length before)) (value_fault before value) (value_kinds (is_empty_text value) (list_any (λ other. same_value other value) before)))
+    (kinds_at (parts.Value (length before)) (value_fault before value) (value_kinds before value))
     (values_kinds (before ++ value ∷ []) values)
 
 label_values_kinds : (values : Values) → IfSome (label_values_fault values) (λ fault. IsOfText fault.kind)
 label_values_kinds values =
     kinds_of_first (fault_at parts.Values (count_fault (length values))) (values_fault [] values)
-    (kinds_at parts.Values (count_fault (length values)) (count_kinds (length values == 0) (nat_lt MAX_VALUES (length values))))
+    (kinds_at parts.Values (count_fault (length values)) (count_kinds (length values)))
     (values_kinds [] values)
-
-full_kinds : (full : Bool) (o : Option LabelFault) → IfSome o (λ fault. IsOfText fault.kind) → IfSome (cond full (Some (record { kind = kinds.Limit; part = parts.Label })) o) (λ fault. IsOfText fault.kind)
-full_kinds true o h = λ e. cc
-full_kinds false o h = h
 
 -- a label's first fault is never want of memory
 pub label_fault-not_memory : (u : List Label) (l : Label) → IfSome (label_fault u l) (λ fault. fault.kind ≡ kinds.Memory → ⊥)
 label_fault-not_memory u l =
-    full_kinds (nat_le MAX_LABELS (length u)) (first_fault (fault_at parts.Name (name_fault u l.name)) (label_values_fault l.values))
+    each_fault (λ fault. IsOfText fault.kind) (nat_le MAX_LABELS (length u)) (record { kind = kinds.Limit; part = parts.Label }) _ (λ e. cc)
     (kinds_of_first (fault_at parts.Name (name_fault u l.name)) (label_values_fault l.values)
-    (kinds_at parts.Name (name_fault u l.name) (name_kinds (length l.name == 0) (is_label_name l.name) (has u l.name)))
+    (kinds_at parts.Name (name_fault u l.name) (name_kinds u l.name))
     (label_values_kinds l.values))
 
 pub none_of_memory : (u : List Label) (l : Label) (fault : LabelFault) → label_fault u l ≡ Some fault → fault.kind ≡ kinds.Memory → label_fault u l ≡ None

@@ -48,15 +48,15 @@ value_at-text u i l p h e = no_empty_text l.values p (at_place IsLabel u i l h.l
 
 -- ---- The pairs of the first labels.
 
-before-append : (name : List ℕ) (value : Option (List ℕ)) (xs ys : List (List ℕ × List ℕ)) → pair_before name value (xs ++ ys) ≡ pair_before name value xs ++ ys
-before-append name None xs ys = refl
-before-append name (Some v) xs ys = refl
+pub pair_before-append : (name : List ℕ) (value : Option (List ℕ)) (xs ys : List (List ℕ × List ℕ)) → pair_before name value (xs ++ ys) ≡ pair_before name value xs ++ ys
+pair_before-append name None xs ys = refl
+pair_before-append name (Some v) xs ys = refl
 
 pub pairs_of-more : (u : List Label) (c : List ℕ) (i : ℕ) (l : Label) (p : ℕ) → slice_get u i ≡ Some l → slice_get c i ≡ Some p → pairs_of (take (suc i) u) (take (suc i) c) ≡ pairs_of (take i u) (take i c) ++ pair_before l.name (value_at l p) []
 pairs_of-more [] c i l p e f = cc
 pairs_of-more (m ∷ u) [] i l p e f = cc
 pairs_of-more (m ∷ u) (q ∷ c) zero l p e f = let same : m ≡ l = cc in let also : q ≡ p = cc in cc
-pairs_of-more (m ∷ u) (q ∷ c) (suc i) l p e f = ap (pair_before m.name (value_at m q)) (pairs_of-more u c i l p e f) ∙ before-append m.name (value_at m q) _ _
+pairs_of-more (m ∷ u) (q ∷ c) (suc i) l p e f = ap (pair_before m.name (value_at m q)) (pairs_of-more u c i l p e f) ∙ pair_before-append m.name (value_at m q) _ _
 
 pub find_before : (q name : List ℕ) (value : Option (List ℕ)) (pairs : List (List ℕ × List ℕ)) → same_text name q ≡ false → find (slice_cmp nat_cmp) q (pair_before name value pairs) ≡ find (slice_cmp nat_cmp) q pairs
 find_before q name None pairs h = refl
@@ -83,21 +83,39 @@ label_set_of-more u c i l p h e f =
     let new = none_of_others (take i u) (take i c) l.name (AreOthers-before u i l h.distinct e) in
     rw add-one (ap from_entries (pairs_of-more u c i l p e f) ∙ from_pairs-push (pairs_of (take i u) (take i c)) l.name (value_at l p) new (value_at-text u i l p h e))
 
--- ---- One turn: s is the set of the first i labels, and p the position at i.
+-- ---- The label at i, of which a choice has the position p, and the value there.
+
+pub record Chosen (u : List Label) (c : List ℕ) (i p : ℕ) (value : Option (List ℕ)) : Type 0 where
+  pub label : Label
+  pub at : slice_get u i ≡ Some label
+  pub picked : slice_get c i ≡ Some p
+  pub valued : value_at label p ≡ value
+
+pub chosen : (u : List Label) (c : List ℕ) (i p : ℕ) (value : Option (List ℕ)) → length c ≡ length u → i < length u → p ≡ slice_index c i → value ≡ option_and_then (λ l. value_at l p) (slice_get u i) → Chosen u c i p value
+chosen u c i p value whole k is valued =
+    let found : (l : Label) × (slice_get u i ≡ Some l) = found_at u i k in
+    record {
+      label = found.0;
+      at = found.1;
+      picked = slice_get-get_or c i 0 (omega arith) ∙ ap Some (sym is);
+      valued = sym (valued ∙ ap (option_and_then (λ l. value_at l p)) found.1);
+    }
+
+pub name_at : (u : List Label) (i : ℕ) (l : Label) (name : List ℕ) → slice_get u i ≡ Some l → slice_get (names u) i ≡ Some name → l.name ≡ name
+name_at u i l name at named =
+    let same : Some l.name ≡ Some name = sym (sym named ∙ slice_get-map (λ l. l.name) u i ∙ ap (option_map (λ l. l.name)) at) in
+    cc
+
+-- ---- One turn: s is the set of the first i labels.
 
 pub turn_with : (u : List Label) (c : List ℕ) (i p : ℕ) (s : LabelMap) (name text : List ℕ) → IsUniverse u → length c ≡ length u → i < length u → p ≡ slice_index c i → s ≡ label_set_of (take i u) (take i c) → slice_get (names u) i ≡ Some name → Some text ≡ option_and_then (λ l. value_at l p) (slice_get u i) → with_value s name text ≡ label_set_of (take (i + 1) u) (take (i + 1) c)
 turn_with u c i p s name text h whole k is so named valued =
-    let found : (l : Label) × (slice_get u i ≡ Some l) = found_at u i k in
-    let picked : slice_get c i ≡ Some p = slice_get-get_or c i 0 (omega arith) ∙ ap Some (sym is) in
-    let same_name : Some name ≡ Some found.0.name = sym named ∙ slice_get-map (λ l. l.name) u i ∙ ap (option_map (λ l. l.name)) found.1 in
-    let same_value : Some text ≡ value_at found.0 p = valued ∙ ap (option_and_then (λ l. value_at l p)) found.1 in
-    let next : label_set_of (take (i + 1) u) (take (i + 1) c) ≡ with_maybe (label_set_of (take i u) (take i c)) found.0.name (Some text) = label_set_of-more u c i found.0 p h found.1 picked ∙ ap (with_maybe (label_set_of (take i u) (take i c)) found.0.name) (sym same_value) in
-    let same : name ≡ found.0.name = cc in
-    ap (λ t. with_value t name text) so ∙ ap (λ n. with_value (label_set_of (take i u) (take i c)) n text) same ∙ sym next
+    let here = chosen u c i p (Some text) whole k is valued in
+    let before : LabelMap = label_set_of (take i u) (take i c) in
+    ap (λ t. with_value t name text) so ∙ ap (λ n. with_value before n text) (sym (name_at u i here.label name here.at named))
+    ∙ sym (label_set_of-more u c i here.label p h here.at here.picked ∙ ap (with_maybe before here.label.name) here.valued)
 
 pub turn_without : (u : List Label) (c : List ℕ) (i p : ℕ) (s : LabelMap) → IsUniverse u → length c ≡ length u → i < length u → p ≡ slice_index c i → s ≡ label_set_of (take i u) (take i c) → None ≡ option_and_then (λ l. value_at l p) (slice_get u i) → s ≡ label_set_of (take (i + 1) u) (take (i + 1) c)
 turn_without u c i p s h whole k is so valued =
-    let found : (l : Label) × (slice_get u i ≡ Some l) = found_at u i k in
-    let picked : slice_get c i ≡ Some p = slice_get-get_or c i 0 (omega arith) ∙ ap Some (sym is) in
-    let same_value : None ≡ value_at found.0 p = valued ∙ ap (option_and_then (λ l. value_at l p)) found.1 in
-    so ∙ sym (label_set_of-more u c i found.0 p h found.1 picked ∙ ap (with_maybe (label_set_of (take i u) (take i c)) found.0.name) (sym same_value))
+    let here = chosen u c i p None whole k is valued in
+    so ∙ sym (label_set_of-more u c i here.label p h here.at here.picked ∙ ap (with_maybe (label_set_of (take i u) (take i c)) here.label.name) here.valued)

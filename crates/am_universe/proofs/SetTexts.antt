@@ -1,12 +1,11 @@
 -- The text of a label set, label after label.
-use Rattle.std.proofs.Common.{◌≡◌, ℕ, zero, suc, ◌+◌, ◌<◌, List, [], ◌∷◌, ◌++◌, length, map, take, drop, Option, Some, None, option_map, slice_get, slice_index, option_and_then, ap, sym, ◌∙◌, refl, arith, add-one, append_assoc, append-nil}
+use Rattle.std.proofs.Common.{◌≡◌, ℕ, zero, suc, ◌+◌, ◌<◌, List, [], ◌∷◌, ◌++◌, length, map, take, drop, Some, None, slice_get, slice_index, option_and_then, ap, sym, ◌∙◌, refl, arith, add-one, append_assoc, append-nil}
 use Rattle.std.specs.List.{join_with_byte}
 use Rattle.std.proofs.lemmas.List.{take_all}
-use Rattle.std.proofs.lemmas.Option.{slice_get-get_or, slice_get-map}
 use Rattle.am_universe.specs.Universe.{Label, names}
 use Rattle.am_universe.specs.LabelSet.{value_at, pair_before, pairs_of}
 use Rattle.am_universe.specs.SetText.{pair_text, pairs_text}
-use Rattle.am_universe.proofs.PairsOf.{found_at, pairs_of-more}
+use Rattle.am_universe.proofs.PairsOf.{pair_before-append, pairs_of-more, chosen, name_at}
 
 -- ---- Pairs joined by commas.
 
@@ -52,34 +51,24 @@ separator_behind (o ∷ ps) p = refl
 
 -- ---- The pairs of a choice: those of the first i labels, the next one if its label has a text, and the others.
 
-before_append : (name : List ℕ) (value : Option (List ℕ)) (xs ys : Pairs) → pair_before name value (xs ++ ys) ≡ pair_before name value xs ++ ys
-before_append name None xs ys = refl
-before_append name (Some v) xs ys = refl
-
 pub pairs_of-split : (u : List Label) (c : List ℕ) (i : ℕ) → length c ≡ length u → pairs_of u c ≡ pairs_of (take i u) (take i c) ++ pairs_of (drop i u) (drop i c)
 pairs_of-split u c zero h = refl
 pairs_of-split [] c (suc i) h = refl
 pairs_of-split (l ∷ u) [] (suc i) h = absurd (omega arith)
-pairs_of-split (l ∷ u) (p ∷ c) (suc i) h = ap (pair_before l.name (value_at l p)) (pairs_of-split u c i (omega arith)) ∙ before_append l.name (value_at l p) _ _
+pairs_of-split (l ∷ u) (p ∷ c) (suc i) h = ap (pair_before l.name (value_at l p)) (pairs_of-split u c i (omega arith)) ∙ pair_before-append l.name (value_at l p) _ _
 
 pub next_pair : (u : List Label) (c : List ℕ) (i p : ℕ) (name text : List ℕ) → length c ≡ length u → i < length u → p ≡ slice_index c i → slice_get (names u) i ≡ Some name → Some text ≡ option_and_then (λ l. value_at l p) (slice_get u i)
     → pairs_of (take (i + 1) u) (take (i + 1) c) ≡ pairs_of (take i u) (take i c) ++ (name, text) ∷ []
 next_pair u c i p name text whole k is named valued =
-    let found : (l : Label) × (slice_get u i ≡ Some l) = found_at u i k in
-    let picked : slice_get c i ≡ Some p = slice_get-get_or c i 0 (omega arith) ∙ ap Some (sym is) in
-    let same_name : Some found.0.name ≡ Some name = sym (sym named ∙ slice_get-map (λ l. l.name) u i ∙ ap (option_map (λ l. l.name)) found.1) in
-    let same_value : value_at found.0 p ≡ Some text = sym (valued ∙ ap (option_and_then (λ l. value_at l p)) found.1) in
-    let same : found.0.name ≡ name = cc in
-    rw add-one (pairs_of-more u c i found.0 p found.1 picked ∙ ap (λ v. pairs_of (take i u) (take i c) ++ pair_before found.0.name v []) same_value
-    ∙ ap (λ n. pairs_of (take i u) (take i c) ++ (n, text) ∷ []) same)
+    let here = chosen u c i p (Some text) whole k is valued in
+    rw add-one (pairs_of-more u c i here.label p here.at here.picked ∙ ap (λ v. pairs_of (take i u) (take i c) ++ pair_before here.label.name v []) here.valued
+    ∙ ap (λ n. pairs_of (take i u) (take i c) ++ (n, text) ∷ []) (name_at u i here.label name here.at named))
 
 pub no_pair : (u : List Label) (c : List ℕ) (i p : ℕ) → length c ≡ length u → i < length u → p ≡ slice_index c i → None ≡ option_and_then (λ l. value_at l p) (slice_get u i)
     → pairs_of (take (i + 1) u) (take (i + 1) c) ≡ pairs_of (take i u) (take i c)
 no_pair u c i p whole k is valued =
-    let found : (l : Label) × (slice_get u i ≡ Some l) = found_at u i k in
-    let picked : slice_get c i ≡ Some p = slice_get-get_or c i 0 (omega arith) ∙ ap Some (sym is) in
-    let same_value : value_at found.0 p ≡ None = sym (valued ∙ ap (option_and_then (λ l. value_at l p)) found.1) in
-    rw add-one (pairs_of-more u c i found.0 p found.1 picked ∙ ap (λ v. pairs_of (take i u) (take i c) ++ pair_before found.0.name v []) same_value
+    let here = chosen u c i p None whole k is valued in
+    rw add-one (pairs_of-more u c i here.label p here.at here.picked ∙ ap (λ v. pairs_of (take i u) (take i c) ++ pair_before here.label.name v []) here.valued
     ∙ append-nil (pairs_of (take i u) (take i c)))
 
 pub pair_among : (u : List Label) (c : List ℕ) (i p : ℕ) (name text : List ℕ) → length c ≡ length u → i < length u → p ≡ slice_index c i → slice_get (names u) i ≡ Some name → Some text ≡ option_and_then (λ l. value_at l p) (slice_get u i)

@@ -2,6 +2,7 @@
 use Rattle.std.proofs.Common.{◌≡◌, ◌≢◌, ℕ, ◌+◌, ◌<◌, ◌≤◌, List, [], ◌∷◌, ◌++◌, length, map, take, drop, Bool, true, false, ◌==◌, ◌||◌, Option, Some, None, option_map, is_some, MatchOption, IfSome, IfNone, Contains, String, string_bytes, slice_get, get_or, refl, sym, ap, ◌∙◌, lit≤, arith}
 use Rattle.std.specs.List.{AllWithin, HoldsAt, IsDistinct, list_any}
 use Rattle.std.specs.Cmp.Lexicographic.{bytes_decides}
+use Rattle.std.proofs.lemmas.Bool.{false_from_ne_true}
 use Rattle.std.proofs.lemmas.Option.{slice_get-map, slice_get-get_or, slice_get_within, get_or_from_slice_get}
 use Rattle.std.proofs.lemmas.List.{get_or-map, length-map, map-append, length-take-le, take_more, at_drop_more, at_drop_all}
 use Rattle.std.proofs.lemmas.List.Folds.{list_any_at, list_any_none}
@@ -21,17 +22,13 @@ IsUniverse-empty = record { at_most = lit≤ tt; labels = tt; distinct = tt }
 
 -- ---- Where a name stands.
 
-not_so : (b : Bool) → (b ≡ true → ⊥) → b ≡ false
-not_so true h = absurd (h refl)
-not_so false h = refl
-
 -- what `Iterator::position` answers about a name
 abbrev pub IsFirstOfName : List Label → List ℕ → Option ℕ → Type 0
 IsFirstOfName u name r = MatchOption r
     (AllWithin (λ l. l.name ≢ name) u 0 (length u))
     (λ i. (i < length u) × HoldsAt (λ l. l.name ≡ name) u i × AllWithin (λ l. l.name ≢ name) u 0 i)
 
-abbrev no_label : Label
+abbrev pub no_label : Label
 no_label = record { name = []; values = [] }
 
 name_at : (u : List Label) (name : List ℕ) (i : ℕ) → i < length u → HoldsAt (λ l. l.name ≡ name) u i → slice_get (names u) i ≡ Some name
@@ -52,7 +49,7 @@ no_name u name (Some i) h = tt
 pub has_name : (u : List Label) (name : List ℕ) (r : Option ℕ) → IfSome r (λ i. slice_get (names u) i ≡ Some name) → IfNone r (¬ Contains (names u) name) → list_any (λ l. same_text l.name name) u ≡ is_some r
 has_name u name None found none = list_any_none (λ l. same_text l.name name) u (λ k d inside.
     let apart : same_text (get_or u k d).name name ≡ true → ⊥ = λ e. none (k, omega (arith, length-map u (λ (l : Label). l.name)), get_or-map (λ l. l.name) u k d name inside ∙ (bytes_decides (get_or u k d).name name).0 e) in
-    not_so _ apart)
+    false_from_ne_true _ apart)
 has_name u name (Some i) found none =
     let inside : i < length u = omega (arith, slice_get_within (names u) i name found, length-map u (λ (l : Label). l.name)) in
     list_any_at (λ l. same_text l.name name) u i no_label inside
