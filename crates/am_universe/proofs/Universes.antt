@@ -1,5 +1,5 @@
 -- Universes: where a name stands, and what the faults of a label say.
-use Rattle.std.proofs.Common.{◌≡◌, ◌≢◌, ℕ, ◌+◌, ◌<◌, ◌≤◌, List, [], ◌∷◌, ◌++◌, length, map, take, drop, Bool, true, false, ◌==◌, ◌||◌, Option, Some, None, option_map, is_some, MatchOption, IfSome, IfNone, Contains, String, string_bytes, slice_get, get_or, refl, sym, ap, ◌∙◌, lit≤, arith}
+use Rattle.std.proofs.Common.{◌≡◌, ◌≢◌, ℕ, ◌+◌, ◌<◌, ◌≤◌, List, [], ◌∷◌, ◌++◌, length, map, take, drop, Bool, true, false, cond, ◌==◌, ◌||◌, Option, Some, None, option_map, is_some, MatchOption, IfSome, IfNone, Contains, String, string_bytes, slice_get, get_or, refl, sym, ap, ◌∙◌, lit≤, arith}
 use Rattle.std.specs.List.{AllWithin, HoldsAt, IsDistinct, list_any}
 use Rattle.std.specs.Cmp.Lexicographic.{bytes_decides}
 use Rattle.std.proofs.lemmas.Bool.{false_from_ne_true}
@@ -46,7 +46,7 @@ no_name u name None h = λ k.
 no_name u name (Some i) h = tt
 
 -- the test that `name_fault` makes of the names, and what `position` answers
-pub has_name : (u : List Label) (name : List ℕ) (r : Option ℕ) → IfSome r (λ i. slice_get (names u) i ≡ Some name) → IfNone r (¬ Contains (names u) name) → list_any (λ l. same_text l.name name) u ≡ is_some r
+has_name : (u : List Label) (name : List ℕ) (r : Option ℕ) → IfSome r (λ i. slice_get (names u) i ≡ Some name) → IfNone r (¬ Contains (names u) name) → list_any (λ l. same_text l.name name) u ≡ is_some r
 has_name u name None found none = list_any_none (λ l. same_text l.name name) u (λ k d inside.
     let apart : same_text (get_or u k d).name name ≡ true → ⊥ = λ e. none (k, omega (arith, length-map u (λ (l : Label). l.name)), get_or-map (λ l. l.name) u k d name inside ∙ (bytes_decides (get_or u k d).name name).0 e) in
     false_from_ne_true _ apart)
@@ -57,11 +57,11 @@ has_name u name (Some i) found none =
 
 -- ---- A name beside the others.
 
-pub name_fault_taken : (u : List Label) (name : List ℕ) → (length name == 0) ≡ false → is_label_name name ≡ true → list_any (λ l. same_text l.name name) u ≡ true → name_fault u name ≡ Some kinds.Duplicate
-name_fault_taken u name some form taken = rw (some, form, taken)
-
-pub name_fault_free : (u : List Label) (name : List ℕ) → (length name == 0) ≡ false → is_label_name name ≡ true → list_any (λ l. same_text l.name name) u ≡ false → name_fault u name ≡ None
-name_fault_free u name some form free = rw (some, form, free)
+-- a name of the form is at fault where `position` finds it
+pub name_fault-of_form : (u : List Label) (name : List ℕ) (r : Option ℕ) (taken : Bool) → IfSome r (λ i. slice_get (names u) i ≡ Some name)
+    → IfNone r (¬ Contains (names u) name) → is_some r ≡ taken → (length name == 0) ≡ false → is_label_name name ≡ true
+    → name_fault u name ≡ cond taken (Some kinds.Duplicate) None
+name_fault-of_form u name r taken found none is some form = rw (some, form, has_name u name r found none ∙ is) refl
 
 -- ---- Values.
 
