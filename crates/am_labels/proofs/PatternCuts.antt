@@ -8,6 +8,8 @@ use Rattle.regex_hir.specs.Text.{is_some_and}
 use Rattle.am_labels.specs.PatternProfile.{ClassContext, outside_class, inside_class}
 use Rattle.am_labels.specs.PatternCut.{CutStep, first_step, is_clean_within, is_clean}
 use Rattle.am_labels.specs.PatternSteps.{context_of, region_of, step_of}
+use Rattle.am_labels.specs.declared.pattern_profile.Region.{Region}
+use Rattle.am_labels.specs.declared.pattern_profile.Region.TheVariants.{Outside, Inside}
 use Rattle.am_labels.specs.declared.pattern_profile.Step.{Step}
 
 same_on : (o : Option CutStep) (f g : CutStep → Bool) → ((s : CutStep) → f s ≡ g s)
@@ -59,6 +61,11 @@ pub is_clean-refused : (context : ClassContext) (t : List ℕ) → false ≡ (le
     → None ≡ step_of (first_step context t) → is_clean context t ≡ false
 is_clean-refused context [] some h = cc
 is_clean-refused context (c ∷ t) some h = by_none context c t (no_step (first_step context (c ∷ t)) h)
+
+-- a region is told by its context, and a context by its region
+pub region_back : (region : Region) → region_of (context_of region) ≡ region
+region_back Outside = refl
+region_back Inside = refl
 
 context_back : (context : ClassContext) → context_of (region_of context) ≡ context
 context_back outside_class = refl

@@ -25,7 +25,7 @@ use Rattle.am_labels.specs.PatternProfile.{StandsIn, context_after, is_refused_e
 use Rattle.am_labels.specs.PatternProfile.{is_refused_flag, is_refused}
 use Rattle.am_labels.specs.PatternCut.{step_to, step_by, up_to_brace, flag_run, digits_len}
 use Rattle.am_labels.specs.PatternCut.{begins_count, class_start_len, named_class_at, first_step}
-use Rattle.am_labels.specs.PatternCut.{is_clean}
+use Rattle.am_labels.specs.PatternCut.{unescaped_step, is_clean}
 use Rattle.am_labels.proofs.PatternCuts.{by_step, by_none}
 use Rattle.std.proofs.lemmas.List.Sums.{prefix_len-le-length}
 use Rattle.am_labels.proofs.MatcherTextLists.{prefix_whole, drop_prefix, take_prefix, all_of_prefix}
@@ -38,9 +38,8 @@ stepped context c t next width rest e left = by_step context c t (record { width
 
 escaped_step : (context : ClassContext) (d : ℕ) (u : List ℕ) (o : Option ℕ)
     → cond (is_refused_escape d) None (Some (2 + cond (takes_braces d && begins "{" u) (up_to_brace u) 0)) ≡ o → first_step context (92 ∷ d ∷ u) ≡ step_by context o
-unfolding first_step
-escaped_step outside_class d u o e = rw e refl
-escaped_step inside_class d u o e = rw e refl
+unfolding first_step unescaped_step
+escaped_step context d u o e = rw e refl
 
 clean_escape : (context : ClassContext) (d : ℕ) (u : List ℕ)
     → (takes_braces d && begins "{" u) ≡ false → is_clean context (92 ∷ d ∷ u) ≡ cond (is_refused_escape d) false (is_clean context u)
@@ -98,9 +97,8 @@ clean_open context d inner h free =
     (drop_all (2 + length (123 ∷ inner) - 1) (d ∷ 123 ∷ inner) (omega arith))
 
 clean_last : (context : ClassContext) → is_clean context (92 ∷ []) ≡ is_clean context []
-unfolding first_step
-clean_last outside_class = stepped outside_class 92 [] outside_class 1 [] refl refl
-clean_last inside_class = stepped inside_class 92 [] inside_class 1 [] refl refl
+unfolding first_step unescaped_step
+clean_last context = stepped context 92 [] context 1 [] refl refl
 
 -- ---- What is plain outside a class.
 
@@ -133,7 +131,7 @@ group_test c rest h = elim (cases_Bool (c == 40)) [
 
 clean_plain_outside : (c : ℕ) (rest : List ℕ) → is_plain_outside c rest ≡ true
     → is_clean outside_class (c ∷ rest) ≡ is_clean outside_class rest
-unfolding first_step
+unfolding first_step unescaped_step
 clean_plain_outside c rest h =
     let a = or_parts (c ∈ "\\{[") (c == 40 && begins "?" rest) (not-true _ h) in
     let b = or_parts (c == 92) ((c == 123) || (c == 91)) a.0 in
@@ -153,7 +151,7 @@ clean_run p (c ∷ run) rest safe h =
 
 flags_step : (t : List ℕ) (b : Bool) → list_any is_refused_flag (flag_run t) ≡ b
     → first_step outside_class (40 ∷ 63 ∷ t) ≡ cond b None (step_to outside_class 2)
-unfolding first_step
+unfolding first_step unescaped_step
 flags_step t b e = rw e refl
 
 clean_flags : (run rest : List ℕ) → (list_all is_flag run && not (is_flag (get_or rest 0 0))) ≡ true
@@ -193,7 +191,7 @@ count_begins least more rest h =
 
 brace_step : (t : List ℕ) (b : Bool) → begins_count t ≡ b
     → first_step outside_class (123 ∷ t) ≡ cond b (step_to outside_class 1) None
-unfolding first_step
+unfolding first_step unescaped_step
 brace_step t b e = rw e refl
 
 clean_upper : (more rest : List ℕ) → is_upper more ≡ true
@@ -255,7 +253,7 @@ clean_brace rest none =
 
 start_step : (t : List ℕ) (width : ℕ) → class_start_len (91 ∷ t) ≡ width
     → first_step outside_class (91 ∷ t) ≡ step_to inside_class width
-unfolding first_step
+unfolding first_step unescaped_step
 start_step t width e = rw e refl
 
 short_start : (rest : List ℕ)
@@ -279,7 +277,7 @@ clean_start false false rest h = stepped outside_class 91 rest inside_class 1 re
 
 bracket_step : (t : List ℕ) (o : Option (List ℕ)) → named_class_at (91 ∷ t) ≡ o
     → first_step inside_class (91 ∷ t) ≡ step_by inside_class (option_map length o)
-unfolding first_step
+unfolding first_step unescaped_step
 bracket_step t o e = rw e refl
 
 none_found : {X : Type 0} (test : X → Bool) (xs : List X) → list_any test xs ≡ false
@@ -402,7 +400,7 @@ clean_named named rest h =
 
 pair_step : (c : ℕ) (rest : List ℕ) → (c ∈ "&-~") ≡ true
     → first_step inside_class (c ∷ c ∷ rest) ≡ None
-unfolding first_step
+unfolding first_step unescaped_step
 pair_step c rest h = elim (cases_Bool (c == 38)) [
   | inl e ↦ rw (eqb-true c 38 e) refl
   | inr f ↦ elim (cases_Bool (c == 45)) [
@@ -428,7 +426,7 @@ not_twice c rest h among = rw among at h
 
 clean_plain_inside : (c : ℕ) (rest : List ℕ) → is_plain_inside c rest ≡ true
     → is_clean inside_class (c ∷ rest) ≡ is_clean inside_class rest
-unfolding first_step
+unfolding first_step unescaped_step
 clean_plain_inside c rest h =
     let a = or_parts (c ∈ "\\[]") (c ∈ "&-~" && get_or rest 0 0 == c) (not-true _ h) in
     let b = or_parts (c == 92) ((c == 91) || (c == 93)) a.0 in
@@ -440,7 +438,7 @@ clean_plain_inside c rest h =
     (rw (flipped 92 c b.0, flipped 91 c d.0, amp, dash, tilde, flipped 93 c d.1) refl) refl
 
 clean_class_end : (rest : List ℕ) → is_clean inside_class (93 ∷ rest) ≡ is_clean outside_class rest
-unfolding first_step
+unfolding first_step unescaped_step
 clean_class_end rest = stepped inside_class 93 rest outside_class 1 rest refl refl
 
 -- ---- Any piece.

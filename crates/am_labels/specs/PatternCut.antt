@@ -68,22 +68,25 @@ class_start_len t =
 abbrev pub named_class_at : List ℕ → Option (List ℕ)
 named_class_at t = find (λ named. starts_with nat_eq t named) named_classes
 
--- The first step through a text that is not empty; nothing where it is refused. (The rest of a run
--- of flags and of a count is plain by itself.)
-unfoldable pub first_step : ClassContext → List ℕ → Option CutStep
-first_step outside_class t =
-    if begins "\\" t then step_by outside_class (escape_len (drop 1 t))
-    else if begins "(?" t then
+-- The first step through a text that begins with something else than a backslash; nothing where it
+-- is refused. (The rest of a run of flags and of a count is plain by itself.)
+unfoldable pub unescaped_step : ClassContext → List ℕ → Option CutStep
+unescaped_step outside_class t =
+    if begins "(?" t then
     (if list_any is_refused_flag (flag_run (drop 2 t)) then None else step_to outside_class 2)
     else if begins "{" t then (if begins_count (drop 1 t) then step_to outside_class 1 else None)
     else if begins "[" t then step_to inside_class (class_start_len t)
     else step_to outside_class 1
-first_step inside_class t =
-    if begins "\\" t then step_by inside_class (escape_len (drop 1 t))
-    else if begins "[" t then step_by inside_class (option_map length (named_class_at t))
+unescaped_step inside_class t =
+    if begins "[" t then step_by inside_class (option_map length (named_class_at t))
     else if begins "&&" t || begins "--" t || begins "~~" t then None
     else if begins "]" t then step_to outside_class 1
     else step_to inside_class 1
+
+-- the first step through a text that is not empty; nothing where it is refused
+unfoldable pub first_step : ClassContext → List ℕ → Option CutStep
+first_step context t =
+    if begins "\\" t then step_by context (escape_len (drop 1 t)) else unescaped_step context t
 
 -- Nothing refused stands from there on. The number bounds how many steps there are: each takes one
 -- byte at least.

@@ -1,7 +1,7 @@
 ghost use Rattle.std.specs.Prelude.{◌≡◌, ◌≤◌, ◌<◌, length, option_map, map, IfSome, ◌==◌, nat_eq, ◌+◌, not};
 ghost use Rattle.std.specs.List.{list_any, find, starts_with, position};
 ghost use Rattle.am_labels.specs.PatternProfile.{outside_class, inside_class, is_refused_escape, is_refused_flag};
-ghost use Rattle.am_labels.specs.PatternCut.{in_profile, first_step, escape_len, flag_run, flag_run_len, begins_count, digits_len, class_start_len, named_class_at, up_to_brace, braces_len};
+ghost use Rattle.am_labels.specs.PatternCut.{in_profile, first_step, unescaped_step, escape_len, flag_run, flag_run_len, begins_count, digits_len, class_start_len, named_class_at, up_to_brace, braces_len};
 ghost use Rattle.am_labels.specs.PatternSteps.{context_of, step_of};
 
 /// Where a piece of a pattern stands: outside or inside a class.
@@ -44,30 +44,31 @@ pub(crate) fn is_in_profile(pattern: &str) -> bool
 }
 
 /// The first step through a text; `None` where it is refused.
+#[tactic(auto, using(crate::proofs::PatternCuts::region_back), unfolding(crate::specs::PatternCut::first_step))]
 fn first_step(region: Region, text: &[u8]) -> Option<Step>
     requires { 0 < length text.now }
     ensures value { result ≡ step_of (first_step (context_of region) text.now) }
     ensures within { IfSome result (λ step. step.width ≤ length text.now) }
     ensures some { IfSome result (λ step. 0 < step.width) }
 {
+    if text.starts_with(b"\\") {
+        let width = escape_len(&text[1..])?;
+        return Some(Step::to(width, region));
+    }
     match region {
         Region::Outside => outside_step(text),
         Region::Inside => inside_step(text),
     }
 }
 
-/// The first step through a text outside a class.
-#[tactic(auto, unfolding(crate::specs::PatternCut::first_step))]
+/// The first step outside a class, through a text that begins with no backslash.
+#[tactic(auto, unfolding(crate::specs::PatternCut::unescaped_step))]
 fn outside_step(text: &[u8]) -> Option<Step>
     requires { 0 < length text.now }
-    ensures value { result ≡ step_of (first_step outside_class text.now) }
+    ensures value { result ≡ step_of (unescaped_step outside_class text.now) }
     ensures within { IfSome result (λ step. step.width ≤ length text.now) }
     ensures some { IfSome result (λ step. 0 < step.width) }
 {
-    if text.starts_with(b"\\") {
-        let width = escape_len(&text[1..])?;
-        return Some(Step::to(width, Region::Outside));
-    }
     if text.starts_with(b"(?") {
         return has_only_common_flags(&text[2..]).then_some(Step::to(2, Region::Outside));
     }
@@ -80,18 +81,14 @@ fn outside_step(text: &[u8]) -> Option<Step>
     Some(Step::to(1, Region::Outside))
 }
 
-/// The first step through a text inside a class.
-#[tactic(auto, unfolding(crate::specs::PatternCut::first_step))]
+/// The first step inside a class, through a text that begins with no backslash.
+#[tactic(auto, unfolding(crate::specs::PatternCut::unescaped_step))]
 fn inside_step(text: &[u8]) -> Option<Step>
     requires { 0 < length text.now }
-    ensures value { result ≡ step_of (first_step inside_class text.now) }
+    ensures value { result ≡ step_of (unescaped_step inside_class text.now) }
     ensures within { IfSome result (λ step. step.width ≤ length text.now) }
     ensures some { IfSome result (λ step. 0 < step.width) }
 {
-    if text.starts_with(b"\\") {
-        let width = escape_len(&text[1..])?;
-        return Some(Step::to(width, Region::Inside));
-    }
     if text.starts_with(b"[") {
         let width = named_class_len(text)?;
         return Some(Step::to(width, Region::Inside));
