@@ -2,6 +2,7 @@ mod Patterns
 mod PatternCuts
 mod PatternForms
 mod PatternJoins
+mod PatternUnique
 mod PatternWords
 pub mod MatcherTextPlaces
 pub mod MatcherTextUtf8

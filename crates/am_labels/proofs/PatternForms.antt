@@ -164,7 +164,7 @@ clean_flags run rest h =
       | inr f ↦ rw f (stepped outside_class 40 (63 ∷ (run ++ rest)) outside_class 2 (run ++ rest) (flags_step (run ++ rest) false (same ∙ f)) refl ∙ clean_run is_flag run rest flag_safe parts.0)
     ]
 
-upper_ends_digits : (more rest : List ℕ) → is_upper more ≡ true
+pub upper_ends_digits : (more rest : List ℕ) → is_upper more ≡ true
     → is_ascii_digit (get_or (more ++ 125 ∷ rest) 0 0) ≡ false
 upper_ends_digits [] rest h = refl
 upper_ends_digits (c ∷ m) rest h = let comma = eqb-true c 44 (and_parts (c == 44) (list_all is_ascii_digit m) h).0 in rw comma refl
@@ -280,7 +280,7 @@ bracket_step : (t : List ℕ) (o : Option (List ℕ)) → named_class_at (91 ∷
 unfolding first_step unescaped_step
 bracket_step t o e = rw e refl
 
-none_found : {X : Type 0} (test : X → Bool) (xs : List X) → list_any test xs ≡ false
+pub none_found : {X : Type 0} (test : X → Bool) (xs : List X) → list_any test xs ≡ false
     → find test xs ≡ None
 none_found test [] h = refl
 none_found test (x ∷ xs) h =

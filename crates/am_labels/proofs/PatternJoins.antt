@@ -190,7 +190,7 @@ front inside_class c t = inside_front c t
 
 -- ---- All pieces of a text.
 
-some_text : (context : ClassContext) (piece : Piece) (rest : List ℕ) → StandsIn context piece rest
+pub some_text : (context : ClassContext) (piece : Piece) (rest : List ℕ) → StandsIn context piece rest
     → 0 < length (piece_text piece)
 some_text context (escape c) rest h = omega arith
 some_text context (braced_escape c inner) rest h = omega arith

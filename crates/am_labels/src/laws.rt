@@ -27,6 +27,11 @@ pub fn each_pattern_is_a_join()
     ensures { (pattern : List ℕ) → (pieces : List Piece) × IsJoinOf pattern pieces }
 {}
 
+/// It is the join of no other pieces.
+pub fn one_join_a_pattern()
+    ensures { (pattern : List ℕ) (a b : List Piece) → IsJoinOf pattern a → IsJoinOf pattern b → a ≡ b }
+{}
+
 /// A pattern is of the profile exactly where the test passes that cuts it step by step.
 pub fn the_profile_is_decided()
     ensures { (pattern : List ℕ) → IsInProfile pattern ↔ IsTrue (in_profile pattern) }
