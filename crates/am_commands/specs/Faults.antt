@@ -4,10 +4,10 @@ use Rattle.am_universe.specs.declared.place.Place.{Place}
 use Rattle.am_universe.specs.declared.place.Place.TheVariants as places
 use Rattle.am_universe.specs.Universe.{Label}
 use Rattle.am_files.specs.Pointer.{Refusal}
-use Rattle.am_files.specs.UniverseFile.{FileSaysUniverse, fault_of_universe_file}
+use Rattle.am_files.specs.UniverseFile.{FileSaysUniverse}
+use Rattle.am_files.specs.UniverseFaults.{IsFirstFaultOfUniverseFile}
 use Rattle.am_files.specs.ConfigFile.{Configuration, FileSaysConfig}
-use Rattle.am_files.specs.ConfigReading.{read_config_file}
-use Rattle.am_files.specs.Reading.{MayRefuse}
+use Rattle.am_files.specs.ConfigFaults.{ConfigFileRefusedFor}
 use Rattle.am_commands.specs.Question.{Question}
 use Rattle.am_commands.specs.QuestionText.{ReadsQuestion, RefusesQuestionText}
 
@@ -44,7 +44,7 @@ abbrev pub universe_stage : List ℕ → Stage
 universe_stage bytes = record {
   place = places.Universe;
   accepts = SaysSomeUniverse bytes;
-  refuses = λ r. fault_of_universe_file bytes ≡ Some r;
+  refuses = IsFirstFaultOfUniverseFile bytes;
 }
 
 -- the configuration file
@@ -52,7 +52,7 @@ abbrev pub config_stage : List ℕ → Stage
 config_stage bytes = record {
   place = places.Config;
   accepts = SaysSomeConfig bytes;
-  refuses = MayRefuse (read_config_file bytes);
+  refuses = ConfigFileRefusedFor bytes;
 }
 
 -- the text of the question, whose faults stand at no part of a file

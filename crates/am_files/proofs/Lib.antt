@@ -12,3 +12,7 @@ pub mod Routing
 pub mod Sound
 pub mod ConfigParts
 pub mod ConfigSays
+pub mod PlaceOrder
+pub mod PlaceLemmas
+pub mod ObjectLemmas
+pub mod UniverseFaultLemmas

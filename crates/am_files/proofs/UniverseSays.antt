@@ -65,7 +65,7 @@ read_value_reads : (d : Data) (value : Option (List ℕ)) → SaysValue d value
 read_value_reads d None said = rw said refl
 read_value_reads d (Some t) said = rw said refl
 
-value_says : (before : Values) (d : Data) (value : Option (List ℕ))
+pub value_says : (before : Values) (d : Data) (value : Option (List ℕ))
     → (read_next_value before d).result ≡ Ok value → SaysValue d value × ValueFits before value
 unfolding read_next_value
 value_says before d value h =
@@ -148,7 +148,7 @@ pub record LabelFits (before : List Label) (label : Label) : Type 0 where
   pub name : name_fault before label.name ≡ None
   pub values : label_values_fault label.values ≡ None
 
-label_says : (before : List Label) (d : Data) (label : Label)
+pub label_says : (before : List Label) (d : Data) (label : Label)
     → (read_next_label before d).result ≡ Ok label → SaysLabel d label × LabelFits before label
 unfolding read_next_label
 label_says before d label h =

@@ -6,3 +6,5 @@ pub mod ConfigFile
 pub mod ConfigReading
 pub mod RouteView
 pub mod ConfigView
+pub mod Places
+pub mod UniverseFaults

@@ -1,6 +1,6 @@
 //! What holds of the files' forms, for every JSON value and all bytes.
 
-ghost use Rattle.std.specs.Prelude.{◌≡◌, ◌↔◌, ℕ, List, None, Ok};
+ghost use Rattle.std.specs.Prelude.{◌≡◌, ◌↔◌, ℕ, List, None, Ok, Err};
 ghost use Rattle.serde_json.specs.Data.{Data};
 ghost use Rattle.am_universe.specs.Universe.{Label};
 ghost use Rattle.am_files.specs.declared.limits.TheConstants.{MAX_FILE_BYTES, MAX_LEVELS};
@@ -11,15 +11,23 @@ ghost use Rattle.am_files.specs.ConfigReading.{fault_of_config_file};
 ghost use Rattle.am_files.specs.UniverseFile.{SaysUniverse, FileSaysUniverse, read_universe};
 ghost use Rattle.am_files.specs.UniverseFile.{read_universe_file, fault_of_universe};
 ghost use Rattle.am_files.specs.UniverseFile.{fault_of_universe_file};
+ghost use Rattle.am_files.specs.Pointer.{Refusal};
+ghost use Rattle.am_files.specs.UniverseFaults.{UniversePlace, universe_fault_at};
+ghost use Rattle.am_files.specs.UniverseFaults.{IsFirstFaultOfUniverse, IsFirstFaultOfUniverseFile};
 
 /// A JSON value says a universe exactly where reading it gives that universe. So it says at most
-/// one, and it has no fault exactly where it says one.
+/// one, and it has no fault exactly where it says one. What reading refuses it for is the first
+/// fault by the places of the form, and it says a universe exactly where no place is at fault.
 pub fn universes_are_read()
     ensures read { (d : Data) (u : List Label)
         → SaysUniverse d u ↔ ((read_universe d).result ≡ Ok u) }
     ensures one { (d : Data) (u v : List Label) → SaysUniverse d u → SaysUniverse d v → u ≡ v }
     ensures faults { (d : Data)
         → (fault_of_universe d ≡ None) ↔ ((u : List Label) × SaysUniverse d u) }
+    ensures first { (d : Data) (r : Refusal)
+        → ((read_universe d).result ≡ Err r) ↔ IsFirstFaultOfUniverse d r }
+    ensures sound { (d : Data) → ((u : List Label) × SaysUniverse d u)
+        ↔ ((place : UniversePlace) → universe_fault_at d place ≡ None) }
 {}
 
 /// The same of the bytes of a file.
@@ -30,6 +38,8 @@ pub fn universe_files_are_read()
         → FileSaysUniverse bytes v → u ≡ v }
     ensures faults { (bytes : List ℕ)
         → (fault_of_universe_file bytes ≡ None) ↔ ((u : List Label) × FileSaysUniverse bytes u) }
+    ensures first { (bytes : List ℕ) (r : Refusal)
+        → ((read_universe_file bytes).result ≡ Err r) ↔ IsFirstFaultOfUniverseFile bytes r }
 {}
 
 /// A JSON value says a configuration exactly where reading it gives that configuration, with each

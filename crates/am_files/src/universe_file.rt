@@ -13,6 +13,7 @@ ghost use Rattle.am_files.specs.Reading.{Gives, refusal_of, reading_within, read
 ghost use Rattle.am_files.specs.UniverseFile.{read_value, read_next_value, read_values};
 ghost use Rattle.am_files.specs.UniverseFile.{read_next_label, read_labels, read_universe};
 ghost use Rattle.am_files.specs.UniverseFile.{read_universe_file, FileSaysUniverse};
+ghost use Rattle.am_files.specs.UniverseFaults.{IsFirstFaultOfUniverseFile};
 
 use crate::json::{
     as_text, check_count, check_only_fields, read_json, refuse_for, required_items, required_text,
@@ -47,11 +48,10 @@ use std::alloc::{AllocError, Global};
 ///
 /// `Memory`, at the place `Memory` and the empty pointer, comes only where memory was refused.
 pub fn read_universe(alloc: Global, bytes: &[u8]) -> Result<Universe, Fault>
-    ensures found { IfOk result (λ u. (read_universe_file bytes.now).result ≡ Ok u) }
     ensures says { IfOk result (λ u. FileSaysUniverse bytes.now u) }
     ensures first { IfErr result (λ fault. fault.kind ≢ kinds.Memory
         → (fault.place ≡ places.Universe)
-        × ((read_universe_file bytes.now).result ≡ Err (refusal_of fault))) }
+        × IsFirstFaultOfUniverseFile bytes.now (refusal_of fault)) }
     ensures memory { IfErr result (λ fault. fault.kind ≡ kinds.Memory
         → (fault.place ≡ places.Memory) × (string_bytes fault.pointer ≡ [])) }
     ensures no_write { IfErr result (λ fault. fault.kind ≢ kinds.Write) }

@@ -1,5 +1,6 @@
 use Rattle.am_files.proofs.Readings.{says_one, fault_decides}
 use Rattle.am_files.proofs.UniverseSays.{universe_decides, universe_says, universe_reads}
+use Rattle.am_files.proofs.UniverseFaultLemmas.{universe_first, universe_sound}
 use Rattle.am_files.proofs.laws.universes_are_read.Goals as goal
 
 pub returns-clause-read : goal.returns-clause-read
@@ -10,3 +11,9 @@ returns-clause-one c = λ d u v. says_one (universe_decides d) u v
 
 pub returns-clause-faults : goal.returns-clause-faults
 returns-clause-faults c = λ d. fault_decides (universe_decides d)
+
+pub returns-clause-first : goal.returns-clause-first
+returns-clause-first c = λ d r. universe_first d r
+
+pub returns-clause-sound : goal.returns-clause-sound
+returns-clause-sound c = λ d. universe_sound d

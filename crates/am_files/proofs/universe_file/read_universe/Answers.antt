@@ -2,6 +2,7 @@ use Rattle.am_universe.specs.declared.place.Place.TheVariants as places
 use Rattle.am_files.specs.Reading.{refusal_of}
 use Rattle.am_files.specs.UniverseFile.{read_universe_file}
 use Rattle.am_files.proofs.Readings.{fault_of_file}
+use Rattle.am_files.proofs.UniverseFaultLemmas.{universe_file_first}
 use Rattle.am_files.proofs.UniverseSays.{file_says, file_refuses}
 use Rattle.am_files.proofs.universe_file.read_universe.Goals as goal
 
@@ -10,7 +11,9 @@ returns-in-Ok-clause-says c = file_says c.args.bytes.now c.in-Ok.universe c.in-O
 
 pub returns-in-Err-clause-first : goal.returns-in-Err-clause-first
 returns-in-Err-clause-first c = λ other.
+    let bytes = c.args.bytes.now in
+    let refusal = refusal_of c.at.result in
     let is =
-    fault_of_file places.Universe c.in-Err.error c.at.result
-    (read_universe_file c.args.bytes.now) c.at.ensures c.in-Err.ensures other in
-    (is.0, file_refuses c.args.bytes.now (refusal_of c.at.result) is.1)
+    fault_of_file places.Universe c.in-Err.error c.at.result (read_universe_file bytes)
+    c.at.ensures c.in-Err.ensures other in
+    (is.0, (universe_file_first bytes refusal).0 (file_refuses bytes refusal is.1))
