@@ -16,3 +16,8 @@ pub mod PlaceOrder
 pub mod PlaceLemmas
 pub mod ObjectLemmas
 pub mod UniverseFaultLemmas
+pub mod ConfigExamples
+pub mod MatcherFaultLemmas
+pub mod PairFaultLemmas
+pub mod RouteFaultLemmas
+pub mod ConfigFaultLemmas

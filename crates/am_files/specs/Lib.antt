@@ -8,3 +8,4 @@ pub mod RouteView
 pub mod ConfigView
 pub mod Places
 pub mod UniverseFaults
+pub mod ConfigFaults

@@ -22,6 +22,7 @@ ghost use Rattle.am_files.specs.ConfigReading.{read_continue, refuse_inhibit_rul
 ghost use Rattle.am_files.specs.ConfigReading.{read_route_fields, read_matchers, read_children};
 ghost use Rattle.am_files.specs.ConfigReading.{read_next_child, read_config, read_config_file};
 ghost use Rattle.am_files.specs.Json.{field};
+ghost use Rattle.am_files.specs.ConfigFaults.{ConfigFileRefusedFor};
 
 use crate::config::Config;
 use crate::json::{
@@ -91,11 +92,10 @@ const ROUTE_FIELDS: [&str; 12] = [
 /// engine's to judge, and comes at the first that the engine's grammar does not read. `Memory`, at
 /// the place `Memory` and the empty pointer, comes only where memory was refused.
 pub fn read_config(alloc: Global, bytes: &[u8]) -> Result<Config, Fault>
-    ensures found { IfOk result (λ c. (read_config_file bytes.now).result ≡ Ok (config_view c)) }
     ensures says { IfOk result (λ c. FileSaysConfig bytes.now (config_view c)) }
     ensures first { IfErr result (λ fault. fault.kind ≢ kinds.Memory
         → (fault.place ≡ places.Config)
-        × MayRefuse (read_config_file bytes.now) (refusal_of fault)) }
+        × ConfigFileRefusedFor bytes.now (refusal_of fault)) }
     ensures memory { IfErr result (λ fault. fault.kind ≡ kinds.Memory
         → (fault.place ≡ places.Memory) × (string_bytes fault.pointer ≡ [])) }
     ensures no_write { IfErr result (λ fault. fault.kind ≢ kinds.Write) }

@@ -1,0 +1,492 @@
+-- The first fault of pairs of a name and a text, by their places.
+use Rattle.std.proofs.Common.{◌≡◌, ℕ, zero, suc, ◌+◌, ◌<◌, ◌≤◌, List, [], ◌∷◌, ◌++◌, length, map}
+use Rattle.std.proofs.Common.{take, slice_get, Option, Some, None, is_some, unwrap_or, option_map}
+use Rattle.std.proofs.Common.{option_and_then, Result, Ok, Err, Bool, true, false, not, ◌&&◌}
+use Rattle.std.proofs.Common.{nat_lt, inl, inr, refl, sym, ap, subst, ◌∙◌, arith, length-append}
+use Rattle.std.proofs.Common.{append-nil, add-zero}
+use Rattle.std.specs.Prelude.{⊤, if◌then◌else◌, IsTrue}
+use Rattle.serde_json.specs.Data.{Data, Members}
+use Rattle.serde_json.specs.Find as find
+use Rattle.am_universe.specs.declared.kind.Kind.{Kind}
+use Rattle.am_universe.specs.declared.kind.Kind.TheVariants as kinds
+use Rattle.am_labels.specs.declared.op.Op.{Op}
+use Rattle.am_labels.specs.Matcher.{Condition, max_matchers}
+use Rattle.am_labels.specs.MatcherRefusals.{has_sound_value, pattern_refusal}
+use Rattle.am_files.specs.Json.{member_list}
+use Rattle.am_files.specs.Pointer.{Refusal, refusal_here, to_field}
+use Rattle.am_files.specs.Reading.{Reading, ◌>>=◌, accept, accept_some, refuse_for, check_count}
+use Rattle.am_files.specs.Reading.{reading_within, result_then, patterns_then, IsPatternRefusal}
+use Rattle.am_files.specs.Reading.{read_each}
+use Rattle.am_files.specs.ConfigReading.{is_empty, check_patterns, profile_patterns}
+use Rattle.am_files.specs.ConfigReading.{append_matchers, read_named_text, read_matcher_pair}
+use Rattle.am_files.specs.ConfigReading.{read_next_pair, read_pairs, optional_pairs}
+use Rattle.am_files.specs.ConfigReading.{refuse_root_matchers}
+use Rattle.am_files.specs.Places.{Step, known_member, turn, rank_of, OnlyPlace, only_path}
+use Rattle.am_files.specs.Places.{IsMetPattern, shape_or, if_there, limit_fault}
+use Rattle.am_files.specs.ConfigFaults.{PairsPlace, pairs_itself, one_pair, pair_total, pairs_given}
+use Rattle.am_files.specs.ConfigFaults.{pairs_path, pair_name, name_of_pair, pair_matcher}
+use Rattle.am_files.specs.ConfigFaults.{pair_fault, one_pattern_fault, given_fault, object_shape}
+use Rattle.am_files.specs.ConfigFaults.{field_pairs, pairs_fault, pairs_matcher, is_profile_pattern}
+use Rattle.am_files.proofs.PlaceOrder.{lead, none_before_itself}
+use Rattle.am_files.proofs.PlaceLemmas.{Form, Tells, Judges, one_place, judges_plain, itself_first}
+use Rattle.am_files.proofs.PlaceLemmas.{only_first, Clear, IsPart, part_judges, result_ok, same_ok}
+use Rattle.am_files.proofs.PlaceLemmas.{inner_ok, Sequence, sequence_form, fault_of_next}
+use Rattle.am_files.proofs.PlaceLemmas.{pattern_of_next, next_form, Loop, each_loop, all_judge}
+use Rattle.am_files.proofs.PlaceLemmas.{all_read, refuse_judges, within_nothing, slice_get_at}
+use Rattle.am_files.proofs.MatcherFaultLemmas.{met_pattern}
+
+-- ---- One pair.
+
+abbrev pair_form : Op → List ℕ × Data → Form OnlyPlace
+pair_form op pair = record {
+  path = only_path;
+  fault_at = λ _. pair_fault op pair;
+  has_pattern = λ _. is_profile_pattern (pair_matcher op pair);
+}
+
+abbrev matcher_form : Condition → Form OnlyPlace
+matcher_form m = record {
+  path = only_path;
+  fault_at = λ _. one_pattern_fault m;
+  has_pattern = λ _. is_profile_pattern (Some m);
+}
+
+only_met : (m : Condition) (j : ℕ) → is_profile_pattern (slice_get (m ∷ []) j) ≡ true
+    → is_profile_pattern (Some m) ≡ true
+only_met m zero h = h
+only_met m (suc j) h = absurd cc
+
+-- the pattern of one matcher
+matcher_judged : (m : Condition)
+    → Judges (matcher_form m) (check_patterns (m ∷ []) >>= λ _. accept m)
+matcher_judged m = record {
+  tells =
+      by (one_pattern_fault m);
+  meets = λ r h. meets r (checked_met (one_pattern_fault m) r h);
+} where
+  by : (cause : Option Kind) → Tells (one_place cause) (refuse_for cause >>= λ _. accept m).result
+  by None = λ _. refl
+  by (Some kind) = only_first (Some kind) kind refl
+
+  checked_met : (cause : Option Kind) (r : Refusal)
+      → IsPatternRefusal (profile_patterns (m ∷ [])
+      ++ patterns_then (refuse_for cause).result (λ _. [])) r
+      → IsPatternRefusal (profile_patterns (m ∷ [])) r
+  checked_met None r h = rw (append-nil (profile_patterns (m ∷ []))) at h
+  checked_met (Some kind) r h = rw (append-nil (profile_patterns (m ∷ []))) at h
+
+  meets : (r : Refusal) → IsPatternRefusal (profile_patterns (m ∷ [])) r
+      → IsMetPattern only_path (λ (_ : OnlyPlace). one_pattern_fault m)
+      (λ _. is_profile_pattern (Some m)) r
+  meets r h =
+      let found = met_pattern (m ∷ []) r h in
+      record {
+        place = tt;
+        stands = (only_met m found.0 found.1, ap (λ (q : Refusal). q.kind) found.2);
+        pointer = ap (λ (q : Refusal). q.pointer) found.2;
+        none_before = λ before b. absurd (none_before_itself [] b);
+      }
+
+abbrev made : Op → List ℕ → List ℕ → Condition
+made op name value = record { name = name; op = op; value = value }
+
+abbrev found_form : Op → List ℕ → Option (List ℕ) → Form OnlyPlace
+found_form op name found = record {
+  path = only_path;
+  fault_at = λ _. shape_or one_pattern_fault (option_map (made op name) found);
+  has_pattern = λ _. is_profile_pattern (option_map (made op name) found);
+}
+
+value_judged : (op : Op) (name : List ℕ) (found : Option (List ℕ))
+    → Judges (found_form op name found)
+    (accept_some found (refusal_here kinds.Shape)
+    >>= λ value. check_patterns (made op name value ∷ []) >>= λ _. accept (made op name value))
+value_judged op name None =
+    record { tells = only_first (Some kinds.Shape) kinds.Shape refl; meets = λ r h. absurd h }
+value_judged op name (Some value) = matcher_judged (made op name value)
+
+pair_judged : (op : Op) (name : List ℕ) (d : Data)
+    → Judges (pair_form op (name, d)) (read_matcher_pair op name d)
+unfolding read_matcher_pair read_named_text
+pair_judged op [] d =
+    record { tells = only_first (Some kinds.Empty) kinds.Empty refl; meets = λ r h. absurd h }
+pair_judged op (c ∷ cs) d = value_judged op (c ∷ cs) (find.as_str d)
+
+-- ---- A pair behind others.
+
+pub data OnePair : Type 0 where
+  pair_self : OnePair
+  pair_sum : OnePair
+
+module _ (op : Op) (before : ℕ) (pairs : List (List ℕ × Data)) where
+  abbrev one_pair_path : ℕ → OnePair → List Step
+  one_pair_path j pair_self = known_member 0 (pair_name pairs j) ∷ []
+  one_pair_path j pair_sum = turn 1 ∷ []
+
+  abbrev one_pair_fault : List (List ℕ × Data) → List ℕ × Data → OnePair → Option Kind
+  one_pair_fault front pair pair_self = pair_fault op pair
+  one_pair_fault front pair pair_sum = limit_fault max_matchers (before + (length front + 1))
+
+  abbrev one_pair_pattern : List ℕ × Data → OnePair → Bool
+  one_pair_pattern pair pair_self = is_profile_pattern (pair_matcher op pair)
+  one_pair_pattern pair pair_sum = false
+
+  abbrev pairs_sequence : Sequence (List ℕ × Data) OnePair
+  pairs_sequence = record {
+    step = turn;
+    rank = λ i. refl;
+    path = one_pair_path;
+    fault_in = one_pair_fault;
+    pattern_in = one_pair_pattern;
+  }
+
+  module _ (front : List (List ℕ × Data)) (name : List ℕ) (d : Data) (back : List (List ℕ × Data))
+      (e : pairs ≡ front ++ (name, d) ∷ back) where
+    abbrev next_pair_form : Form OnePair
+    next_pair_form = next_form pairs_sequence front (name, d)
+
+    named : pair_name pairs (length front) ≡ name
+    named = ap (λ (ps : List (List ℕ × Data)). name_of_pair (slice_get ps (length front))) e
+        ∙ ap name_of_pair (slice_get_at front (name, d) back)
+
+    self_covers : (place : OnePair) → lead (rank_of (one_pair_path (length front) place)) ≡ 1
+        → ⊤ × (place ≡ pair_self)
+    self_covers pair_self h = (tt, refl)
+    self_covers pair_sum h = absurd (omega (arith, h))
+
+    sum_covers : (place : OnePair) → lead (rank_of (one_pair_path (length front) place)) ≡ 2
+        → ⊤ × (place ≡ pair_sum)
+    sum_covers pair_self h = absurd (omega (arith, h))
+    sum_covers pair_sum h = (tt, refl)
+
+    self_part : IsPart next_pair_form 0 (known_member 0 name) (pair_form op (name, d))
+        (λ _. pair_self)
+    self_part = record {
+      rank =
+          refl;
+      is_path = λ _. ap (λ (key : List ℕ). known_member 0 key
+          ∷ []) named;
+      is_fault = λ _. refl;
+      is_pattern = λ _. refl;
+      covers = self_covers;
+    }
+
+    sum_part : IsPart next_pair_form 1 (turn 1)
+        (one_place (limit_fault max_matchers (before + (length front + 1)))) (λ _. pair_sum)
+    sum_part = record {
+      rank =
+          refl;
+      is_path =
+          λ _. refl;
+      is_fault = λ _. refl;
+      is_pattern = λ _. refl;
+      covers = sum_covers;
+    }
+
+    none_yet : Clear next_pair_form 1
+    none_yet pair_self lt = absurd (omega (arith, lt))
+    none_yet pair_sum lt = absurd (omega (arith, lt))
+
+    pair_clear : Clear next_pair_form 3 → (place : OnePair)
+        → one_pair_fault front (name, d) place ≡ None
+    pair_clear clear pair_self = clear pair_self (omega arith)
+    pair_clear clear pair_sum = clear pair_sum (omega arith)
+
+    sum_judged : (a : List Condition) (m : Condition) → length a ≡ before + length front
+        → Clear next_pair_form 2 → Judges next_pair_form (append_matchers a (m ∷ []))
+    sum_judged a m long clear =
+        let count : before + (length front + 1) ≡ length a + 1 = omega (arith, long) in
+        let cause = limit_fault max_matchers (before + (length front + 1)) in
+        let judged = part_judges next_pair_form 1 (turn 1) (one_place cause) (λ _. pair_sum)
+        sum_part clear
+        (refuse_for cause) (λ _. accept (a ++ m ∷ [])) (refuse_judges cause)
+        (λ _ _ all. judges_plain next_pair_form (Ok (a ++ m ∷ [])) (pair_clear all)) in
+        let plain = subst (λ (c : Reading ⊤). Judges next_pair_form
+        (c >>= λ _. accept (a ++ m ∷ []))) (within_nothing (refuse_for cause)) judged in
+        subst (λ (n : ℕ). Judges next_pair_form
+        (refuse_for (limit_fault max_matchers n) >>= λ _. accept (a ++ m ∷ []))) count plain
+
+    next_judged : (a : List Condition) → length a ≡ before + length front
+        → Judges next_pair_form (read_next_pair op a (name, d))
+    unfolding read_next_pair
+    next_judged a long =
+        part_judges next_pair_form 0 (known_member 0 name) (pair_form op (name, d)) (λ _. pair_self)
+        self_part none_yet
+        (read_matcher_pair op name d) (λ m. append_matchers a (m ∷ [])) (pair_judged op name d)
+        (λ m _ clear. sum_judged a m long clear)
+
+  -- ---- All pairs.
+
+  abbrev AreCounted : List (List ℕ × Data) → List Condition → Type 0
+  AreCounted front a = length a ≡ before + length front
+
+  next_sound : (front : List (List ℕ × Data)) (pair : List ℕ × Data) (back : List (List ℕ × Data))
+      (a : List Condition) → pairs ≡ front ++ pair ∷ back → AreCounted front a
+      → (m : Reading (List Condition))
+      × ((each_loop (read_next_pair op)).read (length front) a pair ≡ reading_within [] m)
+      × Judges (next_form pairs_sequence front pair) m
+  next_sound front (name, d) back a e long = (
+    read_next_pair op a (name, d),
+    sym (within_nothing (read_next_pair op a (name, d))),
+    next_judged front name d back e a long,
+  )
+
+  next_gives : (pair : List ℕ × Data) (a b : List Condition)
+      → (read_next_pair op a pair).result ≡ Ok b → length b ≡ length a + 1
+  unfolding read_next_pair
+  next_gives (name, d) a b ok =
+      let made = result_ok (reading_within (to_field name) (read_matcher_pair op name d)).result
+      (λ m. (append_matchers a (m ∷ [])).result) b ok in
+      let count = result_ok (check_count max_matchers (length a + 1)).result
+      (λ _. (accept (a ++ made.0 ∷ [])).result) b made.2 in
+      let same : a ++ made.0 ∷ [] ≡ b = same_ok (a ++ made.0 ∷ []) b count.2 in
+      sym (ap length same) ∙ length-append a (made.0 ∷ [])
+
+  next_counted : (front : List (List ℕ × Data)) (pair : List ℕ × Data) (back : List (List ℕ × Data))
+      (a b : List Condition) → pairs ≡ front ++ pair ∷ back → AreCounted front a
+      → ((each_loop (read_next_pair op)).read (length front) a pair).result ≡ Ok b
+      → AreCounted (front ++ pair ∷ []) b
+  next_counted front pair back a b e long ok =
+      omega (arith, long, next_gives pair a b ok, length-append front (pair ∷ []))
+
+  pairs_judged : (a : List Condition) → length a ≡ before
+      → Judges (sequence_form pairs_sequence pairs) (read_each (read_next_pair op) a pairs)
+  pairs_judged a long =
+      all_judge (each_loop (read_next_pair op)) pairs_sequence pairs AreCounted next_sound
+      next_counted a (omega (arith, long))
+
+  pairs_counted : (a b : List Condition) → length a ≡ before
+      → (read_each (read_next_pair op) a pairs).result ≡ Ok b → length b ≡ before + length pairs
+  pairs_counted a b long ok =
+      all_read (each_loop (read_next_pair op)) pairs_sequence pairs AreCounted next_sound
+      next_counted a b (omega (arith, long)) ok
+
+abbrev pub pairs_form : Bool → Op → ℕ → Option Kind → List (List ℕ × Data) → Form PairsPlace
+pairs_form is_root op before itself pairs = record {
+  path = pairs_path pairs;
+  fault_at = pairs_fault is_root op before itself pairs;
+  has_pattern = λ place. is_profile_pattern (pairs_matcher op pairs place);
+}
+
+abbrev into_pairs : ℕ × OnePair → PairsPlace
+into_pairs (j, pair_self) = one_pair j
+into_pairs (j, pair_sum) = pair_total j
+
+module _ (is_root : Bool) (op : Op) (before : ℕ) (pairs : List (List ℕ × Data)) where
+  abbrev whole_pairs : Form PairsPlace
+  whole_pairs = pairs_form is_root op before None pairs
+
+  abbrev in_pairs : Sequence (List ℕ × Data) OnePair
+  in_pairs = pairs_sequence op before pairs
+
+  into_path : (place : ℕ × OnePair)
+      → pairs_path pairs (into_pairs place) ≡ turn 0
+      ∷ (turn place.0 ∷ one_pair_path op before pairs place.0 place.1)
+  into_path (j, pair_self) = refl
+  into_path (j, pair_sum) = refl
+
+  self_at : (j : ℕ) (found : Option (List ℕ × Data))
+      → if_there (pair_fault op) found ≡ fault_of_next in_pairs (take j pairs) found pair_self
+  self_at j None = refl
+  self_at j (Some pair) = refl
+
+  sum_at : (j : ℕ) (found : Option (List ℕ × Data))
+      → if_there (λ _. limit_fault max_matchers (before + (length (take j pairs) + 1))) found
+      ≡ fault_of_next in_pairs (take j pairs) found pair_sum
+  sum_at j None = refl
+  sum_at j (Some pair) = refl
+
+  into_fault : (place : ℕ × OnePair)
+      → pairs_fault is_root op before None pairs (into_pairs place)
+      ≡ fault_of_next in_pairs (take place.0 pairs) (slice_get pairs place.0) place.1
+  into_fault (j, pair_self) = self_at j (slice_get pairs j)
+  into_fault (j, pair_sum) = sum_at j (slice_get pairs j)
+
+  pattern_at : (found : Option (List ℕ × Data))
+      → is_profile_pattern (option_and_then (pair_matcher op) found)
+      ≡ pattern_of_next in_pairs found pair_self
+  pattern_at None = refl
+  pattern_at (Some pair) = refl
+
+  no_pattern_at : (found : Option (List ℕ × Data)) → false ≡ pattern_of_next in_pairs found pair_sum
+  no_pattern_at None = refl
+  no_pattern_at (Some pair) = refl
+
+  into_pattern : (place : ℕ × OnePair)
+      → is_profile_pattern (pairs_matcher op pairs (into_pairs place))
+      ≡ pattern_of_next in_pairs (slice_get pairs place.0) place.1
+  into_pattern (j, pair_self) = pattern_at (slice_get pairs j)
+  into_pattern (j, pair_sum) = no_pattern_at (slice_get pairs j)
+
+  pairs_cover : (place : PairsPlace) → lead (rank_of (pairs_path pairs place)) ≡ 1
+      → (inner : ℕ × OnePair) × (place ≡ into_pairs inner)
+  pairs_cover pairs_itself e = absurd (omega (arith, e))
+  pairs_cover (one_pair j) e = ((j, pair_self), refl)
+  pairs_cover (pair_total j) e = ((j, pair_sum), refl)
+  pairs_cover pairs_given e = absurd (omega (arith, e))
+
+  given_covers : (place : PairsPlace) → lead (rank_of (pairs_path pairs place)) ≡ 2
+      → ⊤ × (place ≡ pairs_given)
+  given_covers pairs_itself e = absurd (omega (arith, e))
+  given_covers (one_pair j) e = absurd (omega (arith, e))
+  given_covers (pair_total j) e = absurd (omega (arith, e))
+  given_covers pairs_given e = (tt, refl)
+
+  pairs_part : IsPart whole_pairs 0 (turn 0) (sequence_form in_pairs pairs) into_pairs
+  pairs_part = record {
+    rank =
+        refl;
+    is_path =
+        into_path;
+    is_fault = into_fault;
+    is_pattern = into_pattern;
+    covers = pairs_cover;
+  }
+
+  given_part : IsPart whole_pairs 1 (turn 1) (one_place (given_fault is_root pairs))
+      (λ _. pairs_given)
+  given_part = record {
+    rank =
+        refl;
+    is_path =
+        λ _. refl;
+    is_fault = λ _. refl;
+    is_pattern = λ _. refl;
+    covers = given_covers;
+  }
+
+  object_clear : Clear whole_pairs 1
+  object_clear pairs_itself lt = refl
+  object_clear (one_pair j) lt = absurd (omega (arith, lt))
+  object_clear (pair_total j) lt = absurd (omega (arith, lt))
+  object_clear pairs_given lt = absurd (omega (arith, lt))
+
+  pairs_clear : Clear whole_pairs 3 → (place : PairsPlace)
+      → pairs_fault is_root op before None pairs place ≡ None
+  pairs_clear clear pairs_itself = refl
+  pairs_clear clear (one_pair j) = clear (one_pair j) (omega arith)
+  pairs_clear clear (pair_total j) = clear (pair_total j) (omega arith)
+  pairs_clear clear pairs_given = clear pairs_given (omega arith)
+
+-- the check of the top-level route goes by all its matchers, which are those of the pairs
+given_cause : (is_root : Bool) (before : ℕ) (pairs : List (List ℕ × Data)) (ms : List Condition)
+    → ((is_root ≡ true) → before ≡ 0) → length ms ≡ before + length pairs
+    → given_fault is_root pairs
+    ≡ (if is_root && not (is_empty ms) then Some kinds.RootMatchers else None)
+given_cause false before [] ms bare long = refl
+given_cause false before (p ∷ ps) ms bare long = refl
+given_cause true before [] [] bare long = refl
+given_cause true before [] (m ∷ ms) bare long = absurd (omega (arith, long, bare refl))
+given_cause true before (p ∷ ps) [] bare long = absurd (omega (arith, long, bare refl))
+given_cause true before (p ∷ ps) (m ∷ ms) bare long = refl
+
+module _ (is_root : Bool) (op : Op) (before : ℕ) (pairs : List (List ℕ × Data))
+    (bare : (is_root ≡ true) → before ≡ 0) where
+  abbrev all_pairs : Form PairsPlace
+  all_pairs = pairs_form is_root op before None pairs
+
+  root_check : (ms : List Condition) → length ms ≡ before + length pairs
+      → (reading_within [] (refuse_for (given_fault is_root pairs)) >>= λ _. accept ms)
+      ≡ refuse_root_matchers is_root ms
+  root_check ms long =
+      ap (λ (m : Reading ⊤). m >>= λ _. accept ms)
+      (within_nothing (refuse_for (given_fault is_root pairs)))
+      ∙ ap (λ (cause : Option Kind). refuse_for cause >>= λ _. accept ms)
+      (given_cause is_root before pairs ms bare long)
+
+  object_judged : (a : List Condition) → length a ≡ before
+      → Judges all_pairs (read_each (read_next_pair op) a pairs >>= refuse_root_matchers is_root)
+  object_judged a long =
+      subst (λ (m : Reading (List Condition)). Judges all_pairs
+      (m >>= refuse_root_matchers is_root))
+      (within_nothing (read_each (read_next_pair op) a pairs))
+      (part_judges all_pairs 0 (turn 0) (sequence_form (in_pairs is_root op before pairs) pairs)
+      into_pairs (pairs_part is_root op before pairs) (object_clear is_root op before pairs)
+      (read_each (read_next_pair op) a pairs) (refuse_root_matchers is_root)
+      (pairs_judged op before pairs a long)
+      (λ ms ok clear.
+      subst (Judges all_pairs) (root_check ms (pairs_counted op before pairs a ms long ok))
+      (part_judges all_pairs 1 (turn 1) (one_place (given_fault is_root pairs))
+      (λ _. pairs_given) (given_part is_root op before pairs) clear
+      (refuse_for (given_fault is_root pairs)) (λ _. accept ms)
+      (refuse_judges (given_fault is_root pairs))
+      (λ _ _ all. judges_plain all_pairs (Ok ms)
+      (pairs_clear is_root op before pairs all)))))
+
+-- what is read of a field of pairs, from the field, behind other matchers
+abbrev pub pairs_reading : Bool → Op → List Condition → Option Data → Reading (List Condition)
+pairs_reading is_root op a None = accept a
+pairs_reading is_root op a (Some d) = read_pairs is_root op a d
+
+pub pairs_within : (is_root : Bool) (op : Op) (key : List ℕ) (a : List Condition)
+    (found : Option Data)
+    → optional_pairs is_root op key a found
+    ≡ reading_within (to_field key) (pairs_reading is_root op a found)
+pairs_within is_root op key a None = refl
+pairs_within is_root op key a (Some d) = refl
+
+absent_clear : (is_root : Bool) (op : Op) (before : ℕ) (place : PairsPlace)
+    → pairs_fault is_root op before None [] place ≡ None
+absent_clear is_root op before pairs_itself = refl
+absent_clear is_root op before (one_pair j) = refl
+absent_clear is_root op before (pair_total j) = refl
+absent_clear is_root op before pairs_given = refl
+
+abbrev listed_pairs : Option Members → List (List ℕ × Data)
+listed_pairs found = unwrap_or (option_map member_list found) []
+
+shaped_judged : (is_root : Bool) (op : Op) (before : ℕ) (a : List Condition)
+    (found : Option Members) → ((is_root ≡ true) → before ≡ 0) → length a ≡ before
+    → Judges (pairs_form is_root op before (shape_or (λ _. None) found) (listed_pairs found))
+    (accept_some found (refusal_here kinds.Shape)
+    >>= λ members. read_each (read_next_pair op) a (member_list members)
+    >>= refuse_root_matchers is_root)
+shaped_judged is_root op before a None bare long = record {
+  tells = itself_first (pairs_form is_root op before (Some kinds.Shape) []) pairs_itself kinds.Shape
+      refl refl;
+  meets = λ r h. absurd h;
+}
+shaped_judged is_root op before a (Some members) bare long =
+    object_judged is_root op before (member_list members) bare a long
+
+pub pairs_field_judged : (is_root : Bool) (op : Op) (before : ℕ) (a : List Condition)
+    (found : Option Data) → ((is_root ≡ true) → before ≡ 0) → length a ≡ before
+    → Judges (pairs_form is_root op before (object_shape found) (field_pairs found))
+    (pairs_reading is_root op a found)
+unfolding read_pairs
+pairs_field_judged is_root op before a None bare long =
+    judges_plain (pairs_form is_root op before None []) (Ok a) (absent_clear is_root op before)
+pairs_field_judged is_root op before a (Some d) bare long =
+    shaped_judged is_root op before a (find.as_object d) bare long
+
+root_gives : (is_root : Bool) (ms b : List Condition)
+    → (refuse_root_matchers is_root ms).result ≡ Ok b → (ms ≡ b) × ((is_root ≡ true) → ms ≡ [])
+root_gives true [] b h = (cc, λ _. refl)
+root_gives true (m ∷ ms) b h = absurd cc
+root_gives false [] b h = (cc, λ _. refl)
+root_gives false (m ∷ ms) b h = (cc, λ e. absurd cc)
+
+shaped_gives : (is_root : Bool) (op : Op) (a b : List Condition) (found : Option Members)
+    → (accept_some found (refusal_here kinds.Shape)
+    >>= λ members. read_each (read_next_pair op) a (member_list members)
+    >>= refuse_root_matchers is_root).result ≡ Ok b
+    → (length b ≡ length a + length (listed_pairs found)) × ((is_root ≡ true) → b ≡ [])
+shaped_gives is_root op a b None h = absurd cc
+shaped_gives is_root op a b (Some members) h =
+    let list = result_ok (read_each (read_next_pair op) a (member_list members)).result
+    (λ ms. (refuse_root_matchers is_root ms).result) b h in
+    let root = root_gives is_root list.0 b list.2 in (
+      sym (ap length root.0)
+          ∙ pairs_counted op (length a) (member_list members) a list.0 refl list.1,
+      λ e. sym root.0
+          ∙ root.1 e,
+    )
+
+-- as many more matchers are read as there are pairs, and the top-level route has none
+pub pairs_field_gives : (is_root : Bool) (op : Op) (a b : List Condition) (found : Option Data)
+    → ((is_root ≡ true) → a ≡ []) → (pairs_reading is_root op a found).result ≡ Ok b
+    → (length b ≡ length a + length (field_pairs found)) × ((is_root ≡ true) → b ≡ [])
+unfolding read_pairs
+pairs_field_gives is_root op a b None bare h = let same : a ≡ b = same_ok a b h in
+    (sym (ap length same) ∙ sym (add-zero (length a)), λ e. sym same ∙ bare e)
+pairs_field_gives is_root op a b (Some d) bare h = shaped_gives is_root op a b (find.as_object d) h
