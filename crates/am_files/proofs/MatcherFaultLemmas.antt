@@ -15,11 +15,12 @@ use Rattle.serde_json.specs.Data.{Data}
 use Rattle.serde_json.specs.Find as find
 use Rattle.am_universe.specs.declared.kind.Kind.{Kind}
 use Rattle.am_universe.specs.declared.kind.Kind.TheVariants as kinds
-use Rattle.am_labels.specs.Matcher.{Condition, max_matchers}
+use Rattle.am_labels.specs.declared.limits.TheConstants.{MAX_MATCHERS}
+use Rattle.am_labels.specs.Matcher.{Condition}
 use Rattle.am_labels.specs.MatcherReading.{read_list}
 use Rattle.am_labels.specs.MatcherRefusals.{has_sound_value, pattern_refusal}
 use Rattle.am_labels.specs.Matcher.{takes_pattern}
-use Rattle.am_labels.specs.PatternProfile.{in_profile}
+use Rattle.am_labels.specs.PatternCut.{in_profile}
 use Rattle.am_files.specs.Json.{items_of}
 use Rattle.am_files.specs.Pointer.{Refusal, refusal_here, refusal_within, to_field, to_item}
 use Rattle.am_files.specs.Reading.{Reading, ◌>>=◌, accept, accept_some, refuse_for, check_count}
@@ -183,11 +184,11 @@ one_text_path i self_total = turn 3 ∷ []
 
 abbrev one_text_fault : List Data → Data → OneText → Option Kind
 one_text_fault before d self_text = shape_or spelling_fault (find.as_str d)
-one_text_fault before d self_alone = limit_fault max_matchers (length (item_matchers d))
+one_text_fault before d self_alone = limit_fault MAX_MATCHERS (length (item_matchers d))
 one_text_fault before d (self_pattern j) =
     if_there one_pattern_fault (slice_get (item_matchers d) j)
 one_text_fault before d self_total =
-    limit_fault max_matchers (length (flat_map item_matchers before) + length (item_matchers d))
+    limit_fault MAX_MATCHERS (length (flat_map item_matchers before) + length (item_matchers d))
 
 abbrev one_text_pattern : Data → OneText → Bool
 one_text_pattern d (self_pattern j) = is_profile_pattern (slice_get (item_matchers d) j)
@@ -245,31 +246,31 @@ spelled_says d ms = by_text (find.as_str d) where
 -- behind the list that a text spells
 abbrev behind_spelled : ℕ → List Condition → List Condition → Reading (List Condition)
 behind_spelled i a ms = do
-  _ ← reading_within [] (check_count max_matchers (length ms))
+  _ ← reading_within [] (check_count MAX_MATCHERS (length ms))
   _ ← reading_within (to_item i) (check_patterns ms)
-  _ ← reading_within [] (check_count max_matchers (length a + length ms))
+  _ ← reading_within [] (check_count MAX_MATCHERS (length a + length ms))
   accept (a ++ ms)
 
 module _ (i : ℕ) (a : List Condition) where
   append_is : (ms : List Condition)
       → append_matchers a ms
-      ≡ (reading_within [] (check_count max_matchers (length a + length ms))
+      ≡ (reading_within [] (check_count MAX_MATCHERS (length a + length ms))
       >>= λ _. accept (a ++ ms))
   append_is ms = ap (λ (c : Reading ⊤). c
       >>= λ _. accept (a ++ ms))
-      (sym (within_nothing (check_count max_matchers (length a + length ms))))
+      (sym (within_nothing (check_count MAX_MATCHERS (length a + length ms))))
 
   -- what is read of a text, once its list is there
   abbrev text_checks : List Condition → Reading (List Condition)
   text_checks ms = do
-    _ ← reading_within [] (check_count max_matchers (length ms))
+    _ ← reading_within [] (check_count MAX_MATCHERS (length ms))
     _ ← reading_within (to_item i) (check_patterns ms)
     accept ms
 
   checks_then : (ms : List Condition)
       → (text_checks ms >>= append_matchers a) ≡ behind_spelled i a ms
   checks_then ms =
-      let count = reading_within [] (check_count max_matchers (length ms)) in
+      let count = reading_within [] (check_count MAX_MATCHERS (length ms)) in
       let patterns = reading_within (to_item i) (check_patterns ms) in
       then_assoc count (λ _. patterns >>= λ _. accept ms) (append_matchers a)
       ∙ ap (λ (m : Reading (List Condition)). count >>= λ _. m)
@@ -343,7 +344,7 @@ module _ (front : List Data) (d : Data) where
   }
 
   alone_part : IsPart text_form 1 (turn 1)
-      (one_place (limit_fault max_matchers (length (item_matchers d)))) (λ _. self_alone)
+      (one_place (limit_fault MAX_MATCHERS (length (item_matchers d)))) (λ _. self_alone)
   alone_part = record {
     rank =
         refl;
@@ -367,7 +368,7 @@ module _ (front : List Data) (d : Data) where
   }
 
   total_part : IsPart text_form 3 (turn 3)
-      (one_place (limit_fault max_matchers
+      (one_place (limit_fault MAX_MATCHERS
       (length (flat_map item_matchers front) + length (item_matchers d)))) (λ _. self_total)
   total_part = record {
     rank =
@@ -398,26 +399,26 @@ module _ (front : List Data) (d : Data) where
   list_judges clear =
       let ms = item_matchers d in
       let a = flat_map item_matchers front in
-      part_judges text_form 1 (turn 1) (one_place (limit_fault max_matchers (length ms)))
+      part_judges text_form 1 (turn 1) (one_place (limit_fault MAX_MATCHERS (length ms)))
       (λ _. self_alone) alone_part clear
-      (check_count max_matchers (length ms))
+      (check_count MAX_MATCHERS (length ms))
       (λ _. reading_within (to_item (length front)) (check_patterns ms)
-      >>= λ _. reading_within [] (check_count max_matchers (length a + length ms))
+      >>= λ _. reading_within [] (check_count MAX_MATCHERS (length a + length ms))
       >>= λ _. accept (a ++ ms))
-      (refuse_judges (limit_fault max_matchers (length ms)))
+      (refuse_judges (limit_fault MAX_MATCHERS (length ms)))
       (λ _ _ clear_patterns.
       part_judges text_form 2 (array_item 2 (length front)) (patterns_form ms) self_pattern
       pattern_part clear_patterns
       (check_patterns ms)
-      (λ _. reading_within [] (check_count max_matchers (length a + length ms))
+      (λ _. reading_within [] (check_count MAX_MATCHERS (length a + length ms))
       >>= λ _. accept (a ++ ms))
       (patterns_judge ms)
       (λ _ _ clear_total.
       part_judges text_form 3 (turn 3)
-      (one_place (limit_fault max_matchers (length a + length ms))) (λ _. self_total)
+      (one_place (limit_fault MAX_MATCHERS (length a + length ms))) (λ _. self_total)
       total_part clear_total
-      (check_count max_matchers (length a + length ms)) (λ _. accept (a ++ ms))
-      (refuse_judges (limit_fault max_matchers (length a + length ms)))
+      (check_count MAX_MATCHERS (length a + length ms)) (λ _. accept (a ++ ms))
+      (refuse_judges (limit_fault MAX_MATCHERS (length a + length ms)))
       (λ _ _ clear_all. judges_plain text_form (Ok (a ++ ms)) (text_clear clear_all))))
 
   text_judged : Judges text_form
@@ -441,15 +442,15 @@ text_gives i a d b ok =
     let steps = sym (ap (λ (m : Reading (List Condition)). m.result) (text_steps i a d)) ∙ ok in
     let list = result_ok (reading_within (to_item i) (spelled (find.as_str d))).result
     (λ ms. (behind_spelled i a ms).result) b steps in
-    let count = result_ok (reading_within [] (check_count max_matchers (length list.0))).result
+    let count = result_ok (reading_within [] (check_count MAX_MATCHERS (length list.0))).result
     (λ _. (reading_within (to_item i) (check_patterns list.0)
-    >>= λ _. reading_within [] (check_count max_matchers (length a + length list.0))
+    >>= λ _. reading_within [] (check_count MAX_MATCHERS (length a + length list.0))
     >>= λ _. accept (a ++ list.0)).result) b list.2 in
     let patterns = result_ok (reading_within (to_item i) (check_patterns list.0)).result (λ _.
-    (reading_within [] (check_count max_matchers (length a + length list.0))
+    (reading_within [] (check_count MAX_MATCHERS (length a + length list.0))
     >>= λ _. accept (a ++ list.0)).result) b count.2 in
     let total = result_ok
-    (reading_within [] (check_count max_matchers (length a + length list.0))).result
+    (reading_within [] (check_count MAX_MATCHERS (length a + length list.0))).result
     (λ _. (accept (a ++ list.0)).result) b patterns.2 in
     let same : item_matchers d ≡ list.0 =
     spelled_says d list.0 (inner_ok (to_item i) (spelled (find.as_str d)).result list.0 list.1)
@@ -529,13 +530,13 @@ module _ (is_root : Bool) (items : List Data) where
   self_at i (Some d) = refl
 
   alone_at : (i : ℕ) (found : Option Data)
-      → if_there (λ d. limit_fault max_matchers (length (item_matchers d))) found
+      → if_there (λ d. limit_fault MAX_MATCHERS (length (item_matchers d))) found
       ≡ fault_of_next texts_sequence (take i items) found self_alone
   alone_at i None = refl
   alone_at i (Some d) = refl
 
   total_at : (i : ℕ) (found : Option Data)
-      → if_there (λ d. limit_fault max_matchers
+      → if_there (λ d. limit_fault MAX_MATCHERS
       (length (flat_map item_matchers (take i items)) + length (item_matchers d))) found
       ≡ fault_of_next texts_sequence (take i items) found self_total
   total_at i None = refl

@@ -10,7 +10,8 @@ use Rattle.serde_json.specs.Find as find
 use Rattle.am_universe.specs.declared.kind.Kind.{Kind}
 use Rattle.am_universe.specs.declared.kind.Kind.TheVariants as kinds
 use Rattle.am_labels.specs.declared.op.Op.{Op}
-use Rattle.am_labels.specs.Matcher.{Condition, max_matchers}
+use Rattle.am_labels.specs.declared.limits.TheConstants.{MAX_MATCHERS}
+use Rattle.am_labels.specs.Matcher.{Condition}
 use Rattle.am_labels.specs.MatcherRefusals.{has_sound_value, pattern_refusal}
 use Rattle.am_files.specs.Json.{member_list}
 use Rattle.am_files.specs.Pointer.{Refusal, refusal_here, to_field}
@@ -125,7 +126,7 @@ module _ (op : Op) (before : ℕ) (pairs : List (List ℕ × Data)) where
 
   abbrev one_pair_fault : List (List ℕ × Data) → List ℕ × Data → OnePair → Option Kind
   one_pair_fault front pair pair_self = pair_fault op pair
-  one_pair_fault front pair pair_sum = limit_fault max_matchers (before + (length front + 1))
+  one_pair_fault front pair pair_sum = limit_fault MAX_MATCHERS (before + (length front + 1))
 
   abbrev one_pair_pattern : List ℕ × Data → OnePair → Bool
   one_pair_pattern pair pair_self = is_profile_pattern (pair_matcher op pair)
@@ -172,7 +173,7 @@ module _ (op : Op) (before : ℕ) (pairs : List (List ℕ × Data)) where
     }
 
     sum_part : IsPart next_pair_form 1 (turn 1)
-        (one_place (limit_fault max_matchers (before + (length front + 1)))) (λ _. pair_sum)
+        (one_place (limit_fault MAX_MATCHERS (before + (length front + 1)))) (λ _. pair_sum)
     sum_part = record {
       rank =
           refl;
@@ -196,7 +197,7 @@ module _ (op : Op) (before : ℕ) (pairs : List (List ℕ × Data)) where
         → Clear next_pair_form 2 → Judges next_pair_form (append_matchers a (m ∷ []))
     sum_judged a m long clear =
         let count : before + (length front + 1) ≡ length a + 1 = omega (arith, long) in
-        let cause = limit_fault max_matchers (before + (length front + 1)) in
+        let cause = limit_fault MAX_MATCHERS (before + (length front + 1)) in
         let judged = part_judges next_pair_form 1 (turn 1) (one_place cause) (λ _. pair_sum)
         sum_part clear
         (refuse_for cause) (λ _. accept (a ++ m ∷ [])) (refuse_judges cause)
@@ -204,7 +205,7 @@ module _ (op : Op) (before : ℕ) (pairs : List (List ℕ × Data)) where
         let plain = subst (λ (c : Reading ⊤). Judges next_pair_form
         (c >>= λ _. accept (a ++ m ∷ []))) (within_nothing (refuse_for cause)) judged in
         subst (λ (n : ℕ). Judges next_pair_form
-        (refuse_for (limit_fault max_matchers n) >>= λ _. accept (a ++ m ∷ []))) count plain
+        (refuse_for (limit_fault MAX_MATCHERS n) >>= λ _. accept (a ++ m ∷ []))) count plain
 
     next_judged : (a : List Condition) → length a ≡ before + length front
         → Judges next_pair_form (read_next_pair op a (name, d))
@@ -237,7 +238,7 @@ module _ (op : Op) (before : ℕ) (pairs : List (List ℕ × Data)) where
   next_gives (name, d) a b ok =
       let made = result_ok (reading_within (to_field name) (read_matcher_pair op name d)).result
       (λ m. (append_matchers a (m ∷ [])).result) b ok in
-      let count = result_ok (check_count max_matchers (length a + 1)).result
+      let count = result_ok (check_count MAX_MATCHERS (length a + 1)).result
       (λ _. (accept (a ++ made.0 ∷ [])).result) b made.2 in
       let same : a ++ made.0 ∷ [] ≡ b = same_ok (a ++ made.0 ∷ []) b count.2 in
       sym (ap length same) ∙ length-append a (made.0 ∷ [])
@@ -291,7 +292,7 @@ module _ (is_root : Bool) (op : Op) (before : ℕ) (pairs : List (List ℕ × Da
   self_at j (Some pair) = refl
 
   sum_at : (j : ℕ) (found : Option (List ℕ × Data))
-      → if_there (λ _. limit_fault max_matchers (before + (length (take j pairs) + 1))) found
+      → if_there (λ _. limit_fault MAX_MATCHERS (before + (length (take j pairs) + 1))) found
       ≡ fault_of_next in_pairs (take j pairs) found pair_sum
   sum_at j None = refl
   sum_at j (Some pair) = refl

@@ -11,7 +11,8 @@ use Rattle.serde_json.specs.Find.{as_object, as_str}
 use Rattle.am_universe.specs.declared.kind.Kind.{Kind}
 use Rattle.am_universe.specs.declared.kind.Kind.TheVariants as kinds
 use Rattle.am_universe.specs.Text.{same_text}
-use Rattle.am_universe.specs.Universe.{Values, Label, names, max_labels, is_label_name, name_fault}
+use Rattle.am_universe.specs.declared.limits.TheConstants.{MAX_LABELS}
+use Rattle.am_universe.specs.Universe.{Values, Label, names, is_label_name, name_fault}
 use Rattle.am_universe.specs.Universe.{count_fault, value_fault}
 use Rattle.am_files.specs.Json.{field, items_of}
 use Rattle.am_files.specs.Pointer.{Refusal, refusal_here, to_field, to_item}
@@ -342,7 +343,7 @@ labels_go_on ds u d label are is =
 
 abbrev labels_form : Option Data → Form (ArrayPlace LabelPlace)
 labels_form found = array_form labels_sequence (shape_or
-    (λ items. limit_fault max_labels (length items)) (option_and_then items_of found))
+    (λ items. limit_fault MAX_LABELS (length items)) (option_and_then items_of found))
     (items_in_field found)
 
 labels_judge : (found : Option Data)
@@ -350,7 +351,7 @@ labels_judge : (found : Option Data)
     (accept_some (option_and_then items_of found) (refusal_here kinds.Shape) >>= read_labels)
 unfolding read_labels
 labels_judge found = required_array read_next_label labels_sequence (λ i.
-    refl) AreNamed labels_long labels_judged labels_go_on (limit_fault max_labels) refl
+    refl) AreNamed labels_long labels_judged labels_go_on (limit_fault MAX_LABELS) refl
     (option_and_then items_of found)
 
 -- ---- The file.

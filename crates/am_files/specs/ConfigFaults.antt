@@ -13,10 +13,11 @@ use Rattle.am_universe.specs.declared.kind.Kind.TheVariants as kinds
 use Rattle.am_universe.specs.Text.{same_text}
 use Rattle.am_labels.specs.declared.op.Op.{Op}
 use Rattle.am_labels.specs.declared.op.Op.TheVariants.{Equal, Matches}
-use Rattle.am_labels.specs.Matcher.{Condition, max_matchers, takes_pattern}
+use Rattle.am_labels.specs.declared.limits.TheConstants.{MAX_MATCHERS}
+use Rattle.am_labels.specs.Matcher.{Condition, takes_pattern}
 use Rattle.am_labels.specs.MatcherReading.{read_list}
 use Rattle.am_labels.specs.MatcherRefusals.{has_sound_value, pattern_refusal}
-use Rattle.am_labels.specs.PatternProfile.{in_profile}
+use Rattle.am_labels.specs.PatternCut.{in_profile}
 use Rattle.am_files.specs.Json.{field, items_of, member_list}
 use Rattle.am_files.specs.Pointer.{Refusal}
 use Rattle.am_files.specs.Places.{Step, known_member, array_item, turn, IsFirstFault}
@@ -120,11 +121,11 @@ texts_fault is_root itself items texts_itself = itself
 texts_fault is_root itself items (one_text i) =
     if_there (λ d. shape_or spelling_fault (as_str d)) (slice_get items i)
 texts_fault is_root itself items (text_alone i) =
-    if_there (λ d. limit_fault max_matchers (length (item_matchers d))) (slice_get items i)
+    if_there (λ d. limit_fault MAX_MATCHERS (length (item_matchers d))) (slice_get items i)
 texts_fault is_root itself items (text_pattern i j) =
     if_there one_pattern_fault (text_matcher items i j)
 texts_fault is_root itself items (text_total i) =
-    if_there (λ d. limit_fault max_matchers
+    if_there (λ d. limit_fault MAX_MATCHERS
     (length (flat_map item_matchers (take i items)) + length (item_matchers d)))
     (slice_get items i)
 texts_fault is_root itself items texts_given = given_fault is_root (flat_map item_matchers items)
@@ -179,7 +180,7 @@ pairs_fault is_root op before itself pairs pairs_itself = itself
 pairs_fault is_root op before itself pairs (one_pair j) =
     if_there (pair_fault op) (slice_get pairs j)
 pairs_fault is_root op before itself pairs (pair_total j) =
-    if_there (λ _. limit_fault max_matchers (before + (length (take j pairs) + 1)))
+    if_there (λ _. limit_fault MAX_MATCHERS (before + (length (take j pairs) + 1)))
     (slice_get pairs j)
 pairs_fault is_root op before itself pairs pairs_given = given_fault is_root pairs
 

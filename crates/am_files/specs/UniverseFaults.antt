@@ -6,7 +6,8 @@ use Rattle.serde_json.specs.Data.{Data}
 use Rattle.serde_json.specs.Find.{as_object, as_str}
 use Rattle.am_universe.specs.declared.kind.Kind.{Kind}
 use Rattle.am_universe.specs.declared.kind.Kind.TheVariants as kinds
-use Rattle.am_universe.specs.Universe.{Label, max_labels, name_fault, count_fault, value_fault}
+use Rattle.am_universe.specs.declared.limits.TheConstants.{MAX_LABELS}
+use Rattle.am_universe.specs.Universe.{Label, name_fault, count_fault, value_fault}
 use Rattle.am_files.specs.Json.{is_null, field}
 use Rattle.am_files.specs.Pointer.{Refusal}
 use Rattle.am_files.specs.Places.{Step, known_member, IsFirstFault, IsFirstFaultOfFile, shape_or}
@@ -77,7 +78,7 @@ label_fault_at before d place =
 -- the field of the file: the labels are there, an array, and not too many
 abbrev pub universe_field_fault : Data → UniverseField → Option Kind
 universe_field_fault d (file_labels place) =
-    required_array_fault (limit_fault max_labels) label_fault_at (field (codes "labels") d) place
+    required_array_fault (limit_fault MAX_LABELS) label_fault_at (field (codes "labels") d) place
 
 -- the file
 abbrev pub universe_fault_at : Data → UniversePlace → Option Kind
