@@ -39,7 +39,9 @@ pub by_step : (context : ClassContext) (c : ℕ) (t : List ℕ) (s : CutStep)
 unfolding is_clean is_clean_within
 by_step context c t s e =
     let left = length-drop (s.width - 1) t in
-    let same = within-enough (length t) (length (drop (s.width - 1) t)) s.next (drop (s.width - 1) t) (omega arith) (omega arith) in
+    let same =
+    within-enough (length t) (length (drop (s.width - 1) t)) s.next (drop (s.width - 1) t)
+    (omega arith) (omega arith) in
     rw e same
 
 pub by_none : (context : ClassContext) (c : ℕ) (t : List ℕ) → first_step context (c ∷ t) ≡ None
@@ -60,7 +62,8 @@ no_step (Some s) h = cc
 pub is_clean-refused : (context : ClassContext) (t : List ℕ) → false ≡ (length t == 0)
     → None ≡ step_of (first_step context t) → is_clean context t ≡ false
 is_clean-refused context [] some h = cc
-is_clean-refused context (c ∷ t) some h = by_none context c t (no_step (first_step context (c ∷ t)) h)
+is_clean-refused context (c ∷ t) some h =
+    by_none context c t (no_step (first_step context (c ∷ t)) h)
 
 -- a region is told by its context, and a context by its region
 pub region_back : (region : Region) → region_of (context_of region) ≡ region
@@ -82,14 +85,16 @@ stepped_by context c t s None e h some = cc
 stepped_by context c t s (Some r) e h some =
     let same = same_Some s _ h in
     let width : s.width ≡ r.width = ap (λ (u : Step). u.width) same in
-    let next : context_of s.next ≡ r.next = ap (λ (u : Step). context_of u.next) same ∙ context_back r.next in
+    let next : context_of s.next ≡ r.next =
+    ap (λ (u : Step). context_of u.next) same ∙ context_back r.next in
     by_step context c t r e ∙ rw (drop-past s.width c t some, width, next) refl
 
 pub is_clean-stepped : (context : ClassContext) (t : List ℕ) (s : Step) → false ≡ (length t == 0)
     → Some s ≡ step_of (first_step context t) → 0 < s.width →
     is_clean context t ≡ is_clean (context_of s.next) (drop s.width t)
 is_clean-stepped context [] s some h moves = cc
-is_clean-stepped context (c ∷ t) s some h moves = stepped_by context c t s (first_step context (c ∷ t)) refl h moves
+is_clean-stepped context (c ∷ t) s some h moves =
+    stepped_by context c t s (first_step context (c ∷ t)) refl h moves
 
 not_none : (n : ℕ) → true ≡ (suc n == 0) → ⊥
 not_none n h = grind (arith, nat_tests)

@@ -31,21 +31,29 @@ use Rattle.std.proofs.lemmas.List.Sums.{prefix_len-le-length}
 use Rattle.am_labels.proofs.MatcherTextLists.{prefix_whole, drop_prefix, take_prefix, all_of_prefix}
 
 -- a step to what is left
-stepped : (context : ClassContext) (c : ℕ) (t : List ℕ) (next : ClassContext) (width : ℕ) (rest : List ℕ) → first_step context (c ∷ t) ≡ step_to next width → drop (width - 1) t ≡ rest → is_clean context (c ∷ t) ≡ is_clean next rest
-stepped context c t next width rest e left = by_step context c t (record { width = width; next = next }) e ∙ ap (is_clean next) left
+stepped : (context : ClassContext) (c : ℕ) (t : List ℕ) (next : ClassContext) (width : ℕ)
+    (rest : List ℕ) → first_step context (c ∷ t) ≡ step_to next width
+    → drop (width - 1) t ≡ rest → is_clean context (c ∷ t) ≡ is_clean next rest
+stepped context c t next width rest e left =
+    by_step context c t (record { width = width; next = next }) e ∙ ap (is_clean next) left
 
 -- ---- Escapes.
 
 escaped_step : (context : ClassContext) (d : ℕ) (u : List ℕ) (o : Option ℕ)
-    → cond (is_refused_escape d) None (Some (2 + cond (takes_braces d && begins "{" u) (up_to_brace u) 0)) ≡ o → first_step context (92 ∷ d ∷ u) ≡ step_by context o
+    → cond (is_refused_escape d) None
+    (Some (2 + cond (takes_braces d && begins "{" u) (up_to_brace u) 0)) ≡ o
+    → first_step context (92 ∷ d ∷ u) ≡ step_by context o
 unfolding first_step unescaped_step
 escaped_step context d u o e = rw e refl
 
 clean_escape : (context : ClassContext) (d : ℕ) (u : List ℕ)
-    → (takes_braces d && begins "{" u) ≡ false → is_clean context (92 ∷ d ∷ u) ≡ cond (is_refused_escape d) false (is_clean context u)
+    → (takes_braces d && begins "{" u) ≡ false
+    → is_clean context (92 ∷ d ∷ u) ≡ cond (is_refused_escape d) false (is_clean context u)
 clean_escape context d u e = elim (cases_Bool (is_refused_escape d)) [
   | inl r ↦ rw r (by_none context 92 (d ∷ u) (escaped_step context d u None (rw r refl)))
-  | inr f ↦ rw f (stepped context 92 (d ∷ u) context 2 u (escaped_step context d u (Some 2) (rw (f, e) refl)) refl)
+  | inr f ↦
+      rw f (stepped context 92 (d ∷ u) context 2 u
+      (escaped_step context d u (Some 2) (rw (f, e) refl)) refl)
 ]
 
 -- the characters that take braces may be escaped
@@ -63,7 +71,8 @@ up_closed : (inner rest : List ℕ) → has_no_closing inner ≡ true
 up_closed inner rest h =
     let n = prefix_whole (λ c. not (c == 125)) inner (125 ∷ rest) h refl in
     let l = length-append inner (125 ∷ rest) in
-    let below : nat_lt (1 + length inner) (length (123 ∷ (inner ++ 125 ∷ rest))) ≡ true = lt-ltb (1 + length inner) (length (123 ∷ (inner ++ 125 ∷ rest))) (omega arith) in
+    let below : nat_lt (1 + length inner) (length (123 ∷ (inner ++ 125 ∷ rest))) ≡ true =
+    lt-ltb (1 + length inner) (length (123 ∷ (inner ++ 125 ∷ rest))) (omega arith) in
     rw (n, below) refl
 
 all_prefix : (p : ℕ → Bool) (xs : List ℕ) → list_all p xs ≡ true → prefix_len p xs ≡ length xs
@@ -75,7 +84,8 @@ all_prefix p (x ∷ xs) h =
 up_open : (inner : List ℕ) → has_no_closing inner ≡ true
     → up_to_brace (123 ∷ inner) ≡ length (123 ∷ inner)
 up_open inner h =
-    let past : nat_lt (1 + length inner) (length (123 ∷ inner)) ≡ false = le-ltb (1 + length inner) (length (123 ∷ inner)) (omega arith) in
+    let past : nat_lt (1 + length inner) (length (123 ∷ inner)) ≡ false =
+    le-ltb (1 + length inner) (length (123 ∷ inner)) (omega arith) in
     rw (all_prefix (λ c. not (c == 125)) inner h, past) refl
 
 clean_braced : (context : ClassContext) (d : ℕ) (inner rest : List ℕ) → takes_braces d ≡ true
@@ -84,16 +94,20 @@ clean_braced : (context : ClassContext) (d : ℕ) (inner rest : List ℕ) → ta
 clean_braced context d inner rest h free =
     let n : ℕ = (1 + length inner) + 1 in
     let l = length-append inner (125 ∷ []) in
-    let whole : drop (2 + n - 1) ((d ∷ 123 ∷ (inner ++ 125 ∷ [])) ++ rest) ≡ rest = drop_at (d ∷ 123 ∷ (inner ++ 125 ∷ [])) rest (2 + n - 1) (omega arith) in
-    let left : drop (2 + n - 1) (d ∷ 123 ∷ (inner ++ 125 ∷ rest)) ≡ rest = ap (λ t. drop (2 + n - 1) (d ∷ 123 ∷ t)) (sym (append_assoc inner (125 ∷ []) rest)) ∙ whole in
+    let whole : drop (2 + n - 1) ((d ∷ 123 ∷ (inner ++ 125 ∷ [])) ++ rest) ≡ rest =
+    drop_at (d ∷ 123 ∷ (inner ++ 125 ∷ [])) rest (2 + n - 1) (omega arith) in
+    let left : drop (2 + n - 1) (d ∷ 123 ∷ (inner ++ 125 ∷ rest)) ≡ rest =
+    ap (λ t. drop (2 + n - 1) (d ∷ 123 ∷ t)) (sym (append_assoc inner (125 ∷ []) rest)) ∙ whole in
     stepped context 92 (d ∷ 123 ∷ (inner ++ 125 ∷ rest)) context (2 + n) rest
-    (escaped_step context d (123 ∷ (inner ++ 125 ∷ rest)) (Some (2 + n)) (rw (braces_escape d h, h, up_closed inner rest free) refl)) left
+    (escaped_step context d (123 ∷ (inner ++ 125 ∷ rest)) (Some (2 + n))
+    (rw (braces_escape d h, h, up_closed inner rest free) refl)) left
 
 clean_open : (context : ClassContext) (d : ℕ) (inner : List ℕ) → takes_braces d ≡ true
     → has_no_closing inner ≡ true → is_clean context (92 ∷ d ∷ 123 ∷ inner) ≡ is_clean context []
 clean_open context d inner h free =
     stepped context 92 (d ∷ 123 ∷ inner) context (2 + length (123 ∷ inner)) []
-    (escaped_step context d (123 ∷ inner) (Some (2 + length (123 ∷ inner))) (rw (braces_escape d h, h, up_open inner free) refl))
+    (escaped_step context d (123 ∷ inner) (Some (2 + length (123 ∷ inner)))
+    (rw (braces_escape d h, h, up_open inner free) refl))
     (drop_all (2 + length (123 ∷ inner) - 1) (d ∷ 123 ∷ inner) (omega arith))
 
 clean_last : (context : ClassContext) → is_clean context (92 ∷ []) ≡ is_clean context []
@@ -145,7 +159,8 @@ clean_run : (p : ℕ → Bool) (run rest : List ℕ) → ((c : ℕ) → p c ≡ 
 clean_run p [] rest safe h = refl
 clean_run p (c ∷ run) rest safe h =
     let parts = and_parts (p c) (list_all p run) h in
-    clean_plain_outside c (run ++ rest) (safe_plain c (run ++ rest) (safe c parts.0)) ∙ clean_run p run rest safe parts.1
+    clean_plain_outside c (run ++ rest) (safe_plain c (run ++ rest) (safe c parts.0))
+    ∙ clean_run p run rest safe parts.1
 
 -- ---- Flags and counts.
 
@@ -155,23 +170,34 @@ unfolding first_step unescaped_step
 flags_step t b e = rw e refl
 
 clean_flags : (run rest : List ℕ) → (list_all is_flag run && not (is_flag (get_or rest 0 0))) ≡ true
-    → is_clean outside_class (40 ∷ 63 ∷ (run ++ rest)) ≡ cond (list_any is_refused_flag run) false (is_clean outside_class rest)
+    → is_clean outside_class (40 ∷ 63 ∷ (run ++ rest))
+    ≡ cond (list_any is_refused_flag run) false (is_clean outside_class rest)
 clean_flags run rest h =
     let parts = and_parts (list_all is_flag run) (not (is_flag (get_or rest 0 0))) h in
-    let same : list_any is_refused_flag (flag_run (run ++ rest)) ≡ list_any is_refused_flag run = ap (list_any is_refused_flag) (take_prefix is_flag run rest parts.0 (not-true (is_flag (get_or rest 0 0)) parts.1)) in
+    let same : list_any is_refused_flag (flag_run (run ++ rest)) ≡ list_any is_refused_flag run =
+    ap (list_any is_refused_flag)
+    (take_prefix is_flag run rest parts.0 (not-true (is_flag (get_or rest 0 0)) parts.1)) in
     elim (cases_Bool (list_any is_refused_flag run)) [
-      | inl r ↦ rw r (by_none outside_class 40 (63 ∷ (run ++ rest)) (flags_step (run ++ rest) true (same ∙ r)))
-      | inr f ↦ rw f (stepped outside_class 40 (63 ∷ (run ++ rest)) outside_class 2 (run ++ rest) (flags_step (run ++ rest) false (same ∙ f)) refl ∙ clean_run is_flag run rest flag_safe parts.0)
+      | inl r ↦
+          rw r (by_none outside_class 40 (63 ∷ (run ++ rest))
+          (flags_step (run ++ rest) true (same ∙ r)))
+      | inr f ↦
+          rw f (stepped outside_class 40 (63 ∷ (run ++ rest)) outside_class 2 (run ++ rest)
+          (flags_step (run ++ rest) false (same ∙ f)) refl
+          ∙ clean_run is_flag run rest flag_safe parts.0)
     ]
 
 pub upper_ends_digits : (more rest : List ℕ) → is_upper more ≡ true
     → is_ascii_digit (get_or (more ++ 125 ∷ rest) 0 0) ≡ false
 upper_ends_digits [] rest h = refl
-upper_ends_digits (c ∷ m) rest h = let comma = eqb-true c 44 (and_parts (c == 44) (list_all is_ascii_digit m) h).0 in rw comma refl
+upper_ends_digits (c ∷ m) rest h =
+    let comma = eqb-true c 44 (and_parts (c == 44) (list_all is_ascii_digit m) h).0 in rw comma refl
 
 -- behind the n
 abbrev pub ends_count : List ℕ → Bool
-ends_count after = begins "}" after || begins "," after && begins "}" (drop (digits_len (drop 1 after)) (drop 1 after))
+ends_count after =
+    let most = drop 1 after in
+    begins "}" after || begins "," after && begins "}" (drop (digits_len most) most)
 
 upper_ends : (more rest : List ℕ) → is_upper more ≡ true → ends_count (more ++ 125 ∷ rest) ≡ true
 upper_ends [] rest h = refl
@@ -186,7 +212,13 @@ count_begins least more rest h =
     let parts = and_parts (is_number least) (is_upper more) h in
     let number = and_parts (nat_lt 0 (length least)) (list_all is_ascii_digit least) parts.0 in
     let end = upper_ends_digits more rest parts.1 in
-    rw (drop_prefix is_ascii_digit least (more ++ 125 ∷ rest) number.1 end, prefix_whole is_ascii_digit least (more ++ 125 ∷ rest) number.1 end, number.0)
+    rw (
+      drop_prefix is_ascii_digit least
+          (more ++ 125 ∷ rest) number.1 end,
+      prefix_whole is_ascii_digit least
+          (more ++ 125 ∷ rest) number.1 end,
+      number.0,
+    )
     (upper_ends more rest parts.1)
 
 brace_step : (t : List ℕ) (b : Bool) → begins_count t ≡ b
@@ -207,7 +239,8 @@ clean_count : (least more rest : List ℕ) → (is_number least && is_upper more
 clean_count least more rest h =
     let parts = and_parts (is_number least) (is_upper more) h in
     let number = and_parts (nat_lt 0 (length least)) (list_all is_ascii_digit least) parts.0 in
-    stepped outside_class 123 (least ++ (more ++ 125 ∷ rest)) outside_class 1 (least ++ (more ++ 125 ∷ rest)) (brace_step _ true (count_begins least more rest h)) refl
+    stepped outside_class 123 (least ++ (more ++ 125 ∷ rest)) outside_class 1
+    (least ++ (more ++ 125 ∷ rest)) (brace_step _ true (count_begins least more rest h)) refl
     ∙ clean_run is_ascii_digit least (more ++ 125 ∷ rest) digit_safe number.1
     ∙ clean_upper more (125 ∷ rest) parts.1
     ∙ clean_plain_outside 125 rest refl
@@ -230,24 +263,45 @@ count_at t h =
     let behind : List ℕ = drop n t in
     let parts = and_parts (nat_lt 0 n) (ends_count behind) h in
     let size = length-take-le n t (prefix_len-le-length is_ascii_digit t) in
-    let number : is_number (take n t) ≡ true = rw (size, parts.0) (all_of_prefix is_ascii_digit t) in
+    let number : is_number (take n t) ≡ true =
+    rw (size, parts.0) (all_of_prefix is_ascii_digit t) in
     let split : t ≡ take n t ++ behind = sym (take-append-drop n t) in
-    elim (or_cases (begins "}" behind) (begins "," behind && begins "}" (drop (digits_len (drop 1 behind)) (drop 1 behind))) parts.1) [
-      | inl closed ↦ record { least = take n t; more = []; after = drop 1 behind; is_count = and_from _ true number refl; whole = split ∙ ap (λ r. take n t ++ r) (begins_one 125 behind closed) }
+    elim (or_cases (begins "}" behind) _ parts.1) [
+      | inl closed ↦ record {
+        least = take n t;
+        more = [];
+        after = drop 1 behind;
+        is_count = and_from _ true number refl;
+        whole = split ∙ ap (λ r. take n t ++ r) (begins_one 125 behind closed);
+      }
       | inr upper ↦
-          let both = and_parts (begins "," behind) (begins "}" (drop (digits_len (drop 1 behind)) (drop 1 behind))) upper in
+          let both =
+          and_parts (begins "," behind) _ upper in
           let m : ℕ = digits_len (drop 1 behind) in
           let last : List ℕ = drop m (drop 1 behind) in
           let comma : behind ≡ 44 ∷ (take m (drop 1 behind) ++ 125 ∷ drop 1 last) =
-          begins_one 44 behind both.0 ∙ ap (λ r. 44 ∷ r) (sym (take-append-drop m (drop 1 behind)) ∙ ap (λ r. take m (drop 1 behind) ++ r) (begins_one 125 last both.1)) in
-          record { least = take n t; more = 44 ∷ take m (drop 1 behind); after = drop 1 last; is_count = and_from _ _ number (all_of_prefix is_ascii_digit (drop 1 behind)); whole = split ∙ ap (λ r. take n t ++ r) comma }
+          begins_one 44 behind both.0
+          ∙ ap (λ r. 44 ∷ r)
+          (sym (take-append-drop m (drop 1 behind)) ∙ ap (λ r. take m (drop 1 behind) ++ r)
+          (begins_one 125 last both.1)) in
+          record {
+            least = take n t;
+            more = 44 ∷ take m (drop 1 behind);
+            after = drop 1 last;
+            is_count = and_from _ _ number (all_of_prefix is_ascii_digit (drop 1 behind));
+            whole = split ∙ ap (λ r. take n t ++ r) comma;
+          }
     ]
 
 -- any other brace
 clean_brace : (rest : List ℕ)
-    → ((least more after : List ℕ) → (is_number least && is_upper more) ≡ true → rest ≢ least ++ (more ++ 125 ∷ after)) → is_clean outside_class (123 ∷ rest) ≡ false
+    → ((least more after : List ℕ) → (is_number least && is_upper more) ≡ true
+    → rest ≢ least ++ (more ++ 125 ∷ after)) → is_clean outside_class (123 ∷ rest) ≡ false
 clean_brace rest none =
-    by_none outside_class 123 rest (brace_step rest false (false_from_ne_true (begins_count rest) (λ h. let t = count_at rest h in none t.least t.more t.after t.is_count t.whole)))
+    by_none outside_class 123 rest
+    (brace_step rest false
+    (false_from_ne_true (begins_count rest)
+    (λ h. let t = count_at rest h in none t.least t.more t.after t.is_count t.whole)))
 
 -- ---- The beginning of a class.
 
@@ -261,17 +315,27 @@ short_start : (rest : List ℕ)
 short_start [] h = refl
 short_start (r ∷ rest) h =
     let parts = or_parts (nat_eq 94 r && true) (nat_eq 93 r && true) h in
-    let hat : nat_eq 94 r ≡ false = elim (cases_Bool (nat_eq 94 r)) [ inl e ↦ let g = rw e at parts.0 in cc | inr f ↦ f ] in
-    let closing : nat_eq 93 r ≡ false = elim (cases_Bool (nat_eq 93 r)) [ inl e ↦ let g = rw e at parts.1 in cc | inr f ↦ f ] in
+    let hat : nat_eq 94 r ≡ false =
+    elim (cases_Bool (nat_eq 94 r)) [ inl e ↦ let g = rw e at parts.0 in cc | inr f ↦ f ] in
+    let closing : nat_eq 93 r ≡ false =
+    elim (cases_Bool (nat_eq 93 r)) [ inl e ↦ let g = rw e at parts.1 in cc | inr f ↦ f ] in
     rw (hat, closing) refl
 
 clean_start : (negated closing : Bool) (rest : List ℕ)
     → is_longest_start negated closing rest ≡ true
-    → is_clean outside_class (piece_text (class_start negated closing) ++ rest) ≡ is_clean inside_class rest
-clean_start true true rest h = stepped outside_class 91 (94 ∷ 93 ∷ rest) inside_class 3 rest (start_step (94 ∷ 93 ∷ rest) 3 refl) refl
-clean_start true false rest h = stepped outside_class 91 (94 ∷ rest) inside_class 2 rest (start_step (94 ∷ rest) 2 (rw (not-true (begins "]" rest) h) refl)) refl
-clean_start false true rest h = stepped outside_class 91 (93 ∷ rest) inside_class 2 rest (start_step (93 ∷ rest) 2 refl) refl
-clean_start false false rest h = stepped outside_class 91 rest inside_class 1 rest (start_step rest 1 (short_start rest (not-true (begins "^" rest || begins "]" rest) h))) refl
+    → is_clean outside_class (piece_text (class_start negated closing) ++ rest)
+    ≡ is_clean inside_class rest
+clean_start true true rest h =
+    stepped outside_class 91 (94 ∷ 93 ∷ rest) inside_class 3 rest
+    (start_step (94 ∷ 93 ∷ rest) 3 refl) refl
+clean_start true false rest h =
+    stepped outside_class 91 (94 ∷ rest) inside_class 2 rest
+    (start_step (94 ∷ rest) 2 (rw (not-true (begins "]" rest) h) refl)) refl
+clean_start false true rest h =
+    stepped outside_class 91 (93 ∷ rest) inside_class 2 rest (start_step (93 ∷ rest) 2 refl) refl
+clean_start false false rest h =
+    stepped outside_class 91 rest inside_class 1 rest
+    (start_step rest 1 (short_start rest (not-true (begins "^" rest || begins "]" rest) h))) refl
 
 -- ---- Inside a class.
 
@@ -290,105 +354,44 @@ none_found test (x ∷ xs) h =
 clean_bracket : (rest : List ℕ) → begins_named_class (91 ∷ rest) ≡ false
     → is_clean inside_class (91 ∷ rest) ≡ false
 clean_bracket rest h =
-    by_none inside_class 91 rest (bracket_step rest None (none_found (λ named. starts_with nat_eq (91 ∷ rest) named) named_classes h))
+    by_none inside_class 91 rest
+    (bracket_step rest None
+    (none_found (λ named. starts_with nat_eq (91 ∷ rest) named) named_classes h))
 
 -- a named class is found at its own front, which is a `[`
 abbrev pub IsFoundFirst : List ℕ → Type 0
 IsFoundFirst named =
     (rest : List ℕ)
     → (named_class_at (named ++ rest) ≡ Some named) × (named ++ rest ≡ 91 ∷ drop 1 (named ++ rest))
-    × (drop (length named - 1) (drop 1 (named ++ rest)) ≡ rest) × (length named ≡ suc (length (drop 1 named)))
+    × (drop (length named - 1) (drop 1 (named ++ rest)) ≡ rest) ×
+    (length named ≡ suc (length (drop 1 named)))
+
+infixr 20 ◌⟫◌
+◌⟫◌ : {A B : Type 0} → A → B → A × B
+a ⟫ b = (a, b)
 
 each_found : AllByRecursion IsFoundFirst named_classes
 unfolding named_classes class_names
-each_found = (
-  λ r. (refl, refl, refl, refl),
-  (
-    λ r. (refl, refl, refl, refl),
-    (
-      λ r. (refl, refl, refl, refl),
-      (
-        λ r. (refl, refl, refl, refl),
-        (
-          λ r. (refl, refl, refl, refl),
-          (
-            λ r. (refl, refl, refl, refl),
-            (
-              λ r. (refl, refl, refl, refl),
-              (
-                λ r. (refl, refl, refl, refl),
-                (
-                  λ r. (refl, refl, refl, refl),
-                  (
-                    λ r. (refl, refl, refl, refl),
-                    (
-                      λ r. (refl, refl, refl, refl),
-                      (
-                        λ r. (refl, refl, refl, refl),
-                        (
-                          λ r. (refl, refl, refl, refl),
-                          (
-                            λ r. (refl, refl, refl, refl),
-                            (
-                              λ r. (refl, refl, refl, refl),
-                              (
-                                λ r. (refl, refl, refl, refl),
-                                (
-                                  λ r. (refl, refl, refl, refl),
-                                  (
-                                    λ r. (refl, refl, refl, refl),
-                                    (
-                                      λ r. (refl, refl, refl, refl),
-                                      (
-                                        λ r. (refl, refl, refl, refl),
-                                        (
-                                          λ r. (refl, refl, refl, refl),
-                                          (
-                                            λ r. (refl, refl, refl, refl),
-                                            (
-                                              λ r. (refl, refl, refl, refl),
-                                              (
-                                                λ r. (refl, refl, refl, refl),
-                                                (
-                                                  λ r. (refl, refl, refl, refl),
-                                                  (
-                                                    λ r. (refl, refl, refl, refl),
-                                                    (
-                                                      λ r. (refl, refl, refl, refl),
-                                                      (
-                                                        λ r. (refl, refl, refl, refl),
-                                                        tt,
-                                                      ),
-                                                    ),
-                                                  ),
-                                                ),
-                                              ),
-                                            ),
-                                          ),
-                                        ),
-                                      ),
-                                    ),
-                                  ),
-                                ),
-                              ),
-                            ),
-                          ),
-                        ),
-                      ),
-                    ),
-                  ),
-                ),
-              ),
-            ),
-          ),
-        ),
-      ),
-    ),
-  ),
-)
+each_found =
+    (λ r. (refl, refl, refl, refl)) ⟫ (λ r. (refl, refl, refl, refl)) ⟫
+    (λ r. (refl, refl, refl, refl)) ⟫ (λ r. (refl, refl, refl, refl)) ⟫
+    (λ r. (refl, refl, refl, refl)) ⟫ (λ r. (refl, refl, refl, refl)) ⟫
+    (λ r. (refl, refl, refl, refl)) ⟫ (λ r. (refl, refl, refl, refl)) ⟫
+    (λ r. (refl, refl, refl, refl)) ⟫ (λ r. (refl, refl, refl, refl)) ⟫
+    (λ r. (refl, refl, refl, refl)) ⟫ (λ r. (refl, refl, refl, refl)) ⟫
+    (λ r. (refl, refl, refl, refl)) ⟫ (λ r. (refl, refl, refl, refl)) ⟫
+    (λ r. (refl, refl, refl, refl)) ⟫ (λ r. (refl, refl, refl, refl)) ⟫
+    (λ r. (refl, refl, refl, refl)) ⟫ (λ r. (refl, refl, refl, refl)) ⟫
+    (λ r. (refl, refl, refl, refl)) ⟫ (λ r. (refl, refl, refl, refl)) ⟫
+    (λ r. (refl, refl, refl, refl)) ⟫ (λ r. (refl, refl, refl, refl)) ⟫
+    (λ r. (refl, refl, refl, refl)) ⟫ (λ r. (refl, refl, refl, refl)) ⟫
+    (λ r. (refl, refl, refl, refl)) ⟫ (λ r. (refl, refl, refl, refl)) ⟫
+    (λ r. (refl, refl, refl, refl)) ⟫ (λ r. (refl, refl, refl, refl)) ⟫ tt
 
 pub found_first : (named : List ℕ) → Contains named_classes named → IsFoundFirst named
-found_first named h = All-contains IsFoundFirst named_classes named (All-from_recursion IsFoundFirst named_classes each_found) h
+found_first named h =
+    All-contains IsFoundFirst named_classes named
+    (All-from_recursion IsFoundFirst named_classes each_found) h
 
 clean_named : (named rest : List ℕ) → Contains named_classes named
     → is_clean inside_class (named ++ rest) ≡ is_clean inside_class rest
@@ -396,7 +399,9 @@ clean_named named rest h =
     let found = found_first named h rest in
     let t : List ℕ = drop 1 (named ++ rest) in
     let at : named_class_at (91 ∷ t) ≡ Some named = ap named_class_at (sym found.1) ∙ found.0 in
-    ap (is_clean inside_class) found.1 ∙ stepped inside_class 91 t inside_class (length named) rest (bracket_step t (Some named) at) found.2
+    ap (is_clean inside_class) found.1
+    ∙ stepped inside_class 91 t inside_class (length named) rest
+    (bracket_step t (Some named) at) found.2
 
 pair_step : (c : ℕ) (rest : List ℕ) → (c ∈ "&-~") ≡ true
     → first_step inside_class (c ∷ c ∷ rest) ≡ None
@@ -431,9 +436,14 @@ clean_plain_inside c rest h =
     let a = or_parts (c ∈ "\\[]") (c ∈ "&-~" && get_or rest 0 0 == c) (not-true _ h) in
     let b = or_parts (c == 92) ((c == 91) || (c == 93)) a.0 in
     let d = or_parts (c == 91) (c == 93) b.1 in
-    let amp : starts_with nat_eq (c ∷ rest) (38 ∷ 38 ∷ []) ≡ false = no_pair 38 c rest (omega arith) (λ e. not_twice c rest a.1 (or_left (c == 38) _ e)) in
-    let dash : starts_with nat_eq (c ∷ rest) (45 ∷ 45 ∷ []) ≡ false = no_pair 45 c rest (omega arith) (λ e. not_twice c rest a.1 (or_right (c == 38) _ (or_left (c == 45) (c == 126) e))) in
-    let tilde : starts_with nat_eq (c ∷ rest) (126 ∷ 126 ∷ []) ≡ false = no_pair 126 c rest (omega arith) (λ e. not_twice c rest a.1 (or_right (c == 38) _ (or_right (c == 45) (c == 126) e))) in
+    let amp : starts_with nat_eq (c ∷ rest) (38 ∷ 38 ∷ []) ≡ false =
+    no_pair 38 c rest (omega arith) (λ e. not_twice c rest a.1 (or_left (c == 38) _ e)) in
+    let dash : starts_with nat_eq (c ∷ rest) (45 ∷ 45 ∷ []) ≡ false =
+    no_pair 45 c rest (omega arith)
+    (λ e. not_twice c rest a.1 (or_right (c == 38) _ (or_left (c == 45) (c == 126) e))) in
+    let tilde : starts_with nat_eq (c ∷ rest) (126 ∷ 126 ∷ []) ≡ false =
+    no_pair 126 c rest (omega arith)
+    (λ e. not_twice c rest a.1 (or_right (c == 38) _ (or_right (c == 45) (c == 126) e))) in
     stepped inside_class c rest inside_class 1 rest
     (rw (flipped 92 c b.0, flipped 91 c d.0, amp, dash, tilde, flipped 93 c d.1) refl) refl
 
@@ -444,11 +454,13 @@ clean_class_end rest = stepped inside_class 93 rest outside_class 1 rest refl re
 -- ---- Any piece.
 
 pub cut_off : (piece : Piece) (context : ClassContext) (rest : List ℕ) → StandsIn context piece rest
-    → is_clean context (piece_text piece ++ rest) ≡ cond (is_refused piece) false (is_clean (context_after context piece) rest)
+    → is_clean context (piece_text piece ++ rest)
+    ≡ cond (is_refused piece) false (is_clean (context_after context piece) rest)
 cut_off (escape c) context rest h = clean_escape context c rest h
 cut_off (braced_escape c inner) context rest h =
     let parts = and_parts (takes_braces c) (has_no_closing inner) h in
-    ap (λ t. is_clean context (92 ∷ c ∷ 123 ∷ t)) (append_assoc inner (125 ∷ []) rest) ∙ clean_braced context c inner rest parts.0 parts.1
+    ap (λ t. is_clean context (92 ∷ c ∷ 123 ∷ t)) (append_assoc inner (125 ∷ []) rest)
+    ∙ clean_braced context c inner rest parts.0 parts.1
 cut_off (open_escape c inner) context rest h =
     let parts = and_parts (takes_braces c) (has_no_closing inner) h.0 in
     rw (h.1, append-nil inner) (clean_open context c inner parts.0 parts.1)
@@ -456,7 +468,9 @@ cut_off last_backslash context rest h = rw h (clean_last context)
 cut_off (flags run) outside_class rest h = clean_flags run rest h
 cut_off (flags run) inside_class rest h = absurd h
 cut_off (count least more) outside_class rest h =
-    ap (λ t. is_clean outside_class (123 ∷ t)) (append_assoc least (more ++ 125 ∷ []) rest ∙ ap (λ t. least ++ t) (append_assoc more (125 ∷ []) rest)) ∙ clean_count least more rest h
+    ap (λ t. is_clean outside_class (123 ∷ t))
+    (append_assoc least (more ++ 125 ∷ []) rest ∙ ap (λ t. least ++ t)
+    (append_assoc more (125 ∷ []) rest)) ∙ clean_count least more rest h
 cut_off (count least more) inside_class rest h = absurd h
 cut_off brace outside_class rest h = clean_brace rest h
 cut_off brace inside_class rest h = absurd h

@@ -40,9 +40,21 @@ record Closed (text : List ℕ) : Type 0 where
 up_to_closing : (text : List ℕ) → Closed text ⊎ (has_no_closing text ≡ true)
 up_to_closing [] = inr refl
 up_to_closing (c ∷ text) = elim (cases_Bool (c == 125)) [
-  | inl e ↦ inl (record { inner = []; rest = text; whole = ap (λ d. d ∷ text) (eqb-true c 125 e); free = refl })
+  | inl e ↦
+      inl (record {
+        inner = [];
+        rest = text;
+        whole = ap (λ d. d ∷ text) (eqb-true c 125 e);
+        free = refl;
+      })
   | inr f ↦ elim (up_to_closing text) [
-    | inl s ↦ inl (record { inner = c ∷ s.inner; rest = s.rest; whole = ap (λ r. c ∷ r) s.whole; free = rw f s.free })
+    | inl s ↦
+        inl (record {
+          inner = c ∷ s.inner;
+          rest = s.rest;
+          whole = ap (λ r. c ∷ r) s.whole;
+          free = rw f s.free;
+        })
     | inr free ↦ inr (rw f free)
   ]
 ]
@@ -57,7 +69,8 @@ escape_front context (d ∷ u) = elim (cases_Bool (takes_braces d && begins "{" 
         | inl s ↦ record {
           piece = braced_escape d s.inner;
           rest = s.rest;
-          whole = ap (λ r. 92 ∷ d ∷ r) (opened ∙ ap (λ r. 123 ∷ r) (s.whole ∙ sym (append_assoc s.inner (125 ∷ []) s.rest)));
+          whole = ap (λ r. 92 ∷ d ∷ r)
+              (opened ∙ ap (λ r. 123 ∷ r) (s.whole ∙ sym (append_assoc s.inner (125 ∷ []) s.rest)));
           stands = and_from (takes_braces d) (has_no_closing s.inner) parts.0 s.free;
         }
         | inr free ↦ record {
@@ -78,12 +91,15 @@ flags_front t =
       piece = flags run;
       rest = rest;
       whole = ap (λ r. 40 ∷ 63 ∷ r) (sym (take-append-drop (prefix_len is_flag t) t));
-      stands = and_from (list_all is_flag run) (not (is_flag (get_or rest 0 0))) (all_of_prefix is_flag t) (not_from_false (is_flag (get_or rest 0 0)) (first_after_prefix is_flag t refl));
+      stands = and_from (list_all is_flag run) (not (is_flag (get_or rest 0 0)))
+          (all_of_prefix is_flag t)
+          (not_from_false (is_flag (get_or rest 0 0)) (first_after_prefix is_flag t refl));
     }
 
 no_count : (t : List ℕ) → begins_count t ≡ false → (least more after : List ℕ)
     → (is_number least && is_upper more) ≡ true → t ≡ least ++ (more ++ 125 ∷ after) → ⊥
-no_count t none least more after h e = false≢true (sym none ∙ ap begins_count e ∙ count_begins least more after h)
+no_count t none least more after h e =
+    false≢true (sym none ∙ ap begins_count e ∙ count_begins least more after h)
 
 brace_front : (t : List ℕ) → Front outside_class (123 ∷ t)
 brace_front t = elim (cases_Bool (begins_count t)) [
@@ -92,7 +108,9 @@ brace_front t = elim (cases_Bool (begins_count t)) [
       record {
         piece = count c.least c.more;
         rest = c.after;
-        whole = ap (λ r. 123 ∷ r) (c.whole ∙ ap (λ r. c.least ++ r) (sym (append_assoc c.more (125 ∷ []) c.after)) ∙ sym (append_assoc c.least (c.more ++ 125 ∷ []) c.after));
+        whole = ap (λ r. 123 ∷ r)
+            (c.whole ∙ ap (λ r. c.least ++ r) (sym (append_assoc c.more (125 ∷ []) c.after)) ∙ sym
+            (append_assoc c.least (c.more ++ 125 ∷ []) c.after));
         stands = c.is_count;
       }
   | inr other ↦ record { piece = brace; rest = t; whole = refl; stands = no_count t other }
@@ -101,8 +119,18 @@ brace_front t = elim (cases_Bool (begins_count t)) [
 start_behind : (t : List ℕ) → Front outside_class (91 ∷ 94 ∷ t)
 start_behind [] = record { piece = class_start true false; rest = []; whole = refl; stands = refl }
 start_behind (r ∷ t) = elim (cases_Bool (93 == r)) [
-  | inl e ↦ record { piece = class_start true true; rest = t; whole = ap (λ x. 91 ∷ 94 ∷ x ∷ t) (sym (eqb-true 93 r e)); stands = refl }
-  | inr f ↦ record { piece = class_start true false; rest = r ∷ t; whole = refl; stands = rw f refl }
+  | inl e ↦ record {
+    piece = class_start true true;
+    rest = t;
+    whole = ap (λ x. 91 ∷ 94 ∷ x ∷ t) (sym (eqb-true 93 r e));
+    stands = refl;
+  }
+  | inr f ↦ record {
+    piece = class_start true false;
+    rest = r ∷ t;
+    whole = refl;
+    stands = rw f refl;
+  }
 ]
 
 start_front : (t : List ℕ) → Front outside_class (91 ∷ t)
@@ -110,8 +138,18 @@ start_front [] = record { piece = class_start false false; rest = []; whole = re
 start_front (r ∷ t) = elim (cases_Bool (94 == r)) [
   | inl e ↦ subst (λ (x : ℕ). Front outside_class (91 ∷ x ∷ t)) (eqb-true 94 r e) (start_behind t)
   | inr f ↦ elim (cases_Bool (93 == r)) [
-    | inl e ↦ record { piece = class_start false true; rest = t; whole = ap (λ x. 91 ∷ x ∷ t) (sym (eqb-true 93 r e)); stands = refl }
-    | inr g ↦ record { piece = class_start false false; rest = r ∷ t; whole = refl; stands = rw (f, g) refl }
+    | inl e ↦ record {
+      piece = class_start false true;
+      rest = t;
+      whole = ap (λ x. 91 ∷ x ∷ t) (sym (eqb-true 93 r e));
+      stands = refl;
+    }
+    | inr g ↦ record {
+      piece = class_start false false;
+      rest = r ∷ t;
+      whole = refl;
+      stands = rw (f, g) refl;
+    }
   ]
 ]
 
@@ -130,8 +168,15 @@ outside_front c t = elim (cases_Bool (c == 92)) [
       | inr not_bracket ↦ elim (cases_Bool (c == 40 && begins "?" t)) [
         | inl group ↦
             let parts = and_parts (c == 40) (begins "?" t) group in
-            at_first outside_class 40 c t parts.0 (subst (λ (u : List ℕ). Front outside_class (40 ∷ u)) (sym (begins_one 63 t parts.1)) (flags_front (drop 1 t)))
-        | inr none ↦ record { piece = plain c; rest = t; whole = refl; stands = rw (backslash, not_brace, not_bracket, none) refl }
+            at_first outside_class 40 c t parts.0
+            (subst (λ (u : List ℕ). Front outside_class (40 ∷ u)) (sym (begins_one 63 t parts.1))
+            (flags_front (drop 1 t)))
+        | inr none ↦ record {
+          piece = plain c;
+          rest = t;
+          whole = refl;
+          stands = rw (backslash, not_brace, not_bracket, none) refl;
+        }
       ]
     ]
   ]
@@ -159,12 +204,18 @@ bracket_front : (t : List ℕ) → Front inside_class (91 ∷ t)
 bracket_front t = elim (cases_Bool (begins_named_class (91 ∷ t))) [
   | inl here ↦
       let named = any_of (λ named. starts_with nat_eq (91 ∷ t) named) named_classes here in
-      record { piece = named_class named.0; rest = drop (length named.0) (91 ∷ t); whole = starts_split (91 ∷ t) named.0 named.2; stands = named.1 }
+      record {
+        piece = named_class named.0;
+        rest = drop (length named.0) (91 ∷ t);
+        whole = starts_split (91 ∷ t) named.0 named.2;
+        stands = named.1;
+      }
   | inr other ↦ record { piece = bracket; rest = t; whole = refl; stands = other }
 ]
 
 twice : (c : ℕ) (t : List ℕ) → (c ∈ "&-~") ≡ true → (get_or t 0 0 == c) ≡ true → t ≡ c ∷ drop 1 t
-twice c [] among e = absurd (false≢true (subst (λ (d : ℕ). (d ∈ "&-~") ≡ true) (sym (eqb-true 0 c e)) among))
+twice c [] among e =
+    absurd (false≢true (subst (λ (d : ℕ). (d ∈ "&-~") ≡ true) (sym (eqb-true 0 c e)) among))
 twice c (d ∷ t) among e = ap (λ x. x ∷ t) (eqb-true d c e)
 
 inside_front : (c : ℕ) (t : List ℕ) → Front inside_class (c ∷ t)
@@ -173,12 +224,28 @@ inside_front c t = elim (cases_Bool (c == 92)) [
   | inr backslash ↦ elim (cases_Bool (c == 91)) [
     | inl e ↦ at_first inside_class 91 c t e (bracket_front t)
     | inr not_bracket ↦ elim (cases_Bool (c == 93)) [
-      | inl e ↦ at_first inside_class 93 c t e (record { piece = class_end; rest = t; whole = refl; stands = tt })
+      | inl e ↦
+          at_first inside_class 93 c t e (record {
+            piece = class_end;
+            rest = t;
+            whole = refl;
+            stands = tt;
+          })
       | inr closing ↦ elim (cases_Bool (c ∈ "&-~" && get_or t 0 0 == c)) [
         | inl both ↦
             let parts = and_parts (c ∈ "&-~") (get_or t 0 0 == c) both in
-            record { piece = pair c; rest = drop 1 t; whole = ap (λ r. c ∷ r) (twice c t parts.0 parts.1); stands = parts.0 }
-        | inr single ↦ record { piece = plain c; rest = t; whole = refl; stands = rw (backslash, not_bracket, closing, single) refl }
+            record {
+              piece = pair c;
+              rest = drop 1 t;
+              whole = ap (λ r. c ∷ r) (twice c t parts.0 parts.1);
+              stands = parts.0;
+            }
+        | inr single ↦ record {
+          piece = plain c;
+          rest = t;
+          whole = refl;
+          stands = rw (backslash, not_bracket, closing, single) refl;
+        }
       ]
     ]
   ]
@@ -190,7 +257,8 @@ front inside_class c t = inside_front c t
 
 -- ---- All pieces of a text.
 
-pub some_text : (context : ClassContext) (piece : Piece) (rest : List ℕ) → StandsIn context piece rest
+pub some_text : (context : ClassContext) (piece : Piece) (rest : List ℕ)
+    → StandsIn context piece rest
     → 0 < length (piece_text piece)
 some_text context (escape c) rest h = omega arith
 some_text context (braced_escape c inner) rest h = omega arith
@@ -219,7 +287,8 @@ joined_within zero context (c ∷ t) le = absurd (omega arith)
 joined_within (suc n) context (c ∷ t) le =
     let first = front context c t in
     let some = some_text context first.piece first.rest first.stands in
-    let size : length (c ∷ t) ≡ length (piece_text first.piece) + length first.rest = ap length first.whole ∙ length-append (piece_text first.piece) first.rest in
+    let size : length (c ∷ t) ≡ length (piece_text first.piece) + length first.rest =
+    ap length first.whole ∙ length-append (piece_text first.piece) first.rest in
     let later = joined_within n (context_after context first.piece) first.rest (omega arith) in
     record {
       pieces = first.piece ∷ later.pieces;
@@ -242,16 +311,24 @@ clean_join : (context : ClassContext) (pieces : List Piece) → Stand context pi
     → is_clean context (flat_map piece_text pieces) ≡ not (list_any is_refused pieces)
 clean_join context [] s = is_clean-nil context
 clean_join context (piece ∷ pieces) s =
-    cut_off piece context (flat_map piece_text pieces) s.0 ∙ ap (cond (is_refused piece) false) (clean_join (context_after context piece) pieces s.1) ∙ clean_by (is_refused piece) (list_any is_refused pieces)
+    cut_off piece context (flat_map piece_text pieces) s.0
+    ∙ ap (cond (is_refused piece) false) (clean_join (context_after context piece) pieces s.1)
+    ∙ clean_by (is_refused piece) (list_any is_refused pieces)
 
 clean_pattern : (pattern : List ℕ) (pieces : List Piece) → IsJoinOf pattern pieces
     → in_profile pattern ≡ not (list_any is_refused pieces)
-clean_pattern pattern pieces j = ap (is_clean outside_class) j.join ∙ clean_join outside_class pieces j.stand
+clean_pattern pattern pieces j =
+    ap (is_clean outside_class) j.join ∙ clean_join outside_class pieces j.stand
 
 pub profile_is_decided : (pattern : List ℕ) → IsInProfile pattern ↔ IsTrue (in_profile pattern)
 profile_is_decided pattern = (
   λ p. clean_pattern pattern p.pieces p.is_join ∙ ap not p.none_refused,
   λ t.
       let whole = each_is_join pattern in
-      record { pieces = whole.0; is_join = whole.1; none_refused = not-true (list_any is_refused whole.0) (sym (clean_pattern pattern whole.0 whole.1) ∙ t) },
+      record {
+        pieces = whole.0;
+        is_join = whole.1;
+        none_refused = not-true (list_any is_refused whole.0)
+            (sym (clean_pattern pattern whole.0 whole.1) ∙ t);
+      },
 )

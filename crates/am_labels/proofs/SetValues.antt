@@ -29,8 +29,11 @@ inserted_value false v found = refl
 -- one value put: it is that of its name, and the others stay
 pub value_of-with_value : (s : LabelMap) (k v q : List ℕ)
     → value_of (with_value s k v) q ≡ cond (same_text k q) v (value_of s q)
-value_of-with_value s k [] q = ap (λ o. unwrap_or o []) (removed_at s k q) ∙ removed_value (same_text k q) (get s q)
-value_of-with_value s k (c ∷ cs) q = ap (λ o. unwrap_or o []) (inserted_at s k (c ∷ cs) q) ∙ inserted_value (same_text k q) (c ∷ cs) (get s q)
+value_of-with_value s k [] q =
+    ap (λ o. unwrap_or o []) (removed_at s k q) ∙ removed_value (same_text k q) (get s q)
+value_of-with_value s k (c ∷ cs) q =
+    ap (λ o. unwrap_or o []) (inserted_at s k (c ∷ cs) q)
+    ∙ inserted_value (same_text k q) (c ∷ cs) (get s q)
 
 -- the set with the values of a list put, one after the other
 abbrev set_from : LabelMap → List Condition → LabelMap
@@ -44,7 +47,8 @@ kept : (ms : List Condition) (s : LabelMap) (name : List ℕ) → has_name ms na
 kept [] s name h = refl
 kept (m ∷ ms) s name h =
     let parts = or_parts (same_text m.name name) (has_name ms name) h in
-    kept ms (with_value s m.name m.value) name parts.1 ∙ value_of-with_value s m.name m.value name ∙ ap (λ b. cond b m.value (value_of s name)) parts.0
+    kept ms (with_value s m.name m.value) name parts.1 ∙ value_of-with_value s m.name m.value name
+    ∙ ap (λ b. cond b m.value (value_of s name)) parts.0
 
 listed : (ms : List Condition) (s : LabelMap) (m : Condition) → repeats_name ms ≡ false → IsIn ms m
     → value_of (set_from s ms) m.name ≡ m.value
@@ -52,9 +56,12 @@ listed [] s m h i = absurd i
 listed (first ∷ ms) s m h (inl e) =
     let parts = or_parts (has_name ms first.name) (repeats_name ms) h in
     subst (λ (x : Condition). value_of (set_from s (first ∷ ms)) x.name ≡ x.value) e
-    (kept ms (with_value s first.name first.value) first.name parts.0 ∙ value_of-with_value s first.name first.value first.name
+    (kept ms (with_value s first.name first.value) first.name parts.0
+    ∙ value_of-with_value s first.name first.value first.name
     ∙ ap (λ b. cond b first.value (value_of s first.name)) (same_text-itself first.name))
-listed (first ∷ ms) s m h (inr i) = listed ms (with_value s first.name first.value) m (or_parts (has_name ms first.name) (repeats_name ms) h).1 i
+listed (first ∷ ms) s m h (inr i) =
+    listed ms (with_value s first.name first.value) m
+    (or_parts (has_name ms first.name) (repeats_name ms) h).1 i
 
 unnamed : (ms : List Condition) (name : List ℕ)
     → (IsIn (map (λ (m : Condition). m.name) ms) name → ⊥) → has_name ms name ≡ false
@@ -71,5 +78,6 @@ value_of_listed ms m h c = listed ms finite.empty m h (IsIn-from_Contains ms m c
 pub value_of_unlisted : (ms : List Condition) (name : List ℕ)
     → (Contains (map (λ (m : Condition). m.name) ms) name → ⊥) → value_of (set_of_list ms) name ≡ []
 value_of_unlisted ms name h =
-    kept ms finite.empty name (unnamed ms name (λ i. h (Contains-from_IsIn (map (λ (m : Condition). m.name) ms) name i)))
+    kept ms finite.empty name
+    (unnamed ms name (λ i. h (Contains-from_IsIn (map (λ (m : Condition). m.name) ms) name i)))
     ∙ ap (λ o. unwrap_or o []) (get-empty (slice_cmp nat_cmp) name)

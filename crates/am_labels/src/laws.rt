@@ -29,7 +29,8 @@ pub fn each_pattern_is_a_join()
 
 /// It is the join of no other pieces.
 pub fn one_join_a_pattern()
-    ensures { (pattern : List ℕ) (a b : List Piece) → IsJoinOf pattern a → IsJoinOf pattern b → a ≡ b }
+    ensures { (pattern : List ℕ) (a b : List Piece) → IsJoinOf pattern a → IsJoinOf pattern b
+        → a ≡ b }
 {}
 
 /// A pattern is of the profile exactly where the test passes that cuts it step by step.

@@ -53,8 +53,8 @@ impl Matchers {
         }
     }
 
-    /// Adds the matchers of another list at the end, in their order. `Limit` exactly where there would be more than
-    /// [`MAX_MATCHERS`] together, or else `Memory`. After an `Err` nothing has changed, and the other list is dropped.
+    /// Adds the matchers of another list at the end, in their order. `Limit` exactly where
+    /// there would be more than [`MAX_MATCHERS`] together, or else `Memory`. After an `Err` nothing has changed, and the other list is dropped.
     pub fn append(&mut self, other: Matchers) -> Result<(), Kind>
         ensures ok { OnOk result (self.new ≡ self.old ++ other) }
         ensures room { OnOk result (length self.old + length other ≤ MAX_MATCHERS) }

@@ -15,8 +15,8 @@ use std::alloc::{AllocError, Global};
 
 /// Reads a list of matchers in the classic syntax, as `team="db",severity=~"crit.*"`, with or without braces.
 ///
-/// The first of: `BadMatcher`, the text spells no list; `Limit`, it spells one of more than [`MAX_MATCHERS`]; and then, matcher
-/// by matcher, `PatternProfile` for a pattern outside the profile and `Pattern` for one of the profile that the engine
+/// The first of: `BadMatcher`, the text spells no list; `Limit`, it spells one of more than
+/// [`MAX_MATCHERS`]; and then, matcher by matcher, `PatternProfile` for a pattern outside the profile and `Pattern` for one of the profile that the engine
 /// refuses, as it does wherever its grammar does not read it. `Memory` comes wherever memory was refused.
 pub fn parse_matchers(alloc: Global, text: &str) -> Result<Matchers, Kind>
     ensures spelled { IfOk result (λ ms. Spells text.now ms) }

@@ -1,7 +1,11 @@
-ghost use Rattle.std.specs.Prelude.{◌≡◌, ◌≤◌, ◌<◌, length, option_map, map, IfSome, ◌==◌, nat_eq, ◌+◌, not};
+ghost use Rattle.std.specs.Prelude.{◌≡◌, ◌≤◌, ◌<◌, length, option_map, map, IfSome, ◌==◌, nat_eq};
+ghost use Rattle.std.specs.Prelude.{◌+◌, not};
 ghost use Rattle.std.specs.List.{list_any, find, starts_with, position};
-ghost use Rattle.am_labels.specs.PatternProfile.{outside_class, inside_class, is_refused_escape, is_refused_flag};
-ghost use Rattle.am_labels.specs.PatternCut.{in_profile, first_step, unescaped_step, escape_len, flag_run, flag_run_len, begins_count, digits_len, class_start_len, named_class_at, up_to_brace, braces_len};
+ghost use Rattle.am_labels.specs.PatternProfile.{outside_class, inside_class};
+ghost use Rattle.am_labels.specs.PatternProfile.{is_refused_escape, is_refused_flag};
+ghost use Rattle.am_labels.specs.PatternCut.{in_profile, first_step, unescaped_step, escape_len};
+ghost use Rattle.am_labels.specs.PatternCut.{flag_run, flag_run_len, begins_count, digits_len};
+ghost use Rattle.am_labels.specs.PatternCut.{class_start_len, named_class_at, up_to_brace, braces_len};
 ghost use Rattle.am_labels.specs.PatternSteps.{context_of, step_of};
 
 /// Where a piece of a pattern stands: outside or inside a class.

@@ -26,7 +26,8 @@ impl QuoteState {
 
     /// The state of the next place, behind this byte.
     pub(crate) fn next(self, byte: u8) -> QuoteState
-        ensures { (text : List ℕ) (i : ℕ) → i < length text → slice_index text i ≡ byte → IsStateAt text i self → IsStateAt text (i + 1) result }
+        ensures { (text : List ℕ) (i : ℕ) → i < length text → slice_index text i ≡ byte
+            → IsStateAt text i self → IsStateAt text (i + 1) result }
     {
         let quoted = if self.is_quote(byte) {
             !self.quoted
@@ -41,7 +42,8 @@ impl QuoteState {
 
     /// Whether the byte at the place is a quote that is not escaped.
     pub(crate) fn is_quote(self, byte: u8) -> bool
-        ensures { (text : List ℕ) (i : ℕ) → slice_index text i ≡ byte → IsStateAt text i self → result ≡ is_quote text i }
+        ensures { (text : List ℕ) (i : ℕ) → slice_index text i ≡ byte → IsStateAt text i self
+            → result ≡ is_quote text i }
     {
         byte == b'"' && !self.escaped
     }

@@ -1,7 +1,9 @@
 -- The places where a fault may stand: a text for each. (This project's own.)
 use Rattle.std.specs.Prelude.{ℕ, List, codes}
 use Rattle.am_universe.specs.declared.place.Place.{Place}
-use Rattle.am_universe.specs.declared.place.Place.TheVariants.{Universe, Config, Silences, Alerts, Instant, Question, Set, Token, Output, Memory}
+use Rattle.am_universe.specs.declared.place.Place.TheVariants.{Universe, Config, Silences, Alerts}
+use Rattle.am_universe.specs.declared.place.Place.TheVariants.{Instant, Question, Set, Token}
+use Rattle.am_universe.specs.declared.place.Place.TheVariants.{Output, Memory}
 
 -- the word for a place that the program prints
 abbrev pub place_text : Place → List ℕ

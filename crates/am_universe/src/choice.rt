@@ -6,7 +6,8 @@ use std::marker::Model;
 /// A position among the values of a label. Positions count from 0.
 pub type Position = u8;
 
-/// A list of at most [`MAX_POSITIONS`] positions, one for each label of a universe: a whole choice, or a prefix of one.
+/// A list of at most [`MAX_POSITIONS`] positions, one for each label of a universe: a whole choice,
+/// or a prefix of one.
 #[derive(Clone, Copy, Debug)]
 pub struct Choice {
     positions: [Position; MAX_POSITIONS],

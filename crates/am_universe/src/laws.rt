@@ -3,7 +3,8 @@ ghost use Rattle.std.specs.Prelude.{◌≡◌, ◌↔◌, ℕ, List, [], ◌∷�
 ghost use Rattle.std.specs.Ordering.{nat_cmp};
 ghost use Rattle.std.specs.Cmp.Lexicographic.{slice_cmp};
 ghost use Rattle.std.specs.List.Sorted.{IsStrictlySortedBy};
-ghost use Rattle.am_universe.specs.declared.limits.TheConstants.{MAX_LABELS, MAX_VALUES, MAX_POSITIONS};
+ghost use Rattle.am_universe.specs.declared.limits.TheConstants.{MAX_LABELS, MAX_VALUES};
+ghost use Rattle.am_universe.specs.declared.limits.TheConstants.{MAX_POSITIONS};
 ghost use Rattle.am_universe.specs.Text.{same_text};
 ghost use Rattle.am_universe.specs.Universe as spec;
 ghost use Rattle.am_universe.specs.Choice.{choices, IsWhole};

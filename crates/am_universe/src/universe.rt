@@ -19,7 +19,8 @@ struct Label {
     values: Vec<Option<String>>,
 }
 
-/// A declared, finite universe of label sets: at most [`MAX_LABELS`] labels, each with 1 to [`MAX_VALUES`] distinct values.
+/// A declared, finite universe of label sets: at most [`MAX_LABELS`] labels, each with 1 to
+/// [`MAX_VALUES`] distinct values.
 ///
 /// A value is a non-empty text or absence. The order of the labels and of their values is the
 /// declared order, in which label sets are written.
@@ -108,8 +109,8 @@ impl Universe {
 
     /// Adds a label behind the others, with its values in declared order.
     ///
-    /// The first fault is the one answered: `Limit` at `Label` where there are [`MAX_LABELS`] already; the faults of
-    /// the name, at `Name`, as `name_fault` has them; of their count, at `Values`, as `count_fault` has them; and at
+    /// The first fault is the one answered: `Limit` at `Label` where there are [`MAX_LABELS`]
+    /// already; the faults of the name, at `Name`, as `name_fault` has them; of their count, at `Values`, as `count_fault` has them; and at
     /// the first such value, those of a value, as `value_fault` has them.
     /// `Memory` at `Label` comes only for a label with no fault, where memory was refused. After an `Err` nothing has
     /// changed.

@@ -9,7 +9,8 @@ use Rattle.am_labels.proofs.quotes.QuoteState.next.Goals.{then-is_quote, else-is
 pub returns-then-byte-eq92 : goal.returns-then-byte-eq92
 returns-then-byte-eq92 c = λ text i inside at state.
     let is = c.is_quote.ensures text i at state in
-    let backslash : (get_or text i 0 == 92) ≡ true = eq-eqb (get_or text i 0) 92 (at ∙ c.if-byte-eq92.true) in
+    let backslash : (get_or text i 0 == 92) ≡ true =
+    eq-eqb (get_or text i 0) 92 (at ∙ c.if-byte-eq92.true) in
     record {
       escaped = ap not state.escaped ∙ sym (escaped_next text i inside ∙ rw backslash refl);
       quoted = elim c.if-is_quote.branch [
