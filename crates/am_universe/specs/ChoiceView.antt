@@ -3,14 +3,15 @@ use Rattle.std.specs.Prelude.{◌≡◌, ℕ, ◌≤◌, ◌-◌, List, ◌++◌
 use Rattle.am_universe.specs.declared.choice.Choice.TheInside.{Inside}
 use Rattle.am_universe.specs.declared.limits.TheConstants.{MAX_POSITIONS}
 
--- the positions of a stored choice
+-- The positions of a stored choice.
 abbrev pub view_of : Inside → List ℕ
 view_of a = take a.len a.positions
 
--- the one way in which positions are stored
-abbrev pub stored : List ℕ → Inside
-stored c = record { positions = c ++ replicate (MAX_POSITIONS - length c) 0; len = length c }
+-- The one way in which positions are stored.
+abbrev pub stored_form : List ℕ → Inside
+stored_form c =
+    record { positions = c ++ replicate (MAX_POSITIONS - length c) 0; len = length c }
 
--- no more positions than cells, and stored so
+-- No more positions than cells, and stored so.
 abbrev pub IsStored : Inside → Type 0
-IsStored a = (a.len ≤ MAX_POSITIONS) × (stored (view_of a) ≡ a)
+IsStored a = (a.len ≤ MAX_POSITIONS) × (stored_form (view_of a) ≡ a)

@@ -1,8 +1,8 @@
--- The completions of a prefix. (Standard term of search.)
+-- The completions of a prefix of a choice, as the term is used of search.
 use Rattle.std.specs.Prelude.{ℕ, List, nat_eq}
 use Rattle.std.specs.List.{filter, starts_with}
 use Rattle.am_universe.specs.Choice.{choices}
 
--- the whole choices that begin with a prefix, in declared order
+-- The whole choices that begin with a prefix, in declared order.
 abbrev pub completions : List ℕ → List ℕ → List (List ℕ)
 completions sizes prefix = filter (λ c. starts_with nat_eq c prefix) (choices sizes)

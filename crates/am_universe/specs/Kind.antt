@@ -1,50 +1,56 @@
--- The refusals: a number and a text for each. (This project's own.)
+-- Why something was refused: a number and a word for each kind of refusal.
 use Rattle.std.specs.Prelude.{ℕ, List, codes}
 use Rattle.am_universe.specs.declared.kind.Kind.{Kind}
-use Rattle.am_universe.specs.declared.kind.Kind.TheVariants.{NotJson, Shape, UnknownField, BadMatcher, PatternProfile, Pattern, Duplicate, Empty, UndefinedReceiver, RootMatchers, BadTime, Limit, QuestionSyntax, UnknownReceiver, UnknownRoute, BadToken, NeedAt, Write, Memory, Read}
+use Rattle.am_universe.specs.declared.kind.Kind.TheVariants.{NotJson, Shape, UnknownField}
+use Rattle.am_universe.specs.declared.kind.Kind.TheVariants.{BadMatcher, PatternProfile, Pattern}
+use Rattle.am_universe.specs.declared.kind.Kind.TheVariants.{Duplicate, Empty, UndefinedReceiver}
+use Rattle.am_universe.specs.declared.kind.Kind.TheVariants.{RootMatchers, BadTime, Limit}
+use Rattle.am_universe.specs.declared.kind.Kind.TheVariants.{QuestionSyntax, UnknownReceiver}
+use Rattle.am_universe.specs.declared.kind.Kind.TheVariants.{UnknownRoute, BadToken, NeedAt}
+use Rattle.am_universe.specs.declared.kind.Kind.TheVariants.{Write, Memory, Read}
 
--- the number of a kind, 1 to 20
-abbrev pub number_of : Kind → ℕ
-number_of NotJson = 1
-number_of Shape = 2
-number_of UnknownField = 3
-number_of BadMatcher = 4
-number_of PatternProfile = 5
-number_of Pattern = 6
-number_of Duplicate = 7
-number_of Empty = 8
-number_of UndefinedReceiver = 9
-number_of RootMatchers = 10
-number_of BadTime = 11
-number_of Limit = 12
-number_of QuestionSyntax = 13
-number_of UnknownReceiver = 14
-number_of UnknownRoute = 15
-number_of BadToken = 16
-number_of NeedAt = 17
-number_of Write = 18
-number_of Memory = 19
-number_of Read = 20
+-- The number of a kind, 1 to 20.
+abbrev pub kind_number : Kind → ℕ
+kind_number NotJson = 1
+kind_number Shape = 2
+kind_number UnknownField = 3
+kind_number BadMatcher = 4
+kind_number PatternProfile = 5
+kind_number Pattern = 6
+kind_number Duplicate = 7
+kind_number Empty = 8
+kind_number UndefinedReceiver = 9
+kind_number RootMatchers = 10
+kind_number BadTime = 11
+kind_number Limit = 12
+kind_number QuestionSyntax = 13
+kind_number UnknownReceiver = 14
+kind_number UnknownRoute = 15
+kind_number BadToken = 16
+kind_number NeedAt = 17
+kind_number Write = 18
+kind_number Memory = 19
+kind_number Read = 20
 
--- the word for a kind that the program prints
-abbrev pub text_of : Kind → List ℕ
-text_of NotJson = codes "not-json"
-text_of Shape = codes "shape"
-text_of UnknownField = codes "unknown-field"
-text_of BadMatcher = codes "bad-matcher"
-text_of PatternProfile = codes "pattern-profile"
-text_of Pattern = codes "pattern"
-text_of Duplicate = codes "duplicate"
-text_of Empty = codes "empty"
-text_of UndefinedReceiver = codes "undefined-receiver"
-text_of RootMatchers = codes "root-matchers"
-text_of BadTime = codes "bad-time"
-text_of Limit = codes "limit"
-text_of QuestionSyntax = codes "question-syntax"
-text_of UnknownReceiver = codes "unknown-receiver"
-text_of UnknownRoute = codes "unknown-route"
-text_of BadToken = codes "bad-token"
-text_of NeedAt = codes "need-at"
-text_of Write = codes "write"
-text_of Memory = codes "memory"
-text_of Read = codes "read"
+-- The word for a kind that the program prints.
+abbrev pub kind_text : Kind → List ℕ
+kind_text NotJson = codes "not-json"
+kind_text Shape = codes "shape"
+kind_text UnknownField = codes "unknown-field"
+kind_text BadMatcher = codes "bad-matcher"
+kind_text PatternProfile = codes "pattern-profile"
+kind_text Pattern = codes "pattern"
+kind_text Duplicate = codes "duplicate"
+kind_text Empty = codes "empty"
+kind_text UndefinedReceiver = codes "undefined-receiver"
+kind_text RootMatchers = codes "root-matchers"
+kind_text BadTime = codes "bad-time"
+kind_text Limit = codes "limit"
+kind_text QuestionSyntax = codes "question-syntax"
+kind_text UnknownReceiver = codes "unknown-receiver"
+kind_text UnknownRoute = codes "unknown-route"
+kind_text BadToken = codes "bad-token"
+kind_text NeedAt = codes "need-at"
+kind_text Write = codes "write"
+kind_text Memory = codes "memory"
+kind_text Read = codes "read"

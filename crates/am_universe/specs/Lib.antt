@@ -1,3 +1,5 @@
+pub mod Words
+pub mod Bytes
 pub mod Kind
 pub mod Place
 pub mod Sink
@@ -10,4 +12,4 @@ pub mod ChoiceView
 pub mod Completions
 pub mod LabelSet
 pub mod LabelSetView
-pub mod SetText
+pub mod WrittenLabelSet

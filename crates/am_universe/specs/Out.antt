@@ -1,17 +1,17 @@
--- What a clause reads of an `Out`.
+-- What a clause reads of an `Out`, a sink over a writer.
 use Rattle.std.specs.Prelude.{ℕ, List, length}
 use Rattle.std.specs.declared.io.traits.Write.{Ghosts}
 use Rattle.am_universe.specs.declared.out.Out.{Out}
 
 module _ {W : Type 0} {w : Ghosts W} where
-  -- the bytes that its writer said it took
+  -- The bytes that its writer said it took.
   abbrev pub out_taken : Out W w → List ℕ
   out_taken o = o.taken.items
 
-  -- how many writes failed or took nothing
+  -- How many writes failed or took nothing.
   abbrev pub out_failures : Out W w → ℕ
   out_failures o = length o.failures.items
 
-  -- the writer as it was handed in
+  -- The writer as it was handed in.
   abbrev pub out_start : Out W w → W
   out_start o = o.start.value

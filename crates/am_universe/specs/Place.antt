@@ -1,11 +1,11 @@
--- The places where a fault may stand: a text for each. (This project's own.)
+-- Where a fault stands: a word for each input of a call, for its output and for memory.
 use Rattle.std.specs.Prelude.{ℕ, List, codes}
 use Rattle.am_universe.specs.declared.place.Place.{Place}
 use Rattle.am_universe.specs.declared.place.Place.TheVariants.{Universe, Config, Silences, Alerts}
 use Rattle.am_universe.specs.declared.place.Place.TheVariants.{Instant, Question, Set, Token}
 use Rattle.am_universe.specs.declared.place.Place.TheVariants.{Output, Memory}
 
--- the word for a place that the program prints
+-- The word for a place that the program prints.
 abbrev pub place_text : Place → List ℕ
 place_text Universe = codes "universe"
 place_text Config = codes "config"

@@ -1,25 +1,33 @@
--- What a call that writes did to a sink. (This project's own.)
+-- What a call that writes did to a sink. A sink has two meanings, which its trait gives: `taken`,
+-- the bytes that it has taken, and `failures`, how many takes failed.
 use Rattle.std.specs.Prelude.{◌≡◌, ℕ, ◌+◌, ◌<◌, List, ◌++◌, length, take, Result, OnOk, IfErr}
 use Rattle.am_universe.specs.declared.kind.Kind.{Kind}
 use Rattle.am_universe.specs.declared.kind.Kind.TheVariants as kinds
 
--- the new bytes are the old ones and a part of the text from its front, but not all of it
+-- The new bytes are the old ones and a part of the text from its front, but not all of it.
 pub record GrowsByProperPrefix (old new text : List ℕ) : Type 0 where
   pub count : ℕ
   pub proper : count < length text
   pub grows : new ≡ old ++ take count text
 
--- Between two states of a sink the whole text was taken, and no take failed. (`taken` and `failures` are the sink's own words.)
-pub record Wrote {S : Type 0} (taken : S → List ℕ) (failures : S → ℕ) (before after : S) (text : List ℕ) : Type 0 where
+-- Between two states of a sink the whole text was taken, and no take failed.
+pub record Wrote {S : Type 0} (taken : S → List ℕ) (failures : S → ℕ) (before after : S)
+    (text : List ℕ) : Type 0 where
   pub all : taken after ≡ taken before ++ text
   pub none_failed : failures after ≡ failures before
 
 -- Between two states of a sink a proper prefix of the text was taken, and exactly one take failed.
-pub record WroteInPart {S : Type 0} (taken : S → List ℕ) (failures : S → ℕ) (before after : S) (text : List ℕ) : Type 0 where
+pub record WroteInPart {S : Type 0} (taken : S → List ℕ) (failures : S → ℕ) (before after : S)
+    (text : List ℕ) : Type 0 where
   pub part : GrowsByProperPrefix (taken before) (taken after) text
   pub one_failed : failures after ≡ failures before + 1
 
--- The call wrote the text: at `Ok` all of it, without a failure; at `Err`, which is `Kind::Write`, a proper prefix, with one failure.
-pub record Writes {S T : Type 0} (taken : S → List ℕ) (failures : S → ℕ) (before after : S) (text : List ℕ) (result : Result T Kind) : Type 0 where
+-- A call wrote the text: at `Ok` all of it, without a failure; at `Err`, which is `Kind::Write`, a
+-- proper prefix, with one failure.
+-- Source: own choice.
+-- Example: of the text `{}` a call that answers `Err` has written nothing or `{`.
+pub record Writes {S T : Type 0} (taken : S → List ℕ) (failures : S → ℕ) (before after : S)
+    (text : List ℕ) (result : Result T Kind) : Type 0 where
   pub ok : OnOk result (Wrote taken failures before after text)
-  pub err : IfErr result (λ kind. (kind ≡ kinds.Write) × WroteInPart taken failures before after text)
+  pub err : IfErr result (λ kind.
+      (kind ≡ kinds.Write) × WroteInPart taken failures before after text)

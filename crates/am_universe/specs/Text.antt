@@ -1,17 +1,24 @@
--- Texts, as lists of bytes.
+-- Texts, as lists of bytes, and how a text is written between quotes.
 use Rattle.std.specs.Prelude.{ℕ, List, [], ◌∷◌, ◌++◌, Bool, nat_eq, ◌==◌, if◌then◌else◌, codes}
 use Rattle.std.specs.List.{flat_map}
+use Rattle.am_universe.specs.Bytes.{backslash, double_quote, line_feed}
 use lib.Pointwise.{pointwise}
 
--- the two texts are the same, as a test
+-- Two texts have the same bytes, as a test.
 abbrev pub same_text : List ℕ → List ℕ → Bool
 same_text = pointwise nat_eq
 
--- A byte of a quoted text: `\` is written `\\`, `"` is written `\"`, a line feed is written `\n`, and any
--- other byte stands for itself. (This project's choice: the escapes of a label value in the Prometheus text exposition format.)
-abbrev pub escaped : ℕ → List ℕ
-escaped c = if c == 92 then codes "\\\\" else if c == 34 then codes "\\\"" else if c == 10 then codes "\\n" else c ∷ []
+-- A byte of a quoted text: `\` is written `\\`, `"` is written `\"`, a line feed is written `\n`,
+-- and any other byte stands for itself.
+-- Source: Prometheus text exposition format, the escapes of a label value.
+-- Example: `"` is written as the two bytes `\"`, and `a` as itself.
+abbrev pub label_value_escape : ℕ → List ℕ
+label_value_escape c =
+    if c == backslash then codes "\\\\"
+    else if c == double_quote then codes "\\\""
+    else if c == line_feed then codes "\\n"
+    else c ∷ []
 
--- the text between quotes
-abbrev pub quoted : List ℕ → List ℕ
-quoted text = codes "\"" ++ (flat_map escaped text ++ codes "\"")
+-- A text between quotes, each of its bytes escaped.
+abbrev pub quoted_text : List ℕ → List ℕ
+quoted_text text = codes "\"" ++ (flat_map label_value_escape text ++ codes "\"")

@@ -4,10 +4,9 @@ use Rattle.std.specs.declared.alloc.Global.{Global}
 use Rattle.std.specs.Global.{Vec}
 use Rattle.am_universe.specs.Universe.{Values, Label}
 
--- the texts of a list of values, without where they lie in memory
+-- The texts of a list of values, without where they lie in memory; and a label with these values.
 abbrev pub texts_of : List (Option (String Global)) → Values
 texts_of values = map (option_map string_bytes) values
 
--- a label, from its name and its values
 abbrev pub label_of : String Global → Vec (Option (String Global)) → Label
 label_of name values = record { name = string_bytes name; values = texts_of values.items }

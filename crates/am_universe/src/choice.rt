@@ -1,4 +1,5 @@
-ghost use Rattle.std.specs.Prelude.{◌≡◌, ◌==◌, ◌<◌, ◌≤◌, List, [], ◌∷◌, ◌++◌, length, slice_index, IfSome, IfNone};
+ghost use Rattle.std.specs.Prelude.{◌≡◌, ◌==◌, ◌<◌, ◌≤◌, List, [], ◌∷◌, ◌++◌, length};
+ghost use Rattle.std.specs.Prelude.{slice_index, IfSome, IfNone};
 
 use crate::limits::MAX_POSITIONS;
 use std::marker::Model;
@@ -16,7 +17,7 @@ pub struct Choice {
 
 impl Model for Choice {
     ghost use Rattle.std.specs.Prelude.{List, ℕ};
-    ghost use Rattle.am_universe.specs.ChoiceView.{view_of, IsStored, stored};
+    ghost use Rattle.am_universe.specs.ChoiceView.{view_of, IsStored, stored_form};
 
     ghost Value = { List ℕ };
 
@@ -24,7 +25,7 @@ impl Model for Choice {
 
     ghost invariant = { IsStored };
 
-    ghost inverse = { stored };
+    ghost inverse = { stored_form };
 
     ghost inverse_ok = { λ a h. h.1 };
 }
@@ -32,7 +33,7 @@ impl Model for Choice {
 impl Choice {
     /// The choice with no position.
     pub fn empty() -> Choice
-        ensures { result ≡ [] }
+        ensures no_position { result ≡ [] }
     {
         Choice {
             positions: [0; MAX_POSITIONS],
@@ -50,7 +51,7 @@ impl Choice {
 
     /// Whether there is no position.
     pub fn is_empty(&self) -> bool
-        ensures { result ≡ (length self.now == 0) }
+        ensures empty { result ≡ (length self.now == 0) }
     {
         self.len() == 0
     }
@@ -58,7 +59,7 @@ impl Choice {
     /// The position at `i`.
     pub fn get(&self, i: usize) -> Position
         requires { i < length self.now }
-        ensures { result ≡ slice_index self.now i }
+        ensures position { result ≡ slice_index self.now i }
     {
         self.positions[i]
     }
@@ -66,7 +67,7 @@ impl Choice {
     /// Adds a position at the end.
     pub fn push(&mut self, position: Position)
         requires { length self.old < MAX_POSITIONS }
-        ensures { self.new ≡ self.old ++ position ∷ [] }
+        ensures added { self.new ≡ self.old ++ position ∷ [] }
     {
         self.positions[self.len] = position;
         self.len += 1;

@@ -31,7 +31,7 @@ impl Fault {
         }
     }
 
-    /// Want of memory, which stands at a place of its own. No memory is taken.
+    /// Memory ran out, which stands at a place of its own. No memory is taken.
     pub fn memory(alloc: Global) -> Fault
         ensures kind { result.kind ≡ kinds.Memory }
         ensures place { result.place ≡ places.Memory }

@@ -17,14 +17,14 @@ impl<T> Model for History<T> {
 impl<T> History<T> {
     /// Nothing has come yet.
     pub fn new() -> History<T>
-        ensures { result.items ≡ [] }
+        ensures nothing { result.items ≡ [] }
     {
         History { of: PhantomData }
     }
 
     /// This history, and then these items.
-    pub fn and(&self, _items: &[T]) -> History<T>
-        ensures { result.items ≡ self.now.items ++ _items.now }
+    pub fn followed_by(&self, _items: &[T]) -> History<T>
+        ensures joined { result.items ≡ self.now.items ++ _items.now }
     {
         History { of: PhantomData }
     }

@@ -1,5 +1,5 @@
 ghost use Rattle.std.specs.Prelude.{◌≡◌};
-ghost use Rattle.am_universe.specs.Kind.{number_of, text_of};
+ghost use Rattle.am_universe.specs.Words.{kind_number, kind_text};
 ghost use Rattle.am_universe.specs.declared.kind.Kind.TheVariants.{Memory};
 
 use std::alloc::{AllocError, AllocFailed};
@@ -15,8 +15,8 @@ pub enum Kind {
     UnknownField,
     /// The text spells no list of matchers.
     BadMatcher,
-    /// A pattern outside the profile, which leaves out forms that Go's engine and the crate `regex` are known to refuse or
-    /// to read differently.
+    /// A pattern outside the profile, which leaves out forms that Go's engine and the crate `regex`
+    /// are known to refuse or to read differently.
     PatternProfile,
     /// A pattern that the engine refuses.
     Pattern,
@@ -28,7 +28,7 @@ pub enum Kind {
     UndefinedReceiver,
     /// The top-level route has matchers.
     RootMatchers,
-    /// A text that is no instant.
+    /// A text that is no instant. Nothing answers this one, `BadToken` and `NeedAt` today.
     BadTime,
     /// A limit is passed.
     Limit,
@@ -44,7 +44,7 @@ pub enum Kind {
     NeedAt,
     /// The writer failed, or took nothing.
     Write,
-    /// A growth of memory was refused.
+    /// Memory ran out.
     Memory,
     /// A file could not be read.
     Read,
@@ -53,7 +53,7 @@ pub enum Kind {
 impl Kind {
     /// The number of the kind, 1 to 20.
     pub fn number(self) -> u8
-        ensures { result ≡ number_of self }
+        ensures number { result ≡ kind_number self }
     {
         match self {
             Kind::NotJson => 1,
@@ -81,7 +81,7 @@ impl Kind {
 
     /// The word for the kind that the program prints, as `not-json`.
     pub fn text(self) -> &'static str
-        ensures { result.now ≡ text_of self }
+        ensures text { result.now ≡ kind_text self }
     {
         match self {
             Kind::NotJson => "not-json",

@@ -2,7 +2,8 @@
 
 ghost use Rattle.std.specs.Prelude.{◌≡◌};
 ghost use Rattle.std.specs.List.{list_all};
-ghost use Rattle.am_universe.specs.Universe.{begins_label_name, continues_label_name, is_label_name};
+ghost use Rattle.am_universe.specs.Words.{begins_label_name, continues_label_name};
+ghost use Rattle.am_universe.specs.Words.{is_label_name};
 
 /// Whether the text is a label name, `[a-zA-Z_][a-zA-Z0-9_]*` (Prometheus data model).
 pub(crate) fn is_label_name(name: &[u8]) -> bool
@@ -22,14 +23,14 @@ fn all_continue_label_name(bytes: &[u8]) -> bool
 
 /// Whether a label name may begin with the byte: a letter of ASCII, or `_`.
 pub fn begins_label_name(byte: u8) -> bool
-    ensures { result ≡ begins_label_name byte }
+    ensures begins { result ≡ begins_label_name byte }
 {
     byte.is_ascii_alphabetic() || byte == b'_'
 }
 
 /// Whether a label name may go on with the byte: a letter or a digit of ASCII, or `_`.
 pub fn continues_label_name(byte: u8) -> bool
-    ensures { result ≡ continues_label_name byte }
+    ensures continues { result ≡ continues_label_name byte }
 {
     begins_label_name(byte) || byte.is_ascii_digit()
 }

@@ -1,9 +1,7 @@
 ghost use Rattle.std.specs.Prelude.{◌≡◌, ◌==◌, OnOk, OnErr, IfOk, string_bytes};
 ghost use Rattle.std.specs.FinMap as map;
-ghost use Rattle.am_universe.specs.Universe.{sizes};
-ghost use Rattle.am_universe.specs.Choice.{IsWhole};
-ghost use Rattle.am_universe.specs.LabelSetView.{label_map_of};
-ghost use Rattle.am_universe.specs.LabelSet.{value_of, with_value, label_set_of, HasTextsAlone};
+ghost use Rattle.am_universe.specs.Words.{sizes, IsWhole, label_map_of, value_of, with_value};
+ghost use Rattle.am_universe.specs.Words.{label_set_of, HasTextsAlone};
 
 use crate::{Choice, Universe};
 use std::alloc::{AllocError, Global};
@@ -34,17 +32,18 @@ impl Model for LabelSet {
 impl LabelSet {
     /// The empty label set. It keeps the allocator.
     pub fn empty(alloc: Global) -> LabelSet
-        ensures { result ≡ map.empty }
+        ensures empty { result ≡ map.empty }
     {
         LabelSet {
             values: BTreeMap::new(alloc),
         }
     }
 
-    /// Gives the label this value. The empty value takes the label out. An `Err` comes only where memory was refused; then
-    /// nothing has changed.
+    /// Gives the label this value. The empty value takes the label out. An `Err` comes only where
+    /// memory ran out; then nothing has changed.
     pub fn put(&mut self, name: String, value: String) -> Result<(), AllocError>
-        ensures ok { OnOk result (self.new ≡ with_value self.old (string_bytes name) (string_bytes value)) }
+        ensures ok { OnOk result (
+            self.new ≡ with_value self.old (string_bytes name) (string_bytes value)) }
         ensures err { OnErr result (self.new ≡ self.old) }
     {
         if value.is_empty() {
@@ -57,7 +56,7 @@ impl LabelSet {
 
     /// The value of a label: the empty text where it is missing.
     pub fn get(&self, name: &str) -> &str
-        ensures { result.now ≡ value_of self.now name.now }
+        ensures value { result.now ≡ value_of self.now name.now }
     {
         match self.values.get(name) {
             Some(value) => value.as_str(),
@@ -82,16 +81,17 @@ impl LabelSet {
 
     /// Whether no label has a value.
     pub fn is_empty(&self) -> bool
-        ensures { result ≡ (map.len self.now == 0) }
+        ensures empty { result ≡ (map.len self.now == 0) }
     {
         self.len() == 0
     }
 }
 
-/// The label set of a whole choice: each label whose value is a text. An `Err` comes only where memory was refused.
+/// The label set of a whole choice: each label whose value is a text. An `Err` comes only where
+/// memory ran out.
 pub fn set_of(alloc: Global, universe: &Universe, choice: &Choice) -> Result<LabelSet, AllocError>
     requires { IsWhole (sizes universe.now) choice.now }
-    ensures { IfOk result (λ set. set ≡ label_set_of universe.now choice.now) }
+    ensures set { IfOk result (λ set. set ≡ label_set_of universe.now choice.now) }
 {
     let mut set = LabelSet::empty(alloc);
     for i in 0..universe.len() {

@@ -1,15 +1,14 @@
 //! Facts about the definitions alone: each is the contract of a function with an empty body.
-ghost use Rattle.std.specs.Prelude.{◌≡◌, ◌↔◌, ℕ, List, [], ◌∷◌, ◌++◌, IsTrue, Contains, None, Some, slice_get, unwrap_or};
+ghost use Rattle.std.specs.Prelude.{◌≡◌, ◌↔◌, ℕ, List, [], ◌∷◌, ◌++◌, IsTrue, Contains};
+ghost use Rattle.std.specs.Prelude.{None, Some, slice_get, unwrap_or};
 ghost use Rattle.std.specs.Ordering.{nat_cmp};
 ghost use Rattle.std.specs.Cmp.Lexicographic.{slice_cmp};
 ghost use Rattle.std.specs.List.Sorted.{IsStrictlySortedBy};
 ghost use Rattle.am_universe.specs.declared.limits.TheConstants.{MAX_LABELS, MAX_VALUES};
 ghost use Rattle.am_universe.specs.declared.limits.TheConstants.{MAX_POSITIONS};
-ghost use Rattle.am_universe.specs.Text.{same_text};
-ghost use Rattle.am_universe.specs.Universe as spec;
-ghost use Rattle.am_universe.specs.Choice.{choices, IsWhole};
-ghost use Rattle.am_universe.specs.LabelSet.{value_of, value_at, label_set_of};
-ghost use Rattle.am_universe.specs.SetText.{line};
+ghost use Rattle.am_universe.specs.Words.{same_text};
+ghost use Rattle.am_universe.specs.Words.{Label, IsUniverse, names, sizes, label_fault};
+ghost use Rattle.am_universe.specs.Words.{choices, IsWhole, value_of, value_at, label_set_of, line};
 
 /// How much there may be: labels of a universe, values of a label, positions of a choice.
 pub fn limits_of_universes()
@@ -20,41 +19,43 @@ pub fn limits_of_universes()
 
 /// The test whether two texts are the same is true where they are equal, and only there.
 pub fn same_text_decides()
-    ensures { (a b : List ℕ) → (IsTrue (same_text a b) ↔ (a ≡ b)) }
+    ensures decided { (a b : List ℕ) → (IsTrue (same_text a b) ↔ (a ≡ b)) }
 {}
 
 /// All choices over labels of some sizes are the whole choices and no others.
 pub fn choices_are_the_whole_choices()
-    ensures { (sizes c : List ℕ) → (Contains (choices sizes) c ↔ IsWhole sizes c) }
+    ensures exactly { (sizes c : List ℕ) → (Contains (choices sizes) c ↔ IsWhole sizes c) }
 {}
 
 /// Each choice comes before those after it in the order of a dictionary, so none stands twice.
 pub fn choices_ascend()
-    ensures { (sizes : List ℕ) → IsStrictlySortedBy (slice_cmp nat_cmp) (choices sizes) }
+    ensures ascending { (sizes : List ℕ) → IsStrictlySortedBy (slice_cmp nat_cmp) (choices sizes) }
 {}
 
-/// In the label set of a choice a declared label has the value at its position, and the empty text where that is absence.
+/// In the label set of a choice a declared label has the value at its position, and the empty text
+/// where that is absence.
 pub fn declared_value()
-    ensures { (u : List spec.Label) (c : List ℕ) (i : ℕ) (label : spec.Label) (position : ℕ)
-        → spec.IsUniverse u → slice_get u i ≡ Some label → slice_get c i ≡ Some position
+    ensures value { (u : List Label) (c : List ℕ) (i : ℕ) (label : Label) (position : ℕ)
+        → IsUniverse u → slice_get u i ≡ Some label → slice_get c i ≡ Some position
         → value_of (label_set_of u c) label.name ≡ unwrap_or (value_at label position) [] }
 {}
 
 /// In the label set of a choice a label that is not declared has the empty text.
 pub fn undeclared_value()
-    ensures { (u : List spec.Label) (c name : List ℕ)
-        → ¬ Contains (spec.names u) name → value_of (label_set_of u c) name ≡ [] }
+    ensures value { (u : List Label) (c name : List ℕ)
+        → ¬ Contains (names u) name → value_of (label_set_of u c) name ≡ [] }
 {}
 
-/// A label has no fault behind a universe exactly if the labels with it are one: no fault is missing, and none is
-/// needless.
+/// A label has no fault behind a universe exactly if the labels with it are one: no fault is
+/// missing, and none is needless.
 pub fn a_label_is_added_exactly_to_a_universe()
-    ensures { (u : List spec.Label) (label : spec.Label) → spec.IsUniverse u
-        → (spec.label_fault u label ≡ None ↔ spec.IsUniverse (u ++ label ∷ [])) }
+    ensures exactly { (u : List Label) (label : Label) → IsUniverse u
+        → (label_fault u label ≡ None ↔ IsUniverse (u ++ label ∷ [])) }
 {}
 
 /// Two different choices of one universe have different lines.
 pub fn one_choice_a_line()
-    ensures { (u : List spec.Label) (c d : List ℕ) → spec.IsUniverse u → IsWhole (spec.sizes u) c → IsWhole (spec.sizes u) d
+    ensures same_choice { (u : List Label) (c d : List ℕ) → IsUniverse u
+        → IsWhole (sizes u) c → IsWhole (sizes u) d
         → line u c ≡ line u d → c ≡ d }
 {}

@@ -7,14 +7,16 @@ use std::snapshot::Snapshot;
 
 /// A sink over any writer. A write that answers an error or takes no byte is a failed take.
 ///
-/// What it has taken is what its writer says it took, and what the writer itself holds where it tells.
+/// What it has taken is what its writer says it took, and what the writer itself holds where it
+/// tells.
 #[derive(Drop)]
 pub struct Out<W: Write> {
     writer: W,
     start: Snapshot<W>,
     taken: History<u8>,
     failures: History<Kind>,
-    ghost told: { ForSome (W.contents start.value) (λ held. W.contents writer ≡ Some (held ++ taken.items)) },
+    ghost writer_holds: { ForSome (W.contents start.value) (λ held.
+        W.contents writer ≡ Some (held ++ taken.items)) },
 }
 
 impl<W: Write> Out<W> {
@@ -37,14 +39,16 @@ impl<W: Write> Out<W> {
 
     /// The writer as it is now.
     pub fn get_ref(&self) -> &W
-        ensures { IfSome (W.contents (out_start self.now)) (λ held. W.contents result.now ≡ Some (held ++ out_taken self.now)) }
+        ensures contents { IfSome (W.contents (out_start self.now)) (λ held.
+            W.contents result.now ≡ Some (held ++ out_taken self.now)) }
     {
         &self.writer
     }
 
     /// The writer.
     pub fn into_inner(self) -> W
-        ensures { IfSome (W.contents (out_start self)) (λ held. W.contents result ≡ Some (held ++ out_taken self)) }
+        ensures contents { IfSome (W.contents (out_start self)) (λ held.
+            W.contents result ≡ Some (held ++ out_taken self)) }
     {
         self.writer
     }
@@ -60,11 +64,11 @@ impl<W: Write> Sink for Out<W> {
     fn take(&mut self, bytes: &[u8]) -> Result<usize, Kind> {
         match self.writer.write(bytes) {
             Ok(0) | Err(_) => {
-                self.failures = self.failures.and(&[Kind::Write]);
+                self.failures = self.failures.followed_by(&[Kind::Write]);
                 Err(Kind::Write)
             }
             Ok(count) => {
-                self.taken = self.taken.and(&bytes[..count]);
+                self.taken = self.taken.followed_by(&bytes[..count]);
                 Ok(count)
             }
         }

@@ -1,5 +1,5 @@
 ghost use Rattle.std.specs.Prelude.{◌≡◌};
-ghost use Rattle.am_universe.specs.Place.{place_text};
+ghost use Rattle.am_universe.specs.Words.{place_text};
 
 /// Where a fault stands.
 #[derive(Clone, Copy, Debug, PartialEq, Eq)]
@@ -29,7 +29,7 @@ pub enum Place {
 impl Place {
     /// The word for the place that the program prints, as `universe`.
     pub fn text(self) -> &'static str
-        ensures { result.now ≡ place_text self }
+        ensures text { result.now ≡ place_text self }
     {
         match self {
             Place::Universe => "universe",

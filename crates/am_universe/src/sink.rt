@@ -1,4 +1,5 @@
-ghost use Rattle.std.specs.Prelude.{◌≡◌, ℕ, ◌+◌, ◌<◌, ◌≤◌, List, ◌++◌, length, take, IfOk, IfErr, MatchResult};
+ghost use Rattle.std.specs.Prelude.{◌≡◌, ℕ, ◌+◌, ◌<◌, ◌≤◌, List, ◌++◌, length, take};
+ghost use Rattle.std.specs.Prelude.{IfOk, IfErr, MatchResult};
 ghost use Rattle.am_universe.specs.declared.kind.Kind.TheVariants as kinds;
 
 use crate::Kind;
@@ -17,7 +18,11 @@ pub trait Sink {
     fn take(&mut self, bytes: &[u8]) -> Result<usize, Kind>
         requires { 0 < length bytes.now }
         ensures count { IfOk result (λ n. (0 < n) × (n ≤ length bytes.now)) }
-        ensures taken { MatchResult result (λ n. taken self.new ≡ taken self.old ++ take n bytes.now) (λ _. taken self.new ≡ taken self.old) }
-        ensures failures { MatchResult result (λ _. failures self.new ≡ failures self.old) (λ _. failures self.new ≡ failures self.old + 1) }
+        ensures taken { MatchResult result
+            (λ n. taken self.new ≡ taken self.old ++ take n bytes.now)
+            (λ _. taken self.new ≡ taken self.old) }
+        ensures failures { MatchResult result
+            (λ _. failures self.new ≡ failures self.old)
+            (λ _. failures self.new ≡ failures self.old + 1) }
         ensures kind { IfErr result (λ kind. kind ≡ kinds.Write) };
 }

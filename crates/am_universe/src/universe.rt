@@ -1,9 +1,11 @@
-ghost use Rattle.std.specs.Prelude.{◌≡◌, ◌<◌, ◌≤◌, ◌==◌, [], ◌∷◌, ◌++◌, length, Some, None, string_bytes, IfErr, IfSome, IfNone, OnOk, OnErr, Contains, slice_get, slice_index, option_map, option_and_then, unwrap_or};
+ghost use Rattle.std.specs.Prelude.{◌≡◌, ◌<◌, ◌≤◌, ◌==◌, [], ◌∷◌, ◌++◌, length, Some, None};
+ghost use Rattle.std.specs.Prelude.{string_bytes, IfErr, IfSome, IfNone, OnOk, OnErr, Contains};
+ghost use Rattle.std.specs.Prelude.{slice_get, slice_index, option_map, option_and_then, unwrap_or};
 ghost use Rattle.std.specs.List.{list_any};
-ghost use Rattle.am_universe.specs.Universe.{IsUniverse, names, sizes, label_position, same_value, name_fault, count_fault, value_fault, label_values_fault, label_fault, no_memory};
-ghost use Rattle.am_universe.specs.UniverseView.{label_of, texts_of};
-ghost use Rattle.am_universe.specs.LabelSet.{value_at};
-ghost use Rattle.am_universe.specs.Choice.{admits};
+ghost use Rattle.am_universe.specs.Words.{IsUniverse, names, sizes, label_position};
+ghost use Rattle.am_universe.specs.Words.{same_value, value_at, admits, label_of, texts_of};
+ghost use Rattle.am_universe.specs.Words.{name_fault, count_fault, value_fault};
+ghost use Rattle.am_universe.specs.Words.{label_values_fault, label_fault, memory_fault};
 ghost use Rattle.am_universe.specs.declared.kind.Kind.TheVariants as kinds;
 
 use crate::label_name::is_label_name;
@@ -52,7 +54,7 @@ impl Model for Universe {
 impl Universe {
     /// The universe with no labels, which has one label set, the empty one. It keeps the allocator.
     pub fn empty(alloc: Global) -> Universe
-        ensures { result ≡ [] }
+        ensures no_label { result ≡ [] }
     {
         Universe {
             labels: Vec::new(alloc),
@@ -61,9 +63,10 @@ impl Universe {
 
     /// Why a label of this name may not be added; `None` where it may, if its values may too.
     ///
-    /// The first of: `Empty`, the empty text; `Shape`, not `[a-zA-Z_][a-zA-Z0-9_]*`; `Duplicate`, the name of a label here.
+    /// The first of: `Empty`, the empty text; `Shape`, not `[a-zA-Z_][a-zA-Z0-9_]*`; `Duplicate`,
+    /// the name of a label here.
     pub fn name_fault(&self, name: &str) -> Option<Kind>
-        ensures { result ≡ name_fault self.now name.now }
+        ensures fault { result ≡ name_fault self.now name.now }
     {
         if name.is_empty() {
             return Some(Kind::Empty);
@@ -81,7 +84,7 @@ impl Universe {
     ///
     /// `Empty` for no value, `Limit` for more than [`MAX_VALUES`].
     pub fn count_fault(count: usize) -> Option<Kind>
-        ensures { result ≡ count_fault count }
+        ensures fault { result ≡ count_fault count }
     {
         if count == 0 {
             Some(Kind::Empty)
@@ -96,7 +99,8 @@ impl Universe {
     ///
     /// The first of: `Empty`, the empty text; `Duplicate`, a value as one before it.
     pub fn value_fault(before: &[Option<String>], value: Option<&str>) -> Option<Kind>
-        ensures { result ≡ value_fault (texts_of before.now) (option_map (λ t. t.now) value.entry) }
+        ensures fault { result
+            ≡ value_fault (texts_of before.now) (option_map (λ t. t.now) value.entry) }
     {
         if value == Some("") {
             return Some(Kind::Empty);
@@ -110,15 +114,18 @@ impl Universe {
     /// Adds a label behind the others, with its values in declared order.
     ///
     /// The first fault is the one answered: `Limit` at `Label` where there are [`MAX_LABELS`]
-    /// already; the faults of the name, at `Name`, as `name_fault` has them; of their count, at `Values`, as `count_fault` has them; and at
-    /// the first such value, those of a value, as `value_fault` has them.
-    /// `Memory` at `Label` comes only for a label with no fault, where memory was refused. After an `Err` nothing has
-    /// changed.
+    /// already; the faults of the name, at `Name`, as `name_fault` has them; those of the count of
+    /// values, at `Values`, as `count_fault` has them; and those of a value, at the first such
+    /// value, as `value_fault` has them.
+    /// `Memory` at `Label` comes only for a label with no fault, where memory ran out. After an
+    /// `Err` nothing has changed.
     pub fn add(&mut self, name: String, values: Vec<Option<String>>) -> Result<(), LabelFault>
         ensures ok { OnOk result (self.new ≡ self.old ++ label_of name values ∷ []) }
         ensures accepted { OnOk result (label_fault self.old (label_of name values) ≡ None) }
-        ensures first { IfErr result (λ fault. fault ≡ unwrap_or (label_fault self.old (label_of name values)) no_memory) }
-        ensures memory { IfErr result (λ fault. fault.kind ≡ kinds.Memory → label_fault self.old (label_of name values) ≡ None) }
+        ensures first { IfErr result (λ fault.
+            fault ≡ unwrap_or (label_fault self.old (label_of name values)) memory_fault) }
+        ensures memory { IfErr result (λ fault.
+            fault.kind ≡ kinds.Memory → label_fault self.old (label_of name values) ≡ None) }
         ensures err { OnErr result (self.new ≡ self.old) }
     {
         if let Some(fault) = self.label_fault(name.as_str(), values.as_slice()) {
@@ -126,19 +133,20 @@ impl Universe {
         }
         match self.labels.push(Label { name, values }) {
             Ok(()) => Ok(()),
-            Err(_) => Err(at(LabelPart::Label, Kind::Memory)),
+            Err(_) => Err(label_fault_at(LabelPart::Label, Kind::Memory)),
         }
     }
 
     /// The first fault of a label behind those here.
     fn label_fault(&self, name: &str, values: &[Option<String>]) -> Option<LabelFault>
-        ensures { result ≡ label_fault self.now (record { name = name.now; values = texts_of values.now }) }
+        ensures { result
+            ≡ label_fault self.now (record { name = name.now; values = texts_of values.now }) }
     {
         if self.labels.len() >= MAX_LABELS {
-            return Some(at(LabelPart::Label, Kind::Limit));
+            return Some(label_fault_at(LabelPart::Label, Kind::Limit));
         }
         if let Some(kind) = self.name_fault(name) {
-            return Some(at(LabelPart::Name, kind));
+            return Some(label_fault_at(LabelPart::Name, kind));
         }
         label_values_fault(values)
     }
@@ -154,7 +162,7 @@ impl Universe {
 
     /// Whether there is no label.
     pub fn is_empty(&self) -> bool
-        ensures { result ≡ (length self.now == 0) }
+        ensures empty { result ≡ (length self.now == 0) }
     {
         self.labels.is_empty()
     }
@@ -162,7 +170,7 @@ impl Universe {
     /// The name of the label at `i`.
     pub fn name(&self, i: usize) -> &str
         requires { i < length self.now }
-        ensures { slice_get (names self.now) i ≡ Some result.now }
+        ensures name { slice_get (names self.now) i ≡ Some result.now }
     {
         self.labels[i].name.as_str()
     }
@@ -181,7 +189,8 @@ impl Universe {
     pub fn value(&self, i: usize, j: usize) -> Option<&str>
         requires label { i < length self.now }
         requires value { j < slice_index (sizes self.now) i }
-        ensures { option_map (λ t. t.now) result ≡ option_and_then (λ label. value_at label j) (slice_get self.now i) }
+        ensures text { option_map (λ t. t.now) result
+            ≡ option_and_then (λ label. value_at label j) (slice_get self.now i) }
     {
         match &self.labels[i].values[j] {
             Some(text) => Some(text.as_str()),
@@ -200,9 +209,10 @@ impl Universe {
             .position(|label| label.name.as_str() == name)
     }
 
-    /// Whether the choice is no longer than the list of labels, and each position is below its label's size.
+    /// Whether the choice is no longer than the list of labels, and each position is below its
+    /// label's size.
     pub fn admits(&self, choice: &Choice) -> bool
-        ensures { result ≡ admits (sizes self.now) choice.now }
+        ensures admitted { result ≡ admits (sizes self.now) choice.now }
     {
         if choice.len() > self.len() {
             return false;
@@ -221,11 +231,11 @@ fn label_values_fault(values: &[Option<String>]) -> Option<LabelFault>
     ensures { result ≡ label_values_fault (texts_of values.now) }
 {
     if let Some(kind) = Universe::count_fault(values.len()) {
-        return Some(at(LabelPart::Values, kind));
+        return Some(label_fault_at(LabelPart::Values, kind));
     }
     for (i, value) in values.iter().enumerate() {
         if let Some(kind) = Universe::value_fault(&values[..i], text_of(value)) {
-            return Some(at(LabelPart::Value(i), kind));
+            return Some(label_fault_at(LabelPart::Value(i), kind));
         }
     }
     None
@@ -233,13 +243,16 @@ fn label_values_fault(values: &[Option<String>]) -> Option<LabelFault>
 
 /// Whether the value is one of those.
 fn is_among(others: &[Option<String>], value: Option<&str>) -> bool
-    ensures { result ≡ list_any (λ other. same_value other (option_map (λ t. t.now) value.entry)) (texts_of others.now) }
+    ensures { result
+        ≡ list_any (λ other. same_value other (option_map (λ t. t.now) value.entry))
+        (texts_of others.now) }
 {
     others.iter().any(|other| is_same(other, value))
 }
 
 fn is_same(other: &Option<String>, value: Option<&str>) -> bool
-    ensures { result ≡ same_value (option_map string_bytes other.now) (option_map (λ t. t.now) value.entry) }
+    ensures { result
+        ≡ same_value (option_map string_bytes other.now) (option_map (λ t. t.now) value.entry) }
 {
     match (other, value) {
         (Some(other), Some(text)) => other.as_str() == text,
@@ -257,7 +270,7 @@ fn text_of(value: &Option<String>) -> Option<&str>
     }
 }
 
-fn at(part: LabelPart, kind: Kind) -> LabelFault
+fn label_fault_at(part: LabelPart, kind: Kind) -> LabelFault
     ensures { result ≡ record { kind = kind; part = part } }
 {
     LabelFault { kind, part }

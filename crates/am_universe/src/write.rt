@@ -1,18 +1,15 @@
 ghost use Rattle.std.specs.Prelude.{◌≡◌, [], ◌∷◌, ◌++◌, IfSome, IfNone};
 ghost use Rattle.std.specs.List.{flat_map};
-ghost use Rattle.am_universe.specs.Universe.{sizes};
-ghost use Rattle.am_universe.specs.Choice.{IsWhole};
-ghost use Rattle.am_universe.specs.Text.{quoted, escaped};
-ghost use Rattle.am_universe.specs.SetText.{pair_text, set_text, map_text};
-ghost use Rattle.am_universe.specs.Sink.{Writes};
+ghost use Rattle.am_universe.specs.Words.{sizes, IsWhole, quoted_text, label_value_escape};
+ghost use Rattle.am_universe.specs.Words.{pair_text, set_text, map_text, Writes};
 
 use crate::{Choice, Kind, LabelSet, Sink, Universe};
 
-/// Writes the bytes, all of them, unless a take fails: then the answer is `Kind::Write`, the bytes before
-/// it have gone out, and it is not tried again.
+/// Writes the bytes, all of them, unless a take fails: then the answer is `Kind::Write`, the bytes
+/// before it have gone out, and it is not tried again.
 #[tactic(auto, using(crate::proofs::Writing::more_taken))]
 pub fn put_all<W: Sink>(out: &mut W, bytes: &[u8]) -> Result<(), Kind>
-    ensures { Writes W.taken W.failures out.old out.new bytes.now result }
+    ensures written { Writes W.taken W.failures out.old out.new bytes.now result }
 {
     let mut done = 0;
     while done < bytes.len() {
@@ -23,15 +20,15 @@ pub fn put_all<W: Sink>(out: &mut W, bytes: &[u8]) -> Result<(), Kind>
 
 /// Writes a text as it stands. The only `Err` is `Kind::Write`, as `put_all` has it.
 pub fn put_str<W: Sink>(out: &mut W, text: &str) -> Result<(), Kind>
-    ensures { Writes W.taken W.failures out.old out.new text.now result }
+    ensures written { Writes W.taken W.failures out.old out.new text.now result }
 {
     put_all(out, text.as_bytes())
 }
 
 /// How a byte is written between quotes, where it does not stand for itself.
 fn escape_of(byte: u8) -> Option<&'static [u8]>
-    ensures some { IfSome result (λ escape. escape.now ≡ escaped byte) }
-    ensures none { IfNone result (escaped byte ≡ byte ∷ []) }
+    ensures some { IfSome result (λ escape. escape.now ≡ label_value_escape byte) }
+    ensures none { IfNone result (label_value_escape byte ≡ byte ∷ []) }
 {
     match byte {
         b'\\' => Some(b"\\\\"),
@@ -41,10 +38,10 @@ fn escape_of(byte: u8) -> Option<&'static [u8]>
     }
 }
 
-/// Writes a text between quotes, with `\` as `\\`, `"` as `\"` and a line feed as `\n`. The only `Err` is `Kind::Write`,
-/// after a part of that from its front.
+/// Writes a text between quotes, with `\` as `\\`, `"` as `\"` and a line feed as `\n`. The only
+/// `Err` is `Kind::Write`, after a part of that from its front.
 pub fn write_text<W: Sink>(out: &mut W, text: &str) -> Result<(), Kind>
-    ensures { Writes W.taken W.failures out.old out.new (quoted text.now) result }
+    ensures written { Writes W.taken W.failures out.old out.new (quoted_text text.now) result }
 {
     put_all(out, b"\"")?;
     write_escaped(out, text.as_bytes())?;
@@ -53,7 +50,8 @@ pub fn write_text<W: Sink>(out: &mut W, text: &str) -> Result<(), Kind>
 
 /// Writes the bytes, each as it stands between quotes.
 fn write_escaped<W: Sink>(out: &mut W, bytes: &[u8]) -> Result<(), Kind>
-    ensures { Writes W.taken W.failures out.old out.new (flat_map escaped bytes.now) result }
+    ensures { Writes W.taken W.failures out.old out.new
+        (flat_map label_value_escape bytes.now) result }
 {
     let mut start = 0;
     for (i, byte) in bytes.iter().enumerate() {
@@ -66,11 +64,13 @@ fn write_escaped<W: Sink>(out: &mut W, bytes: &[u8]) -> Result<(), Kind>
     put_all(out, &bytes[start..])
 }
 
-/// Writes the set of a whole choice, as `{team="db",severity="critical"}`: the labels that have a text, in declared order. The
-/// only `Err` is `Kind::Write`, after a part of that from its front. No memory is taken.
+/// Writes the set of a whole choice, as `{team="db",severity="critical"}`: the labels that have a
+/// text, in declared order. The only `Err` is `Kind::Write`, after a part of that from its front.
+/// No memory is taken.
 pub fn write_set<W: Sink>(universe: &Universe, choice: &Choice, out: &mut W) -> Result<(), Kind>
     requires { IsWhole (sizes universe.now) choice.now }
-    ensures { Writes W.taken W.failures out.old out.new (set_text universe.now choice.now) result }
+    ensures written { Writes W.taken W.failures out.old out.new
+        (set_text universe.now choice.now) result }
 {
     put_all(out, b"{")?;
     let mut separator: &[u8] = b"";
@@ -85,7 +85,7 @@ pub fn write_set<W: Sink>(universe: &Universe, choice: &Choice, out: &mut W) -> 
 
 /// Writes a label set in the order of the bytes of its names, as `{severity="critical",team="db"}`.
 pub fn write_map<W: Sink>(set: &LabelSet, out: &mut W) -> Result<(), Kind>
-    ensures { Writes W.taken W.failures out.old out.new (map_text set.now) result }
+    ensures written { Writes W.taken W.failures out.old out.new (map_text set.now) result }
 {
     put_all(out, b"{")?;
     let mut separator: &[u8] = b"";
@@ -98,7 +98,8 @@ pub fn write_map<W: Sink>(set: &LabelSet, out: &mut W) -> Result<(), Kind>
 
 /// Writes what separates a label from those before it, its name and its value.
 fn write_pair<W: Sink>(out: &mut W, separator: &[u8], name: &str, value: &str) -> Result<(), Kind>
-    ensures { Writes W.taken W.failures out.old out.new (separator.now ++ pair_text (name.now, value.now)) result }
+    ensures { Writes W.taken W.failures out.old out.new
+        (separator.now ++ pair_text (name.now, value.now)) result }
 {
     put_all(out, separator)?;
     put_str(out, name)?;

@@ -3,7 +3,7 @@ use borrow.Author.Tests.{tests}
 use Rattle.std.proofs.lemmas.Iterator.{YieldsList-from_slice}
 use Rattle.std.proofs.lemmas.Iterator.Search.{any_from_yields_List}
 use Rattle.am_universe.specs.Universe.{same_value}
-use Rattle.am_universe.proofs.Universes.{list_any-map}
+use Rattle.am_universe.proofs.UniverseLemmas.{list_any-map}
 use Rattle.am_universe.proofs.universe.is_among.Goals as goal
 
 pub returns : goal.returns

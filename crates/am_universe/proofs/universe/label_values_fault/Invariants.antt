@@ -1,7 +1,7 @@
 use Rattle.std.proofs.Common.{◌≡◌}
 use Rattle.am_universe.specs.Universe.{label_values_fault}
 use Rattle.am_universe.specs.UniverseView.{texts_of}
-use Rattle.am_universe.proofs.Universes.{fault_from}
+use Rattle.am_universe.proofs.UniverseLemmas.{fault_from}
 use Rattle.am_universe.proofs.universe.label_values_fault.Given as goal
 
 abbrev pub invariant-loop-i : goal.invariant-loop-i

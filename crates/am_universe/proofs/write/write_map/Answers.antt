@@ -3,17 +3,19 @@ use Rattle.std.proofs.Common.{◌≡◌, ◌∷◌, ◌++◌, [], ap, sym, ◌�
 use Rattle.std.specs.FinMap.{entries}
 use Rattle.am_universe.specs.LabelSetView.{entry_texts}
 use Rattle.am_universe.proofs.Writing.{◌⟩◌, fails, wrote_then, wrote_as, writes_as}
-use Rattle.am_universe.proofs.SetTexts.{joined, set_through, set_more, separator, separator_behind}
-use Rattle.am_universe.proofs.MapTexts.{entries_kept, entry_among, entry_behind, all_behind}
+use Rattle.am_universe.proofs.SetTextLemmas.{joined, set_through, set_more, separator, separator_behind}
+use Rattle.am_universe.proofs.MapTextLemmas.{entries_kept, entry_among, entry_behind, all_behind}
 use Rattle.am_universe.proofs.write.write_map.Goals as goal
 
 pub returns-in_err-write_pair : goal.returns-in_err-write_pair
-returns-in_err-write_pair g c =
-    let l = c.loop-name.invariant in
-    let gives = c.into_iter-name-iterator.ensures.into_iter_gives in
-    let kept : entries c.args.set.now ≡ entry_texts c.into_iter-name-iterator.result = ap entries (sym c.values-name-items.ensures) ∙ entries_kept c.values-name-items.result.now gives.5 ∙ ap entry_texts (sym gives.0) in
-    let among = entry_among c.into_iter-name-iterator.result l.done _ c.next.new.self (c.in-Some.name.now, c.in-Some.value.now) c.as_str.result.now c.as_str-in-loop-name.result.now l.all c.in-Some.ensures.steps c.as_str.ensures.value c.as_str-in-loop-name.ensures.value in
-    writes_as (set_through _ _ _ _ _ (kept ∙ among) l.separator) (l.written ⟩ fails _ c.from_residual-in_err-write_pair.ensures c.in_err-write_pair.ensures)
+returns-in_err-write_pair g c = record {
+  written =
+      let l = c.loop-name.invariant in
+      let gives = c.into_iter-name-iterator.ensures.into_iter_gives in
+      let kept : entries c.args.set.now ≡ entry_texts c.into_iter-name-iterator.result = ap entries (sym c.values-name-items.ensures) ∙ entries_kept c.values-name-items.result.now gives.5 ∙ ap entry_texts (sym gives.0) in
+      let among = entry_among c.into_iter-name-iterator.result l.done _ c.next.new.self (c.in-Some.name.now, c.in-Some.value.now) c.as_str.result.now c.as_str-in-loop-name.result.now l.all c.in-Some.ensures.steps c.as_str.ensures.value c.as_str-in-loop-name.ensures.value in
+      writes_as (set_through _ _ _ _ _ (kept ∙ among) l.separator) (l.written ⟩ fails _ c.from_residual-in_err-write_pair.ensures c.in_err-write_pair.ensures);
+}
 
 pub loop-name-preserved : goal.loop-name-preserved
 loop-name-preserved g c =
@@ -27,9 +29,11 @@ loop-name-preserved g c =
     }
 
 pub returns : goal.returns
-returns g c =
-    let l = c.loop-name.invariant in
-    let gives = c.into_iter-name-iterator.ensures.into_iter_gives in
-    let kept : entries c.args.set.now ≡ entry_texts c.into_iter-name-iterator.result = ap entries (sym c.values-name-items.ensures) ∙ entries_kept c.values-name-items.result.now gives.5 ∙ ap entry_texts (sym gives.0) in
-    let all : c.into_iter-name-iterator.result ≡ l.done = l.all ∙ ap (λ r. l.done ++ r) c.in-None.ensures.steps.0 ∙ append-nil l.done in
-    writes_as (ap (λ es. 123 ∷ (joined es ++ 125 ∷ [])) (sym (kept ∙ ap entry_texts all))) (l.written ⟩ c.put_all-2.ensures)
+returns g c = record {
+  written =
+      let l = c.loop-name.invariant in
+      let gives = c.into_iter-name-iterator.ensures.into_iter_gives in
+      let kept : entries c.args.set.now ≡ entry_texts c.into_iter-name-iterator.result = ap entries (sym c.values-name-items.ensures) ∙ entries_kept c.values-name-items.result.now gives.5 ∙ ap entry_texts (sym gives.0) in
+      let all : c.into_iter-name-iterator.result ≡ l.done = l.all ∙ ap (λ r. l.done ++ r) c.in-None.ensures.steps.0 ∙ append-nil l.done in
+      writes_as (ap (λ es. 123 ∷ (joined es ++ 125 ∷ [])) (sym (kept ∙ ap entry_texts all))) (l.written ⟩ c.put_all-2.ensures.written);
+}

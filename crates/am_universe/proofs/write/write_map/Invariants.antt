@@ -2,7 +2,7 @@ use Rattle.std.proofs.Common.{◌≡◌, List, ◌++◌, ◌∷◌, String}
 use Rattle.std.specs.declared.alloc.Global.{Global}
 use Rattle.am_universe.specs.LabelSetView.{entry_texts}
 use Rattle.am_universe.specs.Sink.{Wrote}
-use Rattle.am_universe.proofs.SetTexts.{joined, separator}
+use Rattle.am_universe.proofs.SetTextLemmas.{joined, separator}
 use Rattle.am_universe.proofs.write.write_map.Given as goal
 
 -- The brace and the first entries are written.

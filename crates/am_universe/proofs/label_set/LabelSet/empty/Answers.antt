@@ -1,4 +1,4 @@
-use Rattle.am_universe.proofs.LabelMaps.{HasTextsAlone-of_none}
+use Rattle.am_universe.proofs.LabelMapLemmas.{HasTextsAlone-of_none}
 use Rattle.am_universe.proofs.label_set.LabelSet.empty.Goals as goal
 
 pub invariant_of-result : goal.invariant_of-result

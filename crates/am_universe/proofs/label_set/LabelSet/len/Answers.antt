@@ -2,7 +2,7 @@
 use Rattle.std.proofs.Common.{ap, sym, ◌∙◌, subst}
 use Rattle.std.specs.FinMap as map
 use Rattle.am_universe.specs.LabelSet.{HasTextsAlone}
-use Rattle.am_universe.proofs.LabelMaps.{len_kept}
+use Rattle.am_universe.proofs.LabelMapLemmas.{len_kept}
 use Rattle.am_universe.proofs.label_set.LabelSet.len.Goals as goal
 
 pub returns-clause-len : goal.returns-clause-len

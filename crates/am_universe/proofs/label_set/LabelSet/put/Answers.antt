@@ -3,7 +3,7 @@ use Rattle.std.proofs.Common.{◌≡◌, string_bytes, ap, sym, ◌∙◌, subst
 use Rattle.std.proofs.lemmas.Bool.Decides.{nat_tests}
 use Rattle.am_universe.specs.LabelSet.{with_value, HasTextsAlone}
 use Rattle.am_universe.specs.LabelSetView.{label_map_of}
-use Rattle.am_universe.proofs.LabelMaps.{removed_with, inserted_with, HasTextsAlone-with_value}
+use Rattle.am_universe.proofs.LabelMapLemmas.{removed_with, inserted_with, HasTextsAlone-with_value}
 use Rattle.am_universe.proofs.label_set.LabelSet.put.Goals as goal
 use Rattle.am_universe.proofs.label_set.LabelSet.put.Goals.{After-drop-name, in-Some-2, in-None-2}
 

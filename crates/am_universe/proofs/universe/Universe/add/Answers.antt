@@ -1,7 +1,7 @@
 use Rattle.std.proofs.Common.{◌≡◌, ◌∙◌, sym, ap, Some, None, is_ok, string_bytes}
 use Rattle.am_universe.specs.Universe.{label_fault}
 use Rattle.am_universe.specs.UniverseView.{label_of, texts_of}
-use Rattle.am_universe.proofs.AddedLabels.{pushed_universe, none_of_memory}
+use Rattle.am_universe.proofs.LabelFaultLemmas.{pushed_universe, none_of_memory}
 use Rattle.am_universe.proofs.universe.Universe.add.Goals as goal
 
 pub returns-in-Some-clause-memory : goal.returns-in-Some-clause-memory

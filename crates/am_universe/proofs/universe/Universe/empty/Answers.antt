@@ -1,4 +1,4 @@
-use Rattle.am_universe.proofs.Universes.{IsUniverse-empty}
+use Rattle.am_universe.proofs.UniverseLemmas.{IsUniverse-empty}
 use Rattle.am_universe.proofs.universe.Universe.empty.Goals as goal
 
 pub invariant_of-result : goal.invariant_of-result

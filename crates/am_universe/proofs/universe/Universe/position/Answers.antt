@@ -1,7 +1,7 @@
 use Rattle.std.proofs.Common.{rules, ◌≡◌, ◌≢◌}
 use borrow.Author.Tests.{tests}
 use Rattle.std.proofs.lemmas.Iterator.{IsFirst-from_position, YieldsList-from_slice}
-use Rattle.am_universe.proofs.Universes.{found_name, no_name}
+use Rattle.am_universe.proofs.UniverseLemmas.{found_name, no_name}
 use Rattle.am_universe.proofs.universe.Universe.position.Goals as goal
 
 pub returns-clause-found : goal.returns-clause-found

@@ -1,16 +1,16 @@
 -- The whole choices that begin with a prefix, as a walk from label to label meets them.
 use Rattle.std.proofs.Common.{◌≡◌, ◌≢◌, ℕ, zero, suc, ◌+◌, ◌<◌, ◌≤◌, Bool, true, false, cond, List, [], ◌∷◌, ◌++◌, length, map, slice_index, nat_lt, nat_eq, ◌&&◌, inl, inr, ap, ◌∙◌, refl, arith, add-one, eq-eqb}
-use Rattle.std.specs.List.{flat_map, AllByRecursion, filter, starts_with}
+use Rattle.std.specs.List.{range_with_len, flat_map, AllByRecursion, filter, starts_with}
 use Rattle.std.proofs.lemmas.List.{append-nil, map-append}
 use Rattle.std.proofs.lemmas.List.Elements.{filter-append}
 use Rattle.std.proofs.lemmas.Grind.{flat_map-append}
 use Rattle.std.proofs.lemmas.Bool.{and_parts, ne_eqb}
 use Rattle.std.proofs.lemmas.Bool.Decides.{nat_tests}
 use Rattle.std.proofs.Math.Nat.{eq-or-lt_of_le}
-use Rattle.am_universe.specs.Choice.{counted_from, choices, admits, IsWhole}
+use Rattle.am_universe.specs.Choice.{choices, admits, IsWhole}
 use Rattle.am_universe.specs.Completions.{completions}
-use Rattle.am_universe.proofs.Members.{AllByRecursion-each}
-use Rattle.am_universe.proofs.Choices.{behind, whole_from_in}
+use Rattle.am_universe.proofs.ListLemmas.{AllByRecursion-each}
+use Rattle.am_universe.proofs.ChoiceLemmas.{behind, whole_from_in}
 
 -- the whole choices below a prefix, label by label: its completions, where the sizes admit it
 abbrev pub below : List ℕ → List ℕ → List (List ℕ)
@@ -55,16 +55,16 @@ at_other p q prefix cs other =
 at_none : (p first count : ℕ) (prefix : List ℕ) (cs : List (List ℕ)) → p < first → beginning (p ∷ prefix) (behind first count cs) ≡ []
 at_none p first zero prefix cs h = refl
 at_none p first (suc count) prefix cs h =
-    filter-append (λ c. starts_with nat_eq c (p ∷ prefix)) (map (λ c. first ∷ c) cs) (behind (suc first) count cs)
-    ∙ rw (at_other p first prefix cs (λ e. omega (arith, h, e)), at_none p (suc first) count prefix cs (omega arith)) refl
+    filter-append (λ c. starts_with nat_eq c (p ∷ prefix)) (map (λ c. first ∷ c) cs) (behind (first + 1) count cs)
+    ∙ rw (at_other p first prefix cs (λ e. omega (arith, h, e)), at_none p (first + 1) count prefix cs (omega arith)) refl
 
 at_its_own : (p first count : ℕ) (prefix : List ℕ) (cs : List (List ℕ)) → first ≤ p → p < first + count → beginning (p ∷ prefix) (behind first count cs) ≡ map (λ c. p ∷ c) (beginning prefix cs)
 at_its_own p first zero prefix cs low high = absurd (omega arith)
 at_its_own p first (suc count) prefix cs low high =
-    filter-append (λ c. starts_with nat_eq c (p ∷ prefix)) (map (λ c. first ∷ c) cs) (behind (suc first) count cs)
+    filter-append (λ c. starts_with nat_eq c (p ∷ prefix)) (map (λ c. first ∷ c) cs) (behind (first + 1) count cs)
     ∙ elim (eq-or-lt_of_le low) [
-      | inl e ↦ rw (e, at_same p prefix cs, at_none p (suc p) count prefix cs (omega arith)) (append-nil (map (λ c. p ∷ c) (beginning prefix cs)))
-      | inr l ↦ rw (at_other p first prefix cs (λ e. omega (arith, l, e)), at_its_own p (suc first) count prefix cs l (omega arith)) refl
+      | inl e ↦ rw (e, at_same p prefix cs, at_none p (p + 1) count prefix cs (omega arith)) (append-nil (map (λ c. p ∷ c) (beginning prefix cs)))
+      | inr l ↦ rw (at_other p first prefix cs (λ e. omega (arith, l, e)), at_its_own p (first + 1) count prefix cs (omega (arith, l)) (omega arith)) refl
     ]
 
 pub completions_are_below : (sizes prefix : List ℕ) → admits sizes prefix ≡ true → completions sizes prefix ≡ below sizes prefix
@@ -94,21 +94,21 @@ map_of_flat_map p f (x ∷ xs) = map-append (λ c. p ∷ c) (f x) (flat_map f xs
 
 -- below a prefix stands what is below the prefixes that are longer by one position
 pub below_by_next : (sizes prefix : List ℕ) → length prefix < length sizes
-    → below sizes prefix ≡ flat_map (λ p. below sizes (prefix ++ p ∷ [])) (counted_from 0 (slice_index sizes (length prefix)))
+    → below sizes prefix ≡ flat_map (λ p. below sizes (prefix ++ p ∷ [])) (range_with_len 0 (slice_index sizes (length prefix)))
 below_by_next [] prefix h = absurd (omega arith)
 below_by_next (size ∷ sizes) [] h = refl
 below_by_next (size ∷ sizes) (q ∷ prefix) h =
     ap (map (λ c. q ∷ c)) (below_by_next sizes prefix (omega arith)) ∙ map_of_flat_map q (λ p. below sizes (prefix ++ p ∷ [])) _
 
 -- one number more
-pub counted_from-suc : (first count : ℕ) → counted_from first (suc count) ≡ counted_from first count ++ (first + count) ∷ []
-counted_from-suc first zero = ap (λ n. n ∷ []) (omega arith)
-counted_from-suc first (suc count) = ap (λ t. first ∷ t) (counted_from-suc (suc first) count ∙ ap (λ n. counted_from (suc first) count ++ n ∷ []) (omega arith))
+pub range_more : (first count : ℕ) → range_with_len first (suc count) ≡ range_with_len first count ++ (first + count) ∷ []
+range_more first zero = ap (λ n. n ∷ []) (omega arith)
+range_more first (suc count) = ap (λ t. first ∷ t) (range_more (first + 1) count ∙ ap (λ n. range_with_len (first + 1) count ++ n ∷ []) (omega arith))
 
-pub flat_map_counted : {X : Type 0} (f : ℕ → List X) (count : ℕ) → flat_map f (counted_from 0 (count + 1)) ≡ flat_map f (counted_from 0 count) ++ f count
-flat_map_counted f count =
-    ap (λ n. flat_map f (counted_from 0 n)) (add-one count) ∙ ap (flat_map f) (counted_from-suc 0 count ∙ ap (λ n. counted_from 0 count ++ n ∷ []) (omega arith))
-    ∙ flat_map-append f (counted_from 0 count) (count ∷ []) ∙ ap (λ t. flat_map f (counted_from 0 count) ++ t) (append-nil (f count))
+pub flat_map_range : {X : Type 0} (f : ℕ → List X) (count : ℕ) → flat_map f (range_with_len 0 (count + 1)) ≡ flat_map f (range_with_len 0 count) ++ f count
+flat_map_range f count =
+    ap (λ n. flat_map f (range_with_len 0 n)) (add-one count) ∙ ap (flat_map f) (range_more 0 count ∙ ap (λ n. range_with_len 0 count ++ n ∷ []) (omega arith))
+    ∙ flat_map-append f (range_with_len 0 count) (count ∷ []) ∙ ap (λ t. flat_map f (range_with_len 0 count) ++ t) (append-nil (f count))
 
 -- a prefix that is admitted, with one position more
 admitted_first : (p size : ℕ) (b : Bool) → p < size → b ≡ true → (nat_lt p size && b) ≡ true

@@ -15,7 +15,7 @@ use Rattle.std.specs.FinMap.Entries.{below_all}
 use Rattle.std.proofs.lemmas.Bool.{and_from}
 use Rattle.std.proofs.lemmas.List.{map-append}
 use Rattle.am_universe.specs.LabelSetView.{entry_texts, label_map_of}
-use Rattle.am_universe.proofs.LabelMaps.{same_set}
+use Rattle.am_universe.proofs.LabelMapLemmas.{same_set}
 
 abbrev Entry : Type 0
 Entry = String Global × String Global

@@ -9,8 +9,8 @@ use Rattle.std.proofs.lemmas.Option.{slice_get-get_or, slice_get-map}
 use Rattle.std.proofs.lemmas.Map.Keys.{IsDistinct-head, IsDistinct-tail}
 use Rattle.am_universe.specs.Text.{same_text}
 use Rattle.am_universe.specs.Universe.{Label, Values, IsLabel, IsUniverse, names, is_empty_text}
-use Rattle.am_universe.specs.LabelSet.{LabelMap, with_value, value_at, pair_before, pairs_of, label_set_of}
-use Rattle.am_universe.proofs.LabelMaps.{with_text, flips}
+use Rattle.am_universe.specs.LabelSet.{LabelMap, with_value, value_at, with_label, label_pairs, label_set_of}
+use Rattle.am_universe.proofs.LabelMapLemmas.{with_text, flips}
 
 -- ---- Labels by their places.
 
@@ -48,24 +48,24 @@ value_at-text u i l p h e = no_empty_text l.values p (at_place IsLabel u i l h.l
 
 -- ---- The pairs of the first labels.
 
-pub pair_before-append : (name : List ℕ) (value : Option (List ℕ)) (xs ys : List (List ℕ × List ℕ)) → pair_before name value (xs ++ ys) ≡ pair_before name value xs ++ ys
-pair_before-append name None xs ys = refl
-pair_before-append name (Some v) xs ys = refl
+pub with_label-append : (name : List ℕ) (value : Option (List ℕ)) (xs ys : List (List ℕ × List ℕ)) → with_label name value (xs ++ ys) ≡ with_label name value xs ++ ys
+with_label-append name None xs ys = refl
+with_label-append name (Some v) xs ys = refl
 
-pub pairs_of-more : (u : List Label) (c : List ℕ) (i : ℕ) (l : Label) (p : ℕ) → slice_get u i ≡ Some l → slice_get c i ≡ Some p → pairs_of (take (suc i) u) (take (suc i) c) ≡ pairs_of (take i u) (take i c) ++ pair_before l.name (value_at l p) []
-pairs_of-more [] c i l p e f = cc
-pairs_of-more (m ∷ u) [] i l p e f = cc
-pairs_of-more (m ∷ u) (q ∷ c) zero l p e f = let same : m ≡ l = cc in let also : q ≡ p = cc in cc
-pairs_of-more (m ∷ u) (q ∷ c) (suc i) l p e f = ap (pair_before m.name (value_at m q)) (pairs_of-more u c i l p e f) ∙ pair_before-append m.name (value_at m q) _ _
+pub label_pairs-more : (u : List Label) (c : List ℕ) (i : ℕ) (l : Label) (p : ℕ) → slice_get u i ≡ Some l → slice_get c i ≡ Some p → label_pairs (take (suc i) u) (take (suc i) c) ≡ label_pairs (take i u) (take i c) ++ with_label l.name (value_at l p) []
+label_pairs-more [] c i l p e f = cc
+label_pairs-more (m ∷ u) [] i l p e f = cc
+label_pairs-more (m ∷ u) (q ∷ c) zero l p e f = let same : m ≡ l = cc in let also : q ≡ p = cc in cc
+label_pairs-more (m ∷ u) (q ∷ c) (suc i) l p e f = ap (with_label m.name (value_at m q)) (label_pairs-more u c i l p e f) ∙ with_label-append m.name (value_at m q) _ _
 
-pub find_before : (q name : List ℕ) (value : Option (List ℕ)) (pairs : List (List ℕ × List ℕ)) → same_text name q ≡ false → find (slice_cmp nat_cmp) q (pair_before name value pairs) ≡ find (slice_cmp nat_cmp) q pairs
+pub find_before : (q name : List ℕ) (value : Option (List ℕ)) (pairs : List (List ℕ × List ℕ)) → same_text name q ≡ false → find (slice_cmp nat_cmp) q (with_label name value pairs) ≡ find (slice_cmp nat_cmp) q pairs
 find_before q name None pairs h = refl
 find_before q name (Some v) pairs h = ap (λ b. cond b (Some v) (find (slice_cmp nat_cmp) q pairs)) (flips q name ∙ h)
 
-pub none_of_others : (u : List Label) (c q : List ℕ) → AreOthers q u → find (slice_cmp nat_cmp) q (pairs_of u c) ≡ None
+pub none_of_others : (u : List Label) (c q : List ℕ) → AreOthers q u → find (slice_cmp nat_cmp) q (label_pairs u c) ≡ None
 none_of_others [] c q h = refl
 none_of_others (m ∷ u) [] q h = refl
-none_of_others (m ∷ u) (p ∷ c) q h = find_before q m.name (value_at m p) (pairs_of u c) h.0 ∙ none_of_others u c q h.1
+none_of_others (m ∷ u) (p ∷ c) q h = find_before q m.name (value_at m p) (label_pairs u c) h.0 ∙ none_of_others u c q h.1
 
 -- ---- Their label set.
 
@@ -74,14 +74,14 @@ abbrev pub with_maybe : LabelMap → List ℕ → Option (List ℕ) → LabelMap
 with_maybe s name None = s
 with_maybe s name (Some value) = with_value s name value
 
-from_pairs-push : (pairs : List (List ℕ × List ℕ)) (name : List ℕ) (value : Option (List ℕ)) → find (slice_cmp nat_cmp) name pairs ≡ None → value ≢ Some [] → from_entries {R = slice_cmp nat_cmp} (pairs ++ pair_before name value []) ≡ with_maybe (from_entries pairs) name value
+from_pairs-push : (pairs : List (List ℕ × List ℕ)) (name : List ℕ) (value : Option (List ℕ)) → find (slice_cmp nat_cmp) name pairs ≡ None → value ≢ Some [] → from_entries {R = slice_cmp nat_cmp} (pairs ++ with_label name value []) ≡ with_maybe (from_entries pairs) name value
 from_pairs-push pairs name None new some = ap from_entries (append-nil pairs)
 from_pairs-push pairs name (Some v) new some = from_entries_push nat_list_cmp_total (slice_cmp-IsAntisymmetric nat_cmp-IsAntisymmetric) pairs name v new ∙ sym (with_text (from_entries pairs) name v (λ e. some (ap Some e)))
 
 pub label_set_of-more : (u : List Label) (c : List ℕ) (i : ℕ) (l : Label) (p : ℕ) → IsUniverse u → slice_get u i ≡ Some l → slice_get c i ≡ Some p → label_set_of (take (i + 1) u) (take (i + 1) c) ≡ with_maybe (label_set_of (take i u) (take i c)) l.name (value_at l p)
 label_set_of-more u c i l p h e f =
     let new = none_of_others (take i u) (take i c) l.name (AreOthers-before u i l h.distinct e) in
-    rw add-one (ap from_entries (pairs_of-more u c i l p e f) ∙ from_pairs-push (pairs_of (take i u) (take i c)) l.name (value_at l p) new (value_at-text u i l p h e))
+    rw add-one (ap from_entries (label_pairs-more u c i l p e f) ∙ from_pairs-push (label_pairs (take i u) (take i c)) l.name (value_at l p) new (value_at-text u i l p h e))
 
 -- ---- The label at i, of which a choice has the position p, and the value there.
 

@@ -13,7 +13,8 @@ use Rattle.am_universe.specs.declared.label_fault.LabelPart.TheVariants as parts
 use Rattle.std.specs.List.{AllByRecursion, IsDistinct, list_any}
 use Rattle.am_universe.specs.Text.{same_text}
 use Rattle.am_universe.proofs.DistinctLists.{all_push, all_pushed, distinct_none, distinct_push, distinct_pushed, distinct_front}
-use Rattle.am_universe.specs.Universe.{Label, Values, IsLabel, IsUniverse, names, is_label_name, same_value, is_empty_text, name_fault, count_fault, value_fault, values_fault, label_values_fault, label_fault, first_fault, fault_at}
+use Rattle.std.specs.Option.{option_or}
+use Rattle.am_universe.specs.Universe.{Label, Values, IsLabel, IsUniverse, names, is_label_name, same_value, is_empty_text, name_fault, count_fault, value_fault, values_fault, label_values_fault, label_fault, fault_at}
 
 -- ---- Tests, each with a fault.
 
@@ -35,11 +36,11 @@ value_fine before value h =
     let text = passed (is_empty_text value) kinds.Empty _ h in
     (text.0, (passed (list_any (λ other. same_value other value) before) kinds.Duplicate None text.1).0)
 
-no_first : {A : Type 0} (a b : Option A) → first_fault a b ≡ None → (a ≡ None) × (b ≡ None)
+pub no_first : {A : Type 0} (a b : Option A) → option_or a b ≡ None → (a ≡ None) × (b ≡ None)
 no_first None b h = (refl, h)
 no_first (Some a) b h = cc
 
-nothing_at : (part : LabelPart) (found : Option Kind) → fault_at part found ≡ None → found ≡ None
+pub nothing_at : (part : LabelPart) (found : Option Kind) → fault_at part found ≡ None → found ≡ None
 nothing_at part None h = refl
 nothing_at part (Some kind) h = cc
 
@@ -79,17 +80,14 @@ abbrev has : List Label → List ℕ → Bool
 has u name = list_any (λ l. same_text l.name name) u
 
 name_fine : (u : List Label) (name : List ℕ) → name_fault u name ≡ None → (is_label_name name ≡ true) × (has u name ≡ false)
-name_fine u name h =
-    let first = passed (length name == 0) kinds.Empty _ h in
-    let second = passed (not (is_label_name name)) kinds.Shape _ first.1 in
-    (not-false (is_label_name name) second.0, (passed (has u name) kinds.Duplicate None second.1).0)
-
-some_byte : (name : List ℕ) → is_label_name name ≡ true → (length name == 0) ≡ false
-some_byte [] h = cc
-some_byte (c ∷ cs) h = let ne : 0 < length (c ∷ cs) = omega arith in grind (arith, nat_tests)
+name_fine u [] h = absurd cc
+name_fine u (c ∷ cs) h =
+    let form = passed (not (is_label_name (c ∷ cs))) kinds.Shape _ h in
+    (not-false (is_label_name (c ∷ cs)) form.0, (passed (has u (c ∷ cs)) kinds.Duplicate None form.1).0)
 
 fine_name : (u : List Label) (name : List ℕ) → is_label_name name ≡ true → has u name ≡ false → name_fault u name ≡ None
-fine_name u name form free = let some = some_byte name form in rw (some, form, free)
+fine_name u [] form free = absurd cc
+fine_name u (c ∷ cs) form free = rw (form, free)
 
 -- the names of a list of labels, one of which is looked for
 has_names : (u : List Label) (name : List ℕ) → list_any (λ n. same_text n name) (names u) ≡ has u name
@@ -135,7 +133,7 @@ pub pushed_universe : (u : List Label) (l : Label) (pushed : Bool) → IsUnivers
 pushed_universe u l true h fine = added_is_universe u l h fine
 pushed_universe u l false h fine = h
 
--- ---- No fault of a label is want of memory.
+-- ---- No fault of a label is that memory ran out.
 
 abbrev IsOfText : Kind → Type 0
 IsOfText kind = kind ≡ kinds.Memory → ⊥
@@ -146,10 +144,10 @@ each_fault P true fault later h k = h
 each_fault P false fault later h k = k
 
 name_kinds : (u : List Label) (name : List ℕ) → IfSome (name_fault u name) IsOfText
-name_kinds u name =
-    each_fault IsOfText (length name == 0) kinds.Empty _ (λ e. cc)
-    (each_fault IsOfText (not (is_label_name name)) kinds.Shape _ (λ e. cc)
-    (each_fault IsOfText (has u name) kinds.Duplicate None (λ e. cc) tt))
+name_kinds u [] = λ e. cc
+name_kinds u (c ∷ cs) =
+    each_fault IsOfText (not (is_label_name (c ∷ cs))) kinds.Shape _ (λ e. cc)
+    (each_fault IsOfText (has u (c ∷ cs)) kinds.Duplicate None (λ e. cc) tt)
 
 count_kinds : (n : ℕ) → IfSome (count_fault n) IsOfText
 count_kinds n =
@@ -164,7 +162,7 @@ kinds_at : (part : LabelPart) (found : Option Kind) → IfSome found IsOfText �
 kinds_at part None h = tt
 kinds_at part (Some kind) h = h
 
-kinds_of_first : (a b : Option LabelFault) → IfSome a (λ fault. IsOfText fault.kind) → IfSome b (λ fault. IsOfText fault.kind) → IfSome (first_fault a b) (λ fault. IsOfText fault.kind)
+kinds_of_first : (a b : Option LabelFault) → IfSome a (λ fault. IsOfText fault.kind) → IfSome b (λ fault. IsOfText fault.kind) → IfSome (option_or a b) (λ fault. IsOfText fault.kind)
 kinds_of_first None b h k = k
 kinds_of_first (Some fault) b h k = h
 
@@ -181,7 +179,7 @@ label_values_kinds values =
     (kinds_at parts.Values (count_fault (length values)) (count_kinds (length values)))
     (values_kinds [] values)
 
--- a label's first fault is never want of memory
+-- a label's first fault is never that memory ran out
 pub label_fault-not_memory : (u : List Label) (l : Label) → IfSome (label_fault u l) (λ fault. fault.kind ≡ kinds.Memory → ⊥)
 label_fault-not_memory u l =
     each_fault (λ fault. IsOfText fault.kind) (nat_le MAX_LABELS (length u)) (record { kind = kinds.Limit; part = parts.Label }) _ (λ e. cc)

@@ -3,9 +3,9 @@ use Rattle.std.proofs.Common.{◌≡◌, ℕ, zero, suc, ◌+◌, ◌<◌, List,
 use Rattle.std.specs.List.{join_with_byte}
 use Rattle.std.proofs.lemmas.List.{take_all}
 use Rattle.am_universe.specs.Universe.{Label, names}
-use Rattle.am_universe.specs.LabelSet.{value_at, pair_before, pairs_of}
-use Rattle.am_universe.specs.SetText.{pair_text, pairs_text}
-use Rattle.am_universe.proofs.PairsOf.{pair_before-append, pairs_of-more, chosen, name_at}
+use Rattle.am_universe.specs.LabelSet.{value_at, with_label, label_pairs}
+use Rattle.am_universe.specs.WrittenLabelSet.{pair_text, pairs_text}
+use Rattle.am_universe.proofs.LabelPairLemmas.{with_label-append, label_pairs-more, chosen, name_at}
 
 -- ---- Pairs joined by commas.
 
@@ -51,32 +51,32 @@ separator_behind (o ∷ ps) p = refl
 
 -- ---- The pairs of a choice: those of the first i labels, the next one if its label has a text, and the others.
 
-pub pairs_of-split : (u : List Label) (c : List ℕ) (i : ℕ) → length c ≡ length u → pairs_of u c ≡ pairs_of (take i u) (take i c) ++ pairs_of (drop i u) (drop i c)
-pairs_of-split u c zero h = refl
-pairs_of-split [] c (suc i) h = refl
-pairs_of-split (l ∷ u) [] (suc i) h = absurd (omega arith)
-pairs_of-split (l ∷ u) (p ∷ c) (suc i) h = ap (pair_before l.name (value_at l p)) (pairs_of-split u c i (omega arith)) ∙ pair_before-append l.name (value_at l p) _ _
+pub label_pairs-split : (u : List Label) (c : List ℕ) (i : ℕ) → length c ≡ length u → label_pairs u c ≡ label_pairs (take i u) (take i c) ++ label_pairs (drop i u) (drop i c)
+label_pairs-split u c zero h = refl
+label_pairs-split [] c (suc i) h = refl
+label_pairs-split (l ∷ u) [] (suc i) h = absurd (omega arith)
+label_pairs-split (l ∷ u) (p ∷ c) (suc i) h = ap (with_label l.name (value_at l p)) (label_pairs-split u c i (omega arith)) ∙ with_label-append l.name (value_at l p) _ _
 
 pub next_pair : (u : List Label) (c : List ℕ) (i p : ℕ) (name text : List ℕ) → length c ≡ length u → i < length u → p ≡ slice_index c i → slice_get (names u) i ≡ Some name → Some text ≡ option_and_then (λ l. value_at l p) (slice_get u i)
-    → pairs_of (take (i + 1) u) (take (i + 1) c) ≡ pairs_of (take i u) (take i c) ++ (name, text) ∷ []
+    → label_pairs (take (i + 1) u) (take (i + 1) c) ≡ label_pairs (take i u) (take i c) ++ (name, text) ∷ []
 next_pair u c i p name text whole k is named valued =
     let here = chosen u c i p (Some text) whole k is valued in
-    rw add-one (pairs_of-more u c i here.label p here.at here.picked ∙ ap (λ v. pairs_of (take i u) (take i c) ++ pair_before here.label.name v []) here.valued
-    ∙ ap (λ n. pairs_of (take i u) (take i c) ++ (n, text) ∷ []) (name_at u i here.label name here.at named))
+    rw add-one (label_pairs-more u c i here.label p here.at here.picked ∙ ap (λ v. label_pairs (take i u) (take i c) ++ with_label here.label.name v []) here.valued
+    ∙ ap (λ n. label_pairs (take i u) (take i c) ++ (n, text) ∷ []) (name_at u i here.label name here.at named))
 
 pub no_pair : (u : List Label) (c : List ℕ) (i p : ℕ) → length c ≡ length u → i < length u → p ≡ slice_index c i → None ≡ option_and_then (λ l. value_at l p) (slice_get u i)
-    → pairs_of (take (i + 1) u) (take (i + 1) c) ≡ pairs_of (take i u) (take i c)
+    → label_pairs (take (i + 1) u) (take (i + 1) c) ≡ label_pairs (take i u) (take i c)
 no_pair u c i p whole k is valued =
     let here = chosen u c i p None whole k is valued in
-    rw add-one (pairs_of-more u c i here.label p here.at here.picked ∙ ap (λ v. pairs_of (take i u) (take i c) ++ pair_before here.label.name v []) here.valued
-    ∙ append-nil (pairs_of (take i u) (take i c)))
+    rw add-one (label_pairs-more u c i here.label p here.at here.picked ∙ ap (λ v. label_pairs (take i u) (take i c) ++ with_label here.label.name v []) here.valued
+    ∙ append-nil (label_pairs (take i u) (take i c)))
 
 pub pair_among : (u : List Label) (c : List ℕ) (i p : ℕ) (name text : List ℕ) → length c ≡ length u → i < length u → p ≡ slice_index c i → slice_get (names u) i ≡ Some name → Some text ≡ option_and_then (λ l. value_at l p) (slice_get u i)
-    → pairs_of u c ≡ pairs_of (take i u) (take i c) ++ (name, text) ∷ pairs_of (drop (i + 1) u) (drop (i + 1) c)
+    → label_pairs u c ≡ label_pairs (take i u) (take i c) ++ (name, text) ∷ label_pairs (drop (i + 1) u) (drop (i + 1) c)
 pair_among u c i p name text whole k is named valued =
-    let later : Pairs = pairs_of (drop (i + 1) u) (drop (i + 1) c) in
-    pairs_of-split u c (i + 1) whole ∙ ap (λ ps. ps ++ later) (next_pair u c i p name text whole k is named valued)
-    ∙ append_assoc (pairs_of (take i u) (take i c)) ((name, text) ∷ []) later
+    let later : Pairs = label_pairs (drop (i + 1) u) (drop (i + 1) c) in
+    label_pairs-split u c (i + 1) whole ∙ ap (λ ps. ps ++ later) (next_pair u c i p name text whole k is named valued)
+    ∙ append_assoc (label_pairs (take i u) (take i c)) ((name, text) ∷ []) later
 
 -- ---- The text in braces: what is written, the next pair behind its separator, and the rest.
 
@@ -90,7 +90,7 @@ set_through pairs ps p qs s are is =
 pub set_more : (pairs ps : Pairs) (p : List ℕ × List ℕ) (s : List ℕ) → pairs ≡ ps ++ p ∷ [] → s ≡ separator ps → (123 ∷ joined ps) ++ (s ++ pair_text p) ≡ 123 ∷ joined pairs
 set_more pairs ps p s are is = ap (λ t. 123 ∷ t) (ap (λ t. joined ps ++ (t ++ pair_text p)) is ∙ sym (joined_more ps p) ∙ ap joined (sym are))
 
-pub set_end : (u : List Label) (c : List ℕ) (i : ℕ) → length c ≡ length u → i ≡ length u → (123 ∷ joined (pairs_of (take i u) (take i c))) ++ 125 ∷ [] ≡ pairs_text (pairs_of u c)
+pub set_end : (u : List Label) (c : List ℕ) (i : ℕ) → length c ≡ length u → i ≡ length u → (123 ∷ joined (label_pairs (take i u) (take i c))) ++ 125 ∷ [] ≡ pairs_text (label_pairs u c)
 set_end u c i whole e =
     let all : take i u ≡ u = take_all i u (omega arith) in
     let all_chosen : take i c ≡ c = take_all i c (omega arith) in

@@ -8,15 +8,15 @@ use Rattle.std.proofs.lemmas.Bool.{and_parts, cases_Bool, eqb-true, false≢true
 use Rattle.std.proofs.lemmas.Bool.Decides.{nat_tests}
 use Rattle.std.proofs.lemmas.List.{length-map}
 use Rattle.std.proofs.lemmas.Map.Keys.{IsDistinct-head, IsDistinct-tail}
-use Rattle.am_universe.specs.Text.{escaped, quoted, same_text}
+use Rattle.am_universe.specs.Text.{label_value_escape, quoted_text, same_text}
 use Rattle.am_universe.specs.Universe.{Label, Values, IsLabel, IsUniverse, names, sizes, begins_label_name, continues_label_name, is_label_name, same_value}
 use Rattle.am_universe.specs.Choice.{admits, IsWhole}
-use Rattle.am_universe.specs.LabelSet.{value_at, pair_before, pairs_of}
-use Rattle.am_universe.specs.SetText.{pair_text, line}
-use Rattle.am_universe.proofs.PairsOf.{none_of_others}
-use Rattle.am_universe.proofs.Values.{AreOthers-after, find_first, same_text-itself}
-use Rattle.am_universe.proofs.SetTexts.{Pairs, joined, joined-cons, following}
-use Rattle.am_universe.proofs.ValuesAt.{value_in}
+use Rattle.am_universe.specs.LabelSet.{value_at, with_label, label_pairs}
+use Rattle.am_universe.specs.WrittenLabelSet.{pair_text, line}
+use Rattle.am_universe.proofs.LabelPairLemmas.{none_of_others}
+use Rattle.am_universe.proofs.LabelSetLemmas.{AreOthers-after, find_first, same_text-itself}
+use Rattle.am_universe.proofs.SetTextLemmas.{Pairs, joined, joined-cons, following}
+use Rattle.am_universe.proofs.LabelValueLemmas.{value_in}
 
 -- ---- What stands between quotes, and what follows.
 
@@ -32,9 +32,9 @@ unquoted after [] = ([], [])
 unquoted true (c ∷ t) = behind (cond (c == 110) 10 c) (unquoted false t)
 unquoted false (c ∷ t) = cond (c == 34) ([], t) (cond (c == 92) (unquoted true t) (behind c (unquoted false t)))
 
-unquoted_one : (c : ℕ) (t : List ℕ) → unquoted false (escaped c ++ t) ≡ behind c (unquoted false t)
+unquoted_one : (c : ℕ) (t : List ℕ) → unquoted false (label_value_escape c ++ t) ≡ behind c (unquoted false t)
 unquoted_one c t =
-    let P : ℕ → Type 0 = λ n. unquoted false (escaped n ++ t) ≡ behind n (unquoted false t) in
+    let P : ℕ → Type 0 = λ n. unquoted false (label_value_escape n ++ t) ≡ behind n (unquoted false t) in
     elim (cases_Bool (c == 92)) [
       | inl is ↦ subst P (sym (eqb-true c 92 is)) refl
       | inr other ↦ elim (cases_Bool (c == 34)) [
@@ -46,9 +46,9 @@ unquoted_one c t =
       ]
     ]
 
-unquoted_all : (v t : List ℕ) → unquoted false (flat_map escaped v ++ 34 ∷ t) ≡ (v, t)
+unquoted_all : (v t : List ℕ) → unquoted false (flat_map label_value_escape v ++ 34 ∷ t) ≡ (v, t)
 unquoted_all [] t = refl
-unquoted_all (c ∷ v) t = ap (unquoted false) (append_assoc (escaped c) (flat_map escaped v) (34 ∷ t)) ∙ unquoted_one c (flat_map escaped v ++ 34 ∷ t) ∙ ap (behind c) (unquoted_all v t)
+unquoted_all (c ∷ v) t = ap (unquoted false) (append_assoc (label_value_escape c) (flat_map label_value_escape v) (34 ∷ t)) ∙ unquoted_one c (flat_map label_value_escape v ++ 34 ∷ t) ∙ ap (behind c) (unquoted_all v t)
 
 -- ---- A pair, and what follows.
 
@@ -81,13 +81,13 @@ paired t =
     let value = unquoted false (drop 1 name.1) in
     ((name.0, value.0), value.1)
 
-spread : (name value t : List ℕ) → pair_text (name, value) ++ t ≡ name ++ 61 ∷ 34 ∷ (flat_map escaped value ++ 34 ∷ t)
+spread : (name value t : List ℕ) → pair_text (name, value) ++ t ≡ name ++ 61 ∷ 34 ∷ (flat_map label_value_escape value ++ 34 ∷ t)
 spread name value t =
-    append_assoc name (61 ∷ 34 ∷ (flat_map escaped value ++ 34 ∷ [])) t ∙ ap (λ r. name ++ 61 ∷ 34 ∷ r) (append_assoc (flat_map escaped value) (34 ∷ []) t)
+    append_assoc name (61 ∷ 34 ∷ (flat_map label_value_escape value ++ 34 ∷ [])) t ∙ ap (λ r. name ++ 61 ∷ 34 ∷ r) (append_assoc (flat_map label_value_escape value) (34 ∷ []) t)
 
 paired_all : (name value t : List ℕ) → is_label_name name ≡ true → paired (pair_text (name, value) ++ t) ≡ ((name, value), t)
 paired_all name value t h =
-    let n : named (pair_text (name, value) ++ t) ≡ (name, 34 ∷ (flat_map escaped value ++ 34 ∷ t)) = ap named (spread name value t) ∙ named_all name _ (continues_all name h) in
+    let n : named (pair_text (name, value) ++ t) ≡ (name, 34 ∷ (flat_map label_value_escape value ++ 34 ∷ t)) = ap named (spread name value t) ∙ named_all name _ (continues_all name h) in
     let v : unquoted false (drop 1 (named (pair_text (name, value) ++ t)).1) ≡ (value, t) = ap (λ s. unquoted false (drop 1 s.1)) n ∙ unquoted_all value t in
     ap (λ s. ((s.0, (unquoted false (drop 1 (named (pair_text (name, value) ++ t)).1)).0), (unquoted false (drop 1 (named (pair_text (name, value) ++ t)).1)).1)) n
     ∙ ap (λ s. ((name, s.0), s.1)) v
@@ -110,7 +110,7 @@ same_following (p ∷ ps) (q ∷ qs) s t h k e =
     λ i. pair i ∷ rest i
 
 first_is_no_brace : (p : List ℕ × List ℕ) (t : List ℕ) → is_label_name p.0 ≡ true → get_or (pair_text p ++ t) 0 0 ≢ 125
-first_is_no_brace p t h = elim (p.0) as (λ n. is_label_name n ≡ true → get_or ((n ++ (61 ∷ quoted p.1)) ++ t) 0 0 ≡ 125 → ⊥) [
+first_is_no_brace p t h = elim (p.0) as (λ n. is_label_name n ≡ true → get_or ((n ++ (61 ∷ quoted_text p.1)) ++ t) 0 0 ≡ 125 → ⊥) [
   | [] ↦ λ h e. false≢true h
   | c ∷ cs ↦ λ h e. let starts = (and_parts (begins_label_name c) (list_all continues_label_name cs) h).0 in false≢true (subst (λ n. begins_label_name n ≡ true) e starts)
 ] h
@@ -126,12 +126,12 @@ same_joined (p ∷ ps) (q ∷ qs) s t h k e =
 
 -- ---- Choices.
 
-AreNamed-pairs_of : (u : List Label) (c : List ℕ) → AllByRecursion IsLabel u → AreNamed (pairs_of u c)
-AreNamed-pairs_of [] c h = tt
-AreNamed-pairs_of (l ∷ u) [] h = tt
-AreNamed-pairs_of (l ∷ u) (p ∷ c) h = elim (value_at l p) as (λ o. AreNamed (pair_before l.name o (pairs_of u c))) [
-  | None ↦ AreNamed-pairs_of u c h.1
-  | Some v ↦ (h.0.name, AreNamed-pairs_of u c h.1)
+AreNamed-label_pairs : (u : List Label) (c : List ℕ) → AllByRecursion IsLabel u → AreNamed (label_pairs u c)
+AreNamed-label_pairs [] c h = tt
+AreNamed-label_pairs (l ∷ u) [] h = tt
+AreNamed-label_pairs (l ∷ u) (p ∷ c) h = elim (value_at l p) as (λ o. AreNamed (with_label l.name o (label_pairs u c))) [
+  | None ↦ AreNamed-label_pairs u c h.1
+  | Some v ↦ (h.0.name, AreNamed-label_pairs u c h.1)
 ]
 
 same_value-itself : (v : Option (List ℕ)) → same_value v v ≡ true
@@ -153,18 +153,18 @@ same_place (v ∷ vs) (suc p) (suc q) d h k e = ap suc (same_place vs p q (IsDis
 abbrev Find : List ℕ → Pairs → Option (List ℕ)
 Find name ps = find (slice_cmp nat_cmp) name ps
 
-same_others : (name : List ℕ) (v : Option (List ℕ)) (ps qs : Pairs) → pair_before name v ps ≡ pair_before name v qs → ps ≡ qs
+same_others : (name : List ℕ) (v : Option (List ℕ)) (ps qs : Pairs) → with_label name v ps ≡ with_label name v qs → ps ≡ qs
 same_others name None ps qs e = e
 same_others name (Some v) ps qs e = ap (drop 1) e
 
 -- the pairs tell the first value, and the others are the same
-same_before : (name : List ℕ) (v w : Option (List ℕ)) (ps qs : Pairs) → Find name ps ≡ None → Find name qs ≡ None → pair_before name v ps ≡ pair_before name w qs → (v ≡ w) × (ps ≡ qs)
+same_before : (name : List ℕ) (v w : Option (List ℕ)) (ps qs : Pairs) → Find name ps ≡ None → Find name qs ≡ None → with_label name v ps ≡ with_label name w qs → (v ≡ w) × (ps ≡ qs)
 same_before name v w ps qs h k e =
     let same : v ≡ w = sym (find_first name v ps h) ∙ ap (Find name) e ∙ find_first name w qs k in
-    (same, same_others name v ps qs (e ∙ ap (λ o. pair_before name o qs) (sym same)))
+    (same, same_others name v ps qs (e ∙ ap (λ o. with_label name o qs) (sym same)))
 
 same_choice : (u : List Label) (c d : List ℕ) → AllByRecursion IsLabel u → IsDistinct same_text (names u) → admits (sizes u) c ≡ true → admits (sizes u) d ≡ true → length c ≡ length u → length d ≡ length u
-    → pairs_of u c ≡ pairs_of u d → c ≡ d
+    → label_pairs u c ≡ label_pairs u d → c ≡ d
 same_choice [] [] [] labels apart h k whole also e = refl
 same_choice [] (p ∷ c) d labels apart h k whole also e = absurd (omega arith)
 same_choice [] [] (q ∷ d) labels apart h k whole also e = absurd (omega arith)
@@ -172,7 +172,7 @@ same_choice (l ∷ u) [] d labels apart h k whole also e = absurd (omega arith)
 same_choice (l ∷ u) (p ∷ c) [] labels apart h k whole also e = absurd (omega arith)
 same_choice (l ∷ u) (p ∷ c) (q ∷ d) labels apart h k whole also e =
     let others = AreOthers-after l.name u (IsDistinct-head _ _ _ apart) in
-    let parts = same_before l.name (value_at l p) (value_at l q) (pairs_of u c) (pairs_of u d) (none_of_others u c l.name others) (none_of_others u d l.name others) e in
+    let parts = same_before l.name (value_at l p) (value_at l q) (label_pairs u c) (label_pairs u d) (none_of_others u c l.name others) (none_of_others u d l.name others) e in
     let here = and_parts (nat_lt p (length l.values)) (admits (sizes u) c) h in
     let there = and_parts (nat_lt q (length l.values)) (admits (sizes u) d) k in
     let below : p < length l.values = grind (arith, nat_tests, here.0) in
@@ -183,9 +183,9 @@ same_choice (l ∷ u) (p ∷ c) (q ∷ d) labels apart h k whole also e =
 
 pub same_line : (u : List Label) (c d : List ℕ) → IsUniverse u → IsWhole (sizes u) c → IsWhole (sizes u) d → line u c ≡ line u d → c ≡ d
 same_line u c d h whole also e =
-    let ps : Pairs = pairs_of u c in
-    let qs : Pairs = pairs_of u d in
+    let ps : Pairs = label_pairs u c in
+    let qs : Pairs = label_pairs u d in
     let texts : joined ps ++ 125 ∷ 10 ∷ [] ≡ joined qs ++ 125 ∷ 10 ∷ [] =
     sym (append_assoc (joined ps) (125 ∷ []) (10 ∷ [])) ∙ ap (drop 1) e ∙ append_assoc (joined qs) (125 ∷ []) (10 ∷ []) in
     same_choice u c d h.labels h.distinct whole.0 also.0 (whole.1 ∙ length-map u (λ l. length l.values)) (also.1 ∙ length-map u (λ l. length l.values))
-    (same_joined ps qs (10 ∷ []) (10 ∷ []) (AreNamed-pairs_of u c h.labels) (AreNamed-pairs_of u d h.labels) texts)
+    (same_joined ps qs (10 ∷ []) (10 ∷ []) (AreNamed-label_pairs u c h.labels) (AreNamed-label_pairs u d h.labels) texts)

@@ -1,4 +1,4 @@
--- `and` makes a value of no bytes, whose ghost field is the list of both.
+-- `followed_by` makes a value of no bytes, whose ghost field is the list of both.
 use Rattle.std.proofs.Common.{List, [], ◌∷◌, ◌++◌, refl}
 use Rattle.std.proofs.raw_atomic.Walks.{proved}
 use mir.Syntax.{a_type, named}
@@ -21,13 +21,13 @@ use denote.Steps.{nothing}
 use denote.Triple.Entry.{alive}
 use denote.Triple.Walked.{Stays, says, stay_dropped, Goes-dropped, ends_at}
 use Rattle.am_universe.specs.contracts.history.History as T
-use Rattle.am_universe.specs.contracts.history.History.and as f
-use Rattle.am_universe.specs.contracts.history.History.and.Key.{name as key}
-use Rattle.am_universe.proofs.history.History.and.Statement.{statement}
-use Rattle.am_universe.proofs.history.History.and.Code as code
+use Rattle.am_universe.specs.contracts.history.History.followed_by as f
+use Rattle.am_universe.specs.contracts.history.History.followed_by.Key.{name as key}
+use Rattle.am_universe.proofs.history.History.followed_by.Statement.{statement}
+use Rattle.am_universe.proofs.history.History.followed_by.Code as code
 
-pub and_spec : {M : Type 1} → statement M
-and_spec 𝓤 𝓛 𝓜 𝓡 wired Y laws =
+pub followed_by_spec : {M : Type 1} → statement M
+followed_by_spec 𝓤 𝓛 𝓜 𝓡 wired Y laws =
     let c = f.clauses Y 𝓛 𝓜.mem 𝓡.returns in
     let stayed : Stays (f.ended Y).signature.params (f.ended Y).kept = (stay_dropped _ yes, (stay_dropped _ yes, tt)) in
     proved 𝓛 (f.ended Y) stayed c 𝓜 𝓡 (Goes-dropped 𝓛 3 (RefOf (0 ∷ []) tt (plain (λ _. T.the_row (f.T-row Y))) (λ _. tt)) yes (λ κs x w. refl), (Goes-dropped 𝓛 3 (SliceRefOf (1 ∷ []) tt (plain (λ _. f.T-row Y)) (λ _. tt)) yes (λ κs x w. refl), tt))

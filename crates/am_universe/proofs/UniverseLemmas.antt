@@ -1,5 +1,5 @@
 -- Universes: where a name stands, and what the faults of a label say.
-use Rattle.std.proofs.Common.{◌≡◌, ◌≢◌, ℕ, ◌+◌, ◌<◌, ◌≤◌, List, [], ◌∷◌, ◌++◌, length, map, take, drop, Bool, true, false, cond, ◌==◌, ◌||◌, Option, Some, None, option_map, is_some, MatchOption, IfSome, IfNone, Contains, String, string_bytes, slice_get, get_or, refl, sym, ap, ◌∙◌, lit≤, arith}
+use Rattle.std.proofs.Common.{◌≡◌, ◌≢◌, ℕ, ◌+◌, ◌<◌, ◌≤◌, List, [], ◌∷◌, ◌++◌, length, map, take, drop, Bool, true, cond, ◌||◌, Option, Some, None, option_map, is_some, MatchOption, IfSome, IfNone, Contains, String, string_bytes, slice_get, get_or, refl, sym, ap, ◌∙◌, lit≤, arith}
 use Rattle.std.specs.List.{AllWithin, HoldsAt, IsDistinct, list_any}
 use Rattle.std.specs.Cmp.Lexicographic.{bytes_decides}
 use Rattle.std.proofs.lemmas.Bool.{false_from_ne_true}
@@ -13,7 +13,8 @@ use Rattle.am_universe.specs.declared.label_fault.LabelPart.TheVariants as parts
 use Rattle.am_universe.specs.Text.{same_text}
 use Rattle.am_universe.specs.UniverseView.{texts_of}
 use Rattle.am_universe.specs.declared.kind.Kind.TheVariants as kinds
-use Rattle.am_universe.specs.Universe.{Label, IsUniverse, names, is_label_name, name_fault, count_fault, value_fault, values_fault, label_values_fault, first_fault, fault_at}
+use Rattle.std.specs.Option.{option_or}
+use Rattle.am_universe.specs.Universe.{Label, IsUniverse, names, is_label_name, name_fault, count_fault, value_fault, values_fault, label_values_fault, fault_at}
 
 -- no labels are a universe
 pub IsUniverse-empty : IsUniverse []
@@ -59,9 +60,10 @@ has_name u name (Some i) found none =
 
 -- a name of the form is at fault where `position` finds it
 pub name_fault-of_form : (u : List Label) (name : List ℕ) (r : Option ℕ) (taken : Bool) → IfSome r (λ i. slice_get (names u) i ≡ Some name)
-    → IfNone r (¬ Contains (names u) name) → is_some r ≡ taken → (length name == 0) ≡ false → is_label_name name ≡ true
+    → IfNone r (¬ Contains (names u) name) → is_some r ≡ taken → is_label_name name ≡ true
     → name_fault u name ≡ cond taken (Some kinds.Duplicate) None
-name_fault-of_form u name r taken found none is some form = rw (some, form, has_name u name r found none ∙ is) refl
+name_fault-of_form u [] r taken found none is form = absurd cc
+name_fault-of_form u (c ∷ cs) r taken found none is form = rw (form, has_name u (c ∷ cs) r found none ∙ is) refl
 
 -- ---- Values.
 
@@ -76,9 +78,9 @@ fault_from values i = values_fault (texts_of (take i values)) (texts_of (drop i 
 pub fault_from_start : (values : List (Option (String Global))) → count_fault (length values) ≡ None → label_values_fault (texts_of values) ≡ fault_from values 0
 fault_from_start values fine =
     let e : count_fault (length (texts_of values)) ≡ None = rw (length-map values (option_map string_bytes)) fine in
-    ap (λ found. first_fault (fault_at parts.Values found) (values_fault [] (texts_of values))) e
+    ap (λ found. option_or (fault_at parts.Values found) (values_fault [] (texts_of values))) e
 
-fault_from_step : (values : List (Option (String Global))) (i : ℕ) (value : Option (String Global)) → i < length values → value ≡ get_or values i value → fault_from values i ≡ first_fault (fault_at (parts.Value i) (value_fault (texts_of (take i values)) (option_map string_bytes value))) (fault_from values (i + 1))
+fault_from_step : (values : List (Option (String Global))) (i : ℕ) (value : Option (String Global)) → i < length values → value ≡ get_or values i value → fault_from values i ≡ option_or (fault_at (parts.Value i) (value_fault (texts_of (take i values)) (option_map string_bytes value))) (fault_from values (i + 1))
 fault_from_step values i value inside at =
     let before = texts_of (take i values) in
     let v = option_map string_bytes value in
@@ -88,16 +90,16 @@ fault_from_step values i value inside at =
     let place : length before ≡ i = length-map (take i values) (option_map string_bytes) ∙ length-take-le i values (omega arith) in
     let longer : texts_of (take (i + 1) values) ≡ before ++ v ∷ [] =
     ap texts_of (take_more values i value inside) ∙ map-append (option_map string_bytes) (take i values) (get_or values i value ∷ []) ∙ ap (λ x. before ++ option_map string_bytes x ∷ []) (sym at) in
-    here ∙ ap (λ n. first_fault (fault_at (parts.Value n) (value_fault before v)) (values_fault (before ++ v ∷ []) after)) place
-    ∙ ap (λ xs. first_fault (fault_at (parts.Value i) (value_fault before v)) (values_fault xs after)) (sym longer)
+    here ∙ ap (λ n. option_or (fault_at (parts.Value n) (value_fault before v)) (values_fault (before ++ v ∷ []) after)) place
+    ∙ ap (λ xs. option_or (fault_at (parts.Value i) (value_fault before v)) (values_fault xs after)) (sym longer)
 
 pub fault_from_here : (values : List (Option (String Global))) (i : ℕ) (value : Option (String Global)) (kind : Kind) → i < length values → value ≡ get_or values i value → value_fault (texts_of (take i values)) (option_map string_bytes value) ≡ Some kind → fault_from values i ≡ Some (record { kind = kind; part = parts.Value i })
 fault_from_here values i value kind inside at found =
-    fault_from_step values i value inside at ∙ ap (λ o. first_fault (fault_at (parts.Value i) o) (fault_from values (i + 1))) found
+    fault_from_step values i value inside at ∙ ap (λ o. option_or (fault_at (parts.Value i) o) (fault_from values (i + 1))) found
 
 pub fault_from_later : (values : List (Option (String Global))) (i : ℕ) (value : Option (String Global)) → i < length values → value ≡ get_or values i value → value_fault (texts_of (take i values)) (option_map string_bytes value) ≡ None → fault_from values i ≡ fault_from values (i + 1)
 fault_from_later values i value inside at fine =
-    fault_from_step values i value inside at ∙ ap (λ o. first_fault (fault_at (parts.Value i) o) (fault_from values (i + 1))) fine
+    fault_from_step values i value inside at ∙ ap (λ o. option_or (fault_at (parts.Value i) o) (fault_from values (i + 1))) fine
 
 pub fault_from_end : (values : List (Option (String Global))) (i : ℕ) → length values ≤ i → fault_from values i ≡ None
 fault_from_end values i end = at_drop_all (λ rest. values_fault (texts_of (take i values)) (texts_of rest)) values i end
