@@ -1,4 +1,4 @@
-mod Patterns
+mod PatternLemmas
 mod PatternCuts
 mod PatternForms
 mod PatternJoins
@@ -11,8 +11,8 @@ pub mod MatcherTextPieces
 pub mod MatcherTextLists
 pub mod MatcherTextBodies
 pub mod MatcherTextWhole
-pub mod BraceTokens
-pub mod MatcherLists
-mod SetValues
-pub mod Rows
-pub mod RowLaws
+pub mod BraceTokenLemmas
+pub mod MatcherRefusalLemmas
+mod ParsedLabelSetLemmas
+pub mod RowLemmas
+pub mod RowLawLemmas

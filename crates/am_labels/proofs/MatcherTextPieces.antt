@@ -2,12 +2,11 @@
 use Rattle.std.proofs.Common.{◌≡◌, refl, sym, ◌∙◌, ap, inl, inr, ℕ, suc, ◌+◌, ◌-◌, ◌<◌, ◌≤◌, List, [], ◌∷◌, ◌++◌, length, drop, true, false, cond, arith, Option, Some, None}
 use Rattle.std.specs.Prelude.{slice_range}
 use Rattle.std.specs.List.{filter, range_with_len}
-use Rattle.std.proofs.lemmas.List.{append-nil, append_assoc, map_push}
+use Rattle.std.proofs.lemmas.List.{append-nil, append_assoc}
 use Rattle.am_universe.specs.declared.kind.Kind.{Kind}
 use Rattle.am_labels.specs.Matcher.{Condition}
-use Rattle.am_labels.specs.MatcherText.{is_blank, is_cut, cuts, pieces_from, without_blank_last, pieces}
-use Rattle.am_labels.specs.declared.matcher_text.Spelled.{Spelled}
-use Rattle.am_labels.specs.MatcherReading.{condition_of, conditions_of, Fails, ◌>>=◌, read_piece, read_each}
+use Rattle.am_labels.specs.MatcherText.{is_blank, is_separator, separators, pieces_from, without_blank_last, matcher_pieces}
+use Rattle.am_labels.specs.MatcherReading.{IsReadFailure, ◌>>=◌, read_piece, read_each_piece}
 
 -- what is read, behind a front that was read before
 abbrev pub after : List Condition → Option (List Condition) → Option (List Condition)
@@ -16,13 +15,13 @@ after front (Some ms) = Some (front ++ ms)
 
 -- the cuts from a place on
 abbrev pub cuts_from : List ℕ → ℕ → List ℕ
-cuts_from text i = filter (is_cut text) (range_with_len i (length text - i))
+cuts_from text i = filter (is_separator text) (range_with_len i (length text - i))
 
 -- the pieces from a place on, where the last cut before i stands before that place
 abbrev pub pieces_left : List ℕ → ℕ → ℕ → List (List ℕ)
 pieces_left text start i = without_blank_last (pieces_from text start (cuts_from text i))
 
-cuts_next : (text : List ℕ) (i : ℕ) → i < length text → cuts_from text i ≡ cond (is_cut text i) (i ∷ cuts_from text (i + 1)) (cuts_from text (i + 1))
+cuts_next : (text : List ℕ) (i : ℕ) → i < length text → cuts_from text i ≡ cond (is_separator text i) (i ∷ cuts_from text (i + 1)) (cuts_from text (i + 1))
 cuts_next text i l =
     let n : length text - i ≡ suc (length text - (i + 1)) = omega arith in
     rw n refl
@@ -32,7 +31,7 @@ cuts_none text i l =
     let n : length text - i ≡ 0 = omega arith in
     rw n refl
 
-pub cuts_all : (text : List ℕ) → cuts_from text 0 ≡ cuts text
+pub cuts_all : (text : List ℕ) → cuts_from text 0 ≡ separators text
 cuts_all text =
     let n : length text - 0 ≡ length text = omega arith in
     rw n refl
@@ -41,10 +40,10 @@ without_blank_more : (text piece : List ℕ) (start : ℕ) (cs : List ℕ) → w
 without_blank_more text piece start [] = refl
 without_blank_more text piece start (c ∷ cs) = refl
 
-pub left_at_cut : (text : List ℕ) (start i : ℕ) → i < length text → is_cut text i ≡ true → pieces_left text start i ≡ slice_range text start i ∷ pieces_left text (i + 1) (i + 1)
+pub left_at_cut : (text : List ℕ) (start i : ℕ) → i < length text → is_separator text i ≡ true → pieces_left text start i ≡ slice_range text start i ∷ pieces_left text (i + 1) (i + 1)
 left_at_cut text start i l e = rw (cuts_next text i l, e) (without_blank_more text (slice_range text start i) (i + 1) (cuts_from text (i + 1)))
 
-pub left_past : (text : List ℕ) (start i : ℕ) → i < length text → is_cut text i ≡ false → pieces_left text start i ≡ pieces_left text start (i + 1)
+pub left_past : (text : List ℕ) (start i : ℕ) → i < length text → is_separator text i ≡ false → pieces_left text start i ≡ pieces_left text start (i + 1)
 left_past text start i l e = rw (cuts_next text i l, e) refl
 
 pub left_at_end : (text : List ℕ) (start i : ℕ) → length text ≤ i → pieces_left text start i ≡ cond (is_blank (drop start text)) [] (drop start text ∷ [])
@@ -54,12 +53,12 @@ pub after_one : (front : List Condition) (m : Condition) (o : Option (List Condi
 after_one front m None = refl
 after_one front m (Some ms) = ap Some (sym (append_assoc front (m ∷ []) ms))
 
-pub read_next : (front : List Condition) (piece : List ℕ) (more : List (List ℕ)) (m : Condition) → read_piece piece ≡ Some m → after front (read_each (piece ∷ more)) ≡ after (front ++ m ∷ []) (read_each more)
-unfolding read_each
-read_next front piece more m e = rw e (after_one front m (read_each more))
+pub read_next : (front : List Condition) (piece : List ℕ) (more : List (List ℕ)) (m : Condition) → read_piece piece ≡ Some m → after front (read_each_piece (piece ∷ more)) ≡ after (front ++ m ∷ []) (read_each_piece more)
+unfolding read_each_piece
+read_next front piece more m e = rw e (after_one front m (read_each_piece more))
 
-pub read_none : (kind : Kind) (front : List Condition) (piece : List ℕ) (more : List (List ℕ)) → Fails kind (read_piece piece) → Fails kind (after front (read_each (piece ∷ more)))
-unfolding read_each
+pub read_none : (kind : Kind) (front : List Condition) (piece : List ℕ) (more : List (List ℕ)) → IsReadFailure kind (read_piece piece) → IsReadFailure kind (after front (read_each_piece (piece ∷ more)))
+unfolding read_each_piece
 read_none kind front piece more (inl memory) = inl memory
 read_none kind front piece more (inr none) = inr (none.0, rw none.1 refl)
 
@@ -67,47 +66,46 @@ after_nothing : (o : Option (List Condition)) → after [] o ≡ o
 after_nothing None = refl
 after_nothing (Some ms) = refl
 
-after_all : (front : List Condition) → after front (read_each []) ≡ Some front
-unfolding read_each
+after_all : (front : List Condition) → after front (read_each_piece []) ≡ Some front
+unfolding read_each_piece
 after_all front = ap Some (append-nil front)
 
 -- ---- the loop's list ss and the end of its text, where `all` is what the whole gives
 
-pub told_at_first : (text : List ℕ) → after [] (read_each (pieces_left text 0 0)) ≡ read_each (pieces text)
-told_at_first text = after_nothing (read_each (pieces_left text 0 0)) ∙ rw (cuts_all text) refl
+pub told_at_first : (text : List ℕ) → after [] (read_each_piece (pieces_left text 0 0)) ≡ read_each_piece (matcher_pieces text)
+told_at_first text = after_nothing (read_each_piece (pieces_left text 0 0)) ∙ rw (cuts_all text) refl
 
-pub told_at_cut : (text : List ℕ) (start i : ℕ) (ss : List Spelled) (s : Spelled) (all : Option (List Condition)) → i < length text → is_cut text i ≡ true → read_piece (slice_range text start i) ≡ Some (condition_of s)
-    → after (conditions_of ss) (read_each (pieces_left text start i)) ≡ all → after (conditions_of (ss ++ s ∷ [])) (read_each (pieces_left text (i + 1) (i + 1))) ≡ all
+pub told_at_cut : (text : List ℕ) (start i : ℕ) (ss : List Condition) (s : Condition) (all : Option (List Condition)) → i < length text → is_separator text i ≡ true → read_piece (slice_range text start i) ≡ Some s
+    → after ss (read_each_piece (pieces_left text start i)) ≡ all → after (ss ++ s ∷ []) (read_each_piece (pieces_left text (i + 1) (i + 1))) ≡ all
 told_at_cut text start i ss s all l e r told =
-    rw (map_push condition_of ss s)
-    (sym (read_next (conditions_of ss) (slice_range text start i) (pieces_left text (i + 1) (i + 1)) (condition_of s) r)
-    ∙ rw (← left_at_cut text start i l e) told)
+    sym (read_next ss (slice_range text start i) (pieces_left text (i + 1) (i + 1)) s r)
+    ∙ rw (← left_at_cut text start i l e) told
 
-pub told_past : (text : List ℕ) (start i : ℕ) (ss : List Spelled) (all : Option (List Condition)) → i < length text → is_cut text i ≡ false
-    → after (conditions_of ss) (read_each (pieces_left text start i)) ≡ all → after (conditions_of ss) (read_each (pieces_left text start (i + 1))) ≡ all
+pub told_past : (text : List ℕ) (start i : ℕ) (ss : List Condition) (all : Option (List Condition)) → i < length text → is_separator text i ≡ false
+    → after ss (read_each_piece (pieces_left text start i)) ≡ all → after ss (read_each_piece (pieces_left text start (i + 1))) ≡ all
 told_past text start i ss all l e told = rw (← left_past text start i l e) told
 
-pub refused_at_cut : (kind : Kind) (text : List ℕ) (start i : ℕ) (ss : List Spelled) (all : Option (List Condition)) → i < length text → is_cut text i ≡ true → Fails kind (read_piece (slice_range text start i))
-    → after (conditions_of ss) (read_each (pieces_left text start i)) ≡ all → Fails kind all
+pub refused_at_cut : (kind : Kind) (text : List ℕ) (start i : ℕ) (ss : List Condition) (all : Option (List Condition)) → i < length text → is_separator text i ≡ true → IsReadFailure kind (read_piece (slice_range text start i))
+    → after ss (read_each_piece (pieces_left text start i)) ≡ all → IsReadFailure kind all
 refused_at_cut kind text start i ss all l e r told =
-    rw (← told, left_at_cut text start i l e) (read_none kind (conditions_of ss) (slice_range text start i) (pieces_left text (i + 1) (i + 1)) r)
+    rw (← told, left_at_cut text start i l e) (read_none kind ss (slice_range text start i) (pieces_left text (i + 1) (i + 1)) r)
 
-pub refused_at_end : (kind : Kind) (text : List ℕ) (start i : ℕ) (last : List ℕ) (ss : List Spelled) (all : Option (List Condition)) → length text ≤ i → last ≡ drop start text → is_blank last ≡ false → Fails kind (read_piece last)
-    → after (conditions_of ss) (read_each (pieces_left text start i)) ≡ all → Fails kind all
+pub refused_at_end : (kind : Kind) (text : List ℕ) (start i : ℕ) (last : List ℕ) (ss : List Condition) (all : Option (List Condition)) → length text ≤ i → last ≡ drop start text → is_blank last ≡ false → IsReadFailure kind (read_piece last)
+    → after ss (read_each_piece (pieces_left text start i)) ≡ all → IsReadFailure kind all
 refused_at_end kind text start i last ss all l e b r told =
     let b' = rw e at b in
-    rw (← told, left_at_end text start i l, b') (read_none kind (conditions_of ss) (drop start text) [] (rw (← e) r))
+    rw (← told, left_at_end text start i l, b') (read_none kind ss (drop start text) [] (rw (← e) r))
 
-pub told_at_end : (text : List ℕ) (start i : ℕ) (last : List ℕ) (ss : List Spelled) (s : Spelled) (all : Option (List Condition)) → length text ≤ i → last ≡ drop start text → is_blank last ≡ false → read_piece last ≡ Some (condition_of s)
-    → after (conditions_of ss) (read_each (pieces_left text start i)) ≡ all → all ≡ Some (conditions_of (ss ++ s ∷ []))
+pub told_at_end : (text : List ℕ) (start i : ℕ) (last : List ℕ) (ss : List Condition) (s : Condition) (all : Option (List Condition)) → length text ≤ i → last ≡ drop start text → is_blank last ≡ false → read_piece last ≡ Some s
+    → after ss (read_each_piece (pieces_left text start i)) ≡ all → all ≡ Some (ss ++ s ∷ [])
 told_at_end text start i last ss s all l e b r told =
     let b' = rw e at b in
     let r' = rw e at r in
-    sym told ∙ rw (left_at_end text start i l, b', map_push condition_of ss s)
-    (read_next (conditions_of ss) (drop start text) [] (condition_of s) r' ∙ after_all (conditions_of ss ++ condition_of s ∷ []))
+    sym told ∙ rw (left_at_end text start i l, b')
+    (read_next ss (drop start text) [] s r' ∙ after_all (ss ++ s ∷ []))
 
-pub told_at_blank : (text : List ℕ) (start i : ℕ) (last : List ℕ) (ss : List Spelled) (all : Option (List Condition)) → length text ≤ i → last ≡ drop start text → is_blank last ≡ true
-    → after (conditions_of ss) (read_each (pieces_left text start i)) ≡ all → all ≡ Some (conditions_of ss)
+pub told_at_blank : (text : List ℕ) (start i : ℕ) (last : List ℕ) (ss : List Condition) (all : Option (List Condition)) → length text ≤ i → last ≡ drop start text → is_blank last ≡ true
+    → after ss (read_each_piece (pieces_left text start i)) ≡ all → all ≡ Some ss
 told_at_blank text start i last ss all l e b told =
     let b' = rw e at b in
-    sym told ∙ rw (left_at_end text start i l, b') (after_all (conditions_of ss))
+    sym told ∙ rw (left_at_end text start i l, b') (after_all ss)

@@ -12,7 +12,7 @@ use Rattle.std.proofs.lemmas.Bool.Decides.{nat_tests}
 use lib.Utf8.{scalars, scalar, encodes, encode}
 use Rattle.am_labels.specs.MatcherReading.{first_quote}
 use Rattle.am_labels.proofs.MatcherTextPlaces.{first_quote_found}
-use Rattle.am_labels.specs.MatcherText.{without_opening, without_closing, is_escaped, is_space, continues_name, has_escape, escape_of, unescaped}
+use Rattle.am_labels.specs.MatcherText.{without_opening, without_closing, is_escaped, is_space, continues_name, has_escape, byte_of_escape, unescaped_text}
 
 space_ascii : (c : ℕ) → is_space c ≡ true → c < 128
 space_ascii c h = grind (arith, nat_tests)
@@ -64,19 +64,19 @@ cons_ascii : (c : ℕ) (bs : List ℕ) → c < 128 → IsUtf8 bs → IsUtf8 (c �
 cons_ascii c bs h u = IsUtf8-append (c ∷ []) bs (IsUtf8-from_ascii (c ∷ []) (IsAscii-cons c [] h IsAscii-nil)) u
 
 -- a byte that is no backslash stands for itself
-plain : (c : ℕ) (bs : List ℕ) → (c == 92) ≡ false → unescaped (c ∷ bs) ≡ c ∷ unescaped bs
+plain : (c : ℕ) (bs : List ℕ) → (c == 92) ≡ false → unescaped_text (c ∷ bs) ≡ c ∷ unescaped_text bs
 plain c [] h = refl
 plain c (d ∷ bs) h = rw h refl
 
 -- a byte stands for itself, or is a backslash before a byte that it escapes
-step : (c : ℕ) (bs : List ℕ) → (unescaped (c ∷ bs) ≡ c ∷ unescaped bs) ⊎ ((d : ℕ) × (more : List ℕ) × (bs ≡ d ∷ more) × (has_escape d ≡ true) × (unescaped (c ∷ bs) ≡ escape_of d ∷ unescaped more))
+step : (c : ℕ) (bs : List ℕ) → (unescaped_text (c ∷ bs) ≡ c ∷ unescaped_text bs) ⊎ ((d : ℕ) × (more : List ℕ) × (bs ≡ d ∷ more) × (has_escape d ≡ true) × (unescaped_text (c ∷ bs) ≡ byte_of_escape d ∷ unescaped_text more))
 step c [] = inl refl
 step c (d ∷ bs) = elim (cases_Bool (c == 92 && has_escape d)) [
   | inl e ↦ inr (d, bs, refl, (and_parts (c == 92) (has_escape d) e).1, rw e refl)
   | inr e ↦ inl (rw e refl)
 ]
 
-wide : (ws bs : List ℕ) → ((k : ℕ) → k < length ws → 128 ≤ get_or ws k 0) → unescaped (ws ++ bs) ≡ ws ++ unescaped bs
+wide : (ws bs : List ℕ) → ((k : ℕ) → k < length ws → 128 ≤ get_or ws k 0) → unescaped_text (ws ++ bs) ≡ ws ++ unescaped_text bs
 wide [] bs h = refl
 wide (w ∷ ws) bs h =
     let big : 128 ≤ w = h 0 (omega arith) in
@@ -91,34 +91,34 @@ wide_bytes c big k l = elim (cases_lt (get_or (encode c) k 0) 128) [
   | inr more ↦ more
 ]
 
-escape_ascii : (d : ℕ) → has_escape d ≡ true → escape_of d < 128
+pub escape_ascii : (d : ℕ) → has_escape d ≡ true → byte_of_escape d < 128
 escape_ascii d h = grind (arith, nat_tests)
 
-escaped_ascii : (d : ℕ) → has_escape d ≡ true → d < 128
+pub escaped_ascii : (d : ℕ) → has_escape d ≡ true → d < 128
 escaped_ascii d h = grind (arith, nat_tests)
 
-utf8_unescaped_within : (n : ℕ) (cs : List ℕ) → length cs ≤ n → scalars cs ≡ true → IsUtf8 (unescaped (encodes cs))
+utf8_unescaped_within : (n : ℕ) (cs : List ℕ) → length cs ≤ n → scalars cs ≡ true → IsUtf8 (unescaped_text (encodes cs))
 utf8_unescaped_within n [] l s = IsUtf8-nil
 utf8_unescaped_within zero (c ∷ cs) l s = absurd (omega arith)
 utf8_unescaped_within (suc n) (c ∷ cs) l s =
     let parts = and_parts (scalar c) (scalars cs) s in
-    let rest : IsUtf8 (unescaped (encodes cs)) = utf8_unescaped_within n cs (omega arith) parts.1 in
+    let rest : IsUtf8 (unescaped_text (encodes cs)) = utf8_unescaped_within n cs (omega arith) parts.1 in
     elim (cases_lt c 128) [
       | inl small ↦ rw (encode_ascii c small) (elim (step c (encodes cs)) [
-        | inl e ↦ rw e (cons_ascii c (unescaped (encodes cs)) small rest)
+        | inl e ↦ rw e (cons_ascii c (unescaped_text (encodes cs)) small rest)
         | inr e ↦
             let d-small = escaped_ascii e.0 e.3 in
             let after = cons_from_encodes cs e.1 e.0 (e.2 ∙ rw (encode_ascii e.0 d-small) refl) in
             let l-after : length after.0 ≤ n = (let t = ap length after.1 in omega arith) in
             let s-after : scalars after.0 ≡ true = (let t = rw after.1 at parts.1 in (and_parts (scalar e.0) (scalars after.0) t).1) in
-            rw (e.4, ← after.2) (cons_ascii (escape_of e.0) (unescaped (encodes after.0)) (escape_ascii e.0 e.3) (utf8_unescaped_within n after.0 l-after s-after))
+            rw (e.4, ← after.2) (cons_ascii (byte_of_escape e.0) (unescaped_text (encodes after.0)) (escape_ascii e.0 e.3) (utf8_unescaped_within n after.0 l-after s-after))
       ])
       | inr big ↦
           let one : IsUtf8 (encode c) = (c ∷ [], (rw parts.0 refl, append-nil (encode c))) in
-          rw (wide (encode c) (encodes cs) (wide_bytes c big)) (IsUtf8-append (encode c) (unescaped (encodes cs)) one rest)
+          rw (wide (encode c) (encodes cs) (wide_bytes c big)) (IsUtf8-append (encode c) (unescaped_text (encodes cs)) one rest)
     ]
 
-pub utf8_unescaped : (bs : List ℕ) → IsUtf8 bs → IsUtf8 (unescaped bs)
+pub utf8_unescaped : (bs : List ℕ) → IsUtf8 bs → IsUtf8 (unescaped_text bs)
 utf8_unescaped bs u = rw (← u.1.1) (utf8_unescaped_within (length u.0) u.0 (omega arith) u.1.0)
 
 -- what stands in quotes

@@ -4,7 +4,6 @@ use Rattle.std.specs.Prelude.{◌==◌}
 use Rattle.std.specs.List.{prefix_len, suffix_len, list_all, AllZip, All, AllByRecursion}
 use Rattle.std.specs.String.{string_bytes}
 use Rattle.std.proofs.lemmas.List.Elements.{All-from_recursion}
-use Rattle.am_labels.specs.declared.matcher_text.Spelled.{Spelled}
 use Rattle.std.proofs.lemmas.List.{append-nil, take-append-drop, get_or-take, length-take-le}
 use Rattle.std.proofs.lemmas.Bool.{and_parts, and_from, cases_lt, cases_Bool, eqb-true, not-true, false≢true}
 use Rattle.std.proofs.lemmas.Bool.Decides.{nat_tests}
@@ -14,8 +13,8 @@ use Rattle.am_universe.specs.declared.kind.Kind.TheVariants.{Memory, BadMatcher}
 use Rattle.am_labels.specs.declared.op.Op.{Op}
 use Rattle.am_labels.specs.declared.op.Op.TheVariants.{Equal, NotEqual, Matches, NotMatches}
 use Rattle.am_labels.specs.Matcher.{Condition}
-use Rattle.am_labels.specs.MatcherText.{is_space, is_blank, begins_name, continues_name, is_name, operator_text, unescaped, is_trimmed, SpellsOne, Spells, pieces, without_opening, without_closing}
-use Rattle.am_labels.specs.MatcherReading.{Gives, conditions_of, read_body, read_operator, read_name, read_piece, read_each, read_list, trimmed_start, trimmed_end, ◌>>=◌}
+use Rattle.am_labels.specs.MatcherText.{is_space, is_blank, begins_name, continues_name, is_name, operator_text, unescaped_text, is_trimmed, SpellsOne, Spells, matcher_pieces, without_opening, without_closing}
+use Rattle.am_labels.specs.MatcherReading.{ReturnsReading, read_body, read_operator, read_name, read_piece, read_each_piece, read_list, without_leading_blanks, without_trailing_blanks, ◌>>=◌}
 use Rattle.am_labels.proofs.MatcherTextSteps.{whole_piece}
 use Rattle.am_labels.proofs.MatcherTextLists.{drop_prefix, take_prefix, all_of_prefix, first_after_prefix, all_append, all_of_suffix, last_before_suffix, take_before_suffix}
 use Rattle.am_labels.proofs.MatcherTextBodies.{body_is_read, read_is_body}
@@ -68,7 +67,7 @@ operator_is_read NotEqual rest h = refl
 operator_is_read Matches rest h = refl
 operator_is_read NotMatches rest h = refl
 
-raw_is_cut : (after raw behind : List ℕ) → is_blank after ≡ true → is_blank behind ≡ true → is_trimmed raw ≡ true → trimmed_end (trimmed_start (after ++ (raw ++ behind))) ≡ raw
+raw_is_cut : (after raw behind : List ℕ) → is_blank after ≡ true → is_blank behind ≡ true → is_trimmed raw ≡ true → without_trailing_blanks (without_leading_blanks (after ++ (raw ++ behind))) ≡ raw
 raw_is_cut after [] behind a b t =
     let none = drop_prefix is_space (after ++ behind) [] (all_append is_space after behind a b) refl in
     let none' = rw (append-nil (after ++ behind)) at none in
@@ -86,9 +85,9 @@ spelled_is_read piece m s =
     let tail : List ℕ = s.after ++ (s.raw ++ s.behind) in
     let op : List ℕ = operator_text m.op ++ tail in
     let rest : List ℕ = s.between ++ op in
-    let start : m.name ++ rest ≡ trimmed_start piece =
+    let start : m.name ++ rest ≡ without_leading_blanks piece =
     rw s.parts (sym (drop_prefix is_space s.before (m.name ++ rest) two.0 (begins_no_space (get_or (m.name ++ rest) 0 0) (name_begins m.name rest s.name)))) in
-    let read = whole_piece piece (m.name ++ rest) m.name rest op m.op tail (trimmed_start tail) s.raw s.value.body start
+    let read = whole_piece piece (m.name ++ rest) m.name rest op m.op tail (without_leading_blanks tail) s.raw s.value.body start
     (name_is_read m.name rest s.name (operator_ends_name s.between m.op tail two.1))
     (sym (drop_prefix is_space s.between op two.1 (operator_no_space m.op tail)))
     (operator_is_read m.op tail s.operator)
@@ -161,7 +160,7 @@ operator_parts text op rest e = elim (cases_Bool (get_or text 0 0 == 61)) [
       ]
 ]
 
-raw_trimmed : (text : List ℕ) → is_space (get_or text 0 0) ≡ false → is_trimmed (trimmed_end text) ≡ true
+raw_trimmed : (text : List ℕ) → is_space (get_or text 0 0) ≡ false → is_trimmed (without_trailing_blanks text) ≡ true
 raw_trimmed text first =
     let n : ℕ = length text - suffix_len is_space text in
     let le : n ≤ length text = omega arith in
@@ -176,17 +175,17 @@ raw_trimmed text first =
           rw z refl
     ]
 
-spelled_by : (piece : List ℕ) (name : List ℕ × List ℕ) (op : Op × List ℕ) (body : List ℕ) → read_name (trimmed_start piece) ≡ Some name → read_operator (trimmed_start name.1) ≡ Some op → read_body (trimmed_end (trimmed_start op.1)) ≡ Some body
-    → SpellsOne piece (record { name = name.0; op = op.0; value = unescaped body })
+spelled_by : (piece : List ℕ) (name : List ℕ × List ℕ) (op : Op × List ℕ) (body : List ℕ) → read_name (without_leading_blanks piece) ≡ Some name → read_operator (without_leading_blanks name.1) ≡ Some op → read_body (without_trailing_blanks (without_leading_blanks op.1)) ≡ Some body
+    → SpellsOne piece (record { name = name.0; op = op.0; value = unescaped_text body })
 spelled_by piece name op body n o b =
-    let v : List ℕ = trimmed_start op.1 in
+    let v : List ℕ = without_leading_blanks op.1 in
     let before : List ℕ = take (prefix_len is_space piece) piece in
     let between : List ℕ = take (prefix_len is_space name.1) name.1 in
     let after : List ℕ = take (prefix_len is_space op.1) op.1 in
-    let raw : List ℕ = trimmed_end v in
+    let raw : List ℕ = without_trailing_blanks v in
     let behind : List ℕ = drop (length v - suffix_len is_space v) v in
-    let named = name_parts (trimmed_start piece) name.0 name.1 n in
-    let stands = operator_parts (trimmed_start name.1) op.0 op.1 o in
+    let named = name_parts (without_leading_blanks piece) name.0 name.1 n in
+    let stands = operator_parts (without_leading_blanks name.1) op.0 op.1 o in
     let body_is = read_is_body raw body b in
     let tail : after ++ (raw ++ behind) ≡ op.1 =
     ap (λ r. after ++ r) (take-append-drop (length v - suffix_len is_space v) v) ∙ take-append-drop (prefix_len is_space op.1) op.1 in
@@ -215,54 +214,54 @@ spelled_by piece name op body n o b =
 pub read_is_spelled : (piece : List ℕ) (m : Condition) → read_piece piece ≡ Some m → SpellsOne piece m
 unfolding read_piece
 read_is_spelled piece m e =
-    let written : List ℕ × List ℕ → Op × List ℕ → List ℕ → Option Condition = λ name op body. Some (record { name = name.0; op = op.0; value = unescaped body }) in
-    let from_op : List ℕ × List ℕ → Op × List ℕ → Option Condition = λ name op. read_body (trimmed_end (trimmed_start op.1)) >>= written name op in
-    let from_name : List ℕ × List ℕ → Option Condition = λ name. read_operator (trimmed_start name.1) >>= from_op name in
-    option_and_then_some from_name (read_name (trimmed_start piece)) m e (λ name n f.
-    option_and_then_some (from_op name) (read_operator (trimmed_start name.1)) m f (λ op o g.
-    option_and_then_some (written name op) (read_body (trimmed_end (trimmed_start op.1))) m g (λ body b h.
-    subst (λ (x : Condition). SpellsOne piece x) (same_Some (record { name = name.0; op = op.0; value = unescaped body }) m h) (spelled_by piece name op body n o b))))
+    let written : List ℕ × List ℕ → Op × List ℕ → List ℕ → Option Condition = λ name op body. Some (record { name = name.0; op = op.0; value = unescaped_text body }) in
+    let from_op : List ℕ × List ℕ → Op × List ℕ → Option Condition = λ name op. read_body (without_trailing_blanks (without_leading_blanks op.1)) >>= written name op in
+    let from_name : List ℕ × List ℕ → Option Condition = λ name. read_operator (without_leading_blanks name.1) >>= from_op name in
+    option_and_then_some from_name (read_name (without_leading_blanks piece)) m e (λ name n f.
+    option_and_then_some (from_op name) (read_operator (without_leading_blanks name.1)) m f (λ op o g.
+    option_and_then_some (written name op) (read_body (without_trailing_blanks (without_leading_blanks op.1))) m g (λ body b h.
+    subst (λ (x : Condition). SpellsOne piece x) (same_Some (record { name = name.0; op = op.0; value = unescaped_text body }) m h) (spelled_by piece name op body n o b))))
 
 -- ---- lists
 
-each_is_read : (ps : List (List ℕ)) (ms : List Condition) → AllZip SpellsOne ps ms → read_each ps ≡ Some ms
-unfolding read_each
+each_is_read : (ps : List (List ℕ)) (ms : List Condition) → AllZip SpellsOne ps ms → read_each_piece ps ≡ Some ms
+unfolding read_each_piece
 each_is_read [] [] s = refl
 each_is_read [] (m ∷ ms) s = absurd s
 each_is_read (p ∷ ps) [] s = absurd s
 each_is_read (p ∷ ps) (m ∷ ms) s = rw (spelled_is_read p m s.0, each_is_read ps ms s.1) refl
 
-each_is_spelled : (ps : List (List ℕ)) (ms : List Condition) → read_each ps ≡ Some ms → AllZip SpellsOne ps ms
-unfolding read_each
+each_is_spelled : (ps : List (List ℕ)) (ms : List Condition) → read_each_piece ps ≡ Some ms → AllZip SpellsOne ps ms
+unfolding read_each_piece
 each_is_spelled [] ms e = rw (← same_Some [] ms e) tt
 each_is_spelled (p ∷ ps) ms e =
-    let others : Condition → Option (List Condition) = λ m. read_each ps >>= λ ns. Some (m ∷ ns) in
+    let others : Condition → Option (List Condition) = λ m. read_each_piece ps >>= λ ns. Some (m ∷ ns) in
     option_and_then_some others (read_piece p) ms e (λ m r f.
-    option_and_then_some (λ ns. Some (m ∷ ns)) (read_each ps) ms f (λ ns q g.
+    option_and_then_some (λ ns. Some (m ∷ ns)) (read_each_piece ps) ms f (λ ns q g.
     rw (← same_Some (m ∷ ns) ms g) (read_is_spelled p m r, each_is_spelled ps ns q)))
 
 pub list_is_read : (text : List ℕ) (ms : List Condition) → Spells text ms → read_list text ≡ Some ms
 unfolding read_list
-list_is_read text ms s = each_is_read (pieces (without_closing (without_opening text))) ms s
+list_is_read text ms s = each_is_read (matcher_pieces (without_closing (without_opening text))) ms s
 
 pub list_is_spelled : (text : List ℕ) (ms : List Condition) → read_list text ≡ Some ms → Spells text ms
 unfolding read_list
-list_is_spelled text ms e = each_is_spelled (pieces (without_closing (without_opening text))) ms e
+list_is_spelled text ms e = each_is_spelled (matcher_pieces (without_closing (without_opening text))) ms e
 
 pub one_list : (text : List ℕ) (ms ns : List Condition) → Spells text ms → Spells text ns → ms ≡ ns
 one_list text ms ns s t = same_Some ms ns (sym (list_is_read text ms s) ∙ list_is_read text ns t)
 
 -- ---- an answer of the reader
 
-pub ok_is_spelled : {X : Type 0} (view : X → List Condition) (text : List ℕ) (r : Result X Kind) → Gives view r (read_list text) → IfOk r (λ x. Spells text (view x))
+pub ok_is_spelled : {X : Type 0} (view : X → List Condition) (text : List ℕ) (r : Result X Kind) → ReturnsReading view r (read_list text) → IfOk r (λ x. Spells text (view x))
 ok_is_spelled view text (Ok x) g = list_is_spelled text (view x) g
 ok_is_spelled view text (Err kind) g = tt
 
-pub ok_is_only : {X : Type 0} (view : X → List Condition) (text : List ℕ) (r : Result X Kind) → Gives view r (read_list text) → (ms : List Condition) → Spells text ms → IfOk r (λ x. view x ≡ ms)
+pub ok_is_only : {X : Type 0} (view : X → List Condition) (text : List ℕ) (r : Result X Kind) → ReturnsReading view r (read_list text) → (ms : List Condition) → Spells text ms → IfOk r (λ x. view x ≡ ms)
 ok_is_only view text (Ok x) g ms s = same_Some (view x) ms (sym g ∙ list_is_read text ms s)
 ok_is_only view text (Err kind) g ms s = tt
 
-pub refused_is_none : {X : Type 0} (view : X → List Condition) (text : List ℕ) (r : Result X Kind) → Gives view r (read_list text) → IfErr r (λ kind. kind ≢ Memory → (kind ≡ BadMatcher) × ((ms : List Condition) → Spells text ms → ⊥))
+pub refused_is_none : {X : Type 0} (view : X → List Condition) (text : List ℕ) (r : Result X Kind) → ReturnsReading view r (read_list text) → IfErr r (λ kind. kind ≢ Memory → (kind ≡ BadMatcher) × ((ms : List Condition) → Spells text ms → ⊥))
 refused_is_none view text (Ok x) g = tt
 refused_is_none view text (Err kind) (inl memory) = λ other. absurd (other memory)
 refused_is_none view text (Err kind) (inr none) = λ other. (none.0, λ ms s. none-some ms (sym none.1 ∙ list_is_read text ms s))
@@ -270,12 +269,12 @@ refused_is_none view text (Err kind) (inr none) = λ other. (none.0, λ ms s. no
 name_is_some : (name : List ℕ) → is_name name ≡ true → name ≢ []
 name_is_some name h e = false≢true (rw e at h)
 
-each_named : (ps : List (List ℕ)) (ss : List Spelled) → AllZip SpellsOne ps (conditions_of ss) → AllByRecursion (λ (s : Spelled). string_bytes s.name ≢ []) ss
+each_named : (ps : List (List ℕ)) (ss : List Condition) → AllZip SpellsOne ps ss → AllByRecursion (λ (s : Condition). s.name ≢ []) ss
 each_named ps [] h = tt
 each_named [] (s ∷ ss) h = absurd h
-each_named (p ∷ ps) (s ∷ ss) h = (name_is_some (string_bytes s.name) h.0.name, each_named ps ss h.1)
+each_named (p ∷ ps) (s ∷ ss) h = (name_is_some (s.name) h.0.name, each_named ps ss h.1)
 
-pub ok_is_named : (text : List ℕ) (r : Result (Vec Spelled Global) Kind) → Gives (λ (list : Vec Spelled Global). conditions_of list.items) r (read_list text) → IfOk r (λ list. All (λ s. string_bytes s.name ≢ []) list.items)
+pub ok_is_named : (text : List ℕ) (r : Result (Vec Condition Global) Kind) → ReturnsReading (λ (list : Vec Condition Global). list.items) r (read_list text) → IfOk r (λ list. All (λ s. s.name ≢ []) list.items)
 ok_is_named text (Ok list) g =
-    All-from_recursion (λ (s : Spelled). string_bytes s.name ≢ []) list.items (each_named (pieces (without_closing (without_opening text))) list.items (list_is_spelled text (conditions_of list.items) g))
+    All-from_recursion (λ (s : Condition). s.name ≢ []) list.items (each_named (matcher_pieces (without_closing (without_opening text))) list.items (list_is_spelled text list.items g))
 ok_is_named text (Err kind) g = tt

@@ -14,18 +14,20 @@ use Rattle.std.proofs.lemmas.Bool.{cases_Bool, eqb-true, ne_eqb, eq-eqb, lt-ltb,
 use Rattle.std.proofs.lemmas.Bool.{false≢true, false_from_ne_true}
 use Rattle.std.proofs.lemmas.Bool.Decides.{nat_tests}
 use Rattle.regex_syntax.specs.Reading.{◌∈◌, begins}
-use Rattle.am_labels.specs.PatternProfile.{ClassContext, outside_class, inside_class, Piece, escape}
+use Rattle.am_labels.specs.declared.pattern_profile.ClassContext.{ClassContext}
+use Rattle.am_labels.specs.declared.pattern_profile.ClassContext.TheVariants.{OutsideClass, InsideClass}
+use Rattle.am_labels.specs.PatternProfile.{Piece, escape}
 use Rattle.am_labels.specs.PatternProfile.{braced_escape, open_escape, last_backslash, flags, count}
 use Rattle.am_labels.specs.PatternProfile.{brace, class_start, named_class, bracket, pair}
 use Rattle.am_labels.specs.PatternProfile.{class_end, plain, piece_text, takes_braces}
-use Rattle.am_labels.specs.PatternProfile.{has_no_closing, is_flag, is_number, is_upper}
+use Rattle.am_labels.specs.PatternProfile.{has_no_closing, is_flag, is_number, is_upper_bound}
 use Rattle.am_labels.specs.PatternProfile.{class_names, named_classes, begins_named_class}
 use Rattle.am_labels.specs.PatternProfile.{is_longest_start, is_plain_outside, is_plain_inside}
 use Rattle.am_labels.specs.PatternProfile.{StandsIn, context_after, is_refused_escape}
 use Rattle.am_labels.specs.PatternProfile.{is_refused_flag, is_refused}
 use Rattle.am_labels.specs.PatternCut.{step_to, step_by, up_to_brace, flag_run, digits_len}
 use Rattle.am_labels.specs.PatternCut.{begins_count, class_start_len, named_class_at, first_step}
-use Rattle.am_labels.specs.PatternCut.{unescaped_step, is_clean}
+use Rattle.am_labels.specs.PatternCut.{unescaped_step, has_no_refused_piece}
 use Rattle.am_labels.proofs.PatternCuts.{by_step, by_none}
 use Rattle.std.proofs.lemmas.List.Sums.{prefix_len-le-length}
 use Rattle.am_labels.proofs.MatcherTextLists.{prefix_whole, drop_prefix, take_prefix, all_of_prefix}
@@ -33,9 +35,9 @@ use Rattle.am_labels.proofs.MatcherTextLists.{prefix_whole, drop_prefix, take_pr
 -- a step to what is left
 stepped : (context : ClassContext) (c : ℕ) (t : List ℕ) (next : ClassContext) (width : ℕ)
     (rest : List ℕ) → first_step context (c ∷ t) ≡ step_to next width
-    → drop (width - 1) t ≡ rest → is_clean context (c ∷ t) ≡ is_clean next rest
+    → drop (width - 1) t ≡ rest → has_no_refused_piece context (c ∷ t) ≡ has_no_refused_piece next rest
 stepped context c t next width rest e left =
-    by_step context c t (record { width = width; next = next }) e ∙ ap (is_clean next) left
+    by_step context c t (record { width = width; next = next }) e ∙ ap (has_no_refused_piece next) left
 
 -- ---- Escapes.
 
@@ -48,7 +50,7 @@ escaped_step context d u o e = rw e refl
 
 clean_escape : (context : ClassContext) (d : ℕ) (u : List ℕ)
     → (takes_braces d && begins "{" u) ≡ false
-    → is_clean context (92 ∷ d ∷ u) ≡ cond (is_refused_escape d) false (is_clean context u)
+    → has_no_refused_piece context (92 ∷ d ∷ u) ≡ cond (is_refused_escape d) false (has_no_refused_piece context u)
 clean_escape context d u e = elim (cases_Bool (is_refused_escape d)) [
   | inl r ↦ rw r (by_none context 92 (d ∷ u) (escaped_step context d u None (rw r refl)))
   | inr f ↦
@@ -90,7 +92,7 @@ up_open inner h =
 
 clean_braced : (context : ClassContext) (d : ℕ) (inner rest : List ℕ) → takes_braces d ≡ true
     → has_no_closing inner ≡ true
-    → is_clean context (92 ∷ d ∷ 123 ∷ (inner ++ 125 ∷ rest)) ≡ is_clean context rest
+    → has_no_refused_piece context (92 ∷ d ∷ 123 ∷ (inner ++ 125 ∷ rest)) ≡ has_no_refused_piece context rest
 clean_braced context d inner rest h free =
     let n : ℕ = (1 + length inner) + 1 in
     let l = length-append inner (125 ∷ []) in
@@ -103,14 +105,14 @@ clean_braced context d inner rest h free =
     (rw (braces_escape d h, h, up_closed inner rest free) refl)) left
 
 clean_open : (context : ClassContext) (d : ℕ) (inner : List ℕ) → takes_braces d ≡ true
-    → has_no_closing inner ≡ true → is_clean context (92 ∷ d ∷ 123 ∷ inner) ≡ is_clean context []
+    → has_no_closing inner ≡ true → has_no_refused_piece context (92 ∷ d ∷ 123 ∷ inner) ≡ has_no_refused_piece context []
 clean_open context d inner h free =
     stepped context 92 (d ∷ 123 ∷ inner) context (2 + length (123 ∷ inner)) []
     (escaped_step context d (123 ∷ inner) (Some (2 + length (123 ∷ inner)))
     (rw (braces_escape d h, h, up_open inner free) refl))
     (drop_all (2 + length (123 ∷ inner) - 1) (d ∷ 123 ∷ inner) (omega arith))
 
-clean_last : (context : ClassContext) → is_clean context (92 ∷ []) ≡ is_clean context []
+clean_last : (context : ClassContext) → has_no_refused_piece context (92 ∷ []) ≡ has_no_refused_piece context []
 unfolding first_step unescaped_step
 clean_last context = stepped context 92 [] context 1 [] refl refl
 
@@ -144,18 +146,18 @@ group_test c rest h = elim (cases_Bool (c == 40)) [
 ]
 
 clean_plain_outside : (c : ℕ) (rest : List ℕ) → is_plain_outside c rest ≡ true
-    → is_clean outside_class (c ∷ rest) ≡ is_clean outside_class rest
+    → has_no_refused_piece OutsideClass (c ∷ rest) ≡ has_no_refused_piece OutsideClass rest
 unfolding first_step unescaped_step
 clean_plain_outside c rest h =
     let a = or_parts (c ∈ "\\{[") (c == 40 && begins "?" rest) (not-true _ h) in
     let b = or_parts (c == 92) ((c == 123) || (c == 91)) a.0 in
     let d = or_parts (c == 123) (c == 91) b.1 in
-    stepped outside_class c rest outside_class 1 rest
+    stepped OutsideClass c rest OutsideClass 1 rest
     (rw (flipped 92 c b.0, group_test c rest a.1, flipped 123 c d.0, flipped 91 c d.1) refl) refl
 
 -- characters that are plain wherever they stand
 clean_run : (p : ℕ → Bool) (run rest : List ℕ) → ((c : ℕ) → p c ≡ true → is_safe c ≡ true)
-    → list_all p run ≡ true → is_clean outside_class (run ++ rest) ≡ is_clean outside_class rest
+    → list_all p run ≡ true → has_no_refused_piece OutsideClass (run ++ rest) ≡ has_no_refused_piece OutsideClass rest
 clean_run p [] rest safe h = refl
 clean_run p (c ∷ run) rest safe h =
     let parts = and_parts (p c) (list_all p run) h in
@@ -165,13 +167,13 @@ clean_run p (c ∷ run) rest safe h =
 -- ---- Flags and counts.
 
 flags_step : (t : List ℕ) (b : Bool) → list_any is_refused_flag (flag_run t) ≡ b
-    → first_step outside_class (40 ∷ 63 ∷ t) ≡ cond b None (step_to outside_class 2)
+    → first_step OutsideClass (40 ∷ 63 ∷ t) ≡ cond b None (step_to OutsideClass 2)
 unfolding first_step unescaped_step
 flags_step t b e = rw e refl
 
 clean_flags : (run rest : List ℕ) → (list_all is_flag run && not (is_flag (get_or rest 0 0))) ≡ true
-    → is_clean outside_class (40 ∷ 63 ∷ (run ++ rest))
-    ≡ cond (list_any is_refused_flag run) false (is_clean outside_class rest)
+    → has_no_refused_piece OutsideClass (40 ∷ 63 ∷ (run ++ rest))
+    ≡ cond (list_any is_refused_flag run) false (has_no_refused_piece OutsideClass rest)
 clean_flags run rest h =
     let parts = and_parts (list_all is_flag run) (not (is_flag (get_or rest 0 0))) h in
     let same : list_any is_refused_flag (flag_run (run ++ rest)) ≡ list_any is_refused_flag run =
@@ -179,15 +181,15 @@ clean_flags run rest h =
     (take_prefix is_flag run rest parts.0 (not-true (is_flag (get_or rest 0 0)) parts.1)) in
     elim (cases_Bool (list_any is_refused_flag run)) [
       | inl r ↦
-          rw r (by_none outside_class 40 (63 ∷ (run ++ rest))
+          rw r (by_none OutsideClass 40 (63 ∷ (run ++ rest))
           (flags_step (run ++ rest) true (same ∙ r)))
       | inr f ↦
-          rw f (stepped outside_class 40 (63 ∷ (run ++ rest)) outside_class 2 (run ++ rest)
+          rw f (stepped OutsideClass 40 (63 ∷ (run ++ rest)) OutsideClass 2 (run ++ rest)
           (flags_step (run ++ rest) false (same ∙ f)) refl
           ∙ clean_run is_flag run rest flag_safe parts.0)
     ]
 
-pub upper_ends_digits : (more rest : List ℕ) → is_upper more ≡ true
+pub upper_ends_digits : (more rest : List ℕ) → is_upper_bound more ≡ true
     → is_ascii_digit (get_or (more ++ 125 ∷ rest) 0 0) ≡ false
 upper_ends_digits [] rest h = refl
 upper_ends_digits (c ∷ m) rest h =
@@ -199,17 +201,17 @@ ends_count after =
     let most = drop 1 after in
     begins "}" after || begins "," after && begins "}" (drop (digits_len most) most)
 
-upper_ends : (more rest : List ℕ) → is_upper more ≡ true → ends_count (more ++ 125 ∷ rest) ≡ true
+upper_ends : (more rest : List ℕ) → is_upper_bound more ≡ true → ends_count (more ++ 125 ∷ rest) ≡ true
 upper_ends [] rest h = refl
 upper_ends (c ∷ m) rest h =
     let parts = and_parts (c == 44) (list_all is_ascii_digit m) h in
     rw (eqb-true c 44 parts.0, drop_prefix is_ascii_digit m (125 ∷ rest) parts.1 refl) refl
 
 -- a count begins there
-pub count_begins : (least more rest : List ℕ) → (is_number least && is_upper more) ≡ true
+pub count_begins : (least more rest : List ℕ) → (is_number least && is_upper_bound more) ≡ true
     → begins_count (least ++ (more ++ 125 ∷ rest)) ≡ true
 count_begins least more rest h =
-    let parts = and_parts (is_number least) (is_upper more) h in
+    let parts = and_parts (is_number least) (is_upper_bound more) h in
     let number = and_parts (nat_lt 0 (length least)) (list_all is_ascii_digit least) parts.0 in
     let end = upper_ends_digits more rest parts.1 in
     rw (
@@ -222,24 +224,24 @@ count_begins least more rest h =
     (upper_ends more rest parts.1)
 
 brace_step : (t : List ℕ) (b : Bool) → begins_count t ≡ b
-    → first_step outside_class (123 ∷ t) ≡ cond b (step_to outside_class 1) None
+    → first_step OutsideClass (123 ∷ t) ≡ cond b (step_to OutsideClass 1) None
 unfolding first_step unescaped_step
 brace_step t b e = rw e refl
 
-clean_upper : (more rest : List ℕ) → is_upper more ≡ true
-    → is_clean outside_class (more ++ rest) ≡ is_clean outside_class rest
+clean_upper : (more rest : List ℕ) → is_upper_bound more ≡ true
+    → has_no_refused_piece OutsideClass (more ++ rest) ≡ has_no_refused_piece OutsideClass rest
 clean_upper [] rest h = refl
 clean_upper (c ∷ m) rest h =
     let parts = and_parts (c == 44) (list_all is_ascii_digit m) h in
     let comma : is_plain_outside c (m ++ rest) ≡ true = rw (eqb-true c 44 parts.0) refl in
     clean_plain_outside c (m ++ rest) comma ∙ clean_run is_ascii_digit m rest digit_safe parts.1
 
-clean_count : (least more rest : List ℕ) → (is_number least && is_upper more) ≡ true
-    → is_clean outside_class (123 ∷ (least ++ (more ++ 125 ∷ rest))) ≡ is_clean outside_class rest
+clean_count : (least more rest : List ℕ) → (is_number least && is_upper_bound more) ≡ true
+    → has_no_refused_piece OutsideClass (123 ∷ (least ++ (more ++ 125 ∷ rest))) ≡ has_no_refused_piece OutsideClass rest
 clean_count least more rest h =
-    let parts = and_parts (is_number least) (is_upper more) h in
+    let parts = and_parts (is_number least) (is_upper_bound more) h in
     let number = and_parts (nat_lt 0 (length least)) (list_all is_ascii_digit least) parts.0 in
-    stepped outside_class 123 (least ++ (more ++ 125 ∷ rest)) outside_class 1
+    stepped OutsideClass 123 (least ++ (more ++ 125 ∷ rest)) OutsideClass 1
     (least ++ (more ++ 125 ∷ rest)) (brace_step _ true (count_begins least more rest h)) refl
     ∙ clean_run is_ascii_digit least (more ++ 125 ∷ rest) digit_safe number.1
     ∙ clean_upper more (125 ∷ rest) parts.1
@@ -250,7 +252,7 @@ pub record CountAt (t : List ℕ) : Type 0 where
   pub least : List ℕ
   pub more : List ℕ
   pub after : List ℕ
-  pub is_count : (is_number least && is_upper more) ≡ true
+  pub is_count : (is_number least && is_upper_bound more) ≡ true
   pub whole : t ≡ least ++ (more ++ 125 ∷ after)
 
 pub begins_one : (x : ℕ) (t : List ℕ) → starts_with nat_eq t (x ∷ []) ≡ true → t ≡ x ∷ drop 1 t
@@ -295,10 +297,10 @@ count_at t h =
 
 -- any other brace
 clean_brace : (rest : List ℕ)
-    → ((least more after : List ℕ) → (is_number least && is_upper more) ≡ true
-    → rest ≢ least ++ (more ++ 125 ∷ after)) → is_clean outside_class (123 ∷ rest) ≡ false
+    → ((least more after : List ℕ) → (is_number least && is_upper_bound more) ≡ true
+    → rest ≢ least ++ (more ++ 125 ∷ after)) → has_no_refused_piece OutsideClass (123 ∷ rest) ≡ false
 clean_brace rest none =
-    by_none outside_class 123 rest
+    by_none OutsideClass 123 rest
     (brace_step rest false
     (false_from_ne_true (begins_count rest)
     (λ h. let t = count_at rest h in none t.least t.more t.after t.is_count t.whole)))
@@ -306,7 +308,7 @@ clean_brace rest none =
 -- ---- The beginning of a class.
 
 start_step : (t : List ℕ) (width : ℕ) → class_start_len (91 ∷ t) ≡ width
-    → first_step outside_class (91 ∷ t) ≡ step_to inside_class width
+    → first_step OutsideClass (91 ∷ t) ≡ step_to InsideClass width
 unfolding first_step unescaped_step
 start_step t width e = rw e refl
 
@@ -323,24 +325,24 @@ short_start (r ∷ rest) h =
 
 clean_start : (negated closing : Bool) (rest : List ℕ)
     → is_longest_start negated closing rest ≡ true
-    → is_clean outside_class (piece_text (class_start negated closing) ++ rest)
-    ≡ is_clean inside_class rest
+    → has_no_refused_piece OutsideClass (piece_text (class_start negated closing) ++ rest)
+    ≡ has_no_refused_piece InsideClass rest
 clean_start true true rest h =
-    stepped outside_class 91 (94 ∷ 93 ∷ rest) inside_class 3 rest
+    stepped OutsideClass 91 (94 ∷ 93 ∷ rest) InsideClass 3 rest
     (start_step (94 ∷ 93 ∷ rest) 3 refl) refl
 clean_start true false rest h =
-    stepped outside_class 91 (94 ∷ rest) inside_class 2 rest
+    stepped OutsideClass 91 (94 ∷ rest) InsideClass 2 rest
     (start_step (94 ∷ rest) 2 (rw (not-true (begins "]" rest) h) refl)) refl
 clean_start false true rest h =
-    stepped outside_class 91 (93 ∷ rest) inside_class 2 rest (start_step (93 ∷ rest) 2 refl) refl
+    stepped OutsideClass 91 (93 ∷ rest) InsideClass 2 rest (start_step (93 ∷ rest) 2 refl) refl
 clean_start false false rest h =
-    stepped outside_class 91 rest inside_class 1 rest
+    stepped OutsideClass 91 rest InsideClass 1 rest
     (start_step rest 1 (short_start rest (not-true (begins "^" rest || begins "]" rest) h))) refl
 
 -- ---- Inside a class.
 
 bracket_step : (t : List ℕ) (o : Option (List ℕ)) → named_class_at (91 ∷ t) ≡ o
-    → first_step inside_class (91 ∷ t) ≡ step_by inside_class (option_map length o)
+    → first_step InsideClass (91 ∷ t) ≡ step_by InsideClass (option_map length o)
 unfolding first_step unescaped_step
 bracket_step t o e = rw e refl
 
@@ -352,9 +354,9 @@ none_found test (x ∷ xs) h =
     rw (parts.0) (none_found test xs parts.1)
 
 clean_bracket : (rest : List ℕ) → begins_named_class (91 ∷ rest) ≡ false
-    → is_clean inside_class (91 ∷ rest) ≡ false
+    → has_no_refused_piece InsideClass (91 ∷ rest) ≡ false
 clean_bracket rest h =
-    by_none inside_class 91 rest
+    by_none InsideClass 91 rest
     (bracket_step rest None
     (none_found (λ named. starts_with nat_eq (91 ∷ rest) named) named_classes h))
 
@@ -394,17 +396,17 @@ found_first named h =
     (All-from_recursion IsFoundFirst named_classes each_found) h
 
 clean_named : (named rest : List ℕ) → Contains named_classes named
-    → is_clean inside_class (named ++ rest) ≡ is_clean inside_class rest
+    → has_no_refused_piece InsideClass (named ++ rest) ≡ has_no_refused_piece InsideClass rest
 clean_named named rest h =
     let found = found_first named h rest in
     let t : List ℕ = drop 1 (named ++ rest) in
     let at : named_class_at (91 ∷ t) ≡ Some named = ap named_class_at (sym found.1) ∙ found.0 in
-    ap (is_clean inside_class) found.1
-    ∙ stepped inside_class 91 t inside_class (length named) rest
+    ap (has_no_refused_piece InsideClass) found.1
+    ∙ stepped InsideClass 91 t InsideClass (length named) rest
     (bracket_step t (Some named) at) found.2
 
 pair_step : (c : ℕ) (rest : List ℕ) → (c ∈ "&-~") ≡ true
-    → first_step inside_class (c ∷ c ∷ rest) ≡ None
+    → first_step InsideClass (c ∷ c ∷ rest) ≡ None
 unfolding first_step unescaped_step
 pair_step c rest h = elim (cases_Bool (c == 38)) [
   | inl e ↦ rw (eqb-true c 38 e) refl
@@ -430,7 +432,7 @@ not_twice : (c : ℕ) (rest : List ℕ) → (c ∈ "&-~" && get_or rest 0 0 == c
 not_twice c rest h among = rw among at h
 
 clean_plain_inside : (c : ℕ) (rest : List ℕ) → is_plain_inside c rest ≡ true
-    → is_clean inside_class (c ∷ rest) ≡ is_clean inside_class rest
+    → has_no_refused_piece InsideClass (c ∷ rest) ≡ has_no_refused_piece InsideClass rest
 unfolding first_step unescaped_step
 clean_plain_inside c rest h =
     let a = or_parts (c ∈ "\\[]") (c ∈ "&-~" && get_or rest 0 0 == c) (not-true _ h) in
@@ -444,45 +446,45 @@ clean_plain_inside c rest h =
     let tilde : starts_with nat_eq (c ∷ rest) (126 ∷ 126 ∷ []) ≡ false =
     no_pair 126 c rest (omega arith)
     (λ e. not_twice c rest a.1 (or_right (c == 38) _ (or_right (c == 45) (c == 126) e))) in
-    stepped inside_class c rest inside_class 1 rest
+    stepped InsideClass c rest InsideClass 1 rest
     (rw (flipped 92 c b.0, flipped 91 c d.0, amp, dash, tilde, flipped 93 c d.1) refl) refl
 
-clean_class_end : (rest : List ℕ) → is_clean inside_class (93 ∷ rest) ≡ is_clean outside_class rest
+clean_class_end : (rest : List ℕ) → has_no_refused_piece InsideClass (93 ∷ rest) ≡ has_no_refused_piece OutsideClass rest
 unfolding first_step unescaped_step
-clean_class_end rest = stepped inside_class 93 rest outside_class 1 rest refl refl
+clean_class_end rest = stepped InsideClass 93 rest OutsideClass 1 rest refl refl
 
 -- ---- Any piece.
 
 pub cut_off : (piece : Piece) (context : ClassContext) (rest : List ℕ) → StandsIn context piece rest
-    → is_clean context (piece_text piece ++ rest)
-    ≡ cond (is_refused piece) false (is_clean (context_after context piece) rest)
+    → has_no_refused_piece context (piece_text piece ++ rest)
+    ≡ cond (is_refused piece) false (has_no_refused_piece (context_after context piece) rest)
 cut_off (escape c) context rest h = clean_escape context c rest h
 cut_off (braced_escape c inner) context rest h =
     let parts = and_parts (takes_braces c) (has_no_closing inner) h in
-    ap (λ t. is_clean context (92 ∷ c ∷ 123 ∷ t)) (append_assoc inner (125 ∷ []) rest)
+    ap (λ t. has_no_refused_piece context (92 ∷ c ∷ 123 ∷ t)) (append_assoc inner (125 ∷ []) rest)
     ∙ clean_braced context c inner rest parts.0 parts.1
 cut_off (open_escape c inner) context rest h =
     let parts = and_parts (takes_braces c) (has_no_closing inner) h.0 in
     rw (h.1, append-nil inner) (clean_open context c inner parts.0 parts.1)
 cut_off last_backslash context rest h = rw h (clean_last context)
-cut_off (flags run) outside_class rest h = clean_flags run rest h
-cut_off (flags run) inside_class rest h = absurd h
-cut_off (count least more) outside_class rest h =
-    ap (λ t. is_clean outside_class (123 ∷ t))
+cut_off (flags run) OutsideClass rest h = clean_flags run rest h
+cut_off (flags run) InsideClass rest h = absurd h
+cut_off (count least more) OutsideClass rest h =
+    ap (λ t. has_no_refused_piece OutsideClass (123 ∷ t))
     (append_assoc least (more ++ 125 ∷ []) rest ∙ ap (λ t. least ++ t)
     (append_assoc more (125 ∷ []) rest)) ∙ clean_count least more rest h
-cut_off (count least more) inside_class rest h = absurd h
-cut_off brace outside_class rest h = clean_brace rest h
-cut_off brace inside_class rest h = absurd h
-cut_off (class_start negated closing) outside_class rest h = clean_start negated closing rest h
-cut_off (class_start negated closing) inside_class rest h = absurd h
-cut_off (named_class text) outside_class rest h = absurd h
-cut_off (named_class text) inside_class rest h = clean_named text rest h
-cut_off bracket outside_class rest h = absurd h
-cut_off bracket inside_class rest h = clean_bracket rest h
-cut_off (pair c) outside_class rest h = absurd h
-cut_off (pair c) inside_class rest h = by_none inside_class c (c ∷ rest) (pair_step c rest h)
-cut_off class_end outside_class rest h = absurd h
-cut_off class_end inside_class rest h = clean_class_end rest
-cut_off (plain c) outside_class rest h = clean_plain_outside c rest h
-cut_off (plain c) inside_class rest h = clean_plain_inside c rest h
+cut_off (count least more) InsideClass rest h = absurd h
+cut_off brace OutsideClass rest h = clean_brace rest h
+cut_off brace InsideClass rest h = absurd h
+cut_off (class_start negated closing) OutsideClass rest h = clean_start negated closing rest h
+cut_off (class_start negated closing) InsideClass rest h = absurd h
+cut_off (named_class text) OutsideClass rest h = absurd h
+cut_off (named_class text) InsideClass rest h = clean_named text rest h
+cut_off bracket OutsideClass rest h = absurd h
+cut_off bracket InsideClass rest h = clean_bracket rest h
+cut_off (pair c) OutsideClass rest h = absurd h
+cut_off (pair c) InsideClass rest h = by_none InsideClass c (c ∷ rest) (pair_step c rest h)
+cut_off class_end OutsideClass rest h = absurd h
+cut_off class_end InsideClass rest h = clean_class_end rest
+cut_off (plain c) OutsideClass rest h = clean_plain_outside c rest h
+cut_off (plain c) InsideClass rest h = clean_plain_inside c rest h

@@ -8,16 +8,18 @@ use Rattle.std.proofs.lemmas.List.{append_assoc, append-nil, length-append, take
 use Rattle.std.proofs.lemmas.Bool.{and_parts, and_from, cases_Bool, eqb-true, not-true}
 use Rattle.std.proofs.lemmas.Bool.{not_from_false, false≢true}
 use Rattle.regex_syntax.specs.Reading.{◌∈◌, begins}
-use Rattle.am_labels.specs.PatternProfile.{ClassContext, outside_class, inside_class, Piece, escape}
+use Rattle.am_labels.specs.declared.pattern_profile.ClassContext.{ClassContext}
+use Rattle.am_labels.specs.declared.pattern_profile.ClassContext.TheVariants.{OutsideClass, InsideClass}
+use Rattle.am_labels.specs.PatternProfile.{Piece, escape}
 use Rattle.am_labels.specs.PatternProfile.{braced_escape, open_escape, last_backslash, flags, count}
 use Rattle.am_labels.specs.PatternProfile.{brace, class_start, named_class, bracket, pair}
 use Rattle.am_labels.specs.PatternProfile.{class_end, plain, piece_text, takes_braces}
-use Rattle.am_labels.specs.PatternProfile.{has_no_closing, is_flag, is_number, is_upper}
+use Rattle.am_labels.specs.PatternProfile.{has_no_closing, is_flag, is_number, is_upper_bound}
 use Rattle.am_labels.specs.PatternProfile.{named_classes, begins_named_class}
 use Rattle.am_labels.specs.PatternProfile.{StandsIn, context_after, is_refused}
 use Rattle.am_labels.specs.PatternProfile.{Stand, IsJoinOf, IsInProfile}
-use Rattle.am_labels.specs.PatternCut.{begins_count, is_clean, in_profile}
-use Rattle.am_labels.proofs.PatternCuts.{is_clean-nil}
+use Rattle.am_labels.specs.PatternCut.{begins_count, has_no_refused_piece, in_profile}
+use Rattle.am_labels.proofs.PatternCuts.{has_no_refused_piece-nil}
 use Rattle.am_labels.proofs.PatternForms.{count_at, count_begins, begins_one, found_first}
 use Rattle.am_labels.proofs.PatternForms.{cut_off}
 use Rattle.am_labels.proofs.MatcherTextLists.{all_of_prefix, first_after_prefix}
@@ -83,7 +85,7 @@ escape_front context (d ∷ u) = elim (cases_Bool (takes_braces d && begins "{" 
   | inr alone ↦ record { piece = escape d; rest = u; whole = refl; stands = alone }
 ]
 
-flags_front : (t : List ℕ) → Front outside_class (40 ∷ 63 ∷ t)
+flags_front : (t : List ℕ) → Front OutsideClass (40 ∷ 63 ∷ t)
 flags_front t =
     let run : List ℕ = take (prefix_len is_flag t) t in
     let rest : List ℕ = drop (prefix_len is_flag t) t in
@@ -97,11 +99,11 @@ flags_front t =
     }
 
 no_count : (t : List ℕ) → begins_count t ≡ false → (least more after : List ℕ)
-    → (is_number least && is_upper more) ≡ true → t ≡ least ++ (more ++ 125 ∷ after) → ⊥
+    → (is_number least && is_upper_bound more) ≡ true → t ≡ least ++ (more ++ 125 ∷ after) → ⊥
 no_count t none least more after h e =
     false≢true (sym none ∙ ap begins_count e ∙ count_begins least more after h)
 
-brace_front : (t : List ℕ) → Front outside_class (123 ∷ t)
+brace_front : (t : List ℕ) → Front OutsideClass (123 ∷ t)
 brace_front t = elim (cases_Bool (begins_count t)) [
   | inl here ↦
       let c = count_at t here in
@@ -116,7 +118,7 @@ brace_front t = elim (cases_Bool (begins_count t)) [
   | inr other ↦ record { piece = brace; rest = t; whole = refl; stands = no_count t other }
 ]
 
-start_behind : (t : List ℕ) → Front outside_class (91 ∷ 94 ∷ t)
+start_behind : (t : List ℕ) → Front OutsideClass (91 ∷ 94 ∷ t)
 start_behind [] = record { piece = class_start true false; rest = []; whole = refl; stands = refl }
 start_behind (r ∷ t) = elim (cases_Bool (93 == r)) [
   | inl e ↦ record {
@@ -133,10 +135,10 @@ start_behind (r ∷ t) = elim (cases_Bool (93 == r)) [
   }
 ]
 
-start_front : (t : List ℕ) → Front outside_class (91 ∷ t)
+start_front : (t : List ℕ) → Front OutsideClass (91 ∷ t)
 start_front [] = record { piece = class_start false false; rest = []; whole = refl; stands = refl }
 start_front (r ∷ t) = elim (cases_Bool (94 == r)) [
-  | inl e ↦ subst (λ (x : ℕ). Front outside_class (91 ∷ x ∷ t)) (eqb-true 94 r e) (start_behind t)
+  | inl e ↦ subst (λ (x : ℕ). Front OutsideClass (91 ∷ x ∷ t)) (eqb-true 94 r e) (start_behind t)
   | inr f ↦ elim (cases_Bool (93 == r)) [
     | inl e ↦ record {
       piece = class_start false true;
@@ -158,18 +160,18 @@ at_first : (context : ClassContext) (x c : ℕ) (t : List ℕ) → (c == x) ≡ 
     → Front context (c ∷ t)
 at_first context x c t e f = subst (λ (d : ℕ). Front context (d ∷ t)) (sym (eqb-true c x e)) f
 
-outside_front : (c : ℕ) (t : List ℕ) → Front outside_class (c ∷ t)
+outside_front : (c : ℕ) (t : List ℕ) → Front OutsideClass (c ∷ t)
 outside_front c t = elim (cases_Bool (c == 92)) [
-  | inl e ↦ at_first outside_class 92 c t e (escape_front outside_class t)
+  | inl e ↦ at_first OutsideClass 92 c t e (escape_front OutsideClass t)
   | inr backslash ↦ elim (cases_Bool (c == 123)) [
-    | inl e ↦ at_first outside_class 123 c t e (brace_front t)
+    | inl e ↦ at_first OutsideClass 123 c t e (brace_front t)
     | inr not_brace ↦ elim (cases_Bool (c == 91)) [
-      | inl e ↦ at_first outside_class 91 c t e (start_front t)
+      | inl e ↦ at_first OutsideClass 91 c t e (start_front t)
       | inr not_bracket ↦ elim (cases_Bool (c == 40 && begins "?" t)) [
         | inl group ↦
             let parts = and_parts (c == 40) (begins "?" t) group in
-            at_first outside_class 40 c t parts.0
-            (subst (λ (u : List ℕ). Front outside_class (40 ∷ u)) (sym (begins_one 63 t parts.1))
+            at_first OutsideClass 40 c t parts.0
+            (subst (λ (u : List ℕ). Front OutsideClass (40 ∷ u)) (sym (begins_one 63 t parts.1))
             (flags_front (drop 1 t)))
         | inr none ↦ record {
           piece = plain c;
@@ -200,7 +202,7 @@ any_of test (y ∷ ys) h = elim (cases_Bool (test y)) [
       (later.0, (suc later.1.0, omega (arith, later.1.1), later.1.2), later.2)
 ]
 
-bracket_front : (t : List ℕ) → Front inside_class (91 ∷ t)
+bracket_front : (t : List ℕ) → Front InsideClass (91 ∷ t)
 bracket_front t = elim (cases_Bool (begins_named_class (91 ∷ t))) [
   | inl here ↦
       let named = any_of (λ named. starts_with nat_eq (91 ∷ t) named) named_classes here in
@@ -218,14 +220,14 @@ twice c [] among e =
     absurd (false≢true (subst (λ (d : ℕ). (d ∈ "&-~") ≡ true) (sym (eqb-true 0 c e)) among))
 twice c (d ∷ t) among e = ap (λ x. x ∷ t) (eqb-true d c e)
 
-inside_front : (c : ℕ) (t : List ℕ) → Front inside_class (c ∷ t)
+inside_front : (c : ℕ) (t : List ℕ) → Front InsideClass (c ∷ t)
 inside_front c t = elim (cases_Bool (c == 92)) [
-  | inl e ↦ at_first inside_class 92 c t e (escape_front inside_class t)
+  | inl e ↦ at_first InsideClass 92 c t e (escape_front InsideClass t)
   | inr backslash ↦ elim (cases_Bool (c == 91)) [
-    | inl e ↦ at_first inside_class 91 c t e (bracket_front t)
+    | inl e ↦ at_first InsideClass 91 c t e (bracket_front t)
     | inr not_bracket ↦ elim (cases_Bool (c == 93)) [
       | inl e ↦
-          at_first inside_class 93 c t e (record {
+          at_first InsideClass 93 c t e (record {
             piece = class_end;
             rest = t;
             whole = refl;
@@ -252,8 +254,8 @@ inside_front c t = elim (cases_Bool (c == 92)) [
 ]
 
 front : (context : ClassContext) (c : ℕ) (t : List ℕ) → Front context (c ∷ t)
-front outside_class c t = outside_front c t
-front inside_class c t = inside_front c t
+front OutsideClass c t = outside_front c t
+front InsideClass c t = inside_front c t
 
 -- ---- All pieces of a text.
 
@@ -268,8 +270,8 @@ some_text context (flags run) rest h = omega arith
 some_text context (count least more) rest h = omega arith
 some_text context brace rest h = omega arith
 some_text context (class_start negated closing) rest h = omega arith
-some_text outside_class (named_class text) rest h = absurd h
-some_text inside_class (named_class text) rest h = omega (arith, (found_first text h []).3)
+some_text OutsideClass (named_class text) rest h = absurd h
+some_text InsideClass (named_class text) rest h = omega (arith, (found_first text h []).3)
 some_text context bracket rest h = omega arith
 some_text context (pair c) rest h = omega arith
 some_text context class_end rest h = omega arith
@@ -298,7 +300,7 @@ joined_within (suc n) context (c ∷ t) le =
 
 pub each_is_join : (pattern : List ℕ) → (pieces : List Piece) × IsJoinOf pattern pieces
 each_is_join pattern =
-    let whole = joined_within (length pattern) outside_class pattern (omega arith) in
+    let whole = joined_within (length pattern) OutsideClass pattern (omega arith) in
     (whole.pieces, record { join = whole.join; stand = whole.stand })
 
 -- ---- Whether one of them is refused.
@@ -308,8 +310,8 @@ clean_by true c = refl
 clean_by false c = refl
 
 clean_join : (context : ClassContext) (pieces : List Piece) → Stand context pieces
-    → is_clean context (flat_map piece_text pieces) ≡ not (list_any is_refused pieces)
-clean_join context [] s = is_clean-nil context
+    → has_no_refused_piece context (flat_map piece_text pieces) ≡ not (list_any is_refused pieces)
+clean_join context [] s = has_no_refused_piece-nil context
 clean_join context (piece ∷ pieces) s =
     cut_off piece context (flat_map piece_text pieces) s.0
     ∙ ap (cond (is_refused piece) false) (clean_join (context_after context piece) pieces s.1)
@@ -318,7 +320,7 @@ clean_join context (piece ∷ pieces) s =
 clean_pattern : (pattern : List ℕ) (pieces : List Piece) → IsJoinOf pattern pieces
     → in_profile pattern ≡ not (list_any is_refused pieces)
 clean_pattern pattern pieces j =
-    ap (is_clean outside_class) j.join ∙ clean_join outside_class pieces j.stand
+    ap (has_no_refused_piece OutsideClass) j.join ∙ clean_join OutsideClass pieces j.stand
 
 pub profile_is_decided : (pattern : List ℕ) → IsInProfile pattern ↔ IsTrue (in_profile pattern)
 profile_is_decided pattern = (

@@ -10,11 +10,13 @@ use Rattle.std.proofs.lemmas.Bool.{and_parts, or_parts, cases_Bool, eqb-true, no
 use Rattle.std.proofs.lemmas.Bool.{false_from_ne_true}
 use Rattle.std.proofs.lemmas.Bool.Decides.{nat_tests}
 use Rattle.regex_syntax.specs.Reading.{◌∈◌, begins}
-use Rattle.am_labels.specs.PatternProfile.{ClassContext, outside_class, inside_class, Piece, escape}
+use Rattle.am_labels.specs.declared.pattern_profile.ClassContext.{ClassContext}
+use Rattle.am_labels.specs.declared.pattern_profile.ClassContext.TheVariants.{OutsideClass, InsideClass}
+use Rattle.am_labels.specs.PatternProfile.{Piece, escape}
 use Rattle.am_labels.specs.PatternProfile.{braced_escape, open_escape, last_backslash, flags, count}
 use Rattle.am_labels.specs.PatternProfile.{brace, class_start, named_class, bracket, pair}
 use Rattle.am_labels.specs.PatternProfile.{class_end, plain, piece_text, takes_braces}
-use Rattle.am_labels.specs.PatternProfile.{has_no_closing, is_flag, is_number, is_upper}
+use Rattle.am_labels.specs.PatternProfile.{has_no_closing, is_flag, is_number, is_upper_bound}
 use Rattle.am_labels.specs.PatternProfile.{named_classes, is_longest_start, is_plain_outside}
 use Rattle.am_labels.specs.PatternProfile.{is_plain_inside, StandsIn, context_after, Stand}
 use Rattle.am_labels.specs.PatternProfile.{IsJoinOf}
@@ -55,11 +57,11 @@ named_piece (Some named) = named_class named
 
 abbrev front_piece : ClassContext → List ℕ → Piece
 front_piece context [] = last_backslash
-front_piece outside_class (c ∷ t) =
+front_piece OutsideClass (c ∷ t) =
     cond (c == 92) (escape_piece t)
     (cond (c == 40 && begins "?" t) (flags (flag_run (drop 1 t)))
     (cond (c == 123) (count_piece t) (cond (c == 91) (start_piece t) (plain c))))
-front_piece inside_class (c ∷ t) =
+front_piece InsideClass (c ∷ t) =
     cond (c == 92) (escape_piece t)
     (cond (c == 91) (named_piece (named_class_at (c ∷ t)))
     (cond (c == 93) class_end (cond (c ∈ "&-~" && get_or t 0 0 == c) (pair c) (plain c))))
@@ -67,8 +69,8 @@ front_piece inside_class (c ∷ t) =
 -- ---- Each piece is the one at the front of its text.
 
 at_backslash : (context : ClassContext) (t : List ℕ) → front_piece context (92 ∷ t) ≡ escape_piece t
-at_backslash outside_class t = refl
-at_backslash inside_class t = refl
+at_backslash OutsideClass t = refl
+at_backslash InsideClass t = refl
 
 closing_after : (inner rest : List ℕ) → has_no_closing (inner ++ 125 ∷ rest) ≡ false
 closing_after [] rest = refl
@@ -99,16 +101,16 @@ digits_free (c ∷ n) h =
     let parts = and_parts (is_ascii_digit c) (list_all is_ascii_digit n) h in
     rw (digit_no_closing c parts.0) (digits_free n parts.1)
 
-upper_free : (more : List ℕ) → is_upper more ≡ true → has_no_closing more ≡ true
+upper_free : (more : List ℕ) → is_upper_bound more ≡ true → has_no_closing more ≡ true
 upper_free [] h = refl
 upper_free (c ∷ m) h =
     let parts = and_parts (c == 44) (list_all is_ascii_digit m) h in
     rw (eqb-true c 44 parts.0) (digits_free m parts.1)
 
-at_count : (least more rest : List ℕ) → (is_number least && is_upper more) ≡ true
+at_count : (least more rest : List ℕ) → (is_number least && is_upper_bound more) ≡ true
     → count_piece (least ++ (more ++ 125 ∷ rest)) ≡ count least more
 at_count least more rest h =
-    let parts = and_parts (is_number least) (is_upper more) h in
+    let parts = and_parts (is_number least) (is_upper_bound more) h in
     let digits = (and_parts _ (list_all is_ascii_digit least) parts.0).1 in
     let end = upper_ends_digits more rest parts.1 in
     rw (
@@ -130,7 +132,7 @@ short_front (r ∷ rest) h =
     rw hat (rw parts.1 refl)
 
 at_start : (negated closing : Bool) (rest : List ℕ) → is_longest_start negated closing rest ≡ true
-    → front_piece outside_class (piece_text (class_start negated closing) ++ rest)
+    → front_piece OutsideClass (piece_text (class_start negated closing) ++ rest)
     ≡ class_start negated closing
 at_start true true rest h = refl
 at_start true false rest h = rw (not-true (begins "]" rest) h) refl
@@ -138,7 +140,7 @@ at_start false true rest h = refl
 at_start false false rest h = short_front rest (not-true (begins "^" rest || begins "]" rest) h)
 
 at_plain_outside : (c : ℕ) (rest : List ℕ) → is_plain_outside c rest ≡ true
-    → front_piece outside_class (c ∷ rest) ≡ plain c
+    → front_piece OutsideClass (c ∷ rest) ≡ plain c
 at_plain_outside c rest h =
     let a = or_parts (c ∈ "\\{[") (c == 40 && begins "?" rest) (not-true _ h) in
     let b = or_parts (c == 92) ((c == 123) || (c == 91)) a.0 in
@@ -146,7 +148,7 @@ at_plain_outside c rest h =
     rw (b.0, d.0, d.1) (rw a.1 refl)
 
 at_plain_inside : (c : ℕ) (rest : List ℕ) → is_plain_inside c rest ≡ true
-    → front_piece inside_class (c ∷ rest) ≡ plain c
+    → front_piece InsideClass (c ∷ rest) ≡ plain c
 at_plain_inside c rest h =
     let a = or_parts (c ∈ "\\[]") (c ∈ "&-~" && get_or rest 0 0 == c) (not-true _ h) in
     let b = or_parts (c == 92) ((c == 91) || (c == 93)) a.0 in
@@ -154,7 +156,7 @@ at_plain_inside c rest h =
     rw (b.0, d.0, d.1) (rw a.1 refl)
 
 at_pair : (c : ℕ) (rest : List ℕ) → (c ∈ "&-~") ≡ true
-    → front_piece inside_class (c ∷ c ∷ rest) ≡ pair c
+    → front_piece InsideClass (c ∷ c ∷ rest) ≡ pair c
 at_pair c rest h = elim (cases_Bool (c == 38)) [
   | inl e ↦ rw (eqb-true c 38 e) refl
   | inr f ↦ elim (cases_Bool (c == 45)) [
@@ -164,9 +166,9 @@ at_pair c rest h = elim (cases_Bool (c == 38)) [
 ]
 
 at_named : (named rest : List ℕ) (t : List ℕ) → named_class_at (named ++ rest) ≡ Some named
-    → named ++ rest ≡ 91 ∷ t → front_piece inside_class (named ++ rest) ≡ named_class named
+    → named ++ rest ≡ 91 ∷ t → front_piece InsideClass (named ++ rest) ≡ named_class named
 at_named named rest t found e =
-    ap (front_piece inside_class) e ∙ ap named_piece (ap named_class_at (sym e) ∙ found)
+    ap (front_piece InsideClass) e ∙ ap named_piece (ap named_class_at (sym e) ∙ found)
 
 pub front_is : (piece : Piece) (context : ClassContext) (rest : List ℕ)
     → StandsIn context piece rest → front_piece context (piece_text piece ++ rest) ≡ piece
@@ -180,35 +182,35 @@ front_is (open_escape c inner) context rest h =
     let parts = and_parts (takes_braces c) (has_no_closing inner) h.0 in
     at_backslash context _ ∙ rw (h.1, append-nil inner) (at_open c inner parts.0 parts.1)
 front_is last_backslash context rest h = at_backslash context rest ∙ rw h refl
-front_is (flags run) outside_class rest h =
+front_is (flags run) OutsideClass rest h =
     let parts = and_parts (list_all is_flag run) (not (is_flag (get_or rest 0 0))) h in
     ap flags (take_prefix is_flag run rest parts.0 (not-true (is_flag (get_or rest 0 0)) parts.1))
-front_is (flags run) inside_class rest h = absurd h
-front_is (count least more) outside_class rest h =
+front_is (flags run) InsideClass rest h = absurd h
+front_is (count least more) OutsideClass rest h =
     ap count_piece
     (append_assoc least (more ++ 125 ∷ []) rest ∙ ap (λ t. least ++ t)
     (append_assoc more (125 ∷ []) rest)) ∙ at_count least more rest h
-front_is (count least more) inside_class rest h = absurd h
-front_is brace outside_class rest h =
+front_is (count least more) InsideClass rest h = absurd h
+front_is brace OutsideClass rest h =
     let none =
     false_from_ne_true (begins_count rest)
     (λ b. let t = count_at rest b in h t.least t.more t.after t.is_count t.whole) in
     rw none refl
-front_is brace inside_class rest h = absurd h
-front_is (class_start negated closing) outside_class rest h = at_start negated closing rest h
-front_is (class_start negated closing) inside_class rest h = absurd h
-front_is (named_class text) outside_class rest h = absurd h
-front_is (named_class text) inside_class rest h =
+front_is brace InsideClass rest h = absurd h
+front_is (class_start negated closing) OutsideClass rest h = at_start negated closing rest h
+front_is (class_start negated closing) InsideClass rest h = absurd h
+front_is (named_class text) OutsideClass rest h = absurd h
+front_is (named_class text) InsideClass rest h =
     let found = found_first text h rest in
     at_named text rest _ found.0 found.1
-front_is bracket outside_class rest h = absurd h
-front_is bracket inside_class rest h = ap named_piece (none_found _ named_classes h)
-front_is (pair c) outside_class rest h = absurd h
-front_is (pair c) inside_class rest h = at_pair c rest h
-front_is class_end outside_class rest h = absurd h
-front_is class_end inside_class rest h = refl
-front_is (plain c) outside_class rest h = at_plain_outside c rest h
-front_is (plain c) inside_class rest h = at_plain_inside c rest h
+front_is bracket OutsideClass rest h = absurd h
+front_is bracket InsideClass rest h = ap named_piece (none_found _ named_classes h)
+front_is (pair c) OutsideClass rest h = absurd h
+front_is (pair c) InsideClass rest h = at_pair c rest h
+front_is class_end OutsideClass rest h = absurd h
+front_is class_end InsideClass rest h = refl
+front_is (plain c) OutsideClass rest h = at_plain_outside c rest h
+front_is (plain c) InsideClass rest h = at_plain_inside c rest h
 
 -- ---- So are all pieces.
 
@@ -239,4 +241,4 @@ same_pieces context (p ∷ a) (q ∷ b) s t e =
 
 pub one_join : (pattern : List ℕ) (a b : List Piece) → IsJoinOf pattern a → IsJoinOf pattern b
     → a ≡ b
-one_join pattern a b j k = same_pieces outside_class a b j.stand k.stand (sym j.join ∙ k.join)
+one_join pattern a b j k = same_pieces OutsideClass a b j.stand k.stand (sym j.join ∙ k.join)

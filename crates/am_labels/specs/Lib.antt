@@ -1,6 +1,6 @@
+pub mod Words
 pub mod PatternProfile
 pub mod PatternCut
-pub mod PatternSteps
 pub mod Pattern
 pub mod PatternView
 pub mod Matcher
@@ -8,6 +8,6 @@ pub mod MatcherText
 pub mod QuoteState
 pub mod MatcherReading
 pub mod MatcherRefusals
-pub mod SetReading
+pub mod ParsedLabelSet
 pub mod BraceToken
 pub mod Row

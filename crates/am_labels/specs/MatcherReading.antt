@@ -1,85 +1,87 @@
--- Reading a matcher text step by step, as a function: the list that is spelled, or nothing. What counts is the relation that it
--- decides, `Spells`.
-use Rattle.std.specs.Prelude.{◌≡◌, ℕ, ◌+◌, ◌-◌, List, [], ◌∷◌, length, take, drop, slice_index, ◌==◌, if◌then◌else◌, Option, Some, None, ◌⊎◌, Result, Ok, Err, string_bytes, map}
+-- Reading a matcher text step by step, as a function: the list that is spelled, or nothing. It
+-- serves proofs; what counts is the relation that it decides, `Spells`.
+use Rattle.std.specs.Prelude.{◌≡◌, ℕ, ◌+◌, ◌-◌, List, [], ◌∷◌, length, take, drop, slice_index}
+use Rattle.std.specs.Prelude.{◌==◌, if◌then◌else◌, Option, Some, None, ◌⊎◌, Result, Ok, Err}
 use Rattle.std.specs.Option.{option_and_then}
 use Rattle.std.specs.List.{range_with_len, prefix_len, suffix_len, position_or_len}
+use Rattle.am_universe.specs.Bytes.{double_quote, equals_sign, exclamation_mark, tilde}
 use Rattle.am_universe.specs.declared.kind.Kind.{Kind}
 use Rattle.am_universe.specs.declared.kind.Kind.TheVariants.{Memory, BadMatcher}
 use Rattle.am_labels.specs.declared.op.Op.{Op}
 use Rattle.am_labels.specs.declared.op.Op.TheVariants.{Equal, NotEqual, Matches, NotMatches}
-use Rattle.am_labels.specs.declared.matcher_text.Spelled.{Spelled}
 use Rattle.am_labels.specs.Matcher.{Condition}
-use Rattle.am_labels.specs.MatcherText.{is_space, begins_name, continues_name, is_quote, unescaped, pieces, without_opening, without_closing}
+use Rattle.am_labels.specs.MatcherText.{is_space, begins_name, continues_name, is_quote}
+use Rattle.am_labels.specs.MatcherText.{unescaped_text, matcher_pieces}
+use Rattle.am_labels.specs.MatcherText.{without_opening, without_closing}
 
 infixl 10 ◌>>=◌
--- what is read next, given what was read first; nothing where either reads nothing
+-- What is read next, given what was read first; nothing where either reads nothing.
 abbrev pub ◌>>=◌ : {A B : Type 0} → Option A → (A → Option B) → Option B
 o >>= f = option_and_then f o
 
--- A refusal is want of memory, or comes where reading gives nothing.
-abbrev pub Fails : {Y : Type 0} → Kind → Option Y → Type 0
-Fails kind read = (kind ≡ Memory) ⊎ ((kind ≡ BadMatcher) × (read ≡ None))
+-- A refusal comes where memory ran out, or where reading gives nothing.
+abbrev pub IsReadFailure : {Y : Type 0} → Kind → Option Y → Type 0
+IsReadFailure kind read = (kind ≡ Memory) ⊎ ((kind ≡ BadMatcher) × (read ≡ None))
 
--- What a function returned, seen by view, is what reading gives, unless memory ran out.
-abbrev pub Gives : {X Y : Type 0} → (X → Y) → Result X Kind → Option Y → Type 0
-Gives view (Ok x) read = read ≡ Some (view x)
-Gives view (Err kind) read = Fails kind read
+-- What a function returned, as `view` sees it, is what reading gives, unless memory ran out.
+abbrev pub ReturnsReading : {X Y : Type 0} → (X → Y) → Result X Kind → Option Y → Type 0
+ReturnsReading view (Ok x) read = read ≡ Some (view x)
+ReturnsReading view (Err kind) read = IsReadFailure kind read
 
--- a condition without where it lies in memory
-abbrev pub condition_of : Spelled → Condition
-condition_of s = record { name = string_bytes s.name; op = s.op; value = string_bytes s.value }
+-- A text without the whitespace at its beginning, and without that at its end.
+abbrev pub without_leading_blanks : List ℕ → List ℕ
+without_leading_blanks text = drop (prefix_len is_space text) text
 
--- the conditions of a list, in its order
-abbrev pub conditions_of : List Spelled → List Condition
-conditions_of ss = map condition_of ss
+abbrev pub without_trailing_blanks : List ℕ → List ℕ
+without_trailing_blanks text = take (length text - suffix_len is_space text) text
 
--- the text without the whitespace at its beginning
-abbrev pub trimmed_start : List ℕ → List ℕ
-trimmed_start text = drop (prefix_len is_space text) text
-
--- the text without the whitespace at its end
-abbrev pub trimmed_end : List ℕ → List ℕ
-trimmed_end text = take (length text - suffix_len is_space text) text
-
--- the place of the first quote that is not escaped, or the length
+-- The place of the first quote that is not escaped, or the length.
 abbrev pub first_quote : List ℕ → ℕ
 first_quote text = position_or_len (is_quote text) (range_with_len 0 (length text))
 
--- the body of a raw value
+-- The body of a raw value.
 unfoldable pub read_body : List ℕ → Option (List ℕ)
 read_body raw =
-    if slice_index raw 0 == 34 then (if first_quote (drop 1 raw) + 1 == length (drop 1 raw) then Some (take (length (drop 1 raw) - 1) (drop 1 raw)) else None)
+    if slice_index raw 0 == double_quote then
+    (if first_quote (drop 1 raw) + 1 == length (drop 1 raw)
+    then Some (take (length (drop 1 raw) - 1) (drop 1 raw))
+    else None)
     else (if first_quote raw == length raw then Some raw else None)
 
--- an operator, and what follows it
+-- An operator, and what follows it.
 unfoldable pub read_operator : List ℕ → Option (Op × List ℕ)
 read_operator text =
-    if slice_index text 0 == 61 then (if slice_index text 1 == 126 then Some (Matches, drop 2 text) else Some (Equal, drop 1 text))
-    else (if slice_index text 0 == 33 then (if slice_index text 1 == 61 then Some (NotEqual, drop 2 text)
-    else (if slice_index text 1 == 126 then Some (NotMatches, drop 2 text) else None)) else None)
+    if slice_index text 0 == equals_sign then
+    (if slice_index text 1 == tilde then Some (Matches, drop 2 text)
+    else Some (Equal, drop 1 text))
+    else (if slice_index text 0 == exclamation_mark then
+    (if slice_index text 1 == equals_sign then Some (NotEqual, drop 2 text)
+    else (if slice_index text 1 == tilde then Some (NotMatches, drop 2 text) else None))
+    else None)
 
--- a name, and what follows it
+-- A name, and what follows it.
 unfoldable pub read_name : List ℕ → Option (List ℕ × List ℕ)
 read_name text =
-    if begins_name (slice_index text 0) then Some (take (prefix_len continues_name text) text, drop (prefix_len continues_name text) text)
+    if begins_name (slice_index text 0) then
+    Some (take (prefix_len continues_name text) text, drop (prefix_len continues_name text) text)
     else None
 
--- the condition that a piece spells
+-- The condition that a piece spells.
 unfoldable pub read_piece : List ℕ → Option Condition
 read_piece piece = do
-  name ← read_name (trimmed_start piece)
-  op ← read_operator (trimmed_start name.1)
-  body ← read_body (trimmed_end (trimmed_start op.1))
-  Some (record { name = name.0; op = op.0; value = unescaped body })
+  name ← read_name (without_leading_blanks piece)
+  op ← read_operator (without_leading_blanks name.1)
+  body ← read_body (without_trailing_blanks (without_leading_blanks op.1))
+  Some (record { name = name.0; op = op.0; value = unescaped_text body })
 
--- those that pieces spell, one by one
-unfoldable pub read_each : List (List ℕ) → Option (List Condition)
-read_each [] = Some []
-read_each (piece ∷ more) = do
+-- The conditions that pieces spell, one by one.
+unfoldable pub read_each_piece : List (List ℕ) → Option (List Condition)
+read_each_piece [] = Some []
+read_each_piece (piece ∷ more) = do
   first ← read_piece piece
-  others ← read_each more
+  others ← read_each_piece more
   Some (first ∷ others)
 
--- the list that a text spells
+-- The list that a text spells.
 unfoldable pub read_list : List ℕ → Option (List Condition)
-read_list text = read_each (pieces (without_closing (without_opening text)))
+read_list text = read_each_piece (matcher_pieces (without_closing (without_opening text)))

@@ -1,5 +1,7 @@
--- Why a matcher, a list of matchers or a text of one is refused. (This project's own.) Want of memory is no part of it.
-use Rattle.std.specs.Prelude.{◌≡◌, ◌≢◌, ℕ, ◌<◌, ◌≤◌, List, [], ◌∷◌, ◌++◌, length, Bool, not, ◌&&◌, ◌||◌, if◌then◌else◌, IsTrue, ◌⊎◌}
+-- Why a matcher, a list of matchers or a text of one is refused. That memory ran out is no part of
+-- it.
+use Rattle.std.specs.Prelude.{◌≡◌, ◌≢◌, ℕ, ◌<◌, ◌≤◌, List, [], ◌∷◌, ◌++◌, length, Bool, not}
+use Rattle.std.specs.Prelude.{◌&&◌, ◌||◌, if◌then◌else◌, IsTrue, ◌⊎◌}
 use Rattle.std.specs.List.{list_all}
 use Rattle.am_universe.specs.declared.kind.Kind.{Kind}
 use Rattle.am_universe.specs.declared.kind.Kind.TheVariants as kinds
@@ -9,46 +11,54 @@ use Rattle.am_labels.specs.declared.limits.TheConstants.{MAX_MATCHERS}
 use Rattle.am_labels.specs.Matcher.{Condition, takes_pattern}
 use Rattle.am_labels.specs.MatcherText.{Spells}
 
--- its value, if it is a pattern, is of the profile, and the grammar reads it
-abbrev pub has_sound_value : Condition → Bool
-has_sound_value m = not (takes_pattern m.op) || in_profile m.value && is_pattern m.value
+-- The value of a matcher, if it is a pattern, is of the profile, and the grammar reads it; and so
+-- that of each matcher of a list.
+abbrev pub has_valid_pattern : Condition → Bool
+has_valid_pattern m = not (takes_pattern m.op) || in_profile m.value && is_pattern m.value
 
--- each value that is a pattern is of the profile, and the grammar reads it
-abbrev pub have_sound_values : List Condition → Bool
-have_sound_values ms = list_all has_sound_value ms
+abbrev pub have_valid_patterns : List Condition → Bool
+have_valid_patterns ms = list_all has_valid_pattern ms
 
--- A pattern is refused outside the profile. Of the profile, it is refused where the engine does not build it.
+-- A pattern is refused outside the profile. Of the profile, it is refused where the engine does not
+-- build it.
 abbrev pub pattern_refusal : List ℕ → Kind
 pattern_refusal pattern = if in_profile pattern then kinds.Pattern else kinds.PatternProfile
 
--- the value of a condition is refused: it is a pattern
-pub record RefusesValue (m : Condition) (kind : Kind) : Type 0 where
+-- The value of a matcher is refused: it is a pattern. Which patterns of the profile are refused is
+-- the engine's to say.
+pub record ValueRefusedFor (m : Condition) (kind : Kind) : Type 0 where
   pub pattern : IsTrue (takes_pattern m.op)
   pub kind_is : kind ≡ pattern_refusal m.value
 
--- a condition is refused by its name, or else by its value
-abbrev pub RefusesCondition : Condition → Kind → Type 0
-RefusesCondition m kind = ((m.name ≡ []) × (kind ≡ kinds.Empty)) ⊎ ((m.name ≢ []) × RefusesValue m kind)
+-- A matcher is refused: for `Empty`, its name; or else its value.
+abbrev pub MatcherRefusedFor : Condition → Kind → Type 0
+MatcherRefusedFor m kind =
+    ((m.name ≡ []) × (kind ≡ kinds.Empty))
+    ⊎ ((m.name ≢ []) × ValueRefusedFor m kind)
 
--- a list of conditions is refused at the value of one of them, and those before it are sound
-pub record RefusesPatterns (ms : List Condition) (kind : Kind) : Type 0 where
+-- A list is refused at the value of one matcher, and the patterns of those before it are valid.
+pub record PatternsRefusedFor (ms : List Condition) (kind : Kind) : Type 0 where
   pub before : List Condition
   pub refused : Condition
   pub after : List Condition
   pub parts : ms ≡ before ++ refused ∷ after
-  pub earlier : IsTrue (have_sound_values before)
-  pub value : RefusesValue refused kind
+  pub earlier : IsTrue (have_valid_patterns before)
+  pub value : ValueRefusedFor refused kind
 
--- a list of conditions is refused: it is too long, or else one of its patterns is refused
-abbrev pub RefusesConditions : List Condition → Kind → Type 0
-RefusesConditions ms kind = ((MAX_MATCHERS < length ms) × (kind ≡ kinds.Limit)) ⊎ ((length ms ≤ MAX_MATCHERS) × RefusesPatterns ms kind)
+-- A list is refused: for `Limit`, more than `MAX_MATCHERS`; or else one of its patterns.
+abbrev pub ListRefusedFor : List Condition → Kind → Type 0
+ListRefusedFor ms kind =
+    ((MAX_MATCHERS < length ms) × (kind ≡ kinds.Limit))
+    ⊎ ((length ms ≤ MAX_MATCHERS) × PatternsRefusedFor ms kind)
 
--- a text spells a list that is refused
-pub record SpellsRefused (text : List ℕ) (kind : Kind) : Type 0 where
+-- A text spells a list that is refused.
+pub record SpellsListRefusedFor (text : List ℕ) (kind : Kind) : Type 0 where
   pub list : List Condition
   pub spelled : Spells text list
-  pub refused : RefusesConditions list kind
+  pub refused : ListRefusedFor list kind
 
--- a text is refused: it spells no list, or a list that is refused
-abbrev pub RefusesText : List ℕ → Kind → Type 0
-RefusesText text kind = ((kind ≡ kinds.BadMatcher) × ((ms : List Condition) → Spells text ms → ⊥)) ⊎ SpellsRefused text kind
+-- A text is refused: for `BadMatcher`, it spells no list; or else the list that it spells.
+abbrev pub TextRefusedFor : List ℕ → Kind → Type 0
+TextRefusedFor text kind =
+    ((kind ≡ kinds.BadMatcher) × ((ms : List Condition) → Spells text ms → ⊥))
+    ⊎ SpellsListRefusedFor text kind

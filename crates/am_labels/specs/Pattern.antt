@@ -1,5 +1,5 @@
--- What a pattern means. It is anchored at both ends (Alertmanager configuration reference, "Label matchers"); what
--- the anchored text reads as, and what that finds, is the `regex` crate's to say (this project's choice).
+-- What a pattern means. It is anchored at both ends; what the anchored text is read as, and what
+-- that finds, is the `regex` crate's to say.
 use Rattle.std.specs.Prelude.{ℕ, List, ◌++◌, Bool, Option, is_some, option_map, codes, chars}
 use Rattle.regex_hir.specs.Re.{Re}
 use Rattle.regex_hir.specs.Find.{find_str}
@@ -7,18 +7,25 @@ use Rattle.regex_hir.specs.Text.{is_some_and}
 use Rattle.regex_syntax.specs.Grammar.{read}
 use Rattle.regex_syntax.specs.Verdict.{default_config}
 
--- the text that is compiled for a pattern
-abbrev pub anchored : List ℕ → List ℕ
-anchored p = codes "^(?:" ++ p ++ codes ")$"
+-- The text that is compiled for a pattern.
+-- Source: Alertmanager configuration reference 0.25, "<matcher>": a pattern is fully anchored.
+-- Example: of `db|web` it is `^(?:db|web)$`.
+abbrev pub anchored_pattern : List ℕ → List ℕ
+anchored_pattern p = codes "^(?:" ++ p ++ codes ")$"
 
--- what the grammar reads in the anchored text, where it reads something
-unfoldable pub reading : List ℕ → Option Re
-reading p = option_map (λ (found, _). found.value) (read default_config (chars (anchored p)))
+-- What the grammar reads in the anchored text, under the options that a pattern has by itself,
+-- where it reads something.
+unfoldable pub pattern_reading : List ℕ → Option Re
+pattern_reading p =
+    option_map (λ (found, _). found.value) (read default_config (chars (anchored_pattern p)))
 
--- the grammar reads the anchored text
+-- The grammar reads the anchored text.
 abbrev pub is_pattern : List ℕ → Bool
-is_pattern p = is_some (reading p)
+is_pattern p = is_some (pattern_reading p)
 
--- The truth of a pattern on a text: what is read finds a match in it. Where nothing is read it is false of every text.
+-- The truth of a pattern on a text: what is read finds a match in it. Where nothing is read it is
+-- false of every text.
+-- Source: own choice.
+-- Example: `d.` finds `db` and not `db2`; `a)|(?:b` is read between the anchors, and finds `a`.
 abbrev pub finds : List ℕ → List ℕ → Bool
-finds p text = is_some_and (reading p) (λ re. is_some (find_str re text 0))
+finds p text = is_some_and (pattern_reading p) (λ re. is_some (find_str re text 0))

@@ -7,49 +7,47 @@ use Rattle.std.specs.List.{list_any, find, starts_with, prefix_len, position}
 use Rattle.std.specs.Char.{is_ascii_digit}
 use Rattle.regex_hir.specs.Text.{is_some_and}
 use Rattle.regex_syntax.specs.Reading.{begins}
-use Rattle.am_labels.specs.PatternProfile.{ClassContext, outside_class, inside_class, takes_braces}
+use Rattle.am_universe.specs.Bytes.{right_brace}
+use Rattle.am_labels.specs.declared.pattern_profile.ClassContext.{ClassContext}
+use Rattle.am_labels.specs.declared.pattern_profile.ClassContext.TheVariants.{OutsideClass}
+use Rattle.am_labels.specs.declared.pattern_profile.ClassContext.TheVariants.{InsideClass}
+use Rattle.am_labels.specs.declared.pattern_profile.PieceStep.{PieceStep}
+use Rattle.am_labels.specs.PatternProfile.{takes_braces}
 use Rattle.am_labels.specs.PatternProfile.{is_flag, named_classes, is_refused_escape}
 use Rattle.am_labels.specs.PatternProfile.{is_refused_flag}
 
--- how far a cut goes in bytes, and where what follows stands
-pub record CutStep : Type 0 where
-  pub width : ℕ
-  pub next : ClassContext
-
--- a step of this width
-abbrev pub step_to : ClassContext → ℕ → Option CutStep
+-- A step of this width; and the same, if there is a width.
+abbrev pub step_to : ClassContext → ℕ → Option PieceStep
 step_to next width = Some (record { width = width; next = next })
 
--- the same, if there is a width
-abbrev pub step_by : ClassContext → Option ℕ → Option CutStep
+abbrev pub step_by : ClassContext → Option ℕ → Option PieceStep
 step_by next width = option_map (λ n. record { width = n; next = next }) width
 
--- up to the next `}`, or to the end
+-- How far it is up to the next `}`, or to the end.
 abbrev pub up_to_brace : List ℕ → ℕ
-up_to_brace t = unwrap_or (option_map (λ i. i + 1) (position (λ c. c == 125) t)) (length t)
+up_to_brace t = unwrap_or (option_map (λ i. i + 1) (position (λ c. c == right_brace) t)) (length t)
 
--- the braces that belong to an escape, from what stands behind it
+-- The length of the braces that belong to an escape, from what stands behind it.
 abbrev pub braces_len : ℕ → List ℕ → ℕ
 braces_len c t = if takes_braces c && begins "{" t then up_to_brace t else 0
 
--- an escape, from what stands behind the backslash
+-- The length of an escape, from what stands behind the backslash; none where it is refused.
 abbrev pub escape_len : List ℕ → Option ℕ
 escape_len [] = Some 1
 escape_len (c ∷ t) = if is_refused_escape c then None else Some (2 + braces_len c t)
 
--- how many letters and `-` a text begins with
+-- How many letters and `-` a text begins with, and these letters and `-`.
 abbrev pub flag_run_len : List ℕ → ℕ
 flag_run_len t = prefix_len is_flag t
 
--- those letters and `-`
 abbrev pub flag_run : List ℕ → List ℕ
 flag_run t = take (flag_run_len t) t
 
--- how many digits a text begins with
+-- How many digits a text begins with.
 abbrev pub digits_len : List ℕ → ℕ
 digits_len t = prefix_len is_ascii_digit t
 
--- behind the `{`: `n}`, `n,}` or `n,m}`, each number of one digit or more
+-- A count begins behind the `{`: `n}`, `n,}` or `n,m}`, each number of one digit or more.
 abbrev pub begins_count : List ℕ → Bool
 begins_count t =
     let after = drop (digits_len t) t in
@@ -57,49 +55,51 @@ begins_count t =
     nat_lt 0 (digits_len t)
     && (begins "}" after || begins "," after && begins "}" (drop (digits_len most) most))
 
--- `[`, then `^` if it follows directly, then `]` if it follows directly
+-- How long the beginning of a class is: `[`, then `^` if it follows directly, then `]` if it
+-- follows directly.
 abbrev pub class_start_len : List ℕ → ℕ
 class_start_len t =
     if begins "[^]" t then 3
     else if begins "[^" t || begins "[]" t then 2
     else 1
 
--- the named class that a text begins with, if it begins with one
+-- The named class that a text begins with, if it begins with one.
 abbrev pub named_class_at : List ℕ → Option (List ℕ)
 named_class_at t = find (λ named. starts_with nat_eq t named) named_classes
 
--- The first step through a text that begins with something else than a backslash; nothing where it
--- is refused. (The rest of a run of flags and of a count is plain by itself.)
-unfoldable pub unescaped_step : ClassContext → List ℕ → Option CutStep
-unescaped_step outside_class t =
+-- The first step through a text that begins with something else than a backslash; none where it is
+-- refused. (The rest of a run of flags and of a count is plain by itself.)
+unfoldable pub unescaped_step : ClassContext → List ℕ → Option PieceStep
+unescaped_step OutsideClass t =
     if begins "(?" t then
-    (if list_any is_refused_flag (flag_run (drop 2 t)) then None else step_to outside_class 2)
-    else if begins "{" t then (if begins_count (drop 1 t) then step_to outside_class 1 else None)
-    else if begins "[" t then step_to inside_class (class_start_len t)
-    else step_to outside_class 1
-unescaped_step inside_class t =
-    if begins "[" t then step_by inside_class (option_map length (named_class_at t))
+    (if list_any is_refused_flag (flag_run (drop 2 t)) then None else step_to OutsideClass 2)
+    else if begins "{" t then (if begins_count (drop 1 t) then step_to OutsideClass 1 else None)
+    else if begins "[" t then step_to InsideClass (class_start_len t)
+    else step_to OutsideClass 1
+unescaped_step InsideClass t =
+    if begins "[" t then step_by InsideClass (option_map length (named_class_at t))
     else if begins "&&" t || begins "--" t || begins "~~" t then None
-    else if begins "]" t then step_to outside_class 1
-    else step_to inside_class 1
+    else if begins "]" t then step_to OutsideClass 1
+    else step_to InsideClass 1
 
--- the first step through a text that is not empty; nothing where it is refused
-unfoldable pub first_step : ClassContext → List ℕ → Option CutStep
+-- The first step through a text that is not empty; none where it is refused.
+unfoldable pub first_step : ClassContext → List ℕ → Option PieceStep
 first_step context t =
     if begins "\\" t then step_by context (escape_len (drop 1 t)) else unescaped_step context t
 
 -- Nothing refused stands from there on. The number bounds how many steps there are: each takes one
 -- byte at least.
-unfoldable pub is_clean_within : ℕ → ClassContext → List ℕ → Bool
-is_clean_within zero context t = true
-is_clean_within (suc n) context [] = true
-is_clean_within (suc n) context (c ∷ t) =
-    is_some_and (first_step context (c ∷ t)) (λ s. is_clean_within n s.next (drop (s.width - 1) t))
+unfoldable pub has_no_refused_piece_within : ℕ → ClassContext → List ℕ → Bool
+has_no_refused_piece_within zero context t = true
+has_no_refused_piece_within (suc n) context [] = true
+has_no_refused_piece_within (suc n) context (c ∷ t) =
+    is_some_and (first_step context (c ∷ t))
+    (λ s. has_no_refused_piece_within n s.next (drop (s.width - 1) t))
 
--- the same, with steps enough
-unfoldable pub is_clean : ClassContext → List ℕ → Bool
-is_clean context t = is_clean_within (length t) context t
+-- The same, with steps enough.
+unfoldable pub has_no_refused_piece : ClassContext → List ℕ → Bool
+has_no_refused_piece context t = has_no_refused_piece_within (length t) context t
 
 -- A pattern of the profile. It begins outside a class.
 abbrev pub in_profile : List ℕ → Bool
-in_profile pattern = is_clean outside_class pattern
+in_profile pattern = has_no_refused_piece OutsideClass pattern

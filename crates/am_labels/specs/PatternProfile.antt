@@ -1,23 +1,24 @@
 -- The profile of patterns. It leaves out forms that Go's engine and the crate `regex` are known to
--- refuse or to read differently, but not all of them. (This project's choice.) A pattern is a join
--- of pieces, each of a form that may stand there, outside or inside a class, and it is of the
--- profile where none of them is refused. Texts are lists of bytes: what has a meaning of its own is
--- ASCII, and a byte from 128 on is plain or stands behind a backslash, so that pieces of characters
--- would be the same.
+-- refuse or to read differently, but not all of them. A pattern is a join of pieces, each of a form
+-- that may stand there, outside or inside a class, and it is of the profile where none of them is
+-- refused. Texts are lists of bytes: what has a meaning of its own is ASCII, and a byte from 128 on
+-- is plain or stands behind a backslash. With pieces of characters the same patterns would be
+-- refused.
 use Rattle.std.specs.Prelude.{◌≡◌, ◌≢◌, ℕ, List, [], ◌∷◌, ◌++◌, length, slice_index, Bool, true}
 use Rattle.std.specs.Prelude.{false, not, ◌==◌, ◌&&◌, ◌||◌, nat_eq, nat_lt, if◌then◌else◌, IsTrue}
 use Rattle.std.specs.Prelude.{IsFalse, Contains, ⊤, codes}
 use Rattle.std.specs.List.{list_any, list_all, flat_map, starts_with}
 use Rattle.std.specs.Char.{is_ascii_digit, is_ascii_alphabetic}
 use Rattle.regex_syntax.specs.Reading.{◌∈◌, begins}
-
--- where a piece stands
-pub data ClassContext : Type 0 where
-  outside_class : ClassContext
-  inside_class : ClassContext
+use Rattle.am_universe.specs.Bytes.{backslash, left_parenthesis, question_mark, hyphen, comma}
+use Rattle.am_universe.specs.Bytes.{left_bracket, left_brace, right_brace}
+use Rattle.am_labels.specs.declared.pattern_profile.ClassContext.{ClassContext}
+use Rattle.am_labels.specs.declared.pattern_profile.ClassContext.TheVariants.{OutsideClass}
+use Rattle.am_labels.specs.declared.pattern_profile.ClassContext.TheVariants.{InsideClass}
 
 -- ---- The forms of pieces.
 
+-- A piece, by its form.
 pub data Piece : Type 0 where
   -- a backslash and the character after it
   escape : ℕ → Piece
@@ -46,59 +47,59 @@ pub data Piece : Type 0 where
   -- every other character
   plain : ℕ → Piece
 
--- the text of a piece
+-- The text of a piece.
 abbrev pub piece_text : Piece → List ℕ
-piece_text (escape c) = 92 ∷ c ∷ []
-piece_text (braced_escape c inner) = 92 ∷ c ∷ 123 ∷ (inner ++ 125 ∷ [])
-piece_text (open_escape c inner) = 92 ∷ c ∷ 123 ∷ inner
+piece_text (escape c) = backslash ∷ c ∷ []
+piece_text (braced_escape c inner) = backslash ∷ c ∷ left_brace ∷ (inner ++ right_brace ∷ [])
+piece_text (open_escape c inner) = backslash ∷ c ∷ left_brace ∷ inner
 piece_text last_backslash = codes "\\"
-piece_text (flags run) = 40 ∷ 63 ∷ run
-piece_text (count least more) = 123 ∷ (least ++ (more ++ 125 ∷ []))
+piece_text (flags run) = left_parenthesis ∷ question_mark ∷ run
+piece_text (count least more) = left_brace ∷ (least ++ (more ++ right_brace ∷ []))
 piece_text brace = codes "{"
 piece_text (class_start negated closing) =
-    91 ∷ ((if negated then codes "^" else []) ++ (if closing then codes "]" else []))
+    left_bracket ∷ ((if negated then codes "^" else []) ++ (if closing then codes "]" else []))
 piece_text (named_class text) = text
 piece_text bracket = codes "["
 piece_text (pair c) = c ∷ c ∷ []
 piece_text class_end = codes "]"
 piece_text (plain c) = c ∷ []
 
--- the characters whose escape takes a directly following `{` and all up to the next `}`
+-- The characters whose escape takes a directly following `{` and all up to the next `}`.
 abbrev pub takes_braces : ℕ → Bool
 takes_braces c = c ∈ "xpP"
 
--- no `}` stands in the text
+-- No `}` stands in the text.
 abbrev pub has_no_closing : List ℕ → Bool
-has_no_closing text = list_all (λ c. not (c == 125)) text
+has_no_closing text = list_all (λ c. not (c == right_brace)) text
 
--- what may stand in the run behind `(?`: a letter or `-`
+-- What may stand in the run behind `(?`: a letter or `-`.
 abbrev pub is_flag : ℕ → Bool
-is_flag c = is_ascii_alphabetic c || c == 45
+is_flag c = is_ascii_alphabetic c || c == hyphen
 
--- a number: one digit or more
+-- A number: one digit or more.
 abbrev pub is_number : List ℕ → Bool
 is_number n = nat_lt 0 (length n) && list_all is_ascii_digit n
 
--- what may stand behind the n of a count: nothing, or `,` and an m, which may be missing
-abbrev pub is_upper : List ℕ → Bool
-is_upper [] = true
-is_upper (c ∷ m) = c == 44 && list_all is_ascii_digit m
+-- What may stand behind the n of a count: nothing, or `,` and an m, which may be missing.
+abbrev pub is_upper_bound : List ℕ → Bool
+is_upper_bound [] = true
+is_upper_bound (c ∷ m) = c == comma && list_all is_ascii_digit m
 
--- each NAME of `[:NAME:]`
+-- Each NAME of `[:NAME:]`.
 unfoldable pub class_names : List (List ℕ)
 class_names =
     codes "alnum" ∷ codes "alpha" ∷ codes "ascii" ∷ codes "blank" ∷ codes "cntrl"
     ∷ codes "digit" ∷ codes "graph" ∷ codes "lower" ∷ codes "print" ∷ codes "punct"
     ∷ codes "space" ∷ codes "upper" ∷ codes "word" ∷ codes "xdigit" ∷ []
 
--- `[:NAME:]` and `[:^NAME:]`
+-- Each `[:NAME:]` and `[:^NAME:]`.
 unfoldable pub named_classes : List (List ℕ)
 named_classes =
     flat_map
     (λ name. (codes "[:" ++ name ++ codes ":]") ∷ (codes "[:^" ++ name ++ codes ":]") ∷ [])
     class_names
 
--- a named class begins there
+-- A named class begins there.
 abbrev pub begins_named_class : List ℕ → Bool
 begins_named_class text = list_any (λ named. starts_with nat_eq text named) named_classes
 
@@ -108,11 +109,12 @@ is_longest_start negated true rest = true
 is_longest_start true false rest = not (begins "]" rest)
 is_longest_start false false rest = not (begins "^" rest || begins "]" rest)
 
--- outside a class every other form begins with one of these, or with `(?`
+-- Outside a class a character is plain where no other form begins with it.
 abbrev pub is_plain_outside : ℕ → List ℕ → Bool
-is_plain_outside c rest = not (c ∈ "\\{[" || c == 40 && begins "?" rest)
+is_plain_outside c rest = not (c ∈ "\\{[" || c == left_parenthesis && begins "?" rest)
 
--- inside a class every other form begins with one of these, or is two characters side by side
+-- Inside a class a character is plain where no other form begins with it: `&&`, `--` and `~~` are
+-- forms of two characters.
 abbrev pub is_plain_inside : ℕ → List ℕ → Bool
 is_plain_inside c rest = not (c ∈ "\\[]" || c ∈ "&-~" && slice_index rest 0 == c)
 
@@ -124,44 +126,45 @@ StandsIn context (braced_escape c inner) rest = IsTrue (takes_braces c && has_no
 StandsIn context (open_escape c inner) rest =
     IsTrue (takes_braces c && has_no_closing inner) × (rest ≡ [])
 StandsIn context last_backslash rest = rest ≡ []
-StandsIn outside_class (flags run) rest =
+StandsIn OutsideClass (flags run) rest =
     IsTrue (list_all is_flag run && not (is_flag (slice_index rest 0)))
-StandsIn outside_class (count least more) rest = IsTrue (is_number least && is_upper more)
-StandsIn outside_class brace rest =
-    (least more after : List ℕ) → IsTrue (is_number least && is_upper more)
-    → rest ≢ least ++ (more ++ 125 ∷ after)
-StandsIn outside_class (class_start negated closing) rest =
+StandsIn OutsideClass (count least more) rest = IsTrue (is_number least && is_upper_bound more)
+StandsIn OutsideClass brace rest =
+    (least more after : List ℕ) → IsTrue (is_number least && is_upper_bound more)
+    → rest ≢ least ++ (more ++ right_brace ∷ after)
+StandsIn OutsideClass (class_start negated closing) rest =
     IsTrue (is_longest_start negated closing rest)
-StandsIn outside_class (plain c) rest = IsTrue (is_plain_outside c rest)
-StandsIn inside_class (named_class text) rest = Contains named_classes text
-StandsIn inside_class bracket rest = IsFalse (begins_named_class (91 ∷ rest))
-StandsIn inside_class (pair c) rest = IsTrue (c ∈ "&-~")
-StandsIn inside_class class_end rest = ⊤
-StandsIn inside_class (plain c) rest = IsTrue (is_plain_inside c rest)
+StandsIn OutsideClass (plain c) rest = IsTrue (is_plain_outside c rest)
+StandsIn InsideClass (named_class text) rest = Contains named_classes text
+StandsIn InsideClass bracket rest = IsFalse (begins_named_class (left_bracket ∷ rest))
+StandsIn InsideClass (pair c) rest = IsTrue (c ∈ "&-~")
+StandsIn InsideClass class_end rest = ⊤
+StandsIn InsideClass (plain c) rest = IsTrue (is_plain_inside c rest)
 StandsIn context piece rest = ⊥
 
--- where the next piece stands
+-- Where the next piece stands.
 abbrev pub context_after : ClassContext → Piece → ClassContext
-context_after context (class_start negated closing) = inside_class
-context_after context class_end = outside_class
+context_after context (class_start negated closing) = InsideClass
+context_after context class_end = OutsideClass
 context_after context _ = context
 
 -- ---- What is refused.
 
--- the letters that may stand behind a backslash
+-- The letters that may stand behind a backslash.
 abbrev pub is_escape_letter : ℕ → Bool
 is_escape_letter c = list_any (λ letter. letter == c) (codes "dDwWsSbBtnrfvaAzxpP")
 
--- a backslash may not stand before `<`, `>`, a digit, or any other letter
+-- A backslash may not stand before `<`, `>`, a digit, or any other letter.
 abbrev pub is_refused_escape : ℕ → Bool
 is_refused_escape c =
     c ∈ "<>" || is_ascii_digit c || is_ascii_alphabetic c && not (is_escape_letter c)
 
--- the letters that no run of flags may hold
+-- The letters that no run of flags may hold.
 abbrev pub is_refused_flag : ℕ → Bool
 is_refused_flag c = c ∈ "xuR"
 
--- a piece that may stand in no pattern of the profile
+-- A piece that may stand in no pattern of the profile: such a backslash or run of flags, a `{` that
+-- is no count, and inside a class a `[` that is no named class, and `&&`, `--` and `~~`.
 abbrev pub is_refused : Piece → Bool
 is_refused (escape c) = is_refused_escape c
 is_refused (flags run) = list_any is_refused_flag run
@@ -172,18 +175,21 @@ is_refused _ = false
 
 -- ---- Patterns.
 
--- the pieces stand there, one behind the other, the first of them in this context
+-- The pieces stand there, one behind the other, the first of them in this context.
 abbrev pub Stand : ClassContext → List Piece → Type 0
 Stand context [] = ⊤
 Stand context (piece ∷ pieces) =
     StandsIn context piece (flat_map piece_text pieces) × Stand (context_after context piece) pieces
 
--- A pattern is a join of these pieces. It begins outside a class.
+-- A pattern is a join of these pieces. It begins outside a class. Every pattern is one, in one way.
 pub record IsJoinOf (pattern : List ℕ) (pieces : List Piece) : Type 0 where
   pub join : pattern ≡ flat_map piece_text pieces
-  pub stand : Stand outside_class pieces
+  pub stand : Stand OutsideClass pieces
 
--- a pattern of the profile: a join of pieces, none of which is refused
+-- A pattern of the profile: a join of pieces, none of which is refused. It need not be one that the
+-- grammar reads: `(` is of the profile and no pattern.
+-- Source: own choice.
+-- Example: `crit.*` is of the profile; `\<db`, `(?x)db`, `a{` and `[a&&b]` are not.
 pub record IsInProfile (pattern : List ℕ) : Type 0 where
   pub pieces : List Piece
   pub is_join : IsJoinOf pattern pieces

@@ -1,41 +1,43 @@
--- A matcher's truth on each value of its label. (This project's own.)
-use Rattle.std.specs.Prelude.{ℕ, List, [], ◌∷◌, map, Bool, false, slice_index, slice_index_or, Option, Some, None, unwrap_or}
+-- Rows: a matcher's truth on each value of its label.
+use Rattle.std.specs.Prelude.{ℕ, List, [], ◌∷◌, map, Bool, false, slice_index, slice_index_or}
+use Rattle.std.specs.Prelude.{Option, Some, None, unwrap_or}
 use Rattle.std.specs.List.{list_all}
 use Rattle.am_universe.specs.Universe.{Label, values_at, label_position}
 use Rattle.am_labels.specs.Matcher.{Condition, holds}
 
--- The position of the matcher's label, if it is declared, and the truths on that label's values, in declared order. For
--- a label that is not declared there is one truth.
+-- The position of the matcher's label, if it is declared, and the truths on that label's values, in
+-- declared order. For a label that is not declared there is one truth.
 pub record TruthRow : Type 0 where
   pub label : Option ℕ
   pub truths : List Bool
 
--- the truth on a value; absence is the empty text
-abbrev pub holds_of : Condition → Option (List ℕ) → Bool
-holds_of m value = holds m.op m.value (unwrap_or value [])
+-- The truth on a value; absence is the empty text.
+abbrev pub truth_on_value : Condition → Option (List ℕ) → Bool
+truth_on_value m value = holds m.op m.value (unwrap_or value [])
 
--- the truths on the values of the label at a position, or on absence alone where the label is not declared
+-- The truths on the values of the label at a position, or on absence alone where the label is not
+-- declared.
 abbrev pub truths_of : List Label → Condition → Option ℕ → List Bool
-truths_of u m None = holds_of m None ∷ []
-truths_of u m (Some i) = map (holds_of m) (values_at u i)
+truths_of u m None = truth_on_value m None ∷ []
+truths_of u m (Some i) = map (truth_on_value m) (values_at u i)
 
--- the row of a matcher over the labels of a universe
+-- The row of a matcher over the labels of a universe.
 abbrev pub row_of : List Label → Condition → TruthRow
-row_of u m = record { label = label_position u m.name; truths = truths_of u m (label_position u m.name) }
+row_of u m =
+    record { label = label_position u m.name; truths = truths_of u m (label_position u m.name) }
 
--- the truth at a position among those of a label; the one truth where the label is not declared
+-- The truth of a row at a position of its label; the same at every position where the label is not
+-- declared.
 abbrev pub truth_among : Option ℕ → List Bool → ℕ → Bool
 truth_among None truths j = slice_index_or truths 0 false
 truth_among (Some i) truths j = slice_index_or truths j false
 
--- the truth at a position of the label; the same at every position where the label is not declared
 abbrev pub truth_at : TruthRow → ℕ → Bool
 truth_at row j = truth_among row.label row.truths j
 
--- the truth of a row at a choice
+-- The truth of a row at a choice; and that of the rows of a list of matchers: each of them is true.
 abbrev pub row_holds : TruthRow → List ℕ → Bool
 row_holds row c = truth_at row (slice_index c (unwrap_or row.label 0))
 
--- the truth of the rows of a list of matchers at a choice
 abbrev pub rows_hold : List Label → List Condition → List ℕ → Bool
 rows_hold u ms c = list_all (λ m. row_holds (row_of u m) c) ms

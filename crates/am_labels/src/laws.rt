@@ -1,16 +1,11 @@
 //! Facts about the definitions alone: each is the contract of a function with an empty body.
 ghost use Rattle.std.specs.Prelude.{◌≡◌, ◌↔◌, ℕ, List, [], Some, map, false, IsTrue, Contains};
-ghost use Rattle.am_universe.specs.Universe as spec;
-ghost use Rattle.am_universe.specs.Choice.{IsWhole};
-ghost use Rattle.am_universe.specs.LabelSet.{label_set_of, value_of};
+ghost use Rattle.am_labels.specs.Words.{Label, IsUniverse, sizes, IsWhole, label_set_of, value_of};
 ghost use Rattle.am_labels.specs.declared.limits.TheConstants.{MAX_MATCHERS};
-ghost use Rattle.am_labels.specs.Matcher.{Condition, condition_holds, all_hold};
-ghost use Rattle.am_labels.specs.PatternProfile.{Piece, IsJoinOf, IsInProfile};
-ghost use Rattle.am_labels.specs.PatternCut.{in_profile};
-ghost use Rattle.am_labels.specs.Row.{row_of, row_holds, rows_hold};
-ghost use Rattle.am_labels.specs.MatcherText.{Spells};
-ghost use Rattle.am_labels.specs.MatcherReading.{read_list};
-ghost use Rattle.am_labels.specs.SetReading.{repeats_name, set_of_list};
+ghost use Rattle.am_labels.specs.Words.{Condition, condition_holds, all_hold};
+ghost use Rattle.am_labels.specs.Words.{Piece, IsJoinOf, IsInProfile, in_profile};
+ghost use Rattle.am_labels.specs.Words.{row_of, row_holds, rows_hold, Spells, read_list};
+ghost use Rattle.am_labels.specs.Words.{repeats_name, set_of_list};
 
 pub use am_universe::laws::{
     a_label_is_added_exactly_to_a_universe, choices_are_the_whole_choices, choices_ascend,
@@ -19,56 +14,62 @@ pub use am_universe::laws::{
 
 /// How many matchers a list may have.
 pub fn limit_of_matchers()
-    ensures { MAX_MATCHERS ≡ 64 }
+    ensures matchers { MAX_MATCHERS ≡ 64 }
 {}
 
 /// Every pattern is a join of pieces.
 pub fn each_pattern_is_a_join()
-    ensures { (pattern : List ℕ) → (pieces : List Piece) × IsJoinOf pattern pieces }
+    ensures joined { (pattern : List ℕ) → (pieces : List Piece) × IsJoinOf pattern pieces }
 {}
 
 /// It is the join of no other pieces.
 pub fn one_join_a_pattern()
-    ensures { (pattern : List ℕ) (a b : List Piece) → IsJoinOf pattern a → IsJoinOf pattern b
-        → a ≡ b }
+    ensures same_pieces { (pattern : List ℕ) (a b : List Piece)
+        → IsJoinOf pattern a → IsJoinOf pattern b → a ≡ b }
 {}
 
 /// A pattern is of the profile exactly where the test passes that cuts it step by step.
 pub fn the_profile_is_decided()
-    ensures { (pattern : List ℕ) → IsInProfile pattern ↔ IsTrue (in_profile pattern) }
+    ensures decided { (pattern : List ℕ) → IsInProfile pattern ↔ IsTrue (in_profile pattern) }
 {}
 
 /// A text spells at most one list of matchers.
 pub fn one_list_a_text()
-    ensures { (text : List ℕ) (ms ns : List Condition) → Spells text ms → Spells text ns → ms ≡ ns }
+    ensures same_list { (text : List ℕ) (ms ns : List Condition)
+        → Spells text ms → Spells text ns → ms ≡ ns }
 {}
 
 /// A text spells a list exactly where reading it step by step gives that list.
 pub fn texts_are_read()
-    ensures { (text : List ℕ) (ms : List Condition) → Spells text ms ↔ (read_list text ≡ Some ms) }
+    ensures exactly { (text : List ℕ) (ms : List Condition)
+        → Spells text ms ↔ (read_list text ≡ Some ms) }
 {}
 
 /// In the set of a list that repeats no name, each name of the list has its value.
 pub fn listed_value()
-    ensures { (ms : List Condition) (m : Condition) → repeats_name ms ≡ false → Contains ms m
+    ensures value { (ms : List Condition) (m : Condition)
+        → repeats_name ms ≡ false → Contains ms m
         → value_of (set_of_list ms) m.name ≡ m.value }
 {}
 
 /// In the set of a list a name that is not in the list has the empty text.
 pub fn unlisted_value()
-    ensures { (ms : List Condition) (name : List ℕ) → ¬ Contains (map (λ m. m.name) ms) name
+    ensures value { (ms : List Condition) (name : List ℕ)
+        → ¬ Contains (map (λ m. m.name) ms) name
         → value_of (set_of_list ms) name ≡ [] }
 {}
 
 /// The truth of a matcher on the label set of a whole choice is its row's truth at that choice.
 pub fn a_row_decides_a_matcher()
-    ensures { (u : List spec.Label) (c : List ℕ) (m : Condition) → spec.IsUniverse u → IsWhole (spec.sizes u) c
+    ensures same_truth { (u : List Label) (c : List ℕ) (m : Condition)
+        → IsUniverse u → IsWhole (sizes u) c
         → condition_holds (label_set_of u c) m ≡ row_holds (row_of u m) c }
 {}
 
 /// The truth of a list of matchers on the label set of a whole choice: each one's row is true at
 /// that choice.
 pub fn rows_decide_a_list()
-    ensures { (u : List spec.Label) (c : List ℕ) (ms : List Condition) → spec.IsUniverse u → IsWhole (spec.sizes u) c
+    ensures same_truth { (u : List Label) (c : List ℕ) (ms : List Condition)
+        → IsUniverse u → IsWhole (sizes u) c
         → all_hold (label_set_of u c) ms ≡ rows_hold u ms c }
 {}

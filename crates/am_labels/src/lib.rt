@@ -2,8 +2,8 @@
 //!
 //! A [`Matcher`] asks something of the value of a label, and [`Matchers`] are a list of them, as
 //! Alertmanager has them. [`parse_matchers`] reads a list from a text, and [`parse_set`] a label
-//! set. [`brace_len`] and [`brace_token`] say where the text of a list ends in a question. A
-//! [`Row`] is a matcher's truth on each value of its label in a [`Universe`].
+//! set. [`brace_len`] says where the text of a list ends in a question. A [`Row`] is a matcher's
+//! truth on each value of its label in a [`Universe`].
 //!
 //! The public names of the crate `am_universe` that callers need are given again here.
 #![tactic(auto)]
@@ -32,16 +32,17 @@ pub use matcher::Matcher;
 pub use matchers::Matchers;
 
 // Their texts.
+mod label_set_text;
 mod matcher_text;
-mod parse;
 mod quotes;
 
-pub use parse::{parse_matchers, parse_set};
+pub use label_set_text::parse_set;
+pub use matcher_text::parse_matchers;
 
 // Where a text of matchers ends in a question.
-mod braces;
+mod brace_tokens;
 
-pub use braces::{brace_len, brace_token};
+pub use brace_tokens::brace_len;
 
 // A matcher's truth on each value of its label.
 mod row;

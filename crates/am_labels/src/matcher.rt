@@ -1,7 +1,7 @@
-ghost use Rattle.std.specs.Prelude.{◌≡◌, ◌≢◌, [], false, true, IsTrue, IfOk, IfErr, OnOk, string_bytes};
-ghost use Rattle.am_labels.specs.PatternCut.{in_profile};
-ghost use Rattle.am_labels.specs.Matcher.{holds, takes_pattern};
-ghost use Rattle.am_labels.specs.MatcherRefusals.{has_sound_value, RefusesCondition};
+ghost use Rattle.std.specs.Prelude.{◌≡◌, ◌≢◌, [], false, true, IsTrue, IfOk, IfErr, OnOk};
+ghost use Rattle.std.specs.Prelude.{string_bytes};
+ghost use Rattle.am_labels.specs.Words.{in_profile, holds, takes_pattern};
+ghost use Rattle.am_labels.specs.Words.{has_valid_pattern, MatcherRefusedFor};
 ghost use Rattle.am_universe.specs.declared.kind.Kind.TheVariants as kinds;
 
 use crate::Op;
@@ -27,27 +27,35 @@ impl Model for Matcher {
 
     ghost Value = { Condition };
 
-    ghost view = { λ m. record { name = string_bytes m.name; op = m.op; value = string_bytes m.value } };
+    ghost view = { λ m.
+        record { name = string_bytes m.name; op = m.op; value = string_bytes m.value } };
 
     // The pattern is built once, where the operator takes one.
-    ghost invariant = { λ m. m.pattern ≡ (if takes_pattern m.op then Some (string_bytes m.value) else None) };
+    ghost invariant = { λ m.
+        m.pattern ≡ (if takes_pattern m.op then Some (string_bytes m.value) else None) };
 }
 
 impl Matcher {
     /// A matcher on the label of this name.
     ///
-    /// `Empty` for the empty name; then, for `=~` and `!~`, `PatternProfile` exactly where the value is outside the
-    /// profile of patterns, and `Pattern` for one of the profile that the engine refuses, as it does wherever its
-    /// grammar does not read the pattern between `^(?:` and `)$`. `Memory` comes only where a pattern of the profile was
-    /// to be built.
+    /// `Empty` for the empty name; then, for `=~` and `!~`, `PatternProfile` exactly where the
+    /// value is outside the profile of patterns, and `Pattern` for one of the profile that the
+    /// engine refuses, as it does wherever its grammar does not read the pattern between `^(?:` and
+    /// `)$`. `Memory` comes only where a pattern of the profile was to be built.
     pub fn new(alloc: Global, name: String, op: Op, value: String) -> Result<Matcher, Kind>
-        ensures ok { IfOk result (λ m. m ≡ record { name = string_bytes name; op = op; value = string_bytes value }) }
+        ensures ok { IfOk result (λ m.
+            m ≡ record { name = string_bytes name; op = op; value = string_bytes value }) }
         ensures named { OnOk result (string_bytes name ≢ []) }
-        ensures sound { OnOk result (IsTrue (has_sound_value (record { name = string_bytes name; op = op; value = string_bytes value }))) }
+        ensures valid_pattern { OnOk result (IsTrue (has_valid_pattern
+            (record { name = string_bytes name; op = op; value = string_bytes value }))) }
         ensures unnamed { string_bytes name ≡ [] → result ≡ Err kinds.Empty }
-        ensures outside { string_bytes name ≢ [] → takes_pattern op ≡ true → in_profile (string_bytes value) ≡ false → result ≡ Err kinds.PatternProfile }
-        ensures refused { IfErr result (λ kind. kind ≢ kinds.Memory → RefusesCondition (record { name = string_bytes name; op = op; value = string_bytes value }) kind) }
-        ensures memory { IfErr result (λ kind. kind ≡ kinds.Memory → (takes_pattern op ≡ true) × (in_profile (string_bytes value) ≡ true)) }
+        ensures outside { string_bytes name ≢ [] → takes_pattern op ≡ true
+            → in_profile (string_bytes value) ≡ false → result ≡ Err kinds.PatternProfile }
+        ensures refused { IfErr result (λ kind. kind ≢ kinds.Memory
+            → MatcherRefusedFor
+            (record { name = string_bytes name; op = op; value = string_bytes value }) kind) }
+        ensures memory { IfErr result (λ kind. kind ≡ kinds.Memory
+            → (takes_pattern op ≡ true) × (in_profile (string_bytes value) ≡ true)) }
     {
         if name.is_empty() {
             return Err(Kind::Empty);
@@ -67,34 +75,34 @@ impl Matcher {
 
     /// The name of the label.
     pub fn name(&self) -> &str
-        ensures { result.now ≡ self.now.name }
+        ensures name { result.now ≡ self.now.name }
     {
         self.name.as_str()
     }
 
     /// The operator.
     pub fn op(&self) -> Op
-        ensures { result ≡ self.now.op }
+        ensures op { result ≡ self.now.op }
     {
         self.op
     }
 
     /// The value that the operator compares with, or the pattern.
     pub fn value(&self) -> &str
-        ensures { result.now ≡ self.now.value }
+        ensures value { result.now ≡ self.now.value }
     {
         self.value.as_str()
     }
 
     /// What decides this matcher on one text after another.
-    pub(crate) fn test(&self, alloc: Global) -> Result<Test<'_>, AllocError>
-        ensures { IfOk result (λ test. test ≡ self.now) }
+    pub(crate) fn prepare(&self, alloc: Global) -> Result<PreparedMatcher<'_>, AllocError>
+        ensures { IfOk result (λ prepared. prepared ≡ self.now) }
     {
         let search = match &self.pattern {
             Some(pattern) => Some(pattern.matcher(alloc)?),
             None => None,
         };
-        Ok(Test {
+        Ok(PreparedMatcher {
             matcher: self,
             search,
         })
@@ -102,22 +110,23 @@ impl Matcher {
 
     /// Whether the operator and the value are true of a text.
     pub(crate) fn holds(&self, alloc: Global, text: &str) -> Result<bool, AllocError>
-        ensures { IfOk result (λ truth. truth ≡ holds self.now.op self.now.value text.now) }
+        ensures { IfOk result (λ truth.
+            truth ≡ holds self.now.op self.now.value text.now) }
     {
-        let mut test = self.test(alloc)?;
-        Ok(test.holds(text))
+        let mut prepared = self.prepare(alloc)?;
+        Ok(prepared.holds(text))
     }
 }
 
-/// Decides a matcher on one text after another. One search of the engine serves them all; it keeps its caches from one
-/// to the next, and deciding a text cannot fail.
+/// Decides a matcher on one text after another. One search of the engine serves them all; it keeps
+/// its caches from one to the next, and deciding a text cannot fail.
 #[derive(Drop)]
-pub(crate) struct Test<'m> {
+pub(crate) struct PreparedMatcher<'m> {
     matcher: &'m Matcher,
     search: Option<PatternMatcher<'m>>,
 }
 
-impl<'m> Model for Test<'m> {
+impl<'m> Model for PreparedMatcher<'m> {
     ghost use Rattle.std.specs.Prelude.{◌≡◌, Some, None, if◌then◌else◌};
     ghost use Rattle.am_labels.specs.Matcher.{Condition, takes_pattern};
 
@@ -125,10 +134,11 @@ impl<'m> Model for Test<'m> {
 
     ghost view = { λ t. t.matcher.now };
 
-    ghost invariant = { λ t. t.search ≡ (if takes_pattern t.matcher.now.op then Some t.matcher.now.value else None) };
+    ghost invariant = { λ t.
+        t.search ≡ (if takes_pattern t.matcher.now.op then Some t.matcher.now.value else None) };
 }
 
-impl<'m> Test<'m> {
+impl<'m> PreparedMatcher<'m> {
     /// Whether the operator and the value are true of a text.
     pub(crate) fn holds(&mut self, text: &str) -> bool
         ensures truth { result ≡ holds self.old.op self.old.value text.now }

@@ -1,40 +1,97 @@
 //! Reading the text of a list of matchers.
 
-ghost use Rattle.std.specs.Prelude.{◌≡◌, ◌≢◌, ◌≤◌, List, [], length, IfOk, IfErr, IsOk, string_bytes};
+ghost use Rattle.std.specs.Prelude.{◌≡◌, ◌≢◌, ◌≤◌, List, [], length, IsTrue, IfOk, IfErr, IsOk};
+ghost use Rattle.std.specs.Prelude.{string_bytes};
 ghost use Rattle.std.specs.Str.{IsUtf8, IsAscii};
 ghost use Rattle.std.specs.List.{All, prefix_len};
 ghost use Rattle.am_universe.specs.declared.kind.Kind.TheVariants as kinds;
-ghost use Rattle.am_labels.specs.Matcher.{Condition};
-ghost use Rattle.am_labels.specs.MatcherText.{Spells, is_blank, begins_name, continues_name, unescaped, pieces, without_opening, without_closing};
-ghost use Rattle.am_labels.specs.MatcherReading.{Gives, condition_of, conditions_of, trimmed_start, trimmed_end, first_quote, read_body, read_operator, read_name, read_piece, read_each, read_list};
+ghost use Rattle.am_labels.specs.Words as spec;
+ghost use Rattle.am_labels.specs.Words.{have_valid_patterns, PatternsRefusedFor, TextRefusedFor};
+ghost use Rattle.am_labels.specs.Words.{Spells, ReturnsReading, is_blank, begins_name};
+ghost use Rattle.am_labels.specs.Words.{continues_name, unescaped_text, matcher_pieces};
+ghost use Rattle.am_labels.specs.Words.{without_opening, without_closing};
+ghost use Rattle.am_labels.specs.Words.{without_leading_blanks, without_trailing_blanks};
+ghost use Rattle.am_labels.specs.Words.{first_quote, read_body, read_operator, read_name};
+ghost use Rattle.am_labels.specs.Words.{read_piece, read_each_piece, read_list};
 
-use crate::Op;
+use crate::limits::MAX_MATCHERS;
 use crate::quotes::QuoteState;
+use crate::{Matcher, Matchers, Op};
 use am_universe::{Kind, begins_label_name, continues_label_name};
 use std::alloc::{AllocError, Global};
+use std::marker::Model;
 
-/// A matcher as a text spells it.
+/// A matcher as a text spells it: its pattern, if it has one, is neither checked nor built.
 #[derive(Debug, Drop)]
-pub(crate) struct Spelled {
-    pub(crate) name: String,
-    pub(crate) op: Op,
-    pub(crate) value: String,
+struct Condition {
+    name: String,
+    op: Op,
+    value: String,
 }
 
-/// The list of matchers that a text spells, however long. `BadMatcher` where it spells none; `Memory`.
-pub(crate) fn read_list(alloc: Global, text: &str) -> Result<Vec<Spelled>, Kind>
-    ensures spelled { IfOk result (λ list. Spells text.now (conditions_of list.items)) }
-    ensures only { (ms : List Condition) → Spells text.now ms → IfOk result (λ list. conditions_of list.items ≡ ms) }
-    ensures named { IfOk result (λ list. All (λ s. string_bytes s.name ≢ []) list.items) }
-    ensures refused { IfErr result (λ kind. kind ≢ kinds.Memory → (kind ≡ kinds.BadMatcher) × ((ms : List Condition) → Spells text.now ms → ⊥)) }
+impl Model for Condition {
+    ghost use Rattle.std.specs.Prelude.{string_bytes};
+    ghost use Rattle.am_labels.specs.Matcher as spec;
+
+    ghost Value = { spec.Condition };
+
+    ghost view = { λ m.
+        record { name = string_bytes m.name; op = m.op; value = string_bytes m.value } };
+}
+
+/// Reads a list of matchers in the classic syntax, as `team="db",severity=~"crit.*"`, with or
+/// without braces.
+///
+/// The first of: `BadMatcher`, the text spells no list; `Limit`, it spells one of more than
+/// [`MAX_MATCHERS`]; and then, matcher by matcher, `PatternProfile` for a pattern outside the
+/// profile and `Pattern` for one of the profile that the engine refuses, as it does wherever its
+/// grammar does not read it. `Memory` comes wherever memory ran out.
+pub fn parse_matchers(alloc: Global, text: &str) -> Result<Matchers, Kind>
+    ensures spelled { IfOk result (λ ms. Spells text.now ms) }
+    ensures at_most { IfOk result (λ ms. length ms ≤ MAX_MATCHERS) }
+    ensures valid_patterns { IfOk result (λ ms. IsTrue (have_valid_patterns ms)) }
+    ensures refused { IfErr result (λ kind. kind ≢ kinds.Memory → TextRefusedFor text.now kind) }
+{
+    let list = read_list(alloc, text)?;
+    if list.len() > MAX_MATCHERS {
+        return Err(Kind::Limit);
+    }
+    matchers_of(alloc, list)
+}
+
+/// The matchers that were read, each with its pattern built.
+fn matchers_of(alloc: Global, list: Vec<Condition>) -> Result<Matchers, Kind>
+    requires named { All (λ m. m.name ≢ []) list.items }
+    requires at_most { length list.items ≤ MAX_MATCHERS }
+    ensures ok { IfOk result (λ ms. ms ≡ list.items) }
+    ensures valid_patterns { IfOk result (λ ms. IsTrue (have_valid_patterns ms)) }
+    ensures refused { IfErr result (λ kind.
+        kind ≢ kinds.Memory → PatternsRefusedFor list.items kind) }
+{
+    let mut matchers = Matchers::empty(alloc);
+    for condition in list {
+        matchers.push(Matcher::new(alloc, condition.name, condition.op, condition.value)?)?;
+    }
+    Ok(matchers)
+}
+
+/// The list of matchers that a text spells, however long. `BadMatcher` where it spells none;
+/// `Memory`.
+fn read_list(alloc: Global, text: &str) -> Result<Vec<Condition>, Kind>
+    ensures spelled { IfOk result (λ list. Spells text.now list.items) }
+    ensures only { (ms : List spec.Condition) → Spells text.now ms
+        → IfOk result (λ list. list.items ≡ ms) }
+    ensures named { IfOk result (λ list. All (λ m. m.name ≢ []) list.items) }
+    ensures refused { IfErr result (λ kind. kind ≢ kinds.Memory → (kind ≡ kinds.BadMatcher)
+        × ((ms : List spec.Condition) → Spells text.now ms → ⊥)) }
 {
     read_text(alloc, text)
 }
 
 // The same. Its contract names the function that is computed, and the one above what a text spells.
 #[tactic(auto, unfolding(crate::specs::MatcherReading::read_list))]
-fn read_text(alloc: Global, text: &str) -> Result<Vec<Spelled>, Kind>
-    ensures { Gives (λ list. conditions_of list.items) result (read_list text.now) }
+fn read_text(alloc: Global, text: &str) -> Result<Vec<Condition>, Kind>
+    ensures { ReturnsReading (λ list. list.items) result (read_list text.now) }
 {
     read_pieces(alloc, without_closing(without_opening(text.as_bytes())))
 }
@@ -59,10 +116,12 @@ fn without_closing(text: &[u8]) -> &[u8]
     }
 }
 
-/// Cuts the text at each comma outside quoted parts, and reads each piece. A blank piece at the end is none.
-fn read_pieces(alloc: Global, text: &[u8]) -> Result<Vec<Spelled>, Kind>
+/// Cuts the text at each comma outside quoted parts, and reads each piece. A blank piece at the end
+/// is none.
+fn read_pieces(alloc: Global, text: &[u8]) -> Result<Vec<Condition>, Kind>
     requires { IsUtf8 text.now }
-    ensures { Gives (λ list. conditions_of list.items) result (read_each (pieces text.now)) }
+    ensures { ReturnsReading (λ list. list.items) result
+        (read_each_piece (matcher_pieces text.now)) }
 {
     let mut list = Vec::new(alloc);
     let mut start = 0;
@@ -88,21 +147,21 @@ fn is_blank(text: &[u8]) -> bool
 }
 
 /// Reads one piece: a name, an operator and a value, with whitespace around each.
-fn read_piece(alloc: Global, piece: &[u8]) -> Result<Spelled, Kind>
+fn read_piece(alloc: Global, piece: &[u8]) -> Result<Condition, Kind>
     requires { IsUtf8 piece.now }
-    ensures { Gives condition_of result (read_piece piece.now) }
+    ensures { ReturnsReading (λ m. m) result (read_piece piece.now) }
 {
-    let (name, rest) = split_name(trim_start(piece))?;
-    let (op, rest) = split_operator(trim_start(rest))?;
-    let body = body_of(trim_end(trim_start(rest)))?;
+    let (name, rest) = read_name(trim_start(piece))?;
+    let (op, rest) = read_operator(trim_start(rest))?;
+    let body = read_body(trim_end(trim_start(rest)))?;
     let name = text_from(Vec::from_slice(alloc, name)?)?;
     let value = text_from(unescape(alloc, body)?)?;
-    Ok(Spelled { name, op, value })
+    Ok(Condition { name, op, value })
 }
 
 /// The text without the whitespace that it begins with.
 fn trim_start(text: &[u8]) -> &[u8]
-    ensures value { result.now ≡ trimmed_start text.now }
+    ensures value { result.now ≡ without_leading_blanks text.now }
     ensures utf8 { IsUtf8 text.now → IsUtf8 result.now }
 {
     text.trim_ascii_start()
@@ -110,7 +169,7 @@ fn trim_start(text: &[u8]) -> &[u8]
 
 /// The text without the whitespace that it ends with.
 fn trim_end(text: &[u8]) -> &[u8]
-    ensures value { result.now ≡ trimmed_end text.now }
+    ensures value { result.now ≡ without_trailing_blanks text.now }
     ensures utf8 { IsUtf8 text.now → IsUtf8 result.now }
 {
     text.trim_ascii_end()
@@ -132,8 +191,8 @@ fn continues_name(byte: u8) -> bool
 
 /// The name that the text begins with, and what follows it.
 #[tactic(auto, unfolding(crate::specs::MatcherReading::read_name))]
-fn split_name(text: &[u8]) -> Result<(&[u8], &[u8]), Kind>
-    ensures value { Gives (λ x. (x.0.now, x.1.now)) result (read_name text.now) }
+fn read_name(text: &[u8]) -> Result<(&[u8], &[u8]), Kind>
+    ensures value { ReturnsReading (λ x. (x.0.now, x.1.now)) result (read_name text.now) }
     ensures ascii { IfOk result (λ x. IsAscii x.0.now) }
     ensures utf8 { IfOk result (λ x. IsUtf8 text.now → IsUtf8 x.1.now) }
 {
@@ -155,8 +214,8 @@ fn name_len(text: &[u8]) -> usize
 
 /// The operator that the text begins with, and what follows it.
 #[tactic(auto, unfolding(crate::specs::MatcherReading::read_operator))]
-fn split_operator(text: &[u8]) -> Result<(Op, &[u8]), Kind>
-    ensures value { Gives (λ x. (x.0, x.1.now)) result (read_operator text.now) }
+fn read_operator(text: &[u8]) -> Result<(Op, &[u8]), Kind>
+    ensures value { ReturnsReading (λ x. (x.0, x.1.now)) result (read_operator text.now) }
     ensures utf8 { IfOk result (λ x. IsUtf8 text.now → IsUtf8 x.1.now) }
 {
     match text {
@@ -170,8 +229,8 @@ fn split_operator(text: &[u8]) -> Result<(Op, &[u8]), Kind>
 
 /// What a raw value says: what stands between its quotes, or all of it where it begins with none.
 #[tactic(auto, unfolding(crate::specs::MatcherReading::read_body))]
-fn body_of(raw: &[u8]) -> Result<&[u8], Kind>
-    ensures value { Gives (λ x. x.now) result (read_body raw.now) }
+fn read_body(raw: &[u8]) -> Result<&[u8], Kind>
+    ensures value { ReturnsReading (λ x. x.now) result (read_body raw.now) }
     ensures utf8 { IfOk result (λ body. IsUtf8 raw.now → IsUtf8 body.now) }
 {
     match raw {
@@ -210,7 +269,7 @@ fn first_quote(text: &[u8]) -> usize
 
 /// A body without its escapes.
 fn unescape(alloc: Global, body: &[u8]) -> Result<Vec<u8>, AllocError>
-    ensures { IfOk result (λ value. value.items ≡ unescaped body.now) }
+    ensures { IfOk result (λ value. value.items ≡ unescaped_text body.now) }
 {
     let mut value = Vec::new(alloc);
     let mut rest = body;

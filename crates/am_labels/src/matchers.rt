@@ -1,5 +1,6 @@
-ghost use Rattle.std.specs.Prelude.{◌≡◌, ◌≢◌, ◌<◌, ◌≤◌, ◌+◌, ◌==◌, [], ◌∷◌, ◌++◌, Some, length, IfOk, IfErr, OnOk, OnErr, slice_get};
-ghost use Rattle.am_labels.specs.Matcher.{all_hold};
+ghost use Rattle.std.specs.Prelude.{◌≡◌, ◌≢◌, ◌<◌, ◌≤◌, ◌+◌, ◌==◌, [], ◌∷◌, ◌++◌, Some, length};
+ghost use Rattle.std.specs.Prelude.{IfOk, IfErr, OnOk, OnErr, slice_get};
+ghost use Rattle.am_labels.specs.Words.{all_hold};
 ghost use Rattle.am_universe.specs.declared.kind.Kind.TheVariants as kinds;
 
 use crate::Matcher;
@@ -29,19 +30,21 @@ impl Model for Matchers {
 impl Matchers {
     /// The empty list, which every label set matches. It keeps the allocator.
     pub fn empty(alloc: Global) -> Matchers
-        ensures { result ≡ [] }
+        ensures no_matcher { result ≡ [] }
     {
         Matchers {
             matchers: Vec::new(alloc),
         }
     }
 
-    /// Adds a matcher at the end. `Limit` for one more than [`MAX_MATCHERS`]; `Memory`. After an `Err` nothing has changed.
+    /// Adds a matcher at the end. `Limit` for one more than [`MAX_MATCHERS`]; `Memory`. After an
+    /// `Err` nothing has changed.
     pub fn push(&mut self, matcher: Matcher) -> Result<(), Kind>
         ensures ok { OnOk result (self.new ≡ self.old ++ matcher ∷ []) }
         ensures room { OnOk result (length self.old < MAX_MATCHERS) }
         ensures full { length self.old ≡ MAX_MATCHERS → result ≡ Err kinds.Limit }
-        ensures refused { IfErr result (λ kind. kind ≢ kinds.Memory → (kind ≡ kinds.Limit) × (length self.old ≡ MAX_MATCHERS)) }
+        ensures refused { IfErr result (λ kind. kind ≢ kinds.Memory
+            → (kind ≡ kinds.Limit) × (length self.old ≡ MAX_MATCHERS)) }
         ensures err { OnErr result (self.new ≡ self.old) }
     {
         if self.len() >= MAX_MATCHERS {
@@ -53,13 +56,16 @@ impl Matchers {
         }
     }
 
-    /// Adds the matchers of another list at the end, in their order. `Limit` exactly where
-    /// there would be more than [`MAX_MATCHERS`] together, or else `Memory`. After an `Err` nothing has changed, and the other list is dropped.
+    /// Adds the matchers of another list at the end, in their order. `Limit` exactly where there
+    /// would be more than [`MAX_MATCHERS`] together, or else `Memory`. After an `Err` nothing has
+    /// changed, and the other list is dropped.
     pub fn append(&mut self, other: Matchers) -> Result<(), Kind>
         ensures ok { OnOk result (self.new ≡ self.old ++ other) }
         ensures room { OnOk result (length self.old + length other ≤ MAX_MATCHERS) }
-        ensures full { MAX_MATCHERS < length self.old + length other → result ≡ Err kinds.Limit }
-        ensures refused { IfErr result (λ kind. kind ≢ kinds.Memory → (kind ≡ kinds.Limit) × (MAX_MATCHERS < length self.old + length other)) }
+        ensures full { MAX_MATCHERS < length self.old + length other
+            → result ≡ Err kinds.Limit }
+        ensures refused { IfErr result (λ kind. kind ≢ kinds.Memory
+            → (kind ≡ kinds.Limit) × (MAX_MATCHERS < length self.old + length other)) }
         ensures err { OnErr result (self.new ≡ self.old) }
     {
         if self.len() + other.len() > MAX_MATCHERS {
@@ -82,7 +88,7 @@ impl Matchers {
 
     /// Whether there is no matcher.
     pub fn is_empty(&self) -> bool
-        ensures { result ≡ (length self.now == 0) }
+        ensures empty { result ≡ (length self.now == 0) }
     {
         self.matchers.is_empty()
     }
@@ -90,7 +96,7 @@ impl Matchers {
     /// The matcher at `i`.
     pub fn get(&self, i: usize) -> &Matcher
         requires { i < length self.now }
-        ensures { slice_get self.now i ≡ Some result.now }
+        ensures matcher { slice_get self.now i ≡ Some result.now }
     {
         &self.matchers[i]
     }
@@ -104,7 +110,7 @@ impl Matchers {
 
     /// Whether every matcher matches the label set. A label that is missing has the empty text.
     pub fn matches(&self, alloc: Global, set: &LabelSet) -> Result<bool, AllocError>
-        ensures { IfOk result (λ matched. matched ≡ all_hold set.now self.now) }
+        ensures matched { IfOk result (λ matched. matched ≡ all_hold set.now self.now) }
     {
         for matcher in &self.matchers {
             let text = set.get(matcher.name());

@@ -1,6 +1,5 @@
 ghost use Rattle.std.specs.Prelude.{◌≡◌, ◌≢◌, true, false, IfOk, IfErr, OnOk, string_bytes};
-ghost use Rattle.am_labels.specs.Pattern.{anchored, finds, is_pattern};
-ghost use Rattle.am_labels.specs.PatternCut.{in_profile};
+ghost use Rattle.am_labels.specs.Words.{anchored_pattern, finds, is_pattern, in_profile};
 ghost use Rattle.am_universe.specs.declared.kind.Kind.TheVariants as kinds;
 
 use crate::pattern_profile::is_in_profile;
@@ -27,19 +26,21 @@ impl Model for Pattern {
 }
 
 impl Pattern {
-    /// Compiles a pattern. `PatternProfile` exactly where it is outside the profile; otherwise `Pattern` where the
-    /// engine refuses it, and always where its grammar does not read the anchored text; `Memory`.
+    /// Compiles a pattern. `PatternProfile` exactly where it is outside the profile; otherwise
+    /// `Pattern` where the engine refuses it, and always where its grammar does not read the
+    /// anchored text; `Memory`.
     pub(crate) fn new(alloc: Global, value: &str) -> Result<Pattern, Kind>
         ensures value { IfOk result (λ p. p ≡ value.now) }
         ensures profile { OnOk result (in_profile value.now ≡ true) }
         ensures read { OnOk result (is_pattern value.now ≡ true) }
         ensures outside { in_profile value.now ≡ false → result ≡ Err kinds.PatternProfile }
-        ensures refused { in_profile value.now ≡ true → IfErr result (λ kind. kind ≢ kinds.Memory → kind ≡ kinds.Pattern) }
+        ensures refused { in_profile value.now ≡ true
+            → IfErr result (λ kind. kind ≢ kinds.Memory → kind ≡ kinds.Pattern) }
     {
         if !is_in_profile(value) {
             return Err(Kind::PatternProfile);
         }
-        let Ok(source) = anchored(alloc, value) else {
+        let Ok(source) = anchored_pattern(alloc, value) else {
             return Err(Kind::Memory);
         };
         match Regex::new(alloc, source.as_str()) {
@@ -60,8 +61,8 @@ impl Pattern {
     }
 }
 
-/// Searches for a pattern in one text after another. The engine keeps its caches from one to the next, and a search
-/// cannot fail.
+/// Searches for a pattern in one text after another. The engine keeps its caches from one to the
+/// next, and a search cannot fail.
 #[derive(Drop)]
 pub(crate) struct PatternMatcher<'p> {
     pattern: &'p Pattern,
@@ -91,8 +92,8 @@ impl<'p> PatternMatcher<'p> {
 }
 
 /// The text that is compiled for a pattern.
-fn anchored(alloc: Global, value: &str) -> Result<String, AllocError>
-    ensures { IfOk result (λ source. string_bytes source ≡ anchored value.now) }
+fn anchored_pattern(alloc: Global, value: &str) -> Result<String, AllocError>
+    ensures { IfOk result (λ source. string_bytes source ≡ anchored_pattern value.now) }
 {
     let mut source = String::new(alloc);
     source.push_str("^(?:")?;

@@ -1,112 +1,115 @@
 ghost use Rattle.std.specs.Prelude.{◌≡◌, ◌≤◌, ◌<◌, length, option_map, map, IfSome, ◌==◌, nat_eq};
 ghost use Rattle.std.specs.Prelude.{◌+◌, not};
 ghost use Rattle.std.specs.List.{list_any, find, starts_with, position};
-ghost use Rattle.am_labels.specs.PatternProfile.{outside_class, inside_class};
-ghost use Rattle.am_labels.specs.PatternProfile.{is_refused_escape, is_refused_flag};
-ghost use Rattle.am_labels.specs.PatternCut.{in_profile, first_step, unescaped_step, escape_len};
-ghost use Rattle.am_labels.specs.PatternCut.{flag_run, flag_run_len, begins_count, digits_len};
-ghost use Rattle.am_labels.specs.PatternCut.{class_start_len, named_class_at, up_to_brace, braces_len};
-ghost use Rattle.am_labels.specs.PatternSteps.{context_of, step_of};
+ghost use Rattle.am_labels.specs.declared.pattern_profile.ClassContext.TheVariants as contexts;
+ghost use Rattle.am_labels.specs.Words.{right_brace, is_refused_escape, is_refused_flag};
+ghost use Rattle.am_labels.specs.Words.{in_profile, first_step, unescaped_step, escape_len};
+ghost use Rattle.am_labels.specs.Words.{flag_run, flag_run_len, begins_count, digits_len};
+ghost use Rattle.am_labels.specs.Words.{class_start_len, named_class_at, up_to_brace, braces_len};
 
-/// Where a piece of a pattern stands: outside or inside a class.
+/// Where a piece of a pattern stands: outside or inside a class, which is in brackets.
 #[derive(Clone, Copy)]
-enum Region {
-    Outside,
-    Inside,
+enum ClassContext {
+    OutsideClass,
+    InsideClass,
 }
 
 /// A step through a pattern: how far it goes, and where what follows stands.
 #[derive(Clone, Copy)]
-struct Step {
+struct PieceStep {
     width: usize,
-    next: Region,
+    next: ClassContext,
 }
 
-impl Step {
-    fn to(width: usize, next: Region) -> Step
+impl PieceStep {
+    fn to(width: usize, next: ClassContext) -> PieceStep
         ensures { result ≡ record { width = width; next = next } }
     {
-        Step { width, next }
+        PieceStep { width, next }
     }
 }
 
-/// Whether the pattern is of the profile. It leaves out forms that Go's engine and the crate `regex` are known to
-/// refuse or to read differently, but not all of them.
+/// Whether the pattern is of the profile. It leaves out forms that Go's engine and the crate
+/// `regex` are known to refuse or to read differently, but not all of them.
 pub(crate) fn is_in_profile(pattern: &str) -> bool
     ensures { result ≡ in_profile pattern.now }
 {
-    let mut region = Region::Outside;
+    let mut context = ClassContext::OutsideClass;
     let mut rest = pattern.as_bytes();
     while !rest.is_empty() {
-        let Some(step) = first_step(region, rest) else {
+        let Some(step) = first_step(context, rest) else {
             return false;
         };
-        region = step.next;
+        context = step.next;
         rest = &rest[step.width..];
     }
     true
 }
 
 /// The first step through a text; `None` where it is refused.
-#[tactic(auto, using(crate::proofs::PatternCuts::region_back), unfolding(crate::specs::PatternCut::first_step))]
-fn first_step(region: Region, text: &[u8]) -> Option<Step>
+#[tactic(auto, unfolding(crate::specs::PatternCut::first_step))]
+fn first_step(context: ClassContext, text: &[u8]) -> Option<PieceStep>
     requires { 0 < length text.now }
-    ensures value { result ≡ step_of (first_step (context_of region) text.now) }
+    ensures value { result ≡ first_step context text.now }
     ensures within { IfSome result (λ step. step.width ≤ length text.now) }
     ensures some { IfSome result (λ step. 0 < step.width) }
 {
     if text.starts_with(b"\\") {
         let width = escape_len(&text[1..])?;
-        return Some(Step::to(width, region));
+        return Some(PieceStep::to(width, context));
     }
-    match region {
-        Region::Outside => outside_step(text),
-        Region::Inside => inside_step(text),
+    match context {
+        ClassContext::OutsideClass => outside_step(text),
+        ClassContext::InsideClass => inside_step(text),
     }
 }
 
 /// The first step outside a class, through a text that begins with no backslash.
 #[tactic(auto, unfolding(crate::specs::PatternCut::unescaped_step))]
-fn outside_step(text: &[u8]) -> Option<Step>
+fn outside_step(text: &[u8]) -> Option<PieceStep>
     requires { 0 < length text.now }
-    ensures value { result ≡ step_of (unescaped_step outside_class text.now) }
+    ensures value { result ≡ unescaped_step contexts.OutsideClass text.now }
     ensures within { IfSome result (λ step. step.width ≤ length text.now) }
     ensures some { IfSome result (λ step. 0 < step.width) }
 {
     if text.starts_with(b"(?") {
-        return has_only_common_flags(&text[2..]).then_some(Step::to(2, Region::Outside));
+        return has_only_common_flags(&text[2..]).then_some(PieceStep::to(
+            2,
+            ClassContext::OutsideClass,
+        ));
     }
     if text.starts_with(b"{") {
-        return begins_count(&text[1..]).then_some(Step::to(1, Region::Outside));
+        return begins_count(&text[1..]).then_some(PieceStep::to(1, ClassContext::OutsideClass));
     }
     if text.starts_with(b"[") {
-        return Some(Step::to(class_start_len(text), Region::Inside));
+        return Some(PieceStep::to(class_start_len(text), ClassContext::InsideClass));
     }
-    Some(Step::to(1, Region::Outside))
+    Some(PieceStep::to(1, ClassContext::OutsideClass))
 }
 
 /// The first step inside a class, through a text that begins with no backslash.
 #[tactic(auto, unfolding(crate::specs::PatternCut::unescaped_step))]
-fn inside_step(text: &[u8]) -> Option<Step>
+fn inside_step(text: &[u8]) -> Option<PieceStep>
     requires { 0 < length text.now }
-    ensures value { result ≡ step_of (unescaped_step inside_class text.now) }
+    ensures value { result ≡ unescaped_step contexts.InsideClass text.now }
     ensures within { IfSome result (λ step. step.width ≤ length text.now) }
     ensures some { IfSome result (λ step. 0 < step.width) }
 {
     if text.starts_with(b"[") {
         let width = named_class_len(text)?;
-        return Some(Step::to(width, Region::Inside));
+        return Some(PieceStep::to(width, ClassContext::InsideClass));
     }
     if text.starts_with(b"&&") || text.starts_with(b"--") || text.starts_with(b"~~") {
         return None;
     }
     if text.starts_with(b"]") {
-        return Some(Step::to(1, Region::Outside));
+        return Some(PieceStep::to(1, ClassContext::OutsideClass));
     }
-    Some(Step::to(1, Region::Inside))
+    Some(PieceStep::to(1, ClassContext::InsideClass))
 }
 
-/// The length of the escape that a backslash begins, from what stands behind it; `None` where it is refused.
+/// The length of the escape that a backslash begins, from what stands behind it; `None` where it is
+/// refused.
 fn escape_len(after: &[u8]) -> Option<usize>
     ensures value { result ≡ escape_len after.now }
     ensures within { IfSome result (λ n. n ≤ length after.now + 1) }
@@ -156,7 +159,7 @@ fn up_to_brace(text: &[u8]) -> usize
 }
 
 fn brace_at(text: &[u8]) -> Option<usize>
-    ensures value { result ≡ position (λ c. c == 125) text.now }
+    ensures value { result ≡ position (λ c. c == right_brace) text.now }
     ensures within { IfSome result (λ i. i < length text.now) }
 {
     text.iter().position(|b| *b == b'}')
@@ -275,7 +278,8 @@ fn named_class_len(text: &[u8]) -> Option<usize>
 
 /// The length of the first of the words with which the text begins.
 fn first_prefix_len(text: &[u8], words: &[&str]) -> Option<usize>
-    ensures value { result ≡ option_map (λ word. length word) (find (λ word. starts_with nat_eq text.now word) (map (λ w. w.now) words.now)) }
+    ensures value { result ≡ option_map (λ word. length word)
+        (find (λ word. starts_with nat_eq text.now word) (map (λ w. w.now) words.now)) }
     ensures within { IfSome result (λ n. n ≤ length text.now) }
 {
     for word in words {

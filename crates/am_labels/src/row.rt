@@ -1,9 +1,8 @@
 ghost use Rattle.std.specs.Prelude.{◌≡◌, ◌<◌, [], ◌∷◌, length, map, Some, IfOk, IfSome, slice_get};
-ghost use Rattle.am_universe.specs.Universe.{sizes, values_at};
-ghost use Rattle.am_labels.specs.Row.{row_of, truth_at, holds_of};
+ghost use Rattle.am_labels.specs.Words.{sizes, values_at, row_of, truth_at, truth_on_value};
 
 use crate::Matcher;
-use crate::matcher::Test;
+use crate::matcher::PreparedMatcher;
 use am_universe::Universe;
 use std::alloc::{AllocError, Global};
 use std::marker::Model;
@@ -29,16 +28,16 @@ impl Model for Row {
 impl Row {
     /// The position of the matcher's label; `None` where the label is not declared.
     pub fn label(&self) -> Option<usize>
-        ensures { result ≡ self.now.label }
+        ensures label { result ≡ self.now.label }
     {
         self.label
     }
 
-    /// Whether the matcher is true on the label's value at `j`. Where the label is not declared, the answer is the
-    /// same for every `j`: whether the matcher is true on the empty text.
+    /// Whether the matcher is true on the label's value at `j`. Where the label is not declared,
+    /// the answer is the same for every `j`: whether the matcher is true on the empty text.
     pub fn holds(&self, j: usize) -> bool
         requires { IfSome self.now.label (λ _. j < length self.now.truths) }
-        ensures { result ≡ truth_at self.now j }
+        ensures truth { result ≡ truth_at self.now j }
     {
         match self.label {
             Some(_) => self.truths[j],
@@ -48,18 +47,19 @@ impl Row {
 }
 
 impl Matcher {
-    /// The matcher's truth on each value of its label in the universe, absence being the empty text, and on the empty text
-    /// alone where the label is not declared. One search serves all values: none is made anew, and the memory of the row
-    /// itself is taken at once.
+    /// The matcher's truth on each value of its label in the universe, absence being the empty
+    /// text, and on the empty text alone where the label is not declared. One search serves all
+    /// values: none is made anew, and the memory of the row itself is taken at once.
     pub fn row(&self, alloc: Global, universe: &Universe) -> Result<Row, AllocError>
         ensures row { IfOk result (λ row. row ≡ row_of universe.now self.now) }
-        ensures sized { IfOk result (λ row. IfSome row.label (λ i. slice_get (sizes universe.now) i ≡ Some (length row.truths))) }
+        ensures sized { IfOk result (λ row. IfSome row.label (λ i.
+            slice_get (sizes universe.now) i ≡ Some (length row.truths))) }
     {
         let label = universe.position(self.name());
-        let mut test = self.test(alloc)?;
+        let mut prepared = self.prepare(alloc)?;
         let truths = match label {
-            Some(i) => declared_truths(alloc, &mut test, universe, i)?,
-            None => undeclared_truths(alloc, &mut test)?,
+            Some(i) => declared_truths(alloc, &mut prepared, universe, i)?,
+            None => undeclared_truths(alloc, &mut prepared)?,
         };
         Ok(Row { label, truths })
     }
@@ -68,27 +68,32 @@ impl Matcher {
 /// The truth on each value of a label.
 fn declared_truths(
     alloc: Global,
-    test: &mut Test<'_>,
+    prepared: &mut PreparedMatcher<'_>,
     universe: &Universe,
     i: usize,
 ) -> Result<Vec<bool>, AllocError>
     requires { i < length universe.now }
-    ensures truths { IfOk result (λ truths. truths.items ≡ map (holds_of test.old) (values_at universe.now i)) }
-    ensures sized { IfOk result (λ truths. slice_get (sizes universe.now) i ≡ Some (length truths.items)) }
+    ensures truths { IfOk result (λ truths.
+        truths.items ≡ map (truth_on_value prepared.old) (values_at universe.now i)) }
+    ensures sized { IfOk result (λ truths.
+        slice_get (sizes universe.now) i ≡ Some (length truths.items)) }
 {
     let size = universe.size(i);
     let mut truths = Vec::with_capacity(alloc, size)?;
     for j in 0..size {
-        truths.push(test.holds(universe.value(i, j).unwrap_or("")))?;
+        truths.push(prepared.holds(universe.value(i, j).unwrap_or("")))?;
     }
     Ok(truths)
 }
 
 /// The truth on the empty text.
-fn undeclared_truths(alloc: Global, test: &mut Test<'_>) -> Result<Vec<bool>, AllocError>
-    ensures { IfOk result (λ truths. truths.items ≡ holds_of test.old None ∷ []) }
+fn undeclared_truths(
+    alloc: Global,
+    prepared: &mut PreparedMatcher<'_>,
+) -> Result<Vec<bool>, AllocError>
+    ensures { IfOk result (λ truths. truths.items ≡ truth_on_value prepared.old None ∷ []) }
 {
     let mut truths = Vec::with_capacity(alloc, 1)?;
-    truths.push(test.holds(""))?;
+    truths.push(prepared.holds(""))?;
     Ok(truths)
 }

@@ -1,5 +1,5 @@
-use Rattle.am_labels.proofs.SetValues.{value_of_unlisted}
+use Rattle.am_labels.proofs.ParsedLabelSetLemmas.{value_of_unlisted}
 use Rattle.am_labels.proofs.laws.unlisted_value.Goals as goal
 
 pub returns : goal.returns
-returns c = value_of_unlisted
+returns c = record { value = value_of_unlisted }

@@ -3,7 +3,7 @@ use Rattle.std.proofs.lemmas.Grind.{common_steps}
 use Rattle.std.proofs.lemmas.List.{take_rest}
 use Rattle.std.proofs.lemmas.Result.{err_from_is_err_and}
 use Rattle.std.proofs.lemmas.Str.{IsUtf8-between, IsUtf8-drop, IsCharBoundary-start, IsCharBoundary-before_ascii, IsCharBoundary-after_ascii}
-use Rattle.am_labels.specs.MatcherText.{is_cut}
+use Rattle.am_labels.specs.MatcherText.{is_separator}
 use Rattle.am_labels.proofs.MatcherTextPieces.{told_at_first, told_at_cut, told_past, refused_at_cut, refused_at_end, told_at_end, told_at_blank}
 use Rattle.am_labels.proofs.matcher_text.read_pieces.Goals as goal
 use Rattle.am_labels.proofs.matcher_text.read_pieces.Goals.{then-byte-eq44+then-not-is_quoted+in_ok-read_piece+in_ok-push, else-byte-eq44, else-byte-eq44-via-then-byte-eq44+else-not-is_quoted, else-byte-eq44-via-else-byte-eq44, then-not-is_blank+in_ok-read_piece-2+in_ok-push-2, else-not-is_blank}
@@ -26,7 +26,7 @@ pub returns-in_err-read_piece : goal.returns-in_err-read_piece
 returns-in_err-read_piece c =
     let p = err_from_is_err_and c.from_residual.result c.from_residual.ensures.1 in
     let outside = c.is_quoted.ensures c.args.text.now c.loop-i.i c.loop-i.invariant.state in
-    let cut : is_cut c.args.text.now c.loop-i.i ≡ true = grind (arith, common_steps) in
+    let cut : is_separator c.args.text.now c.loop-i.i ≡ true = grind (arith, common_steps) in
     rw (p.1, p.2) (refused_at_cut c.in_err-read_piece.field-0.0 c.args.text.now c.loop-i.start c.loop-i.i c.loop-i.list.items _ (omega arith) cut c.in_err-read_piece.ensures c.loop-i.invariant.told)
 
 pub loop-i-preserved : goal.loop-i-preserved
@@ -42,11 +42,11 @@ loop-i-preserved c = record {
   told = elim c.if-byte-eq44.branch [
     | then-byte-eq44+then-not-is_quoted+in_ok-read_piece+in_ok-push w ↦
         let outside = w.is_quoted.ensures c.args.text.now c.loop-i.i c.loop-i.invariant.state in
-        let cut : is_cut c.args.text.now c.loop-i.i ≡ true = grind (arith, common_steps) in
+        let cut : is_separator c.args.text.now c.loop-i.i ≡ true = grind (arith, common_steps) in
         rw (w.list-is, w.start-is, w.in_ok-push.ensures.items)
         (told_at_cut c.args.text.now c.loop-i.start c.loop-i.i c.loop-i.list.items w.in_ok-read_piece.field-0 _ (omega arith) cut w.in_ok-read_piece.ensures c.loop-i.invariant.told)
     | else-byte-eq44 w ↦
-        let whole : is_cut c.args.text.now c.loop-i.i ≡ false = elim w.else-byte-eq44.branch [
+        let whole : is_separator c.args.text.now c.loop-i.i ≡ false = elim w.else-byte-eq44.branch [
           | else-byte-eq44-via-then-byte-eq44+else-not-is_quoted v ↦
               let inside = v.is_quoted.ensures c.args.text.now c.loop-i.i c.loop-i.invariant.state in
               grind (arith, common_steps)

@@ -1,10 +1,9 @@
 use Rattle.std.proofs.Common.{◌≡◌, length}
-use Rattle.am_labels.specs.PatternCut.{in_profile, is_clean}
-use Rattle.am_labels.specs.PatternSteps.{context_of}
+use Rattle.am_labels.specs.PatternCut.{in_profile, has_no_refused_piece}
 use Rattle.am_labels.proofs.pattern_profile.is_in_profile.Given as goal
 
 abbrev pub invariant-loop-rest : goal.invariant-loop-rest
-invariant-loop-rest l = is_clean (context_of l.region) l.rest ≡ in_profile l.pattern
+invariant-loop-rest l = has_no_refused_piece l.context l.rest ≡ in_profile l.pattern
 
 abbrev pub decreases-loop-rest : goal.decreases-loop-rest
 decreases-loop-rest l = length l.rest

@@ -1,5 +1,5 @@
 -- A matcher searches for what was compiled.
-use Rattle.am_labels.proofs.Patterns.{searches-compiled}
+use Rattle.am_labels.proofs.PatternLemmas.{searches-compiled}
 use Rattle.am_labels.proofs.pattern.Pattern.matcher.Goals as goal
 
 pub invariant_of-result : goal.invariant_of-result

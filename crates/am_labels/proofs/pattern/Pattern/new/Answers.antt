@@ -1,6 +1,6 @@
 -- What was compiled is the anchored text, and the grammar reads it.
 use Rattle.std.proofs.Common.{◌∙◌}
-use Rattle.am_labels.proofs.Patterns.{is_pattern-compiled}
+use Rattle.am_labels.proofs.PatternLemmas.{is_pattern-compiled}
 use Rattle.am_labels.proofs.pattern.Pattern.new.Goals as goal
 
 pub returns-in-Ok-new-clause-read : goal.returns-in-Ok-new-clause-read

@@ -12,11 +12,11 @@ use Rattle.am_universe.specs.Universe.{Label, IsUniverse, sizes, values_at, labe
 use Rattle.am_universe.specs.Choice.{IsWhole}
 use Rattle.am_universe.specs.LabelSet.{value_of, label_set_of}
 use Rattle.am_labels.specs.Matcher.{Condition, holds, condition_holds, all_hold}
-use Rattle.am_labels.specs.Row.{holds_of, truths_of, truth_among, row_of, row_holds, rows_hold}
-use Rattle.am_universe.proofs.ValuesAt.{value_in}
-use Rattle.am_universe.proofs.Values.{value_of_declared, value_of_undeclared}
-use Rattle.am_universe.proofs.Universes.{no_label}
-use Rattle.am_universe.proofs.Wholes.{admitted_at}
+use Rattle.am_labels.specs.Row.{truth_on_value, truths_of, truth_among, row_of, row_holds, rows_hold}
+use Rattle.am_universe.proofs.LabelValueLemmas.{value_in}
+use Rattle.am_universe.proofs.LabelSetLemmas.{value_of_declared, value_of_undeclared}
+use Rattle.am_universe.proofs.UniverseLemmas.{no_label}
+use Rattle.am_universe.proofs.WholeChoiceLemmas.{admitted_at}
 
 none_from : {X : Type 0} (p : X → Bool) (i : ℕ) (xs : List X) → position_from p i xs ≡ None → (k : ℕ) (d : X) → k < length xs → p (get_or xs k d) ≡ false
 none_from p i [] e k d h = absurd (omega arith)
@@ -46,7 +46,7 @@ declared u c m i h whole e =
     let value : value_of (label_set_of u c) m.name ≡ unwrap_or (get_or l.values p None) [] =
     ap (value_of (label_set_of u c)) (sym named) ∙ value_of_declared u c i l p h label chosen ∙ ap (λ o. unwrap_or o []) (value_in l.values p below) in
     let values : values_at u i ≡ l.values = ap (λ o. unwrap_or (option_map (λ l. l.values) o) []) label in
-    ap (holds m.op m.value) value ∙ sym (ap (λ vs. get_or (map (holds_of m) vs) p false) values ∙ get_or-map (holds_of m) l.values p None false below)
+    ap (holds m.op m.value) value ∙ sym (ap (λ vs. get_or (map (truth_on_value m) vs) p false) values ∙ get_or-map (truth_on_value m) l.values p None false below)
 
 undeclared : (u : List Label) (c : List ℕ) (m : Condition) → label_position u m.name ≡ None
     → condition_holds (label_set_of u c) m ≡ truth_among None (truths_of u m None) 0

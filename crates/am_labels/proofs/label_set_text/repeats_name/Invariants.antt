@@ -1,6 +1,6 @@
 use Rattle.std.proofs.Common.{◌≡◌, drop}
-use Rattle.am_labels.specs.SetReading.{repeats_name}
-use Rattle.am_labels.proofs.parse.repeats_name.Given as goal
+use Rattle.am_labels.specs.ParsedLabelSet.{repeats_name}
+use Rattle.am_labels.proofs.label_set_text.repeats_name.Given as goal
 
 -- those that are left decide
 abbrev pub invariant-loop-i : goal.invariant-loop-i

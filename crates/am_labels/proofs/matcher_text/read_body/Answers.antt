@@ -3,7 +3,7 @@ use Rattle.std.proofs.lemmas.List.{take_rest}
 use Rattle.am_labels.proofs.MatcherTextBodies.{unread_quoted}
 use Rattle.std.proofs.lemmas.Grind.{common_steps}
 use Rattle.am_labels.proofs.MatcherTextUtf8.{utf8_after_one, utf8_before_quote}
-use Rattle.am_labels.proofs.matcher_text.body_of.Goals as goal
+use Rattle.am_labels.proofs.matcher_text.read_body.Goals as goal
 
 pub returns-then-end-rest-clause-utf8 : goal.returns-then-end-rest-clause-utf8
 returns-then-end-rest-clause-utf8 c = λ u.

@@ -10,11 +10,11 @@ use Rattle.std.specs.FinMap as finite
 use Rattle.std.proofs.lemmas.Bool.{cases_Bool, or_parts}
 use Rattle.am_universe.specs.Text.{same_text}
 use Rattle.am_universe.specs.LabelSet.{LabelMap, value_of, with_value}
-use Rattle.am_universe.proofs.LabelMaps.{removed_at, inserted_at}
-use Rattle.am_universe.proofs.Members.{IsIn, IsIn-from_Contains, Contains-from_IsIn}
-use Rattle.am_universe.proofs.Values.{same_text-itself}
+use Rattle.am_universe.proofs.LabelMapLemmas.{removed_at, inserted_at}
+use Rattle.am_universe.proofs.ListLemmas.{IsIn, IsIn-from_Contains, Contains-from_IsIn}
+use Rattle.am_universe.proofs.LabelSetLemmas.{same_text-itself}
 use Rattle.am_labels.specs.Matcher.{Condition}
-use Rattle.am_labels.specs.SetReading.{repeats_name, set_of_list}
+use Rattle.am_labels.specs.ParsedLabelSet.{repeats_name, set_of_list}
 
 removed_value : (b : Bool) (found : Option (List ℕ))
     → unwrap_or (cond b None found) [] ≡ cond b [] (unwrap_or found [])

@@ -1,5 +1,6 @@
--- What label set a matcher text gives. (This project's own.)
-use Rattle.std.specs.Prelude.{◌≡◌, ℕ, ◌≤◌, List, [], ◌∷◌, length, Bool, true, false, ◌||◌, fold, IsTrue, ◌⊎◌}
+-- What label set a matcher text gives, and why it gives none.
+use Rattle.std.specs.Prelude.{◌≡◌, ℕ, ◌≤◌, List, [], ◌∷◌, length, Bool, true, false, ◌||◌}
+use Rattle.std.specs.Prelude.{fold, IsTrue, ◌⊎◌}
 use Rattle.std.specs.List.{list_all, list_any}
 use Rattle.std.specs.FinMap as finite
 use Rattle.am_labels.specs.declared.op.Op.{Op}
@@ -11,29 +12,32 @@ use Rattle.am_universe.specs.LabelSet.{LabelMap, with_value}
 use Rattle.am_labels.specs.declared.limits.TheConstants.{MAX_MATCHERS}
 use Rattle.am_labels.specs.Matcher.{Condition}
 use Rattle.am_labels.specs.MatcherText.{Spells}
-use Rattle.am_labels.specs.MatcherRefusals.{have_sound_values, RefusesText}
+use Rattle.am_labels.specs.MatcherRefusals.{have_valid_patterns, TextRefusedFor}
 
--- the operator is `=`
+-- An operator is `=`; and each operator of a list is.
 abbrev pub is_equality : Op → Bool
 is_equality Equal = true
 is_equality NotEqual = false
 is_equality Matches = false
 is_equality NotMatches = false
 
--- each operator is `=`
 abbrev pub are_equalities : List Condition → Bool
 are_equalities ms = list_all (λ m. is_equality m.op) ms
 
--- a name stands twice
+-- A name stands twice.
 abbrev pub repeats_name : List Condition → Bool
 repeats_name [] = false
-repeats_name (m ∷ ms) = list_any (λ other. same_text other.name m.name) ms || repeats_name ms
+repeats_name (m ∷ ms) =
+    list_any (λ other. same_text other.name m.name) ms || repeats_name ms
 
 -- The set that has each name with its value. An empty value leaves the label out.
 abbrev pub set_of_list : List Condition → LabelMap
 set_of_list ms = fold (λ s m. with_value s m.name m.value) finite.empty ms
 
--- a text gives a set: that of the list that it spells, not too long, each matcher with `=`, no name twice
+-- A text gives a set: that of the list that it spells, of at most `MAX_MATCHERS`, each with `=`, no
+-- name twice.
+-- Source: own choice.
+-- Example: `team="db",severity=""` gives the set with `team` alone.
 pub record SpellsSet (text : List ℕ) (set : LabelMap) : Type 0 where
   pub list : List Condition
   pub spelled : Spells text list
@@ -42,20 +46,21 @@ pub record SpellsSet (text : List ℕ) (set : LabelMap) : Type 0 where
   pub distinct : repeats_name list ≡ false
   pub set_is : set ≡ set_of_list list
 
--- a list of matchers gives no set: an operator is not `=`, or else a name stands twice
-abbrev pub RefusesSetOf : List Condition → Kind → Type 0
-RefusesSetOf ms kind =
+-- A list of matchers gives no set: for `BadMatcher`, an operator is not `=`; or else for
+-- `Duplicate`, a name stands twice.
+abbrev pub SetRefusedFor : List Condition → Kind → Type 0
+SetRefusedFor ms kind =
     ((are_equalities ms ≡ false) × (kind ≡ kinds.BadMatcher))
     ⊎ ((are_equalities ms ≡ true) × (repeats_name ms ≡ true) × (kind ≡ kinds.Duplicate))
 
--- a text spells a list that is not refused by itself, and gives no set
-pub record SpellsNoSet (text : List ℕ) (kind : Kind) : Type 0 where
+-- A text spells a list that is not refused by itself, and gives no set.
+pub record SpellsSetRefusedFor (text : List ℕ) (kind : Kind) : Type 0 where
   pub list : List Condition
   pub spelled : Spells text list
   pub at_most : length list ≤ MAX_MATCHERS
-  pub sound : IsTrue (have_sound_values list)
-  pub refused : RefusesSetOf list kind
+  pub valid_patterns : IsTrue (have_valid_patterns list)
+  pub refused : SetRefusedFor list kind
 
--- a text is refused as a label set: as a list of matchers, or else because that list gives no set
-abbrev pub RefusesSet : List ℕ → Kind → Type 0
-RefusesSet text kind = RefusesText text kind ⊎ SpellsNoSet text kind
+-- A text is refused as a label set: as a list of matchers, or else because that list gives no set.
+abbrev pub SetTextRefusedFor : List ℕ → Kind → Type 0
+SetTextRefusedFor text kind = TextRefusedFor text kind ⊎ SpellsSetRefusedFor text kind

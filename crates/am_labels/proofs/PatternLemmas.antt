@@ -10,19 +10,19 @@ use Rattle.regex.specs.Patterns.{Re, default_config}
 use Rattle.regex.specs.Strings.{regex_pattern, regex_source, regex_config, IsReadFromSource}
 use Rattle.regex.specs.declared.string.regex.Regex.{Regex}
 use Rattle.regex.proofs.OnLiterals.{is_match_as_written, same_refl}
-use Rattle.am_labels.specs.Pattern.{anchored, reading, is_pattern}
+use Rattle.am_labels.specs.Pattern.{anchored_pattern, pattern_reading, is_pattern}
 use Rattle.am_labels.specs.PatternView.{pattern_text, IsAnchored, SearchesFor}
 
-module _ (r : Regex) (p : List ℕ) (source : regex_source r ≡ anchored p) (config : regex_config r ≡ default_config) (is_read : IsReadFromSource r) where
+module _ (r : Regex) (p : List ℕ) (source : regex_source r ≡ anchored_pattern p) (config : regex_config r ≡ default_config) (is_read : IsReadFromSource r) where
   -- by what the grammar answers
-  read_by : (o : Option (Nested Re × Names)) → read default_config (chars (anchored p)) ≡ o →
+  read_by : (o : Option (Nested Re × Names)) → read default_config (chars (anchored_pattern p)) ≡ o →
       (is_pattern p ≡ true) × SearchesFor (regex_pattern r) p
-  unfolding Reads reading
+  unfolding Reads pattern_reading
   read_by None e = absurd (rw (source, config, e) at is_read)
   read_by (Some found) e = (
     rw e refl,
     λ text bytes.
-        is_match_as_written r (anchored p) found.0.value source config is_read (rw e (same_refl _)) text bytes 0 ∙ rw e refl,
+        is_match_as_written r (anchored_pattern p) found.0.value source config is_read (rw e (same_refl _)) text bytes 0 ∙ rw e refl,
   )
 
   pub is_pattern-compiled : is_pattern p ≡ true
@@ -31,20 +31,20 @@ module _ (r : Regex) (p : List ℕ) (source : regex_source r ≡ anchored p) (co
   pub searches-compiled : SearchesFor (regex_pattern r) p
   searches-compiled = (read_by _ refl).1
 
-anchors_len : (p : List ℕ) → length (anchored p) - 6 ≡ length p
+anchors_len : (p : List ℕ) → length (anchored_pattern p) - 6 ≡ length p
 anchors_len p = omega (arith, length-append p (codes ")$"))
 
 -- the pattern is what stands between the anchors
-pub between_anchors : (p : List ℕ) → take (length (anchored p) - 6) (drop 4 (anchored p)) ≡ p
+pub between_anchors : (p : List ℕ) → take (length (anchored_pattern p) - 6) (drop 4 (anchored_pattern p)) ≡ p
 between_anchors p = ap (λ n. take n (p ++ codes ")$")) (anchors_len p) ∙ take-append_seam p (codes ")$")
 
-module _ (r : Regex) (p : List ℕ) (source : regex_source r ≡ anchored p) where
+module _ (r : Regex) (p : List ℕ) (source : regex_source r ≡ anchored_pattern p) where
   pub text-compiled : pattern_text r ≡ p
   text-compiled = rw source (between_anchors p)
 
   pub IsAnchored-compiled : regex_config r ≡ default_config → IsReadFromSource r → IsAnchored r
   IsAnchored-compiled config is_read = record {
-    source = source ∙ ap anchored (sym text-compiled);
+    source = source ∙ ap anchored_pattern (sym text-compiled);
     config = config;
     read = is_read;
   }

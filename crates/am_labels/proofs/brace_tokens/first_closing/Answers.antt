@@ -1,15 +1,15 @@
 use Rattle.std.proofs.Common.{◌≡◌, true, false, length, sym, refl, below_more, arith}
 use Rattle.std.proofs.lemmas.Grind.{common_steps}
-use Rattle.am_labels.specs.BraceToken.{closes}
-use Rattle.am_labels.proofs.BraceTokens.{find_at, find_none}
-use Rattle.am_labels.proofs.braces.first_closing.Goals as goal
-use Rattle.am_labels.proofs.braces.first_closing.Goals.{else-byte-eq125-via-then-byte-eq125+else-not-is_quoted, else-byte-eq125-via-else-byte-eq125}
+use Rattle.am_labels.specs.BraceToken.{is_closing_brace}
+use Rattle.am_labels.proofs.BraceTokenLemmas.{find_at, find_none}
+use Rattle.am_labels.proofs.brace_tokens.first_closing.Goals as goal
+use Rattle.am_labels.proofs.brace_tokens.first_closing.Goals.{else-byte-eq125-via-then-byte-eq125+else-not-is_quoted, else-byte-eq125-via-else-byte-eq125}
 
 pub returns-then-not-is_quoted-clause-place : goal.returns-then-not-is_quoted-clause-place
 returns-then-not-is_quoted-clause-place c =
     let outside = c.is_quoted.ensures c.args.text.now c.loop-i.i c.loop-i.invariant.state in
-    let here : closes c.args.text.now c.loop-i.i ≡ true = grind (arith, common_steps) in
-    sym (find_at (closes c.args.text.now) 0 (length c.args.text.now) c.loop-i.i (omega arith) (omega arith) c.loop-i.invariant.none_before here)
+    let here : is_closing_brace c.args.text.now c.loop-i.i ≡ true = grind (arith, common_steps) in
+    sym (find_at (is_closing_brace c.args.text.now) 0 (length c.args.text.now) c.loop-i.i (omega arith) (omega arith) c.loop-i.invariant.none_before here)
 
 pub loop-i-init : goal.loop-i-init
 loop-i-init c = record { state = c.start-state.ensures c.args.text.now; none_before = λ k h. absurd (omega arith) }
@@ -18,7 +18,7 @@ pub loop-i-preserved : goal.loop-i-preserved
 loop-i-preserved c = record {
   state = c.next-state.ensures c.args.text.now c.loop-i.i (omega arith) refl c.loop-i.invariant.state;
   none_before =
-      let whole : closes c.args.text.now c.loop-i.i ≡ false = elim c.else-byte-eq125.branch [
+      let whole : is_closing_brace c.args.text.now c.loop-i.i ≡ false = elim c.else-byte-eq125.branch [
         | else-byte-eq125-via-then-byte-eq125+else-not-is_quoted v ↦
             let inside = v.is_quoted.ensures c.args.text.now c.loop-i.i c.loop-i.invariant.state in
             grind (arith, common_steps)
@@ -28,4 +28,4 @@ loop-i-preserved c = record {
 }
 
 pub returns-clause-place : goal.returns-clause-place
-returns-clause-place c = sym (find_none (closes c.args.text.now) 0 (length c.args.text.now) (λ k h. c.loop-i.invariant.none_before k (omega arith)))
+returns-clause-place c = sym (find_none (is_closing_brace c.args.text.now) 0 (length c.args.text.now) (λ k h. c.loop-i.invariant.none_before k (omega arith)))

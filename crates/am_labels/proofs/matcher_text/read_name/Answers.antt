@@ -1,5 +1,5 @@
 use Rattle.am_labels.proofs.MatcherTextUtf8.{name_ascii, utf8_after_name}
-use Rattle.am_labels.proofs.matcher_text.split_name.Goals as goal
+use Rattle.am_labels.proofs.matcher_text.read_name.Goals as goal
 
 pub returns-in-len1-up-clause-ascii : goal.returns-in-len1-up-clause-ascii
 returns-in-len1-up-clause-ascii c = rw (c.split_at.ensures.front, c.name_len.ensures.value) (name_ascii c.args.text.now)

@@ -1,10 +1,10 @@
 use Rattle.std.proofs.Common.{◌≡◌, ℕ, ◌<◌, false}
 use Rattle.am_labels.specs.QuoteState.{IsStateAt}
-use Rattle.am_labels.specs.BraceToken.{closes}
-use Rattle.am_labels.proofs.braces.first_closing.Given as goal
+use Rattle.am_labels.specs.BraceToken.{is_closing_brace}
+use Rattle.am_labels.proofs.brace_tokens.first_closing.Given as goal
 
 abbrev pub invariant-loop-i : goal.invariant-loop-i
 invariant-loop-i l = record {
   state : IsStateAt l.text l.i l.state;
-  none_before : (k : ℕ) → k < l.i → closes l.text k ≡ false;
+  none_before : (k : ℕ) → k < l.i → is_closing_brace l.text k ≡ false;
 }

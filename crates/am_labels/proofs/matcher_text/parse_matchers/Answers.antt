@@ -1,6 +1,6 @@
 use Rattle.std.proofs.Common.{arith}
-use Rattle.am_labels.proofs.MatcherLists.{text_refused}
-use Rattle.am_labels.proofs.parse.parse_matchers.Goals as goal
+use Rattle.am_labels.proofs.MatcherRefusalLemmas.{text_refused}
+use Rattle.am_labels.proofs.matcher_text.parse_matchers.Goals as goal
 
 pub returns-clause-refused : goal.returns-clause-refused
 returns-clause-refused c =

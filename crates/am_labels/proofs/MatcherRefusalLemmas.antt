@@ -1,0 +1,44 @@
+-- Why a list of matchers, or its text, is refused.
+use Rattle.std.proofs.Common.{◌≡◌, ◌≢◌, sym, ◌∙◌, ap, subst, inl, inr, ℕ, suc, List, [], ◌∷◌, ◌++◌, length, ◌≤◌, arith, IsTrue, Result, Ok, Err, IfErr}
+use Rattle.std.specs.List.{All}
+use Rattle.am_universe.specs.declared.kind.Kind.{Kind}
+use Rattle.am_universe.specs.declared.kind.Kind.TheVariants as kinds
+use Rattle.am_labels.specs.declared.limits.TheConstants.{MAX_MATCHERS}
+use Rattle.am_labels.specs.MatcherText.{Spells}
+use Rattle.am_labels.specs.Matcher.{Condition}
+use Rattle.am_labels.specs.MatcherRefusals.{have_valid_patterns, MatcherRefusedFor, PatternsRefusedFor, TextRefusedFor}
+
+-- what is said of all elements is said of one behind others
+all_at : {X : Type 0} (P : X → Type 0) (xs : List X) (x : X) (rest : List X) → All P (xs ++ x ∷ rest) → P x
+all_at P [] x rest h = h 0 x (omega arith)
+all_at P (y ∷ ys) x rest h = all_at P ys x rest (λ k d l. h (suc k) d (omega arith))
+
+-- a list is refused at a named one behind others whose patterns are valid
+pub refused_at : (before : List Condition) (x : Condition) (after list : List Condition) (kind : Kind)
+    → before ++ x ∷ after ≡ list → All (λ s. s.name ≢ []) list
+    → IsTrue (have_valid_patterns before) → MatcherRefusedFor x kind
+    → PatternsRefusedFor list kind
+refused_at before x after list kind e named valid_patterns refused =
+    elim refused [
+      | inl unnamed ↦ absurd (all_at (λ (s : Condition). s.name ≢ []) before x after (subst (All (λ (s : Condition). s.name ≢ [])) (sym e) named) unnamed.0)
+      | inr value ↦ record {
+        before = before;
+        refused = x;
+        after = after;
+        parts = sym e;
+        earlier = valid_patterns;
+        value = value.1;
+      }
+    ]
+
+-- a text that spells a list is refused where the list is, unless that is too long
+pub text_refused : {X : Type 0} (r : Result X Kind) (text : List ℕ) (list : List Condition)
+    → Spells text list → length list ≤ MAX_MATCHERS
+    → IfErr r (λ kind. kind ≢ kinds.Memory → PatternsRefusedFor list kind)
+    → IfErr r (λ kind. kind ≢ kinds.Memory → TextRefusedFor text kind)
+text_refused (Ok x) text list spelled few refused = tt
+text_refused (Err kind) text list spelled few refused = λ other. inr (record {
+  list = list;
+  spelled = spelled;
+  refused = inr (few, refused other);
+})

@@ -1,0 +1,34 @@
+//! Where the braces of a question end.
+
+ghost use Rattle.std.specs.Prelude.{◌≡◌, ◌<◌, length, IfSome};
+ghost use Rattle.am_labels.specs.Words.{first_closing, brace_len};
+
+use crate::quotes::QuoteState;
+
+/// The length in bytes of the brace token that a text begins with: from its `{` to the first `}`
+/// outside quoted parts, which are those of a matcher text. `None` where it begins with no `{`, or
+/// no such `}` follows.
+pub fn brace_len(text: &str) -> Option<usize>
+    ensures len { result ≡ brace_len text.now }
+{
+    if !text.starts_with('{') {
+        return None;
+    }
+    let last = first_closing(text.as_bytes())?;
+    Some(last + 1)
+}
+
+/// The place of the first closing brace outside quoted parts.
+fn first_closing(text: &[u8]) -> Option<usize>
+    ensures place { result ≡ first_closing text.now }
+    ensures within { IfSome result (λ i. i < length text.now) }
+{
+    let mut state = QuoteState::start();
+    for (i, byte) in text.iter().enumerate() {
+        if *byte == b'}' && !state.is_quoted() {
+            return Some(i);
+        }
+        state = state.next(*byte);
+    }
+    None
+}

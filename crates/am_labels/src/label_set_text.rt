@@ -1,0 +1,69 @@
+//! Reading the text of a label set.
+
+ghost use Rattle.std.specs.Prelude.{◌≡◌, ◌≢◌, IfOk, IfErr};
+ghost use Rattle.std.specs.List.{list_any};
+ghost use Rattle.am_labels.specs.Words.{same_text, are_equalities, repeats_name, set_of_list};
+ghost use Rattle.am_labels.specs.Words.{SpellsSet, SetTextRefusedFor};
+ghost use Rattle.am_universe.specs.declared.kind.Kind.TheVariants as kinds;
+
+use crate::Matcher;
+use crate::matcher_text::parse_matchers;
+use am_universe::{Kind, LabelSet};
+use std::alloc::{AllocError, Global};
+
+/// Reads a label set from the text of a list of matchers, each with `=`, as
+/// `team="db",severity="warning"`. An empty value leaves the label out.
+///
+/// The first of: the refusals of `parse_matchers`; `BadMatcher`, an operator is not `=`;
+/// `Duplicate`, a name stands twice, also where a value is empty. `Memory` comes wherever memory
+/// ran out.
+pub fn parse_set(alloc: Global, text: &str) -> Result<LabelSet, Kind>
+    ensures spelled { IfOk result (λ set. SpellsSet text.now set) }
+    ensures refused { IfErr result (λ kind. kind ≢ kinds.Memory → SetTextRefusedFor text.now kind) }
+{
+    let matchers = parse_matchers(alloc, text)?;
+    if !are_equalities(matchers.as_slice()) {
+        return Err(Kind::BadMatcher);
+    }
+    if repeats_name(matchers.as_slice()) {
+        return Err(Kind::Duplicate);
+    }
+    Ok(set_of_list(alloc, matchers.as_slice())?)
+}
+
+fn are_equalities(matchers: &[Matcher]) -> bool
+    ensures { result ≡ are_equalities matchers.now }
+{
+    matchers.iter().all(|matcher| matcher.op().is_equality())
+}
+
+/// Whether a name stands twice.
+fn repeats_name(matchers: &[Matcher]) -> bool
+    ensures { result ≡ repeats_name matchers.now }
+{
+    for (i, matcher) in matchers.iter().enumerate() {
+        if has_name(&matchers[i + 1..], matcher.name()) {
+            return true;
+        }
+    }
+    false
+}
+
+fn has_name(matchers: &[Matcher], name: &str) -> bool
+    ensures { result ≡ list_any (λ other. same_text other.name name.now) matchers.now }
+{
+    matchers.iter().any(|other| other.name() == name)
+}
+
+/// The set that has each name with its value.
+fn set_of_list(alloc: Global, matchers: &[Matcher]) -> Result<LabelSet, AllocError>
+    ensures { IfOk result (λ set. set ≡ set_of_list matchers.now) }
+{
+    let mut set = LabelSet::empty(alloc);
+    for matcher in matchers {
+        let name = String::from_str(alloc, matcher.name())?;
+        let value = String::from_str(alloc, matcher.value())?;
+        set.put(name, value)?;
+    }
+    Ok(set)
+}
