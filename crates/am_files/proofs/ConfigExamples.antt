@@ -1,16 +1,15 @@
 -- Worked examples of the places of a configuration file.
-use Rattle.std.proofs.Common.{◌≡◌, ℕ, List, [], ◌∷◌, ◌++◌, replicate, Option, Some, None, refl}
+use Rattle.std.proofs.Common.{◌≡◌, ℕ, List, [], ◌∷◌, replicate, Some, None, refl}
 use Rattle.std.proofs.Common.{codes, zero, suc}
 use Rattle.std.specs.Fmt as fmt
 use Rattle.am_labels.specs.MatcherReading as reading
 use Rattle.serde_json.specs.Data.{Data, null, number, string, array, object, unsigned, Items}
 use Rattle.serde_json.specs.Data.{no_items, item, Members, no_members, member}
-use Rattle.am_universe.specs.declared.kind.Kind.{Kind}
 use Rattle.am_universe.specs.declared.kind.Kind.TheVariants as kinds
 use Rattle.am_files.specs.Places.{pointer_of, IsBefore, object_itself, other_field, in_field}
 use Rattle.am_files.specs.ConfigFaults.{RoutePlace, ConfigPlace, route_receiver, route_matchers}
-use Rattle.am_files.specs.ConfigFaults.{route_match, route_match_re, one_text, text_alone}
-use Rattle.am_files.specs.ConfigFaults.{text_pattern, text_total, texts_given, one_pair, pair_total}
+use Rattle.am_files.specs.ConfigFaults.{route_match, route_match_re, one_text}
+use Rattle.am_files.specs.ConfigFaults.{text_total, texts_given, one_pair, pair_total}
 use Rattle.am_files.specs.ConfigFaults.{pairs_given, config_route, config_path, config_fault_at}
 
 abbrev items : List Data → Items
@@ -75,12 +74,12 @@ abbrev braces : Data
 braces = config (root (codes "matchers") (array (items (string (codes "{}") ∷ []))))
 
 braces_text : config_fault_at braces (at [] (in_field (route_matchers (one_text 0)))) ≡ None
-unfolding reading.read_list reading.read_each reading.read_piece reading.read_name
+unfolding reading.read_list reading.read_each_piece reading.read_piece reading.read_name
     reading.read_operator reading.read_body
 braces_text = refl
 
 braces_given : config_fault_at braces (at [] (in_field (route_matchers texts_given))) ≡ None
-unfolding reading.read_list reading.read_each reading.read_piece reading.read_name
+unfolding reading.read_list reading.read_each_piece reading.read_piece reading.read_name
     reading.read_operator reading.read_body
 braces_given = refl
 
@@ -90,7 +89,7 @@ given = config (root (codes "matchers") (array (items (string (codes "a=b") ∷ 
 
 given_text : config_fault_at given (at [] (in_field (route_matchers texts_given)))
     ≡ Some kinds.RootMatchers
-unfolding reading.read_list reading.read_each reading.read_piece reading.read_name
+unfolding reading.read_list reading.read_each_piece reading.read_piece reading.read_name
     reading.read_operator reading.read_body
 given_text = refl
 
@@ -158,12 +157,12 @@ texts_65 = config (root (codes "matchers") (array (items (replicate 65 (string (
 
 texts_last : config_fault_at texts_65 (at [] (in_field (route_matchers (text_total 64))))
     ≡ Some kinds.Limit
-unfolding reading.read_list reading.read_each reading.read_piece reading.read_name
+unfolding reading.read_list reading.read_each_piece reading.read_piece reading.read_name
     reading.read_operator reading.read_body
 texts_last = refl
 
 texts_before : config_fault_at texts_65 (at [] (in_field (route_matchers (text_total 63)))) ≡ None
-unfolding reading.read_list reading.read_each reading.read_piece reading.read_name
+unfolding reading.read_list reading.read_each_piece reading.read_piece reading.read_name
     reading.read_operator reading.read_body
 texts_before = refl
 

@@ -1,68 +1,59 @@
 -- The fault that reading a configuration file meets first is the first by its places.
-use Rattle.std.proofs.Common.{◌≡◌, ◌⊎◌, ℕ, zero, suc, ◌+◌, ◌<◌, ◌≤◌, List, [], ◌∷◌, ◌++◌, length}
-use Rattle.std.proofs.Common.{map, take, slice_get, Option, Some, None, is_some, unwrap_or}
-use Rattle.std.proofs.Common.{option_and_then, Result, Ok, Err, Bool, true, false, nat_lt, ◌↔◌, inl}
-use Rattle.std.proofs.Common.{inr, refl, sym, ap, subst, ◌∙◌, arith, append-nil, length-append}
-use Rattle.std.proofs.Common.{codes, position}
-use Rattle.std.specs.Prelude.{⊤, if◌then◌else◌}
-use Rattle.std.proofs.lemmas.List.{map_push, length-map}
-use Rattle.serde_json.specs.Data.{Data, Members}
+use Rattle.std.proofs.Common.{Bool, Err, List, None, Ok, Option, Some, [], ap, append-nil, arith}
+use Rattle.std.proofs.Common.{codes, false, length, map, option_and_then, refl, subst, suc, sym}
+use Rattle.std.proofs.Common.{unwrap_or, zero, ℕ, ◌++◌, ◌<◌, ◌↔◌, ◌∙◌, ◌∷◌, ◌≡◌, ◌⊎◌}
+use Rattle.std.proofs.lemmas.List.{map_push}
+use Rattle.std.specs.Prelude.{⊤}
+use Rattle.serde_json.specs.Data.{Data}
 use Rattle.serde_json.specs.Find as find
 use Rattle.am_universe.specs.declared.kind.Kind.{Kind}
 use Rattle.am_universe.specs.declared.kind.Kind.TheVariants as kinds
-use Rattle.am_universe.specs.Text.{same_text}
-use Rattle.am_files.specs.declared.limits.TheConstants.{MAX_RECEIVERS, MAX_LEVELS}
-use Rattle.am_files.specs.Json.{field, items_of}
-use Rattle.am_files.specs.Pointer.{Refusal, refusal_here, refusal_within, to_field, to_item}
-use Rattle.am_files.specs.Reading.{Reading, ◌>>=◌, accept, accept_some, refuse, refuse_for}
-use Rattle.am_files.specs.Reading.{check_count, as_text, reading_within, result_then, as_object}
-use Rattle.am_files.specs.Reading.{required_text, required_items, required_field, read_items}
-use Rattle.am_files.specs.Reading.{read_next_item, IsPatternRefusal, MayRefuse}
+use Rattle.am_files.specs.ConfigFaults.{ConfigField, ConfigPlace, IsFirstFaultOfConfig}
+use Rattle.am_files.specs.ConfigFaults.{IsFirstFaultOfConfigFile, IsMetPatternOfConfig}
+use Rattle.am_files.specs.ConfigFaults.{IsMetPatternOfConfigFile, PairsPlace, ReceiverField}
+use Rattle.am_files.specs.ConfigFaults.{ReceiverPlace, RoutePlace, TextsPlace, config_fault_at}
+use Rattle.am_files.specs.ConfigFaults.{config_field_fault, config_field_path, config_path}
+use Rattle.am_files.specs.ConfigFaults.{config_receivers, config_route, config_route_at}
+use Rattle.am_files.specs.ConfigFaults.{config_rules, declared_names, field_pairs, has_pattern}
+use Rattle.am_files.specs.ConfigFaults.{is_profile_pattern, one_pair, one_text, pair_total}
+use Rattle.am_files.specs.ConfigFaults.{pairs_given, pairs_itself, pairs_path, receiver_fault_at}
+use Rattle.am_files.specs.ConfigFaults.{receiver_field_fault, receiver_field_path, receiver_name}
+use Rattle.am_files.specs.ConfigFaults.{receiver_name_fault, receiver_path, root_fault, route_at}
+use Rattle.am_files.specs.ConfigFaults.{route_continue, route_field_path, route_match}
+use Rattle.am_files.specs.ConfigFaults.{route_match_re, route_matchers, route_receiver}
+use Rattle.am_files.specs.ConfigFaults.{route_routes, text_alone, text_pattern, text_total}
+use Rattle.am_files.specs.ConfigFaults.{texts_given, texts_itself, texts_path, tree_matcher}
+use Rattle.am_files.specs.ConfigFaults.{way_path}
 use Rattle.am_files.specs.ConfigFile.{Configuration, RouteTree, SaysConfig}
-use Rattle.am_files.specs.ConfigReading.{receiver_name_fault, read_next_receiver}
+use Rattle.am_files.specs.ConfigReading.{read_config, read_config_file, read_next_receiver}
 use Rattle.am_files.specs.ConfigReading.{read_receiver_names, read_receivers, read_route}
-use Rattle.am_files.specs.ConfigReading.{refuse_inhibit_rules, read_config, read_config_file}
-use Rattle.am_files.specs.Places.{Step, known_member, array_item, rank_of, OnlyPlace, only_path}
-use Rattle.am_files.specs.Places.{IsFirstFault, IsMetPattern, shape_or, if_there, limit_fault}
-use Rattle.am_files.specs.Places.{text_of, ObjectPlace, object_itself, other_field, in_field}
-use Rattle.am_files.specs.Places.{object_path, ArrayPlace, array_itself, in_item, array_path}
-use Rattle.am_files.specs.Places.{items_in_field, required_array_fault, item_fault}
-use Rattle.am_files.specs.ConfigFaults.{ReceiverField, receiver_name, receiver_field_path}
-use Rattle.am_files.specs.ConfigFaults.{ReceiverPlace, receiver_path, name_of, receiver_name_rule}
-use Rattle.am_files.specs.ConfigFaults.{receiver_field_fault, receiver_fault_at, TextsPlace}
-use Rattle.am_files.specs.ConfigFaults.{texts_itself, one_text, text_alone, text_pattern}
-use Rattle.am_files.specs.ConfigFaults.{text_total, texts_given, texts_path, PairsPlace}
-use Rattle.am_files.specs.ConfigFaults.{pairs_itself, one_pair, pair_total, pairs_given, pairs_path}
-use Rattle.am_files.specs.ConfigFaults.{RouteField, route_receiver, route_matchers, route_match}
-use Rattle.am_files.specs.ConfigFaults.{route_match_re, route_continue, route_routes, RoutePlace}
-use Rattle.am_files.specs.ConfigFaults.{route_field_path, way_path, route_at, root_fault}
-use Rattle.am_files.specs.ConfigFaults.{tree_matcher, is_profile_pattern, field_pairs, ConfigField}
-use Rattle.am_files.specs.ConfigFaults.{config_receivers, config_route, config_rules, ConfigPlace}
-use Rattle.am_files.specs.ConfigFaults.{config_route_at, config_field_path, config_path}
-use Rattle.am_files.specs.ConfigFaults.{declared_names, config_field_fault, config_fault_at}
-use Rattle.am_files.specs.ConfigFaults.{has_pattern, IsFirstFaultOfConfig, IsFirstFaultOfConfigFile}
-use Rattle.am_files.specs.ConfigFaults.{IsMetPatternOfConfig, IsMetPatternOfConfigFile}
+use Rattle.am_files.specs.ConfigReading.{refuse_inhibit_rules}
+use Rattle.am_files.specs.Json.{field, items_of}
+use Rattle.am_files.specs.Places.{ArrayPlace, array_path, if_there, in_field, known_member}
+use Rattle.am_files.specs.Places.{limit_fault, object_itself, object_path, other_field, rank_of}
+use Rattle.am_files.specs.Places.{name_of, shape_or, text_of}
+use Rattle.am_files.specs.Pointer.{Refusal, refusal_here, refusal_within, to_field}
+use Rattle.am_files.specs.Reading.{IsPatternRefusal, MayRefuse, Reading, accept, accept_some}
+use Rattle.am_files.specs.Reading.{as_object, read_items, reading_within, refuse_for}
+use Rattle.am_files.specs.Reading.{required_field, required_text, ◌>>=◌}
+use Rattle.am_files.specs.declared.limits.TheConstants.{MAX_LEVELS, MAX_RECEIVERS}
+use Rattle.am_files.proofs.ConfigParts.{name_says}
 use Rattle.am_files.proofs.ConfigSays.{config_decides}
+use Rattle.am_files.proofs.FieldLemmas.{items_form, items_seen, items_sequence, text_field_judges}
+use Rattle.am_files.proofs.FileLemmas.{bytes_decide, bytes_refused}
+use Rattle.am_files.proofs.ObjectLemmas.{array_tells, no_open_pattern, object_tells, open_form}
+use Rattle.am_files.proofs.ObjectLemmas.{open_judged, open_pattern}
+use Rattle.am_files.proofs.PlaceLemmas.{Clear, Form, IsPart, Judges, RanksTell, first_decides}
+use Rattle.am_files.proofs.PlaceLemmas.{itself_refused, judges_plain, none_reads, one_place}
+use Rattle.am_files.proofs.PlaceLemmas.{part_judges, read_none, refuse_judges, refused_reached}
 use Rattle.am_files.proofs.PlaceOrder.{lead}
-use Rattle.am_files.proofs.PlaceLemmas.{Form, Tells, Judges, RanksTell, first_decides}
-use Rattle.am_files.proofs.PlaceLemmas.{refused_reached, none_reads, read_none, one_place}
-use Rattle.am_files.proofs.PlaceLemmas.{judges_plain, itself_first, only_first, Clear, IsPart}
-use Rattle.am_files.proofs.PlaceLemmas.{part_judges, then_assoc, accept_judges, result_ok, same_ok}
-use Rattle.am_files.proofs.PlaceLemmas.{inner_ok, text_field_judges, items_within}
-use Rattle.am_files.proofs.PlaceLemmas.{items_within_then, Sequence, sequence_form, fault_of_next}
-use Rattle.am_files.proofs.PlaceLemmas.{pattern_of_next, next_form, array_form, array_judged}
-use Rattle.am_files.proofs.PlaceLemmas.{array_refused, ruled_array, Loop, each_loop, all_judge}
-use Rattle.am_files.proofs.PlaceLemmas.{all_read, item_within, open_pattern, open_form, open_judged}
-use Rattle.am_files.proofs.PlaceLemmas.{file_decides, file_meets, file_refused}
-use Rattle.am_files.proofs.ObjectLemmas.{only_tells, object_tells, array_tells}
-use Rattle.am_files.proofs.RouteFaultLemmas.{TreePlace, tree_form, tree_judged}
+use Rattle.am_files.proofs.RouteFaultLemmas.{tree_judged}
+use Rattle.am_files.proofs.RouteParts.{TreePlace}
+use Rattle.am_files.proofs.SameReadings.{items_within}
+use Rattle.am_files.proofs.SequenceLemmas.{Sequence, array_form, items_are_read, items_judged}
+use Rattle.am_files.proofs.SequenceLemmas.{next_form, required_array, required_array_gives}
 
 -- ---- One receiver.
-
-name_rule_is : (names : List (List ℕ)) (name : List ℕ)
-    → receiver_name_rule names name ≡ receiver_name_fault names name
-name_rule_is names [] = refl
-name_rule_is names (c ∷ cs) = refl
 
 module _ (before : List Data) (d : Data) where
   abbrev receiver_fields : Form ReceiverField
@@ -78,17 +69,9 @@ module _ (before : List Data) (d : Data) where
   name_covers receiver_name e = (tt, refl)
 
   name_part : IsPart receiver_fields 1 (known_member 1 (codes "name"))
-      (one_place (shape_or (receiver_name_rule (map name_of before))
+      (one_place (shape_or (receiver_name_fault (map name_of before))
       (text_of (field (codes "name") d)))) (λ _. receiver_name)
-  name_part = record {
-    rank =
-        refl;
-    is_path =
-        λ _. refl;
-    is_fault = λ _. refl;
-    is_pattern = λ _. refl;
-    covers = name_covers;
-  }
+  name_part = record { rank = refl; seen = λ _. refl; covers = name_covers }
 
   none_yet : Clear receiver_fields 2
   none_yet receiver_name lt = absurd (omega (arith, lt))
@@ -97,142 +80,79 @@ module _ (before : List Data) (d : Data) where
       → receiver_field_fault before d place ≡ None
   receiver_clear clear receiver_name = clear receiver_name (omega arith)
 
-  abbrev name_reading : (List ℕ → Option Kind) → Reading (List ℕ)
-  name_reading rule = required_text (codes "name") d >>= λ name. reading_within (to_field
-      (codes "name")) (refuse_for (rule name)) >>= λ _. accept name
+  abbrev name_reading : Reading (List ℕ)
+  name_reading = do
+    name ← required_text (codes "name") d
+    _ ← reading_within (to_field (codes "name"))
+        (refuse_for (receiver_name_fault (map name_of before) name))
+    accept name
 
-  name_judged : Judges receiver_fields (name_reading (receiver_name_rule (map name_of before)))
+  name_judged : Judges receiver_fields name_reading
   name_judged =
-      text_field_judges receiver_fields 1 (codes "name") d (receiver_name_rule (map name_of before))
-      (λ _. receiver_name) name_part none_yet (λ name. accept name)
-      (λ name _ _ all. judges_plain receiver_fields (Ok name) (receiver_clear all))
+      text_field_judges receiver_fields 1 (codes "name") d
+      (receiver_name_fault (map name_of before)) (λ _. receiver_name) name_part none_yet
+      (λ name. accept name)
+      (λ name all. judges_plain receiver_fields (Ok name) (receiver_clear all))
 
   pub receiver_judged : Judges (open_form (find.as_object d) receiver_fields)
       (read_next_receiver (map name_of before) d)
   unfolding read_next_receiver
-  receiver_judged =
-      subst (λ (rule : List ℕ → Option Kind). Judges (open_form (find.as_object d) receiver_fields)
-      (as_object d >>= λ _. name_reading rule))
-      (λ i name. name_rule_is (map name_of before) name i)
-      (open_judged receiver_fields (name_reading (receiver_name_rule (map name_of before)))
-      name_judged (find.as_object d))
+  receiver_judged = open_judged receiver_fields name_reading name_judged (find.as_object d)
 
 -- ---- The receivers.
 
 abbrev receivers_sequence : Sequence Data ReceiverPlace
-receivers_sequence = record {
-  step = λ i. array_item i i;
-  rank = λ i. refl;
-  path = λ _ place. receiver_path place;
-  fault_in = receiver_fault_at;
-  pattern_in = λ _. open_pattern (λ _. false);
-}
+receivers_sequence =
+    items_sequence receiver_path receiver_fault_at (λ _. open_pattern (λ _. false))
+
+abbrev receivers_form : Option Data → Form (ArrayPlace ReceiverPlace)
+receivers_form =
+    items_form receiver_path receiver_fault_at (λ _. open_pattern (λ _. false))
+    (limit_fault MAX_RECEIVERS)
 
 abbrev AreNames : List Data → List (List ℕ) → Type 0
 AreNames front names = map name_of front ≡ names
 
--- the text that is read is that of the field
-module _ (key : List ℕ) (t : List ℕ) where
-  by_text : (found : Option (List ℕ))
-      → (reading_within (to_field key) (accept_some found (refusal_here kinds.Shape))).result ≡ Ok t
-      → found ≡ Some t
-  by_text None h = absurd cc
-  by_text (Some s) h = ap (λ (u : List ℕ). Some u) (same_ok s t h)
+names_judged : (front : List Data) (d : Data) (names : List (List ℕ)) → AreNames front names
+    → Judges (next_form receivers_sequence front d) (read_next_receiver names d)
+names_judged front d names are =
+    subst (λ (ns : List (List ℕ)). Judges (next_form receivers_sequence front d)
+    (read_next_receiver ns d)) are (receiver_judged front d)
 
-  by_field : (found : Option Data)
-      → (accept_some found (refusal_within (to_field key) (refusal_here kinds.Shape))
-      >>= λ v. reading_within (to_field key) (as_text v)).result ≡ Ok t → text_of found ≡ Some t
-  by_field None h = absurd cc
-  by_field (Some v) h = by_text (find.as_str v) h
+names_go_on : (front : List Data) (d : Data) (names : List (List ℕ)) (name : List ℕ)
+    → AreNames front names → (read_next_receiver names d).result ≡ Ok name
+    → AreNames (front ++ d ∷ []) (names ++ name ∷ [])
+names_go_on front d names name are ok =
+    let says = name_says names d name ok in
+    let named = says.0 in
+    let said : name_of d ≡ name =
+    ap (λ (found : Option Data). unwrap_or (text_of found) []) named.2 in
+    map_push name_of front d ∙ (λ i. are i ++ said i ∷ [])
 
-  text_gives : (d : Data) → (required_text key d).result ≡ Ok t → text_of (field key d) ≡ Some t
-  unfolding required_text
-  text_gives d h = by_field (field key d) h
+abbrev read_names : List Data → Reading (List (List ℕ))
+read_names = read_items read_next_receiver []
 
-name_gives : (names : List (List ℕ)) (d : Data) (name : List ℕ)
-    → (read_next_receiver names d).result ≡ Ok name → name_of d ≡ name
-unfolding read_next_receiver
-name_gives names d name ok =
-    let members = result_ok (as_object d).result (λ _.
-    (name_reading [] d (receiver_name_fault names)).result) name ok in
-    let text = result_ok (required_text (codes "name") d).result
-    (λ t. (reading_within (to_field (codes "name")) (refuse_for (receiver_name_fault names t))
-    >>= λ _. accept t).result) name members.2 in
-    let rule = result_ok (reading_within (to_field (codes "name"))
-    (refuse_for (receiver_name_fault names text.0))).result (λ _. (accept text.0).result) name
-    text.2 in
-    ap (λ (o : Option (List ℕ)). unwrap_or o []) (text_gives (codes "name") text.0 d text.1)
-    ∙ same_ok text.0 name rule.2
-
-module _ (items : List Data) where
-  next_receiver : (front : List Data) (d : Data) (back : List Data) (names : List (List ℕ))
-      → items ≡ front ++ d ∷ back → AreNames front names
-      → (m : Reading (List (List ℕ)))
-      × (read_next_item read_next_receiver names d ≡ reading_within (to_item (length front)) m)
-      × Judges (next_form receivers_sequence front d) m
-  next_receiver front d back names e are =
-      let m : Reading (List (List ℕ)) =
-      read_next_receiver names d >>= λ name. accept (names ++ name ∷ []) in
-      let long : length front ≡ length names = sym (length-map front name_of) ∙ ap length are in
-      let judged = subst (λ (ns : List (List ℕ)). Judges (next_form receivers_sequence front d)
-      (read_next_receiver ns d)) are (receiver_judged front d) in (
-        m,
-        item_within read_next_receiver names d
-            ∙ ap (λ (n : ℕ). reading_within (to_item n) m) (sym long),
-        accept_judges (next_form receivers_sequence front d) (read_next_receiver names d)
-            (λ name. names ++ name ∷ []) judged,
-      )
-
-  next_named : (front : List Data) (d : Data) (back : List Data) (names more : List (List ℕ))
-      → items ≡ front ++ d ∷ back → AreNames front names
-      → (read_next_item read_next_receiver names d).result ≡ Ok more
-      → AreNames (front ++ d ∷ []) more
-  next_named front d back names more e are ok =
-      let within = sym (ap (λ (m : Reading (List (List ℕ))). m.result)
-      (item_within read_next_receiver names d)) ∙ ok in
-      let inner = inner_ok (to_item (length names))
-      (read_next_receiver names d >>= λ name. accept (names ++ name ∷ [])).result more within in
-      let name = result_ok (read_next_receiver names d).result
-      (λ x. (accept (names ++ x ∷ [])).result) more inner in
-      let same : names ++ name.0 ∷ [] ≡ more = same_ok (names ++ name.0 ∷ []) more name.2 in
-      let said : name_of d ≡ name.0 = name_gives names d name.0 name.1 in
-      map_push name_of front d ∙ ((λ i. are i ++ said i ∷ []) ∙ same)
-
-  receivers_judged : Judges (sequence_form receivers_sequence items)
-      (read_items read_next_receiver [] items)
-  receivers_judged = all_judge (each_loop
-      (read_next_item read_next_receiver)) receivers_sequence items AreNames next_receiver
-      next_named [] refl
-
-  receivers_named : (names : List (List ℕ))
-      → (read_items read_next_receiver [] items).result ≡ Ok names → map name_of items ≡ names
-  receivers_named names ok =
-      all_read (each_loop (read_next_item read_next_receiver)) receivers_sequence items AreNames
-      next_receiver next_named [] names refl ok
-
-abbrev receivers_itself : Option (List Data) → Option Kind
-receivers_itself found = shape_or (λ items. limit_fault MAX_RECEIVERS (length items)) found
-
-array_of_receivers : (found : Option (List Data))
-    → Judges (array_form receivers_sequence (receivers_itself found) (unwrap_or found []))
+receivers_judged : (found : Option (List Data))
+    → Judges (array_form receivers_sequence
+    (shape_or (λ items. limit_fault MAX_RECEIVERS (length items)) found) (unwrap_or found []))
     (accept_some found (refusal_here kinds.Shape) >>= read_receiver_names)
 unfolding read_receiver_names
-array_of_receivers None = array_refused receivers_sequence kinds.Shape []
-array_of_receivers (Some items) =
-    ruled_array receivers_sequence (limit_fault MAX_RECEIVERS (length items)) items
-    (read_items read_next_receiver [] items)
-    (array_judged receivers_sequence items (read_items read_next_receiver [] items)
-    (receivers_judged items))
+receivers_judged found =
+    required_array receivers_sequence (λ items. limit_fault MAX_RECEIVERS (length items)) read_names
+    found
+    (items_judged read_next_receiver receivers_sequence (λ i. refl) AreNames refl
+    (unwrap_or found []) (λ front d _ names _ are. names_judged front d names are) names_go_on)
 
-names_of_receivers : (found : Option (List Data)) (names : List (List ℕ))
+receivers_named : (found : Option (List Data)) (names : List (List ℕ))
     → (accept_some found (refusal_here kinds.Shape) >>= read_receiver_names).result ≡ Ok names
     → map name_of (unwrap_or found []) ≡ names
 unfolding read_receiver_names
-names_of_receivers None names ok = absurd cc
-names_of_receivers (Some items) names ok =
-    let count = result_ok (check_count MAX_RECEIVERS (length items)).result
-    (λ _. (read_items read_next_receiver [] items).result) names ok in
-    receivers_named items names count.2
+receivers_named found names ok =
+    items_are_read read_next_receiver receivers_sequence (λ i. refl) AreNames refl
+    (unwrap_or found [])
+    (λ front d _ ns _ are. names_judged front d ns are) names_go_on names
+    (required_array_gives (λ items. limit_fault MAX_RECEIVERS (length items)) read_names found names
+    ok)
 
 -- ---- The top-level route.
 
@@ -252,10 +172,8 @@ root_reading names found =
 
 root_judged : (names : List (List ℕ)) (found : Option Data)
     → Judges (root_form names found) (root_reading names found)
-root_judged names None = record {
-  tells = itself_first (root_form names None) ([], object_itself) kinds.Shape refl refl;
-  meets = λ r h. absurd h;
-}
+root_judged names None =
+    itself_refused (root_form names None) ([], object_itself) kinds.Shape refl refl
 root_judged names (Some value) = tree_judged names MAX_LEVELS None 0 value
 
 root_within : {B : Type 0} (names : List (List ℕ)) (found : Option Data) (f : RouteTree → Reading B)
@@ -270,16 +188,6 @@ root_within names (Some value) f = refl
 
 abbrev rules_fault : Option Data → Option Kind
 rules_fault found = if_there (λ _. Some kinds.UnknownField) found
-
-rules_judged : (found : Option Data)
-    → Judges (one_place (rules_fault found)) (refuse_for (rules_fault found))
-rules_judged None = record { tells = λ _. refl; meets = λ r h. absurd h }
-rules_judged (Some d) =
-    record {
-      tells = only_first (Some
-          kinds.UnknownField) kinds.UnknownField refl;
-      meets = λ r h. absurd h;
-    }
 
 rules_within : (found : Option Data)
     → refuse_inhibit_rules found
@@ -302,13 +210,6 @@ module _ (d : Data) where
   abbrev receivers_found : Option (List Data)
   receivers_found = option_and_then items_of (field (codes "receivers") d)
 
-  abbrev receivers_form : Form (ArrayPlace ReceiverPlace)
-  receivers_form = array_form receivers_sequence (receivers_itself receivers_found) (items_in_field
-      (field (codes "receivers") d))
-
-  config_lead : ConfigField → ℕ
-  config_lead place = lead (rank_of (config_field_path d place))
-
   receivers_cover : (place : ConfigField) → lead (rank_of (config_field_path d place)) ≡ 2
       → (inner : ArrayPlace ReceiverPlace) × (place ≡ config_receivers inner)
   receivers_cover (config_receivers inner) e = (inner, refl)
@@ -324,85 +225,32 @@ module _ (d : Data) where
   rules_cover config_rules e = (tt, refl)
   rules_cover place e = absurd (omega (arith, e))
 
-  receivers_path : (place : ArrayPlace ReceiverPlace)
-      → config_field_path d (config_receivers place) ≡ known_member 1 (codes "receivers")
-      ∷ receivers_form.path place
-  receivers_path array_itself = refl
-  receivers_path (in_item i place) = refl
-
-  item_at : (i : ℕ) (place : ReceiverPlace) (found : Option Data)
-      → item_fault (receiver_fault_at (take i (items_in_field (field (codes "receivers") d)))) found
-      place ≡ fault_of_next receivers_sequence
-      (take i (items_in_field (field (codes "receivers") d))) found place
-  item_at i place None = refl
-  item_at i place (Some item) = refl
-
-  receivers_fault : (place : ArrayPlace ReceiverPlace)
-      → config_field_fault d (config_receivers place) ≡ receivers_form.fault_at place
-  receivers_fault array_itself = refl
-  receivers_fault (in_item i place) =
-      item_at i place (slice_get (items_in_field (field (codes "receivers") d)) i)
-
-  no_pattern_at : (place : ReceiverPlace) (found : Option Data)
-      → false ≡ pattern_of_next receivers_sequence found place
-  no_pattern_at place None = refl
-  no_pattern_at object_itself (Some item) = refl
-  no_pattern_at (other_field key) (Some item) = refl
-  no_pattern_at (in_field place) (Some item) = refl
-
-  receivers_pattern : (place : ArrayPlace ReceiverPlace)
-      → has_pattern d (in_field (config_receivers place)) ≡ receivers_form.has_pattern place
-  receivers_pattern array_itself = refl
-  receivers_pattern (in_item i place) =
-      no_pattern_at place (slice_get (items_in_field (field (codes "receivers") d)) i)
-
-  receivers_part : IsPart fields_form 1 (known_member 1 (codes "receivers")) receivers_form
-      config_receivers
+  receivers_part : IsPart fields_form 1 (known_member 1 (codes "receivers"))
+      (receivers_form (field (codes "receivers") d)) config_receivers
   receivers_part = record {
-    rank =
-        refl;
-    is_path =
-        receivers_path;
-    is_fault =
-        receivers_fault;
-    is_pattern = receivers_pattern;
+    rank = refl;
+    seen = items_seen receiver_path receiver_fault_at (λ _. open_pattern (λ _. false))
+        (λ _ place. no_open_pattern place) (limit_fault MAX_RECEIVERS) (codes "receivers") 1
+        (field (codes "receivers") d);
     covers = receivers_cover;
   }
 
   route_part : IsPart fields_form 2 (known_member 2 (codes "route"))
       (root_form (declared_names d) (field (codes "route") d))
       (λ inner. config_route inner.0 inner.1)
-  route_part = record {
-    rank =
-        refl;
-    is_path =
-        λ _. refl;
-    is_fault = λ _. refl;
-    is_pattern = λ _. refl;
-    covers = route_covers;
-  }
+  route_part = record { rank = refl; seen = λ _. refl; covers = route_covers }
 
   rules_part : IsPart fields_form 3 (known_member 3 (codes "inhibit_rules"))
       (one_place (rules_fault (field (codes "inhibit_rules") d))) (λ _. config_rules)
-  rules_part = record {
-    rank =
-        refl;
-    is_path =
-        λ _. refl;
-    is_fault = λ _. refl;
-    is_pattern = λ _. refl;
-    covers = rules_cover;
-  }
+  rules_part = record { rank = refl; seen = λ _. refl; covers = rules_cover }
 
   nothing_yet : Clear fields_form 2
   nothing_yet (config_receivers inner) lt = absurd (omega (arith, lt))
-  nothing_yet (config_route way place) lt = absurd (omega (arith, lt))
-  nothing_yet config_rules lt = absurd (omega (arith, lt))
+  nothing_yet place lt = absurd (omega (arith, lt))
 
   config_clear : Clear fields_form 5 → (place : ConfigField) → config_field_fault d place ≡ None
   config_clear clear (config_receivers inner) = clear (config_receivers inner) (omega arith)
-  config_clear clear (config_route way place) = clear (config_route way place) (omega arith)
-  config_clear clear config_rules = clear config_rules (omega arith)
+  config_clear clear place = clear place (omega arith)
 
   abbrev made_config : List (List ℕ) → RouteTree → Configuration
   made_config names root = record { receivers = names; root = root }
@@ -448,7 +296,8 @@ module _ (d : Data) where
       (one_place (rules_fault (field (codes "inhibit_rules") d))) (λ _. config_rules) rules_part
       clear
       (refuse_for (rules_fault (field (codes "inhibit_rules") d)))
-      (λ _. accept (made_config names root)) (rules_judged (field (codes "inhibit_rules") d))
+      (λ _. accept (made_config names root))
+      (refuse_judges (rules_fault (field (codes "inhibit_rules") d)))
       (λ _ _ all. judges_plain fields_form (Ok (made_config names root)) (config_clear all))
 
   root_judge : Clear fields_form 3 → Judges fields_form (root_then (declared_names d))
@@ -462,12 +311,12 @@ module _ (d : Data) where
 
   fields_judge : Judges fields_form config_rest
   fields_judge =
-      part_judges fields_form 1 (known_member 1 (codes "receivers")) receivers_form config_receivers
-      receivers_part nothing_yet
+      part_judges fields_form 1 (known_member 1 (codes "receivers"))
+      (receivers_form (field (codes "receivers") d)) config_receivers receivers_part nothing_yet
       (accept_some receivers_found (refusal_here kinds.Shape) >>= read_receiver_names) root_then
-      (array_of_receivers receivers_found)
+      (receivers_judged receivers_found)
       (λ names ok next. subst (λ (ns : List (List ℕ)). Judges fields_form (root_then ns))
-      (names_of_receivers receivers_found names ok) (root_judge next))
+      (receivers_named receivers_found names ok) (root_judge next))
 
   abbrev pub config_form : Form ConfigPlace
   config_form = record {
@@ -631,12 +480,12 @@ pub config_file_first : (bytes : List ℕ) (r : Refusal)
     → ((read_config_file bytes).result ≡ Err r) ↔ IsFirstFaultOfConfigFile bytes r
 unfolding read_config_file
 config_file_first bytes r =
-    file_decides IsFirstFaultOfConfig IsMetPatternOfConfig read_config config_first config_met bytes
+    bytes_decide IsFirstFaultOfConfig IsMetPatternOfConfig read_config config_first config_met bytes
     r
 
 pub config_file_refused : (bytes : List ℕ) (r : Refusal) → MayRefuse (read_config_file bytes) r
     → IsFirstFaultOfConfigFile bytes r ⊎ IsMetPatternOfConfigFile bytes r
 unfolding read_config_file
 config_file_refused bytes r refused =
-    file_refused IsFirstFaultOfConfig IsMetPatternOfConfig read_config config_first config_met bytes
-    r refused
+    bytes_refused IsFirstFaultOfConfig IsMetPatternOfConfig read_config config_first config_met
+    bytes r refused

@@ -1,14 +1,13 @@
 -- The parts of a configuration: what a part says, reading it gives, and the other way.
-use Rattle.std.proofs.Common.{◌≡◌, ◌≢◌, ℕ, suc, ◌+◌, ◌<◌, ◌≤◌, List, [], ◌∷◌, ◌++◌, length, Bool}
-use Rattle.std.proofs.Common.{true, false, ◌||◌, cond, Option, Some, None, option_and_then, Ok, inl}
+use Rattle.std.proofs.Common.{◌≡◌, ◌≢◌, ℕ, ◌+◌, ◌≤◌, List, [], ◌∷◌, ◌++◌, length, Bool}
+use Rattle.std.proofs.Common.{true, false, cond, Option, Some, None, option_and_then, Ok, inl}
 use Rattle.std.proofs.Common.{inr, refl, sym, ap, subst, ◌∙◌, append_assoc, append-nil}
 use Rattle.std.proofs.Common.{length-append, arith}
-use Rattle.std.specs.Prelude.{codes, IsTrue, is_some}
-use Rattle.std.specs.List.{AllZip, IsDistinct, list_any, position, position_or_len, enumerate_from}
+use Rattle.std.specs.Prelude.{codes, IsTrue}
+use Rattle.std.specs.List.{AllZip, IsDistinct, position, enumerate_from}
 use Rattle.std.specs.List.{flat_map}
-use Rattle.std.proofs.lemmas.Bool.{and_parts, or_parts}
+use Rattle.std.proofs.lemmas.Bool.{and_parts}
 use Rattle.std.proofs.lemmas.Slice.Zip.{AllZip-long}
-use borrow.Author.Tests.{lt-ltb, le-ltb}
 use Rattle.serde_json.specs.Data.{Data, null, boolean, number, string, array, object}
 use Rattle.serde_json.specs.Find.{as_bool}
 use Rattle.am_universe.specs.declared.kind.Kind.TheVariants as kinds
@@ -18,16 +17,19 @@ use Rattle.am_labels.specs.declared.limits.TheConstants.{MAX_MATCHERS}
 use Rattle.am_labels.specs.Matcher.{Condition}
 use Rattle.am_labels.specs.MatcherText.{Spells}
 use Rattle.am_labels.specs.MatcherReading.{read_list}
-use Rattle.am_labels.specs.MatcherRefusals.{has_sound_value, have_sound_values, pattern_refusal}
+use Rattle.am_labels.specs.MatcherRefusals.{has_valid_pattern, have_valid_patterns, pattern_refusal}
+use Rattle.am_universe.proofs.DistinctLists.{distinct_none, distinct_push, distinct_pushed}
+use Rattle.am_universe.proofs.DistinctLists.{distinct_front}
 use Rattle.am_labels.proofs.MatcherTextWhole.{list_is_spelled}
 use Rattle.am_files.specs.declared.limits.TheConstants.{MAX_RECEIVERS}
-use Rattle.am_files.specs.Json.{field, items_of}
+use Rattle.am_files.specs.Json.{field, is_one_of, items_of}
 use Rattle.am_files.specs.Pointer.{refusal_here, to_field, to_item}
 use Rattle.am_files.specs.Reading.{accept_some, reading_within, refuse_for, check_count, as_text}
 use Rattle.am_files.specs.Reading.{as_object, required_text, required_items, read_each, read_items}
 use Rattle.am_files.specs.ConfigFile.{SaysName, SaysReceiver, SaysMatcherText, HasItems}
 use Rattle.am_files.specs.ConfigFile.{SaysNamedText, SaysMatcherPair, SaysContinue}
-use Rattle.am_files.specs.ConfigReading.{receiver_name_fault, read_next_receiver}
+use Rattle.am_files.specs.ConfigReading.{read_next_receiver}
+use Rattle.am_files.specs.ConfigFaults.{receiver_name_fault}
 use Rattle.am_files.specs.ConfigReading.{read_receiver_names, read_receivers, receiver_named}
 use Rattle.am_files.specs.ConfigReading.{effective_receiver, read_receiver, boolean_or_false}
 use Rattle.am_files.specs.ConfigReading.{read_continue, optional_items, read_children}
@@ -41,50 +43,13 @@ use Rattle.am_files.proofs.Items.{AllFit, items_say, items_read}
 use Rattle.am_files.proofs.Fields.{as_text_says, as_text_reads, as_object_says, as_object_reads}
 use Rattle.am_files.proofs.Fields.{required_text_says, required_text_reads, required_items_say}
 use Rattle.am_files.proofs.Fields.{required_items_read}
-use Rattle.am_files.proofs.Distinct.{distinct_push, distinct_pushed, distinct_front}
 use Rattle.am_files.proofs.Matching.{named_passes, name_is_some, pair_gives, text_gives}
 
 -- ---- The names of receivers.
 
 -- a name is not an earlier one
 abbrev pub NameFits : List (List ℕ) → List ℕ → Type 0
-NameFits before name = is_some (position (λ other. same_text other name) before) ≡ false
-
-found_at : {X : Type 0} (p : X → Bool) (x : X) (xs : List X) (b : Bool) → p x ≡ b
-    → (b || list_any p xs) ≡ true → (list_any p xs ≡ true → position_or_len p xs < length xs)
-    → position_or_len p (x ∷ xs) < suc (length xs)
-found_at p x xs true is h later = rw is (omega arith)
-found_at p x xs false is h later = rw is (omega (arith, later h))
-
-any_found : {X : Type 0} (p : X → Bool) (xs : List X) → list_any p xs ≡ true
-    → position_or_len p xs < length xs
-any_found p [] h = absurd cc
-any_found p (x ∷ xs) h = found_at p x xs (p x) refl h (any_found p xs)
-
-none_found : {X : Type 0} (p : X → Bool) (xs : List X) → list_any p xs ≡ false
-    → position_or_len p xs ≡ length xs
-none_found p [] h = refl
-none_found p (x ∷ xs) h =
-    let split = or_parts (p x) (list_any p xs) h in
-    rw (split.0, none_found p xs split.1) (omega arith)
-
-position_any : {X : Type 0} (p : X → Bool) (xs : List X) (b : Bool) → list_any p xs ≡ b
-    → is_some (position p xs) ≡ b
-position_any p xs true h = rw (lt-ltb (position_or_len p xs) (length xs) (any_found p xs h)) refl
-position_any p xs false h =
-    let le : length xs ≤ position_or_len p xs = omega (arith, none_found p xs h) in
-    rw (le-ltb (position_or_len p xs) (length xs) le) refl
-
--- no earlier name is the same
-fits_any : (before : List (List ℕ)) (name : List ℕ) → NameFits before name
-    → list_any (λ other. same_text other name) before ≡ false
-fits_any before name fits =
-    sym (position_any (λ other. same_text other name) before
-    (list_any (λ other. same_text other name) before) refl) ∙ fits
-
-any_fits : (before : List (List ℕ)) (name : List ℕ)
-    → list_any (λ other. same_text other name) before ≡ false → NameFits before name
-any_fits before name h = position_any (λ other. same_text other name) before false h
+NameFits before name = is_one_of name before ≡ false
 
 names_distinct : (before more : List (List ℕ)) → IsDistinct same_text before
     → AllFit NameFits before more → IsDistinct same_text (before ++ more)
@@ -92,7 +57,7 @@ names_distinct before [] d fits = subst (IsDistinct same_text) (sym (append-nil 
 names_distinct before (name ∷ more) d fits =
     subst (IsDistinct same_text) (append_assoc before (name ∷ []) more)
     (names_distinct (before ++ name ∷ []) more
-    (distinct_push same_text before name d (fits_any before name fits.0)) fits.1)
+    (distinct_push same_text before name d fits.0) fits.1)
 
 distinct_names : (before more : List (List ℕ)) → IsDistinct same_text (before ++ more)
     → AllFit NameFits before more
@@ -103,11 +68,7 @@ distinct_names before (name ∷ more) d =
     let here =
     distinct_pushed same_text before name
     (distinct_front same_text (before ++ name ∷ []) more whole) in
-    (any_fits before name here.1, distinct_names (before ++ name ∷ []) more whole)
-
-no_names : IsDistinct same_text []
-unfolding IsDistinct
-no_names = tt
+    (here.1, distinct_names (before ++ name ∷ []) more whole)
 
 free_or : (b : Bool) → cond b (Some kinds.Duplicate) None ≡ None → b ≡ false
 free_or true h = absurd cc
@@ -117,14 +78,14 @@ name_is_free : (before : List (List ℕ)) (name : List ℕ) → receiver_name_fa
     → (name ≢ []) × NameFits before name
 name_is_free before [] h = absurd cc
 name_is_free before (c ∷ cs) h =
-    (λ e. cc, free_or (is_some (position (λ other. same_text other (c ∷ cs)) before)) h)
+    (λ e. cc, free_or (is_one_of (c ∷ cs) before) h)
 
 free_name : (before : List (List ℕ)) (name : List ℕ) → name ≢ [] → NameFits before name
     → receiver_name_fault before name ≡ None
 free_name before [] some fits = absurd (some refl)
 free_name before (c ∷ cs) some fits = rw fits refl
 
-name_says : (before : List (List ℕ)) (d : Data) (name : List ℕ)
+pub name_says : (before : List (List ℕ)) (d : Data) (name : List ℕ)
     → (read_next_receiver before d).result ≡ Ok name → SaysName d name × NameFits before name
 unfolding read_next_receiver
 name_says before d name h =
@@ -190,7 +151,7 @@ names_say d names h =
         check_count_ok MAX_RECEIVERS (length items.0) few.0 few.1,
         AllZip-long SaysName items.0 names said,
       );
-      distinct = names_distinct [] names no_names fits;
+      distinct = names_distinct [] names (distinct_none same_text) fits;
     }
 
 pub names_read : (d : Data) (names : List (List ℕ)) → SaysNames d names
@@ -320,29 +281,29 @@ children_read d items said = rw (optional_items_read (codes "routes") d items sa
 
 -- ---- Sound patterns.
 
-sound_by : (m : Condition) (ms : List Condition) (b : Bool) → has_sound_value m ≡ b
+sound_by : (m : Condition) (ms : List Condition) (b : Bool) → has_valid_pattern m ≡ b
     → cond b (pattern_fault ms) (Some (pattern_refusal m.value)) ≡ None
-    → (pattern_fault ms ≡ None → IsTrue (have_sound_values ms))
-    → IsTrue (have_sound_values (m ∷ ms))
+    → (pattern_fault ms ≡ None → IsTrue (have_valid_patterns ms))
+    → IsTrue (have_valid_patterns (m ∷ ms))
 sound_by m ms true is h rest = rw (is, rest h) refl
 sound_by m ms false is h rest = absurd cc
 
-passes_sound : (ms : List Condition) → pattern_fault ms ≡ None → IsTrue (have_sound_values ms)
+passes_sound : (ms : List Condition) → pattern_fault ms ≡ None → IsTrue (have_valid_patterns ms)
 passes_sound [] h = refl
-passes_sound (m ∷ ms) h = sound_by m ms (has_sound_value m) refl h (passes_sound ms)
+passes_sound (m ∷ ms) h = sound_by m ms (has_valid_pattern m) refl h (passes_sound ms)
 
-pub sound_append : (xs ys : List Condition) → IsTrue (have_sound_values xs)
-    → IsTrue (have_sound_values ys) → IsTrue (have_sound_values (xs ++ ys))
+pub sound_append : (xs ys : List Condition) → IsTrue (have_valid_patterns xs)
+    → IsTrue (have_valid_patterns ys) → IsTrue (have_valid_patterns (xs ++ ys))
 sound_append [] ys h k = k
 sound_append (x ∷ xs) ys h k =
-    let split = and_parts (has_sound_value x) (have_sound_values xs) h in
+    let split = and_parts (has_valid_pattern x) (have_valid_patterns xs) h in
     rw (split.0, sound_append xs ys split.1 k) refl
 
-pub sound_apart : (xs ys : List Condition) → IsTrue (have_sound_values (xs ++ ys))
-    → IsTrue (have_sound_values xs) × IsTrue (have_sound_values ys)
+pub sound_apart : (xs ys : List Condition) → IsTrue (have_valid_patterns (xs ++ ys))
+    → IsTrue (have_valid_patterns xs) × IsTrue (have_valid_patterns ys)
 sound_apart [] ys h = (refl, h)
 sound_apart (x ∷ xs) ys h =
-    let split = and_parts (has_sound_value x) (have_sound_values (xs ++ ys)) h in
+    let split = and_parts (has_valid_pattern x) (have_valid_patterns (xs ++ ys)) h in
     let rest = sound_apart xs ys split.1 in
     (rw (split.0, rest.0) refl, rest.1)
 
@@ -367,7 +328,7 @@ append_reads before ms le = rw (check_count_fits MAX_MATCHERS (length before + l
 
 spelled_says : (part limit : List ℕ) (text : List ℕ) (all : List Condition)
     → (read_matcher_text part limit text).result ≡ Ok all
-    → Spells text all × IsTrue (have_sound_values all)
+    → Spells text all × IsTrue (have_valid_patterns all)
 unfolding read_matcher_text
 spelled_says part limit text all h =
     let ms =
@@ -387,7 +348,7 @@ spelled_says part limit text all h =
     passes_sound ms.0 (refuse_for_ok (pattern_fault ms.0) sound.0
     (within_ok part ((check_patterns ms.0).result) sound.0 sound.1)) in (
       subst (λ (ns : List Condition). Spells text ns) is spells,
-      subst (λ (ns : List Condition). IsTrue (have_sound_values ns)) is fine,
+      subst (λ (ns : List Condition). IsTrue (have_valid_patterns ns)) is fine,
     )
 
 -- matchers that are said, behind others
@@ -395,7 +356,7 @@ pub record Adds (Says : List Condition → Type 0) (before all : List Condition)
   pub matchers : List Condition
   pub says : Says matchers
   pub are : all ≡ before ++ matchers
-  pub sound : IsTrue (have_sound_values matchers)
+  pub valid_patterns : IsTrue (have_valid_patterns matchers)
   pub few : length before ≤ MAX_MATCHERS → length all ≤ MAX_MATCHERS
 
 -- none are added
@@ -405,13 +366,13 @@ adds_none Says before all is says = record {
   matchers = [];
   says = says;
   are = sym is ∙ sym (append-nil before);
-  sound = refl;
+  valid_patterns = refl;
   few = λ le. subst (λ (ms : List Condition). length ms ≤ MAX_MATCHERS) is le;
 }
 
 -- some are added, and then others behind them
 adds_more : (Says : List Condition → Type 0) (before ms next all : List Condition)
-    → Joins before ms next → IsTrue (have_sound_values ms)
+    → Joins before ms next → IsTrue (have_valid_patterns ms)
     → (rest : Adds (λ more. Says (ms ++ more)) next all) → Adds Says before all
 adds_more Says before ms next all joins sound rest =
     let few : length next ≤ MAX_MATCHERS =
@@ -421,14 +382,14 @@ adds_more Says before ms next all joins sound rest =
       says = rest.says;
       are = rest.are ∙ ap (λ (ns : List Condition). ns ++ rest.matchers) joins.0
           ∙ append_assoc before ms rest.matchers;
-      sound = sound_append ms rest.matchers sound rest.sound;
+      valid_patterns = sound_append ms rest.matchers sound rest.valid_patterns;
       few = λ le. rest.few few;
     }
 
 text_says : (before : List Condition) (i : ℕ) (d : Data) (all : List Condition)
     → (read_next_matcher_text before (i, d)).result ≡ Ok all
     → (ms : List Condition) × SaysMatcherText d ms × Joins before ms all
-    × IsTrue (have_sound_values ms)
+    × IsTrue (have_valid_patterns ms)
 unfolding read_next_matcher_text
 text_says before i d all h =
     let text = bind_ok ((reading_within (to_item i) (as_text d)).result) _ all h in
@@ -448,7 +409,7 @@ text_says before i d all h =
     )
 
 text_reads : (before : List Condition) (i : ℕ) (d : Data) (ms : List Condition)
-    → SaysMatcherText d ms → IsTrue (have_sound_values ms)
+    → SaysMatcherText d ms → IsTrue (have_valid_patterns ms)
     → length before + length ms ≤ MAX_MATCHERS
     → (read_next_matcher_text before (i, d)).result ≡ Ok (before ++ ms)
 unfolding read_next_matcher_text
@@ -484,7 +445,7 @@ adds_that P Q before all f adds =
       matchers = adds.matchers;
       says = f adds.matchers adds.says;
       are = adds.are;
-      sound = adds.sound;
+      valid_patterns = adds.valid_patterns;
       few = adds.few;
     }
 
@@ -507,7 +468,7 @@ texts_say before i (d ∷ ds) all h =
     (λ more said. more_texts d ds one.0 more one.1 said) rest)
 
 pub texts_read : (before : List Condition) (i : ℕ) (ds : List Data) (lists : List (List Condition))
-    → AllZip SaysMatcherText ds lists → IsTrue (have_sound_values (flat_map (λ ms. ms) lists))
+    → AllZip SaysMatcherText ds lists → IsTrue (have_valid_patterns (flat_map (λ ms. ms) lists))
     → length before + length (flat_map (λ ms. ms) lists) ≤ MAX_MATCHERS
     → (read_each read_next_matcher_text before (enumerate_from i ds)).result ≡ Ok
     (before ++ flat_map (λ ms. ms) lists)
@@ -546,7 +507,7 @@ named_text_reads name d text said = rw (named_passes name said.1, said.2) refl
 
 pair_says : (op : Op) (name : List ℕ) (d : Data) (m : Condition)
     → (read_matcher_pair op name d).result ≡ Ok m → SaysMatcherPair op (name, d) m
-    × IsTrue (have_sound_values (m ∷ []))
+    × IsTrue (have_valid_patterns (m ∷ []))
 unfolding read_matcher_pair
 pair_says op name d m h =
     let text = bind_ok ((read_named_text name d).result) _ m h in
@@ -555,13 +516,13 @@ pair_says op name d m h =
     text.2 in
     let is : record { name = name; op = op; value = text.0 } ≡ m = same_read _ m sound.2 in
     let all : SaysMatcherPair op (name, d) (record { name = name; op = op; value = text.0 })
-    × IsTrue (have_sound_values (record { name = name; op = op; value = text.0 } ∷ [])) = (
+    × IsTrue (have_valid_patterns (record { name = name; op = op; value = text.0 } ∷ [])) = (
       (named_text_says name d text.0 text.1, refl),
       passes_sound (record { name = name; op = op; value = text.0 } ∷ [])
           (refuse_for_ok (pattern_fault (record { name = name; op = op; value = text.0 } ∷ []))
           sound.0 sound.1),
     ) in
-    subst (λ (x : Condition). SaysMatcherPair op (name, d) x × IsTrue (have_sound_values (x ∷ [])))
+    subst (λ (x : Condition). SaysMatcherPair op (name, d) x × IsTrue (have_valid_patterns (x ∷ [])))
     is all
 
 same_condition : (m : Condition) (name : List ℕ) (op : Op) → m.name ≡ name → m.op ≡ op
@@ -569,13 +530,13 @@ same_condition : (m : Condition) (name : List ℕ) (op : Op) → m.name ≡ name
 same_condition m name op n o = rw (← n, ← o) refl
 
 pair_reads : (op : Op) (name : List ℕ) (d : Data) (m : Condition) → SaysMatcherPair op (name, d) m
-    → IsTrue (have_sound_values (m ∷ [])) → (read_matcher_pair op name d).result ≡ Ok m
+    → IsTrue (have_valid_patterns (m ∷ [])) → (read_matcher_pair op name d).result ≡ Ok m
 pair_reads op name d m said sound =
     let same : record { name = name; op = op; value = m.value } ≡ m =
     same_condition m name op said.0.0 said.1 in
     let fine =
-    subst (λ (x : Condition). IsTrue (has_sound_value x)) (sym same)
-    (and_parts (has_sound_value m) true sound).0 in
+    subst (λ (x : Condition). IsTrue (has_valid_pattern x)) (sym same)
+    (and_parts (has_valid_pattern m) true sound).0 in
     pair_gives op name d m.value (named_text_reads name d m.value (refl, said.0.1, said.0.2)) fine
     ∙ ap (λ (x : Condition). Ok x) same
 
@@ -602,7 +563,7 @@ pairs_say op before (pair ∷ pairs) all h =
     (λ more others. (said.0, others)) rest)
 
 pub pairs_read : (op : Op) (before : List Condition) (pairs : List (List ℕ × Data))
-    (ms : List Condition) → AllZip (SaysMatcherPair op) pairs ms → IsTrue (have_sound_values ms)
+    (ms : List Condition) → AllZip (SaysMatcherPair op) pairs ms → IsTrue (have_valid_patterns ms)
     → length before + length ms ≤ MAX_MATCHERS
     → (read_each (read_next_pair op) before pairs).result ≡ Ok (before ++ ms)
 unfolding read_each read_next_pair

@@ -10,12 +10,12 @@ use Rattle.am_labels.specs.declared.op.Op.{Op}
 use Rattle.am_labels.specs.declared.op.Op.TheVariants.{Equal, Matches}
 use Rattle.am_labels.specs.declared.limits.TheConstants.{MAX_MATCHERS}
 use Rattle.am_labels.specs.Matcher.{Condition}
-use Rattle.am_labels.specs.MatcherRefusals.{have_sound_values}
+use Rattle.am_labels.specs.MatcherRefusals.{have_valid_patterns}
 use Rattle.am_files.specs.declared.limits.TheConstants.{MAX_ROUTES, MAX_LEVELS}
 use Rattle.am_files.specs.Json.{field, member_list, HasOnlyFields}
-use Rattle.am_files.specs.Pointer.{to_field, to_item}
+use Rattle.am_files.specs.Pointer.{to_field}
 use Rattle.am_files.specs.Reading.{reading_within, as_items, as_object, required_field, read_each}
-use Rattle.am_files.specs.Reading.{read_next_item, read_items, read_json}
+use Rattle.am_files.specs.Reading.{read_next_item, read_items}
 use Rattle.am_files.specs.ConfigFile.{RouteSettings, RouteTree, route, Routes, no_routes}
 use Rattle.am_files.specs.ConfigFile.{next_route, Configuration, MatcherFields}
 use Rattle.am_files.specs.ConfigFile.{route_matcher_fields, routes_of, matchers_of, route_count}
@@ -31,7 +31,9 @@ use Rattle.am_files.specs.ConfigReading.{read_next_child, refuse_inhibit_rules, 
 use Rattle.am_files.specs.ConfigReading.{read_config_file}
 use Rattle.am_files.proofs.Readings.{bind_ok, within_ok, ok_or_some, same_read, check_count_fits}
 use Rattle.am_files.proofs.Readings.{Decides}
-use Rattle.am_files.proofs.Fields.{only_fields_read, as_object_says, json_says, json_reads}
+use Rattle.am_files.proofs.Fields.{only_fields_read, as_object_says}
+use Rattle.am_files.proofs.Items.{item_first}
+use Rattle.am_files.proofs.Fields.{file_decided}
 use Rattle.am_files.proofs.Routing.{are_read, count_push}
 use Rattle.am_files.proofs.Sound.{is_read, no_level, root_unmatched, route_sound}
 use Rattle.am_files.proofs.ConfigParts.{names_say, names_read, receiver_says, receiver_reads}
@@ -107,7 +109,7 @@ optional_pairs_say is_root op key d before (Some v) all is h =
         added.says,
       );
       are = added.are;
-      sound = added.sound;
+      valid_patterns = added.valid_patterns;
       few = added.few;
     }
 
@@ -142,15 +144,15 @@ matchers_say fields is_root d all h =
       match_re = c.says;
       all = is;
       few = c.few (b.few (a.added.few (omega arith)));
-      sound = rw is (sound_append xs (b.matchers ++ c.matchers)
-          (rw (← a.added.says.joined) a.added.sound)
-          (sound_append b.matchers c.matchers b.sound c.sound));
+      valid_patterns = rw is (sound_append xs (b.matchers ++ c.matchers)
+          (rw (← a.added.says.joined) a.added.valid_patterns)
+          (sound_append b.matchers c.matchers b.valid_patterns c.valid_patterns));
     }
 
 optional_texts_read : (is_root : Bool) (key : List ℕ) (found : Option Data) (items : List Data)
     (lists : List (List Condition)) → (optional_items found).result ≡ Ok items
     → AllZip SaysMatcherText items lists
-    → IsTrue (have_sound_values (flat_map (λ ms. ms) lists))
+    → IsTrue (have_valid_patterns (flat_map (λ ms. ms) lists))
     → length (flat_map (λ ms. ms) lists) ≤ MAX_MATCHERS
     → (is_root ≡ true → flat_map (λ ms. ms) lists ≡ [])
     → (optional_texts is_root key found).result ≡ Ok (flat_map (λ ms. ms) lists)
@@ -166,7 +168,7 @@ optional_texts_read is_root key (Some v) items lists h said sound le none =
     ) refl
 
 optional_pairs_read : (is_root : Bool) (op : Op) (key : List ℕ) (d : Data)
-    (before ms : List Condition) → SaysPairs op key d ms → IsTrue (have_sound_values ms)
+    (before ms : List Condition) → SaysPairs op key d ms → IsTrue (have_valid_patterns ms)
     → length before + length ms ≤ MAX_MATCHERS → (is_root ≡ true → before ++ ms ≡ [])
     → (optional_pairs is_root op key before (field key d)).result ≡ Ok (before ++ ms)
 unfolding read_pairs
@@ -192,7 +194,7 @@ matchers_read fields is_root d all said none =
     let whole : all ≡ (xs ++ said.from_match) ++ said.from_match_re =
     said.all ∙ sym (append_assoc xs said.from_match said.from_match_re) in
     let sound =
-    sound_apart xs (said.from_match ++ said.from_match_re) (rw said.all at said.sound) in
+    sound_apart xs (said.from_match ++ said.from_match_re) (rw said.all at said.valid_patterns) in
     let more = sound_apart said.from_match said.from_match_re sound.1 in
     let few : length ((xs ++ said.from_match) ++ said.from_match_re) ≤ MAX_MATCHERS =
     rw whole at said.few in
@@ -269,21 +271,10 @@ unfolding read_each read_next_item
 children_say_all names left receiver before one earlier [] all h =
     ([], sym (same_read earlier all h) ∙ sym (append-nil earlier), tt)
 children_say_all names left receiver before one earlier (d ∷ ds) all h =
-    let read = read_next_child names left receiver before in
-    let next =
-    bind_ok ((read_next_item read earlier d).result) (λ ts. (read_items read ts ds).result) all
-    h in
-    let child =
-    bind_ok ((reading_within (to_item (length earlier)) (read earlier d)).result)
-    (λ t. Ok (earlier ++ t ∷ [])) next.0 next.1 in
-    let said =
-    one (before + routes_count (routes_of earlier)) d child.0
-    (within_ok (to_item (length earlier)) ((read earlier d).result) child.0 child.1) in
-    let after =
-    subst (λ (ts : List RouteTree). (read_items read ts ds).result ≡ Ok all)
-    (sym (same_read (earlier ++ child.0 ∷ []) next.0 child.2)) next.2 in
+    let child = item_first (read_next_child names left receiver before) earlier d ds all h in
+    let said = one (before + routes_count (routes_of earlier)) d child.0 child.1 in
     let rest =
-    children_say_all names left receiver before one (earlier ++ child.0 ∷ []) ds all after in
+    children_say_all names left receiver before one (earlier ++ child.0 ∷ []) ds all child.2 in
     (child.0 ∷ rest.0, rest.1 ∙ append_assoc earlier (child.0 ∷ []) rest.0, (said, rest.2))
 
 pub route_says : (names : List (List ℕ)) (left : ℕ) (parent : Option ℕ) (before : ℕ) (d : Data)
@@ -448,20 +439,7 @@ config_reads d c said =
 pub config_decides : (d : Data) → Decides (SaysConfig d) ((read_config d).result)
 config_decides d = record { says = config_says d; reads = config_reads d }
 
-pub file_says : (bytes : List ℕ) (c : Configuration) → (read_config_file bytes).result ≡ Ok c
-    → FileSaysConfig bytes c
-unfolding read_config_file
-file_says bytes c h =
-    let value = bind_ok ((read_json bytes).result) (λ d. (read_config d).result) c h in
-    let read = json_says bytes value.0 value.1 in
-    (read.0, value.0, read.1, config_says value.0 c value.2)
-
-pub file_reads : (bytes : List ℕ) (c : Configuration) → FileSaysConfig bytes c
-    → (read_config_file bytes).result ≡ Ok c
-unfolding read_config_file
-file_reads bytes c said =
-    rw (json_reads bytes said.1 said.0 said.2, config_reads said.1 c said.3) refl
-
 pub file_decides : (bytes : List ℕ)
     → Decides (FileSaysConfig bytes) ((read_config_file bytes).result)
-file_decides bytes = record { says = file_says bytes; reads = file_reads bytes }
+unfolding read_config_file
+file_decides bytes = file_decided SaysConfig read_config config_decides bytes

@@ -1,5 +1,5 @@
 -- The fields of an object: what reading one with no fault says of the JSON value, and back.
-use Rattle.std.proofs.Common.{◌≡◌, ◌⊎◌, ℕ, ◌≤◌, List, [], length, Bool, true, false, not, ◌&&◌}
+use Rattle.std.proofs.Common.{◌≡◌, ◌⊎◌, ℕ, ◌≤◌, List, length, Bool, true, false, not, ◌&&◌}
 use Rattle.std.proofs.Common.{Option, Some, None, option_and_then, Ok, inl, inr, refl, ap, ◌∙◌}
 use Rattle.std.proofs.Common.{cond}
 use Rattle.std.specs.Prelude.{⊤, IsTrue}
@@ -17,7 +17,8 @@ use Rattle.am_files.specs.Reading.{refuse_unknown_field, check_only_fields, requ
 use Rattle.am_files.specs.Reading.{required_text, required_items, check_count, read_json}
 use Rattle.am_files.proofs.Readings.{bind_ok, within_ok, check_count_ok, check_count_fits}
 use Rattle.am_files.proofs.Readings.{ok_or_some}
-use Rattle.am_files.proofs.Items.{none_then}
+use Rattle.am_files.proofs.Readings.{Decides}
+use Rattle.am_files.specs.Reading.{Reading}
 
 -- ---- The kinds of values.
 
@@ -113,47 +114,38 @@ pub only_fields_read : (known : List (List ℕ)) (d : Data) → HasOnlyFields kn
 unfolding check_only_fields
 only_fields_read known d only = rw (only.1, only_none known only.0 only.2) refl
 
-pub none_only_fields : (known : List (List ℕ)) (d : Data)
-    → (check_only_fields known d).patterns ≡ []
-unfolding check_only_fields
-none_only_fields known d =
-    none_then (as_object d) (λ ms. refuse_unknown_field (unknown_field known ms)) refl (λ ms. refl)
-
 -- ---- A field that has to be there.
+
+-- what is read of it is read of the value that is there
+field_says : {A : Type 0} (key : List ℕ) (d : Data) (read : Data → Reading A) (x : A)
+    → (required_field key d >>= λ v. reading_within (to_field key) (read v)).result ≡ Ok x
+    → (v : Data) × (field key d ≡ Some v) × ((read v).result ≡ Ok x)
+field_says key d read x h =
+    let value = bind_ok ((required_field key d).result)
+    (λ v. (reading_within (to_field key) (read v)).result) x h in (
+      value.0,
+      ok_or_some (field key d) _ value.0 value.1,
+      within_ok (to_field key) ((read value.0).result) x value.2,
+    )
 
 pub required_text_says : (key : List ℕ) (d : Data) (t : List ℕ)
     → (required_text key d).result ≡ Ok t → field key d ≡ Some (string t)
 unfolding required_text
 required_text_says key d t h =
-    let value =
-    bind_ok ((required_field key d).result)
-    (λ v. (reading_within (to_field key) (as_text v)).result) t h in
-    let is =
-    as_text_says value.0 t (within_ok (to_field key) ((as_text value.0).result) t value.2) in
-    ok_or_some (field key d) _ value.0 value.1 ∙ ap (λ (v : Data). Some v) is
+    let value = field_says key d as_text t h in
+    value.1 ∙ ap (λ (v : Data). Some v) (as_text_says value.0 t value.2)
 
 pub required_text_reads : (key : List ℕ) (d : Data) (t : List ℕ) → field key d ≡ Some (string t)
     → (required_text key d).result ≡ Ok t
 unfolding required_text
 required_text_reads key d t h = rw h refl
 
-pub none_required_text : (key : List ℕ) (d : Data) → (required_text key d).patterns ≡ []
-unfolding required_text
-none_required_text key d =
-    none_then (required_field key d) (λ v. reading_within (to_field key) (as_text v)) refl
-    (λ v. refl)
-
 pub required_items_say : (key : List ℕ) (d : Data) (items : List Data)
     → (required_items key d).result ≡ Ok items → option_and_then items_of (field key d) ≡ Some items
 unfolding required_items
 required_items_say key d items h =
-    let value =
-    bind_ok ((required_field key d).result)
-    (λ v. (reading_within (to_field key) (as_items v)).result) items h in
-    let are =
-    ok_or_some (items_of value.0) (refusal_here kinds.Shape) items
-    (within_ok (to_field key) ((as_items value.0).result) items value.2) in
-    rw (ok_or_some (field key d) _ value.0 value.1) are
+    let value = field_says key d as_items items h in
+    rw value.1 (ok_or_some (items_of value.0) (refusal_here kinds.Shape) items value.2)
 
 items_are_read : (key : List ℕ) (found : Option Data) (r : Refusal) (items : List Data)
     → option_and_then items_of found ≡ Some items
@@ -167,12 +159,6 @@ unfolding required_items
 required_items_read key d items h =
     items_are_read key (field key d) (refusal_within (to_field key) (refusal_here kinds.Shape))
     items h
-
-pub none_required_items : (key : List ℕ) (d : Data) → (required_items key d).patterns ≡ []
-unfolding required_items
-none_required_items key d =
-    none_then (required_field key d) (λ v. reading_within (to_field key) (as_items v)) refl
-    (λ v. refl)
 
 -- ---- A file.
 
@@ -190,8 +176,16 @@ pub json_reads : (bytes : List ℕ) (d : Data) → length bytes ≤ MAX_FILE_BYT
 unfolding read_json
 json_reads bytes d few is = rw (check_count_fits MAX_FILE_BYTES (length bytes) few, is) refl
 
-pub none_json : (bytes : List ℕ) → (read_json bytes).patterns ≡ []
-unfolding read_json
-none_json bytes =
-    none_then (check_count MAX_FILE_BYTES (length bytes))
-    (λ _. accept_some (json_of bytes) (refusal_here kinds.NotJson)) refl (λ _. refl)
+-- what the bytes of a file say, where reading their value decides what it says
+pub file_decided : {A : Type 0} (Says : Data → A → Type 0) (read : Data → Reading A)
+    → ((d : Data) → Decides (Says d) ((read d).result)) → (bytes : List ℕ)
+    → Decides (λ x. (length bytes ≤ MAX_FILE_BYTES) × (d : Data) × (json_of bytes ≡ Some d)
+    × Says d x) ((read_json bytes >>= read).result)
+file_decided Says read decides bytes = record {
+  says = λ x h.
+      let value = bind_ok ((read_json bytes).result) (λ d. (read d).result) x h in
+      let json = json_says bytes value.0 value.1 in
+      (json.0, value.0, json.1, (decides value.0).says x value.2);
+  reads = λ x said.
+      rw (json_reads bytes said.1 said.0 said.2) ((decides said.1).reads x said.3);
+}

@@ -1,14 +1,14 @@
 -- Reading one behind the other: as a loop does, and what items with no fault say.
 use Rattle.std.proofs.Common.{◌≡◌, ℕ, ◌+◌, ◌<◌, ◌≤◌, List, [], ◌∷◌, ◌++◌, length, map, get_or, drop}
-use Rattle.std.proofs.Common.{Result, Ok, Err, refl, sym, ap, subst, ◌∙◌, add-one, drop-cons}
+use Rattle.std.proofs.Common.{Ok, refl, sym, ap, subst, ◌∙◌, add-one, drop-cons}
 use Rattle.std.proofs.Common.{append_assoc}
 use Rattle.std.specs.Prelude.{⊤}
 use Rattle.std.specs.List.{AllZip}
 use Rattle.std.proofs.lemmas.List.{drop_all, append-nil}
 use Rattle.serde_json.specs.Data.{Data}
 use Rattle.am_files.specs.declared.read_error.ReadError.{ReadError}
-use Rattle.am_files.specs.Pointer.{Refusal, to_item}
-use Rattle.am_files.specs.Reading.{Reading, patterns_then, ◌>>=◌, accept, reading_within, read_each}
+use Rattle.am_files.specs.Pointer.{to_item}
+use Rattle.am_files.specs.Reading.{Reading, ◌>>=◌, accept, reading_within, read_each}
 use Rattle.am_files.specs.Reading.{read_next_item, read_items, Fails}
 use Rattle.am_files.proofs.Readings.{Leads, leads_on, fails_led, fails_first, bind_ok, within_ok}
 use Rattle.am_files.proofs.Readings.{same_read}
@@ -100,6 +100,24 @@ module _ {A X : Type 0} (view : X → Data) (read : List A → Data → Reading 
 
 -- ---- What is read is said, and what is said is read.
 
+-- the first item is read, and then those behind it
+pub item_first : {A : Type 0} (read : List A → Data → Reading A) (before : List A) (d : Data)
+    (ds : List Data) (all : List A) → (read_items read before (d ∷ ds)).result ≡ Ok all
+    → (x : A) × ((read before d).result ≡ Ok x)
+    × ((read_items read (before ++ x ∷ []) ds).result ≡ Ok all)
+unfolding read_each read_next_item
+item_first {A} read before d ds all h =
+    let next =
+    bind_ok ((read_next_item read before d).result) (λ ys. (read_items read ys ds).result) all
+    h in
+    let x = bind_ok ((reading_within (to_item (length before)) (read before d)).result)
+    (λ y. Ok (before ++ y ∷ [])) next.0 next.1 in (
+      x.0,
+      within_ok (to_item (length before)) ((read before d).result) x.0 x.1,
+      subst (λ (ys : List A). (read_items read ys ds).result ≡ Ok all)
+          (sym (same_read (before ++ x.0 ∷ []) next.0 x.2)) next.2,
+    )
+
 -- each of the values may stand behind those before it
 abbrev pub AllFit : {A : Type 0} → (List A → A → Type 0) → List A → List A → Type 0
 AllFit Fits before [] = ⊤
@@ -115,20 +133,11 @@ module _ {A : Type 0} (Says : Data → A → Type 0) (Fits : List A → A → Ty
   items_say says before [] all h =
       ([], sym (same_read before all h) ∙ sym (append-nil before), tt, tt)
   items_say says before (d ∷ ds) all h =
-      let next =
-      bind_ok ((read_next_item read before d).result) (λ ys. (read_items read ys ds).result) all
-      h in
-      let x = bind_ok ((reading_within (to_item (length before)) (read before d)).result)
-      (λ y. Ok (before ++ y ∷ [])) next.0 next.1 in
-      let here =
-      says before d x.0 (within_ok (to_item (length before)) ((read before d).result) x.0
-      x.1) in
-      let after =
-      subst (λ (ys : List A). (read_items read ys ds).result ≡ Ok all)
-      (sym (same_read (before ++ x.0 ∷ []) next.0 x.2)) next.2 in
-      let rest = items_say says (before ++ x.0 ∷ []) ds all after in (
-        x.0 ∷ rest.0,
-        rest.1 ∙ append_assoc before (x.0 ∷ []) rest.0,
+      let first = item_first read before d ds all h in
+      let here = says before d first.0 first.1 in
+      let rest = items_say says (before ++ first.0 ∷ []) ds all first.2 in (
+        first.0 ∷ rest.0,
+        rest.1 ∙ append_assoc before (first.0 ∷ []) rest.0,
         (here.0, rest.2),
         (here.1, rest.3),
       )
@@ -146,36 +155,3 @@ module _ {A : Type 0} (Says : Data → A → Type 0) (Fits : List A → A → Ty
       let rest : (read_items read (before ++ x ∷ []) ds).result ≡ Ok ((before ++ x ∷ []) ++ xs) =
       items_read reads (before ++ x ∷ []) ds xs said.1 fits.1 in
       rw (here, rest) (ap (λ (ys : List A). Ok ys) (append_assoc before (x ∷ []) xs))
-
--- ---- Readings that meet no pattern.
-
-none_after : {A : Type 0} (r : Result A Refusal) (g : A → List (List ℕ)) → ((x : A) → g x ≡ [])
-    → patterns_then r g ≡ []
-none_after (Ok x) g later = later x
-none_after (Err r) g later = refl
-
-pub none_then : {A B : Type 0} (m : Reading A) (f : A → Reading B) → m.patterns ≡ []
-    → ((x : A) → (f x).patterns ≡ []) → (m >>= f).patterns ≡ []
-none_then m f none later = rw none (none_after m.result (λ x. (f x).patterns) later)
-
-pub none_within : {A : Type 0} (part : List ℕ) (m : Reading A) → m.patterns ≡ []
-    → (reading_within part m).patterns ≡ []
-none_within part m none = rw none refl
-
-pub none_each : {A X : Type 0} (read : A → X → Reading A)
-    → ((before : A) (x : X) → (read before x).patterns ≡ []) → (before : A) (xs : List X)
-    → (read_each read before xs).patterns ≡ []
-unfolding read_each
-none_each read none before [] = refl
-none_each read none before (x ∷ xs) =
-    none_then (read before x) (λ next. read_each read next xs) (none before x)
-    (λ next. none_each read none next xs)
-
-pub none_items : {A : Type 0} (read : List A → Data → Reading A)
-    → ((before : List A) (d : Data) → (read before d).patterns ≡ [])
-    → (before : List A) (ds : List Data) → (read_items read before ds).patterns ≡ []
-unfolding read_next_item
-none_items read none = none_each (read_next_item read) (λ before d.
-    none_then (reading_within (to_item (length before)) (read before d))
-    (λ x. accept (before ++ x ∷ []))
-    (none_within (to_item (length before)) (read before d) (none before d)) (λ x. refl))

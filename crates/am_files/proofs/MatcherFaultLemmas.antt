@@ -1,172 +1,41 @@
--- The first fault of matcher texts, and of pairs of a name and a text, by their places.
-use Rattle.std.proofs.Common.{◌≡◌, ℕ, zero, suc, ◌+◌, ◌<◌, ◌≤◌, List, [], ◌∷◌, ◌++◌, length, map}
-use Rattle.std.proofs.Common.{take, slice_get, Option, Some, None, is_some, unwrap_or}
-use Rattle.std.proofs.Common.{option_and_then, Result, Ok, Err, Bool, true, false, not, ◌&&◌}
-use Rattle.std.proofs.Common.{nat_lt, inl, inr, Ordering, Less, Equal, Greater, refl, sym, ap}
-use Rattle.std.proofs.Common.{subst, ◌∙◌, arith}
-use Rattle.std.specs.Prelude.{⊤, if◌then◌else◌, IsTrue}
-use Rattle.std.specs.List.{flat_map, enumerate_from}
-use Rattle.std.specs.Ordering.{nat_cmp, MatchOrdering, ordering_then}
-use Rattle.std.specs.Cmp.Lexicographic.{slice_cmp}
-use Rattle.std.specs.Result.{result_map_both}
-use Rattle.std.proofs.lemmas.Cmp.{ranked}
+-- The first fault of matcher texts, by their places.
+use Rattle.std.proofs.Common.{Bool, List, None, Ok, Option, Some, [], ap, arith, false, length}
+use Rattle.std.proofs.Common.{option_and_then, refl, slice_get, subst, sym, take, true, unwrap_or}
+use Rattle.std.proofs.Common.{ℕ, ◌++◌, ◌+◌, ◌∙◌, ◌∷◌, ◌≡◌}
 use Rattle.std.proofs.lemmas.List.{flat_map_more}
+use Rattle.std.specs.List.{flat_map}
+use Rattle.std.specs.Prelude.{⊤}
 use Rattle.serde_json.specs.Data.{Data}
+use Rattle.serde_json.specs.Find.{as_str}
 use Rattle.serde_json.specs.Find as find
 use Rattle.am_universe.specs.declared.kind.Kind.{Kind}
 use Rattle.am_universe.specs.declared.kind.Kind.TheVariants as kinds
-use Rattle.am_labels.specs.declared.limits.TheConstants.{MAX_MATCHERS}
 use Rattle.am_labels.specs.Matcher.{Condition}
 use Rattle.am_labels.specs.MatcherReading.{read_list}
-use Rattle.am_labels.specs.MatcherRefusals.{has_sound_value, pattern_refusal}
-use Rattle.am_labels.specs.Matcher.{takes_pattern}
-use Rattle.am_labels.specs.PatternCut.{in_profile}
+use Rattle.am_labels.specs.declared.limits.TheConstants.{MAX_MATCHERS}
+use Rattle.am_files.specs.ConfigFaults.{TextsPlace, array_shape, given_fault}
+use Rattle.am_files.specs.ConfigFaults.{is_profile_pattern, item_matchers, one_pattern_fault}
+use Rattle.am_files.specs.ConfigFaults.{one_text, spelling_fault, text_alone, text_pattern}
+use Rattle.am_files.specs.ConfigFaults.{text_total, texts_fault, texts_given, texts_itself}
+use Rattle.am_files.specs.ConfigFaults.{texts_matcher, texts_path}
+use Rattle.am_files.specs.ConfigReading.{append_matchers, check_patterns, optional_texts}
+use Rattle.am_files.specs.ConfigReading.{read_matcher_text, read_matcher_texts}
+use Rattle.am_files.specs.ConfigReading.{read_next_matcher_text, read_texts, refuse_root_matchers}
 use Rattle.am_files.specs.Json.{items_of}
-use Rattle.am_files.specs.Pointer.{Refusal, refusal_here, refusal_within, to_field, to_item}
-use Rattle.am_files.specs.Reading.{Reading, ◌>>=◌, accept, accept_some, refuse_for, check_count}
-use Rattle.am_files.specs.Reading.{reading_within, result_then, IsPatternRefusal, read_each}
-use Rattle.am_files.specs.ConfigReading.{is_empty, pattern_fault, profile_patterns, check_patterns}
-use Rattle.am_files.specs.ConfigReading.{append_matchers, read_matcher_text, read_next_matcher_text}
-use Rattle.am_files.specs.ConfigReading.{read_matcher_texts, refuse_root_matchers, read_texts}
-use Rattle.am_files.specs.ConfigReading.{optional_texts}
-use Rattle.am_files.specs.Places.{Step, known_member, array_item, turn, step_rank, rank_of}
-use Rattle.am_files.specs.Places.{IsBefore, IsReached, IsFirstFault, IsMetPattern, shape_or}
-use Rattle.am_files.specs.Places.{if_there, limit_fault, items_in_field}
-use Rattle.am_files.specs.ConfigFaults.{TextsPlace, texts_itself, one_text, text_alone}
-use Rattle.am_files.specs.ConfigFaults.{text_pattern, text_total, texts_given, texts_path}
-use Rattle.am_files.specs.ConfigFaults.{item_matchers, text_matcher, spelling_fault}
-use Rattle.am_files.specs.ConfigFaults.{one_pattern_fault, given_fault, texts_fault, texts_matcher}
-use Rattle.am_files.specs.ConfigFaults.{is_profile_pattern, array_shape}
+use Rattle.am_files.specs.Places.{Step, array_item, if_there, items_in_field, limit_fault, rank_of}
+use Rattle.am_files.specs.Places.{shape_or, turn}
+use Rattle.am_files.specs.Pointer.{refusal_here, to_field, to_item}
+use Rattle.am_files.specs.Reading.{Reading, accept, accept_some, check_count, reading_within}
+use Rattle.am_files.specs.Reading.{refuse_for, ◌>>=◌}
+use Rattle.am_files.proofs.PatternFaultLemmas.{patterns_form, patterns_judge}
+use Rattle.am_files.proofs.PlaceLemmas.{Clear, Form, IsPart, Judges, itself_refused, judges_plain}
+use Rattle.am_files.proofs.PlaceLemmas.{one_place, part_judges, refuse_judges, shape_judged}
+use Rattle.am_files.proofs.PlaceLemmas.{some_judged}
 use Rattle.am_files.proofs.PlaceOrder.{lead}
-use Rattle.am_files.proofs.PlaceLemmas.{Form, Tells, Judges, one_place, judges_plain, itself_first}
-use Rattle.am_files.proofs.PlaceLemmas.{only_first, Clear, IsPart, part_judges, then_assoc}
-use Rattle.am_files.proofs.PlaceLemmas.{result_ok, same_ok, inner_ok, Sequence, sequence_form}
-use Rattle.am_files.proofs.PlaceLemmas.{fault_of_next, pattern_of_next, next_form, Loop}
-use Rattle.am_files.proofs.PlaceLemmas.{enumerate_loop, all_judge, all_read, refuse_judges}
-use Rattle.am_files.proofs.PlaceLemmas.{within_nothing}
-
--- ---- The patterns of matchers.
-
-abbrev pub patterns_form : List Condition → Form ℕ
-patterns_form ms = record {
-  path = λ j. turn j ∷ [];
-  fault_at = λ j. if_there one_pattern_fault (slice_get ms j);
-  has_pattern = λ j. is_profile_pattern (slice_get ms j);
-}
-
-single_less : (o : Ordering) (x y : ℕ) → MatchOrdering o (x < y) (x ≡ y) (y < x)
-    → ordering_then o Equal ≡ Less → x < y
-single_less Less x y h e = h
-single_less Equal x y h e = absurd cc
-single_less Greater x y h e = absurd cc
-
-before_turn : (i j : ℕ) → IsBefore (turn i ∷ []) (turn j ∷ []) → i < j
-before_turn i j b = single_less (nat_cmp i j) i j (ranked i j (nat_cmp i j) refl) b
-
-sound_none : (m : Condition) → has_sound_value m ≡ true → one_pattern_fault m ≡ None
-sound_none m e = rw e refl
-
--- before the pattern at this position none is at fault
-abbrev pub NoneBefore : List Condition → ℕ → Type 0
-NoneBefore ms j = (i : ℕ) → i < j → if_there one_pattern_fault (slice_get ms i) ≡ None
-
-none_behind : (m : Condition) (ms : List Condition) (j : ℕ) → has_sound_value m ≡ true
-    → NoneBefore ms j → NoneBefore (m ∷ ms) (suc j)
-none_behind m ms j sound none zero lt = sound_none m sound
-none_behind m ms j sound none (suc i) lt = none i (omega (arith, lt))
-
-none_first : (ms : List Condition) → NoneBefore ms 0
-none_first ms i lt = absurd (omega (arith, lt))
-
-none_at : (m : Condition) (ms : List Condition) (sound : Bool) → has_sound_value m ≡ sound
-    → (pattern_fault ms ≡ None → (j : ℕ) → if_there one_pattern_fault (slice_get ms j) ≡ None)
-    → (if sound then pattern_fault ms else Some (pattern_refusal m.value)) ≡ None
-    → (j : ℕ) → if_there one_pattern_fault (slice_get (m ∷ ms) j) ≡ None
-none_at m ms true is behind e zero = sound_none m is
-none_at m ms true is behind e (suc j) = behind e j
-none_at m ms false is behind e j = absurd cc
-
-no_pattern_fault : (ms : List Condition) → pattern_fault ms ≡ None
-    → (j : ℕ) → if_there one_pattern_fault (slice_get ms j) ≡ None
-no_pattern_fault [] e j = refl
-no_pattern_fault (m ∷ ms) e j = none_at m ms (has_sound_value m) refl (no_pattern_fault ms) e j
-
-first_at : (m : Condition) (ms : List Condition) (kind : Kind) (sound : Bool)
-    → has_sound_value m ≡ sound
-    → (pattern_fault ms ≡ Some kind
-    → (j : ℕ) × (if_there one_pattern_fault (slice_get ms j) ≡ Some kind) × NoneBefore ms j)
-    → (if sound then pattern_fault ms else Some (pattern_refusal m.value)) ≡ Some kind
-    → (j : ℕ) × (if_there one_pattern_fault (slice_get (m ∷ ms) j) ≡ Some kind)
-    × NoneBefore (m ∷ ms) j
-first_at m ms kind true is behind e =
-    let found = behind e in
-    (suc found.0, found.1, none_behind m ms found.0 is found.2)
-first_at m ms kind false is behind e = (zero, rw is e, none_first (m ∷ ms))
-
--- the first refused pattern
-first_pattern : (ms : List Condition) (kind : Kind) → pattern_fault ms ≡ Some kind
-    → (j : ℕ) × (if_there one_pattern_fault (slice_get ms j) ≡ Some kind) × NoneBefore ms j
-first_pattern [] kind e = absurd cc
-first_pattern (m ∷ ms) kind e =
-    first_at m ms kind (has_sound_value m) refl (first_pattern ms kind) e
-
-met_behind : (m : Condition) (ms : List Condition) (r : Refusal) (sound : Bool)
-    → has_sound_value m ≡ sound
-    → (IsPatternRefusal (profile_patterns ms) r
-    → (j : ℕ) × (is_profile_pattern (slice_get ms j) ≡ true) × (r ≡ refusal_here kinds.Pattern)
-    × NoneBefore ms j)
-    → IsPatternRefusal (if sound then profile_patterns ms else []) r
-    → (j : ℕ) × (is_profile_pattern (slice_get (m ∷ ms) j) ≡ true)
-    × (r ≡ refusal_here kinds.Pattern) × NoneBefore (m ∷ ms) j
-met_behind m ms r true is behind h =
-    let found = behind h in
-    (suc found.0, found.1, found.2, none_behind m ms found.0 is found.3)
-met_behind m ms r false is behind h = absurd h
-
-met_head : (m : Condition) (ms : List Condition) (r : Refusal) (profile : Bool)
-    → (takes_pattern m.op && in_profile m.value) ≡ profile
-    → (IsPatternRefusal (profile_patterns ms) r
-    → (j : ℕ) × (is_profile_pattern (slice_get ms j) ≡ true) × (r ≡ refusal_here kinds.Pattern)
-    × NoneBefore ms j)
-    → IsPatternRefusal ((if profile then [] ∷ [] else [])
-    ++ (if has_sound_value m then profile_patterns ms else [])) r
-    → (j : ℕ) × (is_profile_pattern (slice_get (m ∷ ms) j) ≡ true)
-    × (r ≡ refusal_here kinds.Pattern) × NoneBefore (m ∷ ms) j
-met_head m ms r true is behind (inl e) = (zero, is, e, none_first (m ∷ ms))
-met_head m ms r true is behind (inr h) = met_behind m ms r (has_sound_value m) refl behind h
-met_head m ms r false is behind h = met_behind m ms r (has_sound_value m) refl behind h
-
-pub met_pattern : (ms : List Condition) (r : Refusal) → IsPatternRefusal (profile_patterns ms) r
-    → (j : ℕ) × (is_profile_pattern (slice_get ms j) ≡ true) × (r ≡ refusal_here kinds.Pattern)
-    × NoneBefore ms j
-met_pattern [] r h = absurd h
-met_pattern (m ∷ ms) r h =
-    met_head m ms r (takes_pattern m.op && in_profile m.value) refl (met_pattern ms r) h
-
-patterns_tell : (ms : List Condition) (cause : Option Kind) → pattern_fault ms ≡ cause
-    → Tells (patterns_form ms) (refuse_for cause).result
-patterns_tell ms None e = no_pattern_fault ms e
-patterns_tell ms (Some kind) e =
-    let found = first_pattern ms kind e in
-    record {
-      place = found.0;
-      stands = found.1;
-      pointer = refl;
-      none_before = λ i b. found.2 i (before_turn i found.0 b);
-    }
-
-pub patterns_judge : (ms : List Condition) → Judges (patterns_form ms) (check_patterns ms)
-patterns_judge ms = record {
-  tells = patterns_tell ms (pattern_fault ms) refl;
-  meets = λ r h.
-      let found = met_pattern ms r h in
-      record {
-        place = found.0;
-        stands = (found.1, ap (λ (q : Refusal). q.kind) found.2);
-        pointer = ap (λ (q : Refusal). q.pointer) found.2;
-        none_before = λ i b. found.3 i (before_turn i found.0 b);
-      };
-}
+use Rattle.am_files.proofs.Readings.{bind_ok, same_read, within_ok}
+use Rattle.am_files.proofs.SameReadings.{then_assoc, within_nothing}
+use Rattle.am_files.proofs.SequenceLemmas.{Loop, Sequence, all_judge, all_read, enumerate_loop}
+use Rattle.am_files.proofs.SequenceLemmas.{next_form, pattern_of_next, sequence_form}
 
 -- ---- One text.
 
@@ -210,25 +79,10 @@ spelled found = accept_some found (refusal_here kinds.Shape) >>= λ t. accept_so
 
 spelled_judges : (d : Data)
     → Judges (one_place (shape_or spelling_fault (find.as_str d))) (spelled (find.as_str d))
-spelled_judges d = by_text (find.as_str d) where
-  by_list : (found : Option (List Condition))
-      → Judges (one_place (if (is_some found) then None else Some kinds.BadMatcher))
-      (accept_some found (refusal_here kinds.BadMatcher))
-  by_list None = record {
-    tells =
-        only_first (Some kinds.BadMatcher) kinds.BadMatcher refl;
-    meets = λ r h. absurd h;
-  }
-  by_list (Some ms) = record { tells = λ _. refl; meets = λ r h. absurd h }
-
-  by_text : (found : Option (List ℕ))
-      → Judges (one_place (shape_or spelling_fault found)) (spelled found)
-  by_text None = record {
-    tells =
-        only_first (Some kinds.Shape) kinds.Shape refl;
-    meets = λ r h. absurd h;
-  }
-  by_text (Some t) = by_list (read_list t)
+spelled_judges d =
+    shape_judged spelling_fault (find.as_str d)
+    (λ t. accept_some (read_list t) (refusal_here kinds.BadMatcher))
+    (λ t. some_judged kinds.BadMatcher (read_list t))
 
 spelled_says : (d : Data) (ms : List Condition) → (spelled (find.as_str d)).result ≡ Ok ms
     → item_matchers d ≡ ms
@@ -309,88 +163,44 @@ module _ (front : List Data) (d : Data) where
 
   self_covers : (place : OneText) → text_lead place ≡ 1 → ⊤ × (place ≡ self_text)
   self_covers self_text e = (tt, refl)
-  self_covers self_alone e = absurd (omega (arith, e))
-  self_covers (self_pattern j) e = absurd (omega (arith, e))
-  self_covers self_total e = absurd (omega (arith, e))
+  self_covers place e = absurd (omega (arith, e))
 
   alone_covers : (place : OneText) → text_lead place ≡ 2 → ⊤ × (place ≡ self_alone)
-  alone_covers self_text e = absurd (omega (arith, e))
   alone_covers self_alone e = (tt, refl)
-  alone_covers (self_pattern j) e = absurd (omega (arith, e))
-  alone_covers self_total e = absurd (omega (arith, e))
+  alone_covers place e = absurd (omega (arith, e))
 
   pattern_covers : (place : OneText) → text_lead place ≡ 3 → (j : ℕ) × (place ≡ self_pattern j)
-  pattern_covers self_text e = absurd (omega (arith, e))
-  pattern_covers self_alone e = absurd (omega (arith, e))
   pattern_covers (self_pattern j) e = (j, refl)
-  pattern_covers self_total e = absurd (omega (arith, e))
+  pattern_covers place e = absurd (omega (arith, e))
 
   total_covers : (place : OneText) → text_lead place ≡ 4 → ⊤ × (place ≡ self_total)
-  total_covers self_text e = absurd (omega (arith, e))
-  total_covers self_alone e = absurd (omega (arith, e))
-  total_covers (self_pattern j) e = absurd (omega (arith, e))
   total_covers self_total e = (tt, refl)
+  total_covers place e = absurd (omega (arith, e))
 
   self_part : IsPart text_form 0 (array_item 0 (length front))
       (one_place (shape_or spelling_fault (find.as_str d))) (λ _. self_text)
-  self_part = record {
-    rank =
-        refl;
-    is_path =
-        λ _. refl;
-    is_fault = λ _. refl;
-    is_pattern = λ _. refl;
-    covers = self_covers;
-  }
+  self_part = record { rank = refl; seen = λ _. refl; covers = self_covers }
 
   alone_part : IsPart text_form 1 (turn 1)
       (one_place (limit_fault MAX_MATCHERS (length (item_matchers d)))) (λ _. self_alone)
-  alone_part = record {
-    rank =
-        refl;
-    is_path =
-        λ _. refl;
-    is_fault = λ _. refl;
-    is_pattern = λ _. refl;
-    covers = alone_covers;
-  }
+  alone_part = record { rank = refl; seen = λ _. refl; covers = alone_covers }
 
   pattern_part : IsPart text_form 2 (array_item 2 (length front)) (patterns_form (item_matchers d))
       self_pattern
-  pattern_part = record {
-    rank =
-        refl;
-    is_path =
-        λ _. refl;
-    is_fault = λ _. refl;
-    is_pattern = λ _. refl;
-    covers = pattern_covers;
-  }
+  pattern_part = record { rank = refl; seen = λ _. refl; covers = pattern_covers }
 
   total_part : IsPart text_form 3 (turn 3)
       (one_place (limit_fault MAX_MATCHERS
       (length (flat_map item_matchers front) + length (item_matchers d)))) (λ _. self_total)
-  total_part = record {
-    rank =
-        refl;
-    is_path =
-        λ _. refl;
-    is_fault = λ _. refl;
-    is_pattern = λ _. refl;
-    covers = total_covers;
-  }
+  total_part = record { rank = refl; seen = λ _. refl; covers = total_covers }
 
   none_yet : Clear text_form 1
   none_yet self_text lt = absurd (omega (arith, lt))
-  none_yet self_alone lt = absurd (omega (arith, lt))
-  none_yet (self_pattern j) lt = absurd (omega (arith, lt))
-  none_yet self_total lt = absurd (omega (arith, lt))
+  none_yet place lt = absurd (omega (arith, lt))
 
   text_clear : Clear text_form 5 → (place : OneText) → one_text_fault front d place ≡ None
   text_clear clear self_text = clear self_text (omega arith)
-  text_clear clear self_alone = clear self_alone (omega arith)
-  text_clear clear (self_pattern j) = clear (self_pattern j) (omega arith)
-  text_clear clear self_total = clear self_total (omega arith)
+  text_clear clear place = clear place (omega arith)
 
   -- behind its list
   list_judges : Clear text_form 2
@@ -440,22 +250,22 @@ text_gives : (i : ℕ) (a : List Condition) (d : Data) (b : List Condition)
     → (read_next_matcher_text a (i, d)).result ≡ Ok b → a ++ item_matchers d ≡ b
 text_gives i a d b ok =
     let steps = sym (ap (λ (m : Reading (List Condition)). m.result) (text_steps i a d)) ∙ ok in
-    let list = result_ok (reading_within (to_item i) (spelled (find.as_str d))).result
+    let list = bind_ok (reading_within (to_item i) (spelled (find.as_str d))).result
     (λ ms. (behind_spelled i a ms).result) b steps in
-    let count = result_ok (reading_within [] (check_count MAX_MATCHERS (length list.0))).result
+    let count = bind_ok (reading_within [] (check_count MAX_MATCHERS (length list.0))).result
     (λ _. (reading_within (to_item i) (check_patterns list.0)
     >>= λ _. reading_within [] (check_count MAX_MATCHERS (length a + length list.0))
     >>= λ _. accept (a ++ list.0)).result) b list.2 in
-    let patterns = result_ok (reading_within (to_item i) (check_patterns list.0)).result (λ _.
+    let patterns = bind_ok (reading_within (to_item i) (check_patterns list.0)).result (λ _.
     (reading_within [] (check_count MAX_MATCHERS (length a + length list.0))
     >>= λ _. accept (a ++ list.0)).result) b count.2 in
-    let total = result_ok
+    let total = bind_ok
     (reading_within [] (check_count MAX_MATCHERS (length a + length list.0))).result
     (λ _. (accept (a ++ list.0)).result) b patterns.2 in
     let same : item_matchers d ≡ list.0 =
-    spelled_says d list.0 (inner_ok (to_item i) (spelled (find.as_str d)).result list.0 list.1)
+    spelled_says d list.0 (within_ok (to_item i) (spelled (find.as_str d)).result list.0 list.1)
     in
-    ap (λ (ms : List Condition). a ++ ms) same ∙ same_ok (a ++ list.0) b total.2
+    ap (λ (ms : List Condition). a ++ ms) same ∙ same_read (a ++ list.0) b total.2
 
 -- ---- The texts of an array.
 
@@ -510,45 +320,12 @@ module _ (is_root : Bool) (items : List Data) where
   abbrev whole_texts : Form TextsPlace
   whole_texts = texts_form is_root None items
 
-  into_path : (place : ℕ × OneText)
-      → texts_path (into_texts place) ≡ turn 0 ∷ (turn place.0 ∷ one_text_path place.0 place.1)
-  into_path (i, self_text) = refl
-  into_path (i, self_alone) = refl
-  into_path (i, self_pattern j) = refl
-  into_path (i, self_total) = refl
-
-  text_at : (i j : ℕ) (found : Option Data)
-      → if_there one_pattern_fault (option_and_then (λ d. slice_get (item_matchers d) j) found)
-      ≡ fault_of_next texts_sequence (take i items) found (self_pattern j)
-  text_at i j None = refl
-  text_at i j (Some d) = refl
-
-  self_at : (i : ℕ) (found : Option Data)
-      → if_there (λ d. shape_or spelling_fault (find.as_str d)) found
-      ≡ fault_of_next texts_sequence (take i items) found self_text
-  self_at i None = refl
-  self_at i (Some d) = refl
-
-  alone_at : (i : ℕ) (found : Option Data)
-      → if_there (λ d. limit_fault MAX_MATCHERS (length (item_matchers d))) found
-      ≡ fault_of_next texts_sequence (take i items) found self_alone
-  alone_at i None = refl
-  alone_at i (Some d) = refl
-
-  total_at : (i : ℕ) (found : Option Data)
-      → if_there (λ d. limit_fault MAX_MATCHERS
-      (length (flat_map item_matchers (take i items)) + length (item_matchers d))) found
-      ≡ fault_of_next texts_sequence (take i items) found self_total
-  total_at i None = refl
-  total_at i (Some d) = refl
-
-  into_fault : (place : ℕ × OneText)
-      → texts_fault is_root None items (into_texts place)
-      ≡ fault_of_next texts_sequence (take place.0 items) (slice_get items place.0) place.1
-  into_fault (i, self_text) = self_at i (slice_get items i)
-  into_fault (i, self_alone) = alone_at i (slice_get items i)
-  into_fault (i, self_pattern j) = text_at i j (slice_get items i)
-  into_fault (i, self_total) = total_at i (slice_get items i)
+  -- a place that looks at no pattern
+  no_pattern_at : (place : OneText) (found : Option Data)
+      → ((d : Data) → one_text_pattern d place ≡ false)
+      → false ≡ pattern_of_next texts_sequence found place
+  no_pattern_at place None none = refl
+  no_pattern_at place (Some d) none = sym (none d)
 
   pattern_at : (j : ℕ) (found : Option Data)
       → is_profile_pattern (option_and_then (λ d. slice_get (item_matchers d) j) found)
@@ -556,84 +333,68 @@ module _ (is_root : Bool) (items : List Data) where
   pattern_at j None = refl
   pattern_at j (Some d) = refl
 
-  no_pattern_at : (place : OneText) (found : Option Data)
-      → ((d : Data) → one_text_pattern d place ≡ false)
-      → false ≡ pattern_of_next texts_sequence found place
-  no_pattern_at place None none = refl
-  no_pattern_at place (Some d) none = sym (none d)
-
-  into_pattern : (place : ℕ × OneText)
+  texts_pattern : (place : ℕ × OneText)
       → is_profile_pattern (texts_matcher items (into_texts place))
       ≡ pattern_of_next texts_sequence (slice_get items place.0) place.1
-  into_pattern (i, self_text) = no_pattern_at self_text (slice_get items i) (λ d. refl)
-  into_pattern (i, self_alone) = no_pattern_at self_alone (slice_get items i) (λ d. refl)
-  into_pattern (i, self_pattern j) = pattern_at j (slice_get items i)
-  into_pattern (i, self_total) = no_pattern_at self_total (slice_get items i) (λ d. refl)
+  texts_pattern (i, self_text) = no_pattern_at self_text (slice_get items i) (λ d. refl)
+  texts_pattern (i, self_alone) = no_pattern_at self_alone (slice_get items i) (λ d. refl)
+  texts_pattern (i, self_pattern j) = pattern_at j (slice_get items i)
+  texts_pattern (i, self_total) = no_pattern_at self_total (slice_get items i) (λ d. refl)
+
+  texts_path_is : (place : ℕ × OneText)
+      → texts_path (into_texts place)
+      ≡ turn 0 ∷ (turn place.0 ∷ one_text_path place.0 place.1)
+  texts_path_is (i, self_text) = refl
+  texts_path_is (i, self_alone) = refl
+  texts_path_is (i, self_pattern j) = refl
+  texts_path_is (i, self_total) = refl
+
+  pattern_fault_at : (i j : ℕ) (found : Option Data)
+      → if_there one_pattern_fault (option_and_then (λ d. slice_get (item_matchers d) j) found)
+      ≡ if_there (λ d. one_text_fault (take i items) d (self_pattern j)) found
+  pattern_fault_at i j None = refl
+  pattern_fault_at i j (Some d) = refl
+
+  texts_fault_is : (place : ℕ × OneText)
+      → texts_fault is_root None items (into_texts place)
+      ≡ (sequence_form texts_sequence items).fault_at place
+  texts_fault_is (i, self_text) = refl
+  texts_fault_is (i, self_alone) = refl
+  texts_fault_is (i, self_pattern j) = pattern_fault_at i j (slice_get items i)
+  texts_fault_is (i, self_total) = refl
 
   items_cover : (place : TextsPlace) → lead (rank_of (texts_path place)) ≡ 1
       → (inner : ℕ × OneText) × (place ≡ into_texts inner)
-  items_cover texts_itself e = absurd (omega (arith, e))
   items_cover (one_text i) e = ((i, self_text), refl)
   items_cover (text_alone i) e = ((i, self_alone), refl)
   items_cover (text_pattern i j) e = ((i, self_pattern j), refl)
   items_cover (text_total i) e = ((i, self_total), refl)
-  items_cover texts_given e = absurd (omega (arith, e))
+  items_cover place e = absurd (omega (arith, e))
 
   given_covers : (place : TextsPlace) → lead (rank_of (texts_path place)) ≡ 2
       → ⊤ × (place ≡ texts_given)
-  given_covers texts_itself e = absurd (omega (arith, e))
-  given_covers (one_text i) e = absurd (omega (arith, e))
-  given_covers (text_alone i) e = absurd (omega (arith, e))
-  given_covers (text_pattern i j) e = absurd (omega (arith, e))
-  given_covers (text_total i) e = absurd (omega (arith, e))
   given_covers texts_given e = (tt, refl)
+  given_covers place e = absurd (omega (arith, e))
 
   items_part : IsPart whole_texts 0 (turn 0) (sequence_form texts_sequence items) into_texts
   items_part = record {
-    rank =
-        refl;
-    is_path =
-        into_path;
-    is_fault = into_fault;
-    is_pattern = into_pattern;
+    rank = refl;
+    seen = λ place i. (texts_path_is place i, texts_fault_is place i, texts_pattern place i);
     covers = items_cover;
   }
 
   given_part : IsPart whole_texts 1 (turn 1)
       (one_place (given_fault is_root (flat_map item_matchers items))) (λ _. texts_given)
-  given_part = record {
-    rank =
-        refl;
-    is_path =
-        λ _. refl;
-    is_fault = λ _. refl;
-    is_pattern = λ _. refl;
-    covers = given_covers;
-  }
+  given_part = record { rank = refl; seen = λ _. refl; covers = given_covers }
 
   array_clear : Clear whole_texts 1
   array_clear texts_itself lt = refl
-  array_clear (one_text i) lt = absurd (omega (arith, lt))
-  array_clear (text_alone i) lt = absurd (omega (arith, lt))
-  array_clear (text_pattern i j) lt = absurd (omega (arith, lt))
-  array_clear (text_total i) lt = absurd (omega (arith, lt))
-  array_clear texts_given lt = absurd (omega (arith, lt))
+  array_clear place lt = absurd (omega (arith, lt))
 
   texts_clear : Clear whole_texts 3 → (place : TextsPlace)
       → texts_fault is_root None items place ≡ None
   texts_clear clear texts_itself = refl
-  texts_clear clear (one_text i) = clear (one_text i) (omega arith)
-  texts_clear clear (text_alone i) = clear (text_alone i) (omega arith)
-  texts_clear clear (text_pattern i j) = clear (text_pattern i j) (omega arith)
-  texts_clear clear (text_total i) = clear (text_total i) (omega arith)
-  texts_clear clear texts_given = clear texts_given (omega arith)
-
-  given_cause : (root : Bool) (ms : List Condition)
-      → given_fault root ms ≡ (if root && not (is_empty ms) then Some kinds.RootMatchers else None)
-  given_cause true [] = refl
-  given_cause true (m ∷ ms) = refl
-  given_cause false [] = refl
-  given_cause false (m ∷ ms) = refl
+  texts_clear clear place = clear place (omega arith)
 
   -- the check that the top-level route is given no matchers
   root_check : (ms : List Condition)
@@ -642,7 +403,6 @@ module _ (is_root : Bool) (items : List Data) where
   root_check ms =
       ap (λ (m : Reading ⊤). m >>= λ _. accept ms)
       (within_nothing (refuse_for (given_fault is_root ms)))
-      ∙ ap (λ (cause : Option Kind). refuse_for cause >>= λ _. accept ms) (given_cause is_root ms)
 
   root_judged : Clear whole_texts 2 → (ms : List Condition) → flat_map item_matchers items ≡ ms
       → Judges whole_texts (refuse_root_matchers is_root ms)
@@ -683,17 +443,15 @@ absent_clear is_root (one_text i) = refl
 absent_clear is_root (text_alone i) = refl
 absent_clear is_root (text_pattern i j) = refl
 absent_clear is_root (text_total i) = refl
-absent_clear is_root texts_given = refl
+absent_clear true texts_given = refl
+absent_clear false texts_given = refl
 
 shaped_judged : (is_root : Bool) (found : Option (List Data))
     → Judges (texts_form is_root (shape_or (λ _. None) found) (unwrap_or found []))
     (accept_some found (refusal_here kinds.Shape) >>= λ items. read_matcher_texts items
     >>= refuse_root_matchers is_root)
-shaped_judged is_root None = record {
-  tells = itself_first (texts_form is_root (Some kinds.Shape) []) texts_itself kinds.Shape refl
-      refl;
-  meets = λ r h. absurd h;
-}
+shaped_judged is_root None =
+    itself_refused (texts_form is_root (Some kinds.Shape) []) texts_itself kinds.Shape refl refl
 shaped_judged is_root (Some items) = array_judged is_root items
 
 pub texts_field_judged : (is_root : Bool) (found : Option Data)
@@ -704,7 +462,7 @@ texts_field_judged is_root None =
     judges_plain (texts_form is_root None []) (Ok []) (absent_clear is_root)
 texts_field_judged is_root (Some d) = shaped_judged is_root (items_of d)
 
-root_gives : (is_root : Bool) (ms b : List Condition)
+pub root_gives : (is_root : Bool) (ms b : List Condition)
     → (refuse_root_matchers is_root ms).result ≡ Ok b → (ms ≡ b) × ((is_root ≡ true) → ms ≡ [])
 root_gives true [] b h = (cc, λ _. refl)
 root_gives true (m ∷ ms) b h = absurd cc
@@ -717,7 +475,7 @@ shaped_gives : (is_root : Bool) (found : Option (List Data)) (b : List Condition
     → (flat_map item_matchers (unwrap_or found []) ≡ b) × ((is_root ≡ true) → b ≡ [])
 shaped_gives is_root None b h = absurd cc
 shaped_gives is_root (Some items) b h =
-    let list = result_ok (read_matcher_texts items).result
+    let list = bind_ok (read_matcher_texts items).result
     (λ ms. (refuse_root_matchers is_root ms).result) b h in
     let root = root_gives is_root list.0 b list.2 in
     (texts_spelled items list.0 list.1 ∙ root.0, λ e. sym root.0 ∙ root.1 e)

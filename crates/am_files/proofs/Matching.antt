@@ -14,8 +14,8 @@ use Rattle.am_labels.specs.Pattern.{is_pattern}
 use Rattle.am_labels.specs.PatternCut.{in_profile}
 use Rattle.am_labels.specs.MatcherText.{Spells}
 use Rattle.am_labels.specs.MatcherReading.{read_list}
-use Rattle.am_labels.specs.MatcherRefusals.{has_sound_value, have_sound_values, pattern_refusal}
-use Rattle.am_labels.specs.MatcherRefusals.{RefusesCondition, RefusesPatterns, RefusesText}
+use Rattle.am_labels.specs.MatcherRefusals.{has_valid_pattern, have_valid_patterns, pattern_refusal}
+use Rattle.am_labels.specs.MatcherRefusals.{MatcherRefusedFor, PatternsRefusedFor, TextRefusedFor}
 use Rattle.am_labels.proofs.MatcherTextWhole.{list_is_read, list_is_spelled}
 use Rattle.am_files.specs.declared.read_error.ReadError.{ReadError}
 use Rattle.am_files.specs.declared.read_error.ReadError.TheVariants as errors
@@ -33,10 +33,10 @@ use Rattle.am_files.proofs.Readings.{bind_ok, refuse_for_ok}
 -- ---- Patterns.
 
 -- sound values have no fault
-pub sound_passes : (ms : List Condition) → IsTrue (have_sound_values ms) → pattern_fault ms ≡ None
+pub sound_passes : (ms : List Condition) → IsTrue (have_valid_patterns ms) → pattern_fault ms ≡ None
 sound_passes [] h = refl
 sound_passes (m ∷ ms) h =
-    let split = and_parts (has_sound_value m) (have_sound_values ms) h in
+    let split = and_parts (has_valid_pattern m) (have_valid_patterns ms) h in
     rw (split.0, sound_passes ms split.1) refl
 
 refused_first : (m : Condition) (after : List Condition) (takes profile pattern : Bool)
@@ -47,27 +47,27 @@ refused_first m after true true pattern t p q h = inr (rw (t, p) (inl refl))
 refused_first m after true false pattern t p q h = inl (rw (t, p) refl)
 refused_first m after false profile pattern t p q h = absurd cc
 
-refused_behind : (x : Condition) (ms : List Condition) (r : Refusal) → has_sound_value x ≡ true
+refused_behind : (x : Condition) (ms : List Condition) (r : Refusal) → has_valid_pattern x ≡ true
     → MayRefuse (check_patterns ms) r → MayRefuse (check_patterns (x ∷ ms)) r
 refused_behind x ms r sound (inl h) = inl (rw sound h)
 refused_behind x ms r sound (inr h) =
-    let later : IsPatternRefusal (cond (has_sound_value x) (profile_patterns ms) []) r =
+    let later : IsPatternRefusal (cond (has_valid_pattern x) (profile_patterns ms) []) r =
     rw sound h in
     inr (pattern_right (cond (takes_pattern x.op && in_profile x.value) ([] ∷ []) [])
-    (cond (has_sound_value x) (profile_patterns ms) []) r later)
+    (cond (has_valid_pattern x) (profile_patterns ms) []) r later)
 
 refused_at : (before : List Condition) (m : Condition) (after : List Condition)
-    → IsTrue (have_sound_values before) → IsTrue (takes_pattern m.op)
+    → IsTrue (have_valid_patterns before) → IsTrue (takes_pattern m.op)
     → MayRefuse (check_patterns (before ++ m ∷ after)) (refusal_here (pattern_refusal m.value))
 refused_at [] m after sound takes =
     refused_first m after (takes_pattern m.op) (in_profile m.value) (is_pattern m.value) refl refl
     refl takes
 refused_at (x ∷ before) m after sound takes =
-    let split = and_parts (has_sound_value x) (have_sound_values before) sound in
+    let split = and_parts (has_valid_pattern x) (have_valid_patterns before) sound in
     refused_behind x (before ++ m ∷ after) (refusal_here (pattern_refusal m.value)) split.0
     (refused_at before m after split.1 takes)
 
-patterns_refused : (ms : List Condition) (kind : Kind) → RefusesPatterns ms kind
+patterns_refused : (ms : List Condition) (kind : Kind) → PatternsRefusedFor ms kind
     → MayRefuse (check_patterns ms) (refusal_here kind)
 patterns_refused ms kind refused =
     rw (refused.parts, refused.value.kind_is)
@@ -99,13 +99,13 @@ behind_text op name text =
 
 pub pair_gives : (op : Op) (name : List ℕ) (d : Data) (text : List ℕ)
     → (read_named_text name d).result ≡ Ok text
-    → IsTrue (has_sound_value (record { name = name; op = op; value = text }))
+    → IsTrue (has_valid_pattern (record { name = name; op = op; value = text }))
     → (read_matcher_pair op name d).result ≡ Ok (record { name = name; op = op; value = text })
 unfolding read_matcher_pair
 pair_gives op name d text is sound = rw (is, sound) refl
 
 pair_refused : (op : Op) (name text : List ℕ) (kind : Kind) → name ≢ []
-    → RefusesCondition (record { name = name; op = op; value = text }) kind
+    → MatcherRefusedFor (record { name = name; op = op; value = text }) kind
     → MayRefuse (behind_text op name text) (refusal_here kind)
 pair_refused op name text kind some (inl unnamed) = absurd (some unnamed.0)
 pair_refused op name text kind some (inr value) =
@@ -116,7 +116,7 @@ pair_refused op name text kind some (inr value) =
 
 pub pair_fails : (op : Op) (name : List ℕ) (d : Data) (text : List ℕ) (kind : Kind) (e : ReadError)
     → (read_named_text name d).result ≡ Ok text
-    → (kind ≢ kinds.Memory → RefusesCondition (record { name = name; op = op; value = text }) kind)
+    → (kind ≢ kinds.Memory → MatcherRefusedFor (record { name = name; op = op; value = text }) kind)
     → IsRefusalOrMemory e (refusal_here kind) → (kind ≡ kinds.Memory → e ≡ errors.Memory)
     → Fails e (read_matcher_pair op name d)
 unfolding read_matcher_pair
@@ -136,7 +136,7 @@ refused_is_no_memory : (found : Refusal) → err_of (errors.Refused found) ≡ e
 refused_is_no_memory found h = cc
 
 pub text_gives : (part limit : List ℕ) (text : List ℕ) (ms : List Condition) → Spells text ms
-    → length ms ≤ MAX_MATCHERS → IsTrue (have_sound_values ms)
+    → length ms ≤ MAX_MATCHERS → IsTrue (have_valid_patterns ms)
     → (read_matcher_text part limit text).result ≡ Ok ms
 unfolding read_matcher_text
 text_gives part limit text ms spells le sound =
@@ -183,7 +183,7 @@ pattern_text_refusal : (part limit : List ℕ) (profile : Bool)
 pattern_text_refusal part limit true = refl
 pattern_text_refusal part limit false = refl
 
-text_refused : (part limit : List ℕ) (text : List ℕ) (kind : Kind) → RefusesText text kind
+text_refused : (part limit : List ℕ) (text : List ℕ) (kind : Kind) → TextRefusedFor text kind
     → MayRefuse (read_matcher_text part limit text) (text_refusal part limit kind)
 unfolding read_matcher_text
 text_refused part limit text kind (inl bad) =
@@ -206,7 +206,7 @@ text_refused part limit text kind (inr s) =
     ]
 
 pub text_fails : (part limit : List ℕ) (text : List ℕ) (kind : Kind)
-    (result : Result (List Condition) ReadError) → (kind ≢ kinds.Memory → RefusesText text kind)
+    (result : Result (List Condition) ReadError) → (kind ≢ kinds.Memory → TextRefusedFor text kind)
     → IsErrAnd result (λ e. IsRefusalOrMemory e (text_refusal part limit kind))
     → (kind ≡ kinds.Memory → result ≡ Err errors.Memory)
     → Gives (λ ms. ms) result (read_matcher_text part limit text)

@@ -1,29 +1,28 @@
--- Objects that have no other fields than those of their form: the least other field is the first,
--- and then come the fields. What a place is, by its rank.
-use Rattle.std.proofs.Common.{◌≡◌, ◌⊎◌, ℕ, zero, suc, ◌<◌, ◌≤◌, List, [], ◌∷◌, ◌++◌, Option, Some}
-use Rattle.std.proofs.Common.{None, Result, Ok, Err, Bool, true, false, cond, ◌&&◌, ◌||◌, Ordering}
-use Rattle.std.proofs.Common.{Less, Equal, Greater, inl, inr, refl, sym, ap, ◌∙◌, arith, append-nil}
-use Rattle.std.specs.Prelude.{⊤, ok_or}
-use Rattle.std.specs.Ordering.{nat_cmp, match_ordering, ordering_reverse}
-use Rattle.std.specs.Cmp.{IsTotalOrder}
-use Rattle.std.specs.Cmp.Lexicographic.{slice_cmp, bytes_decides}
-use Rattle.std.proofs.lemmas.Bool.{or_right, or_from, and_right, false_from_ne_true}
-use Rattle.std.proofs.lemmas.Cmp.{nat_list_cmp_total, alike_right, tied_itself}
+-- Objects whose other fields are not read, and objects that have no other fields than those of
+-- their form: there the least other field is the first. What a place is, by its rank.
+use Rattle.std.proofs.Common.{Bool, Equal, Greater, Less, List, None, Option, Ordering, Some, []}
+use Rattle.std.proofs.Common.{ap, append-nil, arith, cond, false, inl, inr, refl, suc, sym, true}
+use Rattle.std.proofs.Common.{zero, ℕ, ◌&&◌, ◌++◌, ◌<◌, ◌||◌, ◌∙◌, ◌∷◌, ◌≡◌, ◌⊎◌}
+use Rattle.std.proofs.lemmas.Bool.{and_right, false_from_ne_true, or_from, or_right}
+use Rattle.std.proofs.lemmas.Cmp.{alike_right, nat_list_cmp_total, tied_itself}
 use Rattle.std.proofs.lemmas.Option.{same_Some}
-use Rattle.serde_json.specs.Data.{Data, Members, no_members, member}
+use Rattle.std.specs.Cmp.{IsTotalOrder}
+use Rattle.std.specs.Cmp.Lexicographic.{bytes_decides, slice_cmp}
+use Rattle.std.specs.Ordering.{match_ordering, nat_cmp, ordering_reverse}
+use Rattle.std.specs.Prelude.{⊤}
+use Rattle.serde_json.specs.Data.{Data, Members, member, no_members}
 use Rattle.serde_json.specs.Find.{as_object}
 use Rattle.am_universe.specs.Text.{same_text}
-use Rattle.am_files.specs.Json.{is_unknown, lesser_key, unknown_field}
 use Rattle.am_universe.specs.declared.kind.Kind.TheVariants as kinds
-use Rattle.am_files.specs.Pointer.{Refusal, refusal_here}
-use Rattle.am_files.specs.Reading.{Reading, ◌>>=◌, accept_some, refuse_unknown_field}
-use Rattle.am_files.specs.Reading.{check_only_fields}
-use Rattle.am_files.specs.Places.{Step, rank_of, pointer_of, IsBefore, IsFirstFault, OnlyPlace}
-use Rattle.am_files.specs.Places.{only_path, ObjectPlace, object_itself, other_field, in_field}
-use Rattle.am_files.specs.Places.{object_path, has_unknown, object_fault, ArrayPlace, array_itself}
-use Rattle.am_files.specs.Places.{in_item, array_path}
+use Rattle.am_files.specs.Json.{is_unknown, lesser_key, unknown_field}
+use Rattle.am_files.specs.Places.{ArrayPlace, IsBefore, ObjectPlace, Step, array_itself, array_path}
+use Rattle.am_files.specs.Places.{has_unknown, in_field, in_item, object_fault, object_itself}
+use Rattle.am_files.specs.Places.{object_path, only_path, open_object_fault, other_field, rank_of}
+use Rattle.am_files.specs.Pointer.{refusal_here}
+use Rattle.am_files.specs.Reading.{Reading, accept_some, check_only_fields, refuse_unknown_field}
+use Rattle.am_files.specs.Reading.{◌>>=◌}
+use Rattle.am_files.proofs.PlaceLemmas.{Form, Judges, RanksTell, itself_refused, within_judged}
 use Rattle.am_files.proofs.PlaceOrder.{lead, lead_le, rest_decides}
-use Rattle.am_files.proofs.PlaceLemmas.{Form, Tells, Judges, RanksTell, itself_first, open_pattern}
 
 -- ---- The least unknown field.
 
@@ -105,6 +104,41 @@ not_unknown known (member k d rest) key below =
     below_head (is_unknown known k d) (unknown_field known rest) k key (has_unknown known key rest)
     (not_unknown known rest key) below
 
+-- ---- An object whose other fields are not read.
+
+abbrev pub open_pattern : {F : Type 0} → (F → Bool) → ObjectPlace F → Bool
+open_pattern pattern object_itself = false
+open_pattern pattern (other_field key) = false
+open_pattern pattern (in_field place) = pattern place
+
+pub no_open_pattern : {F : Type 0} (place : ObjectPlace F) → open_pattern (λ _. false) place ≡ false
+no_open_pattern object_itself = refl
+no_open_pattern (other_field key) = refl
+no_open_pattern (in_field place) = refl
+
+abbrev pub open_form : {F : Type 0} → Option Members → Form F → Form (ObjectPlace F)
+open_form found fields = record {
+  path = object_path fields.path;
+  fault_at = open_object_fault found fields.fault_at;
+  has_pattern = open_pattern fields.has_pattern;
+}
+
+in_open : {F : Type 0} (fields : Form F) (ms : Members) (place : ObjectPlace F)
+    → ((found : F) × (place ≡ in_field found))
+    ⊎ ((open_form (Some ms) fields).fault_at place ≡ None)
+in_open fields ms object_itself = inr refl
+in_open fields ms (other_field key) = inr refl
+in_open fields ms (in_field place) = inl (place, refl)
+
+pub open_judged : {F A : Type 0} (fields : Form F) (m : Reading A) → Judges fields m
+    → (found : Option Members)
+    → Judges (open_form found fields) (accept_some found (refusal_here kinds.Shape) >>= λ _. m)
+open_judged fields m judged None =
+    itself_refused (open_form None fields) object_itself kinds.Shape refl refl
+open_judged fields m judged (Some ms) =
+    within_judged (open_form (Some ms) fields) fields in_field (λ _. refl) (in_open fields ms) m
+    judged
+
 -- ---- An object that has no other fields than those of its form.
 
 module _ {F : Type 0} (known : List (List ℕ)) where
@@ -135,51 +169,18 @@ module _ {F A : Type 0} (known : List (List ℕ)) (fields : Form F)
             b,
       ))
 
-  module _ (ms : Members) (none : unknown_field known ms ≡ None) where
-    known_clear : (key : List ℕ)
-        → object_fault known (Some ms) fields.fault_at (other_field key) ≡ None
-    known_clear key = rw (not_unknown known ms key (rw none tt)) refl
-
-    closed_before : (found : F)
-        → ((before : F) → IsBefore (fields.path before) (fields.path found)
-        → fields.fault_at before ≡ None)
-        → (before : ObjectPlace F)
-        → IsBefore (object_path fields.path before) (fields.path found)
-        → object_fault known (Some ms) fields.fault_at before ≡ None
-    closed_before found clear object_itself b = refl
-    closed_before found clear (other_field key) b = known_clear key
-    closed_before found clear (in_field place) b = clear place b
-
-    closed_tells : (result : Result A Refusal) → Tells fields result
-        → Tells (closed_form known (Some ms) fields) result
-    closed_tells (Ok x) tells = all where
-      all : (place : ObjectPlace F) → object_fault known (Some ms) fields.fault_at place ≡ None
-      all object_itself = refl
-      all (other_field key) = known_clear key
-      all (in_field place) = tells place
-    closed_tells (Err r) first = record {
-      place = in_field first.place;
-      stands = first.stands;
-      pointer = first.pointer;
-      none_before = closed_before first.place first.none_before;
-    }
-
-    known_judged : Judges (closed_form known (Some ms) fields) m
-    known_judged = record {
-      tells = closed_tells m.result judged.tells;
-      meets = λ r h.
-          let met = judged.meets r h in
-          record {
-            place = in_field met.place;
-            stands = met.stands;
-            pointer = met.pointer;
-            none_before = closed_before met.place met.none_before;
-          };
-    }
+  in_closed : (ms : Members) → unknown_field known ms ≡ None → (place : ObjectPlace F)
+      → ((found : F) × (place ≡ in_field found))
+      ⊎ (object_fault known (Some ms) fields.fault_at place ≡ None)
+  in_closed ms none object_itself = inr refl
+  in_closed ms none (other_field key) = inr (rw (not_unknown known ms key (rw none tt)) refl)
+  in_closed ms none (in_field place) = inl (place, refl)
 
   by_unknown : (ms : Members) (found : Option (List ℕ)) → unknown_field known ms ≡ found
       → Judges (closed_form known (Some ms) fields) (refuse_unknown_field found >>= λ _. m)
-  by_unknown ms None e = known_judged ms e
+  by_unknown ms None e =
+      within_judged (closed_form known (Some ms) fields) fields in_field (λ _. refl)
+      (in_closed ms e) m judged
   by_unknown ms (Some key) e = record {
     tells = record {
       place = other_field key;
@@ -193,10 +194,8 @@ module _ {F A : Type 0} (known : List (List ℕ)) (fields : Form F)
   by_object : (found : Option Members) → Judges (closed_form known found fields)
       ((accept_some found (refusal_here kinds.Shape)
       >>= λ ms. refuse_unknown_field (unknown_field known ms)) >>= λ _. m)
-  by_object None = record {
-    tells = itself_first (closed_form known None fields) object_itself kinds.Shape refl refl;
-    meets = λ r h. absurd h;
-  }
+  by_object None =
+      itself_refused (closed_form known None fields) object_itself kinds.Shape refl refl
   by_object (Some ms) = by_unknown ms (unknown_field known ms) refl
 
   pub closed_judged : (d : Data)

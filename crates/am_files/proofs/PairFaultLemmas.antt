@@ -1,40 +1,42 @@
 -- The first fault of pairs of a name and a text, by their places.
-use Rattle.std.proofs.Common.{◌≡◌, ℕ, zero, suc, ◌+◌, ◌<◌, ◌≤◌, List, [], ◌∷◌, ◌++◌, length, map}
-use Rattle.std.proofs.Common.{take, slice_get, Option, Some, None, is_some, unwrap_or, option_map}
-use Rattle.std.proofs.Common.{option_and_then, Result, Ok, Err, Bool, true, false, not, ◌&&◌}
-use Rattle.std.proofs.Common.{nat_lt, inl, inr, refl, sym, ap, subst, ◌∙◌, arith, length-append}
-use Rattle.std.proofs.Common.{append-nil, add-zero}
-use Rattle.std.specs.Prelude.{⊤, if◌then◌else◌, IsTrue}
+use Rattle.std.proofs.Common.{Bool, List, None, Ok, Option, Some, [], add-zero, ap, append-nil}
+use Rattle.std.proofs.Common.{arith, false, length, length-append, option_and_then, option_map}
+use Rattle.std.proofs.Common.{refl, slice_get, subst, suc, sym, take, true, unwrap_or, zero, ℕ}
+use Rattle.std.proofs.Common.{◌++◌, ◌+◌, ◌∙◌, ◌∷◌, ◌≡◌}
+use Rattle.std.specs.Prelude.{⊤}
 use Rattle.serde_json.specs.Data.{Data, Members}
+use Rattle.serde_json.specs.Find.{as_str}
 use Rattle.serde_json.specs.Find as find
 use Rattle.am_universe.specs.declared.kind.Kind.{Kind}
 use Rattle.am_universe.specs.declared.kind.Kind.TheVariants as kinds
-use Rattle.am_labels.specs.declared.op.Op.{Op}
-use Rattle.am_labels.specs.declared.limits.TheConstants.{MAX_MATCHERS}
 use Rattle.am_labels.specs.Matcher.{Condition}
-use Rattle.am_labels.specs.MatcherRefusals.{has_sound_value, pattern_refusal}
+use Rattle.am_labels.specs.declared.limits.TheConstants.{MAX_MATCHERS}
+use Rattle.am_labels.specs.declared.op.Op.{Op}
+use Rattle.am_files.specs.ConfigFaults.{PairsPlace, field_pairs, given_fault}
+use Rattle.am_files.specs.ConfigFaults.{is_profile_pattern, name_of_pair, object_shape, one_pair}
+use Rattle.am_files.specs.ConfigFaults.{one_pattern_fault, pair_fault, pair_matcher, pair_name}
+use Rattle.am_files.specs.ConfigFaults.{pair_total, pairs_fault, pairs_given, pairs_itself}
+use Rattle.am_files.specs.ConfigFaults.{pairs_matcher, pairs_path}
+use Rattle.am_files.specs.ConfigReading.{append_matchers, check_patterns, optional_pairs}
+use Rattle.am_files.specs.ConfigReading.{profile_patterns, read_matcher_pair, read_named_text}
+use Rattle.am_files.specs.ConfigReading.{read_next_pair, read_pairs, refuse_root_matchers}
 use Rattle.am_files.specs.Json.{member_list}
+use Rattle.am_files.specs.Places.{IsMetPattern, OnlyPlace, Step, if_there, known_member}
+use Rattle.am_files.specs.Places.{limit_fault, only_path, rank_of, shape_or, turn}
 use Rattle.am_files.specs.Pointer.{Refusal, refusal_here, to_field}
-use Rattle.am_files.specs.Reading.{Reading, ◌>>=◌, accept, accept_some, refuse_for, check_count}
-use Rattle.am_files.specs.Reading.{reading_within, result_then, patterns_then, IsPatternRefusal}
-use Rattle.am_files.specs.Reading.{read_each}
-use Rattle.am_files.specs.ConfigReading.{is_empty, check_patterns, profile_patterns}
-use Rattle.am_files.specs.ConfigReading.{append_matchers, read_named_text, read_matcher_pair}
-use Rattle.am_files.specs.ConfigReading.{read_next_pair, read_pairs, optional_pairs}
-use Rattle.am_files.specs.ConfigReading.{refuse_root_matchers}
-use Rattle.am_files.specs.Places.{Step, known_member, turn, rank_of, OnlyPlace, only_path}
-use Rattle.am_files.specs.Places.{IsMetPattern, shape_or, if_there, limit_fault}
-use Rattle.am_files.specs.ConfigFaults.{PairsPlace, pairs_itself, one_pair, pair_total, pairs_given}
-use Rattle.am_files.specs.ConfigFaults.{pairs_path, pair_name, name_of_pair, pair_matcher}
-use Rattle.am_files.specs.ConfigFaults.{pair_fault, one_pattern_fault, given_fault, object_shape}
-use Rattle.am_files.specs.ConfigFaults.{field_pairs, pairs_fault, pairs_matcher, is_profile_pattern}
+use Rattle.am_files.specs.Reading.{IsPatternRefusal, Reading, accept, accept_some}
+use Rattle.am_files.specs.Reading.{check_count, patterns_then, read_each, reading_within}
+use Rattle.am_files.specs.Reading.{refuse_for, ◌>>=◌}
+use Rattle.am_files.proofs.MatcherFaultLemmas.{root_gives}
+use Rattle.am_files.proofs.PatternFaultLemmas.{met_pattern}
+use Rattle.am_files.proofs.PlaceLemmas.{Clear, Form, IsPart, Judges, Tells, itself_refused}
+use Rattle.am_files.proofs.PlaceLemmas.{judges_plain, one_place, one_refused, part_judges}
+use Rattle.am_files.proofs.PlaceLemmas.{refuse_judges, said, said_of}
 use Rattle.am_files.proofs.PlaceOrder.{lead, none_before_itself}
-use Rattle.am_files.proofs.PlaceLemmas.{Form, Tells, Judges, one_place, judges_plain, itself_first}
-use Rattle.am_files.proofs.PlaceLemmas.{only_first, Clear, IsPart, part_judges, result_ok, same_ok}
-use Rattle.am_files.proofs.PlaceLemmas.{inner_ok, Sequence, sequence_form, fault_of_next}
-use Rattle.am_files.proofs.PlaceLemmas.{pattern_of_next, next_form, Loop, each_loop, all_judge}
-use Rattle.am_files.proofs.PlaceLemmas.{all_read, refuse_judges, within_nothing, slice_get_at}
-use Rattle.am_files.proofs.MatcherFaultLemmas.{met_pattern}
+use Rattle.am_files.proofs.Readings.{bind_ok, same_read}
+use Rattle.am_files.proofs.SameReadings.{within_nothing}
+use Rattle.am_files.proofs.SequenceLemmas.{Sequence, all_judge, all_read, each_loop, next_form}
+use Rattle.am_files.proofs.SequenceLemmas.{pattern_of_next, sequence_form, slice_get_at}
 
 -- ---- One pair.
 
@@ -67,7 +69,7 @@ matcher_judged m = record {
 } where
   by : (cause : Option Kind) → Tells (one_place cause) (refuse_for cause >>= λ _. accept m).result
   by None = λ _. refl
-  by (Some kind) = only_first (Some kind) kind refl
+  by (Some kind) = (one_refused {A = Condition} kind).tells
 
   checked_met : (cause : Option Kind) (r : Refusal)
       → IsPatternRefusal (profile_patterns (m ∷ [])
@@ -103,14 +105,14 @@ value_judged : (op : Op) (name : List ℕ) (found : Option (List ℕ))
     (accept_some found (refusal_here kinds.Shape)
     >>= λ value. check_patterns (made op name value ∷ []) >>= λ _. accept (made op name value))
 value_judged op name None =
-    record { tells = only_first (Some kinds.Shape) kinds.Shape refl; meets = λ r h. absurd h }
+    one_refused kinds.Shape
 value_judged op name (Some value) = matcher_judged (made op name value)
 
 pair_judged : (op : Op) (name : List ℕ) (d : Data)
     → Judges (pair_form op (name, d)) (read_matcher_pair op name d)
 unfolding read_matcher_pair read_named_text
 pair_judged op [] d =
-    record { tells = only_first (Some kinds.Empty) kinds.Empty refl; meets = λ r h. absurd h }
+    one_refused kinds.Empty
 pair_judged op (c ∷ cs) d = value_judged op (c ∷ cs) (find.as_str d)
 
 -- ---- A pair behind others.
@@ -163,26 +165,18 @@ module _ (op : Op) (before : ℕ) (pairs : List (List ℕ × Data)) where
     self_part : IsPart next_pair_form 0 (known_member 0 name) (pair_form op (name, d))
         (λ _. pair_self)
     self_part = record {
-      rank =
-          refl;
-      is_path = λ _. ap (λ (key : List ℕ). known_member 0 key
-          ∷ []) named;
-      is_fault = λ _. refl;
-      is_pattern = λ _. refl;
+      rank = refl;
+      seen = λ _ i. (
+        known_member 0 (named i) ∷ [],
+        pair_fault op (name, d),
+        is_profile_pattern (pair_matcher op (name, d)),
+      );
       covers = self_covers;
     }
 
     sum_part : IsPart next_pair_form 1 (turn 1)
         (one_place (limit_fault MAX_MATCHERS (before + (length front + 1)))) (λ _. pair_sum)
-    sum_part = record {
-      rank =
-          refl;
-      is_path =
-          λ _. refl;
-      is_fault = λ _. refl;
-      is_pattern = λ _. refl;
-      covers = sum_covers;
-    }
+    sum_part = record { rank = refl; seen = λ _. refl; covers = sum_covers }
 
     none_yet : Clear next_pair_form 1
     none_yet pair_self lt = absurd (omega (arith, lt))
@@ -236,11 +230,11 @@ module _ (op : Op) (before : ℕ) (pairs : List (List ℕ × Data)) where
       → (read_next_pair op a pair).result ≡ Ok b → length b ≡ length a + 1
   unfolding read_next_pair
   next_gives (name, d) a b ok =
-      let made = result_ok (reading_within (to_field name) (read_matcher_pair op name d)).result
+      let made = bind_ok (reading_within (to_field name) (read_matcher_pair op name d)).result
       (λ m. (append_matchers a (m ∷ [])).result) b ok in
-      let count = result_ok (check_count MAX_MATCHERS (length a + 1)).result
+      let count = bind_ok (check_count MAX_MATCHERS (length a + 1)).result
       (λ _. (accept (a ++ made.0 ∷ [])).result) b made.2 in
-      let same : a ++ made.0 ∷ [] ≡ b = same_ok (a ++ made.0 ∷ []) b count.2 in
+      let same : a ++ made.0 ∷ [] ≡ b = same_read (a ++ made.0 ∷ []) b count.2 in
       sym (ap length same) ∙ length-append a (made.0 ∷ [])
 
   next_counted : (front : List (List ℕ × Data)) (pair : List ℕ × Data) (back : List (List ℕ × Data))
@@ -280,29 +274,6 @@ module _ (is_root : Bool) (op : Op) (before : ℕ) (pairs : List (List ℕ × Da
   abbrev in_pairs : Sequence (List ℕ × Data) OnePair
   in_pairs = pairs_sequence op before pairs
 
-  into_path : (place : ℕ × OnePair)
-      → pairs_path pairs (into_pairs place) ≡ turn 0
-      ∷ (turn place.0 ∷ one_pair_path op before pairs place.0 place.1)
-  into_path (j, pair_self) = refl
-  into_path (j, pair_sum) = refl
-
-  self_at : (j : ℕ) (found : Option (List ℕ × Data))
-      → if_there (pair_fault op) found ≡ fault_of_next in_pairs (take j pairs) found pair_self
-  self_at j None = refl
-  self_at j (Some pair) = refl
-
-  sum_at : (j : ℕ) (found : Option (List ℕ × Data))
-      → if_there (λ _. limit_fault MAX_MATCHERS (before + (length (take j pairs) + 1))) found
-      ≡ fault_of_next in_pairs (take j pairs) found pair_sum
-  sum_at j None = refl
-  sum_at j (Some pair) = refl
-
-  into_fault : (place : ℕ × OnePair)
-      → pairs_fault is_root op before None pairs (into_pairs place)
-      ≡ fault_of_next in_pairs (take place.0 pairs) (slice_get pairs place.0) place.1
-  into_fault (j, pair_self) = self_at j (slice_get pairs j)
-  into_fault (j, pair_sum) = sum_at j (slice_get pairs j)
-
   pattern_at : (found : Option (List ℕ × Data))
       → is_profile_pattern (option_and_then (pair_matcher op) found)
       ≡ pattern_of_next in_pairs found pair_self
@@ -313,67 +284,59 @@ module _ (is_root : Bool) (op : Op) (before : ℕ) (pairs : List (List ℕ × Da
   no_pattern_at None = refl
   no_pattern_at (Some pair) = refl
 
-  into_pattern : (place : ℕ × OnePair)
-      → is_profile_pattern (pairs_matcher op pairs (into_pairs place))
-      ≡ pattern_of_next in_pairs (slice_get pairs place.0) place.1
-  into_pattern (j, pair_self) = pattern_at (slice_get pairs j)
-  into_pattern (j, pair_sum) = no_pattern_at (slice_get pairs j)
+  pairs_seen : (place : ℕ × OnePair)
+      → said_of whole_pairs (into_pairs place)
+      ≡ said (turn 0 ∷ (sequence_form in_pairs pairs).path place)
+      ((sequence_form in_pairs pairs).fault_at place)
+      ((sequence_form in_pairs pairs).has_pattern place)
+  pairs_seen (j, pair_self) = λ i. (
+    turn 0 ∷ turn j ∷ known_member 0 (pair_name pairs j) ∷ [],
+    if_there (pair_fault op) (slice_get pairs j),
+    pattern_at (slice_get pairs j) i,
+  )
+  pairs_seen (j, pair_sum) = λ i. (
+    turn 0 ∷ turn j ∷ turn 1 ∷ [],
+    if_there (λ _. limit_fault MAX_MATCHERS (before + (length (take j pairs) + 1)))
+        (slice_get pairs j),
+    no_pattern_at (slice_get pairs j) i,
+  )
 
   pairs_cover : (place : PairsPlace) → lead (rank_of (pairs_path pairs place)) ≡ 1
       → (inner : ℕ × OnePair) × (place ≡ into_pairs inner)
-  pairs_cover pairs_itself e = absurd (omega (arith, e))
   pairs_cover (one_pair j) e = ((j, pair_self), refl)
   pairs_cover (pair_total j) e = ((j, pair_sum), refl)
-  pairs_cover pairs_given e = absurd (omega (arith, e))
+  pairs_cover place e = absurd (omega (arith, e))
 
   given_covers : (place : PairsPlace) → lead (rank_of (pairs_path pairs place)) ≡ 2
       → ⊤ × (place ≡ pairs_given)
-  given_covers pairs_itself e = absurd (omega (arith, e))
-  given_covers (one_pair j) e = absurd (omega (arith, e))
-  given_covers (pair_total j) e = absurd (omega (arith, e))
   given_covers pairs_given e = (tt, refl)
+  given_covers place e = absurd (omega (arith, e))
 
   pairs_part : IsPart whole_pairs 0 (turn 0) (sequence_form in_pairs pairs) into_pairs
   pairs_part = record {
-    rank =
-        refl;
-    is_path =
-        into_path;
-    is_fault = into_fault;
-    is_pattern = into_pattern;
+    rank = refl;
+    seen = pairs_seen;
     covers = pairs_cover;
   }
 
   given_part : IsPart whole_pairs 1 (turn 1) (one_place (given_fault is_root pairs))
       (λ _. pairs_given)
-  given_part = record {
-    rank =
-        refl;
-    is_path =
-        λ _. refl;
-    is_fault = λ _. refl;
-    is_pattern = λ _. refl;
-    covers = given_covers;
-  }
+  given_part = record { rank = refl; seen = λ _. refl; covers = given_covers }
 
   object_clear : Clear whole_pairs 1
   object_clear pairs_itself lt = refl
-  object_clear (one_pair j) lt = absurd (omega (arith, lt))
-  object_clear (pair_total j) lt = absurd (omega (arith, lt))
-  object_clear pairs_given lt = absurd (omega (arith, lt))
+  object_clear place lt = absurd (omega (arith, lt))
 
   pairs_clear : Clear whole_pairs 3 → (place : PairsPlace)
       → pairs_fault is_root op before None pairs place ≡ None
   pairs_clear clear pairs_itself = refl
-  pairs_clear clear (one_pair j) = clear (one_pair j) (omega arith)
-  pairs_clear clear (pair_total j) = clear (pair_total j) (omega arith)
-  pairs_clear clear pairs_given = clear pairs_given (omega arith)
+  pairs_clear clear place = clear place (omega arith)
 
 -- the check of the top-level route goes by all its matchers, which are those of the pairs
 given_cause : (is_root : Bool) (before : ℕ) (pairs : List (List ℕ × Data)) (ms : List Condition)
     → ((is_root ≡ true) → before ≡ 0) → length ms ≡ before + length pairs
     → given_fault is_root pairs
-    ≡ (if is_root && not (is_empty ms) then Some kinds.RootMatchers else None)
+    ≡ given_fault is_root ms
 given_cause false before [] ms bare long = refl
 given_cause false before (p ∷ ps) ms bare long = refl
 given_cause true before [] [] bare long = refl
@@ -431,7 +394,8 @@ absent_clear : (is_root : Bool) (op : Op) (before : ℕ) (place : PairsPlace)
 absent_clear is_root op before pairs_itself = refl
 absent_clear is_root op before (one_pair j) = refl
 absent_clear is_root op before (pair_total j) = refl
-absent_clear is_root op before pairs_given = refl
+absent_clear true op before pairs_given = refl
+absent_clear false op before pairs_given = refl
 
 abbrev listed_pairs : Option Members → List (List ℕ × Data)
 listed_pairs found = unwrap_or (option_map member_list found) []
@@ -442,11 +406,9 @@ shaped_judged : (is_root : Bool) (op : Op) (before : ℕ) (a : List Condition)
     (accept_some found (refusal_here kinds.Shape)
     >>= λ members. read_each (read_next_pair op) a (member_list members)
     >>= refuse_root_matchers is_root)
-shaped_judged is_root op before a None bare long = record {
-  tells = itself_first (pairs_form is_root op before (Some kinds.Shape) []) pairs_itself kinds.Shape
-      refl refl;
-  meets = λ r h. absurd h;
-}
+shaped_judged is_root op before a None bare long =
+    itself_refused (pairs_form is_root op before (Some kinds.Shape) []) pairs_itself kinds.Shape
+    refl refl
 shaped_judged is_root op before a (Some members) bare long =
     object_judged is_root op before (member_list members) bare a long
 
@@ -460,13 +422,6 @@ pairs_field_judged is_root op before a None bare long =
 pairs_field_judged is_root op before a (Some d) bare long =
     shaped_judged is_root op before a (find.as_object d) bare long
 
-root_gives : (is_root : Bool) (ms b : List Condition)
-    → (refuse_root_matchers is_root ms).result ≡ Ok b → (ms ≡ b) × ((is_root ≡ true) → ms ≡ [])
-root_gives true [] b h = (cc, λ _. refl)
-root_gives true (m ∷ ms) b h = absurd cc
-root_gives false [] b h = (cc, λ _. refl)
-root_gives false (m ∷ ms) b h = (cc, λ e. absurd cc)
-
 shaped_gives : (is_root : Bool) (op : Op) (a b : List Condition) (found : Option Members)
     → (accept_some found (refusal_here kinds.Shape)
     >>= λ members. read_each (read_next_pair op) a (member_list members)
@@ -474,7 +429,7 @@ shaped_gives : (is_root : Bool) (op : Op) (a b : List Condition) (found : Option
     → (length b ≡ length a + length (listed_pairs found)) × ((is_root ≡ true) → b ≡ [])
 shaped_gives is_root op a b None h = absurd cc
 shaped_gives is_root op a b (Some members) h =
-    let list = result_ok (read_each (read_next_pair op) a (member_list members)).result
+    let list = bind_ok (read_each (read_next_pair op) a (member_list members)).result
     (λ ms. (refuse_root_matchers is_root ms).result) b h in
     let root = root_gives is_root list.0 b list.2 in (
       sym (ap length root.0)
@@ -488,6 +443,6 @@ pub pairs_field_gives : (is_root : Bool) (op : Op) (a b : List Condition) (found
     → ((is_root ≡ true) → a ≡ []) → (pairs_reading is_root op a found).result ≡ Ok b
     → (length b ≡ length a + length (field_pairs found)) × ((is_root ≡ true) → b ≡ [])
 unfolding read_pairs
-pairs_field_gives is_root op a b None bare h = let same : a ≡ b = same_ok a b h in
+pairs_field_gives is_root op a b None bare h = let same : a ≡ b = same_read a b h in
     (sym (ap length same) ∙ sym (add-zero (length a)), λ e. sym same ∙ bare e)
 pairs_field_gives is_root op a b (Some d) bare h = shaped_gives is_root op a b (find.as_object d) h

@@ -140,7 +140,7 @@ within_if_ok part (Err errors.Memory) seen P h is = rw is tt
 within_if_ok part (Err (errors.Refused r)) (Ok x) P h is = absurd is
 within_if_ok part (Err (errors.Refused r)) (Err e) P h is = tt
 
--- ---- An error of a kind, which may be want of memory.
+-- ---- An error of a kind, which may be that memory ran out.
 
 no_memory : (found : Refusal) → errors.Refused found ≡ errors.Memory → ⊥
 no_memory found h = cc

@@ -16,7 +16,7 @@ use Rattle.am_labels.specs.Matcher.{Condition}
 use Rattle.am_universe.specs.Text.{same_text}
 use Rattle.am_files.specs.declared.limits.TheConstants.{MAX_ROUTES, MAX_LEVELS}
 use Rattle.am_files.specs.Json.{field, member_list}
-use Rattle.am_files.specs.Pointer.{refusal_here, to_field, to_item}
+use Rattle.am_files.specs.Pointer.{refusal_here, to_field}
 use Rattle.am_files.specs.Reading.{reading_within, as_text, as_items, as_object, read_each}
 use Rattle.am_files.specs.Reading.{read_next_item, read_items}
 use Rattle.am_files.specs.ConfigFile.{RouteSettings, RouteTree, route, Routes, no_routes, IsConfig}
@@ -30,6 +30,7 @@ use Rattle.am_files.specs.ConfigReading.{read_texts, read_pairs, optional_texts,
 use Rattle.am_files.specs.ConfigReading.{read_matchers, read_route_fields, read_route}
 use Rattle.am_files.specs.ConfigReading.{read_next_child}
 use Rattle.am_files.proofs.Readings.{bind_ok, within_ok, ok_or_some, same_read}
+use Rattle.am_files.proofs.Items.{item_first}
 use Rattle.am_files.proofs.Routing.{are_read, count_push}
 
 -- ---- Receivers.
@@ -158,25 +159,14 @@ children_sound names left receiver before one earlier [] all sound h =
     subst (λ (ts : List RouteTree). AreSound (length names) left before (routes_of ts))
     (same_read earlier all h) sound
 children_sound names left receiver before one earlier (d ∷ ds) all sound h =
-    let read = read_next_child names left receiver before in
-    let next =
-    bind_ok ((read_next_item read earlier d).result) (λ ts. (read_items read ts ds).result) all
-    h in
-    let child =
-    bind_ok ((reading_within (to_item (length earlier)) (read earlier d)).result)
-    (λ t. Ok (earlier ++ t ∷ [])) next.0 next.1 in
-    let is =
-    one (before + routes_count (routes_of earlier)) d child.0
-    (within_ok (to_item (length earlier)) ((read earlier d).result) child.0 child.1) in
-    let after =
-    subst (λ (ts : List RouteTree). (read_items read ts ds).result ≡ Ok all)
-    (sym (same_read (earlier ++ child.0 ∷ []) next.0 child.2)) next.2 in
+    let child = item_first (read_next_child names left receiver before) earlier d ds all h in
+    let is = one (before + routes_count (routes_of earlier)) d child.0 child.1 in
     let more : AreSound (length names) left before (routes_of (earlier ++ child.0 ∷ [])) = record {
       in_range = push_in_range (length names) earlier child.0 sound.in_range is.in_range;
       levels = push_levels left earlier child.0 sound.levels is.levels;
       number = omega (arith, count_push earlier child.0, is.number);
     } in
-    children_sound names left receiver before one (earlier ++ child.0 ∷ []) ds all more after
+    children_sound names left receiver before one (earlier ++ child.0 ∷ []) ds all more child.2
 
 route_is_sound : (count left before : ℕ) (settings : RouteSettings) (ts : Routes)
     → settings.receiver < count → AreSound count left (before + 1) ts

@@ -1,49 +1,46 @@
 -- The fault that reading a universe file meets first is the first by its places.
-use Rattle.std.proofs.Common.{◌≡◌, ℕ, zero, suc, ◌<◌, ◌≤◌, List, [], ◌∷◌, ◌++◌, length, map, take}
-use Rattle.std.proofs.Common.{slice_get, unwrap_or, Option, Some, None, option_and_then, Result, Ok}
-use Rattle.std.proofs.Common.{Err, Bool, true, false, ◌||◌, ◌↔◌, refl, sym, ap, subst, ◌∙◌, arith}
-use Rattle.std.proofs.Common.{codes}
-use Rattle.std.specs.Prelude.{⊤, if◌then◌else◌, ◌==◌, not}
+use Rattle.std.proofs.Common.{Bool, Err, List, None, Ok, Option, Some, [], ap, arith, codes, false}
+use Rattle.std.proofs.Common.{inl, inr, length, map, option_and_then, refl, subst, suc, sym, true}
+use Rattle.std.proofs.Common.{unwrap_or, zero, ℕ, ◌++◌, ◌<◌, ◌||◌, ◌↔◌, ◌∙◌, ◌∷◌, ◌≡◌}
+use Rattle.std.proofs.lemmas.List.{map_push}
 use Rattle.std.specs.List.{list_any}
-use Rattle.std.proofs.lemmas.List.{map_push, length-map}
-use Rattle.serde_json.specs.Data.{Data, null, boolean, number, string, array, object}
-use Rattle.serde_json.specs.Find.{as_object, as_str}
+use Rattle.std.specs.Prelude.{if◌then◌else◌, not}
+use Rattle.serde_json.specs.Data.{Data, array, boolean, null, number, object, string}
+use Rattle.serde_json.specs.Find.{as_str}
+use Rattle.am_universe.specs.Text.{same_text}
+use Rattle.am_universe.specs.Universe.{Label, Values, count_fault, is_label_name}
+use Rattle.am_universe.specs.Universe.{name_fault, names, value_fault}
 use Rattle.am_universe.specs.declared.kind.Kind.{Kind}
 use Rattle.am_universe.specs.declared.kind.Kind.TheVariants as kinds
-use Rattle.am_universe.specs.Text.{same_text}
 use Rattle.am_universe.specs.declared.limits.TheConstants.{MAX_LABELS}
-use Rattle.am_universe.specs.Universe.{Values, Label, names, is_label_name, name_fault}
-use Rattle.am_universe.specs.Universe.{count_fault, value_fault}
-use Rattle.am_files.specs.Json.{field, items_of}
-use Rattle.am_files.specs.Pointer.{Refusal, refusal_here, to_field, to_item}
-use Rattle.am_files.specs.Reading.{Reading, ◌>>=◌, accept, accept_some, refuse_for, reading_within}
-use Rattle.am_files.specs.Reading.{read_items, read_next_item, required_text, required_items}
-use Rattle.am_files.specs.Reading.{IsPatternRefusal}
-use Rattle.am_files.specs.UniverseFile.{file_fields, label_fields, SaysValue, SaysUniverse}
-use Rattle.am_files.specs.UniverseFile.{read_next_value, read_values, read_next_label, read_labels}
-use Rattle.am_files.specs.UniverseFile.{read_universe, read_universe_file}
-use Rattle.am_files.specs.Places.{Step, known_member, array_item, step_pointer, rank_of}
-use Rattle.am_files.specs.Places.{object_itself, other_field, in_field, shape_or, limit_fault}
-use Rattle.am_files.specs.Places.{text_of, OnlyPlace, only_path, ArrayPlace, array_itself, in_item}
-use Rattle.am_files.specs.Places.{array_path, items_in_field, item_fault, required_array_fault}
-use Rattle.am_files.specs.UniverseFaults.{LabelField, label_name, label_values, label_field_path}
-use Rattle.am_files.specs.UniverseFaults.{LabelPlace, label_path, UniverseField, file_labels}
-use Rattle.am_files.specs.UniverseFaults.{universe_field_path, UniversePlace, universe_path}
-use Rattle.am_files.specs.UniverseFaults.{value_fault_at, named_label, label_field_fault}
-use Rattle.am_files.specs.UniverseFaults.{label_fault_at, universe_field_fault, universe_fault_at}
+use Rattle.am_files.specs.Json.{field, items_of, json_of}
+use Rattle.am_files.specs.Places.{ArrayPlace, IsMetPatternOfValue, OnlyPlace, array_path}
+use Rattle.am_files.specs.Places.{items_in_field, known_member, limit_fault, only_path, rank_of}
+use Rattle.am_files.specs.Places.{shape_or, text_of}
+use Rattle.am_files.specs.Pointer.{Refusal, refusal_here, to_field}
+use Rattle.am_files.specs.Reading.{IsPatternRefusal, MayRefuse, Reading, accept, accept_some}
+use Rattle.am_files.specs.Reading.{read_items, reading_within, refuse_for, required_items}
+use Rattle.am_files.specs.Reading.{required_text, ◌>>=◌}
 use Rattle.am_files.specs.UniverseFaults.{IsFirstFaultOfUniverse, IsFirstFaultOfUniverseFile}
-use Rattle.am_files.proofs.UniverseSays.{value_says, label_says, universe_decides}
+use Rattle.am_files.specs.UniverseFaults.{LabelField, LabelPlace, UniverseField, UniversePlace}
+use Rattle.am_files.specs.UniverseFaults.{file_labels, label_fault_at, label_field_fault}
+use Rattle.am_files.specs.UniverseFaults.{label_field_path, label_name, label_path, label_values}
+use Rattle.am_files.specs.UniverseFaults.{named_label, universe_fault_at, universe_field_fault}
+use Rattle.am_files.specs.UniverseFaults.{universe_field_path, universe_path, value_fault_at}
+use Rattle.am_files.specs.UniverseFile.{SaysUniverse, SaysValue, file_fields, label_fields}
+use Rattle.am_files.specs.UniverseFile.{read_labels, read_next_label, read_next_value}
+use Rattle.am_files.specs.UniverseFile.{read_universe, read_universe_file, read_values}
+use Rattle.am_files.proofs.FieldLemmas.{items_form, items_seen, items_sequence, text_field_judges}
+use Rattle.am_files.proofs.FileLemmas.{bytes_decide, bytes_refused}
+use Rattle.am_files.proofs.ObjectLemmas.{array_tells, closed_judged, no_open_pattern, object_tells}
+use Rattle.am_files.proofs.ObjectLemmas.{only_tells, open_pattern}
+use Rattle.am_files.proofs.PlaceLemmas.{Clear, Form, IsPart, Judges, RanksTell, cause_judges}
+use Rattle.am_files.proofs.PlaceLemmas.{first_decides, judges_plain, none_reads, one_place}
+use Rattle.am_files.proofs.PlaceLemmas.{one_refused, part_judges, read_none, said}
 use Rattle.am_files.proofs.PlaceOrder.{lead}
-use Rattle.am_files.proofs.PlaceLemmas.{Form, Judges, RanksTell, first_decides, none_reads}
-use Rattle.am_files.proofs.PlaceLemmas.{read_none, one_place, judges_plain, only_first}
-use Rattle.am_files.proofs.PlaceLemmas.{cause_judges, accept_judges, inner_ok, result_ok, same_ok}
-use Rattle.am_files.proofs.PlaceLemmas.{Clear, IsPart, part_judges, then_accept, text_field_judges}
-use Rattle.am_files.proofs.PlaceLemmas.{items_within, items_within_then, Sequence, sequence_form}
-use Rattle.am_files.proofs.PlaceLemmas.{fault_of_next, pattern_of_next, next_form, array_form}
-use Rattle.am_files.proofs.PlaceLemmas.{array_judged, array_refused, ruled_array, each_loop}
-use Rattle.am_files.proofs.PlaceLemmas.{all_judge, item_within, open_pattern, file_decides}
-use Rattle.am_files.proofs.ObjectLemmas.{closed_form, closed_judged, only_tells, object_tells}
-use Rattle.am_files.proofs.ObjectLemmas.{array_tells}
+use Rattle.am_files.proofs.SameReadings.{items_within, items_within_then, then_accept}
+use Rattle.am_files.proofs.SequenceLemmas.{Sequence, items_judged, next_form, required_array}
+use Rattle.am_files.proofs.UniverseSays.{label_says, universe_decides, value_says}
 
 -- ---- A value.
 
@@ -52,88 +49,21 @@ value_judged : (ds : List Data) (d : Data)
 unfolding read_next_value
 value_judged ds null = cause_judges (value_fault (map as_str ds) None) None
 value_judged ds (string s) = cause_judges (value_fault (map as_str ds) (Some s)) (Some s)
-value_judged ds (boolean b) =
-    record { tells = only_first (Some kinds.Shape) kinds.Shape refl; meets = λ r h. absurd h }
-value_judged ds (number n) =
-    record { tells = only_first (Some kinds.Shape) kinds.Shape refl; meets = λ r h. absurd h }
-value_judged ds (array items) =
-    record { tells = only_first (Some kinds.Shape) kinds.Shape refl; meets = λ r h. absurd h }
-value_judged ds (object ms) =
-    record { tells = only_first (Some kinds.Shape) kinds.Shape refl; meets = λ r h. absurd h }
+value_judged ds (boolean b) = one_refused kinds.Shape
+value_judged ds (number n) = one_refused kinds.Shape
+value_judged ds (array items) = one_refused kinds.Shape
+value_judged ds (object ms) = one_refused kinds.Shape
 
 said_value : (d : Data) (value : Option (List ℕ)) → SaysValue d value → as_str d ≡ value
 said_value d None said = ap as_str said
 said_value d (Some t) said = ap as_str said
 
 abbrev values_sequence : Sequence Data OnlyPlace
-values_sequence = record {
-  step = λ i. array_item i i;
-  rank = λ i. refl;
-  path = λ _. only_path;
-  fault_in = value_fault_at;
-  pattern_in = λ _ _. false;
-}
-
--- ---- Items that are read one behind the other.
-
--- what is read of an item of an array behind others, if what was read is what those say
-module _ {A Q : Type 0} (read : List A → Data → Reading A) (s : Sequence Data Q)
-    (says : (i : ℕ) → s.step i ≡ array_item i i)
-    (AreRead : List Data → List A → Type 0)
-    (as_many : (ds : List Data) (xs : List A) → AreRead ds xs → length ds ≡ length xs)
-    (judged : (ds : List Data) (xs : List A) (d : Data) → AreRead ds xs
-    → Judges (next_form s ds d) (read xs d))
-    (goes_on : (ds : List Data) (xs : List A) (d : Data) (x : A) → AreRead ds xs
-    → (read xs d).result ≡ Ok x → AreRead (ds ++ d ∷ []) (xs ++ x ∷ [])) where
-  module _ (items : List Data) where
-    next_judged : (front : List Data) (d : Data) (back : List Data) (xs : List A)
-        → items ≡ front ++ d ∷ back → AreRead front xs
-        → (m : Reading (List A))
-        × (read_next_item read xs d ≡ reading_within (step_pointer (s.step (length front))) m)
-        × Judges (next_form s front d) m
-    next_judged front d back xs e are =
-        let m : Reading (List A) = read xs d >>= λ x. accept (xs ++ x ∷ []) in (
-          m,
-          item_within read xs d
-              ∙ (ap (λ (n : ℕ). reading_within (to_item n) m) (sym (as_many front xs are))
-              ∙ ap (λ (step : Step). reading_within (step_pointer step) m)
-              (sym (says (length front)))),
-          accept_judges (next_form s front d) (read xs d) (λ x. xs ++ x ∷ [])
-              (judged front xs d are),
-        )
-
-    next_read : (front : List Data) (d : Data) (back : List Data) (xs more : List A)
-        → items ≡ front ++ d ∷ back → AreRead front xs
-        → (read_next_item read xs d).result ≡ Ok more → AreRead (front ++ d ∷ []) more
-    next_read front d back xs more e are ok =
-        let within = sym (ap (λ (m : Reading (List A)). m.result) (item_within read xs d)) ∙ ok in
-        let inner = inner_ok (to_item (length xs)) (read xs d >>= λ x. accept (xs ++ x ∷ [])).result
-        more within in
-        let x = result_ok (read xs d).result (λ y. (accept (xs ++ y ∷ [])).result) more inner in
-        subst (AreRead (front ++ d ∷ [])) (same_ok (xs ++ x.0 ∷ []) more x.2)
-        (goes_on front xs d x.0 are x.1)
-
-    all_items : AreRead [] [] → Judges (array_form s None items) (read_items read [] items)
-    all_items none = array_judged s items (read_items read [] items) (all_judge
-        (each_loop (read_next_item read)) s items AreRead next_judged next_read [] none)
-
-  -- an array that has to be there, whose number of items has a rule
-  required_array : (count_fault : ℕ → Option Kind) → AreRead [] [] → (found : Option (List Data))
-      → Judges (array_form s (shape_or (λ items. count_fault (length items)) found)
-      (unwrap_or found []))
-      (accept_some found (refusal_here kinds.Shape)
-      >>= λ items. refuse_for (count_fault (length items)) >>= λ _. read_items read [] items)
-  required_array count_fault none None = array_refused s kinds.Shape []
-  required_array count_fault none (Some items) =
-      ruled_array s (count_fault (length items)) items (read_items read [] items)
-      (all_items items none)
+values_sequence = items_sequence only_path value_fault_at (λ _ _. false)
 
 -- the values of items are those that were read
 abbrev AreValues : List Data → Values → Type 0
 AreValues ds values = map as_str ds ≡ values
-
-values_long : (ds : List Data) (values : Values) → AreValues ds values → length ds ≡ length values
-values_long ds values are = sym (length-map ds as_str) ∙ ap length are
 
 values_judged : (ds : List Data) (values : Values) (d : Data) → AreValues ds values
     → Judges (next_form values_sequence ds d) (read_next_value values d)
@@ -149,16 +79,18 @@ values_go_on ds values d value are is =
     map_push as_str ds d ∙ (λ i. are i ++ said i ∷ [])
 
 abbrev values_form : Option Data → Form (ArrayPlace OnlyPlace)
-values_form found = array_form values_sequence (shape_or (λ items. count_fault (length items))
-    (option_and_then items_of found)) (items_in_field found)
+values_form = items_form only_path value_fault_at (λ _ _. false) count_fault
 
 values_judge : (found : Option Data)
     → Judges (values_form found)
     (accept_some (option_and_then items_of found) (refusal_here kinds.Shape) >>= read_values)
 unfolding read_values
-values_judge found = required_array read_next_value values_sequence (λ i.
-    refl) AreValues values_long values_judged values_go_on count_fault refl
-    (option_and_then items_of found)
+values_judge found =
+    required_array values_sequence (λ items. count_fault (length items))
+    (read_items read_next_value []) (option_and_then items_of found)
+    (items_judged read_next_value values_sequence (λ i. refl) AreValues refl (items_in_field found)
+    (λ ds d _ values _ are. values_judged ds values d are)
+    (λ ds d values value are is. values_go_on ds values d value are is))
 
 -- ---- A label.
 
@@ -187,53 +119,14 @@ module _ (ds : List Data) (d : Data) where
   name_part : IsPart label_form 1 (known_member 1 (codes "name"))
       (one_place (shape_or (name_fault (map named_label ds)) (text_of (field (codes "name") d))))
       (λ _. label_name)
-  name_part = record {
-    rank =
-        refl;
-    is_path =
-        λ _. refl;
-    is_fault = λ _. refl;
-    is_pattern = λ _. refl;
-    covers = name_covers;
-  }
-
-  values_path : (place : ArrayPlace OnlyPlace)
-      → label_field_path (label_values place) ≡ known_member 2 (codes "values")
-      ∷ (values_form values_field).path place
-  values_path array_itself = refl
-  values_path (in_item i place) = refl
-
-  value_at : (i : ℕ) (place : OnlyPlace) (found : Option Data)
-      → item_fault (value_fault_at (take i (items_in_field values_field))) found place
-      ≡ fault_of_next values_sequence (take i (items_in_field values_field)) found place
-  value_at i place None = refl
-  value_at i place (Some item) = refl
-
-  values_fault : (place : ArrayPlace OnlyPlace)
-      → label_field_fault ds d (label_values place) ≡ (values_form values_field).fault_at place
-  values_fault array_itself = refl
-  values_fault (in_item i place) = value_at i place (slice_get (items_in_field values_field) i)
-
-  no_value_pattern : (place : OnlyPlace) (found : Option Data)
-      → false ≡ pattern_of_next values_sequence found place
-  no_value_pattern place None = refl
-  no_value_pattern place (Some item) = refl
-
-  values_pattern : (place : ArrayPlace OnlyPlace)
-      → false ≡ (values_form values_field).has_pattern place
-  values_pattern array_itself = refl
-  values_pattern (in_item i place) =
-      no_value_pattern place (slice_get (items_in_field values_field) i)
+  name_part = record { rank = refl; seen = λ _. refl; covers = name_covers }
 
   values_part : IsPart label_form 2 (known_member 2 (codes "values")) (values_form values_field)
       label_values
   values_part = record {
-    rank =
-        refl;
-    is_path =
-        values_path;
-    is_fault = values_fault;
-    is_pattern = values_pattern;
+    rank = refl;
+    seen = items_seen only_path value_fault_at (λ _ _. false) (λ _ _. refl) count_fault
+        (codes "values") 2 values_field;
     covers = values_cover;
   }
 
@@ -266,7 +159,7 @@ label_fields_judge ds d =
     (λ name. required_items (codes "values") d
     >>= λ items. reading_within (to_field (codes "values")) (read_values items)
     >>= λ values. accept (made_label name values))
-    (λ name is free next.
+    (λ name next.
     rw (items_within_then (codes "values") read_values d
     (λ values. accept (made_label name values)))
     (part_judges (label_form ds d) 2 (known_member 2 (codes "values"))
@@ -288,11 +181,12 @@ any-map p f [] = refl
 any-map p f (x ∷ xs) = ap (λ (b : Bool). p (f x) || b) (any-map p f xs)
 
 -- a fault of a name goes by the names of the other labels
-same_name_fault : (u v : List Label) → names u ≡ names v → name_fault u ≡ name_fault v
-same_name_fault u v e = λ i name.
-    if length name == 0 then Some kinds.Empty
-    else if not (is_label_name name) then Some kinds.Shape
-    else if same name i then Some kinds.Duplicate
+same_fault_of : (u v : List Label) → names u ≡ names v → (name : List ℕ)
+    → name_fault u name ≡ name_fault v name
+same_fault_of u v e [] = refl
+same_fault_of u v e (c ∷ cs) = λ i.
+    if not (is_label_name (c ∷ cs)) then Some kinds.Shape
+    else if same (c ∷ cs) i then Some kinds.Duplicate
     else None
   where
     same : (name : List ℕ)
@@ -301,24 +195,16 @@ same_name_fault u v e = λ i name.
         ∙ (ap (list_any (λ other. same_text other name)) e
         ∙ any-map (λ other. same_text other name) (λ (l : Label). l.name) v)
 
+same_name_fault : (u v : List Label) → names u ≡ names v → name_fault u ≡ name_fault v
+same_name_fault u v e = λ i name. same_fault_of u v e name i
+
 -- the names of items are those of the labels that were read
 abbrev AreNamed : List Data → List Label → Type 0
 AreNamed ds u = names (map named_label ds) ≡ names u
 
-labels_long : (ds : List Data) (u : List Label) → AreNamed ds u → length ds ≡ length u
-labels_long ds u are =
-    sym (length-map ds named_label)
-    ∙ (sym (length-map (map named_label ds) (λ (l : Label). l.name))
-    ∙ (ap length are ∙ length-map u (λ (l : Label). l.name)))
-
 abbrev labels_sequence : Sequence Data LabelPlace
-labels_sequence = record {
-  step = λ i. array_item i i;
-  rank = λ i. refl;
-  path = λ _ place. label_path place;
-  fault_in = label_fault_at;
-  pattern_in = λ _. open_pattern (λ _. false);
-}
+labels_sequence =
+    items_sequence label_path label_fault_at (λ _. open_pattern (λ _. false))
 
 labels_judged : (ds : List Data) (u : List Label) (d : Data) → AreNamed ds u
     → Judges (next_form labels_sequence ds d) (read_next_label u d)
@@ -342,17 +228,19 @@ labels_go_on ds u d label are is =
     ∙ ((λ i. are i ++ said i ∷ []) ∙ sym (map_push (λ (l : Label). l.name) u label)))
 
 abbrev labels_form : Option Data → Form (ArrayPlace LabelPlace)
-labels_form found = array_form labels_sequence (shape_or
-    (λ items. limit_fault MAX_LABELS (length items)) (option_and_then items_of found))
-    (items_in_field found)
+labels_form =
+    items_form label_path label_fault_at (λ _. open_pattern (λ _. false)) (limit_fault MAX_LABELS)
 
 labels_judge : (found : Option Data)
     → Judges (labels_form found)
     (accept_some (option_and_then items_of found) (refusal_here kinds.Shape) >>= read_labels)
 unfolding read_labels
-labels_judge found = required_array read_next_label labels_sequence (λ i.
-    refl) AreNamed labels_long labels_judged labels_go_on (limit_fault MAX_LABELS) refl
-    (option_and_then items_of found)
+labels_judge found =
+    required_array labels_sequence (λ items. limit_fault MAX_LABELS (length items))
+    (read_items read_next_label []) (option_and_then items_of found)
+    (items_judged read_next_label labels_sequence (λ i. refl) AreNamed refl (items_in_field found)
+    (λ ds d _ u _ are. labels_judged ds u d are)
+    (λ ds d u label are is. labels_go_on ds u d label are is))
 
 -- ---- The file.
 
@@ -372,45 +260,12 @@ module _ (d : Data) where
       → (inner : ArrayPlace LabelPlace) × (place ≡ file_labels inner)
   labels_cover (file_labels place) e = (place, refl)
 
-  labels_path : (place : ArrayPlace LabelPlace)
-      → universe_field_path (file_labels place) ≡ known_member 1 (codes "labels")
-      ∷ (labels_form labels_field).path place
-  labels_path array_itself = refl
-  labels_path (in_item i place) = refl
-
-  label_at : (i : ℕ) (place : LabelPlace) (found : Option Data)
-      → item_fault (label_fault_at (take i (items_in_field labels_field))) found place
-      ≡ fault_of_next labels_sequence (take i (items_in_field labels_field)) found place
-  label_at i place None = refl
-  label_at i place (Some item) = refl
-
-  labels_fault : (place : ArrayPlace LabelPlace)
-      → universe_field_fault d (file_labels place) ≡ (labels_form labels_field).fault_at place
-  labels_fault array_itself = refl
-  labels_fault (in_item i place) = label_at i place (slice_get (items_in_field labels_field) i)
-
-  no_label_pattern : (place : LabelPlace) (found : Option Data)
-      → false ≡ pattern_of_next labels_sequence found place
-  no_label_pattern place None = refl
-  no_label_pattern object_itself (Some item) = refl
-  no_label_pattern (other_field key) (Some item) = refl
-  no_label_pattern (in_field place) (Some item) = refl
-
-  labels_pattern : (place : ArrayPlace LabelPlace)
-      → false ≡ (labels_form labels_field).has_pattern place
-  labels_pattern array_itself = refl
-  labels_pattern (in_item i place) =
-      no_label_pattern place (slice_get (items_in_field labels_field) i)
-
   labels_part : IsPart file_form 1 (known_member 1 (codes "labels")) (labels_form labels_field)
       file_labels
   labels_part = record {
-    rank =
-        refl;
-    is_path =
-        labels_path;
-    is_fault = labels_fault;
-    is_pattern = labels_pattern;
+    rank = refl;
+    seen = items_seen label_path label_fault_at (λ _. open_pattern (λ _. false))
+        (λ _ place. no_open_pattern place) (limit_fault MAX_LABELS) (codes "labels") 1 labels_field;
     covers = labels_cover;
   }
 
@@ -492,24 +347,34 @@ universe_first d r = let judged = universe_judged d in
     (read_universe d).result judged.tells r
 
 -- no pattern is met in a universe file
-no_pattern : (place : UniversePlace) → open_pattern {F = UniverseField} (λ _. false) place ≡ false
-no_pattern object_itself = refl
-no_pattern (other_field key) = refl
-no_pattern (in_field place) = refl
-
 universe_meets_none : (d : Data) (r : Refusal) → IsPatternRefusal (read_universe d).patterns r → ⊥
 universe_meets_none d r h =
     let judged = universe_judged d in
     let met = judged.meets r h in
-    let no : true ≡ false = sym met.stands.0 ∙ no_pattern met.place in
+    let no : true ≡ false = sym met.stands.0 ∙ no_open_pattern met.place in
     cc
 
 pub universe_file_first : (bytes : List ℕ) (r : Refusal)
     → ((read_universe_file bytes).result ≡ Err r) ↔ IsFirstFaultOfUniverseFile bytes r
 unfolding read_universe_file
 universe_file_first bytes r =
-    file_decides IsFirstFaultOfUniverse (λ _ _. ⊥) read_universe universe_first universe_meets_none
+    bytes_decide IsFirstFaultOfUniverse (λ _ _. ⊥) read_universe universe_first universe_meets_none
     bytes r
+
+none_met : (found : Option Data) (r : Refusal) → IsMetPatternOfValue (λ _ _. ⊥) found r → ⊥
+none_met None r h = h
+none_met (Some d) r h = h
+
+-- so what is refused of a file is its first fault
+pub universe_file_refused : (bytes : List ℕ) (r : Refusal) → MayRefuse (read_universe_file bytes) r
+    → IsFirstFaultOfUniverseFile bytes r
+unfolding read_universe_file
+universe_file_refused bytes r refused =
+    elim (bytes_refused IsFirstFaultOfUniverse (λ _ _. ⊥) read_universe universe_first
+    universe_meets_none bytes r refused) [
+      | inl first ↦ first
+      | inr met ↦ absurd (none_met (json_of bytes) r met.1)
+    ]
 
 -- a value says a universe where no place is at fault, and only there
 pub universe_sound : (d : Data)

@@ -1,6 +1,6 @@
 -- A value says a universe exactly where reading it finds no fault, and then that universe.
 use Rattle.std.proofs.Common.{◌≡◌, ℕ, ◌<◌, ◌≤◌, List, [], ◌∷◌, ◌++◌, length, Bool, true, false}
-use Rattle.std.proofs.Common.{cond, Option, Some, None, Ok, Err, inl, inr, nat_le, refl, sym, ap}
+use Rattle.std.proofs.Common.{cond, Option, Some, None, Ok, nat_le, refl, sym, ap}
 use Rattle.std.proofs.Common.{subst, ◌∙◌, append_assoc, append-nil, length-append, arith}
 use Rattle.std.specs.Prelude.{codes}
 use Rattle.std.specs.List.{AllZip, IsDistinct}
@@ -10,32 +10,32 @@ use borrow.Author.Tests.{lt-leb}
 use Rattle.serde_json.specs.Data.{Data, null, boolean, number, string, array, object}
 use Rattle.am_universe.specs.declared.kind.Kind.{Kind}
 use Rattle.am_universe.specs.declared.label_fault.LabelFault.{LabelFault}
-use Rattle.am_universe.specs.declared.label_fault.LabelPart.{LabelPart}
 use Rattle.am_universe.specs.Text.{same_text}
 use Rattle.am_universe.specs.declared.label_fault.LabelPart.TheVariants as parts
 use Rattle.am_universe.specs.declared.limits.TheConstants.{MAX_LABELS}
+use Rattle.std.specs.Option.{option_or}
 use Rattle.am_universe.specs.Universe.{Values, Label, IsLabel, IsUniverse, names}
 use Rattle.am_universe.specs.Universe.{name_fault, count_fault, value_fault, values_fault}
-use Rattle.am_universe.specs.Universe.{label_values_fault, label_fault, first_fault, fault_at}
-use Rattle.am_universe.proofs.Universes.{IsUniverse-empty}
-use Rattle.am_universe.proofs.AddedLabels.{added_is_universe, universe_was_added}
-use Rattle.am_files.specs.Json.{is_null}
-use Rattle.am_files.specs.Pointer.{Refusal, to_field, to_item}
-use Rattle.am_files.specs.Reading.{Reading, ◌>>=◌, accept, reading_within, refuse_for, check_count}
+use Rattle.am_universe.specs.Universe.{label_values_fault, label_fault, fault_at}
+use Rattle.am_universe.proofs.DistinctLists.{all_front, distinct_front}
+use Rattle.am_universe.proofs.UniverseLemmas.{IsUniverse-empty}
+use Rattle.am_universe.proofs.LabelFaultLemmas.{no_first, nothing_at, added_is_universe}
+use Rattle.am_universe.proofs.LabelFaultLemmas.{universe_was_added}
+use Rattle.am_files.specs.Pointer.{to_field, to_item}
+use Rattle.am_files.specs.Reading.{◌>>=◌, accept, reading_within, refuse_for, check_count}
 use Rattle.am_files.specs.Reading.{read_items, as_text, check_only_fields, required_text}
-use Rattle.am_files.specs.Reading.{required_items, read_json, IsPatternRefusal, MayRefuse}
+use Rattle.am_files.specs.Reading.{required_items}
 use Rattle.am_files.specs.UniverseFile.{file_fields, label_fields, SaysValue, SaysLabel}
 use Rattle.am_files.specs.UniverseFile.{SaysUniverse, read_value, read_next_value, read_values}
 use Rattle.am_files.specs.UniverseFile.{read_next_label, read_labels, read_universe}
 use Rattle.am_files.specs.UniverseFile.{read_universe_file, FileSaysUniverse}
 use Rattle.am_files.proofs.Readings.{bind_ok, within_ok, refuse_for_ok, check_count_ok}
 use Rattle.am_files.proofs.Readings.{check_count_fits, same_read, Decides}
-use Rattle.am_files.proofs.Items.{AllFit, items_say, items_read, none_then, none_within, none_items}
-use Rattle.am_files.proofs.Distinct.{all_front, distinct_front}
+use Rattle.am_files.proofs.Items.{AllFit, items_say, items_read}
 use Rattle.am_files.proofs.Fields.{as_text_says, only_fields_say, only_fields_read}
-use Rattle.am_files.proofs.Fields.{none_only_fields, required_text_says, required_text_reads}
-use Rattle.am_files.proofs.Fields.{none_required_text, required_items_say, required_items_read}
-use Rattle.am_files.proofs.Fields.{none_required_items, json_says, json_reads, none_json}
+use Rattle.am_files.proofs.Fields.{required_text_says, required_text_reads}
+use Rattle.am_files.proofs.Fields.{required_items_say, required_items_read}
+use Rattle.am_files.proofs.Fields.{file_decided}
 
 -- ---- A value.
 
@@ -84,14 +84,6 @@ value_reads before d value said fits = rw (read_value_reads d value said, fits) 
 
 -- ---- The values of a label.
 
-no_fault_first : {A : Type 0} (a b : Option A) → first_fault a b ≡ None → (a ≡ None) × (b ≡ None)
-no_fault_first None b h = (refl, h)
-no_fault_first (Some a) b h = absurd cc
-
-no_fault_at : (part : LabelPart) (found : Option Kind) → fault_at part found ≡ None → found ≡ None
-no_fault_at part None h = refl
-no_fault_at part (Some kind) h = absurd cc
-
 fit_none : (before values : Values) → AllFit ValueFits before values
     → values_fault before values ≡ None
 fit_none before [] fits = refl
@@ -103,9 +95,9 @@ none_fit : (before values : Values) → values_fault before values ≡ None
 none_fit before [] h = tt
 none_fit before (value ∷ values) h =
     let split =
-    no_fault_first (fault_at (parts.Value (length before)) (value_fault before value))
+    no_first (fault_at (parts.Value (length before)) (value_fault before value))
     (values_fault (before ++ value ∷ []) values) h in (
-      no_fault_at (parts.Value (length before)) (value_fault before value) split.0,
+      nothing_at (parts.Value (length before)) (value_fault before value) split.0,
       none_fit (before ++ value ∷ []) values split.1,
     )
 
@@ -131,11 +123,11 @@ values_read : (items : List Data) (values : Values) → AllZip SaysValue items v
 unfolding read_values
 values_read items values said fine =
     let split =
-    no_fault_first (fault_at parts.Values (count_fault (length values)))
+    no_first (fault_at parts.Values (count_fault (length values)))
     (values_fault [] values) fine in
     let few : count_fault (length items) ≡ None =
     ap count_fault (sym (AllZip-long SaysValue items values said))
-    ∙ no_fault_at parts.Values (count_fault (length values)) split.0 in
+    ∙ nothing_at parts.Values (count_fault (length values)) split.0 in
     let all =
     items_read SaysValue ValueFits read_next_value value_reads [] items values said
     (none_fit [] values split.1) in
@@ -213,12 +205,12 @@ no_fault_read u d label room h =
     h)).1
 
 no_fault_fits : (full : Bool) (over : LabelFault) (name : Option Kind) (values : Option LabelFault)
-    → cond full (Some over) (first_fault (fault_at parts.Name name) values) ≡ None
+    → cond full (Some over) (option_or (fault_at parts.Name name) values) ≡ None
     → (name ≡ None) × (values ≡ None)
 no_fault_fits true over name values h = absurd cc
 no_fault_fits false over name values h =
-    let split = no_fault_first (fault_at parts.Name name) values h in
-    (no_fault_at parts.Name name split.0, split.1)
+    let split = no_first (fault_at parts.Name name) values h in
+    (nothing_at parts.Name name split.0, split.1)
 
 label_fits : (u : List Label) (label : Label) → label_fault u label ≡ None → LabelFits u label
 label_fits u label h =
@@ -306,95 +298,10 @@ universe_reads d u said =
       all,
     ) refl
 
--- ---- The bytes of a file.
-
-pub file_says : (bytes : List ℕ) (u : List Label) → (read_universe_file bytes).result ≡ Ok u
-    → FileSaysUniverse bytes u
-unfolding read_universe_file
-file_says bytes u h =
-    let value = bind_ok ((read_json bytes).result) (λ d. (read_universe d).result) u h in
-    let read = json_says bytes value.0 value.1 in
-    (read.0, value.0, read.1, universe_says value.0 u value.2)
-
-pub file_reads : (bytes : List ℕ) (u : List Label) → FileSaysUniverse bytes u
-    → (read_universe_file bytes).result ≡ Ok u
-unfolding read_universe_file
-file_reads bytes u said =
-    rw (json_reads bytes said.1 said.0 said.2, universe_reads said.1 u said.3) refl
-
 pub universe_decides : (d : Data) → Decides (SaysUniverse d) ((read_universe d).result)
 universe_decides d = record { says = universe_says d; reads = universe_reads d }
 
 pub file_decides : (bytes : List ℕ)
     → Decides (FileSaysUniverse bytes) ((read_universe_file bytes).result)
-file_decides bytes = record { says = file_says bytes; reads = file_reads bytes }
-
--- ---- No pattern is met.
-
-none_read : (d : Data) (b : Bool) → is_null d ≡ b → (read_value d).patterns ≡ []
-none_read d true is = rw is refl
-none_read d false is =
-    rw is (none_then (as_text d) (λ text. accept (Some text)) refl (λ text. refl))
-
-none_value : (before : Values) (d : Data) → (read_next_value before d).patterns ≡ []
-unfolding read_next_value
-none_value before d =
-    none_then (read_value d) (λ value. refuse_for (value_fault before value) >>= λ _. accept value)
-    (none_read d (is_null d) refl) (λ value.
-    none_then (refuse_for (value_fault before value)) (λ _. accept value) refl (λ _. refl))
-
-none_values : (items : List Data) → (read_values items).patterns ≡ []
-unfolding read_values
-none_values items =
-    none_then (refuse_for (count_fault (length items))) (λ _. read_items read_next_value [] items)
-    refl (λ _. none_items read_next_value none_value [] items)
-
-none_label : (u : List Label) (d : Data) → (read_next_label u d).patterns ≡ []
-unfolding read_next_label
-none_label u d =
-    let to_name : List ℕ = to_field (codes "name") in
-    let to_values : List ℕ = to_field (codes "values") in
-    let made : List ℕ → Values → Reading Label =
-    λ name values. accept (record { name = name; values = values }) in
-    let behind_items : List ℕ → List Data → Reading Label =
-    λ name items. reading_within to_values (read_values items) >>= made name in
-    let behind_name : List ℕ → Reading Label =
-    λ name. required_items (codes "values") d >>= behind_items name in
-    let behind_fields : List ℕ → Reading Label =
-    λ name. reading_within to_name (refuse_for (name_fault u name)) >>= λ _. behind_name name in
-    none_then (check_only_fields label_fields d)
-    (λ _. required_text (codes "name") d >>= behind_fields) (none_only_fields label_fields d)
-    (λ _.
-    none_then (required_text (codes "name") d) behind_fields (none_required_text (codes "name") d)
-    (λ name.
-    none_then (reading_within to_name (refuse_for (name_fault u name))) (λ _. behind_name name) refl
-    (λ _.
-    none_then (required_items (codes "values") d) (behind_items name)
-    (none_required_items (codes "values") d) (λ items.
-    none_then (reading_within to_values (read_values items)) (made name)
-    (none_within to_values (read_values items) (none_values items)) (λ values. refl)))))
-
-none_universe : (d : Data) → (read_universe d).patterns ≡ []
-unfolding read_universe read_labels
-none_universe d =
-    let within : List Data → Reading (List Label) =
-    λ items. reading_within (to_field (codes "labels")) (read_labels items) in
-    none_then (check_only_fields file_fields d) (λ _. required_items (codes "labels") d >>= within)
-    (none_only_fields file_fields d) (λ _.
-    none_then (required_items (codes "labels") d) within (none_required_items (codes "labels") d)
-    (λ items.
-    none_within (to_field (codes "labels")) (read_labels items)
-    (none_then (check_count MAX_LABELS (length items)) (λ _. read_items read_next_label [] items)
-    refl (λ _. none_items read_next_label none_label [] items))))
-
-pub none_universe_file : (bytes : List ℕ) → (read_universe_file bytes).patterns ≡ []
 unfolding read_universe_file
-none_universe_file bytes = none_then (read_json bytes) read_universe (none_json bytes) none_universe
-
--- so a refusal is the first fault
-pub file_refuses : (bytes : List ℕ) (r : Refusal) → MayRefuse (read_universe_file bytes) r
-    → (read_universe_file bytes).result ≡ Err r
-file_refuses bytes r (inl h) = h
-file_refuses bytes r (inr h) =
-    let none : IsPatternRefusal [] r = rw (none_universe_file bytes) at h in
-    absurd none
+file_decides bytes = file_decided SaysUniverse read_universe universe_decides bytes

@@ -1,5 +1,5 @@
--- The configuration file: which JSON value says which configuration.
--- (Alertmanager configuration reference.)
+-- Configurations, and which JSON value says which. (Alertmanager configuration reference 0.25; the
+-- limits, and which fields are read, are this project's own.)
 use Rattle.std.specs.Prelude.{◌≡◌, ◌≢◌, ◌⊎◌, ◌≤◌, ◌+◌, ℕ, max, List, [], ◌∷◌, ◌++◌, length, Bool}
 use Rattle.std.specs.Prelude.{true, false, ◌&&◌, nat_lt, IsTrue, Option, Some, None}
 use Rattle.std.specs.Prelude.{option_and_then, position, codes, ⊤}
@@ -9,7 +9,7 @@ use Rattle.am_universe.specs.Text.{same_text}
 use Rattle.am_labels.specs.declared.limits.TheConstants.{MAX_MATCHERS}
 use Rattle.am_labels.specs.Matcher.{Condition}
 use Rattle.am_labels.specs.MatcherText.{Spells}
-use Rattle.am_labels.specs.MatcherRefusals.{have_sound_values}
+use Rattle.am_labels.specs.MatcherRefusals.{have_valid_patterns}
 use Rattle.am_labels.specs.declared.op.Op.{Op}
 use Rattle.am_labels.specs.declared.op.Op.TheVariants.{Equal, Matches}
 use Rattle.am_files.specs.declared.limits.TheConstants.{MAX_FILE_BYTES, MAX_RECEIVERS, MAX_ROUTES}
@@ -19,12 +19,13 @@ use Rattle.am_files.specs.Json.{json_of, field, items_of, member_list, HasOnlyFi
 -- ---- Configurations.
 
 -- What a route says of itself: the position of its receiver, its matchers, and whether later
--- siblings are tried after it. (Reference, "route".)
+-- siblings are tried after it. (Reference, "<route>".)
 pub record RouteSettings : Type 0 where
   pub receiver : ℕ
   pub matchers : List Condition
   pub continues : Bool
 
+-- A tree of routes.
 mutual
   -- a route: what it says of itself, and its children
   pub data RouteTree : Type 0 where
@@ -35,37 +36,35 @@ mutual
     no_routes : Routes
     next_route : RouteTree → Routes → Routes
 
--- the names of the receivers, and the top-level route (reference, "File layout")
+-- A configuration: the names of the receivers, and the top-level route. (Reference, "File layout
+-- and global settings".)
 pub record Configuration : Type 0 where
   pub receivers : List (List ℕ)
   pub root : RouteTree
 
--- a list of routes as the children of one
+-- A list of routes as the children of one.
 abbrev pub routes_of : List RouteTree → Routes
 routes_of [] = no_routes
 routes_of (t ∷ ts) = next_route t (routes_of ts)
 
--- what a route says of itself
+-- The parts of a route: what it says of itself, which is its matchers, the position of its receiver
+-- and whether later siblings are tried after it; and its children.
 abbrev pub settings_of : RouteTree → RouteSettings
 settings_of (route settings children) = settings
 
--- its matchers
 abbrev pub matchers_of : RouteTree → List Condition
 matchers_of t = (settings_of t).matchers
 
--- the position of its receiver
 abbrev pub receiver_of : RouteTree → ℕ
 receiver_of t = (settings_of t).receiver
 
--- whether later siblings are tried after it
 abbrev pub continues_of : RouteTree → Bool
 continues_of t = (settings_of t).continues
 
--- its children
 abbrev pub children_of : RouteTree → Routes
 children_of (route settings children) = children
 
--- how many routes there are
+-- How many routes there are.
 abbrev mutual
   pub route_count : RouteTree → ℕ
   route_count (route settings children) = 1 + routes_count children
@@ -74,7 +73,7 @@ abbrev mutual
   routes_count no_routes = 0
   routes_count (next_route t ts) = route_count t + routes_count ts
 
--- in how many levels they lie, the route itself in the first
+-- In how many levels they lie, the route itself in the first.
 abbrev mutual
   pub route_levels : RouteTree → ℕ
   route_levels (route settings children) = 1 + routes_levels children
@@ -83,7 +82,7 @@ abbrev mutual
   routes_levels no_routes = 0
   routes_levels (next_route t ts) = max (route_levels t) (routes_levels ts)
 
--- each receiver's position is below this number
+-- Each receiver's position is below this number.
 abbrev mutual
   pub has_receivers_below : ℕ → RouteTree → Bool
   has_receivers_below count (route settings children) =
@@ -95,77 +94,87 @@ abbrev mutual
       has_receivers_below count t && have_receivers_below count ts
 
 -- What holds of every configuration that is read: each receiver is declared, the top-level route
--- has no matchers, and there are no more routes and levels than may be.
+-- has no matchers, and there are at most `MAX_ROUTES` routes in at most `MAX_LEVELS` levels.
+-- Source: Alertmanager configuration reference 0.25, "<route>": the top-level route has no
+-- configured matchers. Own choice: the limits.
+-- Example: no configuration has 1,025 routes, or a route in a 33rd level, where the top-level route
+-- is the first.
 pub record IsConfig (c : Configuration) : Type 0 where
   pub receivers_declared : IsTrue (has_receivers_below (length c.receivers) c.root)
   pub root_unmatched : length (matchers_of c.root) ≡ 0
   pub routes_within_limit : route_count c.root ≤ MAX_ROUTES
   pub levels_within_limit : route_levels c.root ≤ MAX_LEVELS
 
--- the fields of a route; how alerts are grouped, and when they are sent, is not read
+-- The fields that a route may have. How alerts are grouped, and when they are sent, is not read.
 abbrev pub route_fields : List (List ℕ)
 route_fields =
     codes "receiver" ∷ codes "matchers" ∷ codes "match" ∷ codes "match_re" ∷ codes "continue"
     ∷ codes "routes" ∷ codes "group_by" ∷ codes "group_wait" ∷ codes "group_interval"
     ∷ codes "repeat_interval" ∷ codes "mute_time_intervals" ∷ codes "active_time_intervals" ∷ []
 
--- the names of three fields with matchers: an array of texts, and two objects of names and texts,
--- those of the first for `=` and those of the second for `=~`
+-- The names of three fields with matchers: an array of texts, and two objects of names and texts,
+-- those of the first for `=` and those of the second for `=~`.
 pub record MatcherFields : Type 0 where
   pub texts : List ℕ
   pub equalities : List ℕ
   pub patterns : List ℕ
 
--- those of a route (reference, "route"; the last two are deprecated)
+-- Those of a route. (Reference, "<route>", where the last two are deprecated.)
 abbrev pub route_matcher_fields : MatcherFields
 route_matcher_fields =
     record { texts = codes "matchers"; equalities = codes "match"; patterns = codes "match_re" }
 
 -- ---- Which value says which configuration.
 
--- an object with a name (reference, "receiver")
+-- An object says its `name`, a text that is not empty. (Reference, "<receiver>".)
 abbrev pub SaysName : Data → List ℕ → Type 0
 SaysName d name =
     (members : Members) × (d ≡ object members) × (field (codes "name") d ≡ Some (string name))
     × (name ≢ [])
 
--- a route names a receiver, whose position it has (reference, "route": `receiver`)
+-- The receiver of a route, by its position among the declared names: that of the name in
+-- `receiver`, or, where that is absent or the empty text, the one of the parent route.
+-- Source: Alertmanager configuration reference 0.25, "<route>": parameters are inherited from the
+-- parent if not set. Own choice: the empty text is as if it were not set.
+-- Example: below a route with the receiver `a`, `{}` and `{"receiver": ""}` have `a`, and
+-- `{"receiver": "b"}` has `b` if that is declared, and no receiver if it is not.
 pub record NamesReceiver (names : List (List ℕ)) (d : Data) (receiver : ℕ) : Type 0 where
   pub name : List ℕ
   pub named : field (codes "receiver") d ≡ Some (string name)
   pub some : name ≢ []
   pub declared : position (λ other. same_text other name) names ≡ Some receiver
 
--- or it names none, and has that of its parent; the empty text is none
 pub record InheritsReceiver (parent : Option ℕ) (d : Data) (receiver : ℕ) : Type 0 where
   pub unnamed : (field (codes "receiver") d ≡ None)
       ⊎ (field (codes "receiver") d ≡ Some (string []))
   pub inherited : parent ≡ Some receiver
 
--- the position of the receiver that a route has
 abbrev pub SaysReceiver : List (List ℕ) → Option ℕ → Data → ℕ → Type 0
 SaysReceiver names parent d receiver =
     NamesReceiver names d receiver ⊎ InheritsReceiver parent d receiver
 
--- a text of matchers (reference, "matcher")
+-- A text in `matchers` says the matchers that it spells.
+-- Source: Alertmanager configuration reference 0.25, "<matcher>".
+-- Example: the text `{team=db, severity!="info"}` says two matchers, `team="db"` and
+-- `severity!="info"`; the text `team` says no list, and neither does the number 1.
 abbrev pub SaysMatcherText : Data → List Condition → Type 0
 SaysMatcherText d matchers = (text : List ℕ) × (d ≡ string text) × Spells text matchers
 
--- a field with an array, which may be absent; then there are no items
+-- A field has an array with these items; where the field is absent, there are none.
 abbrev pub HasItems : List ℕ → Data → List Data → Type 0
 HasItems key d items =
     ((field key d ≡ None) × (items ≡ []))
     ⊎ (option_and_then items_of (field key d) ≡ Some items)
 
--- a name, which is not empty, with a text
+-- A member of an object says a name, which is not empty, and a text.
 abbrev pub SaysNamedText : List ℕ × Data → List ℕ → List ℕ → Type 0
 SaysNamedText pair name text = (name ≡ pair.0) × (pair.0 ≢ []) × (pair.1 ≡ string text)
 
--- a pair of a name and a text says a matcher with this operator
+-- It says a matcher with this operator.
 abbrev pub SaysMatcherPair : Op → List ℕ × Data → Condition → Type 0
 SaysMatcherPair op pair m = SaysNamedText pair m.name m.value × (m.op ≡ op)
 
--- a field with an object of names and texts, which may be absent; then there are no matchers
+-- A field has an object whose members say matchers; where the field is absent, there are none.
 abbrev pub SaysPairs : Op → List ℕ → Data → List Condition → Type 0
 SaysPairs op key d matchers =
     ((field key d ≡ None) × (matchers ≡ []))
@@ -173,7 +182,11 @@ SaysPairs op key d matchers =
     × AllZip (SaysMatcherPair op) (member_list members) matchers)
 
 -- The matchers of three fields, one behind the other: those of the texts, then the pairs for `=`,
--- then those for `=~`, whose texts are patterns. (Reference, "route" and "inhibit_rule".)
+-- then those for `=~`, whose texts are patterns. They are at most 64, and each pattern is sound.
+-- Source: Alertmanager configuration reference 0.25, "<route>": `matchers`, `match` and `match_re`.
+-- Own choice: their order, their number, and which patterns are sound.
+-- Example: `{"match_re": {"e": "f|g"}, "match": {"c": "d"}, "matchers": ["a!=b"]}` has the matchers
+-- `a!="b"`, `c="d"` and `e=~"f|g"`, in this order.
 pub record SaysMatchers (fields : MatcherFields) (d : Data) (matchers : List Condition)
     : Type 0 where
   pub items : List Data
@@ -186,16 +199,25 @@ pub record SaysMatchers (fields : MatcherFields) (d : Data) (matchers : List Con
   pub match_re : SaysPairs Matches fields.patterns d from_match_re
   pub all : matchers ≡ flat_map (λ ms. ms) lists ++ (from_match ++ from_match_re)
   pub few : length matchers ≤ MAX_MATCHERS
-  pub sound : IsTrue (have_sound_values matchers)
+  pub valid_patterns : IsTrue (have_valid_patterns matchers)
 
--- whether later siblings are tried, which they are not where the field is absent (reference,
--- "route": `continue`)
+-- Whether later siblings of a route are tried after it: what `continue` says, and `false` where it
+-- is absent.
+-- Source: Alertmanager configuration reference 0.25, "<route>": `continue`, whose default is false.
+-- Example: `{"continue": true}` says `true`, `{}` says `false`, and `{"continue": "true"}` says
+-- neither.
 abbrev pub SaysContinue : Data → Bool → Type 0
 SaysContinue d continues =
     ((field (codes "continue") d ≡ None) × (continues ≡ false))
     ⊎ (field (codes "continue") d ≡ Some (boolean continues))
 
--- what a route says of itself; its children's values say the children
+-- An object with the fields of a route alone says a route, field by field, and the items of its
+-- `routes` say its children. The receiver is handed down to them.
+-- Source: Alertmanager configuration reference 0.25, "<route>". Own choice: how alerts are grouped,
+-- and when they are sent, is not read.
+-- Example: where the receivers are `a` and `b`,
+-- `{"receiver": "a", "routes": [{"receiver": "b"}, {}]}` says a route with the receiver `a` and two
+-- children: the first has `b`, and the second has `a`.
 pub record SaysRouteFields (names : List (List ℕ)) (parent : Option ℕ) (d : Data)
     (settings : RouteSettings) (SaysChildren : List Data → Type 0) : Type 0 where
   pub only : HasOnlyFields route_fields d
@@ -206,7 +228,6 @@ pub record SaysRouteFields (names : List (List ℕ)) (parent : Option ℕ) (d : 
   pub is_array : HasItems (codes "routes") d items
   pub children : SaysChildren items
 
--- A value says a route, below a parent with this receiver if there is one. (Reference, "route".)
 abbrev mutual
   pub SaysRoute : List (List ℕ) → Option ℕ → Data → RouteTree → Type 0
   SaysRoute names parent d (route settings children) =
@@ -220,8 +241,12 @@ abbrev mutual
   SaysRoutes names receiver (d ∷ ds) (next_route t ts) =
       SaysRoute names (Some receiver) d t × SaysRoutes names receiver ds ts
 
--- An object with receivers of different names and a route, which has no matchers. There are no
--- inhibition rules; other fields are not read. (Reference, "File layout".)
+-- An object says a configuration: receivers of different names, and a top-level route without
+-- matchers. There are no inhibition rules, and no other field of the object is read.
+-- Source: Alertmanager configuration reference 0.25, "File layout and global settings", "<route>"
+-- and "<receiver>". Own choice: the limits, and that inhibition rules are refused.
+-- Example: `{"receivers": [{"name": "a"}], "route": {"receiver": "a"}}` says one receiver and one
+-- route, which has it. With `"matchers": ["x=y"]` in that route the object says no configuration.
 pub record SaysConfig (d : Data) (c : Configuration) : Type 0 where
   pub items : List Data
   pub is_array : option_and_then items_of (field (codes "receivers") d) ≡ Some items
@@ -236,7 +261,7 @@ pub record SaysConfig (d : Data) (c : Configuration) : Type 0 where
   pub few_levels : route_levels c.root ≤ MAX_LEVELS
   pub no_rules : field (codes "inhibit_rules") d ≡ None
 
--- the bytes of a file say what their JSON value says
+-- The bytes of a file, at most `MAX_FILE_BYTES`, say the configuration that their JSON value says.
 abbrev pub FileSaysConfig : List ℕ → Configuration → Type 0
 FileSaysConfig bytes c =
     (length bytes ≤ MAX_FILE_BYTES) × (d : Data) × (json_of bytes ≡ Some d) × SaysConfig d c

@@ -1,6 +1,8 @@
--- Reading a configuration file, with the first fault that is met.
-use Rattle.std.specs.Prelude.{◌+◌, ℕ, zero, suc, List, [], ◌∷◌, ◌++◌, length, Bool, true, false}
-use Rattle.std.specs.Prelude.{not, ◌&&◌, if◌then◌else◌, is_some, is_none, Option, Some, None}
+-- Reading a configuration file, with the first fault that is met. (This project's own.) Each
+-- reading stands at the value that it looks at; whoever looks at the whole puts the pointer in
+-- front.
+use Rattle.std.specs.Prelude.{◌+◌, ℕ, zero, suc, List, [], ◌∷◌, ◌++◌, length, Bool, false}
+use Rattle.std.specs.Prelude.{◌&&◌, if◌then◌else◌, is_none, Option, Some, None}
 use Rattle.std.specs.Prelude.{position, codes, ⊤}
 use Rattle.std.specs.Result.{result_err}
 use Rattle.std.specs.List.{enumerate_from}
@@ -15,7 +17,7 @@ use Rattle.am_labels.specs.declared.limits.TheConstants.{MAX_MATCHERS}
 use Rattle.am_labels.specs.Matcher.{Condition, takes_pattern}
 use Rattle.am_labels.specs.PatternCut.{in_profile}
 use Rattle.am_labels.specs.MatcherReading.{read_list}
-use Rattle.am_labels.specs.MatcherRefusals.{has_sound_value, pattern_refusal}
+use Rattle.am_labels.specs.MatcherRefusals.{has_valid_pattern, pattern_refusal}
 use Rattle.am_files.specs.declared.limits.TheConstants.{MAX_RECEIVERS, MAX_ROUTES, MAX_LEVELS}
 use Rattle.am_files.specs.Json.{field, member_list}
 use Rattle.am_files.specs.Pointer.{Refusal, refusal_here, refusal_within, to_field, to_item}
@@ -25,23 +27,12 @@ use Rattle.am_files.specs.Reading.{check_only_fields, required_field, required_t
 use Rattle.am_files.specs.Reading.{read_each, read_items, read_json}
 use Rattle.am_files.specs.ConfigFile.{RouteSettings, RouteTree, route, Configuration, MatcherFields}
 use Rattle.am_files.specs.ConfigFile.{route_matcher_fields, routes_of, routes_count, route_fields}
+use Rattle.am_files.specs.Places.{is_empty}
+use Rattle.am_files.specs.ConfigFaults.{receiver_name_fault, given_fault}
 
 -- ---- The receivers.
 
--- a list has no items
-abbrev pub is_empty : {A : Type 0} → List A → Bool
-is_empty [] = true
-is_empty (x ∷ xs) = false
-
--- why a receiver may not have this name behind others: it is empty, or that of one of them
--- (reference, "receiver": `name`)
-abbrev pub receiver_name_fault : List (List ℕ) → List ℕ → Option Kind
-receiver_name_fault before name =
-    if is_empty name then Some kinds.Empty
-    else if is_some (position (λ other. same_text other name) before) then Some kinds.Duplicate
-    else None
-
--- the name of a receiver behind others
+-- The name of a receiver behind others.
 unfoldable pub read_next_receiver : List (List ℕ) → Data → Reading (List ℕ)
 read_next_receiver before d = do
   _ ← as_object d
@@ -49,13 +40,13 @@ read_next_receiver before d = do
   _ ← reading_within (to_field (codes "name")) (refuse_for (receiver_name_fault before name))
   accept name
 
--- the names of a list of receivers
+-- The names of a list of receivers.
 unfoldable pub read_receiver_names : List Data → Reading (List (List ℕ))
 read_receiver_names items = do
   _ ← check_count MAX_RECEIVERS (length items)
   read_items read_next_receiver [] items
 
--- those of the file (reference, "File layout": `receivers`)
+-- Those of the file, in `receivers`.
 unfoldable pub read_receivers : Data → Reading (List (List ℕ))
 read_receivers d = do
   items ← required_items (codes "receivers") d
@@ -64,73 +55,72 @@ read_receivers d = do
 -- ---- The receiver of a route, and whether later siblings are tried.
 
 -- A receiver that is not set is inherited from the parent route. The top-level route has none.
--- (Reference, "route".)
 abbrev pub parent_receiver : Option ℕ → Reading ℕ
 parent_receiver parent = accept_some parent (refusal_here kinds.Shape)
 
--- the position of the receiver of this name
+-- The position of the receiver of this name.
 abbrev pub receiver_position : List (List ℕ) → List ℕ → Reading ℕ
 receiver_position names name =
     accept_some (position (λ other. same_text other name) names)
     (refusal_here kinds.UndefinedReceiver)
 
--- the receiver that a route names; the empty text names none
+-- The receiver that a route names; the empty text names none.
 abbrev pub receiver_named : List (List ℕ) → Option ℕ → List ℕ → Reading ℕ
 receiver_named names parent name =
     if is_empty name then parent_receiver parent else receiver_position names name
 
--- the same, where the field may be absent
+-- The same, where the field may be absent.
 abbrev pub effective_receiver : List (List ℕ) → Option ℕ → Option Data → Reading ℕ
 effective_receiver names parent None = parent_receiver parent
 effective_receiver names parent (Some d) = as_text d >>= receiver_named names parent
 
--- the receiver of a route (reference, "route": `receiver`)
+-- The receiver of a route, in `receiver`.
 unfoldable pub read_receiver : List (List ℕ) → Option ℕ → Data → Reading ℕ
 read_receiver names parent d =
     reading_within (to_field (codes "receiver"))
     (effective_receiver names parent (field (codes "receiver") d))
 
--- a truth value, which is false where it is not set
+-- A truth value, which is false where it is not set.
 abbrev pub boolean_or_false : Option Data → Reading Bool
 boolean_or_false None = accept false
 boolean_or_false (Some d) = accept_some (as_bool d) (refusal_here kinds.Shape)
 
--- whether an alert continues matching subsequent siblings (reference, "route": `continue`)
+-- Whether later siblings are tried after a route, in `continue`.
 unfoldable pub read_continue : Data → Reading Bool
 read_continue d =
     reading_within (to_field (codes "continue")) (boolean_or_false (field (codes "continue") d))
 
--- the items of an array that may be absent
+-- The items of an array that may be absent.
 abbrev pub optional_items : Option Data → Reading (List Data)
 optional_items None = accept []
 optional_items (Some d) = as_items d
 
--- the values of a route's children (reference, "route": `routes`)
+-- The values of a route's children, in `routes`.
 unfoldable pub read_children : Data → Reading (List Data)
 read_children d =
     reading_within (to_field (codes "routes")) (optional_items (field (codes "routes") d))
 
 -- ---- Matchers.
 
--- the first pattern that is refused though the engine builds each that its grammar reads
+-- The first pattern that is refused though the engine builds each that its grammar reads.
 abbrev pub pattern_fault : List Condition → Option Kind
 pattern_fault [] = None
 pattern_fault (m ∷ ms) =
-    if has_sound_value m then pattern_fault ms else Some (pattern_refusal m.value)
+    if has_valid_pattern m then pattern_fault ms else Some (pattern_refusal m.value)
 
--- the patterns of the profile up to that one, each at the pointer of what is looked at
+-- The patterns of the profile up to that one, each at the pointer of what is looked at.
 abbrev pub profile_patterns : List Condition → List (List ℕ)
 profile_patterns [] = []
 profile_patterns (m ∷ ms) =
     (if takes_pattern m.op && in_profile m.value then [] ∷ [] else [])
-    ++ (if has_sound_value m then profile_patterns ms else [])
+    ++ (if has_valid_pattern m then profile_patterns ms else [])
 
--- the patterns of matchers, in order
+-- The patterns of matchers, in order.
 abbrev pub check_patterns : List Condition → Reading ⊤
 check_patterns ms =
     record { result = (refuse_for (pattern_fault ms)).result; patterns = profile_patterns ms }
 
--- matchers behind others, of which there are not more than 64 together
+-- Matchers behind others, of which there are not more than 64 together.
 abbrev pub append_matchers : List Condition → List Condition → Reading (List Condition)
 append_matchers before ms =
     check_count MAX_MATCHERS (length before + length ms) >>= λ _. accept (before ++ ms)
@@ -144,79 +134,78 @@ read_matcher_text part limit_part text = do
   _ ← reading_within part (check_patterns ms)
   accept ms
 
--- the refusal of that text, by its kind
+-- The refusal of that text, by its kind.
 abbrev pub text_refusal : List ℕ → List ℕ → Kind → Refusal
 text_refusal part limit_part kinds.Limit = refusal_within limit_part (refusal_here kinds.Limit)
 text_refusal part limit_part kind = refusal_within part (refusal_here kind)
 
--- the same of an item, with its position, behind the matchers of others; there the limit is refused
--- at the array
+-- The same of an item, with its position, behind the matchers of others; there the limit is refused
+-- at the array.
 unfoldable pub read_next_matcher_text : List Condition → ℕ × Data → Reading (List Condition)
 read_next_matcher_text before item = do
   text ← reading_within (to_item item.0) (as_text item.1)
   ms ← read_matcher_text (to_item item.0) [] text
   append_matchers before ms
 
--- the matchers of texts, one behind the other
+-- The matchers of texts, one behind the other.
 abbrev pub read_matcher_texts : List Data → Reading (List Condition)
 read_matcher_texts items = read_each read_next_matcher_text [] (enumerate_from 0 items)
 
--- why nothing may have this name: it is empty
+-- Why nothing may have this name: it is empty.
 abbrev pub label_name_fault : List ℕ → Option Kind
 label_name_fault name = if is_empty name then Some kinds.Empty else None
 
--- the text of a name in an object of names and texts
+-- The text of a name in an object of names and texts.
 unfoldable pub read_named_text : List ℕ → Data → Reading (List ℕ)
 read_named_text name d = do
   _ ← refuse_for (label_name_fault name)
   as_text d
 
--- the matcher of a name and a text, which is a pattern for some operators
+-- The matcher of a name and a text, which is a pattern for some operators.
 unfoldable pub read_matcher_pair : Op → List ℕ → Data → Reading Condition
 read_matcher_pair op name d = do
   value ← read_named_text name d
   _ ← check_patterns (record { name = name; op = op; value = value } ∷ [])
   accept (record { name = name; op = op; value = value })
 
--- the same, behind other matchers
+-- The same, behind other matchers.
 unfoldable pub read_next_pair : Op → List Condition → List ℕ × Data → Reading (List Condition)
 read_next_pair op before pair = do
   m ← reading_within (to_field pair.0) (read_matcher_pair op pair.0 pair.1)
   append_matchers before (m ∷ [])
 
--- the top-level route has no matchers
+-- The top-level route has no matchers.
 abbrev pub refuse_root_matchers : Bool → List Condition → Reading (List Condition)
 refuse_root_matchers is_root ms =
-    refuse_for (if is_root && not (is_empty ms) then Some kinds.RootMatchers else None)
-    >>= λ _. accept ms
+    refuse_for (given_fault is_root ms) >>= λ _. accept ms
 
--- the matchers of an array of texts
+-- The matchers of an array of texts.
 unfoldable pub read_texts : Bool → Data → Reading (List Condition)
 read_texts is_root d = do
   items ← as_items d
   ms ← read_matcher_texts items
   refuse_root_matchers is_root ms
 
--- the matchers of an object of names and texts, by the bytes of the names, behind others
+-- The matchers of an object of names and texts, behind others.
 unfoldable pub read_pairs : Bool → Op → List Condition → Data → Reading (List Condition)
 read_pairs is_root op before d = do
   members ← as_object d
   ms ← read_each (read_next_pair op) before (member_list members)
   refuse_root_matchers is_root ms
 
--- those of an array that may be absent (reference, "route": `matchers`)
+-- Those of an array that may be absent, as `matchers`.
 abbrev pub optional_texts : Bool → List ℕ → Option Data → Reading (List Condition)
 optional_texts is_root key None = accept []
 optional_texts is_root key (Some d) = reading_within (to_field key) (read_texts is_root d)
 
--- those of an object that may be absent (reference, "route": `match` and `match_re`)
+-- Those of an object that may be absent, as `match` and `match_re`.
 abbrev pub optional_pairs : Bool → Op → List ℕ → List Condition → Option Data
     → Reading (List Condition)
 optional_pairs is_root op key before None = accept before
 optional_pairs is_root op key before (Some d) =
     reading_within (to_field key) (read_pairs is_root op before d)
 
--- the matchers of three fields, one behind the other
+-- The matchers of three fields, one behind the other.
 unfoldable pub read_matchers : MatcherFields → Bool → Data → Reading (List Condition)
 read_matchers fields is_root d = do
   texts ← optional_texts is_root fields.texts (field fields.texts d)
@@ -225,13 +214,13 @@ read_matchers fields is_root d = do
 
 -- ---- The routes.
 
--- what is read of a route before its children: what it says of itself, and their values
+-- What is read of a route before its children: what it says of itself, and their values.
 pub record RouteFields : Type 0 where
   pub settings : RouteSettings
   pub items : List Data
 
 -- Those of a route with so many others before it in preorder, below a parent with this receiver if
--- there is one. (Reference, "route".)
+-- there is one.
 unfoldable pub read_route_fields : List (List ℕ) → Option ℕ → ℕ → Data → Reading RouteFields
 read_route_fields names parent before d = do
   _ ← check_count MAX_ROUTES (before + 1)
@@ -257,20 +246,20 @@ read_route names (suc left) parent before d = do
       [] fields.items)
   accept (route fields.settings (routes_of children))
 
--- a child of a route, behind those that were read already
+-- A child of a route, behind those that were read already.
 abbrev pub read_next_child : List (List ℕ) → ℕ → ℕ → ℕ → List RouteTree → Data → Reading RouteTree
 read_next_child names left receiver before earlier =
     read_route names left (Some receiver) (before + routes_count (routes_of earlier))
 
 -- ---- The file.
 
--- inhibition rules, which are not read yet
+-- Inhibition rules, which are not read yet.
 abbrev pub refuse_inhibit_rules : Option Data → Reading ⊤
 refuse_inhibit_rules None = accept tt
 refuse_inhibit_rules (Some d) =
     refuse (refusal_within (to_field (codes "inhibit_rules")) (refusal_here kinds.UnknownField))
 
--- the configuration that a value says, or its first fault
+-- The configuration that a value says, or its first fault.
 unfoldable pub read_config : Data → Reading Configuration
 read_config d = do
   _ ← as_object d
@@ -280,14 +269,14 @@ read_config d = do
   _ ← refuse_inhibit_rules (field (codes "inhibit_rules") d)
   accept (record { receivers = names; root = root })
 
--- the configuration that a file says, or its first fault
+-- The configuration that a file says, or its first fault.
 unfoldable pub read_config_file : List ℕ → Reading Configuration
 read_config_file bytes = do
   d ← read_json bytes
   read_config d
 
--- the first fault of a value, and of a file, where the engine builds each pattern that its grammar
--- reads
+-- The first fault of a value, and of a file, where the engine builds each pattern that its grammar
+-- reads.
 abbrev pub fault_of_config : Data → Option Refusal
 fault_of_config d = result_err ((read_config d).result)
 

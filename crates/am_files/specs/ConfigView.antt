@@ -8,18 +8,18 @@ use Rattle.am_files.specs.ConfigFile.{Configuration, MatcherFields}
 use Rattle.am_files.specs.ConfigReading.{RouteFields}
 use Rattle.am_files.specs.RouteView.{route_view, names_of}
 
--- the configuration that a `Config` stands for
+-- The configuration that a `Config` stands for.
 abbrev pub config_view : Config → Configuration
 config_view c = record { receivers = names_of c.receivers.items; root = route_view c.root }
 
--- what is read of a route before its children, with their JSON values
+-- What is read of a route before its children, with their JSON values.
 abbrev pub fields_view : declared.RouteFields.RouteFields → RouteFields
 fields_view f = record {
   settings = record { receiver = f.receiver; matchers = f.matchers; continues = f.continues };
   items = map view f.items.now;
 }
 
--- the names of three fields with matchers
+-- The names of three fields with matchers.
 abbrev pub matcher_fields_view : keys.MatcherFields.MatcherFields → MatcherFields
 matcher_fields_view f =
     record { texts = f.texts.now; equalities = f.equalities.now; patterns = f.patterns.now }

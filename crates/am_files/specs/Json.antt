@@ -1,4 +1,4 @@
--- The JSON value of a file, and its parts. (RFC 8259; the reading is that of `serde_json`.)
+-- The JSON value of a file, and its parts. (RFC 8259, as `serde_json` reads it.)
 use Rattle.std.specs.Prelude.{◌≡◌, ◌⊎◌, ℕ, List, [], ◌∷◌, Bool, not, ◌&&◌, if◌then◌else◌, Option}
 use Rattle.std.specs.Prelude.{Some, None, is_some, option_map, option_and_then, IsTrue, ⊤}
 use Rattle.std.specs.Ordering.{nat_cmp, match_ordering}
@@ -11,62 +11,66 @@ use Rattle.serde_json.specs.Find.{get, as_null, as_array}
 use Rattle.serde_json.specs.Read.{read}
 use Rattle.am_universe.specs.Text.{same_text}
 
--- the JSON value of the bytes of a file, if they have one
+-- The JSON value of the bytes of a file, if they have one: they are UTF-8, and the grammar of
+-- `serde_json` reads them. Nesting of 127 is read, and deeper nesting is not.
+-- Source: RFC 8259. What it leaves open is as `serde_json` has it: of a key that stands twice in
+-- one object the last counts, and nesting has a limit.
+-- Example: the value of `{"a": 1, "a": 2}` is that of `{"a": 2}`, and `{"a": 1,}` has no value.
 abbrev pub json_of : List ℕ → Option Data
 json_of bytes = if is_utf8 bytes then read bytes else None
 
--- the value is `null`
+-- The value is `null`.
 abbrev pub is_null : Data → Bool
 is_null d = is_some (as_null d)
 
--- A field that is `null` is absent. (This project's choice.)
+-- A field of an object that is `null` is absent: `non_null` takes a value that is `null` as none,
+-- and `field` is the value of the field of a key, if there is one.
+-- Source: own choice.
+-- Example: in `{"a": null, "b": 1}` the field `b` is 1, and `a` is absent, as is `c`.
 abbrev pub non_null : Data → Option Data
 non_null d = if is_null d then None else Some d
 
--- the value of a field
 abbrev pub field : List ℕ → Data → Option Data
 field key d = option_and_then non_null (get key d)
 
--- the key is one of these names
+-- The key is one of these names.
 abbrev pub is_one_of : List ℕ → List (List ℕ) → Bool
 is_one_of key names = list_any (λ name. same_text name key) names
 
--- a member that is none of the known fields; one that is `null` is absent, and so is not unknown
+-- A member is none of the known fields. One that is `null` is absent, and so is not unknown.
 abbrev pub is_unknown : List (List ℕ) → List ℕ → Data → Bool
 is_unknown known key d = not (is_null d) && not (is_one_of key known)
 
--- the lesser of two keys, by their bytes
+-- The lesser of two keys, by their bytes.
 abbrev pub lesser_key : List ℕ → Option (List ℕ) → List ℕ
 lesser_key key None = key
 lesser_key key (Some other) = match_ordering (slice_cmp nat_cmp key other) key key other
 
--- the least field that is none of these
+-- The key of the least member that is unknown, if there is one.
 abbrev pub unknown_field : List (List ℕ) → Members → Option (List ℕ)
 unknown_field known no_members = None
 unknown_field known (member key d rest) =
     if is_unknown known key d then Some (lesser_key key (unknown_field known rest))
     else unknown_field known rest
 
--- the items as a list
+-- The items of an array, in order.
 abbrev pub item_list : Items → List Data
 item_list no_items = []
 item_list (item d ds) = d ∷ item_list ds
 
--- the items of an array, in order
 abbrev pub items_of : Data → Option (List Data)
 items_of d = option_map item_list (as_array d)
 
--- the members as a list of keys and values
+-- The members of an object as a list of keys and values.
 abbrev pub member_list : Members → List (List ℕ × Data)
 member_list no_members = []
 member_list (member key d rest) = (key, d) ∷ member_list rest
 
--- each member has one of these names, or is `null`
+-- The value is an object, and each of its members has one of these names or is `null`.
 abbrev pub AreOnlyFields : List (List ℕ) → Members → Type 0
 AreOnlyFields known no_members = ⊤
 AreOnlyFields known (member key d rest) =
     ((d ≡ null) ⊎ IsTrue (is_one_of key known)) × AreOnlyFields known rest
 
--- an object that has no fields but these
 abbrev pub HasOnlyFields : List (List ℕ) → Data → Type 0
 HasOnlyFields known d = (members : Members) × (d ≡ object members) × AreOnlyFields known members

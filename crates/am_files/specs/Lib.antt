@@ -1,11 +1,15 @@
+pub mod Words
 pub mod Json
 pub mod Pointer
 pub mod Reading
 pub mod UniverseFile
 pub mod ConfigFile
+pub mod SmallestConfig
 pub mod ConfigReading
 pub mod RouteView
 pub mod ConfigView
+pub mod Path
+pub mod PathView
 pub mod Places
 pub mod UniverseFaults
 pub mod ConfigFaults

@@ -3,29 +3,31 @@ use Rattle.std.specs.Prelude.{ℕ, List, [], ◌∷◌, ◌++◌, if◌then◌el
 use Rattle.std.specs.List.{flat_map}
 use Rattle.std.specs.Fmt.{decimal}
 use Rattle.am_universe.specs.declared.kind.Kind.{Kind}
+use Rattle.am_universe.specs.Bytes.{slash, tilde}
 
--- A byte of a key: `~` is written `~0`, `/` is written `~1`, any other stands for itself.
--- (RFC 6901 section 3.)
+-- A pointer to a part of a value: `/` and a key, or `/` and a position, for each step on the way to
+-- it. Positions count from 0. In a key `~` is written `~0` and `/` is written `~1`.
+-- Source: RFC 6901, sections 3 and 4.
+-- Example: the step to the field `m~n/a` is `/m~0n~1a`, and that to the first item `/0`.
 abbrev pub pointer_escape : ℕ → List ℕ
-pointer_escape c = if c == 126 then codes "~0" else if c == 47 then codes "~1" else c ∷ []
+pointer_escape c =
+    if c == tilde then codes "~0" else if c == slash then codes "~1" else c ∷ []
 
--- the part of a pointer that leads to a field
 abbrev pub to_field : List ℕ → List ℕ
 to_field key = codes "/" ++ flat_map pointer_escape key
 
--- the part of a pointer that leads to an item
 abbrev pub to_item : ℕ → List ℕ
 to_item position = codes "/" ++ decimal position
 
--- why a file is refused, and the pointer to the part at fault
+-- A refusal: why a file is refused, and the pointer to the part at fault.
 pub record Refusal : Type 0 where
   pub kind : Kind
   pub pointer : List ℕ
 
--- a refusal of the value that is looked at
+-- A refusal of the very value that is looked at, with the empty pointer.
 abbrev pub refusal_here : Kind → Refusal
 refusal_here kind = record { kind = kind; pointer = [] }
 
--- the same refusal, seen from the value that has the part
+-- The same refusal, seen from the value that has the part: the part's pointer stands in front.
 abbrev pub refusal_within : List ℕ → Refusal → Refusal
 refusal_within part r = record { kind = r.kind; pointer = part ++ r.pointer }

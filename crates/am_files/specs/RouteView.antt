@@ -5,16 +5,16 @@ use Rattle.am_files.specs.declared.route.Route.{Route, fold-Route}
 use Rattle.am_files.specs.declared.route.Route.TheOpen.{Route-F}
 use Rattle.am_files.specs.ConfigFile.{RouteTree, route, routes_of}
 
--- one level, with each child already seen
+-- One level of a route, with each child already seen.
 abbrev pub view_step : Route-F RouteTree → RouteTree
 view_step r =
     route (record { receiver = r.receiver; matchers = r.matchers; continues = r.continues })
     (routes_of r.routes.items)
 
--- the route with all that is below it
+-- The route that a `Route` stands for, with all that is below it.
 abbrev pub route_view : Route → RouteTree
 route_view = fold-Route RouteTree view_step
 
--- names without where they lie in memory
+-- Names, without where they lie in memory.
 abbrev pub names_of : List (String Global) → List (List ℕ)
 names_of names = map string_bytes names

@@ -15,22 +15,25 @@ use Rattle.am_files.specs.Reading.{Reading, ◌>>=◌, accept, reading_within, r
 use Rattle.am_files.specs.Reading.{read_items, as_text, check_only_fields, required_text}
 use Rattle.am_files.specs.Reading.{required_items, read_json}
 
--- the fields of the file
+-- The fields of the file.
 abbrev pub file_fields : List (List ℕ)
 file_fields = codes "labels" ∷ []
 
--- those of a label
+-- The fields of a label.
 abbrev pub label_fields : List (List ℕ)
 label_fields = codes "name" ∷ codes "values" ∷ []
 
 -- ---- Which value says which universe.
 
--- a text says itself, and `null` says absence
+-- An object that has only `name` and `values` says a label: a text, and an array whose items say
+-- the values in their order. A text says itself, and `null` says absence.
+-- Source: own choice.
+-- Example: `{"name": "team", "values": ["db", null]}` says the label `team`, whose values are `db`
+-- and absence; with a further field `x`, which is not `null`, it says none.
 abbrev pub SaysValue : Data → Option (List ℕ) → Type 0
 SaysValue d None = d ≡ null
 SaysValue d (Some text) = d ≡ string text
 
--- an object with a name and an array of values, in their order
 pub record SaysLabel (d : Data) (label : Label) : Type 0 where
   pub only : HasOnlyFields label_fields d
   pub name : field (codes "name") d ≡ Some (string label.name)
@@ -38,7 +41,11 @@ pub record SaysLabel (d : Data) (label : Label) : Type 0 where
   pub is_array : option_and_then items_of (field (codes "values") d) ≡ Some items
   pub values : AllZip SaysValue items label.values
 
--- an object with an array of labels, in their order, which are a universe
+-- An object that has only `labels` says a universe: an array whose items say its labels in their
+-- order, if these are a universe.
+-- Source: own choice.
+-- Example: `{"labels": []}` says the universe without labels, and
+-- `{"labels": [{"name": "a", "values": ["x", "x"]}]}` says none, since a value stands twice.
 pub record SaysUniverse (d : Data) (u : List Label) : Type 0 where
   pub only : HasOnlyFields file_fields d
   pub items : List Data
@@ -46,31 +53,31 @@ pub record SaysUniverse (d : Data) (u : List Label) : Type 0 where
   pub labels : AllZip SaysLabel items u
   pub is_universe : IsUniverse u
 
--- the bytes of a file say what their JSON value says
+-- The bytes of a file, at most `MAX_FILE_BYTES`, say the universe that their JSON value says.
 abbrev pub FileSaysUniverse : List ℕ → List Label → Type 0
 FileSaysUniverse bytes u =
     (length bytes ≤ MAX_FILE_BYTES) × (d : Data) × (json_of bytes ≡ Some d) × SaysUniverse d u
 
 -- ---- Reading it, with the first fault that is met.
 
--- a value of a label: a text, or `null`
+-- A value of a label: a text, or `null`.
 abbrev pub read_value : Data → Reading (Option (List ℕ))
 read_value d = if is_null d then accept None else as_text d >>= λ text. accept (Some text)
 
--- a value behind those of the label that were read already
+-- A value behind those of the label that were read already.
 unfoldable pub read_next_value : Values → Data → Reading (Option (List ℕ))
 read_next_value before d = do
   value ← read_value d
   _ ← refuse_for (value_fault before value)
   accept value
 
--- the values of a label
+-- The values of a label.
 unfoldable pub read_values : List Data → Reading Values
 read_values items = do
   _ ← refuse_for (count_fault (length items))
   read_items read_next_value [] items
 
--- a label behind those that were read already
+-- A label behind those that were read already.
 unfoldable pub read_next_label : List Label → Data → Reading Label
 read_next_label u d = do
   _ ← check_only_fields label_fields d
@@ -80,29 +87,28 @@ read_next_label u d = do
   values ← reading_within (to_field (codes "values")) (read_values items)
   accept (record { name = name; values = values })
 
--- the labels of the file
+-- The labels of the file.
 unfoldable pub read_labels : List Data → Reading (List Label)
 read_labels items = do
   _ ← check_count MAX_LABELS (length items)
   read_items read_next_label [] items
 
--- the universe that a value says, or its first fault
+-- The universe that a value says, or its first fault.
 unfoldable pub read_universe : Data → Reading (List Label)
 read_universe d = do
   _ ← check_only_fields file_fields d
   items ← required_items (codes "labels") d
   reading_within (to_field (codes "labels")) (read_labels items)
 
--- the universe that a file says, or its first fault
+-- The universe that a file says, or its first fault.
 unfoldable pub read_universe_file : List ℕ → Reading (List Label)
 read_universe_file bytes = do
   d ← read_json bytes
   read_universe d
 
--- the first fault of a value that says no universe
+-- The first fault of a value that says no universe, and of a file.
 abbrev pub fault_of_universe : Data → Option Refusal
 fault_of_universe d = result_err ((read_universe d).result)
 
--- the same of a file
 abbrev pub fault_of_universe_file : List ℕ → Option Refusal
 fault_of_universe_file bytes = result_err ((read_universe_file bytes).result)

@@ -1,30 +1,23 @@
 //! Reading the configuration file.
 
-ghost use Rattle.std.specs.Prelude.{◌≡◌, ◌≢◌, ◌≤◌, ◌<◌, ◌+◌, [], ◌∷◌, ◌++◌, codes, length, map};
-ghost use Rattle.std.specs.Prelude.{Some, None, Ok, Err, IfOk, IfErr, OnOk, string_bytes};
-ghost use Rattle.std.specs.Prelude.{option_map, position};
-ghost use Rattle.serde_json.specs.View.{view, members_view};
-ghost use Rattle.am_universe.specs.Text.{same_text};
+ghost use Rattle.std.specs.Prelude.{◌≡◌, ◌≢◌, ◌≤◌, ◌<◌, ◌+◌, [], codes, length, map, Some, None};
+ghost use Rattle.std.specs.Prelude.{Ok, Err, IfOk, IfErr, string_bytes, option_map, position};
+ghost use Rattle.serde_json.specs.View.{view};
 ghost use Rattle.am_universe.specs.declared.kind.Kind.TheVariants as kinds;
 ghost use Rattle.am_universe.specs.declared.place.Place.TheVariants as places;
-ghost use Rattle.am_files.specs.Pointer.{to_item};
-ghost use Rattle.am_files.specs.Reading.{Gives, MayRefuse, refusal_of, reading_within};
-ghost use Rattle.am_files.specs.Reading.{check_only_fields, read_items};
-ghost use Rattle.am_files.specs.RouteView.{route_view, names_of};
-ghost use Rattle.am_files.specs.ConfigView.{config_view, fields_view};
-ghost use Rattle.am_files.specs.ConfigFile.{FileSaysConfig, route_fields, route_matcher_fields};
-ghost use Rattle.am_files.specs.ConfigFile.{route_count, routes_count, routes_of};
-ghost use Rattle.am_files.specs.ConfigReading.{receiver_name_fault, read_next_receiver};
-ghost use Rattle.am_files.specs.ConfigReading.{read_receiver_names, read_receivers};
-ghost use Rattle.am_files.specs.ConfigReading.{parent_receiver, receiver_position};
-ghost use Rattle.am_files.specs.ConfigReading.{effective_receiver, read_receiver, boolean_or_false};
-ghost use Rattle.am_files.specs.ConfigReading.{read_continue, refuse_inhibit_rules, read_route};
-ghost use Rattle.am_files.specs.ConfigReading.{read_route_fields, read_matchers, read_children};
-ghost use Rattle.am_files.specs.ConfigReading.{read_next_child, read_config, read_config_file};
-ghost use Rattle.am_files.specs.Json.{field};
-ghost use Rattle.am_files.specs.ConfigFaults.{ConfigFileRefusedFor};
+ghost use Rattle.am_labels.specs.Words.{same_text};
+ghost use Rattle.am_files.specs.Words.{field, to_item, Gives, refusal_of, reading_within};
+ghost use Rattle.am_files.specs.Words.{check_only_fields, read_items, FileSaysConfig, route_fields};
+ghost use Rattle.am_files.specs.Words.{route_matcher_fields, route_count, routes_count, routes_of};
+ghost use Rattle.am_files.specs.Words.{route_view, names_of, config_view, fields_view};
+ghost use Rattle.am_files.specs.Words.{read_next_receiver, read_receiver_names, read_receivers};
+ghost use Rattle.am_files.specs.Words.{parent_receiver, receiver_position, effective_receiver};
+ghost use Rattle.am_files.specs.Words.{read_receiver, boolean_or_false, read_continue};
+ghost use Rattle.am_files.specs.Words.{read_children, read_matchers, read_route_fields, read_route};
+ghost use Rattle.am_files.specs.Words.{read_next_child, refuse_inhibit_rules, read_config};
+ghost use Rattle.am_files.specs.Words.{read_config_file, receiver_name_fault, ConfigFileRefusedFor};
 
-use crate::config::Config;
+use crate::config::{Config, position};
 use crate::json::{
     as_items, as_object, as_text, check_count, check_only_fields, field, read_json, refuse_for,
     required_field, required_items, required_text,
@@ -54,48 +47,34 @@ const ROUTE_FIELDS: [&str; 12] = [
     "active_time_intervals",
 ];
 
-/// The configuration that a file says.
+/// The configuration that the bytes of a configuration file say.
 ///
-/// The file is an object. Its `receivers` are an array of at most 1,024 objects, each with a
-/// `name`, and its `route` is the top-level route. A field that is `null` is absent, and fields
-/// that are not named here are not read, but for those of a route, which has no others than these:
-/// `receiver`, `matchers`, `match`, `match_re`, `continue` and `routes`, and, not read, `group_by`,
-/// `group_wait`, `group_interval`, `repeat_interval`, `mute_time_intervals` and
-/// `active_time_intervals`.
+/// The first fault is the one answered, at the place `Config` and at the pointer of the part at
+/// fault. A field that is `null` counts as absent.
+/// - `Limit`: more than `MAX_FILE_BYTES` bytes, [`MAX_RECEIVERS`] receivers, [`MAX_ROUTES`]
+///   routes, [`MAX_LEVELS`] levels of routes or `MAX_MATCHERS` matchers of a route;
+/// - `NotJson`: the bytes have no JSON value;
+/// - `Shape`: a value is not of its kind, or a required field is absent;
+/// - `UnknownField`: a route has a field that the form does not have, or there are inhibition
+///   rules, which are not read yet;
+/// - `Empty`: the name of a receiver, or one in `match` or `match_re`, is the empty text;
+/// - `Duplicate`: a receiver has the name of an earlier one;
+/// - `UndefinedReceiver`: a route names a receiver that is not declared;
+/// - `RootMatchers`: the top-level route has matchers;
+/// - `BadMatcher`: a text in `matchers` spells no list of matchers;
+/// - `PatternProfile`: a pattern is outside the profile;
+/// - `Pattern`: the engine refuses a pattern of the profile, as it does where its grammar does not
+///   read it, and may do where it is too large. Such a refusal may come before the first fault that
+///   the file has by itself, and not after it.
 ///
-/// A first fault is the one answered, at the place `Config` and at the pointer of the part at
-/// fault, in this order:
-/// - the bytes, at the empty pointer: `Limit` for more than 16,777,216, `NotJson` where they have
-///   no JSON value;
-/// - the file: `Shape` where it is no object;
-/// - `receivers`: `Shape` where it is no array, or absent; `Limit` for more than 1,024; then the
-///   receivers in order, each `Shape` where it is no object, and then its `name`: `Shape` where it
-///   is no text, or absent; `Empty`; `Duplicate` where it is an earlier name;
-/// - `route`: `Shape` where it is absent; then the top-level route;
-/// - `inhibit_rules`: `UnknownField` where it is there, since inhibition rules are not read yet.
+/// `Memory`, at the place `Memory` and the empty pointer, comes wherever memory ran out.
 ///
-/// Of a route, when it is reached: `Limit` below the 32nd level, and for the 1,025th in preorder;
-/// `Shape` where it is no object; `UnknownField` at its least other field; then
-/// - `receiver`: `Shape` where it is no text; where it is absent or empty it is that of the parent,
-///   and `Shape` on the top-level route; `UndefinedReceiver` where it is not declared;
-/// - `matchers`: `Shape` where it is no array; then each text: `Shape` where it is no text,
-///   `BadMatcher`, `Limit` at the array for more than 64 matchers, `PatternProfile` and `Pattern`;
-///   `Limit` at the array where there are more than 64 together;
-/// - `match` and `match_re`: `Shape` where it is no object; then by the bytes of the keys each
-///   pair: `Empty` for the empty key, `Shape` where the value is no text, `PatternProfile` and
-///   `Pattern` in `match_re`; `Limit` at the object for the 65th matcher of the route;
-/// - on the top-level route, after each of these three: `RootMatchers` where it gave a matcher;
-/// - `continue`: `Shape` where it is no truth value;
-/// - `routes`: `Shape` where it is no array; then the children in order.
-///
-/// `Pattern` may come at each pattern of the profile that is reached, since its size is the
-/// engine's to judge, and comes at the first that the engine's grammar does not read. `Memory`, at
-/// the place `Memory` and the empty pointer, comes only where memory was refused.
+/// The JSON value of the whole file is in memory until the configuration is answered. Each name of
+/// a receiver is compared with those before it, and each that a route has with those declared.
 pub fn read_config(alloc: Global, bytes: &[u8]) -> Result<Config, Fault>
     ensures says { IfOk result (λ c. FileSaysConfig bytes.now (config_view c)) }
     ensures first { IfErr result (λ fault. fault.kind ≢ kinds.Memory
-        → (fault.place ≡ places.Config)
-        × ConfigFileRefusedFor bytes.now (refusal_of fault)) }
+        → (fault.place ≡ places.Config) × ConfigFileRefusedFor bytes.now (refusal_of fault)) }
     ensures memory { IfErr result (λ fault. fault.kind ≡ kinds.Memory
         → (fault.place ≡ places.Memory) × (string_bytes fault.pointer ≡ [])) }
     ensures no_write { IfErr result (λ fault. fault.kind ≢ kinds.Write) }
@@ -209,13 +188,6 @@ fn receiver_name_fault(before: &[String], name: &str) -> Option<Kind>
     None
 }
 
-/// The position of a name.
-fn position(names: &[String], name: &str) -> Option<usize>
-    ensures { result ≡ position (λ other. same_text other name.now) (names_of names.now) }
-{
-    names.iter().position(|other| other.as_str() == name)
-}
-
 // ---- The routes.
 
 fn read_root(alloc: Global, names: &[String], value: &Value) -> Result<Route, ReadError>
@@ -298,8 +270,8 @@ fn read_route(
     requires { before ≤ MAX_ROUTES }
     ensures reads { Gives (λ r. route_view r.0) result
         (read_route (names_of names.now) levels parent before (view value.now)) }
-    ensures number { IfOk result (λ r. (r.1 ≡ before + route_count (route_view r.0))
-        × (r.1 ≤ MAX_ROUTES)) }
+    ensures number { IfOk result (λ r.
+        (r.1 ≡ before + route_count (route_view r.0)) × (r.1 ≤ MAX_ROUTES)) }
 {
     if levels == 0 {
         return Err(ReadError::refused(alloc, Kind::Limit));

@@ -2,12 +2,11 @@
 
 ghost use Rattle.std.specs.Prelude.{◌≡◌, ◌≢◌, Some, map, option_map};
 ghost use Rattle.serde_json.specs.View.{view, members_view};
-ghost use Rattle.am_files.specs.Json.{json_of, field, is_one_of, is_unknown, unknown_field};
 ghost use Rattle.am_universe.specs.declared.kind.Kind.TheVariants as kinds;
-ghost use Rattle.am_files.specs.Pointer.{refusal_here};
-ghost use Rattle.am_files.specs.Reading.{Gives, accept_some, check_only_fields, required_field};
-ghost use Rattle.am_files.specs.Reading.{required_text, required_items, as_text, as_items};
-ghost use Rattle.am_files.specs.Reading.{as_object, read_json, refuse_for, check_count};
+ghost use Rattle.am_files.specs.Words.{json_of, field, is_one_of, is_unknown, unknown_field};
+ghost use Rattle.am_files.specs.Words.{refusal_here, Gives, accept_some, refuse_for, check_count};
+ghost use Rattle.am_files.specs.Words.{as_object, as_text, as_items, check_only_fields};
+ghost use Rattle.am_files.specs.Words.{required_field, required_text, required_items, read_json};
 
 use crate::limits::MAX_FILE_BYTES;
 use crate::pointer::within_field;

@@ -1,23 +1,23 @@
 //! What holds of the files' forms, for every JSON value and all bytes.
 
-ghost use Rattle.std.specs.Prelude.{◌≡◌, ◌⊎◌, ◌↔◌, ℕ, List, None, Ok, Err};
+ghost use Rattle.std.specs.Prelude.{◌≡◌, ◌≢◌, ◌⊎◌, ◌↔◌, ◌+◌, ◌<◌, ◌≤◌, ℕ, List, [], ◌∷◌, ◌++◌};
+ghost use Rattle.std.specs.Prelude.{length, Some, None, Ok, Err, option_and_then, slice_get};
 ghost use Rattle.serde_json.specs.Data.{Data};
-ghost use Rattle.am_universe.specs.Universe.{Label};
 ghost use Rattle.am_files.specs.declared.limits.TheConstants.{MAX_FILE_BYTES, MAX_LEVELS};
 ghost use Rattle.am_files.specs.declared.limits.TheConstants.{MAX_RECEIVERS, MAX_ROUTES};
-ghost use Rattle.am_files.specs.ConfigFile.{Configuration, SaysConfig, FileSaysConfig};
-ghost use Rattle.am_files.specs.ConfigReading.{read_config, read_config_file, fault_of_config};
-ghost use Rattle.am_files.specs.ConfigReading.{fault_of_config_file};
-ghost use Rattle.am_files.specs.UniverseFile.{SaysUniverse, FileSaysUniverse, read_universe};
-ghost use Rattle.am_files.specs.UniverseFile.{read_universe_file, fault_of_universe};
-ghost use Rattle.am_files.specs.UniverseFile.{fault_of_universe_file};
-ghost use Rattle.am_files.specs.Pointer.{Refusal};
-ghost use Rattle.am_files.specs.Reading.{MayRefuse};
-ghost use Rattle.am_files.specs.UniverseFaults.{UniversePlace, universe_fault_at};
-ghost use Rattle.am_files.specs.UniverseFaults.{IsFirstFaultOfUniverse, IsFirstFaultOfUniverseFile};
-ghost use Rattle.am_files.specs.ConfigFaults.{ConfigPlace, config_fault_at, IsFirstFaultOfConfig};
-ghost use Rattle.am_files.specs.ConfigFaults.{IsMetPatternOfConfig, IsFirstFaultOfConfigFile};
-ghost use Rattle.am_files.specs.ConfigFaults.{ConfigFileRefusedFor};
+ghost use Rattle.am_files.specs.declared.limits.TheConstants.{MAX_PATH_STEPS, MAX_CHILD_POSITION};
+ghost use Rattle.am_labels.specs.Words.{Label};
+ghost use Rattle.am_files.specs.Words.{Refusal, MayRefuse, SaysUniverse, FileSaysUniverse};
+ghost use Rattle.am_files.specs.Words.{read_universe, read_universe_file, fault_of_universe};
+ghost use Rattle.am_files.specs.Words.{fault_of_universe_file, UniversePlace, universe_fault_at};
+ghost use Rattle.am_files.specs.Words.{IsFirstFaultOfUniverse, IsFirstFaultOfUniverseFile};
+ghost use Rattle.am_files.specs.Words.{Configuration, SaysConfig, FileSaysConfig, read_config};
+ghost use Rattle.am_files.specs.Words.{read_config_file, fault_of_config, fault_of_config_file};
+ghost use Rattle.am_files.specs.Words.{ConfigPlace, config_fault_at, IsFirstFaultOfConfig};
+ghost use Rattle.am_files.specs.Words.{IsFirstFaultOfConfigFile, IsMetPatternOfConfig};
+ghost use Rattle.am_files.specs.Words.{ConfigFileRefusedFor, smallest_config_file, smallest_config};
+ghost use Rattle.am_files.specs.Words.{RouteTree, IsConfig, children_of, path_text, list_of};
+ghost use Rattle.am_files.specs.Words.{route_at, IsPath, no_routes, route_levels};
 
 /// A JSON value says a universe exactly where reading it gives that universe. So it says at most
 /// one, and it has no fault exactly where it says one. What reading refuses it for is the first
@@ -49,8 +49,8 @@ pub fn universe_files_are_read()
 /// A JSON value says a configuration exactly where reading it gives that configuration, with each
 /// pattern built that the engine's grammar reads. So it says at most one, and it has no first fault
 /// exactly where it says one. The first fault is the first by the places of the form, and a value
-/// says a configuration exactly where no place is at fault. Beside the first fault only the refusals
-/// of patterns that are met before it are open.
+/// says a configuration exactly where no place is at fault. Beside the first fault only the
+/// refusals of patterns that are met before it are open.
 pub fn configurations_are_read()
     ensures read { (d : Data) (c : Configuration)
         → SaysConfig d c ↔ ((read_config d).result ≡ Ok c) }
@@ -79,10 +79,39 @@ pub fn configuration_files_are_read()
         → ConfigFileRefusedFor bytes r }
 {}
 
+/// The smallest configuration file says one receiver, and one route that has it.
+pub fn the_smallest_configuration()
+    ensures says { FileSaysConfig smallest_config_file smallest_config }
+{}
+
 /// The limits of the files.
 pub fn files_have_limits()
     ensures bytes { MAX_FILE_BYTES ≡ 16777216 }
     ensures receivers { MAX_RECEIVERS ≡ 1024 }
     ensures routes { MAX_ROUTES ≡ 1024 }
     ensures levels { MAX_LEVELS ≡ 32 }
+    ensures steps { MAX_PATH_STEPS ≡ 31 }
+    ensures positions { MAX_CHILD_POSITION ≡ 1022 }
+{}
+
+/// A text is that of at most one path.
+pub fn one_path_a_text()
+    ensures one { (p q : List ℕ) → path_text p ≡ path_text q → p ≡ q }
+{}
+
+/// Each route of a configuration is at a path that a `Path` can be: no longer than the way
+/// to the last level, and with no position beyond that of the last child. So what `Path::parse`
+/// answers `UnknownRoute` for leads to no route of any configuration. A route with a child has room
+/// for one step more, and that step leads to the child.
+pub fn routes_have_paths()
+    ensures paths { (c : Configuration) (path : List ℕ) (t : RouteTree) → IsConfig c
+        → route_at c.root path ≡ Some t → IsPath path }
+    ensures levels { (t below : RouteTree) (path : List ℕ) → route_at t path ≡ Some below
+        → length path + route_levels below ≤ route_levels t }
+    ensures room { (c : Configuration) (path : List ℕ) (t : RouteTree) → IsConfig c
+        → route_at c.root path ≡ Some t → children_of t ≢ no_routes
+        → length path < MAX_PATH_STEPS }
+    ensures child { (t : RouteTree) (path : List ℕ) (p : ℕ) → route_at t (path ++ p ∷ [])
+        ≡ option_and_then (λ parent. slice_get (list_of (children_of parent)) p)
+        (route_at t path) }
 {}

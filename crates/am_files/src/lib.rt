@@ -1,21 +1,38 @@
 //! The input files of the program, read from their bytes.
 //!
-//! A reader answers the value that a file says, or its first fault: why it is refused and, by a
-//! JSON Pointer, at which part.
+//! [`read_universe`] reads a universe file, and [`read_config`] a configuration file, which is an
+//! Alertmanager configuration as JSON. Each answers what the file says, or its first fault: why the
+//! file is refused and, by a JSON Pointer (RFC 6901), at which part. docs/FORMATS.md has the form
+//! of each file, and the order of its faults.
 #![tactic(auto)]
 
-mod config;
-mod config_file;
-mod json;
-pub mod laws;
+// How much there may be.
 pub mod limits;
+
+// A JSON value, looked at part by part, and why it is refused.
+mod json;
 mod pointer;
 mod read_error;
-mod route;
-mod route_matchers;
+
+// The universe file.
 mod universe_file;
 
-pub use config::Config;
-pub use config_file::read_config;
-pub use route::Route;
 pub use universe_file::read_universe;
+
+// A configuration, its routes, and the paths that lead to them.
+mod config;
+mod path;
+mod route;
+
+pub use config::Config;
+pub use path::Path;
+pub use route::Route;
+
+// The configuration file.
+mod config_file;
+mod route_matchers;
+
+pub use config_file::read_config;
+
+// What holds of the definitions by themselves.
+pub mod laws;

@@ -1,4 +1,4 @@
-//! The limits of the files. (This project's own.)
+//! How much there may be in a file. These limits are this project's own.
 
 /// The most bytes of a file.
 pub const MAX_FILE_BYTES: usize = 16_777_216;
@@ -6,8 +6,15 @@ pub const MAX_FILE_BYTES: usize = 16_777_216;
 /// The most receivers of a configuration.
 pub const MAX_RECEIVERS: usize = 1024;
 
-/// The most routes of a configuration.
+/// The most routes of a configuration, the top-level route among them.
 pub const MAX_ROUTES: usize = 1024;
 
-/// The most levels in which the routes of a configuration lie.
+/// The most levels in which the routes of a configuration lie, the top-level route in the first.
 pub const MAX_LEVELS: usize = 32;
+
+/// The most positions of a path: one for each level below the first.
+pub const MAX_PATH_STEPS: usize = MAX_LEVELS - 1;
+
+/// The largest position of a child: that of the last one where every route but the top-level route
+/// is its child.
+pub const MAX_CHILD_POSITION: usize = MAX_ROUTES - 2;

@@ -3,15 +3,14 @@
 ghost use Rattle.std.specs.Prelude.{◌≡◌, ◌≢◌};
 ghost use Rattle.am_universe.specs.declared.kind.Kind.TheVariants as kinds;
 ghost use Rattle.am_files.specs.declared.read_error.ReadError.TheVariants.{Memory};
-ghost use Rattle.am_files.specs.Pointer.{refusal_here};
-ghost use Rattle.am_files.specs.Reading.{IsRefusalOrMemory, IsFaultAt, IsFaultOf};
+ghost use Rattle.am_files.specs.Words.{refusal_here, IsRefusalOrMemory, IsFaultAt, IsFaultOf};
 
 use am_labels::{Fault, Kind, Place};
 use std::alloc::{AllocError, AllocFailed, Global};
 use std::marker::Model;
 
-/// Why a file is refused, which is never want of memory nor a failed write, and at which part: a
-/// JSON Pointer (RFC 6901), from the value that is looked at.
+/// Why a file is refused, which is never that memory ran out or a write failed, and at which part:
+/// a JSON Pointer (RFC 6901), from the value that is looked at.
 #[derive(Drop)]
 pub(crate) struct Refusal {
     pub(crate) kind: Kind,
@@ -46,14 +45,14 @@ impl Refusal {
 /// Why a reader gives no value.
 #[derive(Drop)]
 pub(crate) enum ReadError {
-    /// A growth of memory was refused.
+    /// Memory ran out.
     Memory,
     /// The first fault of the file.
     Refused(Refusal),
 }
 
 impl ReadError {
-    /// The value that is looked at is refused.
+    /// The value that is looked at is refused, or memory ran out, by the kind.
     pub(crate) fn refused(alloc: Global, kind: Kind) -> ReadError
         requires { kind ≢ kinds.Write }
         ensures refusal { IsRefusalOrMemory result (refusal_here kind) }

@@ -1,9 +1,8 @@
 //! Routes, as they are kept in memory.
 
 ghost use Rattle.std.specs.Prelude.{◌≡◌, map};
-ghost use Rattle.am_files.specs.ConfigFile.{matchers_of, continues_of, receiver_of, children_of};
-ghost use Rattle.am_files.specs.ConfigFile.{routes_of};
-ghost use Rattle.am_files.specs.RouteView.{route_view};
+ghost use Rattle.am_files.specs.Words.{matchers_of, continues_of, receiver_of, children_of};
+ghost use Rattle.am_files.specs.Words.{routes_of, route_view};
 
 use am_labels::Matchers;
 
@@ -17,30 +16,33 @@ pub struct Route {
 }
 
 impl Route {
-    /// The matchers, all of which an alert has to match.
+    /// The matchers, all of which an alert has to match: those of `matchers`, then those of `match`
+    /// and of `match_re`, each by the bytes of their names.
     pub fn matchers(&self) -> &Matchers
-        ensures { result.now ≡ matchers_of (route_view self.now) }
+        ensures matchers { result.now ≡ matchers_of (route_view self.now) }
     {
         &self.matchers
     }
 
-    /// Whether later siblings are tried after it.
+    /// Whether later siblings are tried after it. On the top-level route it means nothing.
     pub fn continues(&self) -> bool
-        ensures { result ≡ continues_of (route_view self.now) }
+        ensures continues { result ≡ continues_of (route_view self.now) }
     {
         self.continues
     }
 
-    /// The position of its receiver: its own, or the one that it inherits.
+    /// The position of its receiver among those of the configuration: of the one that it names, or
+    /// of its parent's.
     pub fn receiver(&self) -> usize
-        ensures { result ≡ receiver_of (route_view self.now) }
+        ensures receiver { result ≡ receiver_of (route_view self.now) }
     {
         self.receiver
     }
 
-    /// Its children, in order.
+    /// Its children, in the order of the file.
     pub fn routes(&self) -> &[Route]
-        ensures { routes_of (map route_view result.now) ≡ children_of (route_view self.now) }
+        ensures children { routes_of (map route_view result.now)
+            ≡ children_of (route_view self.now) }
     {
         &self.routes
     }

@@ -1,20 +1,16 @@
 //! The matchers of three fields of an object, one behind the other, as a route has them.
 
-ghost use Rattle.std.specs.Prelude.{◌≡◌, ◌≢◌, [], ◌∷◌, ◌++◌, map, option_map, Err, IsErrAnd, OnOk};
-ghost use Rattle.std.specs.List.{enumerate_from};
+ghost use Rattle.std.specs.Prelude.{◌≡◌, ◌≢◌, [], ◌∷◌, map, option_map, Err, IsErrAnd};
 ghost use Rattle.am_universe.specs.declared.kind.Kind.TheVariants as kinds;
 ghost use Rattle.am_files.specs.declared.read_error.ReadError.TheVariants as errors;
-ghost use Rattle.am_files.specs.Pointer.{to_item};
 ghost use Rattle.serde_json.specs.View.{view, members_view};
-ghost use Rattle.am_files.specs.Json.{member_list};
-ghost use Rattle.am_files.specs.Reading.{Gives, IsRefusalOrMemory, read_each};
-ghost use Rattle.am_files.specs.ConfigView.{matcher_fields_view};
-ghost use Rattle.am_files.specs.ConfigReading.{read_matchers, optional_texts, read_texts};
-ghost use Rattle.am_files.specs.ConfigReading.{read_matcher_texts, read_next_matcher_text};
-ghost use Rattle.am_files.specs.ConfigReading.{read_matcher_text, text_refusal, append_matchers};
-ghost use Rattle.am_files.specs.ConfigReading.{optional_pairs, read_pairs, read_next_pair};
-ghost use Rattle.am_files.specs.ConfigReading.{read_matcher_pair, read_named_text};
-ghost use Rattle.am_files.specs.ConfigReading.{label_name_fault, refuse_root_matchers};
+ghost use Rattle.am_files.specs.Words.{to_item, member_list, Gives, IsRefusalOrMemory, read_each};
+ghost use Rattle.am_files.specs.Words.{matcher_fields_view, read_matchers, optional_texts};
+ghost use Rattle.am_files.specs.Words.{read_texts, read_matcher_texts, read_next_matcher_text};
+ghost use Rattle.am_files.specs.Words.{read_matcher_text, text_refusal, append_matchers};
+ghost use Rattle.am_files.specs.Words.{optional_pairs, read_pairs, read_next_pair};
+ghost use Rattle.am_files.specs.Words.{read_matcher_pair, read_named_text, label_name_fault};
+ghost use Rattle.am_files.specs.Words.{refuse_root_matchers};
 
 use crate::json::{as_items, as_object, as_text, field, refuse_for};
 use crate::pointer::{within_field, within_item};

@@ -1,19 +1,16 @@
-//! The universe file.
+//! Reading the universe file.
 
 ghost use Rattle.std.specs.Prelude.{◌≡◌, ◌≢◌, ◌≤◌, [], ◌∷◌, ◌++◌, length, map, None, Ok, Err, IfOk};
 ghost use Rattle.std.specs.Prelude.{IfErr, OnOk, string_bytes, option_map};
 ghost use Rattle.serde_json.specs.View.{view};
 ghost use Rattle.am_universe.specs.declared.kind.Kind.TheVariants as kinds;
 ghost use Rattle.am_universe.specs.declared.place.Place.TheVariants as places;
-ghost use Rattle.am_universe.specs.Universe.{label_fault};
-ghost use Rattle.am_universe.specs.UniverseView.{label_of, texts_of};
 ghost use Rattle.am_files.specs.declared.read_error.ReadError.TheVariants as errors;
-ghost use Rattle.am_files.specs.Pointer.{to_item};
-ghost use Rattle.am_files.specs.Reading.{Gives, refusal_of, reading_within, read_items};
-ghost use Rattle.am_files.specs.UniverseFile.{read_value, read_next_value, read_values};
-ghost use Rattle.am_files.specs.UniverseFile.{read_next_label, read_labels, read_universe};
-ghost use Rattle.am_files.specs.UniverseFile.{read_universe_file, FileSaysUniverse};
-ghost use Rattle.am_files.specs.UniverseFaults.{IsFirstFaultOfUniverseFile};
+ghost use Rattle.am_labels.specs.Words.{label_fault, label_of, texts_of};
+ghost use Rattle.am_files.specs.Words.{to_item, Gives, refusal_of, reading_within, read_items};
+ghost use Rattle.am_files.specs.Words.{FileSaysUniverse, read_value, read_next_value, read_values};
+ghost use Rattle.am_files.specs.Words.{read_next_label, read_labels, read_universe};
+ghost use Rattle.am_files.specs.Words.{read_universe_file, IsFirstFaultOfUniverseFile};
 
 use crate::json::{
     as_text, check_count, check_only_fields, read_json, refuse_for, required_items, required_text,
@@ -25,28 +22,21 @@ use am_universe::limits::MAX_LABELS;
 use serde_json::Value;
 use std::alloc::{AllocError, Global};
 
-/// The universe that a file says.
-///
-/// The file is an object with the one field `labels`: an array of at most 64 objects, each with a
-/// `name` and `values`, an array of 1 to 128 values, each a text or `null`, for absence. A field
-/// that is `null` is absent.
+/// The universe that the bytes of a universe file say, with its labels and values in their order.
 ///
 /// The first fault is the one answered, at the place `Universe` and at the pointer of the part at
-/// fault, in this order:
-/// - the bytes, at the empty pointer: `Limit` for more than 16,777,216, `NotJson` where they have
-///   no JSON value;
-/// - the file, and each label when it is reached: `Shape` where it is no object, `UnknownField` at
-///   its least other field;
-/// - `labels`: `Shape` where it is no array, or absent; `Limit` for more than 64; then the labels
-///   in order;
-/// - `name`: `Shape` where it is no text, or absent; `Empty`; `Shape` where it is not of the form
-///   of a label name; `Duplicate` where it is the name of an earlier label;
-/// - `values`: `Shape` where it is no array, or absent; `Empty`; `Limit` for more than 128; then
-///   the values in order;
-/// - a value: `Shape` where it is neither a text nor `null`; `Empty`; `Duplicate` of an earlier
-///   one.
+/// fault. A field that is `null` counts as absent.
+/// - `Limit`: more than `MAX_FILE_BYTES` bytes, [`MAX_LABELS`] labels or `MAX_VALUES` values of a
+///   label;
+/// - `NotJson`: the bytes have no JSON value;
+/// - `Shape`: a value is not of its kind, a required field is absent, or a name is no label name;
+/// - `UnknownField`: there is a field that the form does not have;
+/// - `Empty`: a name or a value is the empty text, or a label has no value;
+/// - `Duplicate`: a name is that of an earlier label, or a value an earlier one of its label.
 ///
-/// `Memory`, at the place `Memory` and the empty pointer, comes only where memory was refused.
+/// `Memory`, at the place `Memory` and the empty pointer, comes wherever memory ran out.
+///
+/// The JSON value of the whole file is in memory until the universe is answered.
 pub fn read_universe(alloc: Global, bytes: &[u8]) -> Result<Universe, Fault>
     ensures says { IfOk result (λ u. FileSaysUniverse bytes.now u) }
     ensures first { IfErr result (λ fault. fault.kind ≢ kinds.Memory
@@ -99,7 +89,7 @@ fn read_each_label(alloc: Global, items: &[Value]) -> Result<Universe, ReadError
     Ok(universe)
 }
 
-/// Adds a label that has no fault, which fails for want of memory alone.
+/// Adds a label that has no fault. It fails only where memory ran out.
 fn add(universe: &mut Universe, label: (String, Vec<Option<String>>)) -> Result<(), ReadError>
     requires { label_fault universe.old (label_of label.0 label.1) ≡ None }
     ensures ok { OnOk result (universe.new ≡ universe.old ++ label_of label.0 label.1 ∷ []) }
@@ -211,8 +201,8 @@ fn read_value(alloc: Global, value: &Value) -> Result<Option<&str>, ReadError>
 }
 
 fn owned(alloc: Global, value: Option<&str>) -> Result<Option<String>, AllocError>
-    ensures { IfOk result (λ o. option_map string_bytes o ≡ option_map (λ text. text.now)
-        value.entry) }
+    ensures { IfOk result (λ o.
+        option_map string_bytes o ≡ option_map (λ text. text.now) value.entry) }
 {
     match value {
         Some(text) => Ok(Some(String::from_str(alloc, text)?)),

@@ -4,12 +4,13 @@ use Rattle.am_files.specs.ConfigReading.{read_config_file}
 use Rattle.am_files.specs.ConfigView.{config_view}
 use Rattle.am_files.proofs.Readings.{fault_of_file}
 use Rattle.am_files.proofs.ConfigFaultLemmas.{config_file_refused}
-use Rattle.am_files.proofs.ConfigSays.{file_says}
+use Rattle.am_files.proofs.ConfigSays.{file_decides}
 use Rattle.am_files.proofs.config_file.read_config.Goals as goal
 
 pub returns-in-Ok-clause-says : goal.returns-in-Ok-clause-says
 returns-in-Ok-clause-says c =
-    file_says c.args.bytes.now (config_view c.in-Ok.config) c.in-Ok.ensures
+    let decides = file_decides c.args.bytes.now in
+    decides.says (config_view c.in-Ok.config) c.in-Ok.ensures
 
 pub returns-in-Err-clause-first : goal.returns-in-Err-clause-first
 returns-in-Err-clause-first c = λ other.

@@ -1,5 +1,5 @@
 use Rattle.am_universe.specs.Text.{same_text}
-use Rattle.am_universe.proofs.Universes.{list_any-map}
+use Rattle.am_universe.proofs.UniverseLemmas.{list_any-map}
 use Rattle.am_files.proofs.json.is_one_of.Goals as goal
 
 pub returns : goal.returns

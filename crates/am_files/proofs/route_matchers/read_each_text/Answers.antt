@@ -9,7 +9,7 @@ use Rattle.am_files.proofs.route_matchers.read_each_text.Goals as goal
 
 pub loop-i-init : goal.loop-i-init
 loop-i-init c =
-    rw c.empty-found.ensures (leads-refl (read_matcher_texts (map view c.args.items.now)))
+    rw c.empty-found.ensures.no_matcher (leads-refl (read_matcher_texts (map view c.args.items.now)))
 
 pub returns-in_err-found : goal.returns-in_err-found
 returns-in_err-found c =

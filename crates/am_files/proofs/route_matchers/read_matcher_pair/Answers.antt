@@ -8,7 +8,7 @@ returns-in-Ok c =
     let t = c.in_ok-text-2.ensures.ok in
     rw (c.in-Ok.ensures.ok, n, t)
     (pair_gives c.args.op c.args.name.now (view c.args.value.now) c.in_ok-text.text.now
-    c.in_ok-text.ensures (rw t at c.in-Ok.ensures.sound))
+    c.in_ok-text.ensures (rw t at c.in-Ok.ensures.valid_pattern))
 
 pub returns-in-Err : goal.returns-in-Err
 returns-in-Err c =

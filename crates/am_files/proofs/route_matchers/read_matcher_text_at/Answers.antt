@@ -6,7 +6,7 @@ use Rattle.am_files.proofs.route_matchers.read_matcher_text_at.Goals as goal
 pub returns-in-Ok : goal.returns-in-Ok
 returns-in-Ok c =
     text_gives (to_item c.args.i) [] c.args.text.now c.in-Ok.found c.in-Ok.ensures.spelled
-    c.in-Ok.ensures.at_most c.in-Ok.ensures.sound
+    c.in-Ok.ensures.at_most c.in-Ok.ensures.valid_patterns
 
 pub returns-in-Err : goal.returns-in-Err
 returns-in-Err c =

@@ -11,7 +11,7 @@ use Rattle.am_files.proofs.UniverseSays.{no_fault_read}
 use Rattle.am_files.proofs.universe_file.read_each_label.Goals as goal
 
 pub loop-item-init : goal.loop-item-init
-loop-item-init c = rw c.empty-universe.ensures (record {
+loop-item-init c = rw c.empty-universe.ensures.no_label (record {
   leads = leads-refl (read_items read_next_label [] (map view c.args.items.now));
   count = refl;
 })

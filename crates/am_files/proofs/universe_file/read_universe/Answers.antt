@@ -2,12 +2,14 @@ use Rattle.am_universe.specs.declared.place.Place.TheVariants as places
 use Rattle.am_files.specs.Reading.{refusal_of}
 use Rattle.am_files.specs.UniverseFile.{read_universe_file}
 use Rattle.am_files.proofs.Readings.{fault_of_file}
-use Rattle.am_files.proofs.UniverseFaultLemmas.{universe_file_first}
-use Rattle.am_files.proofs.UniverseSays.{file_says, file_refuses}
+use Rattle.am_files.proofs.UniverseFaultLemmas.{universe_file_refused}
+use Rattle.am_files.proofs.UniverseSays.{file_decides}
 use Rattle.am_files.proofs.universe_file.read_universe.Goals as goal
 
 pub returns-in-Ok-clause-says : goal.returns-in-Ok-clause-says
-returns-in-Ok-clause-says c = file_says c.args.bytes.now c.in-Ok.universe c.in-Ok.ensures
+returns-in-Ok-clause-says c =
+    let decides = file_decides c.args.bytes.now in
+    decides.says c.in-Ok.universe c.in-Ok.ensures
 
 pub returns-in-Err-clause-first : goal.returns-in-Err-clause-first
 returns-in-Err-clause-first c = λ other.
@@ -16,4 +18,4 @@ returns-in-Err-clause-first c = λ other.
     let is =
     fault_of_file places.Universe c.in-Err.error c.at.result (read_universe_file bytes)
     c.at.ensures c.in-Err.ensures other in
-    (is.0, (universe_file_first bytes refusal).0 (file_refuses bytes refusal is.1))
+    (is.0, universe_file_refused bytes refusal is.1)

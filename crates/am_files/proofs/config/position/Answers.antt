@@ -3,7 +3,7 @@ use Rattle.std.proofs.lemmas.Iterator.{YieldsList-from_slice}
 use Rattle.std.proofs.lemmas.Iterator.Search.{position_from_yields_List}
 use Rattle.am_universe.specs.Text.{same_text}
 use Rattle.am_files.proofs.Positions.{position-map}
-use Rattle.am_files.proofs.config_file.position.Goals as goal
+use Rattle.am_files.proofs.config.position.Goals as goal
 
 pub returns : goal.returns
 returns c =

@@ -1,0 +1,139 @@
+-- The first fault of the patterns of matchers, and the patterns of the profile that are met.
+use Rattle.std.proofs.Common.{Bool, Equal, Greater, Less, List, None, Option, Ordering, Some, []}
+use Rattle.std.proofs.Common.{ap, arith, false, inl, inr, refl, slice_get, suc, true, zero, ℕ, ◌&&◌}
+use Rattle.std.proofs.Common.{◌++◌, ◌<◌, ◌∷◌, ◌≡◌}
+use Rattle.std.proofs.lemmas.Cmp.{ranked}
+use Rattle.std.specs.Ordering.{MatchOrdering, nat_cmp, ordering_then}
+use Rattle.std.specs.Prelude.{if◌then◌else◌}
+use Rattle.am_universe.specs.declared.kind.Kind.{Kind}
+use Rattle.am_universe.specs.declared.kind.Kind.TheVariants as kinds
+use Rattle.am_labels.specs.Matcher.{Condition, takes_pattern}
+use Rattle.am_labels.specs.MatcherRefusals.{has_valid_pattern, pattern_refusal}
+use Rattle.am_labels.specs.PatternCut.{in_profile}
+use Rattle.am_files.specs.ConfigFaults.{is_profile_pattern, one_pattern_fault}
+use Rattle.am_files.specs.ConfigReading.{check_patterns, pattern_fault, profile_patterns}
+use Rattle.am_files.specs.Places.{IsBefore, if_there, turn}
+use Rattle.am_files.specs.Pointer.{Refusal, refusal_here}
+use Rattle.am_files.specs.Reading.{IsPatternRefusal, refuse_for}
+use Rattle.am_files.proofs.PlaceLemmas.{Form, Judges, Tells}
+
+abbrev pub patterns_form : List Condition → Form ℕ
+patterns_form ms = record {
+  path = λ j. turn j ∷ [];
+  fault_at = λ j. if_there one_pattern_fault (slice_get ms j);
+  has_pattern = λ j. is_profile_pattern (slice_get ms j);
+}
+
+single_less : (o : Ordering) (x y : ℕ) → MatchOrdering o (x < y) (x ≡ y) (y < x)
+    → ordering_then o Equal ≡ Less → x < y
+single_less Less x y h e = h
+single_less Equal x y h e = absurd cc
+single_less Greater x y h e = absurd cc
+
+before_turn : (i j : ℕ) → IsBefore (turn i ∷ []) (turn j ∷ []) → i < j
+before_turn i j b = single_less (nat_cmp i j) i j (ranked i j (nat_cmp i j) refl) b
+
+sound_none : (m : Condition) → has_valid_pattern m ≡ true → one_pattern_fault m ≡ None
+sound_none m e = rw e refl
+
+-- before the pattern at this position none is at fault
+abbrev pub NoneBefore : List Condition → ℕ → Type 0
+NoneBefore ms j = (i : ℕ) → i < j → if_there one_pattern_fault (slice_get ms i) ≡ None
+
+none_behind : (m : Condition) (ms : List Condition) (j : ℕ) → has_valid_pattern m ≡ true
+    → NoneBefore ms j → NoneBefore (m ∷ ms) (suc j)
+none_behind m ms j sound none zero lt = sound_none m sound
+none_behind m ms j sound none (suc i) lt = none i (omega (arith, lt))
+
+none_first : (ms : List Condition) → NoneBefore ms 0
+none_first ms i lt = absurd (omega (arith, lt))
+
+none_at : (m : Condition) (ms : List Condition) (sound : Bool) → has_valid_pattern m ≡ sound
+    → (pattern_fault ms ≡ None → (j : ℕ) → if_there one_pattern_fault (slice_get ms j) ≡ None)
+    → (if sound then pattern_fault ms else Some (pattern_refusal m.value)) ≡ None
+    → (j : ℕ) → if_there one_pattern_fault (slice_get (m ∷ ms) j) ≡ None
+none_at m ms true is behind e zero = sound_none m is
+none_at m ms true is behind e (suc j) = behind e j
+none_at m ms false is behind e j = absurd cc
+
+no_pattern_fault : (ms : List Condition) → pattern_fault ms ≡ None
+    → (j : ℕ) → if_there one_pattern_fault (slice_get ms j) ≡ None
+no_pattern_fault [] e j = refl
+no_pattern_fault (m ∷ ms) e j = none_at m ms (has_valid_pattern m) refl (no_pattern_fault ms) e j
+
+first_at : (m : Condition) (ms : List Condition) (kind : Kind) (sound : Bool)
+    → has_valid_pattern m ≡ sound
+    → (pattern_fault ms ≡ Some kind
+    → (j : ℕ) × (if_there one_pattern_fault (slice_get ms j) ≡ Some kind) × NoneBefore ms j)
+    → (if sound then pattern_fault ms else Some (pattern_refusal m.value)) ≡ Some kind
+    → (j : ℕ) × (if_there one_pattern_fault (slice_get (m ∷ ms) j) ≡ Some kind)
+    × NoneBefore (m ∷ ms) j
+first_at m ms kind true is behind e =
+    let found = behind e in
+    (suc found.0, found.1, none_behind m ms found.0 is found.2)
+first_at m ms kind false is behind e = (zero, rw is e, none_first (m ∷ ms))
+
+-- the first refused pattern
+first_pattern : (ms : List Condition) (kind : Kind) → pattern_fault ms ≡ Some kind
+    → (j : ℕ) × (if_there one_pattern_fault (slice_get ms j) ≡ Some kind) × NoneBefore ms j
+first_pattern [] kind e = absurd cc
+first_pattern (m ∷ ms) kind e =
+    first_at m ms kind (has_valid_pattern m) refl (first_pattern ms kind) e
+
+met_behind : (m : Condition) (ms : List Condition) (r : Refusal) (sound : Bool)
+    → has_valid_pattern m ≡ sound
+    → (IsPatternRefusal (profile_patterns ms) r
+    → (j : ℕ) × (is_profile_pattern (slice_get ms j) ≡ true) × (r ≡ refusal_here kinds.Pattern)
+    × NoneBefore ms j)
+    → IsPatternRefusal (if sound then profile_patterns ms else []) r
+    → (j : ℕ) × (is_profile_pattern (slice_get (m ∷ ms) j) ≡ true)
+    × (r ≡ refusal_here kinds.Pattern) × NoneBefore (m ∷ ms) j
+met_behind m ms r true is behind h =
+    let found = behind h in
+    (suc found.0, found.1, found.2, none_behind m ms found.0 is found.3)
+met_behind m ms r false is behind h = absurd h
+
+met_head : (m : Condition) (ms : List Condition) (r : Refusal) (profile : Bool)
+    → (takes_pattern m.op && in_profile m.value) ≡ profile
+    → (IsPatternRefusal (profile_patterns ms) r
+    → (j : ℕ) × (is_profile_pattern (slice_get ms j) ≡ true) × (r ≡ refusal_here kinds.Pattern)
+    × NoneBefore ms j)
+    → IsPatternRefusal ((if profile then [] ∷ [] else [])
+    ++ (if has_valid_pattern m then profile_patterns ms else [])) r
+    → (j : ℕ) × (is_profile_pattern (slice_get (m ∷ ms) j) ≡ true)
+    × (r ≡ refusal_here kinds.Pattern) × NoneBefore (m ∷ ms) j
+met_head m ms r true is behind (inl e) = (zero, is, e, none_first (m ∷ ms))
+met_head m ms r true is behind (inr h) = met_behind m ms r (has_valid_pattern m) refl behind h
+met_head m ms r false is behind h = met_behind m ms r (has_valid_pattern m) refl behind h
+
+pub met_pattern : (ms : List Condition) (r : Refusal) → IsPatternRefusal (profile_patterns ms) r
+    → (j : ℕ) × (is_profile_pattern (slice_get ms j) ≡ true) × (r ≡ refusal_here kinds.Pattern)
+    × NoneBefore ms j
+met_pattern [] r h = absurd h
+met_pattern (m ∷ ms) r h =
+    met_head m ms r (takes_pattern m.op && in_profile m.value) refl (met_pattern ms r) h
+
+patterns_tell : (ms : List Condition) (cause : Option Kind) → pattern_fault ms ≡ cause
+    → Tells (patterns_form ms) (refuse_for cause).result
+patterns_tell ms None e = no_pattern_fault ms e
+patterns_tell ms (Some kind) e =
+    let found = first_pattern ms kind e in
+    record {
+      place = found.0;
+      stands = found.1;
+      pointer = refl;
+      none_before = λ i b. found.2 i (before_turn i found.0 b);
+    }
+
+pub patterns_judge : (ms : List Condition) → Judges (patterns_form ms) (check_patterns ms)
+patterns_judge ms = record {
+  tells = patterns_tell ms (pattern_fault ms) refl;
+  meets = λ r h.
+      let found = met_pattern ms r h in
+      record {
+        place = found.0;
+        stands = (found.1, ap (λ (q : Refusal). q.kind) found.2);
+        pointer = ap (λ (q : Refusal). q.pointer) found.2;
+        none_before = λ i b. found.3 i (before_turn i found.0 b);
+      };
+}

@@ -1,0 +1,48 @@
+-- The words of clauses: what the contracts of this crate, and of those above it, cite.
+pub use Rattle.am_files.specs.Json.{json_of, field, is_one_of, is_unknown, unknown_field}
+pub use Rattle.am_files.specs.Json.{member_list}
+pub use Rattle.am_files.specs.Pointer.{pointer_escape, to_field, to_item}
+pub use Rattle.am_files.specs.Pointer.{Refusal, refusal_here, refusal_within}
+pub use Rattle.am_files.specs.Reading.{Gives, MayRefuse, IsRefusalOrMemory, IsReadingWithin}
+pub use Rattle.am_files.specs.Reading.{refusal_of, IsFaultAt, IsFaultOf, accept_some, refuse_for}
+pub use Rattle.am_files.specs.Reading.{check_count, as_object, as_text, as_items, required_field}
+unfoldable pub use Rattle.am_files.specs.Reading.{check_only_fields, required_text, required_items}
+unfoldable pub use Rattle.am_files.specs.Reading.{read_each, read_json}
+pub use Rattle.am_files.specs.Reading.{reading_within, read_items}
+pub use Rattle.am_files.specs.UniverseFile.{SaysUniverse, FileSaysUniverse, read_value}
+unfoldable pub use Rattle.am_files.specs.UniverseFile.{read_next_value, read_values}
+unfoldable pub use Rattle.am_files.specs.UniverseFile.{read_next_label, read_labels, read_universe}
+unfoldable pub use Rattle.am_files.specs.UniverseFile.{read_universe_file}
+pub use Rattle.am_files.specs.UniverseFile.{fault_of_universe, fault_of_universe_file}
+pub use Rattle.am_files.specs.UniverseFaults.{UniversePlace, universe_fault_at}
+pub use Rattle.am_files.specs.UniverseFaults.{IsFirstFaultOfUniverse, IsFirstFaultOfUniverseFile}
+pub use Rattle.am_files.specs.ConfigFile.{Configuration, RouteTree, Routes, IsConfig}
+pub use Rattle.am_files.specs.ConfigFile.{matchers_of, continues_of, receiver_of, children_of}
+pub use Rattle.am_files.specs.ConfigFile.{routes_of, route_count, routes_count, no_routes}
+pub use Rattle.am_files.specs.ConfigFile.{route_levels, routes_levels}
+pub use Rattle.am_files.specs.ConfigFile.{route_fields, route_matcher_fields}
+pub use Rattle.am_files.specs.ConfigFile.{SaysConfig, FileSaysConfig}
+pub use Rattle.am_files.specs.SmallestConfig.{smallest_config_file, smallest_config}
+pub use Rattle.am_files.specs.RouteView.{route_view, names_of}
+pub use Rattle.am_files.specs.ConfigView.{config_view, fields_view, matcher_fields_view}
+unfoldable pub use Rattle.am_files.specs.ConfigReading.{read_next_receiver, read_receiver_names}
+unfoldable pub use Rattle.am_files.specs.ConfigReading.{read_receivers, read_receiver}
+pub use Rattle.am_files.specs.ConfigReading.{parent_receiver, receiver_position}
+pub use Rattle.am_files.specs.ConfigReading.{effective_receiver, boolean_or_false}
+unfoldable pub use Rattle.am_files.specs.ConfigReading.{read_continue, read_children}
+unfoldable pub use Rattle.am_files.specs.ConfigReading.{read_matcher_text, read_next_matcher_text}
+pub use Rattle.am_files.specs.ConfigReading.{read_matcher_texts, text_refusal, append_matchers}
+unfoldable pub use Rattle.am_files.specs.ConfigReading.{read_named_text, read_matcher_pair}
+unfoldable pub use Rattle.am_files.specs.ConfigReading.{read_next_pair, read_texts, read_pairs}
+pub use Rattle.am_files.specs.ConfigReading.{label_name_fault, refuse_root_matchers}
+pub use Rattle.am_files.specs.ConfigReading.{optional_texts, optional_pairs}
+unfoldable pub use Rattle.am_files.specs.ConfigReading.{read_matchers, read_route_fields}
+unfoldable pub use Rattle.am_files.specs.ConfigReading.{read_route, read_config, read_config_file}
+pub use Rattle.am_files.specs.ConfigReading.{read_next_child, refuse_inhibit_rules}
+pub use Rattle.am_files.specs.ConfigReading.{fault_of_config, fault_of_config_file}
+pub use Rattle.am_files.specs.ConfigFaults.{receiver_name_fault, ConfigPlace, config_fault_at}
+pub use Rattle.am_files.specs.ConfigFaults.{IsFirstFaultOfConfig, IsFirstFaultOfConfigFile}
+pub use Rattle.am_files.specs.ConfigFaults.{IsMetPatternOfConfig, ConfigFileRefusedFor}
+pub use Rattle.am_files.specs.Path.{path_text, step_text, list_of, route_at, leads_through}
+pub use Rattle.am_files.specs.Path.{IsPath}
+unfoldable pub use Rattle.am_files.specs.Path.{numeral}
