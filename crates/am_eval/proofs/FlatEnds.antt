@@ -1,0 +1,186 @@
+-- An alert ends at a path exactly where it matches each route on the way, no sibling before one of
+-- them stops it, and the last has no child that it matches. And its ends are in order.
+use Rattle.std.proofs.Common.{◌≡◌, ◌↔◌, inl, inr, ℕ, zero, suc, ◌+◌, List, [], ◌∷◌, map}
+use Rattle.std.proofs.Common.{Some, Bool, true, false, cond, refl, sym, ap, subst, ◌∙◌, arith, take}
+use Rattle.std.proofs.Common.{Contains, ◌<◌}
+use Rattle.std.specs.Ordering.{nat_cmp}
+use Rattle.std.specs.Cmp.Lexicographic.{slice_cmp}
+use Rattle.std.specs.List.Sorted.{IsStrictlySortedBy}
+use Rattle.std.specs.declared.cmp.Ordering.TheVariants.{Less}
+use Rattle.std.specs.Prelude.{slice_get, IsFalse}
+use Rattle.std.specs.List.{AllByRecursion, flat_map}
+use Rattle.am_universe.specs.LabelSet.{LabelMap}
+use Rattle.am_universe.proofs.ListLemmas.{IsIn, IsIn-from_Contains, Contains-from_IsIn}
+use Rattle.am_universe.proofs.ListLemmas.{IsIn-split, IsIn-unmap, IsIn-map, IsIn-left, IsIn-right}
+use Rattle.am_universe.proofs.ListLemmas.{IsStrictlySortedBy-append, IsStrictlySortedBy-map}
+use Rattle.am_universe.proofs.ChoiceLemmas.{same_first, less_first}
+use Rattle.am_labels.specs.Matcher.{all_hold}
+use Rattle.am_files.specs.ConfigFile.{RouteTree, Routes, route, no_routes, next_route}
+use Rattle.am_files.specs.Path.{list_of}
+use Rattle.am_eval.specs.Routing.{Child, tried, ends_tried, or_itself, ends_at, children_seen}
+use Rattle.am_eval.specs.Routing.{is_last, EndsThere}
+use Rattle.am_eval.proofs.EndLaws.{where_matched, itself_or_below, handles, is_handled}
+
+-- none of the routes stops the alert
+abbrev NoneStops : LabelMap → List RouteTree → Type 0
+NoneStops s ts = AllByRecursion (λ t. IsFalse (is_last s t)) ts
+
+-- an end below a child that is tried
+abbrev IsTriedBelow : LabelMap → ℕ → Routes → List ℕ → Type 0
+IsTriedBelow s i ts path =
+    (k : ℕ) × (t : RouteTree) × (rest : List ℕ) × (slice_get (list_of ts) k ≡ Some t)
+    × (path ≡ (i + k) ∷ rest) × NoneStops s (take k (list_of ts)) × IsIn (ends_at s t) rest
+
+behind : (s : LabelMap) (i : ℕ) (t : RouteTree) (ts : Routes) (path : List ℕ) → is_last s t ≡ false
+    → IsTriedBelow s (i + 1) ts path → IsTriedBelow s i (next_route t ts) path
+behind s i t ts path goes h =
+    let at : (i + 1) + h.0 ≡ i + suc h.0 = omega arith in
+    (suc h.0, h.1, h.2, h.3, h.4 ∙ ap (λ k. k ∷ h.2) at, (goes, h.5), h.6)
+
+here : (s : LabelMap) (i : ℕ) (t : RouteTree) (ts : Routes) (path : List ℕ)
+    → IsIn (map (λ below. i ∷ below) (ends_at s t)) path → IsTriedBelow s i (next_route t ts) path
+here s i t ts path h =
+    let r = IsIn-unmap (λ below. i ∷ below) (ends_at s t) path h in
+    let at : i ≡ i + 0 = omega arith in
+    (0, t, r.0, refl, sym r.2 ∙ ap (λ k. k ∷ r.0) at, tt, r.1)
+
+-- behind a route that stops the alert none is tried
+not_stopped : (b : Bool) (cs : List Child) (path : List ℕ)
+    → IsIn (flat_map (λ c. c.ends) (cond b [] cs)) path
+    → (b ≡ false) × IsIn (flat_map (λ c. c.ends) cs) path
+not_stopped true cs path h = absurd h
+not_stopped false cs path h = (refl, h)
+
+is_tried : (s : LabelMap) (i : ℕ) (ts : Routes) (path : List ℕ)
+    → IsIn (ends_tried (children_seen s i ts)) path → IsTriedBelow s i ts path
+is_tried s i no_routes path h = absurd h
+is_tried s i (next_route t ts) path h =
+    let later = tried (children_seen s (i + 1) ts) in
+    elim (IsIn-split (map (λ below. i ∷ below) (ends_at s t))
+    (flat_map (λ c. c.ends) (cond (is_last s t) [] later)) path h) [
+      | inl a ↦ here s i t ts path a
+      | inr b ↦
+          let more = not_stopped (is_last s t) later path b in
+          behind s i t ts path more.0 (is_tried s (i + 1) ts path more.1)
+    ]
+
+-- and an end below a child is one of all, where none before it stops the alert
+is_found : (s : LabelMap) (i k : ℕ) (ts : Routes) (t : RouteTree) (rest : List ℕ)
+    → slice_get (list_of ts) k ≡ Some t → NoneStops s (take k (list_of ts))
+    → IsIn (ends_at s t) rest → IsIn (ends_tried (children_seen s i ts)) ((i + k) ∷ rest)
+is_found s i k no_routes t rest e none h = absurd (cc)
+is_found s i zero (next_route u ts) t rest e none h =
+    let same : t ≡ u = cc in
+    let at : i ≡ i + 0 = omega arith in
+    let mapped = IsIn-map (λ below. i ∷ below) (ends_at s u) rest
+    (subst (λ (x : RouteTree). IsIn (ends_at s x) rest) same h) in
+    subst (λ (n : ℕ). IsIn (ends_tried (children_seen s i (next_route u ts))) (n ∷ rest)) at
+    (IsIn-left (map (λ below. i ∷ below) (ends_at s u))
+    (flat_map (λ c. c.ends) (cond (is_last s u) [] (tried (children_seen s (i + 1) ts)))) (i ∷ rest)
+    mapped)
+is_found s i (suc k) (next_route u ts) t rest e none h =
+    let at : (i + 1) + k ≡ i + suc k = omega arith in
+    let later = tried (children_seen s (i + 1) ts) in
+    let found = is_found s (i + 1) k ts t rest e none.1 h in
+    let goes : is_last s u ≡ false = none.0 in
+    let kept : IsIn (flat_map (λ c. c.ends) (cond (is_last s u) [] later)) (((i + 1) + k) ∷ rest) =
+    rw goes found in
+    subst (λ (n : ℕ). IsIn (ends_tried (children_seen s i (next_route u ts))) (n ∷ rest)) at
+    (IsIn-right (map (λ below. i ∷ below) (ends_at s u))
+    (flat_map (λ c. c.ends) (cond (is_last s u) [] later)) (((i + 1) + k) ∷ rest) kept)
+
+among_all : (all : List (List ℕ)) (path : List ℕ) → IsIn all path → IsIn (or_itself all) path
+among_all [] path h = absurd h
+among_all (x ∷ xs) path h = h
+
+at_child : (s : LabelMap) (t : RouteTree) (children : Routes) (p k : ℕ) (path rest : List ℕ)
+    → slice_get (list_of children) k ≡ Some t → p ∷ path ≡ k ∷ rest
+    → NoneStops s (take k (list_of children)) → IsIn (ends_at s t) rest
+    → (IsIn (ends_at s t) path → EndsThere s t path)
+    → (child : RouteTree) × (slice_get (list_of children) p ≡ Some child)
+    × NoneStops s (take p (list_of children)) × EndsThere s child path
+at_child s t children p k path rest child e none h below =
+    let first : k ≡ p = cc in
+    let others : rest ≡ path = cc in (
+      t,
+      subst (λ (n : ℕ). slice_get (list_of children) n ≡ Some t) first child,
+      subst (λ (n : ℕ). NoneStops s (take n (list_of children))) first none,
+      below (subst (λ (x : List ℕ). IsIn (ends_at s t) x) others h),
+    )
+
+ends_there : (s : LabelMap) (t : RouteTree) (path : List ℕ) → IsIn (ends_at s t) path
+    → EndsThere s t path
+ends_there s t [] h = handles s t h
+ends_there s (route settings children) (p ∷ path) h =
+    let all = ends_tried (children_seen s 0 children) in
+    let m = where_matched (all_hold s settings.matchers) all (p ∷ path) h in
+    elim (itself_or_below all (p ∷ path) m.1) [
+      | inl e ↦ absurd (cc)
+      | inr a ↦
+          let b = is_tried s 0 children (p ∷ path) a in
+          let at : 0 + b.0 ≡ b.0 = omega arith in
+          let c = at_child s b.1 children p b.0 path b.2 b.3 (b.4 ∙ ap (λ k. k ∷ b.2) at) b.5 b.6
+          (ends_there s b.1 path) in
+          (m.0, c.0, c.1, c.2, c.3)
+    ]
+
+there_ends : (s : LabelMap) (t : RouteTree) (path : List ℕ) → EndsThere s t path
+    → IsIn (ends_at s t) path
+there_ends s t [] h = is_handled s t h.0 h.1
+there_ends s (route settings children) (p ∷ path) h =
+    let all = ends_tried (children_seen s 0 children) in
+    let at : 0 + p ≡ p = omega arith in
+    let found : IsIn all (p ∷ path) =
+    subst (λ (n : ℕ). IsIn all (n ∷ path)) at
+    (is_found s 0 p children h.1 path h.2 h.3 (there_ends s h.1 path h.4)) in
+    rw h.0 (among_all all (p ∷ path) found)
+
+pub ends_exactly : (s : LabelMap) (t : RouteTree) (path : List ℕ)
+    → (Contains (ends_at s t) path ↔ EndsThere s t path)
+ends_exactly s t path = (
+  λ h. ends_there s t path (IsIn-from_Contains (ends_at s t) path h),
+  λ h. Contains-from_IsIn (ends_at s t) path (there_ends s t path h),
+)
+
+-- ---- The ends are in order.
+
+-- the paths are in strict order, as in a dictionary
+abbrev Ascend : List (List ℕ) → Type 0
+Ascend paths = IsStrictlySortedBy (slice_cmp nat_cmp) paths
+
+where_tried : (b : Bool) (cs : List Child) → Ascend (flat_map (λ c. c.ends) cs)
+    → Ascend (flat_map (λ c. c.ends) (cond b [] cs))
+unfolding IsStrictlySortedBy
+where_tried true cs h = tt
+where_tried false cs h = h
+
+with_itself : (b : Bool) (all : List (List ℕ)) → Ascend all → Ascend (cond b (or_itself all) [])
+unfolding IsStrictlySortedBy
+with_itself true [] h = (tt, tt)
+with_itself true (x ∷ xs) h = h
+with_itself false all h = tt
+
+mutual
+  unfolding IsStrictlySortedBy
+
+  pub ends_ascend : (s : LabelMap) (t : RouteTree) → Ascend (ends_at s t)
+  ends_ascend s (route settings children) =
+      with_itself (all_hold s settings.matchers) (ends_tried (children_seen s 0 children))
+      (tried_ascend s 0 children)
+
+  tried_ascend : (s : LabelMap) (i : ℕ) (ts : Routes) → Ascend (ends_tried (children_seen s i ts))
+  tried_ascend s i no_routes = tt
+  tried_ascend s i (next_route t ts) =
+      let later = tried (children_seen s (i + 1) ts) in
+      let behind_it = flat_map (λ c. c.ends) (cond (is_last s t) [] later) in
+      IsStrictlySortedBy-append (slice_cmp nat_cmp) (map (λ below. i ∷ below) (ends_at s t)) behind_it
+      (IsStrictlySortedBy-map (slice_cmp nat_cmp) (slice_cmp nat_cmp) (λ below. i ∷ below)
+      (ends_at s t) (same_first i) (ends_ascend s t))
+      (where_tried (is_last s t) later (tried_ascend s (i + 1) ts))
+      (λ x y a b.
+      let first = IsIn-unmap (λ below. i ∷ below) (ends_at s t) x a in
+      let more = is_tried s (i + 1) ts y (not_stopped (is_last s t) later y b).1 in
+      let less : i < (i + 1) + more.0 = omega arith in
+      subst (λ (v : List ℕ). slice_cmp nat_cmp v y ≡ Less) first.2
+      (subst (λ (w : List ℕ). slice_cmp nat_cmp (i ∷ first.0) w ≡ Less) (sym more.4)
+      (less_first i ((i + 1) + more.0) first.0 more.2 less)))

@@ -1,0 +1,17 @@
+pub mod AnswerLaws
+pub mod ChildEnds
+pub mod EndLaws
+pub mod RoutingExamples
+pub mod QuotedTexts
+pub mod BraceTokens
+pub mod TokenTexts
+pub mod Boundaries
+pub mod Takes
+pub mod TakesSteps
+pub mod PartLemmas
+pub mod RouteNames
+pub mod TreeSeen
+pub mod QuestionSeen
+pub mod OneMeaning
+pub mod FlatEnds
+pub mod AbsentParts

@@ -1,0 +1,74 @@
+use Rattle.std.proofs.Common.{◌≡◌, ◌+◌, ◌∷◌, [], length, map, drop, arith, false, true, sym, ap}
+use Rattle.std.proofs.Common.{◌∙◌}
+use Rattle.std.proofs.lemmas.List.{length-append}
+use Rattle.am_labels.specs.Matcher.{all_hold}
+use Rattle.am_files.specs.ConfigFile.{matchers_of, continues_of}
+use Rattle.am_files.specs.RouteView.{route_view}
+use Rattle.am_files.proofs.Items.{left_is}
+use Rattle.am_eval.specs.Routing.{is_last}
+use Rattle.am_eval.proofs.ChildEnds.{child_within, is_last-true, is_last-goes_on}
+use Rattle.am_eval.proofs.ChildEnds.{is_last-unmatched, one_more, last_one}
+use Rattle.am_eval.proofs.routing.+ends.Goals as goal
+
+pub add_ends_of_children-overflow_cast-position : goal.add_ends_of_children-overflow_cast-position
+add_ends_of_children-overflow_cast-position t c =
+    let w = child_within c.args.children.now c.loop-position.position
+    c.index-children-position.result c.loop-position-test.true c.index-children-position.is in
+    omega (arith, w.counted, w.some_count, c.requires.few)
+
+pub add_ends_of_children-child-requires : goal.add_ends_of_children-child-requires
+add_ends_of_children-child-requires t c =
+    let w = child_within c.args.children.now c.loop-position.position
+    c.index-children-position.result c.loop-position-test.true c.index-children-position.is in
+    record { room = omega (arith, w.levels, w.some_levels, c.requires.room) }
+
+pub add_ends_of_children-add_ends-requires : goal.add_ends_of_children-add_ends-requires
+add_ends_of_children-add_ends-requires t c =
+    let w = child_within c.args.children.now c.loop-position.position
+    c.index-children-position.result c.loop-position-test.true c.index-children-position.is in
+    let longer = ap length c.child.ensures.steps
+    ∙ length-append c.args.path (c.loop-position.position ∷ []) in (
+      omega (arith, c.decreases, w.counted),
+      (omega (arith, longer, w.levels, c.requires.room), omega (arith, w.counted, c.requires.few)),
+    )
+
+pub add_ends_of_children-loop-position-preserved :
+    goal.add_ends_of_children-loop-position-preserved
+add_ends_of_children-loop-position-preserved t c =
+    let l = c.loop-position in
+    let child = c.index-children-position.result in
+    let matched = c.in_ok-matches.ensures.matches in
+    let last : is_last c.args.set.now (route_view child) ≡ false =
+    elim c.else-matches.branch [
+      | goal.add_ends_of_children-else-matches-via-then-matches+else-not-continues w ↦
+          is_last-goes_on c.args.set.now (route_view child) (sym matched ∙ w.if-matches.true)
+          (sym w.continues.ensures.continues ∙ w.if-not-continues.false)
+      | goal.add_ends_of_children-else-matches-via-else-matches w ↦
+          is_last-unmatched c.args.set.now (route_view child) (sym matched ∙ w.if-matches.false)
+    ] in
+    one_more c.args.set.now c.args.path c.child.result l.position (route_view child)
+    (map route_view (drop l.position c.args.children.now))
+    (map route_view (drop (l.position + 1) c.args.children.now)) l.found.items
+    c.add_ends.new.found.items _
+    (left_is route_view c.args.children.now l.position child c.loop-position-test.true
+    c.index-children-position.is) c.child.ensures.steps c.in_ok-matches.ensures.added last
+    l.invariant
+
+pub add_ends_of_children-returns-then-not-continues :
+    goal.add_ends_of_children-returns-then-not-continues
+add_ends_of_children-returns-then-not-continues t c =
+    let l = c.loop-position in
+    let child = c.index-children-position.result in
+    let matched : all_hold c.args.set.now (matchers_of (route_view child)) ≡ true =
+    sym c.in_ok-matches.ensures.matches ∙ c.if-matches.true in
+    let stops : continues_of (route_view child) ≡ false =
+    sym c.continues.ensures.continues ∙ c.if-not-continues.true in
+    record {
+      added = last_one c.args.set.now c.args.path c.child.result l.position (route_view child)
+          (map route_view (drop l.position c.args.children.now))
+          (map route_view (drop (l.position + 1) c.args.children.now)) l.found.items
+          c.add_ends.new.found.items _
+          (left_is route_view c.args.children.now l.position child c.loop-position-test.true
+          c.index-children-position.is) c.child.ensures.steps c.in_ok-matches.ensures.added
+          (is_last-true c.args.set.now (route_view child) matched stops) l.invariant;
+    }

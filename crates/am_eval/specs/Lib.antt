@@ -1,0 +1,14 @@
+pub mod Routing
+pub mod RoutingExamples
+pub mod Tree
+pub mod Question
+pub mod Tokens
+pub mod TokenReading
+pub mod Grammar
+pub mod GrammarExamples
+pub mod GrammarReading
+pub mod QuestionText
+pub mod QuestionView
+pub mod TokenView
+pub mod TreeView
+pub mod Words

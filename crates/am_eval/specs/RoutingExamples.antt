@@ -1,0 +1,38 @@
+-- A worked example of routing: a configuration of six receivers and five routes, and the label sets
+-- that it is asked about.
+use Rattle.std.specs.Prelude.{◌≡◌, ℕ, List, [], ◌∷◌, Bool, true, false, codes}
+use Rattle.am_universe.specs.LabelSet.{LabelMap, value_of}
+use Rattle.am_labels.specs.Matcher.{Condition}
+use Rattle.am_labels.specs.declared.op.Op.TheVariants.{Equal}
+use Rattle.am_files.specs.ConfigFile.{Configuration, RouteTree, route, routes_of}
+
+-- A route, by its receiver, its matchers, whether it continues, and its children.
+abbrev pub node : ℕ → List Condition → Bool → List RouteTree → RouteTree
+node receiver matchers continues children =
+    route (record { receiver = receiver; matchers = matchers; continues = continues })
+    (routes_of children)
+
+-- The matchers `team="db"` and `severity="critical"`.
+abbrev pub team_db : Condition
+team_db = record { name = codes "team"; op = Equal; value = codes "db" }
+
+abbrev pub severity_critical : Condition
+severity_critical = record { name = codes "severity"; op = Equal; value = codes "critical" }
+
+-- The configuration: below the top-level route, which has the receiver `default`, `/0` asks for the
+-- team `db` and continues, and has a child that asks for the severity `critical`; `/1` asks for
+-- that too; and `/2` asks for both. Each has a receiver of its own.
+abbrev pub worked : Configuration
+worked = record {
+  receivers = codes "default" ∷ codes "dba" ∷ codes "pager" ∷ codes "ops" ∷ codes "late"
+      ∷ codes "idle" ∷ [];
+  root = node 0 [] false
+      (node 1 (team_db ∷ []) true (node 2 (severity_critical ∷ []) false [] ∷ [])
+      ∷ node 3 (severity_critical ∷ []) false []
+      ∷ node 4 (team_db ∷ severity_critical ∷ []) false [] ∷ []);
+}
+
+-- A label set has these values of `team` and `severity`, where the empty text is a missing label.
+abbrev pub Has : LabelMap → List ℕ → List ℕ → Type 0
+Has s team severity =
+    (value_of s (codes "team") ≡ team) × (value_of s (codes "severity") ≡ severity)

@@ -1,0 +1,138 @@
+//! What holds of the definitions by themselves: each fact is the contract of a function with an
+//! empty body.
+ghost use Rattle.std.specs.Prelude.{◌≡◌, ◌≢◌, ◌↔◌, ◌++◌, ◌∷◌, ℕ, List, [], length, Contains};
+ghost use Rattle.std.specs.Prelude.{IsTrue, IsFalse, None, ◌≤◌, codes};
+ghost use Rattle.std.specs.Ordering.{nat_cmp};
+ghost use Rattle.std.specs.Cmp.Lexicographic.{slice_cmp};
+ghost use Rattle.std.specs.List.{AllByRecursion};
+ghost use Rattle.std.specs.List.Sorted.{IsStrictlySortedBy};
+ghost use Rattle.am_labels.specs.Words.{Label, sizes, IsWhole, LabelMap, label_set_of, all_hold};
+ghost use Rattle.am_files.specs.Words.{RouteTree, Configuration, IsConfig, matchers_of, route_at};
+ghost use Rattle.am_files.specs.Words.{children_of, list_of};
+ghost use Rattle.am_eval.specs.declared.limits.TheConstants.{MAX_TOKENS};
+ghost use Rattle.am_eval.specs.Tree.{Not, And, Or};
+ghost use Rattle.am_eval.specs.Question.{Any, Receiver, Ends, Enters};
+ghost use Rattle.am_eval.specs.Words.{ends, receivers, ends_at, MatchesAt, EndsThere, worked, Has};
+ghost use Rattle.am_eval.specs.Words.{Question, holds_of, satisfies, answers, Token, SpellsTokens};
+ghost use Rattle.am_eval.specs.Words.{Tree, Written, IsQuestion, ReadsQuestion};
+ghost use Rattle.am_eval.specs.Words.{any_word, not_word, and_word, or_word, any_tree};
+
+/// An alert ends somewhere, since the top-level route matches every label set. Each end is the
+/// path of a route that matches, and so has a receiver.
+pub fn every_label_set_ends()
+    ensures somewhere { (c : Configuration) (s : LabelMap) → IsConfig c → ends s c ≢ [] }
+    ensures at_routes { (c : Configuration) (s : LabelMap) (path : List ℕ)
+        → Contains (ends s c) path → MatchesAt s c path }
+    ensures one_receiver_an_end { (c : Configuration) (s : LabelMap)
+        → length (receivers s c) ≡ length (ends s c) }
+{}
+
+/// A route handles an alert itself exactly where the alert matches it and none of its children.
+pub fn a_route_handles_what_no_child_matches()
+    ensures exactly { (s : LabelMap) (t : RouteTree)
+        → (Contains (ends_at s t) []
+        ↔ (IsTrue (all_hold s (matchers_of t))
+        × AllByRecursion (λ child. IsFalse (all_hold s (matchers_of child)))
+        (list_of (children_of t)))) }
+{}
+
+/// An alert ends at a path exactly where it matches each route on the way, no sibling before one of
+/// them matches it and lacks `continue`, and it matches no child of the last. Its ends are in the
+/// order of the routes, each once.
+pub fn an_alert_ends_where_nothing_stops_it()
+    ensures exactly { (s : LabelMap) (t : RouteTree) (path : List ℕ)
+        → (Contains (ends_at s t) path ↔ EndsThere s t path) }
+    ensures ascending { (s : LabelMap) (t : RouteTree)
+        → IsStrictlySortedBy (slice_cmp nat_cmp) (ends_at s t) }
+{}
+
+/// An example: where a label set with neither label ends, one of the team `db` alone, one of the
+/// severity `critical` alone, and one with both, behind whose first end a sibling is tried.
+pub fn an_example_of_routing()
+    ensures none { (s : LabelMap) → Has s [] []
+        → (ends s worked ≡ [] ∷ []) × (receivers s worked ≡ 0 ∷ []) }
+    ensures db { (s : LabelMap) → Has s (codes "db") []
+        → (ends s worked ≡ (0 ∷ []) ∷ []) × (receivers s worked ≡ 1 ∷ []) }
+    ensures critical { (s : LabelMap) → Has s [] (codes "critical")
+        → (ends s worked ≡ (1 ∷ []) ∷ []) × (receivers s worked ≡ 3 ∷ []) }
+    ensures both { (s : LabelMap) → Has s (codes "db") (codes "critical")
+        → (ends s worked ≡ (0 ∷ 0 ∷ []) ∷ (1 ∷ []) ∷ []) × (receivers s worked ≡ 2 ∷ 3 ∷ []) }
+{}
+
+/// A receiver or a route that the configuration does not have makes its part of a question false.
+pub fn what_is_not_there_is_false()
+    ensures receiver { (c : Configuration) (s : LabelMap) (receiver : ℕ) → IsConfig c
+        → length c.receivers ≤ receiver → IsFalse (holds_of c (Receiver receiver) s) }
+    ensures ends { (c : Configuration) (s : LabelMap) (path : List ℕ)
+        → route_at c.root path ≡ None → IsFalse (holds_of c (Ends path) s) }
+    ensures enters { (c : Configuration) (s : LabelMap) (path : List ℕ)
+        → route_at c.root path ≡ None → IsFalse (holds_of c (Enters path) s) }
+{}
+
+/// `enters` is true of a path exactly where a route is an end that the path leads to or through.
+pub fn ends_are_entered()
+    ensures itself { (c : Configuration) (s : LabelMap) (path : List ℕ)
+        → IsTrue (holds_of c (Ends path) s) → IsTrue (holds_of c (Enters path) s) }
+    ensures exactly { (c : Configuration) (s : LabelMap) (path : List ℕ)
+        → (IsTrue (holds_of c (Enters path) s)
+        ↔ ((below : List ℕ) × IsTrue (holds_of c (Ends (path ++ below)) s))) }
+{}
+
+/// `any` is true of the same label sets as all `ends` together.
+pub fn any_is_every_end()
+    ensures same { (c : Configuration) (s : LabelMap) → IsConfig c
+        → (IsTrue (holds_of c Any s)
+        ↔ ((path : List ℕ) × IsTrue (holds_of c (Ends path) s))) }
+{}
+
+/// A choice is among the answers exactly where it is whole and its label set satisfies the
+/// question.
+pub fn answers_are_the_whole_choices_that_satisfy()
+    ensures exactly { (u : List Label) (c : Configuration) (question : Question) (choice : List ℕ)
+        → (Contains (answers u c question) choice
+        ↔ (IsWhole (sizes u) choice
+        × IsTrue (satisfies c question (label_set_of u choice)))) }
+{}
+
+/// Each answer comes before those after it in declared order, so none stands twice.
+pub fn answers_ascend()
+    ensures ascending { (u : List Label) (c : Configuration) (question : Question)
+        → IsStrictlySortedBy (slice_cmp nat_cmp) (answers u c question) }
+{}
+
+/// A text has at most one list of tokens.
+pub fn one_list_of_tokens_a_text()
+    ensures one { (text : List ℕ) (ts us : List Token) → SpellsTokens text ts
+        → SpellsTokens text us → ts ≡ us }
+{}
+
+/// A list of tokens is at most one tree.
+pub fn one_tree_a_list_of_tokens()
+    ensures one { (tokens : List Token) (tree other : Tree Written) → IsQuestion tokens tree
+        → IsQuestion tokens other → tree ≡ other }
+{}
+
+/// Four questions made of `any`: `or` and `and` join to the left, `and` binds more tightly than
+/// `or`, and `not` than `and`.
+pub fn joins_to_the_left()
+    ensures or { IsQuestion (any_word ∷ or_word ∷ any_word ∷ or_word ∷ any_word ∷ [])
+        (Or (Or any_tree any_tree) any_tree) }
+    ensures and { IsQuestion (any_word ∷ and_word ∷ any_word ∷ and_word ∷ any_word ∷ [])
+        (And (And any_tree any_tree) any_tree) }
+    ensures and_in_or { IsQuestion
+        (any_word ∷ and_word ∷ any_word ∷ or_word ∷ any_word ∷ and_word ∷ any_word ∷ [])
+        (Or (And any_tree any_tree) (And any_tree any_tree)) }
+    ensures not_in_and { IsQuestion (not_word ∷ any_word ∷ and_word ∷ any_word ∷ [])
+        (And (Not any_tree) any_tree) }
+{}
+
+/// A text is read as at most one question about a configuration.
+pub fn one_question_a_text()
+    ensures one { (c : Configuration) (text : List ℕ) (p q : Question)
+        → ReadsQuestion c text p → ReadsQuestion c text q → p ≡ q }
+{}
+
+/// The limit of questions.
+pub fn questions_have_a_limit()
+    ensures tokens { MAX_TOKENS ≡ 256 }
+{}
