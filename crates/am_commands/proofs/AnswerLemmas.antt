@@ -1,17 +1,17 @@
 -- The answers that begin with a prefix, found position by position.
 use Rattle.std.proofs.Common.{◌≡◌, ℕ, ◌+◌, ◌<◌, ◌≤◌, Bool, true, List, [], ◌∷◌, ◌++◌, length, slice_index, slice_get, Some, nat_lt, ap, sym, ◌∙◌, subst, append_assoc, refl, arith}
-use Rattle.std.specs.List.{flat_map, filter, AllByRecursion}
+use Rattle.std.specs.List.{range_with_len, flat_map, filter, AllByRecursion}
 use Rattle.std.proofs.lemmas.Bool.{and_parts}
 use Rattle.std.proofs.lemmas.List.{length-map}
 use Rattle.std.proofs.lemmas.List.Elements.{filter-append}
 use Rattle.std.proofs.lemmas.Option.{slice_get_within, get_or_from_slice_get}
 use Rattle.am_universe.specs.Universe.{Label, sizes}
-use Rattle.am_universe.specs.Choice.{counted_from, choices, admits, IsWhole}
-use Rattle.am_universe.proofs.Members.{IsIn, Contains-from_IsIn, AllByRecursion-each}
-use Rattle.am_universe.proofs.Choices.{choices_whole}
+use Rattle.am_universe.specs.Choice.{choices, admits, IsWhole}
+use Rattle.am_universe.proofs.ListLemmas.{IsIn, Contains-from_IsIn, AllByRecursion-each}
+use Rattle.am_universe.proofs.ChoiceLemmas.{choices_whole}
 use Rattle.am_universe.specs.Completions.{completions}
-use Rattle.am_universe.proofs.Completions.{below, completions_are_below, completions_of_whole, below_by_next, flat_map_counted, admits_next}
-use Rattle.am_commands.proofs.QuestionLemmas.{passes_from_kept}
+use Rattle.am_universe.proofs.CompletionLemmas.{below, completions_are_below, completions_of_whole, below_by_next, flat_map_range, admits_next}
+use Rattle.am_eval.proofs.AnswerLaws.{passes_from_kept}
 
 pub length-sizes : (u : List Label) → length (sizes u) ≡ length u
 length-sizes u = length-map u (λ l. length l.values)
@@ -46,7 +46,7 @@ longer_admitted sizes prefix n p size a e at h =
 
 -- what stands below a prefix and goes on with one of the first positions
 abbrev pub below_first : List ℕ → List ℕ → ℕ → List (List ℕ)
-below_first sizes prefix count = flat_map (λ p. below sizes (prefix ++ p ∷ [])) (counted_from 0 count)
+below_first sizes prefix count = flat_map (λ p. below sizes (prefix ++ p ∷ [])) (range_with_len 0 count)
 
 -- one position more
 pub found_more : (sizes prefix longer : List ℕ) (test : List ℕ → Bool) (before now new : List (List ℕ)) (p : ℕ)
@@ -57,7 +57,7 @@ found_more sizes prefix longer test before now new p a so_far is added =
     let f = λ (q : ℕ). below sizes (prefix ++ q ∷ []) in
     added ∙ ap (λ xs. now ++ filter test xs) (ap (completions sizes) is ∙ completions_are_below sizes (prefix ++ p ∷ []) a) ∙ ap (λ xs. xs ++ filter test here) so_far
     ∙ append_assoc before (filter test (below_first sizes prefix p)) (filter test here)
-    ∙ ap (λ xs. before ++ xs) (sym (filter-append test (below_first sizes prefix p) here) ∙ ap (filter test) (sym (flat_map_counted f p)))
+    ∙ ap (λ xs. before ++ xs) (sym (filter-append test (below_first sizes prefix p) here) ∙ ap (filter test) (sym (flat_map_range f p)))
 
 -- every position
 pub found_all : (sizes prefix : List ℕ) (test : List ℕ → Bool) (before now : List (List ℕ)) (n p size : ℕ)

@@ -3,7 +3,7 @@ use Rattle.std.specs.Prelude.{ℕ, List}
 use Rattle.am_universe.specs.Universe.{Label}
 use Rattle.am_files.specs.ConfigFile.{Configuration}
 use Rattle.am_commands.specs.declared.trailer.Trailer.{Trailer}
-use Rattle.am_commands.specs.Question.{Question, answers}
+use Rattle.am_eval.specs.Question.{Question, answers}
 use Rattle.am_commands.specs.PageText.{page_text}
 use Rattle.am_commands.specs.Inputs.{Inputs, AcceptsInputs}
 
@@ -15,4 +15,4 @@ pub record AnswersInputs (inputs : Inputs) (trailer : Trailer) (IsWritten : List
   pub configuration : Configuration
   pub question : Question
   pub accepts : AcceptsInputs inputs universe configuration question
-  pub page : IsWritten (page_text universe (answers universe question) trailer)
+  pub page : IsWritten (page_text universe (answers universe configuration question) trailer)

@@ -8,8 +8,8 @@ use Rattle.am_files.specs.UniverseFile.{FileSaysUniverse}
 use Rattle.am_files.specs.UniverseFaults.{IsFirstFaultOfUniverseFile}
 use Rattle.am_files.specs.ConfigFile.{Configuration, FileSaysConfig}
 use Rattle.am_files.specs.ConfigFaults.{ConfigFileRefusedFor}
-use Rattle.am_commands.specs.Question.{Question}
-use Rattle.am_commands.specs.QuestionText.{ReadsQuestion, RefusesQuestionText}
+use Rattle.am_eval.specs.Question.{Question}
+use Rattle.am_eval.specs.QuestionText.{ReadsQuestion, QuestionRefusedFor}
 
 -- A stage of a call, which reads one of its inputs: the place of its faults, that the input is
 -- accepted, and what it may be refused for.
@@ -18,28 +18,37 @@ pub record Stage : Type 1 where
   pub accepts : Type 0
   pub refuses : Refusal → Type 0
 
--- The first fault of a call whose stages come in this order, want of memory apart: one stage
+-- The first fault of a call whose stages come in this order, unless memory runs out: one stage
 -- refuses its input for it, and every earlier stage accepts its own.
-abbrev pub IsFirstFault : List Stage → Place → Refusal → Type 0
-IsFirstFault [] place r = ⊥
-IsFirstFault (stage ∷ later) place r =
-    ((place ≡ stage.place) × stage.refuses r) ⊎ (stage.accepts × IsFirstFault later place r)
+abbrev pub IsFirstFaultOfCall : List Stage → Place → Refusal → Type 0
+IsFirstFaultOfCall [] place r = ⊥
+IsFirstFaultOfCall (stage ∷ later) place r =
+    ((place ≡ stage.place) × stage.refuses r) ⊎ (stage.accepts × IsFirstFaultOfCall later place r)
 
 -- ---- The stages that there are.
 
--- the bytes of a file say a universe
+-- The bytes of a file say a universe.
 abbrev pub SaysSomeUniverse : List ℕ → Type 0
 SaysSomeUniverse bytes = (universe : List Label) × FileSaysUniverse bytes universe
 
--- the bytes of a file say a configuration
+-- The bytes of a file say a configuration.
 abbrev pub SaysSomeConfig : List ℕ → Type 0
 SaysSomeConfig bytes = (configuration : Configuration) × FileSaysConfig bytes configuration
 
--- the text is read as a question
-abbrev pub ReadsSomeQuestion : List ℕ → Type 0
-ReadsSomeQuestion text = (question : Question) × ReadsQuestion text question
+-- The text is a question about the configuration that the bytes of a file say
+abbrev pub ReadsSomeQuestion : List ℕ → List ℕ → Type 0
+ReadsSomeQuestion bytes text =
+    (configuration : Configuration) × FileSaysConfig bytes configuration
+    × (question : Question) × ReadsQuestion configuration text question
 
--- the universe file
+-- Why the text is refused, as a question about the configuration that the bytes of a file say; its
+-- faults stand at no part of a file
+abbrev pub QuestionStageRefusedFor : List ℕ → List ℕ → Refusal → Type 0
+QuestionStageRefusedFor bytes text r =
+    (configuration : Configuration) × FileSaysConfig bytes configuration
+    × QuestionRefusedFor configuration text r.kind × (r.pointer ≡ [])
+
+-- The universe file.
 abbrev pub universe_stage : List ℕ → Stage
 universe_stage bytes = record {
   place = places.Universe;
@@ -47,7 +56,7 @@ universe_stage bytes = record {
   refuses = IsFirstFaultOfUniverseFile bytes;
 }
 
--- the configuration file
+-- The configuration file.
 abbrev pub config_stage : List ℕ → Stage
 config_stage bytes = record {
   place = places.Config;
@@ -55,10 +64,10 @@ config_stage bytes = record {
   refuses = ConfigFileRefusedFor bytes;
 }
 
--- the text of the question, whose faults stand at no part of a file
-abbrev pub question_stage : List ℕ → Stage
-question_stage text = record {
+-- The text of the question about the configuration of a file
+abbrev pub question_stage : List ℕ → List ℕ → Stage
+question_stage bytes text = record {
   place = places.Question;
-  accepts = ReadsSomeQuestion text;
-  refuses = λ r. RefusesQuestionText text r.kind × (r.pointer ≡ []);
+  accepts = ReadsSomeQuestion bytes text;
+  refuses = QuestionStageRefusedFor bytes text;
 }

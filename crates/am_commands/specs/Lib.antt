@@ -1,7 +1,6 @@
+pub mod Words
 pub mod Trailer
 pub mod PageText
-pub mod Question
-pub mod QuestionText
 pub mod FaultText
 pub mod Files
 pub mod Faults

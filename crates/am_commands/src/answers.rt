@@ -1,26 +1,36 @@
 ghost use Rattle.std.specs.Prelude.{◌≡◌, [], ◌∷◌, ◌++◌, IfOk, OnOk, IsTrue};
-ghost use Rattle.am_universe.specs.Universe.{sizes};
-ghost use Rattle.am_universe.specs.Choice.{IsWhole, admits};
-ghost use Rattle.am_commands.specs.Question.{answers, is_answer};
+ghost use Rattle.am_labels.specs.Words.{sizes, IsWhole, admits, completions};
+ghost use Rattle.am_files.specs.Words.{config_view};
+ghost use Rattle.am_eval.specs.Words.{answers, is_answer, question_view};
 ghost use Rattle.std.specs.List.{AllByRecursion, filter};
-ghost use Rattle.am_universe.specs.Completions.{completions};
 
-use am_labels::{Choice, Matchers, Position, Universe, set_of};
+use am_eval::{Question, truth};
+use am_files::Config;
+use am_labels::{Choice, Position, Universe, set_of};
 use std::alloc::{AllocError, Global};
 
-/// The whole choices, in declared order, whose label sets satisfy the question. An `Err` only where
-/// memory was refused.
+/// The whole choices, in declared order, whose label sets satisfy the question. Each whole choice
+/// of the universe is tried. An `Err` only where memory ran out.
 pub fn answers_of(
     alloc: Global,
     universe: &Universe,
-    question: &Matchers,
+    config: &Config,
+    question: &Question,
 ) -> Result<Vec<Choice>, AllocError>
-    ensures answers { IfOk result (λ found. found.items ≡ answers universe.now question.now) }
+    ensures answers { IfOk result (λ found. found.items
+        ≡ answers universe.now (config_view config.now) (question_view question.now)) }
     ensures whole { IfOk result (λ found.
         AllByRecursion (IsWhole (sizes universe.now)) found.items) }
 {
     let mut found = Vec::new(alloc);
-    add_answers(alloc, universe, question, Choice::empty(), &mut found)?;
+    add_answers(
+        alloc,
+        universe,
+        config,
+        question,
+        Choice::empty(),
+        &mut found,
+    )?;
     Ok(found)
 }
 
@@ -29,21 +39,23 @@ pub fn answers_of(
 fn add_answers(
     alloc: Global,
     universe: &Universe,
-    question: &Matchers,
+    config: &Config,
+    question: &Question,
     prefix: Choice,
     found: &mut Vec<Choice>,
 ) -> Result<(), AllocError>
     requires { IsTrue (admits (sizes universe.now) prefix) }
     ensures { OnOk result (found.new.items ≡ found.old.items
-        ++ filter (is_answer universe.now question.now) (completions (sizes universe.now) prefix)) }
+        ++ filter (is_answer universe.now (config_view config.now) (question_view question.now))
+        (completions (sizes universe.now) prefix)) }
 {
     if prefix.len() == universe.len() {
-        return add_answer(alloc, universe, question, prefix, found);
+        return add_answer(alloc, universe, config, question, prefix, found);
     }
     for position in 0..universe.size(prefix.len()) {
         let mut longer = prefix;
         longer.push(position as Position);
-        add_answers(alloc, universe, question, longer, found)?;
+        add_answers(alloc, universe, config, question, longer, found)?;
     }
     Ok(())
 }
@@ -52,16 +64,18 @@ fn add_answers(
 fn add_answer(
     alloc: Global,
     universe: &Universe,
-    question: &Matchers,
+    config: &Config,
+    question: &Question,
     choice: Choice,
     found: &mut Vec<Choice>,
 ) -> Result<(), AllocError>
     requires { IsWhole (sizes universe.now) choice }
     ensures { OnOk result (found.new.items ≡ found.old.items
-        ++ filter (is_answer universe.now question.now) (choice ∷ [])) }
+        ++ filter (is_answer universe.now (config_view config.now) (question_view question.now))
+        (choice ∷ [])) }
 {
     let set = set_of(alloc, universe, &choice)?;
-    if question.matches(alloc, &set)? {
+    if truth(alloc, config, question, &set)? {
         found.push(choice)?;
     }
     Ok(())

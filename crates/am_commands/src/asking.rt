@@ -1,11 +1,9 @@
 ghost use Rattle.std.specs.Prelude.{◌≡◌, ◌≢◌, [], IfOk, IfErr, string_bytes};
 ghost use Rattle.am_universe.specs.declared.kind.Kind.TheVariants as kinds;
 ghost use Rattle.am_universe.specs.declared.place.Place.TheVariants as places;
-ghost use Rattle.am_universe.specs.Sink.{Wrote, WroteInPart};
-ghost use Rattle.am_files.specs.Reading.{refusal_of};
-ghost use Rattle.am_commands.specs.Inputs.{inputs_of, ask_stages};
-ghost use Rattle.am_commands.specs.AskOutcome.{AnswersInputs};
-ghost use Rattle.am_commands.specs.Faults.{IsFirstFault};
+ghost use Rattle.am_labels.specs.Words.{Wrote, WroteInPart};
+ghost use Rattle.am_files.specs.Words.{refusal_of};
+ghost use Rattle.am_commands.specs.Words.{inputs_of, ask_stages, AnswersInputs, IsFirstFaultOfCall};
 
 use crate::answers::answers_of;
 use crate::files::Files;
@@ -19,15 +17,17 @@ use std::alloc::Global;
 /// order, a line for each, and then the trailer.
 ///
 /// `universe` is a universe file, `files` has the configuration file, if there is one, and
-/// `question` is a matcher list in braces. The configuration is read and checked, though no
-/// question speaks of it yet. All input is read and all answers are found before the first byte is
-/// written.
+/// `question` is a question about that configuration. All input is read and all answers are found
+/// before the first byte is written.
 ///
 /// The first fault is the one answered: a fault of the universe file, at `Universe`, as
 /// `read_universe` has it; of the configuration file, at `Config`, as `read_config` has it; of the
-/// question, as `read_question` has it, at `Question` and with no pointer; `Memory`, at `Memory`,
-/// only where memory was refused; `Write`, at `Output`. After any but the last the sink is as it
+/// question, as `parse_question` has it, at `Question` and with no pointer; `Write`, at `Output`.
+/// `Memory`, at `Memory`, comes wherever memory ran out. After any but `Write` the sink is as it
 /// was.
+///
+/// Each label set of the universe is tried by itself, so time grows with the product of the numbers
+/// of values, and memory with the number of answers.
 pub fn ask<W: Sink>(
     alloc: Global,
     universe: &[u8],
@@ -43,7 +43,7 @@ pub fn ask<W: Sink>(
     // No other fault of the inputs comes before the one that is answered, and the pointer is that
     // of the part at fault.
     ensures first { IfErr result (λ fault. fault.kind ≢ kinds.Write → fault.kind ≢ kinds.Memory
-        → IsFirstFault (ask_stages (inputs_of universe.now files.now question.now))
+        → IsFirstFaultOfCall (ask_stages (inputs_of universe.now files.now question.now))
         fault.place (refusal_of fault)) }
     ensures memory { IfErr result (λ fault. fault.kind ≡ kinds.Memory
         → (fault.place ≡ places.Memory) × (string_bytes fault.pointer ≡ [])) }
@@ -55,9 +55,14 @@ pub fn ask<W: Sink>(
     // Nothing is written after a refusal.
     ensures untouched { IfErr result (λ fault. fault.kind ≢ kinds.Write → out.new ≡ out.old) }
 {
-    // No question speaks of the configuration yet, but a file that is handed in has to be one.
     let accepted = read_inputs(alloc, universe, files, question)?;
-    let answers = match answers_of(alloc, &accepted.universe, &accepted.question) {
+    let found = answers_of(
+        alloc,
+        &accepted.universe,
+        &accepted.config,
+        &accepted.question,
+    );
+    let answers = match found {
         Ok(answers) => answers,
         Err(_) => return Err(Fault::of(alloc, Kind::Memory, Place::Memory)),
     };

@@ -19,7 +19,7 @@ Example:
 
   amcover ask --universe u.json '{team=\"db\"}'
 
-`amcover ask --help` says what it reads and writes.";
+`amcover ask --help` says what it reads and writes, and what a question may be.";
 
 const ASK_ABOUT: &str = "Write every label set of a universe that satisfies a question";
 
@@ -32,26 +32,59 @@ stands for a label that is missing:
     {\"name\": \"severity\", \"values\": [\"critical\", \"warning\"]}
   ]}
 
-The question is a list of matchers in braces, in the classic syntax of Alertmanager,
-with =, !=, =~ and !~. A pattern has to match the whole value. A missing label counts
-as the empty value.
-
-With --config the configuration is read and checked too, though no question speaks of
-it yet. It is JSON; an alertmanager.yml becomes JSON by
+Each label set of it is taken for the labels of an alert, which the configuration of
+--config routes. The configuration is JSON; an alertmanager.yml becomes JSON by
 
   yq -o=json . alertmanager.yml > alertmanager.json
 
-A fault in a file names the file and, by a JSON Pointer, the part at fault.
+Without --config there is one route, /, and its receiver is called none. A fault in a
+file names the file and, by a JSON Pointer, the part at fault.
 
-Example:
+A question is one of these:
+
+  receiver NAME    the alert goes to this receiver
+                     receiver db-pager
+  ends PATH        this route handles the alert, and none below it does
+                     ends /2
+  enters PATH      this route or one below it handles the alert
+                     enters /2
+  any              every alert
+                     any
+  {MATCHERS}       the labels of the alert match all of these matchers
+                     {team=\"db\",severity=~\"crit.*\"}
+  not Q            the question Q is false
+                     not enters /2
+  Q and Q          both questions are true
+                     enters /2 and not ends /2/0
+  Q or Q           one of the questions is true, or both are
+                     receiver db-pager or receiver web-pager
+  (Q)              the question Q, as one part of another
+                     not (ends /2 or ends /3)
+
+`not` binds closest, then `and`, then `or`. In a shell, put the question between
+single quotes.
+
+A PATH is the place of a route: / is the top-level route, /2 its third child, /2/0 the
+first child of that. A NAME may stand in quotes, and has to where it has whitespace, a
+quote, a parenthesis or a { in it: receiver \"on call\".
+
+The matchers are in the classic syntax of Alertmanager, with =, !=, =~ and !~. A pattern
+has to match the whole value. A missing label counts as the empty value.
+
+Examples:
 
   amcover ask --universe u.json '{team=\"db\"}'
 
-writes one line for each label set that matches, in declared order, and then `# end`:
+writes one line for each label set of which the question is true, in declared order,
+and then `# end`:
 
   {team=\"db\",severity=\"critical\"}
   {team=\"db\",severity=\"warning\"}
   # end
+
+  amcover ask --universe u.json --config alertmanager.json 'receiver db-pager'
+
+writes the label sets of the alerts that go to the receiver db-pager.
 
 Exit status: 0 done, 1 refused input, 2 usage, 3 out of memory, 4 the output failed.";
 
@@ -103,7 +136,7 @@ fn ask_command<'a>(alloc: Global) -> Result<Command<'a>, AllocError> {
     let question = Arg::new(alloc, "question")
         .value_name("QUESTION")
         .required(true)
-        .help("The question, as {team=\"db\"}");
+        .help("The question, as receiver db-pager or {team=\"db\"}");
     Command::new(alloc, "ask")
         .about(ASK_ABOUT)
         .after_help(ASK_HELP)

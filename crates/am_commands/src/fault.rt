@@ -5,8 +5,8 @@ ghost use Rattle.am_universe.specs.declared.place.Place.TheVariants as places;
 use am_labels::{Fault, Kind, Place};
 use std::alloc::Global;
 
-/// A fault at a place of the input as a whole. Want of memory is none of the input's: it stands at
-/// `Memory`.
+/// A fault of the input at this place as a whole. That memory ran out is no fault of the input: it
+/// stands at `Memory`.
 pub fn fault_at(alloc: Global, kind: Kind, place: Place) -> Fault
     ensures kind { result.kind ≡ kind }
     ensures memory { kind ≡ kinds.Memory → result.place ≡ places.Memory }

@@ -1,7 +1,7 @@
 ghost use Rattle.std.specs.Prelude.{◌≡◌, IfOk};
-ghost use Rattle.am_universe.specs.Sink.{Writes};
-ghost use Rattle.am_commands.specs.FaultText.{fault_text, has_no_place, place_part};
-ghost use Rattle.am_commands.specs.FaultText.{pointer_byte_text, pointer_part, status_of};
+ghost use Rattle.am_labels.specs.Words.{Writes};
+ghost use Rattle.am_commands.specs.Words.{fault_text, has_no_place, place_part, pointer_byte_text};
+ghost use Rattle.am_commands.specs.Words.{pointer_part, status_of};
 
 use am_labels::{Fault, History, Kind, Out, Sink, put_all, put_str};
 use std::alloc::{AllocError, Global};
@@ -11,7 +11,7 @@ use std::io::Write;
 ///
 /// The only `Err` is `Kind::Write`. No memory is taken.
 pub fn write_fault<W: Sink>(fault: &Fault, out: &mut W) -> Result<(), Kind>
-    ensures writes { Writes W.taken W.failures out.old out.new (fault_text fault.now) result }
+    ensures written { Writes W.taken W.failures out.old out.new (fault_text fault.now) result }
 {
     put_all(out, b"amcover: ")?;
     write_place_part(fault, out)?;
@@ -63,8 +63,8 @@ fn write_pointer_byte<W: Sink>(byte: u8, out: &mut W) -> Result<(), Kind>
     }
 }
 
-/// The exit status of the program after a fault: 4 where writing failed, 3 where memory was
-/// refused, 1 where input was refused.
+/// The exit status of the program after a fault: 4 where writing failed, 3 where memory ran out, 1
+/// where input was refused.
 pub fn status(fault: &Fault) -> u8
     ensures status { result ≡ status_of fault.now.kind }
 {
@@ -78,7 +78,7 @@ pub fn status(fault: &Fault) -> u8
 /// Writes the line for a fault on `err`, in one write where there is memory for the line and `err`
 /// takes it whole. The answer is the exit status.
 pub fn report<E: Write>(alloc: Global, fault: &Fault, err: &mut E) -> u8
-    ensures { result ≡ status_of fault.now.kind }
+    ensures status { result ≡ status_of fault.now.kind }
 {
     let mut err = Out::new(err);
     // Nothing can be said of a failure to say what failed.
@@ -89,7 +89,7 @@ pub fn report<E: Write>(alloc: Global, fault: &Fault, err: &mut E) -> u8
     status(fault)
 }
 
-/// The line for a fault, in memory. An `Err` only where memory was refused.
+/// The line for a fault, in memory. An `Err` only where memory ran out.
 fn fault_line(alloc: Global, fault: &Fault) -> Result<Vec<u8>, AllocError>
     ensures { IfOk result (λ line. line.items ≡ fault_text fault.now) }
 {
@@ -103,7 +103,7 @@ fn fault_line(alloc: Global, fault: &Fault) -> Result<Vec<u8>, AllocError>
     }
 }
 
-/// A sink in memory. A take fails only where memory was refused.
+/// A sink in memory. A take fails only where memory ran out.
 ///
 /// What an `Out` says of its writer speaks of the writer at its start, which a call over any sink
 /// does not say it keeps; here the bytes taken are those in memory.
@@ -124,7 +124,7 @@ impl Sink for Line {
         match self.bytes.extend_from_slice(bytes) {
             Ok(()) => Ok(bytes.len()),
             Err(_) => {
-                self.refusals = self.refusals.and(&[Kind::Write]);
+                self.refusals = self.refusals.followed_by(&[Kind::Write]);
                 Err(Kind::Write)
             }
         }

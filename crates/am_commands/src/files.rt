@@ -1,5 +1,5 @@
 ghost use Rattle.std.specs.Prelude.{◌≡◌, option_copied};
-ghost use Rattle.am_commands.specs.Files.{config_of};
+ghost use Rattle.am_commands.specs.Words.{config_of};
 
 /// The input files beside the universe, each as its bytes, as far as they are handed in.
 #[derive(Clone, Copy)]

@@ -9,7 +9,6 @@
 // What goes in.
 mod files;
 mod inputs;
-mod question;
 // What is answered, and how it is written.
 mod answers;
 mod page;
@@ -29,6 +28,3 @@ pub use fault_text::{status, write_fault};
 pub use files::Files;
 pub use program::{refuse_arguments, run};
 pub use trailer::Trailer;
-
-// What holds of the definitions by themselves.
-pub mod laws;

@@ -1,9 +1,6 @@
 ghost use Rattle.std.specs.List.{AllByRecursion};
-ghost use Rattle.am_universe.specs.Universe.{sizes};
-ghost use Rattle.am_universe.specs.Choice.{IsWhole};
-ghost use Rattle.am_universe.specs.SetText.{line};
-ghost use Rattle.am_universe.specs.Sink.{Writes};
-ghost use Rattle.am_commands.specs.PageText.{page_text};
+ghost use Rattle.am_labels.specs.Words.{sizes, IsWhole, line, Writes};
+ghost use Rattle.am_commands.specs.Words.{page_text};
 
 use crate::trailer::{Trailer, write_trailer};
 use am_labels::{Choice, Kind, Sink, Universe, put_all, write_set};
@@ -16,8 +13,8 @@ pub fn write_page<W: Sink>(
     trailer: Trailer,
     out: &mut W,
 ) -> Result<(), Kind>
-    requires { AllByRecursion (IsWhole (sizes universe.now)) choices.now }
-    ensures { Writes W.taken W.failures out.old out.new
+    requires whole { AllByRecursion (IsWhole (sizes universe.now)) choices.now }
+    ensures written { Writes W.taken W.failures out.old out.new
         (page_text universe.now choices.now trailer) result }
 {
     for choice in choices {

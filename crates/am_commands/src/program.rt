@@ -39,8 +39,8 @@ pub fn run<R: Files + AllocGlobal, W: Write + Drop, E: Write + Drop>(
     }
 }
 
-/// Says on `err` why the words of a command line could not be had: memory was refused, or they are
-/// no text (UTF-8). The answer is the exit status.
+/// Says on `err` why the words of a command line could not be had: memory ran out, or they are no
+/// text (UTF-8). The answer is the exit status.
 pub fn refuse_arguments<E: Write>(error: &io::Error, alloc: Global, err: &mut E) -> u8 {
     if error.kind() == io::ErrorKind::OutOfMemory {
         return report(alloc, &Fault::of(alloc, Kind::Memory, Place::Memory), err);
@@ -100,8 +100,8 @@ fn ask_buffered<W: Write + Drop>(
     }
 }
 
-/// The bytes of an input file. A file that cannot be read is a fault at its place; want of memory
-/// is one at `Memory`.
+/// The bytes of an input file. A file that cannot be read is a fault at its place; that memory ran
+/// out is one at `Memory`.
 fn read_input<R: Files + AllocGlobal>(rt: &R, path: &str, place: Place) -> Result<Vec<u8>, Fault> {
     match read_file(rt, path) {
         Ok(bytes) => Ok(bytes),

@@ -1,15 +1,16 @@
+use am_files::limits::MAX_FILE_BYTES;
 use am_labels::Kind;
 use std::io::{ErrorKind, Read};
 use std::rt::Files;
 use std::{fs, io};
 
 /// The most bytes that are read of a file: one more than a file may have.
-const MAX_BYTES_READ: usize = 16_777_217;
+const MAX_BYTES_READ: usize = MAX_FILE_BYTES + 1;
 
 const CHUNK: usize = 65536;
 
 /// The bytes of a file, at most one more than a file may have. `Read` where it cannot be opened or
-/// a read answers an error, which is not tried again; `Memory`.
+/// a read answers an error, which is not tried again; `Memory` where memory ran out.
 pub fn read_file<R: Files + AllocGlobal>(rt: &R, path: &str) -> Result<Vec<u8>, Kind> {
     let mut file = fs::open(rt, path).map_err(|error| kind_of(&error))?;
     let mut bytes = Vec::new(rt.alloc());

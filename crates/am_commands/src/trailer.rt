@@ -1,5 +1,5 @@
-ghost use Rattle.am_universe.specs.Sink.{Writes};
-ghost use Rattle.am_commands.specs.Trailer.{trailer_text};
+ghost use Rattle.am_labels.specs.Words.{Writes};
+ghost use Rattle.am_commands.specs.Words.{trailer_text};
 
 use am_labels::{Kind, Sink, put_all};
 
@@ -13,7 +13,7 @@ pub enum Trailer {
 /// Writes the line of a trailer. The only `Err` is `Kind::Write`, after a part of it from its
 /// front.
 pub fn write_trailer<W: Sink>(trailer: Trailer, out: &mut W) -> Result<(), Kind>
-    ensures { Writes W.taken W.failures out.old out.new (trailer_text trailer) result }
+    ensures written { Writes W.taken W.failures out.old out.new (trailer_text trailer) result }
 {
     match trailer {
         Trailer::End => put_all(out, b"# end\n"),

@@ -18,12 +18,12 @@ pub returns-in_err-put_all : goal.returns-in_err-put_all
 returns-in_err-put_all g c =
     let fault = c.args.fault.now in
     let placed = sym c.has_no_place.ensures ∙ c.if-has_no_place.false in
-    writes_as (with_place fault c.text.result.now (string_bytes fault.pointer) placed c.text.ensures refl)
-    (c.in_ok-put_str.ensures.ok ⟩ fails _ c.from_residual-in_err-put_all.ensures c.in_err-put_all.ensures)
+    writes_as (with_place fault c.text.result.now (string_bytes fault.pointer) placed c.text.ensures.text refl)
+    (c.in_ok-put_str.ensures.written.ok ⟩ fails _ c.from_residual-in_err-put_all.ensures c.in_err-put_all.ensures.written)
 
 pub returns : goal.returns
 returns g c =
     let fault = c.args.fault.now in
     let placed = sym c.has_no_place.ensures ∙ c.if-has_no_place.false in
-    writes_as (with_place fault c.text.result.now c.as_str.result.now placed c.text.ensures c.as_str.ensures.value)
-    (c.in_ok-put_str.ensures.ok ⟩ c.in_ok-put_all.ensures.ok ⟩ c.write_pointer.ensures)
+    writes_as (with_place fault c.text.result.now c.as_str.result.now placed c.text.ensures.text c.as_str.ensures.value)
+    (c.in_ok-put_str.ensures.written.ok ⟩ c.in_ok-put_all.ensures.written.ok ⟩ c.write_pointer.ensures)

@@ -23,4 +23,4 @@ pub returns : goal.returns
 returns g c =
     let bytes = c.as_bytes-byte-items.result.now in
     writes_as (pieces_end [] pointer_byte_text bytes (codes ": ") c.loop-byte.byte-index c.loop-byte-test.false ∙ some_pointer c.args.pointer.now bytes c.as_bytes-byte-items.ensures.value (sym c.is_empty.ensures ∙ c.if-is_empty.false))
-    (c.loop-byte.invariant ⟩ c.put_all.ensures)
+    (c.loop-byte.invariant ⟩ c.put_all.ensures.written)

@@ -1,7 +1,7 @@
 use Rattle.std.proofs.Common.{take}
 use Rattle.std.specs.List.{flat_map}
 use Rattle.am_universe.specs.Sink.{Wrote}
-use Rattle.am_universe.specs.SetText.{line}
+use Rattle.am_universe.specs.WrittenLabelSet.{line}
 use Rattle.am_commands.proofs.page.write_page.Given as goal
 
 abbrev pub invariant-loop-choice : goal.invariant-loop-choice
