@@ -7,7 +7,8 @@ use crate::lines::{split_at_first, split_at_last, utf8};
 use crate::problem::Problem;
 use crate::trees::config_text;
 use am_commands::{Files, ask, status, write_fault};
-use am_files::{read_config, read_universe};
+use am_eval::{ends, receivers_of};
+use am_files::{Config, Path, read_config, read_universe};
 use am_labels::{
     Fault, Kind, Matcher, Matchers, Op, Out, Place, Row, Universe, parse_matchers, parse_set,
     put_str, write_map, write_text,
@@ -24,8 +25,33 @@ pub enum Call {
     Pattern,
     Match,
     Row,
+    Ends,
     Ask,
     Fault,
+}
+
+/// The files that a call is over. The universe is empty where the line names none.
+#[derive(Clone, Copy)]
+pub struct Over<'a> {
+    pub universe: &'a [u8],
+    pub config: Option<&'a [u8]>,
+}
+
+impl<'a> Over<'a> {
+    /// This universe, and no configuration.
+    fn universe(universe: &'a [u8]) -> Over<'a> {
+        Over {
+            universe,
+            config: None,
+        }
+    }
+
+    /// The files that `ask` takes behind the universe.
+    pub fn files(&self) -> Files<'a> {
+        Files {
+            config: self.config,
+        }
+    }
 }
 
 /// The call of a name.
@@ -38,18 +64,19 @@ pub fn call_named(name: &[u8]) -> Option<Call> {
         b"pattern" => Some(Call::Pattern),
         b"match" => Some(Call::Match),
         b"row" => Some(Call::Row),
+        b"ends" => Some(Call::Ends),
         b"ask" => Some(Call::Ask),
         b"fault" => Some(Call::Fault),
         _ => None,
     }
 }
 
-/// What a call gives at a text; `over` is the universe file that it is over, where it is over one.
-/// `brief` says that of what is accepted no more is asked than that it is.
+/// What a call gives at a text. `brief` says that of what is accepted no more is asked than that it
+/// is.
 pub fn given(
     alloc: Global,
     call: Call,
-    over: &[u8],
+    over: Over<'_>,
     text: &[u8],
     brief: bool,
 ) -> Result<Vec<u8>, Problem> {
@@ -60,7 +87,8 @@ pub fn given(
         Call::Set => of_set(alloc, utf8(alloc, text)?),
         Call::Pattern => of_pattern(alloc, utf8(alloc, text)?),
         Call::Match => of_match(alloc, text),
-        Call::Row => of_row(alloc, over, utf8(alloc, text)?),
+        Call::Row => of_row(alloc, over.universe, utf8(alloc, text)?),
+        Call::Ends => of_ends(alloc, over.config.unwrap_or(b""), utf8(alloc, text)?),
         Call::Ask => of_ask(alloc, over, utf8(alloc, text)?),
         Call::Fault => of_fault(alloc, text),
     }
@@ -107,7 +135,7 @@ fn of_universe(alloc: Global, text: &[u8], brief: bool) -> Result<Vec<u8>, Probl
     if brief {
         return told(alloc, "ok");
     }
-    let page = of_ask(alloc, text, "{}")?;
+    let page = of_ask(alloc, Over::universe(text), "{}")?;
     let sets = page.as_slice();
     Ok(Vec::from_slice(alloc, sets.strip_suffix(b" # end").unwrap_or(sets))?)
 }
@@ -243,11 +271,52 @@ fn row_text(alloc: Global, universe: &Universe, row: &Row) -> Result<Vec<u8>, Pr
     Ok(text.into_bytes())
 }
 
+/// The ends of a label set, and the receivers of them.
+fn of_ends(alloc: Global, config: &[u8], text: &str) -> Result<Vec<u8>, Problem> {
+    let config = match read_config(alloc, config) {
+        Ok(config) => config,
+        Err(fault) => return fault_behind(alloc, b"", &fault),
+    };
+    let set = match parse_set(alloc, text) {
+        Ok(set) => set,
+        Err(kind) => return refused(alloc, kind),
+    };
+    let mut text = ends_text(alloc, ends(alloc, &config, &set)?.as_slice())?;
+    let receivers = receivers_of(alloc, &config, &set)?;
+    add_receivers(&config, receivers.as_slice(), &mut text)?;
+    Ok(text)
+}
+
+fn ends_text(alloc: Global, ends: &[Path]) -> Result<Vec<u8>, Problem> {
+    let mut out = Out::new(told(alloc, "ok:")?);
+    match write_ends(ends, &mut out) {
+        Ok(()) => Ok(out.into_inner()),
+        Err(_) => Err(Problem::Memory),
+    }
+}
+
+fn write_ends(ends: &[Path], out: &mut Out<Vec<u8>>) -> Result<(), Kind> {
+    for end in ends {
+        put_str(out, " ")?;
+        end.write(out)?;
+    }
+    put_str(out, ";")
+}
+
+fn add_receivers(config: &Config, receivers: &[usize], text: &mut Vec<u8>) -> Result<(), Problem> {
+    for receiver in receivers {
+        text.push(b' ')?;
+        if *receiver < config.receivers() {
+            text.extend_from_slice(config.receiver_name(*receiver).as_bytes())?;
+        }
+    }
+    Ok(())
+}
+
 /// The page of a question, its lines with a blank between, or the fault.
-fn of_ask(alloc: Global, over: &[u8], question: &str) -> Result<Vec<u8>, Problem> {
+fn of_ask(alloc: Global, over: Over<'_>, question: &str) -> Result<Vec<u8>, Problem> {
     let mut out = Out::new(told(alloc, "ok: ")?);
-    let files = Files { config: None };
-    match ask(alloc, over, &files, question, &mut out) {
+    match ask(alloc, over.universe, &over.files(), question, &mut out) {
         Ok(_) => Ok(on_one_line(out.into_inner())),
         Err(fault) if fault.kind == Kind::Write => Err(Problem::Memory),
         Err(fault) => fault_behind(alloc, b"", &fault),

@@ -263,10 +263,7 @@ impl Command {
             for how in [Stop::Fails, Stop::TakesNothing] {
                 let manner = self.manner.stopped(call, how);
                 let ran = self.run_over(host, files, manner, self.error_manner)?;
-                if ran.out.calls != call || !ran.out.has_part_of(page.as_slice()) {
-                    let found = ran.out.taken.as_slice();
-                    return Err(Problem::differs(alloc, "output cut short", page.as_slice(), found));
-                }
+                check_cut(alloc, "output cut short", page.as_slice(), &ran.out, call)?;
                 check_status(alloc, 4, ran.status)?;
                 check_text(
                     alloc,
@@ -293,10 +290,7 @@ impl Command {
         for call in 1..calls.saturating_add(1) {
             let manner = self.error_manner.stopped(call, Stop::Fails);
             let ran = self.run_over(host, files, self.manner, manner)?;
-            if ran.err.calls != call || !ran.err.has_part_of(line.as_slice()) {
-                let found = ran.err.taken.as_slice();
-                return Err(Problem::differs(alloc, "error cut short", line.as_slice(), found));
-            }
+            check_cut(alloc, "error cut short", line.as_slice(), &ran.err, call)?;
             check_status(alloc, self.wanted_status(), ran.status)?;
         }
         Ok(())
@@ -396,6 +390,20 @@ fn check_has(alloc: Global, name: &str, wanted: &[u8], found: &[u8]) -> Result<(
         return Ok(());
     }
     Err(Problem::differs(alloc, name, wanted, found))
+}
+
+/// A writer that stopped at this call has taken a part of the text from its front.
+fn check_cut(
+    alloc: Global,
+    what: &str,
+    text: &[u8],
+    writer: &Writer,
+    call: usize,
+) -> Result<(), Problem> {
+    if writer.calls == call && writer.has_part_of(text) {
+        return Ok(());
+    }
+    Err(Problem::differs(alloc, what, text, writer.taken.as_slice()))
 }
 
 fn check_status(alloc: Global, wanted: u8, found: u8) -> Result<(), Problem> {

@@ -1,12 +1,12 @@
 //! Tables: a call, and a line for each text that it is handed and what it gives there.
 
-use crate::calls::{Call, call_named, given};
+use crate::calls::{Call, Over, call_named, given};
 use crate::inserts::{Named, filled};
 use crate::lines::{Line, split_at_first, split_at_last, utf8};
 use crate::problem::Problem;
 use crate::tally::Tally;
 use crate::writer::{Manner, Stop, Writer};
-use am_commands::{Files, ask, status};
+use am_commands::{ask, status};
 use am_labels::{Fault, Kind, Out, Place};
 use std::alloc::Global;
 
@@ -19,9 +19,21 @@ pub struct Heading {
     /// once.
     round: Vec<Vec<u8>>,
     /// The universe file that the call is over.
-    over: Vec<u8>,
+    universe: Vec<u8>,
+    /// The configuration file that it is with, if there is one.
+    config: Option<Vec<u8>>,
     /// The pointer of the text.
     at: Vec<u8>,
+}
+
+impl Heading {
+    /// The files that the call is over.
+    fn over(&self) -> Over<'_> {
+        Over {
+            universe: self.universe.as_slice(),
+            config: self.config.as_ref().map(|bytes| bytes.as_slice()),
+        }
+    }
 }
 
 /// What else is done with the lines of a table.
@@ -85,14 +97,19 @@ pub fn read_heading(
         Some((rest, at)) => (rest, at),
         None => (rest, b"".as_slice()),
     };
-    let (template, over) = match template_and_universe(rest) {
-        Some((template, over)) => (template, over),
+    let (rest, config) = match cut_behind(rest, b"with ", b" with ") {
+        Some((rest, config)) => (rest, Some(filled(alloc, texts, config)?)),
+        None => (rest, None),
+    };
+    let (template, universe) = match cut_behind(rest, b"over ", b" over ") {
+        Some((template, universe)) => (template, universe),
         None => (rest, b"".as_slice()),
     };
     Ok(Some(Heading {
         call,
         round: round_the_text(alloc, texts, template)?,
-        over: filled(alloc, texts, over)?,
+        universe: filled(alloc, texts, universe)?,
+        config,
         at: filled(alloc, texts, at)?,
     }))
 }
@@ -118,11 +135,12 @@ fn round_the_text(
     Ok(round)
 }
 
-/// What stands before `over UNIVERSE`, and the universe.
-fn template_and_universe(rest: &[u8]) -> Option<(&[u8], &[u8])> {
-    match rest.strip_prefix(b"over ") {
-        Some(over) => Some((b"".as_slice(), over)),
-        None => split_at_last(rest, b" over "),
+/// What stands before a word and behind it, where a line has the word: at its beginning, or else
+/// between blanks.
+fn cut_behind<'a>(line: &'a [u8], first: &[u8], inner: &[u8]) -> Option<(&'a [u8], &'a [u8])> {
+    match line.strip_prefix(first) {
+        Some(behind) => Some((b"".as_slice(), behind)),
+        None => split_at_last(line, inner),
     }
 }
 
@@ -266,13 +284,7 @@ fn placed(alloc: Global, heading: &Heading, text: &[u8]) -> Result<Vec<u8>, Prob
 fn check(alloc: Global, heading: &Heading, text: &[u8], wanted: &[u8]) -> Result<(), Problem> {
     let whole = placed(alloc, heading, text)?;
     let brief = wanted == b"ok".as_slice();
-    let found = given(
-        alloc,
-        heading.call,
-        heading.over.as_slice(),
-        whole.as_slice(),
-        brief,
-    )?;
+    let found = given(alloc, heading.call, heading.over(), whole.as_slice(), brief)?;
     let wanted = seen_from(alloc, heading.at.as_slice(), wanted)?;
     let found = found.as_slice();
     if found == wanted.as_slice() || brief && found.starts_with(b"ok: ") {
@@ -298,7 +310,7 @@ fn check_writers(alloc: Global, heading: &Heading, one: &Wanted) -> Result<(), P
     }
     let whole = placed(alloc, heading, one.text.as_slice())?;
     let question = utf8(alloc, whole.as_slice())?;
-    let over = heading.over.as_slice();
+    let over = heading.over();
     let page = ask_over(alloc, over, question, Manner::WHOLE)?;
     let whole = page.writer.taken.as_slice();
     let slow = ask_over(
@@ -349,10 +361,14 @@ struct Asked {
 }
 
 /// A writer of this manner after a page was written to it, and what was answered.
-fn ask_over(alloc: Global, over: &[u8], question: &str, manner: Manner) -> Result<Asked, Problem> {
+fn ask_over(
+    alloc: Global,
+    over: Over<'_>,
+    question: &str,
+    manner: Manner,
+) -> Result<Asked, Problem> {
     let mut out = Out::new(Writer::new(alloc, manner));
-    let files = Files { config: None };
-    let fault = ask(alloc, over, &files, question, &mut out).err();
+    let fault = ask(alloc, over.universe, &over.files(), question, &mut out).err();
     let writer = out.into_inner();
     match &fault {
         Some(fault) if fault.kind == Kind::Memory => Err(Problem::Memory),
