@@ -3,7 +3,7 @@ use Rattle.std.specs.Prelude.{◌≡◌, ◌⊎◌, ℕ, List, [], ◌∷◌}
 use Rattle.am_universe.specs.declared.place.Place.{Place}
 use Rattle.am_universe.specs.declared.place.Place.TheVariants as places
 use Rattle.am_universe.specs.Universe.{Label}
-use Rattle.am_files.specs.Pointer.{Refusal}
+use Rattle.am_json.specs.Pointer.{Refusal}
 use Rattle.am_files.specs.UniverseFile.{FileSaysUniverse}
 use Rattle.am_files.specs.UniverseFaults.{IsFirstFaultOfUniverseFile}
 use Rattle.am_files.specs.ConfigFile.{Configuration, FileSaysConfig}

@@ -2,7 +2,7 @@ ghost use Rattle.std.specs.Prelude.{◌≡◌, ◌≢◌, [], IfOk, IfErr, strin
 ghost use Rattle.am_universe.specs.declared.kind.Kind.TheVariants as kinds;
 ghost use Rattle.am_universe.specs.declared.place.Place.TheVariants as places;
 ghost use Rattle.am_labels.specs.Words.{Wrote, WroteInPart};
-ghost use Rattle.am_files.specs.Words.{refusal_of};
+ghost use Rattle.am_json.specs.Words.{refusal_of};
 ghost use Rattle.am_commands.specs.Words.{inputs_of, ask_stages, AnswersInputs, IsFirstFaultOfCall};
 
 use crate::answers::answers_of;

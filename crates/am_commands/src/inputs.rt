@@ -1,7 +1,8 @@
 ghost use Rattle.std.specs.Prelude.{◌≡◌, ◌≢◌, [], IfOk, IfErr, string_bytes};
 ghost use Rattle.am_universe.specs.declared.kind.Kind.TheVariants as kinds;
 ghost use Rattle.am_universe.specs.declared.place.Place.TheVariants as places;
-ghost use Rattle.am_files.specs.Words.{config_view, refusal_of};
+ghost use Rattle.am_json.specs.Words.{refusal_of};
+ghost use Rattle.am_files.specs.Words.{config_view};
 ghost use Rattle.am_eval.specs.Words.{question_view};
 ghost use Rattle.am_commands.specs.Words.{inputs_of, AcceptsInputs, ask_stages, IsFirstFaultOfCall};
 

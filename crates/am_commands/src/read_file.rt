@@ -1,4 +1,4 @@
-use am_files::limits::MAX_FILE_BYTES;
+use am_json::limits::MAX_FILE_BYTES;
 use am_labels::Kind;
 use std::io::{ErrorKind, Read};
 use std::rt::Files;

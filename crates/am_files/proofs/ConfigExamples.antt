@@ -6,7 +6,7 @@ use Rattle.am_labels.specs.MatcherReading as reading
 use Rattle.serde_json.specs.Data.{Data, null, number, string, array, object, unsigned, Items}
 use Rattle.serde_json.specs.Data.{no_items, item, Members, no_members, member}
 use Rattle.am_universe.specs.declared.kind.Kind.TheVariants as kinds
-use Rattle.am_files.specs.Places.{pointer_of, IsBefore, object_itself, other_field, in_field}
+use Rattle.am_json.specs.Places.{pointer_of, IsBefore, object_itself, other_field, in_field}
 use Rattle.am_files.specs.ConfigFaults.{RoutePlace, ConfigPlace, route_receiver, route_matchers}
 use Rattle.am_files.specs.ConfigFaults.{route_match, route_match_re, one_text}
 use Rattle.am_files.specs.ConfigFaults.{text_total, texts_given, one_pair, pair_total}

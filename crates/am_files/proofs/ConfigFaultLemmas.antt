@@ -28,30 +28,30 @@ use Rattle.am_files.specs.ConfigFile.{Configuration, RouteTree, SaysConfig}
 use Rattle.am_files.specs.ConfigReading.{read_config, read_config_file, read_next_receiver}
 use Rattle.am_files.specs.ConfigReading.{read_receiver_names, read_receivers, read_route}
 use Rattle.am_files.specs.ConfigReading.{refuse_inhibit_rules}
-use Rattle.am_files.specs.Json.{field, items_of}
-use Rattle.am_files.specs.Places.{ArrayPlace, array_path, if_there, in_field, known_member}
-use Rattle.am_files.specs.Places.{limit_fault, object_itself, object_path, other_field, rank_of}
-use Rattle.am_files.specs.Places.{name_of, shape_or, text_of}
-use Rattle.am_files.specs.Pointer.{Refusal, refusal_here, refusal_within, to_field}
-use Rattle.am_files.specs.Reading.{IsPatternRefusal, MayRefuse, Reading, accept, accept_some}
-use Rattle.am_files.specs.Reading.{as_object, read_items, reading_within, refuse_for}
-use Rattle.am_files.specs.Reading.{required_field, required_text, ◌>>=◌}
+use Rattle.am_json.specs.Json.{field, items_of}
+use Rattle.am_json.specs.Places.{ArrayPlace, array_path, if_there, in_field, known_member}
+use Rattle.am_json.specs.Places.{limit_fault, object_itself, object_path, other_field, rank_of}
+use Rattle.am_json.specs.Places.{name_of, shape_or, text_of}
+use Rattle.am_json.specs.Pointer.{Refusal, refusal_here, refusal_within, to_field}
+use Rattle.am_json.specs.Reading.{IsPatternRefusal, MayRefuse, Reading, accept, accept_some}
+use Rattle.am_json.specs.Reading.{as_object, read_items, reading_within, refuse_for}
+use Rattle.am_json.specs.Reading.{required_field, required_text, ◌>>=◌}
 use Rattle.am_files.specs.declared.limits.TheConstants.{MAX_LEVELS, MAX_RECEIVERS}
 use Rattle.am_files.proofs.ConfigParts.{name_says}
 use Rattle.am_files.proofs.ConfigSays.{config_decides}
-use Rattle.am_files.proofs.FieldLemmas.{items_form, items_seen, items_sequence, text_field_judges}
-use Rattle.am_files.proofs.FileLemmas.{bytes_decide, bytes_refused}
-use Rattle.am_files.proofs.ObjectLemmas.{array_tells, no_open_pattern, object_tells, open_form}
-use Rattle.am_files.proofs.ObjectLemmas.{open_judged, open_pattern}
-use Rattle.am_files.proofs.PlaceLemmas.{Clear, Form, IsPart, Judges, RanksTell, first_decides}
-use Rattle.am_files.proofs.PlaceLemmas.{itself_refused, judges_plain, none_reads, one_place}
-use Rattle.am_files.proofs.PlaceLemmas.{part_judges, read_none, refuse_judges, refused_reached}
-use Rattle.am_files.proofs.PlaceOrder.{lead}
+use Rattle.am_json.proofs.FieldLemmas.{items_form, items_seen, items_sequence, text_field_judges}
+use Rattle.am_json.proofs.FileLemmas.{bytes_decide, bytes_refused}
+use Rattle.am_json.proofs.ObjectLemmas.{array_tells, no_open_pattern, object_tells, open_form}
+use Rattle.am_json.proofs.ObjectLemmas.{open_judged, open_pattern}
+use Rattle.am_json.proofs.PlaceLemmas.{Clear, Form, IsPart, Judges, RanksTell, first_decides}
+use Rattle.am_json.proofs.PlaceLemmas.{itself_refused, judges_plain, none_reads, one_place}
+use Rattle.am_json.proofs.PlaceLemmas.{part_judges, read_none, refuse_judges, refused_reached}
+use Rattle.am_json.proofs.PlaceOrder.{lead}
 use Rattle.am_files.proofs.RouteFaultLemmas.{tree_judged}
 use Rattle.am_files.proofs.RouteParts.{TreePlace}
-use Rattle.am_files.proofs.SameReadings.{items_within}
-use Rattle.am_files.proofs.SequenceLemmas.{Sequence, array_form, items_are_read, items_judged}
-use Rattle.am_files.proofs.SequenceLemmas.{next_form, required_array, required_array_gives}
+use Rattle.am_json.proofs.SameReadings.{items_within}
+use Rattle.am_json.proofs.SequenceLemmas.{Sequence, array_form, items_are_read, items_judged}
+use Rattle.am_json.proofs.SequenceLemmas.{next_form, required_array, required_array_gives}
 
 -- ---- One receiver.
 

@@ -22,10 +22,10 @@ use Rattle.am_universe.proofs.DistinctLists.{distinct_none, distinct_push, disti
 use Rattle.am_universe.proofs.DistinctLists.{distinct_front}
 use Rattle.am_labels.proofs.MatcherTextWhole.{list_is_spelled}
 use Rattle.am_files.specs.declared.limits.TheConstants.{MAX_RECEIVERS}
-use Rattle.am_files.specs.Json.{field, is_one_of, items_of}
-use Rattle.am_files.specs.Pointer.{refusal_here, to_field, to_item}
-use Rattle.am_files.specs.Reading.{accept_some, reading_within, refuse_for, check_count, as_text}
-use Rattle.am_files.specs.Reading.{as_object, required_text, required_items, read_each, read_items}
+use Rattle.am_json.specs.Json.{field, is_one_of, items_of}
+use Rattle.am_json.specs.Pointer.{refusal_here, to_field, to_item}
+use Rattle.am_json.specs.Reading.{accept_some, reading_within, refuse_for, check_count, as_text}
+use Rattle.am_json.specs.Reading.{as_object, required_text, required_items, read_each, read_items}
 use Rattle.am_files.specs.ConfigFile.{SaysName, SaysReceiver, SaysMatcherText, HasItems}
 use Rattle.am_files.specs.ConfigFile.{SaysNamedText, SaysMatcherPair, SaysContinue}
 use Rattle.am_files.specs.ConfigReading.{read_next_receiver}
@@ -37,12 +37,12 @@ use Rattle.am_files.specs.ConfigReading.{pattern_fault, check_patterns, append_m
 use Rattle.am_files.specs.ConfigReading.{read_matcher_text, read_next_matcher_text}
 use Rattle.am_files.specs.ConfigReading.{label_name_fault, read_named_text, read_matcher_pair}
 use Rattle.am_files.specs.ConfigReading.{read_next_pair}
-use Rattle.am_files.proofs.Readings.{bind_ok, within_ok, refuse_for_ok, check_count_ok}
-use Rattle.am_files.proofs.Readings.{check_count_fits, ok_or_some, same_read}
-use Rattle.am_files.proofs.Items.{AllFit, items_say, items_read}
-use Rattle.am_files.proofs.Fields.{as_text_says, as_text_reads, as_object_says, as_object_reads}
-use Rattle.am_files.proofs.Fields.{required_text_says, required_text_reads, required_items_say}
-use Rattle.am_files.proofs.Fields.{required_items_read}
+use Rattle.am_json.proofs.Readings.{bind_ok, within_ok, refuse_for_ok, check_count_ok}
+use Rattle.am_json.proofs.Readings.{check_count_fits, ok_or_some, same_read}
+use Rattle.am_json.proofs.Items.{AllFit, items_say, items_read}
+use Rattle.am_json.proofs.Fields.{as_text_says, as_text_reads, as_object_says, as_object_reads}
+use Rattle.am_json.proofs.Fields.{required_text_says, required_text_reads, required_items_say}
+use Rattle.am_json.proofs.Fields.{required_items_read}
 use Rattle.am_files.proofs.Matching.{named_passes, name_is_some, pair_gives, text_gives}
 
 -- ---- The names of receivers.

@@ -12,10 +12,10 @@ use Rattle.am_labels.specs.declared.limits.TheConstants.{MAX_MATCHERS}
 use Rattle.am_labels.specs.Matcher.{Condition}
 use Rattle.am_labels.specs.MatcherRefusals.{have_valid_patterns}
 use Rattle.am_files.specs.declared.limits.TheConstants.{MAX_ROUTES, MAX_LEVELS}
-use Rattle.am_files.specs.Json.{field, member_list, HasOnlyFields}
-use Rattle.am_files.specs.Pointer.{to_field}
-use Rattle.am_files.specs.Reading.{reading_within, as_items, as_object, required_field, read_each}
-use Rattle.am_files.specs.Reading.{read_next_item, read_items}
+use Rattle.am_json.specs.Json.{field, member_list, HasOnlyFields}
+use Rattle.am_json.specs.Pointer.{to_field}
+use Rattle.am_json.specs.Reading.{reading_within, as_items, as_object, required_field, read_each}
+use Rattle.am_json.specs.Reading.{read_next_item, read_items}
 use Rattle.am_files.specs.ConfigFile.{RouteSettings, RouteTree, route, Routes, no_routes}
 use Rattle.am_files.specs.ConfigFile.{next_route, Configuration, MatcherFields}
 use Rattle.am_files.specs.ConfigFile.{route_matcher_fields, routes_of, matchers_of, route_count}
@@ -29,11 +29,11 @@ use Rattle.am_files.specs.ConfigReading.{read_texts, read_pairs, optional_texts,
 use Rattle.am_files.specs.ConfigReading.{read_matchers, read_route_fields, read_route}
 use Rattle.am_files.specs.ConfigReading.{read_next_child, refuse_inhibit_rules, read_config}
 use Rattle.am_files.specs.ConfigReading.{read_config_file}
-use Rattle.am_files.proofs.Readings.{bind_ok, within_ok, ok_or_some, same_read, check_count_fits}
-use Rattle.am_files.proofs.Readings.{Decides}
-use Rattle.am_files.proofs.Fields.{only_fields_read, as_object_says}
-use Rattle.am_files.proofs.Items.{item_first}
-use Rattle.am_files.proofs.Fields.{file_decided}
+use Rattle.am_json.proofs.Readings.{bind_ok, within_ok, ok_or_some, same_read, check_count_fits}
+use Rattle.am_json.proofs.Readings.{Decides}
+use Rattle.am_json.proofs.Fields.{only_fields_read, as_object_says}
+use Rattle.am_json.proofs.Items.{item_first}
+use Rattle.am_json.proofs.Fields.{file_decided}
 use Rattle.am_files.proofs.Routing.{are_read, count_push}
 use Rattle.am_files.proofs.Sound.{is_read, no_level, root_unmatched, route_sound}
 use Rattle.am_files.proofs.ConfigParts.{names_say, names_read, receiver_says, receiver_reads}

@@ -21,21 +21,21 @@ use Rattle.am_files.specs.ConfigFaults.{texts_matcher, texts_path}
 use Rattle.am_files.specs.ConfigReading.{append_matchers, check_patterns, optional_texts}
 use Rattle.am_files.specs.ConfigReading.{read_matcher_text, read_matcher_texts}
 use Rattle.am_files.specs.ConfigReading.{read_next_matcher_text, read_texts, refuse_root_matchers}
-use Rattle.am_files.specs.Json.{items_of}
-use Rattle.am_files.specs.Places.{Step, array_item, if_there, items_in_field, limit_fault, rank_of}
-use Rattle.am_files.specs.Places.{shape_or, turn}
-use Rattle.am_files.specs.Pointer.{refusal_here, to_field, to_item}
-use Rattle.am_files.specs.Reading.{Reading, accept, accept_some, check_count, reading_within}
-use Rattle.am_files.specs.Reading.{refuse_for, ◌>>=◌}
+use Rattle.am_json.specs.Json.{items_of}
+use Rattle.am_json.specs.Places.{Step, array_item, if_there, items_in_field, limit_fault, rank_of}
+use Rattle.am_json.specs.Places.{shape_or, turn}
+use Rattle.am_json.specs.Pointer.{refusal_here, to_field, to_item}
+use Rattle.am_json.specs.Reading.{Reading, accept, accept_some, check_count, reading_within}
+use Rattle.am_json.specs.Reading.{refuse_for, ◌>>=◌}
 use Rattle.am_files.proofs.PatternFaultLemmas.{patterns_form, patterns_judge}
-use Rattle.am_files.proofs.PlaceLemmas.{Clear, Form, IsPart, Judges, itself_refused, judges_plain}
-use Rattle.am_files.proofs.PlaceLemmas.{one_place, part_judges, refuse_judges, shape_judged}
-use Rattle.am_files.proofs.PlaceLemmas.{some_judged}
-use Rattle.am_files.proofs.PlaceOrder.{lead}
-use Rattle.am_files.proofs.Readings.{bind_ok, same_read, within_ok}
-use Rattle.am_files.proofs.SameReadings.{then_assoc, within_nothing}
-use Rattle.am_files.proofs.SequenceLemmas.{Loop, Sequence, all_judge, all_read, enumerate_loop}
-use Rattle.am_files.proofs.SequenceLemmas.{next_form, pattern_of_next, sequence_form}
+use Rattle.am_json.proofs.PlaceLemmas.{Clear, Form, IsPart, Judges, itself_refused, judges_plain}
+use Rattle.am_json.proofs.PlaceLemmas.{one_place, part_judges, refuse_judges, shape_judged}
+use Rattle.am_json.proofs.PlaceLemmas.{some_judged}
+use Rattle.am_json.proofs.PlaceOrder.{lead}
+use Rattle.am_json.proofs.Readings.{bind_ok, same_read, within_ok}
+use Rattle.am_json.proofs.SameReadings.{then_assoc, within_nothing}
+use Rattle.am_json.proofs.SequenceLemmas.{Loop, Sequence, all_judge, all_read, enumerate_loop}
+use Rattle.am_json.proofs.SequenceLemmas.{next_form, pattern_of_next, sequence_form}
 
 -- ---- One text.
 

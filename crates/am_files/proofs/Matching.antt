@@ -17,18 +17,18 @@ use Rattle.am_labels.specs.MatcherReading.{read_list}
 use Rattle.am_labels.specs.MatcherRefusals.{has_valid_pattern, have_valid_patterns, pattern_refusal}
 use Rattle.am_labels.specs.MatcherRefusals.{MatcherRefusedFor, PatternsRefusedFor, TextRefusedFor}
 use Rattle.am_labels.proofs.MatcherTextWhole.{list_is_read, list_is_spelled}
-use Rattle.am_files.specs.declared.read_error.ReadError.{ReadError}
-use Rattle.am_files.specs.declared.read_error.ReadError.TheVariants as errors
-use Rattle.am_files.specs.Pointer.{Refusal, refusal_here, refusal_within}
-use Rattle.am_files.specs.Reading.{Reading, ◌>>=◌, accept, accept_some, reading_within, refuse_for}
-use Rattle.am_files.specs.Reading.{check_count, IsPatternRefusal, MayRefuse, IsRefusalOrMemory}
-use Rattle.am_files.specs.Reading.{Fails, Gives}
+use Rattle.am_json.specs.declared.read_error.ReadError.{ReadError}
+use Rattle.am_json.specs.declared.read_error.ReadError.TheVariants as errors
+use Rattle.am_json.specs.Pointer.{Refusal, refusal_here, refusal_within}
+use Rattle.am_json.specs.Reading.{Reading, ◌>>=◌, accept, accept_some, reading_within, refuse_for}
+use Rattle.am_json.specs.Reading.{check_count, IsPatternRefusal, MayRefuse, IsRefusalOrMemory}
+use Rattle.am_json.specs.Reading.{Fails, Gives}
 use Rattle.am_files.specs.ConfigReading.{pattern_fault, profile_patterns, check_patterns}
 use Rattle.am_files.specs.ConfigReading.{read_matcher_text, text_refusal, read_named_text}
 use Rattle.am_files.specs.ConfigReading.{read_matcher_pair, label_name_fault}
-use Rattle.am_files.proofs.Readings.{pattern_right, refuses_first, refuses_later, refuses_within}
-use Rattle.am_files.proofs.Readings.{here_fails, fails_later, check_count_fits, check_count_over}
-use Rattle.am_files.proofs.Readings.{bind_ok, refuse_for_ok}
+use Rattle.am_json.proofs.Readings.{pattern_right, refuses_first, refuses_later, refuses_within}
+use Rattle.am_json.proofs.Readings.{here_fails, fails_later, check_count_fits, check_count_over}
+use Rattle.am_json.proofs.Readings.{bind_ok, refuse_for_ok}
 
 -- ---- Patterns.
 

@@ -20,23 +20,23 @@ use Rattle.am_files.specs.ConfigFaults.{pairs_matcher, pairs_path}
 use Rattle.am_files.specs.ConfigReading.{append_matchers, check_patterns, optional_pairs}
 use Rattle.am_files.specs.ConfigReading.{profile_patterns, read_matcher_pair, read_named_text}
 use Rattle.am_files.specs.ConfigReading.{read_next_pair, read_pairs, refuse_root_matchers}
-use Rattle.am_files.specs.Json.{member_list}
-use Rattle.am_files.specs.Places.{IsMetPattern, OnlyPlace, Step, if_there, known_member}
-use Rattle.am_files.specs.Places.{limit_fault, only_path, rank_of, shape_or, turn}
-use Rattle.am_files.specs.Pointer.{Refusal, refusal_here, to_field}
-use Rattle.am_files.specs.Reading.{IsPatternRefusal, Reading, accept, accept_some}
-use Rattle.am_files.specs.Reading.{check_count, patterns_then, read_each, reading_within}
-use Rattle.am_files.specs.Reading.{refuse_for, ◌>>=◌}
+use Rattle.am_json.specs.Json.{member_list}
+use Rattle.am_json.specs.Places.{IsMetPattern, OnlyPlace, Step, if_there, known_member}
+use Rattle.am_json.specs.Places.{limit_fault, only_path, rank_of, shape_or, turn}
+use Rattle.am_json.specs.Pointer.{Refusal, refusal_here, to_field}
+use Rattle.am_json.specs.Reading.{IsPatternRefusal, Reading, accept, accept_some}
+use Rattle.am_json.specs.Reading.{check_count, patterns_then, read_each, reading_within}
+use Rattle.am_json.specs.Reading.{refuse_for, ◌>>=◌}
 use Rattle.am_files.proofs.MatcherFaultLemmas.{root_gives}
 use Rattle.am_files.proofs.PatternFaultLemmas.{met_pattern}
-use Rattle.am_files.proofs.PlaceLemmas.{Clear, Form, IsPart, Judges, Tells, itself_refused}
-use Rattle.am_files.proofs.PlaceLemmas.{judges_plain, one_place, one_refused, part_judges}
-use Rattle.am_files.proofs.PlaceLemmas.{refuse_judges, said, said_of}
-use Rattle.am_files.proofs.PlaceOrder.{lead, none_before_itself}
-use Rattle.am_files.proofs.Readings.{bind_ok, same_read}
-use Rattle.am_files.proofs.SameReadings.{within_nothing}
-use Rattle.am_files.proofs.SequenceLemmas.{Sequence, all_judge, all_read, each_loop, next_form}
-use Rattle.am_files.proofs.SequenceLemmas.{pattern_of_next, sequence_form, slice_get_at}
+use Rattle.am_json.proofs.PlaceLemmas.{Clear, Form, IsPart, Judges, Tells, itself_refused}
+use Rattle.am_json.proofs.PlaceLemmas.{judges_plain, one_place, one_refused, part_judges}
+use Rattle.am_json.proofs.PlaceLemmas.{refuse_judges, said, said_of}
+use Rattle.am_json.proofs.PlaceOrder.{lead, none_before_itself}
+use Rattle.am_json.proofs.Readings.{bind_ok, same_read}
+use Rattle.am_json.proofs.SameReadings.{within_nothing}
+use Rattle.am_json.proofs.SequenceLemmas.{Sequence, all_judge, all_read, each_loop, next_form}
+use Rattle.am_json.proofs.SequenceLemmas.{pattern_of_next, sequence_form, slice_get_at}
 
 -- ---- One pair.
 

@@ -12,10 +12,10 @@ use Rattle.am_labels.specs.MatcherRefusals.{has_valid_pattern, pattern_refusal}
 use Rattle.am_labels.specs.PatternCut.{in_profile}
 use Rattle.am_files.specs.ConfigFaults.{is_profile_pattern, one_pattern_fault}
 use Rattle.am_files.specs.ConfigReading.{check_patterns, pattern_fault, profile_patterns}
-use Rattle.am_files.specs.Places.{IsBefore, if_there, turn}
-use Rattle.am_files.specs.Pointer.{Refusal, refusal_here}
-use Rattle.am_files.specs.Reading.{IsPatternRefusal, refuse_for}
-use Rattle.am_files.proofs.PlaceLemmas.{Form, Judges, Tells}
+use Rattle.am_json.specs.Places.{IsBefore, if_there, turn}
+use Rattle.am_json.specs.Pointer.{Refusal, refusal_here}
+use Rattle.am_json.specs.Reading.{IsPatternRefusal, refuse_for}
+use Rattle.am_json.proofs.PlaceLemmas.{Form, Judges, Tells}
 
 abbrev pub patterns_form : List Condition → Form ℕ
 patterns_form ms = record {

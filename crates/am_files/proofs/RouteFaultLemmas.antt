@@ -17,18 +17,18 @@ use Rattle.am_files.specs.ConfigFaults.{route_matchers, route_receiver, routes_i
 use Rattle.am_files.specs.ConfigFaults.{tree_fault, tree_matcher, way_path}
 use Rattle.am_files.specs.ConfigFile.{RouteTree, route_count, route_fields, routes_count, routes_of}
 use Rattle.am_files.specs.ConfigReading.{boolean_or_false, effective_receiver, read_route}
-use Rattle.am_files.specs.Json.{field, items_of}
-use Rattle.am_files.specs.Places.{ArrayPlace, if_there, in_field, items_in_field, known_member}
-use Rattle.am_files.specs.Places.{object_itself, object_path, shape_or}
-use Rattle.am_files.specs.Pointer.{to_field}
-use Rattle.am_files.specs.Reading.{Reading, accept, check_count, check_only_fields, read_items}
-use Rattle.am_files.specs.Reading.{reading_within, ◌>>=◌}
+use Rattle.am_json.specs.Json.{field, items_of}
+use Rattle.am_json.specs.Places.{ArrayPlace, if_there, in_field, items_in_field, known_member}
+use Rattle.am_json.specs.Places.{object_itself, object_path, shape_or}
+use Rattle.am_json.specs.Pointer.{to_field}
+use Rattle.am_json.specs.Reading.{Reading, accept, check_count, check_only_fields, read_items}
+use Rattle.am_json.specs.Reading.{reading_within, ◌>>=◌}
 use Rattle.am_files.specs.declared.limits.TheConstants.{MAX_ROUTES}
 use Rattle.am_files.proofs.MatcherFaultLemmas.{texts_field_gives, texts_field_judged, texts_reading}
 use Rattle.am_files.proofs.PairFaultLemmas.{pairs_field_gives, pairs_field_judged, pairs_reading}
-use Rattle.am_files.proofs.PlaceLemmas.{Clear, Form, Judges, itself_refused, judges_plain}
-use Rattle.am_files.proofs.PlaceLemmas.{one_place, part_judges}
-use Rattle.am_files.proofs.Readings.{bind_ok, same_read, within_ok}
+use Rattle.am_json.proofs.PlaceLemmas.{Clear, Form, Judges, itself_refused, judges_plain}
+use Rattle.am_json.proofs.PlaceLemmas.{one_place, part_judges}
+use Rattle.am_json.proofs.Readings.{bind_ok, same_read, within_ok}
 use Rattle.am_files.proofs.RouteParts.{receiver_judged}
 use Rattle.am_files.proofs.RouteParts.{TreePlace, children_sequence, continue_judged, continue_part}
 use Rattle.am_files.proofs.RouteParts.{into_tree, match_part, match_re_part, match_re_rules}
@@ -38,9 +38,9 @@ use Rattle.am_files.proofs.RouteSteps.{children_reading, made_route, read_child,
 use Rattle.am_files.proofs.RouteSteps.{route_continues, route_match_on, route_match_re_on}
 use Rattle.am_files.proofs.RouteSteps.{route_matchers_on, route_rest, route_steps}
 use Rattle.am_files.proofs.Routing.{count_push}
-use Rattle.am_files.proofs.SequenceLemmas.{array_form, array_judged, items_are_read, items_judged}
-use Rattle.am_files.proofs.SequenceLemmas.{next_form, required_array, required_array_gives}
-use Rattle.am_files.proofs.SequenceLemmas.{sequence_form, slice_get_at}
+use Rattle.am_json.proofs.SequenceLemmas.{array_form, array_judged, items_are_read, items_judged}
+use Rattle.am_json.proofs.SequenceLemmas.{next_form, required_array, required_array_gives}
+use Rattle.am_json.proofs.SequenceLemmas.{sequence_form, slice_get_at}
 
 -- ---- The children.
 

@@ -20,23 +20,23 @@ use Rattle.am_files.specs.ConfigFaults.{route_routes, routes_in, texts_of_route,
 use Rattle.am_files.specs.ConfigFaults.{tree_matcher, way_path}
 use Rattle.am_files.specs.ConfigFile.{route_fields}
 use Rattle.am_files.specs.ConfigReading.{boolean_or_false, effective_receiver, receiver_named}
-use Rattle.am_files.specs.Json.{field, is_one_of, unknown_field}
-use Rattle.am_files.specs.Places.{ArrayPlace, IsBefore, IsFirstFault, array_item, array_itself}
-use Rattle.am_files.specs.Places.{has_unknown, if_there, in_field, in_item, items_in_field}
-use Rattle.am_files.specs.Places.{known_member, object_itself, object_path, other_field, rank_of}
-use Rattle.am_files.specs.Places.{shape_or}
-use Rattle.am_files.specs.Pointer.{refusal_here, refusal_within, to_field}
-use Rattle.am_files.specs.Reading.{Reading, accept_some, check_count, check_only_fields}
-use Rattle.am_files.specs.Reading.{refuse_for, refuse_unknown_field, ◌>>=◌}
+use Rattle.am_json.specs.Json.{field, is_one_of, unknown_field}
+use Rattle.am_json.specs.Places.{ArrayPlace, IsBefore, IsFirstFault, array_item, array_itself}
+use Rattle.am_json.specs.Places.{has_unknown, if_there, in_field, in_item, items_in_field}
+use Rattle.am_json.specs.Places.{known_member, object_itself, object_path, other_field, rank_of}
+use Rattle.am_json.specs.Places.{shape_or}
+use Rattle.am_json.specs.Pointer.{refusal_here, refusal_within, to_field}
+use Rattle.am_json.specs.Reading.{Reading, accept_some, check_count, check_only_fields}
+use Rattle.am_json.specs.Reading.{refuse_for, refuse_unknown_field, ◌>>=◌}
 use Rattle.am_files.specs.declared.limits.TheConstants.{MAX_ROUTES}
 use Rattle.am_files.proofs.MatcherFaultLemmas.{texts_form}
-use Rattle.am_files.proofs.ObjectLemmas.{least_unknown, not_unknown}
+use Rattle.am_json.proofs.ObjectLemmas.{least_unknown, not_unknown}
 use Rattle.am_files.proofs.PairFaultLemmas.{pairs_form}
-use Rattle.am_files.proofs.PlaceLemmas.{Clear, Form, IsPart, Judges, itself_refused, one_accepted}
-use Rattle.am_files.proofs.PlaceLemmas.{one_place, one_refused, said, said_of, shape_judged}
-use Rattle.am_files.proofs.PlaceLemmas.{some_judged}
-use Rattle.am_files.proofs.PlaceOrder.{lead, lead_le, rest_decides}
-use Rattle.am_files.proofs.SequenceLemmas.{Sequence, array_form, pattern_of_next}
+use Rattle.am_json.proofs.PlaceLemmas.{Clear, Form, IsPart, Judges, itself_refused, one_accepted}
+use Rattle.am_json.proofs.PlaceLemmas.{one_place, one_refused, said, said_of, shape_judged}
+use Rattle.am_json.proofs.PlaceLemmas.{some_judged}
+use Rattle.am_json.proofs.PlaceOrder.{lead, lead_le, rest_decides}
+use Rattle.am_json.proofs.SequenceLemmas.{Sequence, array_form, pattern_of_next}
 use Rattle.am_files.proofs.Positions.{position_any}
 
 -- ---- The receiver of a route.

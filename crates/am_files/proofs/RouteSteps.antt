@@ -12,14 +12,14 @@ use Rattle.am_files.specs.ConfigReading.{RouteFields, boolean_or_false, effectiv
 use Rattle.am_files.specs.ConfigReading.{optional_items, optional_pairs, optional_texts}
 use Rattle.am_files.specs.ConfigReading.{read_children, read_continue, read_matchers, read_receiver}
 use Rattle.am_files.specs.ConfigReading.{read_route, read_route_fields}
-use Rattle.am_files.specs.Json.{field, items_of}
-use Rattle.am_files.specs.Pointer.{refusal_here, to_field}
-use Rattle.am_files.specs.Reading.{Reading, accept, accept_some, check_count, check_only_fields}
-use Rattle.am_files.specs.Reading.{read_items, reading_within, ◌>>=◌}
+use Rattle.am_json.specs.Json.{field, items_of}
+use Rattle.am_json.specs.Pointer.{refusal_here, to_field}
+use Rattle.am_json.specs.Reading.{Reading, accept, accept_some, check_count, check_only_fields}
+use Rattle.am_json.specs.Reading.{read_items, reading_within, ◌>>=◌}
 use Rattle.am_files.specs.declared.limits.TheConstants.{MAX_ROUTES}
 use Rattle.am_files.proofs.MatcherFaultLemmas.{texts_reading, texts_within}
 use Rattle.am_files.proofs.PairFaultLemmas.{pairs_reading, pairs_within}
-use Rattle.am_files.proofs.SameReadings.{then_assoc}
+use Rattle.am_json.proofs.SameReadings.{then_assoc}
 
 -- ---- Reading a route, step by step.
 

@@ -4,20 +4,20 @@ use Rattle.std.proofs.Common.{refl, sym, subst, arith, inl}
 use Rattle.std.specs.Prelude.{codes, is_none}
 use Rattle.serde_json.specs.Data.{Data}
 use Rattle.am_universe.specs.declared.kind.Kind.TheVariants as kinds
-use Rattle.am_files.specs.declared.read_error.ReadError.{ReadError}
+use Rattle.am_json.specs.declared.read_error.ReadError.{ReadError}
 use Rattle.am_files.specs.declared.limits.TheConstants.{MAX_ROUTES}
-use Rattle.am_files.specs.Json.{HasOnlyFields}
-use Rattle.am_files.specs.Pointer.{refusal_here, to_field}
-use Rattle.am_files.specs.Reading.{Reading, ◌>>=◌, accept, reading_within, check_count}
-use Rattle.am_files.specs.Reading.{check_only_fields, read_items, IsRefusalOrMemory, Fails}
+use Rattle.am_json.specs.Json.{HasOnlyFields}
+use Rattle.am_json.specs.Pointer.{refusal_here, to_field}
+use Rattle.am_json.specs.Reading.{Reading, ◌>>=◌, accept, reading_within, check_count}
+use Rattle.am_json.specs.Reading.{check_only_fields, read_items, IsRefusalOrMemory, Fails}
 use Rattle.am_files.specs.ConfigFile.{RouteTree, route, routes_of, route_count, routes_count}
 use Rattle.am_files.specs.ConfigFile.{route_fields, route_matcher_fields}
 use Rattle.am_files.specs.ConfigReading.{RouteFields, read_receiver, read_matchers, read_continue}
 use Rattle.am_files.specs.ConfigReading.{read_children, read_route_fields, read_route}
 use Rattle.am_files.specs.ConfigReading.{read_next_child}
-use Rattle.am_files.proofs.Readings.{Leads, leads-refl, leads_on, fails_led, fails_first}
-use Rattle.am_files.proofs.Readings.{fails_refused, bind_ok, check_count_ok, same_read}
-use Rattle.am_files.proofs.Fields.{only_fields_say}
+use Rattle.am_json.proofs.Readings.{Leads, leads-refl, leads_on, fails_led, fails_first}
+use Rattle.am_json.proofs.Readings.{fails_refused, bind_ok, check_count_ok, same_read}
+use Rattle.am_json.proofs.Fields.{only_fields_say}
 
 abbrev children_of : List (List ℕ) → ℕ → ℕ → RouteFields → Reading (List RouteTree)
 children_of names left before fields =

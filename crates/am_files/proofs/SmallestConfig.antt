@@ -10,16 +10,16 @@ use Rattle.std.proofs.lemmas.Str.{IsUtf8-from_ascii}
 use Rattle.std.proofs.lemmas.Str.Ascii.{IsAscii-cons, IsAscii-nil}
 use Rattle.serde_json.specs.Read.{read}
 use Rattle.serde_json.proofs.OnLiterals.{serde_json_on_literals}
-use Rattle.am_files.specs.Json.{json_of}
-use Rattle.am_files.specs.Reading.{required_items, required_text, read_each, read_next_item}
-use Rattle.am_files.specs.Reading.{check_only_fields}
+use Rattle.am_json.specs.Json.{json_of}
+use Rattle.am_json.specs.Reading.{required_items, required_text, read_each, read_next_item}
+use Rattle.am_json.specs.Reading.{check_only_fields}
 use Rattle.am_files.specs.ConfigFile.{FileSaysConfig}
 use Rattle.am_files.specs.ConfigReading.{read_config, read_receivers, read_receiver_names}
 use Rattle.am_files.specs.ConfigReading.{read_next_receiver, read_route, read_route_fields}
 use Rattle.am_files.specs.ConfigReading.{read_receiver, read_matchers, read_continue}
 use Rattle.am_files.specs.ConfigReading.{read_children}
 use Rattle.am_files.specs.SmallestConfig.{smallest_config_file, smallest_config}
-use Rattle.am_files.proofs.Values.{json_of_text}
+use Rattle.am_json.proofs.Values.{json_of_text}
 use Rattle.am_files.proofs.ConfigSays.{config_says}
 
 abbrev value : Data

@@ -15,10 +15,10 @@ use Rattle.am_universe.specs.declared.kind.Kind.TheVariants as kinds
 use Rattle.am_labels.specs.Matcher.{Condition}
 use Rattle.am_universe.specs.Text.{same_text}
 use Rattle.am_files.specs.declared.limits.TheConstants.{MAX_ROUTES, MAX_LEVELS}
-use Rattle.am_files.specs.Json.{field, member_list}
-use Rattle.am_files.specs.Pointer.{refusal_here, to_field}
-use Rattle.am_files.specs.Reading.{reading_within, as_text, as_items, as_object, read_each}
-use Rattle.am_files.specs.Reading.{read_next_item, read_items}
+use Rattle.am_json.specs.Json.{field, member_list}
+use Rattle.am_json.specs.Pointer.{refusal_here, to_field}
+use Rattle.am_json.specs.Reading.{reading_within, as_text, as_items, as_object, read_each}
+use Rattle.am_json.specs.Reading.{read_next_item, read_items}
 use Rattle.am_files.specs.ConfigFile.{RouteSettings, RouteTree, route, Routes, no_routes, IsConfig}
 use Rattle.am_files.specs.ConfigFile.{MatcherFields, route_matcher_fields, routes_of, matchers_of}
 use Rattle.am_files.specs.ConfigFile.{route_count, routes_count, route_levels, routes_levels}
@@ -29,8 +29,8 @@ use Rattle.am_files.specs.ConfigReading.{refuse_root_matchers, read_matcher_text
 use Rattle.am_files.specs.ConfigReading.{read_texts, read_pairs, optional_texts, optional_pairs}
 use Rattle.am_files.specs.ConfigReading.{read_matchers, read_route_fields, read_route}
 use Rattle.am_files.specs.ConfigReading.{read_next_child}
-use Rattle.am_files.proofs.Readings.{bind_ok, within_ok, ok_or_some, same_read}
-use Rattle.am_files.proofs.Items.{item_first}
+use Rattle.am_json.proofs.Readings.{bind_ok, within_ok, ok_or_some, same_read}
+use Rattle.am_json.proofs.Items.{item_first}
 use Rattle.am_files.proofs.Routing.{are_read, count_push}
 
 -- ---- Receivers.

@@ -13,14 +13,14 @@ use Rattle.am_universe.specs.Universe.{name_fault, names, value_fault}
 use Rattle.am_universe.specs.declared.kind.Kind.{Kind}
 use Rattle.am_universe.specs.declared.kind.Kind.TheVariants as kinds
 use Rattle.am_universe.specs.declared.limits.TheConstants.{MAX_LABELS}
-use Rattle.am_files.specs.Json.{field, items_of, json_of}
-use Rattle.am_files.specs.Places.{ArrayPlace, IsMetPatternOfValue, OnlyPlace, array_path}
-use Rattle.am_files.specs.Places.{items_in_field, known_member, limit_fault, only_path, rank_of}
-use Rattle.am_files.specs.Places.{shape_or, text_of}
-use Rattle.am_files.specs.Pointer.{Refusal, refusal_here, to_field}
-use Rattle.am_files.specs.Reading.{IsPatternRefusal, MayRefuse, Reading, accept, accept_some}
-use Rattle.am_files.specs.Reading.{read_items, reading_within, refuse_for, required_items}
-use Rattle.am_files.specs.Reading.{required_text, ◌>>=◌}
+use Rattle.am_json.specs.Json.{field, items_of, json_of}
+use Rattle.am_json.specs.Places.{ArrayPlace, IsMetPatternOfValue, OnlyPlace, array_path}
+use Rattle.am_json.specs.Places.{items_in_field, known_member, limit_fault, only_path, rank_of}
+use Rattle.am_json.specs.Places.{shape_or, text_of}
+use Rattle.am_json.specs.Pointer.{Refusal, refusal_here, to_field}
+use Rattle.am_json.specs.Reading.{IsPatternRefusal, MayRefuse, Reading, accept, accept_some}
+use Rattle.am_json.specs.Reading.{read_items, reading_within, refuse_for, required_items}
+use Rattle.am_json.specs.Reading.{required_text, ◌>>=◌}
 use Rattle.am_files.specs.UniverseFaults.{IsFirstFaultOfUniverse, IsFirstFaultOfUniverseFile}
 use Rattle.am_files.specs.UniverseFaults.{LabelField, LabelPlace, UniverseField, UniversePlace}
 use Rattle.am_files.specs.UniverseFaults.{file_labels, label_fault_at, label_field_fault}
@@ -30,16 +30,16 @@ use Rattle.am_files.specs.UniverseFaults.{universe_field_path, universe_path, va
 use Rattle.am_files.specs.UniverseFile.{SaysUniverse, SaysValue, file_fields, label_fields}
 use Rattle.am_files.specs.UniverseFile.{read_labels, read_next_label, read_next_value}
 use Rattle.am_files.specs.UniverseFile.{read_universe, read_universe_file, read_values}
-use Rattle.am_files.proofs.FieldLemmas.{items_form, items_seen, items_sequence, text_field_judges}
-use Rattle.am_files.proofs.FileLemmas.{bytes_decide, bytes_refused}
-use Rattle.am_files.proofs.ObjectLemmas.{array_tells, closed_judged, no_open_pattern, object_tells}
-use Rattle.am_files.proofs.ObjectLemmas.{only_tells, open_pattern}
-use Rattle.am_files.proofs.PlaceLemmas.{Clear, Form, IsPart, Judges, RanksTell, cause_judges}
-use Rattle.am_files.proofs.PlaceLemmas.{first_decides, judges_plain, none_reads, one_place}
-use Rattle.am_files.proofs.PlaceLemmas.{one_refused, part_judges, read_none, said}
-use Rattle.am_files.proofs.PlaceOrder.{lead}
-use Rattle.am_files.proofs.SameReadings.{items_within, items_within_then, then_accept}
-use Rattle.am_files.proofs.SequenceLemmas.{Sequence, items_judged, next_form, required_array}
+use Rattle.am_json.proofs.FieldLemmas.{items_form, items_seen, items_sequence, text_field_judges}
+use Rattle.am_json.proofs.FileLemmas.{bytes_decide, bytes_refused}
+use Rattle.am_json.proofs.ObjectLemmas.{array_tells, closed_judged, no_open_pattern, object_tells}
+use Rattle.am_json.proofs.ObjectLemmas.{only_tells, open_pattern}
+use Rattle.am_json.proofs.PlaceLemmas.{Clear, Form, IsPart, Judges, RanksTell, cause_judges}
+use Rattle.am_json.proofs.PlaceLemmas.{first_decides, judges_plain, none_reads, one_place}
+use Rattle.am_json.proofs.PlaceLemmas.{one_refused, part_judges, read_none, said}
+use Rattle.am_json.proofs.PlaceOrder.{lead}
+use Rattle.am_json.proofs.SameReadings.{items_within, items_within_then, then_accept}
+use Rattle.am_json.proofs.SequenceLemmas.{Sequence, items_judged, next_form, required_array}
 use Rattle.am_files.proofs.UniverseSays.{label_says, universe_decides, value_says}
 
 -- ---- A value.

@@ -21,21 +21,21 @@ use Rattle.am_universe.proofs.DistinctLists.{all_front, distinct_front}
 use Rattle.am_universe.proofs.UniverseLemmas.{IsUniverse-empty}
 use Rattle.am_universe.proofs.LabelFaultLemmas.{no_first, nothing_at, added_is_universe}
 use Rattle.am_universe.proofs.LabelFaultLemmas.{universe_was_added}
-use Rattle.am_files.specs.Pointer.{to_field, to_item}
-use Rattle.am_files.specs.Reading.{◌>>=◌, accept, reading_within, refuse_for, check_count}
-use Rattle.am_files.specs.Reading.{read_items, as_text, check_only_fields, required_text}
-use Rattle.am_files.specs.Reading.{required_items}
+use Rattle.am_json.specs.Pointer.{to_field, to_item}
+use Rattle.am_json.specs.Reading.{◌>>=◌, accept, reading_within, refuse_for, check_count}
+use Rattle.am_json.specs.Reading.{read_items, as_text, check_only_fields, required_text}
+use Rattle.am_json.specs.Reading.{required_items}
 use Rattle.am_files.specs.UniverseFile.{file_fields, label_fields, SaysValue, SaysLabel}
 use Rattle.am_files.specs.UniverseFile.{SaysUniverse, read_value, read_next_value, read_values}
 use Rattle.am_files.specs.UniverseFile.{read_next_label, read_labels, read_universe}
 use Rattle.am_files.specs.UniverseFile.{read_universe_file, FileSaysUniverse}
-use Rattle.am_files.proofs.Readings.{bind_ok, within_ok, refuse_for_ok, check_count_ok}
-use Rattle.am_files.proofs.Readings.{check_count_fits, same_read, Decides}
-use Rattle.am_files.proofs.Items.{AllFit, items_say, items_read}
-use Rattle.am_files.proofs.Fields.{as_text_says, only_fields_say, only_fields_read}
-use Rattle.am_files.proofs.Fields.{required_text_says, required_text_reads}
-use Rattle.am_files.proofs.Fields.{required_items_say, required_items_read}
-use Rattle.am_files.proofs.Fields.{file_decided}
+use Rattle.am_json.proofs.Readings.{bind_ok, within_ok, refuse_for_ok, check_count_ok}
+use Rattle.am_json.proofs.Readings.{check_count_fits, same_read, Decides}
+use Rattle.am_json.proofs.Items.{AllFit, items_say, items_read}
+use Rattle.am_json.proofs.Fields.{as_text_says, only_fields_say, only_fields_read}
+use Rattle.am_json.proofs.Fields.{required_text_says, required_text_reads}
+use Rattle.am_json.proofs.Fields.{required_items_say, required_items_read}
+use Rattle.am_json.proofs.Fields.{file_decided}
 
 -- ---- A value.
 

@@ -17,14 +17,14 @@ use Rattle.am_labels.specs.Matcher.{Condition, takes_pattern}
 use Rattle.am_labels.specs.MatcherReading.{read_list}
 use Rattle.am_labels.specs.MatcherRefusals.{has_valid_pattern, pattern_refusal}
 use Rattle.am_labels.specs.PatternCut.{in_profile}
-use Rattle.am_files.specs.Json.{field, is_one_of, items_of, member_list}
-use Rattle.am_files.specs.Pointer.{Refusal}
-use Rattle.am_files.specs.Places.{Step, known_member, array_item, turn, IsFirstFault}
-use Rattle.am_files.specs.Places.{IsFirstFaultOfFile, IsMetPattern, IsMetPatternOfFile, shape_or}
-use Rattle.am_files.specs.Places.{if_there, is_empty, limit_fault, text_of, name_of, ObjectPlace}
-use Rattle.am_files.specs.Places.{object_itself, other_field, in_field, object_path, object_fault}
-use Rattle.am_files.specs.Places.{open_object_fault, ArrayPlace, array_path, items_in_field}
-use Rattle.am_files.specs.Places.{required_array_fault}
+use Rattle.am_json.specs.Json.{field, is_one_of, items_of, member_list}
+use Rattle.am_json.specs.Pointer.{Refusal}
+use Rattle.am_json.specs.Places.{Step, known_member, array_item, turn, IsFirstFault}
+use Rattle.am_json.specs.Places.{IsFirstFaultOfFile, IsMetPattern, IsMetPatternOfFile, shape_or}
+use Rattle.am_json.specs.Places.{if_there, is_empty, limit_fault, text_of, name_of, ObjectPlace}
+use Rattle.am_json.specs.Places.{object_itself, other_field, in_field, object_path, object_fault}
+use Rattle.am_json.specs.Places.{open_object_fault, ArrayPlace, array_path, items_in_field}
+use Rattle.am_json.specs.Places.{required_array_fault}
 use Rattle.am_files.specs.ConfigFile.{route_fields}
 use Rattle.am_files.specs.declared.limits.TheConstants.{MAX_RECEIVERS, MAX_ROUTES, MAX_LEVELS}
 

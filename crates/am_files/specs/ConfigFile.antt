@@ -12,9 +12,10 @@ use Rattle.am_labels.specs.MatcherText.{Spells}
 use Rattle.am_labels.specs.MatcherRefusals.{have_valid_patterns}
 use Rattle.am_labels.specs.declared.op.Op.{Op}
 use Rattle.am_labels.specs.declared.op.Op.TheVariants.{Equal, Matches}
-use Rattle.am_files.specs.declared.limits.TheConstants.{MAX_FILE_BYTES, MAX_RECEIVERS, MAX_ROUTES}
+use Rattle.am_json.specs.declared.limits.TheConstants.{MAX_FILE_BYTES}
+use Rattle.am_files.specs.declared.limits.TheConstants.{MAX_RECEIVERS, MAX_ROUTES}
 use Rattle.am_files.specs.declared.limits.TheConstants.{MAX_LEVELS}
-use Rattle.am_files.specs.Json.{json_of, field, items_of, member_list, HasOnlyFields}
+use Rattle.am_json.specs.Json.{json_of, field, items_of, member_list, HasOnlyFields}
 
 -- ---- Configurations.
 

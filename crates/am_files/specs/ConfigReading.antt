@@ -19,15 +19,15 @@ use Rattle.am_labels.specs.PatternCut.{in_profile}
 use Rattle.am_labels.specs.MatcherReading.{read_list}
 use Rattle.am_labels.specs.MatcherRefusals.{has_valid_pattern, pattern_refusal}
 use Rattle.am_files.specs.declared.limits.TheConstants.{MAX_RECEIVERS, MAX_ROUTES, MAX_LEVELS}
-use Rattle.am_files.specs.Json.{field, member_list}
-use Rattle.am_files.specs.Pointer.{Refusal, refusal_here, refusal_within, to_field, to_item}
-use Rattle.am_files.specs.Reading.{Reading, ◌>>=◌, accept, accept_some, refuse, reading_within}
-use Rattle.am_files.specs.Reading.{refuse_for, check_count, as_object, as_text, as_items}
-use Rattle.am_files.specs.Reading.{check_only_fields, required_field, required_text, required_items}
-use Rattle.am_files.specs.Reading.{read_each, read_items, read_json}
+use Rattle.am_json.specs.Json.{field, member_list}
+use Rattle.am_json.specs.Pointer.{Refusal, refusal_here, refusal_within, to_field, to_item}
+use Rattle.am_json.specs.Reading.{Reading, ◌>>=◌, accept, accept_some, refuse, reading_within}
+use Rattle.am_json.specs.Reading.{refuse_for, check_count, as_object, as_text, as_items}
+use Rattle.am_json.specs.Reading.{check_only_fields, required_field, required_text, required_items}
+use Rattle.am_json.specs.Reading.{read_each, read_items, read_json}
 use Rattle.am_files.specs.ConfigFile.{RouteSettings, RouteTree, route, Configuration, MatcherFields}
 use Rattle.am_files.specs.ConfigFile.{route_matcher_fields, routes_of, routes_count, route_fields}
-use Rattle.am_files.specs.Places.{is_empty}
+use Rattle.am_json.specs.Places.{is_empty}
 use Rattle.am_files.specs.ConfigFaults.{receiver_name_fault, given_fault}
 
 -- ---- The receivers.

@@ -1,7 +1,4 @@
 pub mod Words
-pub mod Json
-pub mod Pointer
-pub mod Reading
 pub mod UniverseFile
 pub mod ConfigFile
 pub mod SmallestConfig
@@ -10,6 +7,5 @@ pub mod RouteView
 pub mod ConfigView
 pub mod Path
 pub mod PathView
-pub mod Places
 pub mod UniverseFaults
 pub mod ConfigFaults

@@ -8,12 +8,12 @@ use Rattle.am_universe.specs.declared.kind.Kind.{Kind}
 use Rattle.am_universe.specs.declared.kind.Kind.TheVariants as kinds
 use Rattle.am_universe.specs.declared.limits.TheConstants.{MAX_LABELS}
 use Rattle.am_universe.specs.Universe.{Label, name_fault, count_fault, value_fault}
-use Rattle.am_files.specs.Json.{is_null, field}
-use Rattle.am_files.specs.Pointer.{Refusal}
-use Rattle.am_files.specs.Places.{Step, known_member, IsFirstFault, IsFirstFaultOfFile, shape_or}
-use Rattle.am_files.specs.Places.{limit_fault, text_of, name_of, OnlyPlace, only_path, ObjectPlace}
-use Rattle.am_files.specs.Places.{object_path, object_fault, ArrayPlace, array_path}
-use Rattle.am_files.specs.Places.{required_array_fault}
+use Rattle.am_json.specs.Json.{is_null, field}
+use Rattle.am_json.specs.Pointer.{Refusal}
+use Rattle.am_json.specs.Places.{Step, known_member, IsFirstFault, IsFirstFaultOfFile, shape_or}
+use Rattle.am_json.specs.Places.{limit_fault, text_of, name_of, OnlyPlace, only_path, ObjectPlace}
+use Rattle.am_json.specs.Places.{object_path, object_fault, ArrayPlace, array_path}
+use Rattle.am_json.specs.Places.{required_array_fault}
 use Rattle.am_files.specs.UniverseFile.{file_fields, label_fields}
 
 -- ---- The places, and the way to each.

@@ -8,12 +8,12 @@ use Rattle.serde_json.specs.Data.{Data, null, string}
 use Rattle.am_universe.specs.declared.limits.TheConstants.{MAX_LABELS}
 use Rattle.am_universe.specs.Universe.{Values, Label, IsUniverse, name_fault}
 use Rattle.am_universe.specs.Universe.{count_fault, value_fault}
-use Rattle.am_files.specs.declared.limits.TheConstants.{MAX_FILE_BYTES}
-use Rattle.am_files.specs.Json.{json_of, is_null, field, items_of, HasOnlyFields}
-use Rattle.am_files.specs.Pointer.{Refusal, to_field}
-use Rattle.am_files.specs.Reading.{Reading, ◌>>=◌, accept, reading_within, refuse_for, check_count}
-use Rattle.am_files.specs.Reading.{read_items, as_text, check_only_fields, required_text}
-use Rattle.am_files.specs.Reading.{required_items, read_json}
+use Rattle.am_json.specs.declared.limits.TheConstants.{MAX_FILE_BYTES}
+use Rattle.am_json.specs.Json.{json_of, is_null, field, items_of, HasOnlyFields}
+use Rattle.am_json.specs.Pointer.{Refusal, to_field}
+use Rattle.am_json.specs.Reading.{Reading, ◌>>=◌, accept, reading_within, refuse_for, check_count}
+use Rattle.am_json.specs.Reading.{read_items, as_text, check_only_fields, required_text}
+use Rattle.am_json.specs.Reading.{required_items, read_json}
 
 -- The fields of the file.
 abbrev pub file_fields : List (List ℕ)

@@ -1,14 +1,4 @@
 -- The words of clauses: what the contracts of this crate, and of those above it, cite.
-pub use Rattle.am_files.specs.Json.{json_of, field, is_one_of, is_unknown, unknown_field}
-pub use Rattle.am_files.specs.Json.{member_list}
-pub use Rattle.am_files.specs.Pointer.{pointer_escape, to_field, to_item}
-pub use Rattle.am_files.specs.Pointer.{Refusal, refusal_here, refusal_within}
-pub use Rattle.am_files.specs.Reading.{Gives, MayRefuse, IsRefusalOrMemory, IsReadingWithin}
-pub use Rattle.am_files.specs.Reading.{refusal_of, IsFaultAt, IsFaultOf, accept_some, refuse_for}
-pub use Rattle.am_files.specs.Reading.{check_count, as_object, as_text, as_items, required_field}
-unfoldable pub use Rattle.am_files.specs.Reading.{check_only_fields, required_text, required_items}
-unfoldable pub use Rattle.am_files.specs.Reading.{read_each, read_json}
-pub use Rattle.am_files.specs.Reading.{reading_within, read_items}
 pub use Rattle.am_files.specs.UniverseFile.{SaysUniverse, FileSaysUniverse, read_value}
 unfoldable pub use Rattle.am_files.specs.UniverseFile.{read_next_value, read_values}
 unfoldable pub use Rattle.am_files.specs.UniverseFile.{read_next_label, read_labels, read_universe}

@@ -6,27 +6,26 @@ ghost use Rattle.serde_json.specs.View.{view};
 ghost use Rattle.am_universe.specs.declared.kind.Kind.TheVariants as kinds;
 ghost use Rattle.am_universe.specs.declared.place.Place.TheVariants as places;
 ghost use Rattle.am_labels.specs.Words.{same_text};
-ghost use Rattle.am_files.specs.Words.{field, to_item, Gives, refusal_of, reading_within};
-ghost use Rattle.am_files.specs.Words.{check_only_fields, read_items, FileSaysConfig, route_fields};
-ghost use Rattle.am_files.specs.Words.{route_matcher_fields, route_count, routes_count, routes_of};
-ghost use Rattle.am_files.specs.Words.{route_view, names_of, config_view, fields_view};
-ghost use Rattle.am_files.specs.Words.{read_next_receiver, read_receiver_names, read_receivers};
-ghost use Rattle.am_files.specs.Words.{parent_receiver, receiver_position, effective_receiver};
-ghost use Rattle.am_files.specs.Words.{read_receiver, boolean_or_false, read_continue};
-ghost use Rattle.am_files.specs.Words.{read_children, read_matchers, read_route_fields, read_route};
+ghost use Rattle.am_json.specs.Words.{field, to_item, Gives, refusal_of, reading_within};
+ghost use Rattle.am_json.specs.Words.{check_only_fields, read_items};
+ghost use Rattle.am_files.specs.Words.{FileSaysConfig, route_fields, route_matcher_fields};
+ghost use Rattle.am_files.specs.Words.{route_count, routes_count, routes_of, route_view, names_of};
+ghost use Rattle.am_files.specs.Words.{config_view, fields_view, read_next_receiver};
+ghost use Rattle.am_files.specs.Words.{read_receiver_names, read_receivers, parent_receiver};
+ghost use Rattle.am_files.specs.Words.{receiver_position, effective_receiver, read_receiver};
+ghost use Rattle.am_files.specs.Words.{boolean_or_false, read_continue, read_children};
+ghost use Rattle.am_files.specs.Words.{read_matchers, read_route_fields, read_route};
 ghost use Rattle.am_files.specs.Words.{read_next_child, refuse_inhibit_rules, read_config};
 ghost use Rattle.am_files.specs.Words.{read_config_file, receiver_name_fault, ConfigFileRefusedFor};
 
 use crate::config::{Config, position};
-use crate::json::{
-    as_items, as_object, as_text, check_count, check_only_fields, field, read_json, refuse_for,
-    required_field, required_items, required_text,
-};
 use crate::limits::{MAX_LEVELS, MAX_RECEIVERS, MAX_ROUTES};
-use crate::pointer::{within_field, within_item};
-use crate::read_error::ReadError;
 use crate::route::Route;
 use crate::route_matchers::{MatcherFields, read_matchers};
+use am_json::{
+    ReadError, as_items, as_object, as_text, check_count, check_only_fields, field, read_json,
+    refuse_for, required_field, required_items, required_text, within_field, within_item,
+};
 use am_labels::{Fault, Kind, Matchers, Place};
 use serde_json::Value;
 use std::alloc::Global;
@@ -85,7 +84,7 @@ pub fn read_config(alloc: Global, bytes: &[u8]) -> Result<Config, Fault>
     }
 }
 
-#[tactic(auto, using(crate::proofs::Readings::steps), unfolding(crate::specs::ConfigReading::read_config_file))]
+#[tactic(auto, using(am_json::proofs::Readings::steps), unfolding(crate::specs::ConfigReading::read_config_file))]
 fn read_config_file(alloc: Global, bytes: &[u8]) -> Result<Config, ReadError>
     ensures { Gives config_view result (read_config_file bytes.now) }
 {
@@ -93,7 +92,7 @@ fn read_config_file(alloc: Global, bytes: &[u8]) -> Result<Config, ReadError>
     read_config_object(alloc, &value)
 }
 
-#[tactic(auto, using(crate::proofs::Readings::steps), unfolding(crate::specs::ConfigReading::read_config))]
+#[tactic(auto, using(am_json::proofs::Readings::steps), unfolding(crate::specs::ConfigReading::read_config))]
 fn read_config_object(alloc: Global, value: &Value) -> Result<Config, ReadError>
     ensures { Gives config_view result (read_config (view value.now)) }
 {
@@ -122,7 +121,7 @@ fn refuse_inhibit_rules(alloc: Global, value: &Value) -> Result<(), ReadError>
 
 // ---- The receivers.
 
-#[tactic(auto, using(crate::proofs::Readings::steps), unfolding(crate::specs::ConfigReading::read_receivers))]
+#[tactic(auto, using(am_json::proofs::Readings::steps), unfolding(crate::specs::ConfigReading::read_receivers))]
 fn read_receivers(alloc: Global, value: &Value) -> Result<Vec<String>, ReadError>
     ensures { Gives (λ names. names_of names.items) result (read_receivers (view value.now)) }
 {
@@ -161,7 +160,7 @@ fn read_receiver_item(alloc: Global, before: &[String], item: &Value) -> Result<
 }
 
 /// The name of a receiver behind others.
-#[tactic(auto, using(crate::proofs::Readings::steps), unfolding(crate::specs::ConfigReading::read_next_receiver))]
+#[tactic(auto, using(am_json::proofs::Readings::steps), unfolding(crate::specs::ConfigReading::read_next_receiver))]
 fn read_next_receiver(alloc: Global, before: &[String], value: &Value) -> Result<String, ReadError>
     ensures { Gives string_bytes result
         (read_next_receiver (names_of before.now) (view value.now)) }
@@ -215,7 +214,7 @@ struct RouteFields<'v> {
 }
 
 /// The fields of a route with so many others before it in preorder.
-#[tactic(auto, using(crate::proofs::Readings::steps), unfolding(crate::specs::ConfigReading::read_route_fields))]
+#[tactic(auto, using(am_json::proofs::Readings::steps), unfolding(crate::specs::ConfigReading::read_route_fields))]
 fn read_route_fields<'v>(
     alloc: Global,
     names: &[String],
@@ -339,7 +338,7 @@ fn read_children(alloc: Global, value: &Value) -> Result<&[Value], ReadError>
 }
 
 /// The receiver of a route: its own, or that of its parent where it names none.
-#[tactic(auto, using(crate::proofs::Readings::within_gives), unfolding(crate::specs::ConfigReading::read_receiver))]
+#[tactic(auto, using(am_json::proofs::Readings::within_gives), unfolding(crate::specs::ConfigReading::read_receiver))]
 fn read_receiver(
     alloc: Global,
     names: &[String],
@@ -394,7 +393,7 @@ fn receiver_position(alloc: Global, names: &[String], name: &str) -> Result<usiz
 }
 
 /// Whether later siblings of a route are tried after it.
-#[tactic(auto, using(crate::proofs::Readings::within_gives), unfolding(crate::specs::ConfigReading::read_continue))]
+#[tactic(auto, using(am_json::proofs::Readings::within_gives), unfolding(crate::specs::ConfigReading::read_continue))]
 fn read_continue(alloc: Global, value: &Value) -> Result<bool, ReadError>
     ensures { Gives (λ b. b) result (read_continue (view value.now)) }
 {

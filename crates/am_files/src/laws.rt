@@ -3,12 +3,13 @@
 ghost use Rattle.std.specs.Prelude.{◌≡◌, ◌≢◌, ◌⊎◌, ◌↔◌, ◌+◌, ◌<◌, ◌≤◌, ℕ, List, [], ◌∷◌, ◌++◌};
 ghost use Rattle.std.specs.Prelude.{length, Some, None, Ok, Err, option_and_then, slice_get};
 ghost use Rattle.serde_json.specs.Data.{Data};
-ghost use Rattle.am_files.specs.declared.limits.TheConstants.{MAX_FILE_BYTES, MAX_LEVELS};
-ghost use Rattle.am_files.specs.declared.limits.TheConstants.{MAX_RECEIVERS, MAX_ROUTES};
+ghost use Rattle.am_files.specs.declared.limits.TheConstants.{MAX_LEVELS, MAX_RECEIVERS};
+ghost use Rattle.am_files.specs.declared.limits.TheConstants.{MAX_ROUTES};
 ghost use Rattle.am_files.specs.declared.limits.TheConstants.{MAX_PATH_STEPS, MAX_CHILD_POSITION};
 ghost use Rattle.am_labels.specs.Words.{Label};
-ghost use Rattle.am_files.specs.Words.{Refusal, MayRefuse, SaysUniverse, FileSaysUniverse};
-ghost use Rattle.am_files.specs.Words.{read_universe, read_universe_file, fault_of_universe};
+ghost use Rattle.am_json.specs.Words.{Refusal, MayRefuse};
+ghost use Rattle.am_files.specs.Words.{SaysUniverse, FileSaysUniverse, read_universe};
+ghost use Rattle.am_files.specs.Words.{read_universe_file, fault_of_universe};
 ghost use Rattle.am_files.specs.Words.{fault_of_universe_file, UniversePlace, universe_fault_at};
 ghost use Rattle.am_files.specs.Words.{IsFirstFaultOfUniverse, IsFirstFaultOfUniverseFile};
 ghost use Rattle.am_files.specs.Words.{Configuration, SaysConfig, FileSaysConfig, read_config};
@@ -86,7 +87,6 @@ pub fn the_smallest_configuration()
 
 /// The limits of the files.
 pub fn files_have_limits()
-    ensures bytes { MAX_FILE_BYTES ≡ 16777216 }
     ensures receivers { MAX_RECEIVERS ≡ 1024 }
     ensures routes { MAX_ROUTES ≡ 1024 }
     ensures levels { MAX_LEVELS ≡ 32 }

@@ -9,11 +9,6 @@
 // How much there may be.
 pub mod limits;
 
-// A JSON value, looked at part by part, and why it is refused.
-mod json;
-mod pointer;
-mod read_error;
-
 // The universe file.
 mod universe_file;
 

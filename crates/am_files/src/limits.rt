@@ -1,7 +1,4 @@
-//! How much there may be in a file. These limits are this project's own.
-
-/// The most bytes of a file.
-pub const MAX_FILE_BYTES: usize = 16_777_216;
+//! How much there may be in a configuration file. These limits are this project's own.
 
 /// The most receivers of a configuration.
 pub const MAX_RECEIVERS: usize = 1024;

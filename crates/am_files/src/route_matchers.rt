@@ -2,9 +2,9 @@
 
 ghost use Rattle.std.specs.Prelude.{◌≡◌, ◌≢◌, [], ◌∷◌, map, option_map, Err, IsErrAnd};
 ghost use Rattle.am_universe.specs.declared.kind.Kind.TheVariants as kinds;
-ghost use Rattle.am_files.specs.declared.read_error.ReadError.TheVariants as errors;
+ghost use Rattle.am_json.specs.declared.read_error.ReadError.TheVariants as errors;
 ghost use Rattle.serde_json.specs.View.{view, members_view};
-ghost use Rattle.am_files.specs.Words.{to_item, member_list, Gives, IsRefusalOrMemory, read_each};
+ghost use Rattle.am_json.specs.Words.{to_item, member_list, Gives, IsRefusalOrMemory, read_each};
 ghost use Rattle.am_files.specs.Words.{matcher_fields_view, read_matchers, optional_texts};
 ghost use Rattle.am_files.specs.Words.{read_texts, read_matcher_texts, read_next_matcher_text};
 ghost use Rattle.am_files.specs.Words.{read_matcher_text, text_refusal, append_matchers};
@@ -12,9 +12,9 @@ ghost use Rattle.am_files.specs.Words.{optional_pairs, read_pairs, read_next_pai
 ghost use Rattle.am_files.specs.Words.{read_matcher_pair, read_named_text, label_name_fault};
 ghost use Rattle.am_files.specs.Words.{refuse_root_matchers};
 
-use crate::json::{as_items, as_object, as_text, field, refuse_for};
-use crate::pointer::{within_field, within_item};
-use crate::read_error::ReadError;
+use am_json::{
+    ReadError, as_items, as_object, as_text, field, refuse_for, within_field, within_item,
+};
 use am_labels::{Kind, Matcher, Matchers, Op, parse_matchers};
 use serde_json::{Map, Value};
 use std::alloc::Global;
@@ -29,7 +29,7 @@ pub(crate) struct MatcherFields<'n> {
 }
 
 /// The matchers of the three fields, one behind the other.
-#[tactic(auto, using(crate::proofs::Readings::steps), unfolding(crate::specs::ConfigReading::read_matchers))]
+#[tactic(auto, using(am_json::proofs::Readings::steps), unfolding(crate::specs::ConfigReading::read_matchers))]
 pub(crate) fn read_matchers(
     alloc: Global,
     fields: MatcherFields<'_>,
@@ -51,7 +51,7 @@ pub(crate) fn read_matchers(
     optional_pairs(alloc, is_root, Op::Matches, patterns, found, matched)
 }
 
-#[tactic(auto, using(crate::proofs::Readings::steps))]
+#[tactic(auto, using(am_json::proofs::Readings::steps))]
 fn optional_texts(
     alloc: Global,
     is_root: bool,
@@ -67,7 +67,7 @@ fn optional_texts(
     }
 }
 
-#[tactic(auto, using(crate::proofs::Readings::steps), unfolding(crate::specs::ConfigReading::read_texts))]
+#[tactic(auto, using(am_json::proofs::Readings::steps), unfolding(crate::specs::ConfigReading::read_texts))]
 fn read_texts(alloc: Global, is_root: bool, value: &Value) -> Result<Matchers, ReadError>
     ensures { Gives (λ ms. ms) result (read_texts is_root (view value.now)) }
 {
@@ -87,7 +87,7 @@ fn read_each_text(alloc: Global, items: &[Value]) -> Result<Matchers, ReadError>
 }
 
 /// The matchers of a text, which stands at this position, behind others.
-#[tactic(auto, using(crate::proofs::Readings::steps), unfolding(crate::specs::ConfigReading::read_next_matcher_text))]
+#[tactic(auto, using(am_json::proofs::Readings::steps), unfolding(crate::specs::ConfigReading::read_next_matcher_text))]
 fn read_next_matcher_text(
     alloc: Global,
     before: Matchers,
@@ -134,7 +134,7 @@ fn append_matchers(alloc: Global, before: Matchers, more: Matchers) -> Result<Ma
     }
 }
 
-#[tactic(auto, using(crate::proofs::Readings::steps))]
+#[tactic(auto, using(am_json::proofs::Readings::steps))]
 fn optional_pairs(
     alloc: Global,
     is_root: bool,
@@ -152,7 +152,7 @@ fn optional_pairs(
     }
 }
 
-#[tactic(auto, using(crate::proofs::Readings::steps), unfolding(crate::specs::ConfigReading::read_pairs))]
+#[tactic(auto, using(am_json::proofs::Readings::steps), unfolding(crate::specs::ConfigReading::read_pairs))]
 fn read_pairs(
     alloc: Global,
     is_root: bool,
@@ -183,7 +183,7 @@ fn read_each_pair(
     Ok(found)
 }
 
-#[tactic(auto, using(crate::proofs::Readings::steps), unfolding(crate::specs::ConfigReading::read_next_pair))]
+#[tactic(auto, using(am_json::proofs::Readings::steps), unfolding(crate::specs::ConfigReading::read_next_pair))]
 fn read_next_pair(
     alloc: Global,
     op: Op,
@@ -209,7 +209,7 @@ fn push_matcher(alloc: Global, before: Matchers, matcher: Matcher) -> Result<Mat
 }
 
 /// The matcher of a name and a text.
-#[tactic(auto, using(crate::proofs::Readings::steps), unfolding(crate::specs::ConfigReading::read_matcher_pair))]
+#[tactic(auto, using(am_json::proofs::Readings::steps), unfolding(crate::specs::ConfigReading::read_matcher_pair))]
 fn read_matcher_pair(alloc: Global, op: Op, name: &str, value: &Value) -> Result<Matcher, ReadError>
     ensures { Gives (λ m. m) result (read_matcher_pair op name.now (view value.now)) }
 {

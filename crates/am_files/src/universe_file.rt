@@ -5,18 +5,17 @@ ghost use Rattle.std.specs.Prelude.{IfErr, OnOk, string_bytes, option_map};
 ghost use Rattle.serde_json.specs.View.{view};
 ghost use Rattle.am_universe.specs.declared.kind.Kind.TheVariants as kinds;
 ghost use Rattle.am_universe.specs.declared.place.Place.TheVariants as places;
-ghost use Rattle.am_files.specs.declared.read_error.ReadError.TheVariants as errors;
+ghost use Rattle.am_json.specs.declared.read_error.ReadError.TheVariants as errors;
 ghost use Rattle.am_labels.specs.Words.{label_fault, label_of, texts_of};
-ghost use Rattle.am_files.specs.Words.{to_item, Gives, refusal_of, reading_within, read_items};
+ghost use Rattle.am_json.specs.Words.{to_item, Gives, refusal_of, reading_within, read_items};
 ghost use Rattle.am_files.specs.Words.{FileSaysUniverse, read_value, read_next_value, read_values};
 ghost use Rattle.am_files.specs.Words.{read_next_label, read_labels, read_universe};
 ghost use Rattle.am_files.specs.Words.{read_universe_file, IsFirstFaultOfUniverseFile};
 
-use crate::json::{
-    as_text, check_count, check_only_fields, read_json, refuse_for, required_items, required_text,
+use am_json::{
+    ReadError, as_text, check_count, check_only_fields, read_json, refuse_for, required_items,
+    required_text, within_field, within_item,
 };
-use crate::pointer::{within_field, within_item};
-use crate::read_error::ReadError;
 use am_labels::{Fault, Kind, Place, Universe};
 use am_universe::limits::MAX_LABELS;
 use serde_json::Value;
@@ -52,7 +51,7 @@ pub fn read_universe(alloc: Global, bytes: &[u8]) -> Result<Universe, Fault>
     }
 }
 
-#[tactic(auto, using(crate::proofs::Readings::steps), unfolding(crate::specs::UniverseFile::read_universe_file))]
+#[tactic(auto, using(am_json::proofs::Readings::steps), unfolding(crate::specs::UniverseFile::read_universe_file))]
 fn read_universe_file(alloc: Global, bytes: &[u8]) -> Result<Universe, ReadError>
     ensures { Gives (λ u. u) result (read_universe_file bytes.now) }
 {
@@ -60,7 +59,7 @@ fn read_universe_file(alloc: Global, bytes: &[u8]) -> Result<Universe, ReadError
     read_universe_object(alloc, &value)
 }
 
-#[tactic(auto, using(crate::proofs::Readings::steps), unfolding(crate::specs::UniverseFile::read_universe))]
+#[tactic(auto, using(am_json::proofs::Readings::steps), unfolding(crate::specs::UniverseFile::read_universe))]
 fn read_universe_object(alloc: Global, value: &Value) -> Result<Universe, ReadError>
     ensures { Gives (λ u. u) result (read_universe (view value.now)) }
 {
@@ -106,7 +105,7 @@ fn add(universe: &mut Universe, label: (String, Vec<Option<String>>)) -> Result<
 }
 
 /// The item whose position is the number of labels so far.
-#[tactic(auto, using(crate::proofs::Readings::steps))]
+#[tactic(auto, using(am_json::proofs::Readings::steps))]
 fn read_label_item(
     alloc: Global,
     universe: &Universe,
@@ -124,7 +123,7 @@ fn read_label_item(
 }
 
 /// A label behind those of the universe: its name and its values.
-#[tactic(auto, using(crate::proofs::Readings::steps), unfolding(crate::specs::UniverseFile::read_next_label))]
+#[tactic(auto, using(am_json::proofs::Readings::steps), unfolding(crate::specs::UniverseFile::read_next_label))]
 fn read_next_label(
     alloc: Global,
     universe: &Universe,

@@ -1,5 +1,5 @@
 use Rattle.std.proofs.Common.{◌+◌, ◌≤◌, vec_len}
-use Rattle.am_files.specs.declared.limits.TheConstants.{MAX_FILE_BYTES}
+use Rattle.am_json.specs.declared.limits.TheConstants.{MAX_FILE_BYTES}
 use Rattle.am_commands.proofs.read_file.read_file.Given as goal
 
 abbrev pub invariant-loop : goal.invariant-loop

@@ -4,7 +4,7 @@ use Rattle.std.proofs.lemmas.List.{length-append}
 use Rattle.am_labels.specs.Matcher.{all_hold}
 use Rattle.am_files.specs.ConfigFile.{matchers_of, continues_of}
 use Rattle.am_files.specs.RouteView.{route_view}
-use Rattle.am_files.proofs.Items.{left_is}
+use Rattle.am_json.proofs.Items.{left_is}
 use Rattle.am_eval.specs.Routing.{is_last}
 use Rattle.am_eval.proofs.ChildEnds.{child_within, is_last-true, is_last-goes_on}
 use Rattle.am_eval.proofs.ChildEnds.{is_last-unmatched, one_more, last_one}

@@ -4,14 +4,14 @@ use Rattle.std.proofs.lemmas.List.{map_push, length-map}
 use Rattle.serde_json.specs.View.{view}
 use Rattle.am_files.specs.declared.limits.TheConstants.{MAX_ROUTES}
 use Rattle.am_files.specs.declared.route.Route.{fold-roll-Route}
-use Rattle.am_files.specs.Pointer.{to_field, to_item}
-use Rattle.am_files.specs.Reading.{read_items, Gives, IsReadingWithin}
+use Rattle.am_json.specs.Pointer.{to_field, to_item}
+use Rattle.am_json.specs.Reading.{read_items, Gives, IsReadingWithin}
 use Rattle.am_files.specs.RouteView.{view_step, route_view, names_of}
 use Rattle.am_files.specs.ConfigView.{fields_view}
 use Rattle.am_files.specs.ConfigFile.{RouteTree, routes_count, routes_of, route_count}
 use Rattle.am_files.specs.ConfigReading.{read_next_child}
-use Rattle.am_files.proofs.Readings.{leads-refl, within_gives, within_if_ok}
-use Rattle.am_files.proofs.Items.{item_goes_on, item_ends, items_done}
+use Rattle.am_json.proofs.Readings.{leads-refl, within_gives, within_if_ok}
+use Rattle.am_json.proofs.Items.{item_goes_on, item_ends, items_done}
 use Rattle.am_files.proofs.Routing.{too_deep, fields_fail, children_fail, children_give, are_read}
 use Rattle.am_files.proofs.Routing.{count_push}
 use Rattle.am_files.proofs.config_file.+routes.Goals as goal
@@ -47,7 +47,7 @@ read_route-returns-in_err-routes-clause-reads t c =
     (map view c.in_ok-fields.fields.items.now) in
     let g = within_gives (λ rs. map route_view rs.0.items) (to_field (codes "routes"))
     c.read_routes.result c.within_field.result m c.read_routes.ensures.reads
-    c.within_field.ensures in
+    c.within_field.ensures.within in
     rw (p.1, p.2) (children_fail (names_of c.args.names.now) c.args.levels c.args.parent
     c.args.before (view c.args.value.now) (fields_view c.in_ok-fields.fields)
     c.in_err-routes.field-0.0 c.if-levels-eq0.false c.in_ok-fields.ensures
@@ -60,7 +60,7 @@ read_route-returns-clause-reads t c =
     (map view c.in_ok-fields.fields.items.now) in
     let g = within_gives (λ rs. map route_view rs.0.items) (to_field (codes "routes"))
     c.read_routes.result c.within_field.result m c.read_routes.ensures.reads
-    c.within_field.ensures in
+    c.within_field.ensures.within in
     rw (fold-roll-Route RouteTree view_step _)
     (children_give (names_of c.args.names.now) c.args.levels c.args.parent c.args.before
     (view c.args.value.now) (fields_view c.in_ok-fields.fields)
@@ -71,7 +71,7 @@ pub read_route-returns-clause-number : goal.read_route-returns-clause-number
 read_route-returns-clause-number t c =
     let n = within_if_ok (to_field (codes "routes")) c.read_routes.result c.within_field.result
     (λ rs. (rs.1 ≡ (c.args.before + 1) + routes_count (routes_of (map route_view rs.0.items)))
-    × (rs.1 ≤ MAX_ROUTES)) c.read_routes.ensures.number c.within_field.ensures in
+    × (rs.1 ≤ MAX_ROUTES)) c.read_routes.ensures.number c.within_field.ensures.within in
     let m = rw c.in_ok-routes.was at n in
     (rw (fold-roll-Route RouteTree view_step _) (omega (arith, m.0)), m.1)
 
@@ -101,7 +101,7 @@ read_routes-returns-in_err-route-clause-reads t c =
     let part : c.len.result ≡ length so_far =
     omega (arith, c.len.ensures, l.routes.ok.0, length-map l.routes.items route_view) in
     let seen : IsReadingWithin (to_item (length so_far)) c.read_route-found.result
-    c.within_item.result = rw part at c.within_item.ensures in
+    c.within_item.result = rw part at c.within_item.ensures.within in
     let g = within_gives (λ r. route_view r.0) (to_item (length so_far)) c.read_route-found.result
     c.within_item.result (read so_far (view c.item-item.result)) one seen in
     rw (p.1, p.2) (item_ends view read c.in_err-route.field-0.0 so_far c.args.items.now l.item-index
@@ -121,7 +121,7 @@ read_routes-loop-item-preserved t c =
     let part : c.len.result ≡ length so_far =
     omega (arith, c.len.ensures, l.routes.ok.0, length-map l.routes.items route_view) in
     let seen : IsReadingWithin (to_item (length so_far)) c.read_route-found.result
-    c.within_item.result = rw part at c.within_item.ensures in
+    c.within_item.result = rw part at c.within_item.ensures.within in
     let g = within_gives (λ r. route_view r.0) (to_item (length so_far)) c.read_route-found.result
     c.within_item.result (read so_far (view c.item-item.result)) one seen in
     let n = within_if_ok (to_item (length so_far)) c.read_route-found.result c.within_item.result

@@ -1,11 +1,11 @@
 use Rattle.std.proofs.Common.{◌≡◌, [], map, drop, ◌+◌, ◌*◌, ◌≤◌}
 use Rattle.serde_json.specs.View.{view}
 use Rattle.am_files.specs.declared.limits.TheConstants.{MAX_ROUTES}
-use Rattle.am_files.specs.Reading.{read_items}
+use Rattle.am_json.specs.Reading.{read_items}
 use Rattle.am_files.specs.RouteView.{route_view, names_of}
 use Rattle.am_files.specs.ConfigFile.{routes_count, routes_of}
 use Rattle.am_files.specs.ConfigReading.{read_next_child}
-use Rattle.am_files.proofs.Readings.{Leads}
+use Rattle.am_json.proofs.Readings.{Leads}
 use Rattle.am_files.proofs.config_file.+routes.Given as goal
 
 -- what is left behind the children so far leads the reading of all, and they are counted

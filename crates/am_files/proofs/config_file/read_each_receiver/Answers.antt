@@ -2,11 +2,11 @@ use Rattle.std.proofs.Common.{◌≡◌, [], ◌∷◌, ◌++◌, map, string_by
 use Rattle.std.proofs.lemmas.Result.{err_from_is_err_and}
 use Rattle.std.proofs.lemmas.List.{map_push}
 use Rattle.serde_json.specs.View.{view}
-use Rattle.am_files.specs.Reading.{read_items}
+use Rattle.am_json.specs.Reading.{read_items}
 use Rattle.am_files.specs.RouteView.{names_of}
 use Rattle.am_files.specs.ConfigReading.{read_next_receiver}
-use Rattle.am_files.proofs.Readings.{leads-refl}
-use Rattle.am_files.proofs.Items.{item_goes_on, item_ends, items_done}
+use Rattle.am_json.proofs.Readings.{leads-refl}
+use Rattle.am_json.proofs.Items.{item_goes_on, item_ends, items_done}
 use Rattle.am_files.proofs.config_file.read_each_receiver.Goals as goal
 
 pub loop-item-init : goal.loop-item-init

@@ -1,9 +1,9 @@
 use Rattle.std.proofs.Common.{[], map, drop}
 use Rattle.serde_json.specs.View.{view}
-use Rattle.am_files.specs.Reading.{read_items}
+use Rattle.am_json.specs.Reading.{read_items}
 use Rattle.am_files.specs.RouteView.{names_of}
 use Rattle.am_files.specs.ConfigReading.{read_next_receiver}
-use Rattle.am_files.proofs.Readings.{Leads}
+use Rattle.am_json.proofs.Readings.{Leads}
 use Rattle.am_files.proofs.config_file.read_each_receiver.Given as goal
 
 -- what is left behind the names so far leads the reading of all

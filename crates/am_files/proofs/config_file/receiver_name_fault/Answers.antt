@@ -2,7 +2,7 @@ use Rattle.std.proofs.Common.{◌≡◌, ℕ, List, [], ◌∷◌, length, ◌==
 use Rattle.std.proofs.Common.{is_some, position, refl, sym, ◌∙◌}
 use Rattle.am_universe.specs.Text.{same_text}
 use Rattle.am_universe.specs.declared.kind.Kind.TheVariants as kinds
-use Rattle.am_files.specs.Json.{is_one_of}
+use Rattle.am_json.specs.Json.{is_one_of}
 use Rattle.am_files.specs.RouteView.{names_of}
 use Rattle.am_files.specs.ConfigFaults.{receiver_name_fault}
 use Rattle.am_files.proofs.Positions.{position_any}

@@ -1,4 +1,4 @@
-use Rattle.am_files.proofs.Readings.{says_one, fault_decides}
+use Rattle.am_json.proofs.Readings.{says_one, fault_decides}
 use Rattle.am_files.proofs.ConfigSays.{file_decides}
 use Rattle.am_files.proofs.ConfigFaultLemmas.{config_file_first, config_file_refused}
 use Rattle.am_files.proofs.laws.configuration_files_are_read.Goals as goal

@@ -1,4 +1,4 @@
-use Rattle.am_files.proofs.Readings.{says_one, fault_decides}
+use Rattle.am_json.proofs.Readings.{says_one, fault_decides}
 use Rattle.am_files.proofs.ConfigSays.{config_decides, config_says, config_reads}
 use Rattle.am_files.proofs.ConfigFaultLemmas.{config_first, config_sound, config_refused}
 use Rattle.am_files.proofs.laws.configurations_are_read.Goals as goal

@@ -1,4 +1,4 @@
-use Rattle.am_files.proofs.Readings.{says_one, fault_decides}
+use Rattle.am_json.proofs.Readings.{says_one, fault_decides}
 use Rattle.am_files.proofs.UniverseSays.{file_decides}
 use Rattle.am_files.proofs.UniverseFaultLemmas.{universe_file_first}
 use Rattle.am_files.proofs.laws.universe_files_are_read.Goals as goal

@@ -1,4 +1,4 @@
-use Rattle.am_files.proofs.Readings.{says_one, fault_decides}
+use Rattle.am_json.proofs.Readings.{says_one, fault_decides}
 use Rattle.am_files.proofs.UniverseSays.{universe_decides, universe_says, universe_reads}
 use Rattle.am_files.proofs.UniverseFaultLemmas.{universe_first, universe_sound}
 use Rattle.am_files.proofs.laws.universes_are_read.Goals as goal

@@ -2,9 +2,9 @@ use Rattle.std.proofs.Common.{◌≡◌, List, [], ap, rules, string_bytes}
 use Rattle.std.proofs.lemmas.Result.{err_from_is_err_and}
 use Rattle.serde_json.specs.View.{view, members_view}
 use Rattle.serde_json.proofs.Views.{Entry}
-use Rattle.am_files.specs.Json.{member_list}
+use Rattle.am_json.specs.Json.{member_list}
 use Rattle.am_files.specs.ConfigReading.{read_next_pair}
-use Rattle.am_files.proofs.Items.{goes_on, ends, is_done}
+use Rattle.am_json.proofs.Items.{goes_on, ends, is_done}
 use Rattle.am_files.proofs.route_matchers.read_each_pair.Goals as goal
 
 pub returns-in_err-found : goal.returns-in_err-found

@@ -1,8 +1,8 @@
 use Rattle.serde_json.specs.View.{members_view}
-use Rattle.am_files.specs.Json.{member_list}
-use Rattle.am_files.specs.Reading.{read_each}
+use Rattle.am_json.specs.Json.{member_list}
+use Rattle.am_json.specs.Reading.{read_each}
 use Rattle.am_files.specs.ConfigReading.{read_next_pair}
-use Rattle.am_files.proofs.Readings.{Leads}
+use Rattle.am_json.proofs.Readings.{Leads}
 use Rattle.am_files.proofs.route_matchers.read_each_pair.Given as goal
 
 -- what is left behind the matchers so far leads the reading of all

@@ -3,8 +3,8 @@ use Rattle.std.specs.List.{enumerate_from}
 use Rattle.std.proofs.lemmas.Result.{err_from_is_err_and}
 use Rattle.serde_json.specs.View.{view}
 use Rattle.am_files.specs.ConfigReading.{read_next_matcher_text, read_matcher_texts}
-use Rattle.am_files.proofs.Readings.{leads-refl}
-use Rattle.am_files.proofs.Items.{goes_on, ends, is_done, left_is, none_left}
+use Rattle.am_json.proofs.Readings.{leads-refl}
+use Rattle.am_json.proofs.Items.{goes_on, ends, is_done, left_is, none_left}
 use Rattle.am_files.proofs.route_matchers.read_each_text.Goals as goal
 
 pub loop-i-init : goal.loop-i-init

@@ -1,9 +1,9 @@
 use Rattle.std.proofs.Common.{map, drop}
 use Rattle.std.specs.List.{enumerate_from}
 use Rattle.serde_json.specs.View.{view}
-use Rattle.am_files.specs.Reading.{read_each}
+use Rattle.am_json.specs.Reading.{read_each}
 use Rattle.am_files.specs.ConfigReading.{read_next_matcher_text, read_matcher_texts}
-use Rattle.am_files.proofs.Readings.{Leads}
+use Rattle.am_json.proofs.Readings.{Leads}
 use Rattle.am_files.proofs.route_matchers.read_each_text.Given as goal
 
 -- what is left behind the matchers so far leads the reading of all

@@ -3,10 +3,10 @@ use Rattle.std.proofs.lemmas.Result.{err_from_is_err_and}
 use Rattle.serde_json.specs.View.{view}
 use Rattle.am_universe.specs.declared.limits.TheConstants.{MAX_LABELS}
 use Rattle.am_universe.specs.UniverseView.{label_of}
-use Rattle.am_files.specs.Reading.{read_items}
+use Rattle.am_json.specs.Reading.{read_items}
 use Rattle.am_files.specs.UniverseFile.{read_next_label}
-use Rattle.am_files.proofs.Readings.{leads-refl}
-use Rattle.am_files.proofs.Items.{item_goes_on, item_ends, items_done}
+use Rattle.am_json.proofs.Readings.{leads-refl}
+use Rattle.am_json.proofs.Items.{item_goes_on, item_ends, items_done}
 use Rattle.am_files.proofs.UniverseSays.{no_fault_read}
 use Rattle.am_files.proofs.universe_file.read_each_label.Goals as goal
 

@@ -1,8 +1,8 @@
 use Rattle.std.proofs.Common.{◌≡◌, [], length, map, drop}
 use Rattle.serde_json.specs.View.{view}
-use Rattle.am_files.specs.Reading.{read_items}
+use Rattle.am_json.specs.Reading.{read_items}
 use Rattle.am_files.specs.UniverseFile.{read_next_label}
-use Rattle.am_files.proofs.Readings.{Leads}
+use Rattle.am_json.proofs.Readings.{Leads}
 use Rattle.am_files.proofs.universe_file.read_each_label.Given as goal
 
 -- what is left behind the labels so far leads the reading of all

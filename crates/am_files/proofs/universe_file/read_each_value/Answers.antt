@@ -3,10 +3,10 @@ use Rattle.std.proofs.lemmas.Result.{err_from_is_err_and}
 use Rattle.std.proofs.lemmas.List.{map_push}
 use Rattle.serde_json.specs.View.{view}
 use Rattle.am_universe.specs.UniverseView.{texts_of}
-use Rattle.am_files.specs.Reading.{read_items}
+use Rattle.am_json.specs.Reading.{read_items}
 use Rattle.am_files.specs.UniverseFile.{read_next_value}
-use Rattle.am_files.proofs.Readings.{leads-refl}
-use Rattle.am_files.proofs.Items.{item_goes_on, item_ends, items_done}
+use Rattle.am_json.proofs.Readings.{leads-refl}
+use Rattle.am_json.proofs.Items.{item_goes_on, item_ends, items_done}
 use Rattle.am_files.proofs.universe_file.read_each_value.Goals as goal
 
 pub loop-item-init : goal.loop-item-init

@@ -1,9 +1,9 @@
 use Rattle.std.proofs.Common.{[], map, drop}
 use Rattle.serde_json.specs.View.{view}
 use Rattle.am_universe.specs.UniverseView.{texts_of}
-use Rattle.am_files.specs.Reading.{read_items}
+use Rattle.am_json.specs.Reading.{read_items}
 use Rattle.am_files.specs.UniverseFile.{read_next_value}
-use Rattle.am_files.proofs.Readings.{Leads}
+use Rattle.am_json.proofs.Readings.{Leads}
 use Rattle.am_files.proofs.universe_file.read_each_value.Given as goal
 
 -- what is left behind the values so far leads the reading of all

@@ -1,7 +1,7 @@
 use Rattle.am_universe.specs.declared.place.Place.TheVariants as places
-use Rattle.am_files.specs.Reading.{refusal_of}
+use Rattle.am_json.specs.Reading.{refusal_of}
 use Rattle.am_files.specs.UniverseFile.{read_universe_file}
-use Rattle.am_files.proofs.Readings.{fault_of_file}
+use Rattle.am_json.proofs.Readings.{fault_of_file}
 use Rattle.am_files.proofs.UniverseFaultLemmas.{universe_file_refused}
 use Rattle.am_files.proofs.UniverseSays.{file_decides}
 use Rattle.am_files.proofs.universe_file.read_universe.Goals as goal
@@ -17,5 +17,5 @@ returns-in-Err-clause-first c = λ other.
     let refusal = refusal_of c.at.result in
     let is =
     fault_of_file places.Universe c.in-Err.error c.at.result (read_universe_file bytes)
-    c.at.ensures c.in-Err.ensures other in
+    c.at.ensures.fault c.in-Err.ensures other in
     (is.0, universe_file_refused bytes refusal is.1)

@@ -1,0 +1,13 @@
+pub mod Values
+pub mod Pointers
+pub mod Readings
+pub mod Items
+pub mod Fields
+pub mod Keys
+pub mod PlaceOrder
+pub mod SameReadings
+pub mod PlaceLemmas
+pub mod SequenceLemmas
+pub mod FieldLemmas
+pub mod ObjectLemmas
+pub mod FileLemmas

@@ -1,0 +1,9 @@
+use Rattle.std.proofs.Common.{◌≡◌, ◌++◌, string_bytes}
+use Rattle.std.specs.List.{flat_map}
+use Rattle.am_json.specs.Pointer.{pointer_escape, to_field}
+use Rattle.am_json.proofs.pointer.to_field.Given as goal
+
+-- what is written, and what is left to write
+abbrev pub invariant-loop-character : goal.invariant-loop-character
+invariant-loop-character l =
+    string_bytes l.part ++ flat_map pointer_escape l.character-iterator.rest.now ≡ to_field l.key

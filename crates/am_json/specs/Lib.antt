@@ -1,0 +1,5 @@
+pub mod Words
+pub mod Json
+pub mod Pointer
+pub mod Places
+pub mod Reading

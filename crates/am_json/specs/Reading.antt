@@ -1,0 +1,224 @@
+-- Reading a JSON value field by field, with the first fault that is met. (This project's own.)
+-- Readings serve the proofs of the readers; what callers are told of a fault is said by places.
+use Rattle.std.specs.Prelude.{◌≡◌, ◌≢◌, ◌⊎◌, ℕ, List, [], ◌∷◌, ◌++◌, length, map}
+use Rattle.std.specs.Prelude.{Option, Some, None, option_map, ok_or, Result, Ok, Err}
+use Rattle.std.specs.Prelude.{IsErrAnd, string_bytes, ⊤}
+use Rattle.std.specs.Result.{result_map_both}
+use Rattle.serde_json.specs.Data.{Data, Members}
+use Rattle.serde_json.specs.Find as find
+use Rattle.am_universe.specs.declared.kind.Kind.{Kind}
+use Rattle.am_universe.specs.declared.kind.Kind.TheVariants as kinds
+use Rattle.am_universe.specs.declared.place.Place.{Place}
+use Rattle.am_universe.specs.declared.place.Place.TheVariants as places
+use Rattle.am_universe.specs.declared.fault.Fault.{Fault}
+use Rattle.am_json.specs.declared.read_error.ReadError.{ReadError}
+use Rattle.am_json.specs.declared.read_error.ReadError.TheVariants as errors
+use Rattle.am_json.specs.declared.limits.TheConstants.{MAX_FILE_BYTES}
+use Rattle.am_json.specs.Json.{json_of, field, unknown_field, items_of}
+use Rattle.am_json.specs.Pointer.{Refusal, refusal_here, refusal_within, to_field, to_item}
+use Rattle.am_json.specs.Places.{limit_fault}
+
+-- ---- Readings.
+
+-- What reading a value comes to. Whether the engine builds a pattern that its grammar reads is the
+-- engine's to say, so a refusal is left open at each pattern of the profile that is met. All else
+-- is exact.
+pub record Reading (A : Type 0) : Type 0 where
+  -- the value, or the first fault, where the engine builds each pattern that its grammar reads
+  pub result : Result A Refusal
+  -- the pointers of the patterns of the profile that were met, in order
+  pub patterns : List (List ℕ)
+
+-- A result, and no pattern is met.
+abbrev pub without_patterns : {A : Type 0} → Result A Refusal → Reading A
+without_patterns result = record { result = result; patterns = [] }
+
+-- The value is accepted.
+abbrev pub accept : {A : Type 0} → A → Reading A
+accept x = without_patterns (Ok x)
+
+-- The value that there is, or else this refusal.
+abbrev pub accept_some : {A : Type 0} → Option A → Refusal → Reading A
+accept_some found r = without_patterns (ok_or found r)
+
+-- The value is refused so.
+abbrev pub refuse : {A : Type 0} → Refusal → Reading A
+refuse r = without_patterns (Err r)
+
+-- Refused so, where there is a refusal.
+abbrev pub err_where : Option Refusal → Result ⊤ Refusal
+err_where None = Ok tt
+err_where (Some r) = Err r
+
+abbrev pub refuse_where : Option Refusal → Reading ⊤
+refuse_where found = without_patterns (err_where found)
+
+-- The result of what is read of a value, or the refusal that there is none.
+abbrev pub result_then : {A B : Type 0} → Result A Refusal → (A → Result B Refusal)
+    → Result B Refusal
+result_then (Ok x) f = f x
+result_then (Err r) f = Err r
+
+-- The patterns that are met in reading of a value, which are none where there is none.
+abbrev pub patterns_then : {A : Type 0} → Result A Refusal → (A → List (List ℕ)) → List (List ℕ)
+patterns_then (Ok x) f = f x
+patterns_then (Err r) f = []
+
+-- One reading, and then another of what it gave; the first refusal counts.
+infixl 10 ◌>>=◌
+abbrev pub ◌>>=◌ : {A B : Type 0} → Reading A → (A → Reading B) → Reading B
+m >>= f = record {
+  result = result_then m.result (λ x. (f x).result);
+  patterns = m.patterns ++ patterns_then m.result (λ x. (f x).patterns);
+}
+
+-- What reading a part comes to, seen from the value that has the part.
+abbrev pub reading_within : {A : Type 0} → List ℕ → Reading A → Reading A
+reading_within part m = record {
+  result = result_map_both (λ x. x) (refusal_within part) m.result;
+  patterns = map (λ pointer. part ++ pointer) m.patterns;
+}
+
+-- The refusal is that of a pattern at one of these pointers.
+abbrev pub IsPatternRefusal : List (List ℕ) → Refusal → Type 0
+IsPatternRefusal [] r = ⊥
+IsPatternRefusal (pointer ∷ more) r =
+    (r ≡ record { kind = kinds.Pattern; pointer = pointer }) ⊎ IsPatternRefusal more r
+
+-- A reading may refuse so: it is the first fault, or the refusal of a pattern that was met before
+-- it.
+abbrev pub MayRefuse : {A : Type 0} → Reading A → Refusal → Type 0
+MayRefuse m r = (m.result ≡ Err r) ⊎ IsPatternRefusal m.patterns r
+
+-- ---- What a reader returns.
+
+-- The error is this refusal, or memory ran out.
+abbrev pub IsRefusalOrMemory : ReadError → Refusal → Type 0
+IsRefusalOrMemory errors.Memory r = Unit {0}
+IsRefusalOrMemory (errors.Refused found) r = found ≡ r
+
+-- What a reader fails with is a refusal of the reading, unless memory ran out.
+abbrev pub Fails : {Y : Type 0} → ReadError → Reading Y → Type 0
+Fails errors.Memory reading = Unit {0}
+Fails (errors.Refused r) reading = MayRefuse reading r
+
+-- What a reader returned, seen by `view`, is what the reading gives, unless memory ran out.
+abbrev pub Gives : {X Y : Type 0} → (X → Y) → Result X ReadError → Reading Y → Type 0
+Gives view (Ok x) reading = reading.result ≡ Ok (view x)
+Gives view (Err e) reading = Fails e reading
+
+-- What reading a part returned, seen from the value that has the part.
+abbrev pub IsReadingWithin : {X : Type 0} → List ℕ → Result X ReadError → Result X ReadError
+    → Type 0
+IsReadingWithin part (Ok x) seen = seen ≡ Ok x
+IsReadingWithin part (Err errors.Memory) seen = seen ≡ Err errors.Memory
+IsReadingWithin part (Err (errors.Refused r)) seen =
+    IsErrAnd seen (λ e. IsRefusalOrMemory e (refusal_within part r))
+
+-- ---- The fault of a file.
+
+-- The refusal that a fault tells of.
+abbrev pub refusal_of : Fault → Refusal
+refusal_of fault = record { kind = fault.kind; pointer = string_bytes fault.pointer }
+
+-- A fault tells of a refusal in the file at this place. It is neither of memory nor of writing.
+pub record IsFaultAt (place : Place) (r : Refusal) (fault : Fault) : Type 0 where
+  pub memory : fault.kind ≢ kinds.Memory
+  pub no_write : fault.kind ≢ kinds.Write
+  pub place_is : fault.place ≡ place
+  pub refusal_is : refusal_of fault ≡ r
+
+-- A fault tells that memory ran out: it stands at the place `Memory`, with no pointer.
+pub record IsMemoryFault (fault : Fault) : Type 0 where
+  pub kind_is : fault.kind ≡ kinds.Memory
+  pub place_is : fault.place ≡ places.Memory
+  pub pointer_is : string_bytes fault.pointer ≡ []
+
+-- The fault that a reader's error is, in the file at this place.
+abbrev pub IsFaultOf : Place → ReadError → Fault → Type 0
+IsFaultOf place errors.Memory fault = IsMemoryFault fault
+IsFaultOf place (errors.Refused r) fault = IsFaultAt place r fault
+
+-- ---- Checks.
+
+-- Refused here, where there is a cause.
+abbrev pub refuse_for : Option Kind → Reading ⊤
+refuse_for cause = refuse_where (option_map refusal_here cause)
+
+-- Refused as `limit` where there are more than so many.
+abbrev pub check_count : ℕ → ℕ → Reading ⊤
+check_count limit count = refuse_for (limit_fault limit count)
+
+-- ---- The kinds of values.
+
+-- The members of an object, and `shape` for a value of another kind.
+abbrev pub as_object : Data → Reading Members
+as_object d = accept_some (find.as_object d) (refusal_here kinds.Shape)
+
+-- The text that the value is, and `shape` for a value of another kind.
+abbrev pub as_text : Data → Reading (List ℕ)
+as_text d = accept_some (find.as_str d) (refusal_here kinds.Shape)
+
+-- The items of an array, and `shape` for a value of another kind.
+abbrev pub as_items : Data → Reading (List Data)
+as_items d = accept_some (items_of d) (refusal_here kinds.Shape)
+
+-- ---- The fields of an object.
+
+-- Refused as `unknown-field` at this field, where there is one.
+abbrev pub refuse_unknown_field : Option (List ℕ) → Reading ⊤
+refuse_unknown_field found =
+    refuse_where
+    (option_map (λ key. refusal_within (to_field key) (refusal_here kinds.UnknownField)) found)
+
+-- An object that has no fields but these.
+unfoldable pub check_only_fields : List (List ℕ) → Data → Reading ⊤
+check_only_fields known d = do
+  members ← as_object d
+  refuse_unknown_field (unknown_field known members)
+
+-- A field that has to be there, and `shape` at it where it is absent.
+abbrev pub required_field : List ℕ → Data → Reading Data
+required_field key d =
+    accept_some (field key d) (refusal_within (to_field key) (refusal_here kinds.Shape))
+
+-- The text in a field that has to be there.
+unfoldable pub required_text : List ℕ → Data → Reading (List ℕ)
+required_text key d = do
+  value ← required_field key d
+  reading_within (to_field key) (as_text value)
+
+-- The items of the array in a field that has to be there.
+unfoldable pub required_items : List ℕ → Data → Reading (List Data)
+required_items key d = do
+  value ← required_field key d
+  reading_within (to_field key) (as_items value)
+
+-- ---- One behind the other.
+
+-- What is read of a list, where `read` reads one behind what was read before it.
+unfoldable pub read_each : {A X : Type 0} → (A → X → Reading A) → A → List X → Reading A
+read_each read before [] = accept before
+read_each read before (x ∷ xs) = do
+  next ← read before x
+  read_each read next xs
+
+-- An item of an array, whose position is the number of those before it, with them.
+unfoldable pub read_next_item : {A : Type 0} → (List A → Data → Reading A) → List A → Data
+    → Reading (List A)
+read_next_item read before d = do
+  x ← reading_within (to_item (length before)) (read before d)
+  accept (before ++ x ∷ [])
+
+-- The items behind those that were read already, where `read` reads one behind others.
+abbrev pub read_items : {A : Type 0} → (List A → Data → Reading A) → List A → List Data
+    → Reading (List A)
+read_items read = read_each (read_next_item read)
+
+-- ---- A file.
+
+-- The JSON value of a file: `limit` for too many bytes, else `not-json` where those have none.
+unfoldable pub read_json : List ℕ → Reading Data
+read_json bytes = do
+  _ ← check_count MAX_FILE_BYTES (length bytes)
+  accept_some (json_of bytes) (refusal_here kinds.NotJson)

@@ -1,0 +1,196 @@
+//! The parts of a JSON value, each refused where it is not of its kind.
+
+ghost use Rattle.std.specs.Prelude.{◌≡◌, ◌≢◌, Some, map, option_map};
+ghost use Rattle.serde_json.specs.View.{view, members_view};
+ghost use Rattle.am_universe.specs.declared.kind.Kind.TheVariants as kinds;
+ghost use Rattle.am_json.specs.Words.{json_of, field, is_one_of, is_unknown, unknown_field};
+ghost use Rattle.am_json.specs.Words.{refusal_here, Gives, accept_some, refuse_for, check_count};
+ghost use Rattle.am_json.specs.Words.{as_object, as_text, as_items, check_only_fields};
+ghost use Rattle.am_json.specs.Words.{required_field, required_text, required_items, read_json};
+
+use crate::limits::MAX_FILE_BYTES;
+use crate::pointer::within_field;
+use crate::read_error::ReadError;
+use am_universe::Kind;
+use serde_json::{Map, Value};
+use std::alloc::Global;
+
+/// The JSON value of the bytes of a file.
+/// - `Limit`: there are more than [`MAX_FILE_BYTES`] bytes;
+/// - `NotJson`: the bytes have no JSON value.
+///
+/// The whole value is in memory, which may run out for it.
+#[tactic(auto, unfolding(crate::specs::Reading::read_json))]
+pub fn read_json(alloc: Global, bytes: &[u8]) -> Result<Value, ReadError>
+    ensures reading { Gives view result (read_json bytes.now) }
+{
+    check_count(alloc, MAX_FILE_BYTES, bytes.len())?;
+    value_of(alloc, bytes)
+}
+
+fn value_of(alloc: Global, bytes: &[u8]) -> Result<Value, ReadError>
+    ensures { Gives view result (accept_some (json_of bytes.now) (refusal_here kinds.NotJson)) }
+{
+    match Value::from_slice(alloc, bytes) {
+        Ok(value) => Ok(value),
+        Err(error) => {
+            if error.is_memory() {
+                return Err(ReadError::Memory);
+            }
+            Err(ReadError::refused(alloc, Kind::NotJson))
+        }
+    }
+}
+
+/// Refuses the value that is looked at where it has more than `limit` parts, of which there are
+/// `count`: the refusal is `Limit`. No memory is taken.
+pub fn check_count(alloc: Global, limit: usize, count: usize) -> Result<(), ReadError>
+    ensures reading { Gives (λ _. tt) result (check_count limit count) }
+{
+    if count > limit {
+        return Err(ReadError::refused(alloc, Kind::Limit));
+    }
+    Ok(())
+}
+
+/// Refuses the value that is looked at for this cause, if there is one. A cause is never `Write`,
+/// and `Memory` says that memory ran out. No memory is taken.
+pub fn refuse_for(alloc: Global, cause: Option<Kind>) -> Result<(), ReadError>
+    requires { cause ≢ Some kinds.Write }
+    ensures reading { Gives (λ _. tt) result (refuse_for cause) }
+{
+    match cause {
+        None => Ok(()),
+        Some(kind) => Err(ReadError::refused(alloc, kind)),
+    }
+}
+
+/// The members of the object that the value is. The only refusal is `Shape`: it is no object. No
+/// memory is taken.
+pub fn as_object(alloc: Global, value: &Value) -> Result<&Map<String, Value>, ReadError>
+    ensures reading { Gives (λ m. members_view m.now.entries) result (as_object (view value.now)) }
+{
+    match value.as_object() {
+        Some(members) => Ok(members),
+        None => Err(ReadError::refused(alloc, Kind::Shape)),
+    }
+}
+
+/// The text that the value is. The only refusal is `Shape`: it is no text. No memory is taken.
+pub fn as_text(alloc: Global, value: &Value) -> Result<&str, ReadError>
+    ensures reading { Gives (λ t. t.now) result (as_text (view value.now)) }
+{
+    match value.as_str() {
+        Some(text) => Ok(text),
+        None => Err(ReadError::refused(alloc, Kind::Shape)),
+    }
+}
+
+/// The items of the array that the value is. The only refusal is `Shape`: it is no array. No memory
+/// is taken.
+pub fn as_items(alloc: Global, value: &Value) -> Result<&[Value], ReadError>
+    ensures reading { Gives (λ items. map view items.now) result (as_items (view value.now)) }
+{
+    match value.as_array() {
+        Some(items) => Ok(items.as_slice()),
+        None => Err(ReadError::refused(alloc, Kind::Shape)),
+    }
+}
+
+/// Refuses a value that is not an object whose fields are all among these. A field that is `null`
+/// counts as absent.
+/// - `Shape`: the value is no object;
+/// - `UnknownField`, at the field: the first field, by the bytes of its key, that is none of these.
+///
+/// Memory may run out for the pointer of a refusal.
+#[tactic(auto, unfolding(crate::specs::Reading::check_only_fields))]
+pub fn check_only_fields(alloc: Global, value: &Value, known: &[&str]) -> Result<(), ReadError>
+    ensures reading { Gives (λ _. tt) result
+        (check_only_fields (map (λ key. key.now) known.now) (view value.now)) }
+{
+    let members = as_object(alloc, value)?;
+    match unknown_field(members, known) {
+        Some(key) => within_field(
+            alloc,
+            key,
+            Err(ReadError::refused(alloc, Kind::UnknownField)),
+        ),
+        None => Ok(()),
+    }
+}
+
+/// The least field that is none of these.
+fn unknown_field<'v>(members: &'v Map<String, Value>, known: &[&str]) -> Option<&'v str>
+    ensures { option_map (λ key. key.now) result
+        ≡ unknown_field (map (λ key. key.now) known.now) (members_view members.now.entries) }
+{
+    for (key, value) in members.iter() {
+        if is_unknown(known, key.as_str(), value) {
+            return Some(key.as_str());
+        }
+    }
+    None
+}
+
+fn is_unknown(known: &[&str], key: &str, value: &Value) -> bool
+    ensures { result ≡ is_unknown (map (λ name. name.now) known.now) key.now (view value.now) }
+{
+    !value.is_null() && !is_one_of(key, known)
+}
+
+fn is_one_of(key: &str, names: &[&str]) -> bool
+    ensures { result ≡ is_one_of key.now (map (λ name. name.now) names.now) }
+{
+    names.contains(&key)
+}
+
+/// The value of the field of this name, if there is one: the value that is looked at is an object
+/// and has it, and it is not `null`.
+pub fn field<'v>(value: &'v Value, key: &str) -> Option<&'v Value>
+    ensures value { option_map (λ v. view v.now) result ≡ field key.now (view value.now) }
+{
+    match value.get(key) {
+        Some(found) if !found.is_null() => Some(found),
+        _ => None,
+    }
+}
+
+/// The value of the field of this name. The only refusal is `Shape`, at the field: it is absent, as
+/// [`field`] says. Memory may run out for its pointer.
+pub fn required_field<'v>(
+    alloc: Global,
+    value: &'v Value,
+    key: &str,
+) -> Result<&'v Value, ReadError>
+    ensures reading { Gives (λ v. view v.now) result (required_field key.now (view value.now)) }
+{
+    match field(value, key) {
+        Some(found) => Ok(found),
+        None => within_field(alloc, key, Err(ReadError::refused(alloc, Kind::Shape))),
+    }
+}
+
+/// The text in the field of this name. The only refusal is `Shape`, at the field: it is absent, as
+/// [`field`] says, or is no text. Memory may run out for its pointer.
+#[tactic(auto, unfolding(crate::specs::Reading::required_text))]
+pub fn required_text<'v>(alloc: Global, value: &'v Value, key: &str) -> Result<&'v str, ReadError>
+    ensures reading { Gives (λ t. t.now) result (required_text key.now (view value.now)) }
+{
+    let found = required_field(alloc, value, key)?;
+    within_field(alloc, key, as_text(alloc, found))
+}
+
+/// The items of the array in the field of this name. The only refusal is `Shape`, at the field: it
+/// is absent, as [`field`] says, or is no array. Memory may run out for its pointer.
+#[tactic(auto, unfolding(crate::specs::Reading::required_items))]
+pub fn required_items<'v>(
+    alloc: Global,
+    value: &'v Value,
+    key: &str,
+) -> Result<&'v [Value], ReadError>
+    ensures reading { Gives (λ items. map view items.now) result
+        (required_items key.now (view value.now)) }
+{
+    let found = required_field(alloc, value, key)?;
+    within_field(alloc, key, as_items(alloc, found))
+}

@@ -1,0 +1,98 @@
+//! Why a reader gives no value, from the value that is looked at on.
+
+ghost use Rattle.std.specs.Prelude.{◌≡◌, ◌≢◌};
+ghost use Rattle.am_universe.specs.declared.kind.Kind.TheVariants as kinds;
+ghost use Rattle.am_json.specs.declared.read_error.ReadError.TheVariants.{Memory};
+ghost use Rattle.am_json.specs.Words.{refusal_here, IsRefusalOrMemory, IsFaultAt, IsFaultOf};
+
+use am_universe::{Fault, Kind, Place};
+use std::alloc::{AllocError, AllocFailed, Global};
+use std::marker::Model;
+
+/// Why a file is refused, which is never that memory ran out or a write failed, and at which part:
+/// a JSON Pointer (RFC 6901), from the value that is looked at.
+#[derive(Drop)]
+pub struct Refusal {
+    pub(crate) kind: Kind,
+    pub(crate) pointer: String,
+}
+
+impl Model for Refusal {
+    ghost use Rattle.std.specs.Prelude.{string_bytes, ◌≢◌};
+    ghost use Rattle.am_universe.specs.declared.kind.Kind.TheVariants as kinds;
+    ghost use Rattle.am_json.specs.Pointer as spec;
+
+    ghost Value = { spec.Refusal };
+
+    ghost view = { λ r. record { kind = r.kind; pointer = string_bytes r.pointer } };
+
+    ghost invariant = { λ r. (r.kind ≢ kinds.Memory) × (r.kind ≢ kinds.Write) };
+}
+
+impl Refusal {
+    /// The fault in the file at this place.
+    fn at(self, place: Place) -> Fault
+        ensures { IsFaultAt place self result }
+    {
+        Fault {
+            kind: self.kind,
+            place,
+            pointer: self.pointer,
+        }
+    }
+}
+
+/// Why a reader gives no value.
+#[derive(Drop)]
+pub enum ReadError {
+    /// Memory ran out.
+    Memory,
+    /// The value that is looked at is refused.
+    Refused(Refusal),
+}
+
+impl ReadError {
+    /// The value that is looked at is refused for this kind, which is never `Write`; where it is
+    /// `Memory`, memory ran out. No memory is taken.
+    pub fn refused(alloc: Global, kind: Kind) -> ReadError
+        requires { kind ≢ kinds.Write }
+        ensures refusal { IsRefusalOrMemory result (refusal_here kind) }
+        ensures memory { kind ≡ kinds.Memory → result ≡ Memory }
+    {
+        if kind == Kind::Memory {
+            return ReadError::Memory;
+        }
+        ReadError::Refused(Refusal {
+            kind,
+            pointer: String::new(alloc),
+        })
+    }
+
+    /// The fault that it is, where the value that is looked at is that of the whole file at this
+    /// place. That memory ran out stands at the place `Memory`, with no pointer. This takes no
+    /// memory.
+    pub fn at(self, alloc: Global, place: Place) -> Fault
+        ensures fault { IsFaultOf place self result }
+    {
+        match self {
+            ReadError::Memory => Fault::memory(alloc),
+            ReadError::Refused(refusal) => refusal.at(place),
+        }
+    }
+}
+
+impl From<AllocError> for ReadError {
+    ghost from_gives = { λ _ e. e ≡ Memory };
+
+    fn from(_error: AllocError) -> ReadError {
+        ReadError::Memory
+    }
+}
+
+impl<T: Drop> From<AllocFailed<T>> for ReadError {
+    ghost from_gives = { λ _ e. e ≡ Memory };
+
+    fn from(_error: AllocFailed<T>) -> ReadError {
+        ReadError::Memory
+    }
+}
