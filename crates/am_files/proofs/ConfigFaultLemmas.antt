@@ -15,7 +15,7 @@ use Rattle.am_files.specs.ConfigFaults.{ReceiverPlace, RoutePlace, TextsPlace, c
 use Rattle.am_files.specs.ConfigFaults.{config_field_fault, config_field_path, config_path}
 use Rattle.am_files.specs.ConfigFaults.{config_receivers, config_route, config_route_at}
 use Rattle.am_files.specs.ConfigFaults.{config_rules, declared_names, field_pairs, has_pattern}
-use Rattle.am_files.specs.ConfigFaults.{is_profile_pattern, one_pair, one_text, pair_total}
+use Rattle.am_files.specs.ConfigFaults.{one_pair, one_text, pair_total}
 use Rattle.am_files.specs.ConfigFaults.{pairs_given, pairs_itself, pairs_path, receiver_fault_at}
 use Rattle.am_files.specs.ConfigFaults.{receiver_field_fault, receiver_field_path, receiver_name}
 use Rattle.am_files.specs.ConfigFaults.{receiver_name_fault, receiver_path, root_fault, route_at}
@@ -37,6 +37,7 @@ use Rattle.am_json.specs.Reading.{IsPatternRefusal, MayRefuse, Reading, accept, 
 use Rattle.am_json.specs.Reading.{as_object, read_items, reading_within, refuse_for}
 use Rattle.am_json.specs.Reading.{required_field, required_text, ◌>>=◌}
 use Rattle.am_files.specs.declared.limits.TheConstants.{MAX_LEVELS, MAX_RECEIVERS}
+use Rattle.am_files.specs.MatcherFaults.{is_profile_pattern}
 use Rattle.am_files.proofs.ConfigParts.{name_says}
 use Rattle.am_files.proofs.ConfigSays.{config_decides}
 use Rattle.am_json.proofs.FieldLemmas.{items_form, items_seen, items_sequence, text_field_judges}
@@ -92,7 +93,7 @@ module _ (before : List Data) (d : Data) where
       text_field_judges receiver_fields 1 (codes "name") d
       (receiver_name_fault (map name_of before)) (λ _. receiver_name) name_part none_yet
       (λ name. accept name)
-      (λ name all. judges_plain receiver_fields (Ok name) (receiver_clear all))
+      (λ name _ all. judges_plain receiver_fields (Ok name) (receiver_clear all))
 
   pub receiver_judged : Judges (open_form (find.as_object d) receiver_fields)
       (read_next_receiver (map name_of before) d)
@@ -230,8 +231,8 @@ module _ (d : Data) where
   receivers_part = record {
     rank = refl;
     seen = items_seen receiver_path receiver_fault_at (λ _. open_pattern (λ _. false))
-        (λ _ place. no_open_pattern place) (limit_fault MAX_RECEIVERS) (codes "receivers") 1
-        (field (codes "receivers") d);
+        (limit_fault MAX_RECEIVERS) (codes "receivers") 1 (field (codes "receivers") d)
+        (λ _ place. no_open_pattern place);
     covers = receivers_cover;
   }
 

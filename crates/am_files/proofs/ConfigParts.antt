@@ -8,8 +8,7 @@ use Rattle.std.specs.List.{AllZip, IsDistinct, position, enumerate_from}
 use Rattle.std.specs.List.{flat_map}
 use Rattle.std.proofs.lemmas.Bool.{and_parts}
 use Rattle.std.proofs.lemmas.Slice.Zip.{AllZip-long}
-use Rattle.serde_json.specs.Data.{Data, null, boolean, number, string, array, object}
-use Rattle.serde_json.specs.Find.{as_bool}
+use Rattle.serde_json.specs.Data.{Data, string}
 use Rattle.am_universe.specs.declared.kind.Kind.TheVariants as kinds
 use Rattle.am_labels.specs.declared.op.Op.{Op}
 use Rattle.am_universe.specs.Text.{same_text}
@@ -27,23 +26,25 @@ use Rattle.am_json.specs.Pointer.{refusal_here, to_field, to_item}
 use Rattle.am_json.specs.Reading.{accept_some, reading_within, refuse_for, check_count, as_text}
 use Rattle.am_json.specs.Reading.{as_object, required_text, required_items, read_each, read_items}
 use Rattle.am_files.specs.ConfigFile.{SaysName, SaysReceiver, SaysMatcherText, HasItems}
-use Rattle.am_files.specs.ConfigFile.{SaysNamedText, SaysMatcherPair, SaysContinue}
+use Rattle.am_files.specs.ConfigFile.{SaysNamedText, SaysMatcherPair}
 use Rattle.am_files.specs.ConfigReading.{read_next_receiver}
 use Rattle.am_files.specs.ConfigFaults.{receiver_name_fault}
 use Rattle.am_files.specs.ConfigReading.{read_receiver_names, read_receivers, receiver_named}
-use Rattle.am_files.specs.ConfigReading.{effective_receiver, read_receiver, boolean_or_false}
-use Rattle.am_files.specs.ConfigReading.{read_continue, optional_items, read_children}
-use Rattle.am_files.specs.ConfigReading.{pattern_fault, check_patterns, append_matchers}
+use Rattle.am_files.specs.ConfigReading.{effective_receiver, read_receiver, optional_items}
+use Rattle.am_files.specs.ConfigReading.{read_children}
+use Rattle.am_files.specs.ConfigReading.{append_matchers}
 use Rattle.am_files.specs.ConfigReading.{read_matcher_text, read_next_matcher_text}
-use Rattle.am_files.specs.ConfigReading.{label_name_fault, read_named_text, read_matcher_pair}
+use Rattle.am_files.specs.ConfigReading.{read_named_text, read_matcher_pair}
 use Rattle.am_files.specs.ConfigReading.{read_next_pair}
+use Rattle.am_files.specs.MatcherFaults.{check_matcher, check_patterns, label_name_fault}
+use Rattle.am_files.specs.MatcherFaults.{pattern_fault}
 use Rattle.am_json.proofs.Readings.{bind_ok, within_ok, refuse_for_ok, check_count_ok}
 use Rattle.am_json.proofs.Readings.{check_count_fits, ok_or_some, same_read}
 use Rattle.am_json.proofs.Items.{AllFit, items_say, items_read}
 use Rattle.am_json.proofs.Fields.{as_text_says, as_text_reads, as_object_says, as_object_reads}
 use Rattle.am_json.proofs.Fields.{required_text_says, required_text_reads, required_items_say}
 use Rattle.am_json.proofs.Fields.{required_items_read}
-use Rattle.am_files.proofs.Matching.{named_passes, name_is_some, pair_gives, text_gives}
+use Rattle.am_files.proofs.Matching.{named_passes, name_is_some, text_gives}
 
 -- ---- The names of receivers.
 
@@ -221,34 +222,7 @@ receiver_reads names parent d r (inr said) =
           refl
     ]
 
--- ---- Whether later siblings are tried, and the values of the children.
-
-bool_is : (d : Data) (b : Bool) → as_bool d ≡ Some b → d ≡ boolean b
-bool_is null b h = absurd cc
-bool_is (boolean c) b h = cc
-bool_is (number n) b h = absurd cc
-bool_is (string s) b h = absurd cc
-bool_is (array ds) b h = absurd cc
-bool_is (object ms) b h = absurd cc
-
-truth_says : (d : Data) (found : Option Data) (b : Bool) → field (codes "continue") d ≡ found
-    → (boolean_or_false found).result ≡ Ok b → SaysContinue d b
-truth_says d None b is h = inl (is, sym (same_read false b h))
-truth_says d (Some v) b is h =
-    inr (is ∙ ap (λ (x : Data). Some x)
-    (bool_is v b (ok_or_some (as_bool v) (refusal_here kinds.Shape) b h)))
-
-pub continue_says : (d : Data) (b : Bool) → (read_continue d).result ≡ Ok b → SaysContinue d b
-unfolding read_continue
-continue_says d b h =
-    truth_says d (field (codes "continue") d) b refl
-    (within_ok (to_field (codes "continue"))
-    ((boolean_or_false (field (codes "continue") d)).result) b h)
-
-pub continue_reads : (d : Data) (b : Bool) → SaysContinue d b → (read_continue d).result ≡ Ok b
-unfolding read_continue
-continue_reads d b (inl said) = rw (said.0, said.1) refl
-continue_reads d b (inr said) = rw said refl
+-- ---- The values of the children.
 
 pub optional_items_say : (key : List ℕ) (d : Data) (found : Option Data) (items : List Data)
     → field key d ≡ found → (optional_items found).result ≡ Ok items → HasItems key d items
@@ -288,9 +262,19 @@ sound_by : (m : Condition) (ms : List Condition) (b : Bool) → has_valid_patter
 sound_by m ms true is h rest = rw (is, rest h) refl
 sound_by m ms false is h rest = absurd cc
 
-passes_sound : (ms : List Condition) → pattern_fault ms ≡ None → IsTrue (have_valid_patterns ms)
+pub passes_sound : (ms : List Condition) → pattern_fault ms ≡ None → IsTrue (have_valid_patterns ms)
 passes_sound [] h = refl
 passes_sound (m ∷ ms) h = sound_by m ms (has_valid_pattern m) refl h (passes_sound ms)
+
+pub checked_says : (n m : Condition) → (check_matcher n).result ≡ Ok m
+    → (n ≡ m) × IsTrue (has_valid_pattern n)
+checked_says n m h =
+    let fine = bind_ok ((check_patterns (n ∷ [])).result) (λ _. Ok n) m h in
+    let valid = passes_sound (n ∷ []) (refuse_for_ok (pattern_fault (n ∷ [])) fine.0 fine.1) in
+    (same_read n m fine.2, (and_parts (has_valid_pattern n) true valid).0)
+
+pub checked_reads : (m : Condition) → IsTrue (has_valid_pattern m) → (check_matcher m).result ≡ Ok m
+checked_reads m valid = rw valid refl
 
 pub sound_append : (xs ys : List Condition) → IsTrue (have_valid_patterns xs)
     → IsTrue (have_valid_patterns ys) → IsTrue (have_valid_patterns (xs ++ ys))
@@ -511,34 +495,28 @@ pair_says : (op : Op) (name : List ℕ) (d : Data) (m : Condition)
 unfolding read_matcher_pair
 pair_says op name d m h =
     let text = bind_ok ((read_named_text name d).result) _ m h in
-    let sound =
-    bind_ok ((check_patterns (record { name = name; op = op; value = text.0 } ∷ [])).result) _ m
-    text.2 in
-    let is : record { name = name; op = op; value = text.0 } ≡ m = same_read _ m sound.2 in
-    let all : SaysMatcherPair op (name, d) (record { name = name; op = op; value = text.0 })
-    × IsTrue (have_valid_patterns (record { name = name; op = op; value = text.0 } ∷ [])) = (
-      (named_text_says name d text.0 text.1, refl),
-      passes_sound (record { name = name; op = op; value = text.0 } ∷ [])
-          (refuse_for_ok (pattern_fault (record { name = name; op = op; value = text.0 } ∷ []))
-          sound.0 sound.1),
-    ) in
+    let made : Condition = record { name = name; op = op; value = text.0 } in
+    let checked = checked_says made m text.2 in
     subst (λ (x : Condition). SaysMatcherPair op (name, d) x × IsTrue (have_valid_patterns (x ∷ [])))
-    is all
+    checked.0 ((named_text_says name d text.0 text.1, refl), rw checked.1 refl)
 
-same_condition : (m : Condition) (name : List ℕ) (op : Op) → m.name ≡ name → m.op ≡ op
+pub same_condition : (m : Condition) (name : List ℕ) (op : Op) → m.name ≡ name → m.op ≡ op
     → record { name = name; op = op; value = m.value } ≡ m
 same_condition m name op n o = rw (← n, ← o) refl
 
 pair_reads : (op : Op) (name : List ℕ) (d : Data) (m : Condition) → SaysMatcherPair op (name, d) m
     → IsTrue (have_valid_patterns (m ∷ [])) → (read_matcher_pair op name d).result ≡ Ok m
+unfolding read_matcher_pair
 pair_reads op name d m said sound =
     let same : record { name = name; op = op; value = m.value } ≡ m =
     same_condition m name op said.0.0 said.1 in
     let fine =
     subst (λ (x : Condition). IsTrue (has_valid_pattern x)) (sym same)
     (and_parts (has_valid_pattern m) true sound).0 in
-    pair_gives op name d m.value (named_text_reads name d m.value (refl, said.0.1, said.0.2)) fine
-    ∙ ap (λ (x : Condition). Ok x) same
+    rw (
+      named_text_reads name d m.value (refl, said.0.1, said.0.2),
+      checked_reads (record { name = name; op = op; value = m.value }) fine,
+    ) (ap (λ (x : Condition). Ok x) same)
 
 pub pairs_say : (op : Op) (before : List Condition) (pairs : List (List ℕ × Data))
     (all : List Condition) → (read_each (read_next_pair op) before pairs).result ≡ Ok all

@@ -31,13 +31,14 @@ use Rattle.am_files.specs.ConfigReading.{read_next_child, refuse_inhibit_rules, 
 use Rattle.am_files.specs.ConfigReading.{read_config_file}
 use Rattle.am_json.proofs.Readings.{bind_ok, within_ok, ok_or_some, same_read, check_count_fits}
 use Rattle.am_json.proofs.Readings.{Decides}
-use Rattle.am_json.proofs.Fields.{only_fields_read, as_object_says}
+use Rattle.am_json.proofs.Fields.{only_fields_read, as_object_says, boolean_or_says}
+use Rattle.am_json.proofs.Fields.{boolean_or_reads}
 use Rattle.am_json.proofs.Items.{item_first}
 use Rattle.am_json.proofs.Fields.{file_decided}
 use Rattle.am_files.proofs.Routing.{are_read, count_push}
 use Rattle.am_files.proofs.Sound.{is_read, no_level, root_unmatched, route_sound}
 use Rattle.am_files.proofs.ConfigParts.{names_say, names_read, receiver_says, receiver_reads}
-use Rattle.am_files.proofs.ConfigParts.{continue_says, continue_reads, optional_items_say}
+use Rattle.am_files.proofs.ConfigParts.{optional_items_say}
 use Rattle.am_files.proofs.ConfigParts.{optional_items_read, children_say, children_read, Adds}
 use Rattle.am_files.proofs.ConfigParts.{adds_none, SaysTexts, texts_say, texts_read, pairs_say}
 use Rattle.am_files.proofs.ConfigParts.{pairs_read, sound_append, sound_apart}
@@ -237,7 +238,8 @@ fields_say names parent before d fields h =
       matchers_are =
           matchers_say route_matcher_fields (is_none parent) d fields.settings.matchers
           read.matchers;
-      continues_is = continue_says d fields.settings.continues read.continues;
+      continues_is = boolean_or_says false (codes "continue") d fields.settings.continues
+          read.continues;
       is_array = children_say d fields.items read.items;
     }
 
@@ -253,7 +255,7 @@ fields_read names parent before d fields said room none =
       receiver_reads names parent d fields.settings.receiver said.receiver_is,
       matchers_read route_matcher_fields (is_none parent) d fields.settings.matchers
           said.matchers_are none,
-      continue_reads d fields.settings.continues said.continues_is,
+      boolean_or_reads false (codes "continue") d fields.settings.continues said.continues_is,
       children_read d fields.items said.is_array,
     ) refl
 

@@ -5,6 +5,8 @@ pub mod Routing
 pub mod Sound
 pub mod ConfigParts
 pub mod ConfigSays
+pub mod SilencesSays
+pub mod SilencesExample
 pub mod UniverseFaultLemmas
 pub mod ConfigExamples
 pub mod SmallestConfig
@@ -15,6 +17,8 @@ pub mod RouteParts
 pub mod RouteSteps
 pub mod RouteFaultLemmas
 pub mod ConfigFaultLemmas
+pub mod SilenceMatcherFaultLemmas
+pub mod SilencesFaultLemmas
 pub mod StoredPath
 pub mod Paths
 pub mod Numerals

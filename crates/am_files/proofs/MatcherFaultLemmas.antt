@@ -14,13 +14,14 @@ use Rattle.am_labels.specs.Matcher.{Condition}
 use Rattle.am_labels.specs.MatcherReading.{read_list}
 use Rattle.am_labels.specs.declared.limits.TheConstants.{MAX_MATCHERS}
 use Rattle.am_files.specs.ConfigFaults.{TextsPlace, array_shape, given_fault}
-use Rattle.am_files.specs.ConfigFaults.{is_profile_pattern, item_matchers, one_pattern_fault}
+use Rattle.am_files.specs.ConfigFaults.{item_matchers}
 use Rattle.am_files.specs.ConfigFaults.{one_text, spelling_fault, text_alone, text_pattern}
 use Rattle.am_files.specs.ConfigFaults.{text_total, texts_fault, texts_given, texts_itself}
 use Rattle.am_files.specs.ConfigFaults.{texts_matcher, texts_path}
-use Rattle.am_files.specs.ConfigReading.{append_matchers, check_patterns, optional_texts}
+use Rattle.am_files.specs.ConfigReading.{append_matchers, optional_texts}
 use Rattle.am_files.specs.ConfigReading.{read_matcher_text, read_matcher_texts}
 use Rattle.am_files.specs.ConfigReading.{read_next_matcher_text, read_texts, refuse_root_matchers}
+use Rattle.am_files.specs.MatcherFaults.{check_patterns, is_profile_pattern, one_pattern_fault}
 use Rattle.am_json.specs.Json.{items_of}
 use Rattle.am_json.specs.Places.{Step, array_item, if_there, items_in_field, limit_fault, rank_of}
 use Rattle.am_json.specs.Places.{shape_or, turn}

@@ -4,8 +4,6 @@ use Rattle.std.proofs.Common.{◌&&◌, cond, Option, Some, None, Result, Ok, Er
 use Rattle.std.proofs.Common.{refl, sym, subst}
 use Rattle.std.specs.Prelude.{IsErrAnd}
 use Rattle.std.proofs.lemmas.Bool.{and_parts}
-use Rattle.serde_json.specs.Data.{Data}
-use Rattle.am_labels.specs.declared.op.Op.{Op}
 use Rattle.am_universe.specs.declared.kind.Kind.{Kind}
 use Rattle.am_universe.specs.declared.kind.Kind.TheVariants as kinds
 use Rattle.am_labels.specs.declared.limits.TheConstants.{MAX_MATCHERS}
@@ -20,15 +18,14 @@ use Rattle.am_labels.proofs.MatcherTextWhole.{list_is_read, list_is_spelled}
 use Rattle.am_json.specs.declared.read_error.ReadError.{ReadError}
 use Rattle.am_json.specs.declared.read_error.ReadError.TheVariants as errors
 use Rattle.am_json.specs.Pointer.{Refusal, refusal_here, refusal_within}
-use Rattle.am_json.specs.Reading.{Reading, ◌>>=◌, accept, accept_some, reading_within, refuse_for}
+use Rattle.am_json.specs.Reading.{Reading, ◌>>=◌, accept, accept_some, reading_within}
 use Rattle.am_json.specs.Reading.{check_count, IsPatternRefusal, MayRefuse, IsRefusalOrMemory}
-use Rattle.am_json.specs.Reading.{Fails, Gives}
-use Rattle.am_files.specs.ConfigReading.{pattern_fault, profile_patterns, check_patterns}
-use Rattle.am_files.specs.ConfigReading.{read_matcher_text, text_refusal, read_named_text}
-use Rattle.am_files.specs.ConfigReading.{read_matcher_pair, label_name_fault}
+use Rattle.am_json.specs.Reading.{Gives}
+use Rattle.am_files.specs.ConfigReading.{read_matcher_text, text_refusal}
+use Rattle.am_files.specs.MatcherFaults.{check_matcher, check_patterns, label_name_fault}
+use Rattle.am_files.specs.MatcherFaults.{pattern_fault, profile_patterns}
 use Rattle.am_json.proofs.Readings.{pattern_right, refuses_first, refuses_later, refuses_within}
-use Rattle.am_json.proofs.Readings.{here_fails, fails_later, check_count_fits, check_count_over}
-use Rattle.am_json.proofs.Readings.{bind_ok, refuse_for_ok}
+use Rattle.am_json.proofs.Readings.{check_count_fits, check_count_over}
 
 -- ---- Patterns.
 
@@ -74,7 +71,7 @@ patterns_refused ms kind refused =
     (refused_at refused.before refused.refused refused.after refused.earlier
     refused.value.pattern)
 
--- ---- A pair of a name and a text.
+-- ---- The name of a label.
 
 pub named_passes : (name : List ℕ) → name ≢ [] → label_name_fault name ≡ None
 named_passes [] h = absurd (h refl)
@@ -84,48 +81,15 @@ pub name_is_some : (name : List ℕ) → label_name_fault name ≡ None → name
 name_is_some [] h = absurd cc
 name_is_some (c ∷ cs) h = λ e. cc
 
-pub text_has_name : (name : List ℕ) (d : Data) (text : List ℕ)
-    → (read_named_text name d).result ≡ Ok text → name ≢ []
-unfolding read_named_text
-text_has_name name d text h =
-    let free = bind_ok ((refuse_for (label_name_fault name)).result) _ text h in
-    name_is_some name (refuse_for_ok (label_name_fault name) free.0 free.1)
+-- ---- One matcher.
 
--- the matcher of a pair, behind the reading of its text
-abbrev pub behind_text : Op → List ℕ → List ℕ → Reading Condition
-behind_text op name text =
-    check_patterns (record { name = name; op = op; value = text } ∷ [])
-    >>= λ _. accept (record { name = name; op = op; value = text })
-
-pub pair_gives : (op : Op) (name : List ℕ) (d : Data) (text : List ℕ)
-    → (read_named_text name d).result ≡ Ok text
-    → IsTrue (has_valid_pattern (record { name = name; op = op; value = text }))
-    → (read_matcher_pair op name d).result ≡ Ok (record { name = name; op = op; value = text })
-unfolding read_matcher_pair
-pair_gives op name d text is sound = rw (is, sound) refl
-
-pair_refused : (op : Op) (name text : List ℕ) (kind : Kind) → name ≢ []
-    → MatcherRefusedFor (record { name = name; op = op; value = text }) kind
-    → MayRefuse (behind_text op name text) (refusal_here kind)
-pair_refused op name text kind some (inl unnamed) = absurd (some unnamed.0)
-pair_refused op name text kind some (inr value) =
-    let m : Condition = record { name = name; op = op; value = text } in
+pub matcher_refused : (m : Condition) (kind : Kind) → m.name ≢ [] → MatcherRefusedFor m kind
+    → MayRefuse (check_matcher m) (refusal_here kind)
+matcher_refused m kind some (inl unnamed) = absurd (some unnamed.0)
+matcher_refused m kind some (inr value) =
     let at : MayRefuse (check_patterns (m ∷ [])) (refusal_here kind) =
     rw value.1.kind_is (refused_at [] m [] refl value.1.pattern) in
     refuses_first (check_patterns (m ∷ [])) (λ _. accept m) (refusal_here kind) at
-
-pub pair_fails : (op : Op) (name : List ℕ) (d : Data) (text : List ℕ) (kind : Kind) (e : ReadError)
-    → (read_named_text name d).result ≡ Ok text
-    → (kind ≢ kinds.Memory → MatcherRefusedFor (record { name = name; op = op; value = text }) kind)
-    → IsRefusalOrMemory e (refusal_here kind) → (kind ≡ kinds.Memory → e ≡ errors.Memory)
-    → Fails e (read_matcher_pair op name d)
-unfolding read_matcher_pair
-pair_fails op name d text kind e is refused tells memory =
-    let some = text_has_name name d text is in
-    let here =
-    here_fails kind e (behind_text op name text) tells memory
-    (λ other. pair_refused op name text kind some (refused other)) in
-    fails_later e (read_named_text name d) (behind_text op name) text is here
 
 -- ---- A text.
 

@@ -1,7 +1,7 @@
 -- The first fault of pairs of a name and a text, by their places.
-use Rattle.std.proofs.Common.{Bool, List, None, Ok, Option, Some, [], add-zero, ap, append-nil}
+use Rattle.std.proofs.Common.{Bool, List, None, Ok, Option, Some, [], add-zero, ap}
 use Rattle.std.proofs.Common.{arith, false, length, length-append, option_and_then, option_map}
-use Rattle.std.proofs.Common.{refl, slice_get, subst, suc, sym, take, true, unwrap_or, zero, ℕ}
+use Rattle.std.proofs.Common.{refl, slice_get, subst, sym, take, true, unwrap_or, ℕ}
 use Rattle.std.proofs.Common.{◌++◌, ◌+◌, ◌∙◌, ◌∷◌, ◌≡◌}
 use Rattle.std.specs.Prelude.{⊤}
 use Rattle.serde_json.specs.Data.{Data, Members}
@@ -13,26 +13,27 @@ use Rattle.am_labels.specs.Matcher.{Condition}
 use Rattle.am_labels.specs.declared.limits.TheConstants.{MAX_MATCHERS}
 use Rattle.am_labels.specs.declared.op.Op.{Op}
 use Rattle.am_files.specs.ConfigFaults.{PairsPlace, field_pairs, given_fault}
-use Rattle.am_files.specs.ConfigFaults.{is_profile_pattern, name_of_pair, object_shape, one_pair}
-use Rattle.am_files.specs.ConfigFaults.{one_pattern_fault, pair_fault, pair_matcher, pair_name}
+use Rattle.am_files.specs.ConfigFaults.{name_of_pair, object_shape, one_pair}
+use Rattle.am_files.specs.ConfigFaults.{pair_fault, pair_matcher, pair_name}
 use Rattle.am_files.specs.ConfigFaults.{pair_total, pairs_fault, pairs_given, pairs_itself}
 use Rattle.am_files.specs.ConfigFaults.{pairs_matcher, pairs_path}
-use Rattle.am_files.specs.ConfigReading.{append_matchers, check_patterns, optional_pairs}
-use Rattle.am_files.specs.ConfigReading.{profile_patterns, read_matcher_pair, read_named_text}
+use Rattle.am_files.specs.ConfigReading.{append_matchers, optional_pairs}
+use Rattle.am_files.specs.ConfigReading.{read_matcher_pair, read_named_text}
 use Rattle.am_files.specs.ConfigReading.{read_next_pair, read_pairs, refuse_root_matchers}
+use Rattle.am_files.specs.MatcherFaults.{check_patterns, is_profile_pattern, one_pattern_fault}
 use Rattle.am_json.specs.Json.{member_list}
-use Rattle.am_json.specs.Places.{IsMetPattern, OnlyPlace, Step, if_there, known_member}
+use Rattle.am_json.specs.Places.{OnlyPlace, Step, if_there, known_member}
 use Rattle.am_json.specs.Places.{limit_fault, only_path, rank_of, shape_or, turn}
-use Rattle.am_json.specs.Pointer.{Refusal, refusal_here, to_field}
-use Rattle.am_json.specs.Reading.{IsPatternRefusal, Reading, accept, accept_some}
-use Rattle.am_json.specs.Reading.{check_count, patterns_then, read_each, reading_within}
+use Rattle.am_json.specs.Pointer.{refusal_here, to_field}
+use Rattle.am_json.specs.Reading.{Reading, accept, accept_some}
+use Rattle.am_json.specs.Reading.{check_count, read_each, reading_within}
 use Rattle.am_json.specs.Reading.{refuse_for, ◌>>=◌}
 use Rattle.am_files.proofs.MatcherFaultLemmas.{root_gives}
-use Rattle.am_files.proofs.PatternFaultLemmas.{met_pattern}
-use Rattle.am_json.proofs.PlaceLemmas.{Clear, Form, IsPart, Judges, Tells, itself_refused}
+use Rattle.am_files.proofs.PatternFaultLemmas.{matcher_judged}
+use Rattle.am_json.proofs.PlaceLemmas.{Clear, Form, IsPart, Judges, itself_refused}
 use Rattle.am_json.proofs.PlaceLemmas.{judges_plain, one_place, one_refused, part_judges}
 use Rattle.am_json.proofs.PlaceLemmas.{refuse_judges, said, said_of}
-use Rattle.am_json.proofs.PlaceOrder.{lead, none_before_itself}
+use Rattle.am_json.proofs.PlaceOrder.{lead}
 use Rattle.am_json.proofs.Readings.{bind_ok, same_read}
 use Rattle.am_json.proofs.SameReadings.{within_nothing}
 use Rattle.am_json.proofs.SequenceLemmas.{Sequence, all_judge, all_read, each_loop, next_form}
@@ -46,49 +47,6 @@ pair_form op pair = record {
   fault_at = λ _. pair_fault op pair;
   has_pattern = λ _. is_profile_pattern (pair_matcher op pair);
 }
-
-abbrev matcher_form : Condition → Form OnlyPlace
-matcher_form m = record {
-  path = only_path;
-  fault_at = λ _. one_pattern_fault m;
-  has_pattern = λ _. is_profile_pattern (Some m);
-}
-
-only_met : (m : Condition) (j : ℕ) → is_profile_pattern (slice_get (m ∷ []) j) ≡ true
-    → is_profile_pattern (Some m) ≡ true
-only_met m zero h = h
-only_met m (suc j) h = absurd cc
-
--- the pattern of one matcher
-matcher_judged : (m : Condition)
-    → Judges (matcher_form m) (check_patterns (m ∷ []) >>= λ _. accept m)
-matcher_judged m = record {
-  tells =
-      by (one_pattern_fault m);
-  meets = λ r h. meets r (checked_met (one_pattern_fault m) r h);
-} where
-  by : (cause : Option Kind) → Tells (one_place cause) (refuse_for cause >>= λ _. accept m).result
-  by None = λ _. refl
-  by (Some kind) = (one_refused {A = Condition} kind).tells
-
-  checked_met : (cause : Option Kind) (r : Refusal)
-      → IsPatternRefusal (profile_patterns (m ∷ [])
-      ++ patterns_then (refuse_for cause).result (λ _. [])) r
-      → IsPatternRefusal (profile_patterns (m ∷ [])) r
-  checked_met None r h = rw (append-nil (profile_patterns (m ∷ []))) at h
-  checked_met (Some kind) r h = rw (append-nil (profile_patterns (m ∷ []))) at h
-
-  meets : (r : Refusal) → IsPatternRefusal (profile_patterns (m ∷ [])) r
-      → IsMetPattern only_path (λ (_ : OnlyPlace). one_pattern_fault m)
-      (λ _. is_profile_pattern (Some m)) r
-  meets r h =
-      let found = met_pattern (m ∷ []) r h in
-      record {
-        place = tt;
-        stands = (only_met m found.0 found.1, ap (λ (q : Refusal). q.kind) found.2);
-        pointer = ap (λ (q : Refusal). q.pointer) found.2;
-        none_before = λ before b. absurd (none_before_itself [] b);
-      }
 
 abbrev made : Op → List ℕ → List ℕ → Condition
 made op name value = record { name = name; op = op; value = value }

@@ -1,7 +1,7 @@
 -- The first fault of the patterns of matchers, and the patterns of the profile that are met.
 use Rattle.std.proofs.Common.{Bool, Equal, Greater, Less, List, None, Option, Ordering, Some, []}
-use Rattle.std.proofs.Common.{ap, arith, false, inl, inr, refl, slice_get, suc, true, zero, ℕ, ◌&&◌}
-use Rattle.std.proofs.Common.{◌++◌, ◌<◌, ◌∷◌, ◌≡◌}
+use Rattle.std.proofs.Common.{ap, append-nil, arith, false, inl, inr, refl, slice_get, suc, true}
+use Rattle.std.proofs.Common.{zero, ℕ, ◌&&◌, ◌++◌, ◌<◌, ◌∷◌, ◌≡◌}
 use Rattle.std.proofs.lemmas.Cmp.{ranked}
 use Rattle.std.specs.Ordering.{MatchOrdering, nat_cmp, ordering_then}
 use Rattle.std.specs.Prelude.{if◌then◌else◌}
@@ -10,12 +10,13 @@ use Rattle.am_universe.specs.declared.kind.Kind.TheVariants as kinds
 use Rattle.am_labels.specs.Matcher.{Condition, takes_pattern}
 use Rattle.am_labels.specs.MatcherRefusals.{has_valid_pattern, pattern_refusal}
 use Rattle.am_labels.specs.PatternCut.{in_profile}
-use Rattle.am_files.specs.ConfigFaults.{is_profile_pattern, one_pattern_fault}
-use Rattle.am_files.specs.ConfigReading.{check_patterns, pattern_fault, profile_patterns}
-use Rattle.am_json.specs.Places.{IsBefore, if_there, turn}
+use Rattle.am_json.specs.Places.{IsBefore, IsMetPattern, OnlyPlace, if_there, only_path, turn}
 use Rattle.am_json.specs.Pointer.{Refusal, refusal_here}
-use Rattle.am_json.specs.Reading.{IsPatternRefusal, refuse_for}
-use Rattle.am_json.proofs.PlaceLemmas.{Form, Judges, Tells}
+use Rattle.am_json.specs.Reading.{IsPatternRefusal, accept, patterns_then, refuse_for, ◌>>=◌}
+use Rattle.am_json.proofs.PlaceLemmas.{Form, Judges, Tells, one_place, one_refused}
+use Rattle.am_json.proofs.PlaceOrder.{none_before_itself}
+use Rattle.am_files.specs.MatcherFaults.{check_patterns, is_profile_pattern, one_pattern_fault}
+use Rattle.am_files.specs.MatcherFaults.{pattern_fault, profile_patterns}
 
 abbrev pub patterns_form : List Condition → Form ℕ
 patterns_form ms = record {
@@ -137,3 +138,47 @@ patterns_judge ms = record {
         none_before = λ i b. found.3 i (before_turn i found.0 b);
       };
 }
+
+-- ---- The pattern of one matcher.
+
+abbrev pub matcher_form : Condition → Form OnlyPlace
+matcher_form m = record {
+  path = only_path;
+  fault_at = λ _. one_pattern_fault m;
+  has_pattern = λ _. is_profile_pattern (Some m);
+}
+
+only_met : (m : Condition) (j : ℕ) → is_profile_pattern (slice_get (m ∷ []) j) ≡ true
+    → is_profile_pattern (Some m) ≡ true
+only_met m zero h = h
+only_met m (suc j) h = absurd cc
+
+pub matcher_judged : (m : Condition)
+    → Judges (matcher_form m) (check_patterns (m ∷ []) >>= λ _. accept m)
+matcher_judged m = record {
+  tells =
+      by (one_pattern_fault m);
+  meets = λ r h. meets r (checked_met (one_pattern_fault m) r h);
+} where
+  by : (cause : Option Kind) → Tells (one_place cause) (refuse_for cause >>= λ _. accept m).result
+  by None = λ _. refl
+  by (Some kind) = (one_refused {A = Condition} kind).tells
+
+  checked_met : (cause : Option Kind) (r : Refusal)
+      → IsPatternRefusal (profile_patterns (m ∷ [])
+      ++ patterns_then (refuse_for cause).result (λ _. [])) r
+      → IsPatternRefusal (profile_patterns (m ∷ [])) r
+  checked_met None r h = rw (append-nil (profile_patterns (m ∷ []))) at h
+  checked_met (Some kind) r h = rw (append-nil (profile_patterns (m ∷ []))) at h
+
+  meets : (r : Refusal) → IsPatternRefusal (profile_patterns (m ∷ [])) r
+      → IsMetPattern only_path (λ (_ : OnlyPlace). one_pattern_fault m)
+      (λ _. is_profile_pattern (Some m)) r
+  meets r h =
+      let found = met_pattern (m ∷ []) r h in
+      record {
+        place = tt;
+        stands = (only_met m found.0 found.1, ap (λ (q : Refusal). q.kind) found.2);
+        pointer = ap (λ (q : Refusal). q.pointer) found.2;
+        none_before = λ before b. absurd (none_before_itself [] b);
+      }

@@ -5,32 +5,32 @@ use Rattle.std.proofs.Common.{is_none, length, option_and_then, refl, slice_get,
 use Rattle.std.proofs.Common.{sym, true, unwrap_or, zero, ℕ, ◌++◌, ◌+◌, ◌∙◌, ◌∷◌, ◌≡◌}
 use Rattle.std.proofs.lemmas.List.Sums.{sum_by_push}
 use Rattle.serde_json.specs.Data.{Data}
-use Rattle.serde_json.specs.Find.{as_bool}
-use Rattle.serde_json.specs.Find as find
 use Rattle.am_universe.specs.declared.kind.Kind.TheVariants as kinds
 use Rattle.am_labels.specs.Matcher.{Condition}
 use Rattle.am_labels.specs.declared.op.Op.TheVariants.{Equal, Matches}
-use Rattle.am_files.specs.ConfigFaults.{array_shape, child_values, is_profile_pattern}
+use Rattle.am_files.specs.ConfigFaults.{array_shape, child_values}
 use Rattle.am_files.specs.ConfigFaults.{pairs_of_route, receiver_fault, route_at, route_continue}
 use Rattle.am_files.specs.ConfigFaults.{route_field_path, route_match, route_match_re}
 use Rattle.am_files.specs.ConfigFaults.{route_matchers, route_receiver, routes_in, texts_of_route}
 use Rattle.am_files.specs.ConfigFaults.{tree_fault, tree_matcher, way_path}
 use Rattle.am_files.specs.ConfigFile.{RouteTree, route_count, route_fields, routes_count, routes_of}
-use Rattle.am_files.specs.ConfigReading.{boolean_or_false, effective_receiver, read_route}
+use Rattle.am_files.specs.ConfigReading.{effective_receiver, read_route}
 use Rattle.am_json.specs.Json.{field, items_of}
-use Rattle.am_json.specs.Places.{ArrayPlace, if_there, in_field, items_in_field, known_member}
-use Rattle.am_json.specs.Places.{object_itself, object_path, shape_or}
+use Rattle.am_json.specs.Places.{ArrayPlace, in_field, items_in_field, known_member}
+use Rattle.am_json.specs.Places.{boolean_fault, object_itself, object_path}
 use Rattle.am_json.specs.Pointer.{to_field}
 use Rattle.am_json.specs.Reading.{Reading, accept, check_count, check_only_fields, read_items}
-use Rattle.am_json.specs.Reading.{reading_within, ◌>>=◌}
+use Rattle.am_json.specs.Reading.{boolean_or, reading_within, ◌>>=◌}
+use Rattle.am_json.proofs.FieldLemmas.{boolean_judged}
 use Rattle.am_files.specs.declared.limits.TheConstants.{MAX_ROUTES}
+use Rattle.am_files.specs.MatcherFaults.{is_profile_pattern}
 use Rattle.am_files.proofs.MatcherFaultLemmas.{texts_field_gives, texts_field_judged, texts_reading}
 use Rattle.am_files.proofs.PairFaultLemmas.{pairs_field_gives, pairs_field_judged, pairs_reading}
 use Rattle.am_json.proofs.PlaceLemmas.{Clear, Form, Judges, itself_refused, judges_plain}
 use Rattle.am_json.proofs.PlaceLemmas.{one_place, part_judges}
 use Rattle.am_json.proofs.Readings.{bind_ok, same_read, within_ok}
 use Rattle.am_files.proofs.RouteParts.{receiver_judged}
-use Rattle.am_files.proofs.RouteParts.{TreePlace, children_sequence, continue_judged, continue_part}
+use Rattle.am_files.proofs.RouteParts.{TreePlace, children_sequence, continue_part}
 use Rattle.am_files.proofs.RouteParts.{into_tree, match_part, match_re_part, match_re_rules}
 use Rattle.am_files.proofs.RouteParts.{match_rules, reached_judged, receiver_part, routes_part}
 use Rattle.am_files.proofs.RouteParts.{routes_rules, texts_part, texts_rules, tree_clear, tree_form}
@@ -170,12 +170,12 @@ module _ (names : List (List ℕ)) (left : ℕ) (sound : Sound names left) (pare
       → Judges one_more (route_continues names left parent before d receiver matchers)
   continues_judged receiver matchers clear =
       part_judges one_more 5 (known_member 5 (codes "continue"))
-      (one_place (if_there (λ value. shape_or (λ _. None) (find.as_bool value))
-      (field (codes "continue") d))) (λ _. ([], in_field route_continue))
+      (one_place (boolean_fault (field (codes "continue") d)))
+      (λ _. ([], in_field route_continue))
       (continue_part names is_root left before d) clear
-      (boolean_or_false (field (codes "continue") d))
+      (boolean_or false (field (codes "continue") d))
       (route_children names left parent before d receiver matchers)
-      (continue_judged (field (codes "continue") d))
+      (boolean_judged false (field (codes "continue") d))
       (λ continues _ next. routes_judged receiver matchers continues next)
 
   -- the count of matchers, and that the top-level route has none
@@ -272,7 +272,7 @@ module _ (names : List (List ℕ)) (left : ℕ) (sound : Sound names left) (pare
       (pairs_reading is_root Matches equal.0 (field (codes "match_re") d))).result
       (λ x. (route_continues names left parent before d receiver.0 x).result) t equal.2 in
       let continues = bind_ok (reading_within (to_field (codes "continue"))
-      (boolean_or_false (field (codes "continue") d))).result
+      (boolean_or false (field (codes "continue") d))).result
       (λ x. (route_children names left parent before d receiver.0 matchers.0 x).result) t
       matchers.2 in
       let children = bind_ok (reading_within (to_field (codes "routes"))

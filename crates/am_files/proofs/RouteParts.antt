@@ -6,29 +6,30 @@ use Rattle.std.specs.Cmp.Lexicographic.{slice_cmp}
 use Rattle.std.specs.Ordering.{nat_cmp}
 use Rattle.std.specs.Prelude.{if◌then◌else◌, ⊤}
 use Rattle.serde_json.specs.Data.{Data, Members}
-use Rattle.serde_json.specs.Find.{as_bool, as_str}
+use Rattle.serde_json.specs.Find.{as_str}
 use Rattle.serde_json.specs.Find as find
 use Rattle.am_universe.specs.Text.{same_text}
 use Rattle.am_universe.specs.declared.kind.Kind.TheVariants as kinds
 use Rattle.am_labels.specs.declared.op.Op.TheVariants.{Equal, Matches}
 use Rattle.am_files.specs.ConfigFaults.{PairsPlace, RoutePlace, TextsPlace, array_shape}
-use Rattle.am_files.specs.ConfigFaults.{child_values, field_pairs, is_profile_pattern}
+use Rattle.am_files.specs.ConfigFaults.{child_values, field_pairs}
 use Rattle.am_files.specs.ConfigFaults.{named_receiver_fault, object_shape, pairs_of_route}
 use Rattle.am_files.specs.ConfigFaults.{receiver_fault, route_at, route_continue, route_field_path}
 use Rattle.am_files.specs.ConfigFaults.{route_match, route_match_re, route_matchers, route_receiver}
 use Rattle.am_files.specs.ConfigFaults.{route_routes, routes_in, texts_of_route, tree_fault}
 use Rattle.am_files.specs.ConfigFaults.{tree_matcher, way_path}
 use Rattle.am_files.specs.ConfigFile.{route_fields}
-use Rattle.am_files.specs.ConfigReading.{boolean_or_false, effective_receiver, receiver_named}
+use Rattle.am_files.specs.ConfigReading.{effective_receiver, receiver_named}
 use Rattle.am_json.specs.Json.{field, is_one_of, unknown_field}
 use Rattle.am_json.specs.Places.{ArrayPlace, IsBefore, IsFirstFault, array_item, array_itself}
-use Rattle.am_json.specs.Places.{has_unknown, if_there, in_field, in_item, items_in_field}
+use Rattle.am_json.specs.Places.{has_unknown, in_field, in_item, items_in_field}
 use Rattle.am_json.specs.Places.{known_member, object_itself, object_path, other_field, rank_of}
-use Rattle.am_json.specs.Places.{shape_or}
+use Rattle.am_json.specs.Places.{boolean_fault, shape_or}
 use Rattle.am_json.specs.Pointer.{refusal_here, refusal_within, to_field}
 use Rattle.am_json.specs.Reading.{Reading, accept_some, check_count, check_only_fields}
 use Rattle.am_json.specs.Reading.{refuse_for, refuse_unknown_field, ◌>>=◌}
 use Rattle.am_files.specs.declared.limits.TheConstants.{MAX_ROUTES}
+use Rattle.am_files.specs.MatcherFaults.{is_profile_pattern}
 use Rattle.am_files.proofs.MatcherFaultLemmas.{texts_form}
 use Rattle.am_json.proofs.ObjectLemmas.{least_unknown, not_unknown}
 use Rattle.am_files.proofs.PairFaultLemmas.{pairs_form}
@@ -62,19 +63,6 @@ receiver_judged names None None = one_refused kinds.Shape
 receiver_judged names parent (Some d) =
     shape_judged (named_receiver_fault names (is_none parent)) (find.as_str d)
     (receiver_named names parent) (named_judged names parent)
-
--- ---- Whether later siblings are tried.
-
-pub continue_judged : (found : Option Data)
-    → Judges (one_place (if_there (λ value. shape_or (λ _. None) (find.as_bool value)) found))
-    (boolean_or_false found)
-continue_judged None = one_accepted false
-continue_judged (Some d) = by (find.as_bool d) where
-  by : (found : Option Bool)
-      → Judges (one_place (shape_or (λ _. None) found))
-      (accept_some found (refusal_here kinds.Shape))
-  by None = one_refused kinds.Shape
-  by (Some b) = one_accepted b
 
 -- ---- One route with all below it.
 
@@ -180,8 +168,7 @@ module _ (names : List (List ℕ)) (is_root : Bool) (left before : ℕ) (d : Dat
   match_re_part = record { rank = refl; seen = λ _. refl; covers = match_re_covers }
 
   pub continue_part : IsPart whole 5 (known_member 5 (codes "continue"))
-      (one_place (if_there (λ value. shape_or (λ _. None) (find.as_bool value))
-      (field (codes "continue") d))) (λ _. ([], in_field route_continue))
+      (one_place (boolean_fault (field (codes "continue") d))) (λ _. ([], in_field route_continue))
   continue_part = record { rank = refl; seen = λ _. refl; covers = continue_covers }
 
   abbrev pub routes_rules : Form (ArrayPlace TreePlace)

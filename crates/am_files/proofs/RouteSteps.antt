@@ -1,6 +1,6 @@
 -- Reading a route step by step, one field behind the other.
 use Rattle.std.proofs.Common.{Bool, List, None, Option, Some, [], ap, codes, is_none, refl, suc, ℕ}
-use Rattle.std.proofs.Common.{◌+◌, ◌∙◌, ◌≡◌}
+use Rattle.std.proofs.Common.{◌+◌, ◌∙◌, ◌≡◌, false}
 use Rattle.std.specs.Prelude.{⊤}
 use Rattle.serde_json.specs.Data.{Data}
 use Rattle.am_universe.specs.declared.kind.Kind.TheVariants as kinds
@@ -8,14 +8,14 @@ use Rattle.am_labels.specs.Matcher.{Condition}
 use Rattle.am_labels.specs.declared.op.Op.TheVariants.{Equal, Matches}
 use Rattle.am_files.specs.ConfigFile.{RouteSettings, RouteTree, route, route_fields, routes_count}
 use Rattle.am_files.specs.ConfigFile.{routes_of}
-use Rattle.am_files.specs.ConfigReading.{RouteFields, boolean_or_false, effective_receiver}
+use Rattle.am_files.specs.ConfigReading.{RouteFields, effective_receiver}
 use Rattle.am_files.specs.ConfigReading.{optional_items, optional_pairs, optional_texts}
-use Rattle.am_files.specs.ConfigReading.{read_children, read_continue, read_matchers, read_receiver}
+use Rattle.am_files.specs.ConfigReading.{read_children, read_matchers, read_receiver}
 use Rattle.am_files.specs.ConfigReading.{read_route, read_route_fields}
 use Rattle.am_json.specs.Json.{field, items_of}
 use Rattle.am_json.specs.Pointer.{refusal_here, to_field}
 use Rattle.am_json.specs.Reading.{Reading, accept, accept_some, check_count, check_only_fields}
-use Rattle.am_json.specs.Reading.{read_items, reading_within, ◌>>=◌}
+use Rattle.am_json.specs.Reading.{boolean_or, read_boolean_or, read_items, reading_within, ◌>>=◌}
 use Rattle.am_files.specs.declared.limits.TheConstants.{MAX_ROUTES}
 use Rattle.am_files.proofs.MatcherFaultLemmas.{texts_reading, texts_within}
 use Rattle.am_files.proofs.PairFaultLemmas.{pairs_reading, pairs_within}
@@ -87,7 +87,7 @@ module _ (names : List (List ℕ)) (left : ℕ) (parent : Option ℕ) (before : 
 
   abbrev pub route_continues : ℕ → List Condition → Reading RouteTree
   route_continues receiver matchers =
-      reading_within (to_field (codes "continue")) (boolean_or_false (field (codes "continue") d))
+      reading_within (to_field (codes "continue")) (boolean_or false (field (codes "continue") d))
       >>= route_children receiver matchers
 
   abbrev pub route_match_re_on : ℕ → List Condition → Reading RouteTree
@@ -149,14 +149,14 @@ module _ (names : List (List ℕ)) (left : ℕ) (parent : Option ℕ) (before : 
     matchers ← optional_pairs (is_none parent) Matches (codes "match_re") equal
         (field (codes "match_re") d)
     continues ← reading_within (to_field (codes "continue"))
-        (boolean_or_false (field (codes "continue") d))
+        (boolean_or false (field (codes "continue") d))
     items ← reading_within (to_field (codes "routes")) (optional_items (field (codes "routes") d))
     with_fields (record { settings = settings receiver matchers continues; items = items })
 
   flat_is : read_route names (suc left) parent before d
       ≡ (check_count MAX_ROUTES (before + 1) >>= λ _. check_only_fields route_fields d
       >>= λ _. flat_route)
-  unfolding read_route read_route_fields read_receiver read_matchers read_continue read_children
+  unfolding read_route read_route_fields read_receiver read_matchers read_boolean_or read_children
   flat_is =
       flat (check_count MAX_ROUTES (before + 1)) (check_only_fields route_fields d)
       (reading_within (to_field (codes "receiver"))
@@ -167,7 +167,7 @@ module _ (names : List (List ℕ)) (left : ℕ) (parent : Option ℕ) (before : 
       (λ equal. optional_pairs (is_none parent) Matches (codes "match_re") equal
       (field (codes "match_re") d))
       (reading_within (to_field (codes "continue"))
-      (boolean_or_false (field (codes "continue") d)))
+      (boolean_or false (field (codes "continue") d)))
       (reading_within (to_field (codes "routes")) (optional_items (field (codes "routes") d)))
       (λ receiver matchers continues items. record
       { settings = settings receiver matchers continues; items = items })
@@ -182,7 +182,7 @@ module _ (names : List (List ℕ)) (left : ℕ) (parent : Option ℕ) (before : 
       >>= λ equal.
       pairs_within (is_none parent) Matches (codes "match_re") equal (field (codes "match_re") d) j
       >>= λ matchers.
-      reading_within (to_field (codes "continue")) (boolean_or_false (field (codes "continue") d))
+      reading_within (to_field (codes "continue")) (boolean_or false (field (codes "continue") d))
       >>= λ continues.
       children_then receiver matchers continues (field (codes "routes") d) j
 

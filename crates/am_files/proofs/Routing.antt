@@ -1,6 +1,6 @@
 -- Routes: one is read by its own fields and then its children.
 use Rattle.std.proofs.Common.{◌≡◌, ◌≢◌, ℕ, suc, ◌+◌, ◌-◌, ◌≤◌, List, [], ◌∷◌, ◌++◌, Option, Ok}
-use Rattle.std.proofs.Common.{refl, sym, subst, arith, inl}
+use Rattle.std.proofs.Common.{refl, sym, subst, arith, inl, false}
 use Rattle.std.specs.Prelude.{codes, is_none}
 use Rattle.serde_json.specs.Data.{Data}
 use Rattle.am_universe.specs.declared.kind.Kind.TheVariants as kinds
@@ -9,10 +9,11 @@ use Rattle.am_files.specs.declared.limits.TheConstants.{MAX_ROUTES}
 use Rattle.am_json.specs.Json.{HasOnlyFields}
 use Rattle.am_json.specs.Pointer.{refusal_here, to_field}
 use Rattle.am_json.specs.Reading.{Reading, ◌>>=◌, accept, reading_within, check_count}
-use Rattle.am_json.specs.Reading.{check_only_fields, read_items, IsRefusalOrMemory, Fails}
+use Rattle.am_json.specs.Reading.{check_only_fields, read_boolean_or, read_items}
+use Rattle.am_json.specs.Reading.{IsRefusalOrMemory, Fails}
 use Rattle.am_files.specs.ConfigFile.{RouteTree, route, routes_of, route_count, routes_count}
 use Rattle.am_files.specs.ConfigFile.{route_fields, route_matcher_fields}
-use Rattle.am_files.specs.ConfigReading.{RouteFields, read_receiver, read_matchers, read_continue}
+use Rattle.am_files.specs.ConfigReading.{RouteFields, read_receiver, read_matchers}
 use Rattle.am_files.specs.ConfigReading.{read_children, read_route_fields, read_route}
 use Rattle.am_files.specs.ConfigReading.{read_next_child}
 use Rattle.am_json.proofs.Readings.{Leads, leads-refl, leads_on, fails_led, fails_first}
@@ -103,7 +104,7 @@ pub record AreRead (names : List (List ℕ)) (parent : Option ℕ) (before : ℕ
   pub receiver : (read_receiver names parent d).result ≡ Ok fields.settings.receiver
   pub matchers : (read_matchers route_matcher_fields (is_none parent) d).result ≡ Ok
       fields.settings.matchers
-  pub continues : (read_continue d).result ≡ Ok fields.settings.continues
+  pub continues : (read_boolean_or false (codes "continue") d).result ≡ Ok fields.settings.continues
   pub items : (read_children d).result ≡ Ok fields.items
 
 pub are_read : (names : List (List ℕ)) (parent : Option ℕ) (before : ℕ) (d : Data)
@@ -117,7 +118,7 @@ are_read names parent before d fields h =
     let matchers =
     bind_ok ((read_matchers route_matcher_fields (is_none parent) d).result) _ fields
     receiver.2 in
-    let continues = bind_ok ((read_continue d).result) _ fields matchers.2 in
+    let continues = bind_ok ((read_boolean_or false (codes "continue") d).result) _ fields matchers.2 in
     let items = bind_ok ((read_children d).result) _ fields continues.2 in
     let is : record {
       settings = record

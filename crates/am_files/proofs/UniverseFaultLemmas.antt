@@ -125,8 +125,8 @@ module _ (ds : List Data) (d : Data) where
       label_values
   values_part = record {
     rank = refl;
-    seen = items_seen only_path value_fault_at (λ _ _. false) (λ _ _. refl) count_fault
-        (codes "values") 2 values_field;
+    seen = items_seen only_path value_fault_at (λ _ _. false) count_fault (codes "values") 2
+        values_field (λ _ _. refl);
     covers = values_cover;
   }
 
@@ -159,7 +159,7 @@ label_fields_judge ds d =
     (λ name. required_items (codes "values") d
     >>= λ items. reading_within (to_field (codes "values")) (read_values items)
     >>= λ values. accept (made_label name values))
-    (λ name next.
+    (λ name _ next.
     rw (items_within_then (codes "values") read_values d
     (λ values. accept (made_label name values)))
     (part_judges (label_form ds d) 2 (known_member 2 (codes "values"))
@@ -265,7 +265,7 @@ module _ (d : Data) where
   labels_part = record {
     rank = refl;
     seen = items_seen label_path label_fault_at (λ _. open_pattern (λ _. false))
-        (λ _ place. no_open_pattern place) (limit_fault MAX_LABELS) (codes "labels") 1 labels_field;
+        (limit_fault MAX_LABELS) (codes "labels") 1 labels_field (λ _ place. no_open_pattern place);
     covers = labels_cover;
   }
 

@@ -7,25 +7,24 @@ use Rattle.std.specs.Prelude.{if◌then◌else◌, Option, Some, None, option_ma
 use Rattle.std.specs.Prelude.{unwrap_or, codes}
 use Rattle.std.specs.List.{flat_map}
 use Rattle.serde_json.specs.Data.{Data}
-use Rattle.serde_json.specs.Find.{as_object, as_str, as_bool}
+use Rattle.serde_json.specs.Find.{as_object, as_str}
 use Rattle.am_universe.specs.declared.kind.Kind.{Kind}
 use Rattle.am_universe.specs.declared.kind.Kind.TheVariants as kinds
 use Rattle.am_labels.specs.declared.op.Op.{Op}
 use Rattle.am_labels.specs.declared.op.Op.TheVariants.{Equal, Matches}
 use Rattle.am_labels.specs.declared.limits.TheConstants.{MAX_MATCHERS}
-use Rattle.am_labels.specs.Matcher.{Condition, takes_pattern}
+use Rattle.am_labels.specs.Matcher.{Condition}
 use Rattle.am_labels.specs.MatcherReading.{read_list}
-use Rattle.am_labels.specs.MatcherRefusals.{has_valid_pattern, pattern_refusal}
-use Rattle.am_labels.specs.PatternCut.{in_profile}
 use Rattle.am_json.specs.Json.{field, is_one_of, items_of, member_list}
 use Rattle.am_json.specs.Pointer.{Refusal}
 use Rattle.am_json.specs.Places.{Step, known_member, array_item, turn, IsFirstFault}
 use Rattle.am_json.specs.Places.{IsFirstFaultOfFile, IsMetPattern, IsMetPatternOfFile, shape_or}
-use Rattle.am_json.specs.Places.{if_there, is_empty, limit_fault, text_of, name_of, ObjectPlace}
-use Rattle.am_json.specs.Places.{object_itself, other_field, in_field, object_path, object_fault}
-use Rattle.am_json.specs.Places.{open_object_fault, ArrayPlace, array_path, items_in_field}
-use Rattle.am_json.specs.Places.{required_array_fault}
+use Rattle.am_json.specs.Places.{if_there, boolean_fault, is_empty, limit_fault, text_of, name_of}
+use Rattle.am_json.specs.Places.{ObjectPlace, object_itself, other_field, in_field, object_path}
+use Rattle.am_json.specs.Places.{object_fault, open_object_fault, ArrayPlace, array_path}
+use Rattle.am_json.specs.Places.{items_in_field, required_array_fault}
 use Rattle.am_files.specs.ConfigFile.{route_fields}
+use Rattle.am_files.specs.MatcherFaults.{one_pattern_fault, is_profile_pattern}
 use Rattle.am_files.specs.declared.limits.TheConstants.{MAX_RECEIVERS, MAX_ROUTES, MAX_LEVELS}
 
 -- ---- Receivers (reference, "<receiver>").
@@ -102,11 +101,6 @@ text_matcher items i j = option_and_then (λ d. slice_get (item_matchers d) j) (
 -- gives the one list that a text `Spells`, and none where there is none.
 abbrev pub spelling_fault : List ℕ → Option Kind
 spelling_fault text = if is_some (read_list text) then None else Some kinds.BadMatcher
-
--- What is wrong with the pattern of a matcher, if it has one: it is not of the profile, or the
--- engine's grammar does not read it. By a law of `am_labels`, `in_profile` decides `IsInProfile`.
-abbrev pub one_pattern_fault : Condition → Option Kind
-one_pattern_fault m = if has_valid_pattern m then None else Some (pattern_refusal m.value)
 
 -- What is wrong with what a field gives: the top-level route may have no matchers.
 abbrev pub given_fault : {A : Type 0} → Bool → List A → Option Kind
@@ -262,7 +256,7 @@ route_field_fault names is_root d (route_match_re place) =
     pairs_fault is_root Matches (length (texts_of_route d) + length (pairs_of_route d))
     (object_shape found) (field_pairs found) place
 route_field_fault names is_root d route_continue =
-    if_there (λ value. shape_or (λ _. None) (as_bool value)) (field (codes "continue") d)
+    boolean_fault (field (codes "continue") d)
 route_field_fault names is_root d route_routes =
     array_shape (field (codes "routes") d)
 
@@ -399,11 +393,6 @@ abbrev pub config_matcher : Data → ConfigPlace → Option Condition
 config_matcher d (in_field (config_route way place)) =
     option_and_then (λ root. tree_matcher root way place) (field (codes "route") d)
 config_matcher d _ = None
-
--- There is a matcher, and its value is a pattern of the profile.
-abbrev pub is_profile_pattern : Option Condition → Bool
-is_profile_pattern None = false
-is_profile_pattern (Some m) = takes_pattern m.op && in_profile m.value
 
 -- A pattern of the profile is looked at in this place.
 abbrev pub has_pattern : Data → ConfigPlace → Bool

@@ -4,7 +4,7 @@ use Rattle.std.specs.Prelude.{◌≡◌, ◌≢◌, ◌⊎◌, ◌≤◌, ◌+�
 use Rattle.std.specs.Prelude.{true, false, ◌&&◌, nat_lt, IsTrue, Option, Some, None}
 use Rattle.std.specs.Prelude.{option_and_then, position, codes, ⊤}
 use Rattle.std.specs.List.{IsDistinct, AllZip, flat_map}
-use Rattle.serde_json.specs.Data.{Data, string, boolean, object, Members}
+use Rattle.serde_json.specs.Data.{Data, string, object, Members}
 use Rattle.am_universe.specs.Text.{same_text}
 use Rattle.am_labels.specs.declared.limits.TheConstants.{MAX_MATCHERS}
 use Rattle.am_labels.specs.Matcher.{Condition}
@@ -15,7 +15,7 @@ use Rattle.am_labels.specs.declared.op.Op.TheVariants.{Equal, Matches}
 use Rattle.am_json.specs.declared.limits.TheConstants.{MAX_FILE_BYTES}
 use Rattle.am_files.specs.declared.limits.TheConstants.{MAX_RECEIVERS, MAX_ROUTES}
 use Rattle.am_files.specs.declared.limits.TheConstants.{MAX_LEVELS}
-use Rattle.am_json.specs.Json.{json_of, field, items_of, member_list, HasOnlyFields}
+use Rattle.am_json.specs.Json.{json_of, field, items_of, member_list, SaysBooleanOr, HasOnlyFields}
 
 -- ---- Configurations.
 
@@ -208,9 +208,7 @@ pub record SaysMatchers (fields : MatcherFields) (d : Data) (matchers : List Con
 -- Example: `{"continue": true}` says `true`, `{}` says `false`, and `{"continue": "true"}` says
 -- neither.
 abbrev pub SaysContinue : Data → Bool → Type 0
-SaysContinue d continues =
-    ((field (codes "continue") d ≡ None) × (continues ≡ false))
-    ⊎ (field (codes "continue") d ≡ Some (boolean continues))
+SaysContinue d continues = SaysBooleanOr false (codes "continue") d continues
 
 -- An object with the fields of a route alone says a route, field by field, and the items of its
 -- `routes` say its children. The receiver is handed down to them.

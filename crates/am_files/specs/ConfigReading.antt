@@ -2,32 +2,30 @@
 -- reading stands at the value that it looks at; whoever looks at the whole puts the pointer in
 -- front.
 use Rattle.std.specs.Prelude.{◌+◌, ℕ, zero, suc, List, [], ◌∷◌, ◌++◌, length, Bool, false}
-use Rattle.std.specs.Prelude.{◌&&◌, if◌then◌else◌, is_none, Option, Some, None}
+use Rattle.std.specs.Prelude.{if◌then◌else◌, is_none, Option, Some, None}
 use Rattle.std.specs.Prelude.{position, codes, ⊤}
 use Rattle.std.specs.Result.{result_err}
 use Rattle.std.specs.List.{enumerate_from}
 use Rattle.serde_json.specs.Data.{Data}
-use Rattle.serde_json.specs.Find.{as_bool}
 use Rattle.am_universe.specs.declared.kind.Kind.{Kind}
 use Rattle.am_universe.specs.declared.kind.Kind.TheVariants as kinds
 use Rattle.am_labels.specs.declared.op.Op.{Op}
 use Rattle.am_labels.specs.declared.op.Op.TheVariants.{Equal, Matches}
 use Rattle.am_universe.specs.Text.{same_text}
 use Rattle.am_labels.specs.declared.limits.TheConstants.{MAX_MATCHERS}
-use Rattle.am_labels.specs.Matcher.{Condition, takes_pattern}
-use Rattle.am_labels.specs.PatternCut.{in_profile}
+use Rattle.am_labels.specs.Matcher.{Condition}
 use Rattle.am_labels.specs.MatcherReading.{read_list}
-use Rattle.am_labels.specs.MatcherRefusals.{has_valid_pattern, pattern_refusal}
 use Rattle.am_files.specs.declared.limits.TheConstants.{MAX_RECEIVERS, MAX_ROUTES, MAX_LEVELS}
 use Rattle.am_json.specs.Json.{field, member_list}
 use Rattle.am_json.specs.Pointer.{Refusal, refusal_here, refusal_within, to_field, to_item}
 use Rattle.am_json.specs.Reading.{Reading, ◌>>=◌, accept, accept_some, refuse, reading_within}
 use Rattle.am_json.specs.Reading.{refuse_for, check_count, as_object, as_text, as_items}
 use Rattle.am_json.specs.Reading.{check_only_fields, required_field, required_text, required_items}
-use Rattle.am_json.specs.Reading.{read_each, read_items, read_json}
+use Rattle.am_json.specs.Reading.{read_boolean_or, read_each, read_items, read_json}
 use Rattle.am_files.specs.ConfigFile.{RouteSettings, RouteTree, route, Configuration, MatcherFields}
 use Rattle.am_files.specs.ConfigFile.{route_matcher_fields, routes_of, routes_count, route_fields}
 use Rattle.am_json.specs.Places.{is_empty}
+use Rattle.am_files.specs.MatcherFaults.{label_name_fault, check_patterns, check_matcher}
 use Rattle.am_files.specs.ConfigFaults.{receiver_name_fault, given_fault}
 
 -- ---- The receivers.
@@ -52,7 +50,7 @@ read_receivers d = do
   items ← required_items (codes "receivers") d
   reading_within (to_field (codes "receivers")) (read_receiver_names items)
 
--- ---- The receiver of a route, and whether later siblings are tried.
+-- ---- The receiver of a route, and the values of its children.
 
 -- A receiver that is not set is inherited from the parent route. The top-level route has none.
 abbrev pub parent_receiver : Option ℕ → Reading ℕ
@@ -80,16 +78,6 @@ read_receiver names parent d =
     reading_within (to_field (codes "receiver"))
     (effective_receiver names parent (field (codes "receiver") d))
 
--- A truth value, which is false where it is not set.
-abbrev pub boolean_or_false : Option Data → Reading Bool
-boolean_or_false None = accept false
-boolean_or_false (Some d) = accept_some (as_bool d) (refusal_here kinds.Shape)
-
--- Whether later siblings are tried after a route, in `continue`.
-unfoldable pub read_continue : Data → Reading Bool
-read_continue d =
-    reading_within (to_field (codes "continue")) (boolean_or_false (field (codes "continue") d))
-
 -- The items of an array that may be absent.
 abbrev pub optional_items : Option Data → Reading (List Data)
 optional_items None = accept []
@@ -101,24 +89,6 @@ read_children d =
     reading_within (to_field (codes "routes")) (optional_items (field (codes "routes") d))
 
 -- ---- Matchers.
-
--- The first pattern that is refused though the engine builds each that its grammar reads.
-abbrev pub pattern_fault : List Condition → Option Kind
-pattern_fault [] = None
-pattern_fault (m ∷ ms) =
-    if has_valid_pattern m then pattern_fault ms else Some (pattern_refusal m.value)
-
--- The patterns of the profile up to that one, each at the pointer of what is looked at.
-abbrev pub profile_patterns : List Condition → List (List ℕ)
-profile_patterns [] = []
-profile_patterns (m ∷ ms) =
-    (if takes_pattern m.op && in_profile m.value then [] ∷ [] else [])
-    ++ (if has_valid_pattern m then profile_patterns ms else [])
-
--- The patterns of matchers, in order.
-abbrev pub check_patterns : List Condition → Reading ⊤
-check_patterns ms =
-    record { result = (refuse_for (pattern_fault ms)).result; patterns = profile_patterns ms }
 
 -- Matchers behind others, of which there are not more than 64 together.
 abbrev pub append_matchers : List Condition → List Condition → Reading (List Condition)
@@ -151,10 +121,6 @@ read_next_matcher_text before item = do
 abbrev pub read_matcher_texts : List Data → Reading (List Condition)
 read_matcher_texts items = read_each read_next_matcher_text [] (enumerate_from 0 items)
 
--- Why nothing may have this name: it is empty.
-abbrev pub label_name_fault : List ℕ → Option Kind
-label_name_fault name = if is_empty name then Some kinds.Empty else None
-
 -- The text of a name in an object of names and texts.
 unfoldable pub read_named_text : List ℕ → Data → Reading (List ℕ)
 read_named_text name d = do
@@ -165,8 +131,7 @@ read_named_text name d = do
 unfoldable pub read_matcher_pair : Op → List ℕ → Data → Reading Condition
 read_matcher_pair op name d = do
   value ← read_named_text name d
-  _ ← check_patterns (record { name = name; op = op; value = value } ∷ [])
-  accept (record { name = name; op = op; value = value })
+  check_matcher (record { name = name; op = op; value = value })
 
 -- The same, behind other matchers.
 unfoldable pub read_next_pair : Op → List Condition → List ℕ × Data → Reading (List Condition)
@@ -227,7 +192,7 @@ read_route_fields names parent before d = do
   _ ← check_only_fields route_fields d
   receiver ← read_receiver names parent d
   matchers ← read_matchers route_matcher_fields (is_none parent) d
-  continues ← read_continue d
+  continues ← read_boolean_or false (codes "continue") d
   items ← read_children d
   accept (record {
     settings = record { receiver = receiver; matchers = matchers; continues = continues };

@@ -13,18 +13,19 @@ pub use Rattle.am_files.specs.ConfigFile.{route_levels, routes_levels}
 pub use Rattle.am_files.specs.ConfigFile.{route_fields, route_matcher_fields}
 pub use Rattle.am_files.specs.ConfigFile.{SaysConfig, FileSaysConfig}
 pub use Rattle.am_files.specs.SmallestConfig.{smallest_config_file, smallest_config}
+pub use Rattle.am_files.specs.MatcherFaults.{label_name_fault, check_matcher}
 pub use Rattle.am_files.specs.RouteView.{route_view, names_of}
 pub use Rattle.am_files.specs.ConfigView.{config_view, fields_view, matcher_fields_view}
 unfoldable pub use Rattle.am_files.specs.ConfigReading.{read_next_receiver, read_receiver_names}
 unfoldable pub use Rattle.am_files.specs.ConfigReading.{read_receivers, read_receiver}
 pub use Rattle.am_files.specs.ConfigReading.{parent_receiver, receiver_position}
-pub use Rattle.am_files.specs.ConfigReading.{effective_receiver, boolean_or_false}
-unfoldable pub use Rattle.am_files.specs.ConfigReading.{read_continue, read_children}
+pub use Rattle.am_files.specs.ConfigReading.{effective_receiver}
+unfoldable pub use Rattle.am_files.specs.ConfigReading.{read_children}
 unfoldable pub use Rattle.am_files.specs.ConfigReading.{read_matcher_text, read_next_matcher_text}
 pub use Rattle.am_files.specs.ConfigReading.{read_matcher_texts, text_refusal, append_matchers}
 unfoldable pub use Rattle.am_files.specs.ConfigReading.{read_named_text, read_matcher_pair}
 unfoldable pub use Rattle.am_files.specs.ConfigReading.{read_next_pair, read_texts, read_pairs}
-pub use Rattle.am_files.specs.ConfigReading.{label_name_fault, refuse_root_matchers}
+pub use Rattle.am_files.specs.ConfigReading.{refuse_root_matchers}
 pub use Rattle.am_files.specs.ConfigReading.{optional_texts, optional_pairs}
 unfoldable pub use Rattle.am_files.specs.ConfigReading.{read_matchers, read_route_fields}
 unfoldable pub use Rattle.am_files.specs.ConfigReading.{read_route, read_config, read_config_file}
@@ -36,3 +37,19 @@ pub use Rattle.am_files.specs.ConfigFaults.{IsMetPatternOfConfig, ConfigFileRefu
 pub use Rattle.am_files.specs.Path.{path_text, step_text, list_of, route_at, leads_through}
 pub use Rattle.am_files.specs.Path.{IsPath}
 unfoldable pub use Rattle.am_files.specs.Path.{numeral}
+pub use Rattle.am_files.specs.Instant.{instant_of}
+pub use Rattle.am_files.specs.SilencesFile.{flagged_op, SaysSilences, FileSaysSilences}
+pub use Rattle.am_files.specs.SilencesExample.{severity_condition, silences_example}
+pub use Rattle.am_files.specs.SilencesExample.{example_silences}
+pub use Rattle.am_files.specs.SilencesFaults.{matcher_count_fault}
+pub use Rattle.am_files.specs.SilencesFaults.{SilencesPlace, silences_fault_at}
+pub use Rattle.am_files.specs.SilencesFaults.{IsFirstFaultOfSilences, IsFirstFaultOfSilencesFile}
+pub use Rattle.am_files.specs.SilencesFaults.{IsMetPatternOfSilences, SilencesFileRefusedFor}
+pub use Rattle.am_files.specs.SilencesReading.{read_flagged_matcher, read_instant}
+pub use Rattle.am_files.specs.SilencesReading.{read_next_silence_matcher, read_next_silence}
+unfoldable pub use Rattle.am_files.specs.SilencesReading.{read_label_name}
+unfoldable pub use Rattle.am_files.specs.SilencesReading.{read_silence_matcher}
+unfoldable pub use Rattle.am_files.specs.SilencesReading.{read_silence_matchers, required_instant}
+unfoldable pub use Rattle.am_files.specs.SilencesReading.{read_silence, read_silence_array}
+unfoldable pub use Rattle.am_files.specs.SilencesReading.{read_silences_file}
+pub use Rattle.am_files.specs.SilencesReading.{read_silences}

@@ -13,8 +13,7 @@ ghost use Rattle.am_files.specs.Words.{route_count, routes_count, routes_of, rou
 ghost use Rattle.am_files.specs.Words.{config_view, fields_view, read_next_receiver};
 ghost use Rattle.am_files.specs.Words.{read_receiver_names, read_receivers, parent_receiver};
 ghost use Rattle.am_files.specs.Words.{receiver_position, effective_receiver, read_receiver};
-ghost use Rattle.am_files.specs.Words.{boolean_or_false, read_continue, read_children};
-ghost use Rattle.am_files.specs.Words.{read_matchers, read_route_fields, read_route};
+ghost use Rattle.am_files.specs.Words.{read_children, read_matchers, read_route_fields, read_route};
 ghost use Rattle.am_files.specs.Words.{read_next_child, refuse_inhibit_rules, read_config};
 ghost use Rattle.am_files.specs.Words.{read_config_file, receiver_name_fault, ConfigFileRefusedFor};
 
@@ -23,8 +22,9 @@ use crate::limits::{MAX_LEVELS, MAX_RECEIVERS, MAX_ROUTES};
 use crate::route::Route;
 use crate::route_matchers::{MatcherFields, read_matchers};
 use am_json::{
-    ReadError, as_items, as_object, as_text, check_count, check_only_fields, field, read_json,
-    refuse_for, required_field, required_items, required_text, within_field, within_item,
+    ReadError, as_items, as_object, as_text, check_count, check_only_fields, field,
+    read_boolean_or, read_json, refuse_for, required_field, required_items, required_text,
+    within_field, within_item,
 };
 use am_labels::{Fault, Kind, Matchers, Place};
 use serde_json::Value;
@@ -230,7 +230,7 @@ fn read_route_fields<'v>(
     check_route_fields(alloc, value)?;
     let receiver = read_receiver(alloc, names, parent, value)?;
     let matchers = read_route_matchers(alloc, parent.is_none(), value)?;
-    let continues = read_continue(alloc, value)?;
+    let continues = read_boolean_or(alloc, value, "continue", false)?;
     let items = read_children(alloc, value)?;
     Ok(RouteFields {
         receiver,
@@ -389,29 +389,5 @@ fn receiver_position(alloc: Global, names: &[String], name: &str) -> Result<usiz
     match position(names, name) {
         Some(receiver) => Ok(receiver),
         None => Err(ReadError::refused(alloc, Kind::UndefinedReceiver)),
-    }
-}
-
-/// Whether later siblings of a route are tried after it.
-#[tactic(auto, using(am_json::proofs::Readings::within_gives), unfolding(crate::specs::ConfigReading::read_continue))]
-fn read_continue(alloc: Global, value: &Value) -> Result<bool, ReadError>
-    ensures { Gives (λ b. b) result (read_continue (view value.now)) }
-{
-    within_field(
-        alloc,
-        "continue",
-        boolean_or_false(alloc, field(value, "continue")),
-    )
-}
-
-fn boolean_or_false(alloc: Global, found: Option<&Value>) -> Result<bool, ReadError>
-    ensures { Gives (λ b. b) result (boolean_or_false (option_map (λ v. view v.now) found.entry)) }
-{
-    let Some(found) = found else {
-        return Ok(false);
-    };
-    match found.as_bool() {
-        Some(truth) => Ok(truth),
-        None => Err(ReadError::refused(alloc, Kind::Shape)),
     }
 }

@@ -1,29 +1,44 @@
--- Fields that have to be there, as parts: a text with a rule, and an array with a rule for the
--- number of its items.
-use Rattle.std.proofs.Common.{Bool, List, None, Option, Some, false, length, option_and_then, refl}
-use Rattle.std.proofs.Common.{slice_get, suc, sym, ℕ, ◌∷◌, ◌≡◌}
+-- Fields as parts. Two have to be there: a text with a rule, and an array with a rule for the number
+-- of its items. A truth value may be absent.
+use Rattle.std.proofs.Common.{Bool, List, None, Ok, Option, Some, [], ap, false, length}
+use Rattle.std.proofs.Common.{option_and_then, refl, slice_get, suc, sym, ℕ, ◌∷◌, ◌≡◌}
 use Rattle.serde_json.specs.Data.{Data}
+use Rattle.serde_json.specs.Find.{as_bool}
 use Rattle.am_universe.specs.declared.kind.Kind.{Kind}
+use Rattle.am_universe.specs.declared.kind.Kind.TheVariants as kinds
 use Rattle.am_json.specs.Json.{field, items_of}
 use Rattle.am_json.specs.Places.{ArrayPlace, OnlyPlace, Step, array_item, array_itself, array_path}
 use Rattle.am_json.specs.Places.{in_item, items_in_field, known_member, required_array_fault}
-use Rattle.am_json.specs.Places.{shape_or, text_of}
-use Rattle.am_json.specs.Pointer.{to_field}
-use Rattle.am_json.specs.Reading.{Reading, accept, reading_within, refuse_for, required_text}
+use Rattle.am_json.specs.Places.{boolean_fault, shape_or, text_of}
+use Rattle.am_json.specs.Pointer.{refusal_here, to_field}
+use Rattle.am_json.specs.Reading.{Reading, accept, accept_some, boolean_or, reading_within}
+use Rattle.am_json.specs.Reading.{refuse_for, required_text}
 use Rattle.am_json.specs.Reading.{◌>>=◌}
 use Rattle.am_json.proofs.PlaceLemmas.{Clear, Form, IsPart, Judges, cause_judges, one_place}
-use Rattle.am_json.proofs.PlaceLemmas.{part_judges, said, shape_judged}
+use Rattle.am_json.proofs.PlaceLemmas.{one_accepted, one_refused, part_judges, said, shape_judged}
+use Rattle.am_json.proofs.Readings.{same_read}
 use Rattle.am_json.proofs.SameReadings.{ruled_text, text_within}
 use Rattle.am_json.proofs.SequenceLemmas.{Sequence, array_form, pattern_of_next}
 
 -- ---- A text that has to be there.
+
+rule_gives : (cause : Option Kind) (t text : List ℕ)
+    → (refuse_for cause >>= λ _. accept t).result ≡ Ok text → t ≡ text
+rule_gives None t text ok = same_read t text ok
+rule_gives (Some kind) t text ok = absurd cc
+
+ruled_gives : (rule : List ℕ → Option Kind) (found : Option (List ℕ)) (text : List ℕ)
+    → (ruled_text rule found).result ≡ Ok text → found ≡ Some text
+ruled_gives rule None text ok = absurd cc
+ruled_gives rule (Some t) text ok = ap (λ (s : List ℕ). Some s) (rule_gives (rule t) t text ok)
 
 pub text_field_judges : {P B : Type 0} (form : Form P) (number : ℕ) (key : List ℕ) (d : Data)
     (rule : List ℕ → Option Kind) (into : OnlyPlace → P)
     → IsPart form number (known_member number key)
     (one_place (shape_or rule (text_of (field key d)))) into
     → Clear form (suc number) → (f : List ℕ → Reading B)
-    → ((t : List ℕ) → Clear form (suc (suc number)) → Judges form (f t))
+    → ((t : List ℕ) → text_of (field key d) ≡ Some t → Clear form (suc (suc number))
+    → Judges form (f t))
     → Judges form (required_text key d
     >>= λ t. reading_within (to_field key) (refuse_for (rule t)) >>= λ _. f t)
 text_field_judges form number key d rule into part clear f behind =
@@ -34,7 +49,19 @@ text_field_judges form number key d rule into part clear f behind =
     (ruled_text rule found) f
     (shape_judged rule found (λ t. refuse_for (rule t) >>= λ _. accept t)
     (λ t. cause_judges (rule t) t))
-    (λ t _ next. behind t next))
+    (λ t ok next. behind t (ruled_gives rule found t ok) next))
+
+-- ---- A truth value that may be absent.
+
+pub boolean_judged : (default : Bool) (found : Option Data)
+    → Judges (one_place (boolean_fault found)) (boolean_or default found)
+boolean_judged default None = one_accepted default
+boolean_judged default (Some d) = by (as_bool d) where
+  by : (found : Option Bool)
+      → Judges (one_place (shape_or (λ _. None) found))
+      (accept_some found (refusal_here kinds.Shape))
+  by None = one_refused kinds.Shape
+  by (Some truth) = one_accepted truth
 
 -- ---- An array that has to be there.
 
@@ -56,24 +83,44 @@ module _ {Q : Type 0} (path : Q → List Step) (fault_in : List Data → Data �
       array_form items_sequence (shape_or (λ items. count_fault (length items))
       (option_and_then items_of found)) (items_in_field found)
 
-  -- where no patterns stand in the items
-  module _ (none : (d : Data) (place : Q) → pattern_in d place ≡ false) where
-    none_in : (found : Option Data) (place : Q)
-        → false ≡ pattern_of_next items_sequence found place
-    none_in None place = refl
-    none_in (Some d) place = sym (none d place)
+  -- what the form of a field says of a place in it
+  module _ (count_fault : ℕ → Option Kind) (key : List ℕ) (number : ℕ) (found : Option Data) where
+    abbrev field_form : Form (ArrayPlace Q)
+    field_form = items_form count_fault found
 
-    -- what the form of a field says of a place in it
-    pub items_seen : (count_fault : ℕ → Option Kind) (key : List ℕ) (number : ℕ)
-        (found : Option Data) (place : ArrayPlace Q)
+    -- where patterns stand in the items
+    pub pattern_items_seen : (pattern : ArrayPlace Q → Bool)
+        → ((place : ArrayPlace Q) → pattern place ≡ field_form.has_pattern place)
+        → (place : ArrayPlace Q)
         → said (known_member number key ∷ array_path path place)
-        (required_array_fault count_fault fault_in found place) false
-        ≡ said (known_member number key ∷ (items_form count_fault found).path place)
-        ((items_form count_fault found).fault_at place)
-        ((items_form count_fault found).has_pattern place)
-    items_seen count_fault key number found array_itself = refl
-    items_seen count_fault key number found (in_item i place) = λ j. (
+        (required_array_fault count_fault fault_in found place) (pattern place)
+        ≡ said (known_member number key ∷ field_form.path place) (field_form.fault_at place)
+        (field_form.has_pattern place)
+    pattern_items_seen pattern same array_itself = λ j. (
+      known_member number key ∷ [],
+      required_array_fault count_fault fault_in found array_itself,
+      same array_itself j,
+    )
+    pattern_items_seen pattern same (in_item i place) = λ j. (
       known_member number key ∷ array_item i i ∷ path place,
       required_array_fault count_fault fault_in found (in_item i place),
-      none_in (slice_get (items_in_field found) i) place j,
+      same (in_item i place) j,
     )
+
+    -- where none does
+    module _ (none : (d : Data) (place : Q) → pattern_in d place ≡ false) where
+      none_in : (item : Option Data) (place : Q)
+          → false ≡ pattern_of_next items_sequence item place
+      none_in None place = refl
+      none_in (Some d) place = sym (none d place)
+
+      no_pattern : (place : ArrayPlace Q) → false ≡ field_form.has_pattern place
+      no_pattern array_itself = refl
+      no_pattern (in_item i place) = none_in (slice_get (items_in_field found) i) place
+
+      pub items_seen : (place : ArrayPlace Q)
+          → said (known_member number key ∷ array_path path place)
+          (required_array_fault count_fault fault_in found place) false
+          ≡ said (known_member number key ∷ field_form.path place) (field_form.fault_at place)
+          (field_form.has_pattern place)
+      items_seen = pattern_items_seen (λ _. false) no_pattern

@@ -1,6 +1,6 @@
 -- The fields of an object: what reading one with no fault says of the JSON value, and back.
 use Rattle.std.proofs.Common.{◌≡◌, ◌⊎◌, ℕ, ◌≤◌, List, length, Bool, true, false, not, ◌&&◌}
-use Rattle.std.proofs.Common.{Option, Some, None, option_and_then, Ok, inl, inr, refl, ap, ◌∙◌}
+use Rattle.std.proofs.Common.{Option, Some, None, option_and_then, Ok, inl, inr, refl, sym, ap, ◌∙◌}
 use Rattle.std.proofs.Common.{cond}
 use Rattle.std.specs.Prelude.{⊤, IsTrue}
 use Rattle.std.proofs.Math.Bool.{and-false}
@@ -10,14 +10,15 @@ use Rattle.serde_json.specs.Find as find
 use Rattle.am_universe.specs.declared.kind.Kind.TheVariants as kinds
 use Rattle.am_json.specs.declared.limits.TheConstants.{MAX_FILE_BYTES}
 use Rattle.am_json.specs.Json.{json_of, is_null, is_one_of, is_unknown, field, lesser_key}
+use Rattle.am_json.specs.Json.{SaysBooleanOr}
 use Rattle.am_json.specs.Json.{unknown_field, items_of, AreOnlyFields, HasOnlyFields}
 use Rattle.am_json.specs.Pointer.{Refusal, refusal_here, refusal_within, to_field}
 use Rattle.am_json.specs.Reading.{◌>>=◌, reading_within, accept_some, as_object, as_text, as_items}
 use Rattle.am_json.specs.Reading.{refuse_unknown_field, check_only_fields, required_field}
 use Rattle.am_json.specs.Reading.{required_text, required_items, check_count, read_json}
+use Rattle.am_json.specs.Reading.{boolean_or, read_boolean_or}
 use Rattle.am_json.proofs.Readings.{bind_ok, within_ok, check_count_ok, check_count_fits}
-use Rattle.am_json.proofs.Readings.{ok_or_some}
-use Rattle.am_json.proofs.Readings.{Decides}
+use Rattle.am_json.proofs.Readings.{ok_or_some, same_read, Decides}
 use Rattle.am_json.specs.Reading.{Reading}
 
 -- ---- The kinds of values.
@@ -159,6 +160,36 @@ unfolding required_items
 required_items_read key d items h =
     items_are_read key (field key d) (refusal_within (to_field key) (refusal_here kinds.Shape))
     items h
+
+-- ---- A truth value that may be absent.
+
+boolean_is : (d : Data) (b : Bool) → find.as_bool d ≡ Some b → d ≡ boolean b
+boolean_is null b h = absurd cc
+boolean_is (boolean c) b h = cc
+boolean_is (number n) b h = absurd cc
+boolean_is (string s) b h = absurd cc
+boolean_is (array ds) b h = absurd cc
+boolean_is (object ms) b h = absurd cc
+
+found_says : (default : Bool) (key : List ℕ) (d : Data) (found : Option Data) (b : Bool)
+    → field key d ≡ found → (boolean_or default found).result ≡ Ok b → SaysBooleanOr default key d b
+found_says default key d None b is h = inl (is, sym (same_read default b h))
+found_says default key d (Some v) b is h =
+    inr (is ∙ ap (λ (x : Data). Some x)
+    (boolean_is v b (ok_or_some (find.as_bool v) (refusal_here kinds.Shape) b h)))
+
+pub boolean_or_says : (default : Bool) (key : List ℕ) (d : Data) (b : Bool)
+    → (read_boolean_or default key d).result ≡ Ok b → SaysBooleanOr default key d b
+unfolding read_boolean_or
+boolean_or_says default key d b h =
+    found_says default key d (field key d) b refl
+    (within_ok (to_field key) ((boolean_or default (field key d)).result) b h)
+
+pub boolean_or_reads : (default : Bool) (key : List ℕ) (d : Data) (b : Bool)
+    → SaysBooleanOr default key d b → (read_boolean_or default key d).result ≡ Ok b
+unfolding read_boolean_or
+boolean_or_reads default key d b (inl said) = rw (said.0, said.1) refl
+boolean_or_reads default key d b (inr said) = rw said refl
 
 -- ---- A file.
 

@@ -226,6 +226,13 @@ module _ {P Q : Type 0} (form : Form P) (inner : Form Q) (into : Q → P)
         r (judges.meets r h);
   }
 
+-- two forms that say the same of each place
+pub same_judged : {P A : Type 0} (form other : Form P)
+    → ((place : P) → said_of form place ≡ said_of other place) → (m : Reading A) → Judges other m
+    → Judges form m
+same_judged form other same m judges =
+    within_judged form other (λ place. place) same (λ place. inl (place, refl)) m judges
+
 -- ---- Patterns that are met.
 
 pub refusal_append : (ps qs : List (List ℕ)) (r : Refusal) → IsPatternRefusal (ps ++ qs) r

@@ -13,7 +13,7 @@ use Rattle.am_universe.specs.declared.kind.Kind.TheVariants as kinds
 use Rattle.am_json.specs.Json.{field, items_of}
 use Rattle.am_json.specs.Places.{text_of}
 use Rattle.am_json.specs.Pointer.{Refusal, refusal_here, refusal_within, to_field, to_item}
-use Rattle.am_json.specs.Reading.{Reading, accept, accept_some, as_items, as_text, patterns_then}
+use Rattle.am_json.specs.Reading.{Reading, accept, accept_some, as_text, patterns_then}
 use Rattle.am_json.specs.Reading.{read_next_item, reading_within, refuse_for, required_items}
 use Rattle.am_json.specs.Reading.{required_text, result_then, ◌>>=◌}
 
@@ -133,32 +133,42 @@ module _ {B : Type 0} (key : List ℕ) (rule : List ℕ → Option Kind) (f : Li
   unfolding required_text
   text_within d = by_field (field key d)
 
--- ---- An array that has to be there.
+-- ---- A value of one kind that has to be there.
 
--- the items of an array and then their reading, as the reading of the part
-module _ {A : Type 0} (key : List ℕ) (read : List Data → Reading A) where
-  by_items : (found : Option (List Data))
+-- the value and then its reading, as the reading of the part
+module _ {X A : Type 0} (key : List ℕ) (kind_of : Data → Option X) (read : X → Reading A) where
+  by_value : (found : Option X)
       → (reading_within (to_field key) (accept_some found (refusal_here kinds.Shape))
-      >>= λ items. reading_within (to_field key) (read items))
+      >>= λ x. reading_within (to_field key) (read x))
       ≡ reading_within (to_field key) (accept_some found (refusal_here kinds.Shape) >>= read)
-  by_items None = refl
-  by_items (Some items) = refl
+  by_value None = refl
+  by_value (Some x) = refl
 
-  by_found : (found : Option Data)
+  by_kind : (found : Option Data)
       → ((accept_some found (refusal_within (to_field key) (refusal_here kinds.Shape))
-      >>= λ v. reading_within (to_field key) (as_items v))
-      >>= λ items. reading_within (to_field key) (read items))
+      >>= λ v. reading_within (to_field key) (accept_some (kind_of v) (refusal_here kinds.Shape)))
+      >>= λ x. reading_within (to_field key) (read x))
       ≡ reading_within (to_field key)
-      (accept_some (option_and_then items_of found) (refusal_here kinds.Shape) >>= read)
-  by_found None = refl
-  by_found (Some v) = by_items (items_of v)
+      (accept_some (option_and_then kind_of found) (refusal_here kinds.Shape) >>= read)
+  by_kind None = refl
+  by_kind (Some v) = by_value (kind_of v)
 
+-- a text
+pub text_read_within : {A : Type 0} (key : List ℕ) (read : List ℕ → Reading A) (d : Data)
+    → (required_text key d >>= λ t. reading_within (to_field key) (read t))
+    ≡ reading_within (to_field key)
+    (accept_some (text_of (field key d)) (refusal_here kinds.Shape) >>= read)
+unfolding required_text
+text_read_within key read d = by_kind key as_str read (field key d)
+
+-- the items of an array
+module _ {A : Type 0} (key : List ℕ) (read : List Data → Reading A) where
   pub items_within : (d : Data)
       → (required_items key d >>= λ items. reading_within (to_field key) (read items))
       ≡ reading_within (to_field key)
       (accept_some (option_and_then items_of (field key d)) (refusal_here kinds.Shape) >>= read)
   unfolding required_items
-  items_within d = by_found (field key d)
+  items_within d = by_kind key items_of read (field key d)
 
   -- the same, and then what is behind it
   pub items_within_then : {B : Type 0} (d : Data) (f : A → Reading B)

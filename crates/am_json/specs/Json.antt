@@ -5,8 +5,8 @@ use Rattle.std.specs.Ordering.{nat_cmp, match_ordering}
 use Rattle.std.specs.Cmp.Lexicographic.{slice_cmp}
 use Rattle.std.specs.List.{list_any}
 use Rattle.std.specs.Str.{is_utf8}
-use Rattle.serde_json.specs.Data.{Data, null, object, Items, no_items, item, Members, no_members}
-use Rattle.serde_json.specs.Data.{member}
+use Rattle.serde_json.specs.Data.{Data, null, boolean, object, Items, no_items, item, Members}
+use Rattle.serde_json.specs.Data.{no_members, member}
 use Rattle.serde_json.specs.Find.{get, as_null, as_array}
 use Rattle.serde_json.specs.Read.{read}
 use Rattle.am_universe.specs.Text.{same_text}
@@ -32,6 +32,12 @@ non_null d = if is_null d then None else Some d
 
 abbrev pub field : List ℕ → Data → Option Data
 field key d = option_and_then non_null (get key d)
+
+-- What a field says that has a truth value or is absent: that value, and where it is absent this
+-- default.
+abbrev pub SaysBooleanOr : Bool → List ℕ → Data → Bool → Type 0
+SaysBooleanOr default key d truth =
+    ((field key d ≡ None) × (truth ≡ default)) ⊎ (field key d ≡ Some (boolean truth))
 
 -- The key is one of these names.
 abbrev pub is_one_of : List ℕ → List (List ℕ) → Bool

@@ -12,7 +12,7 @@ use Rattle.std.specs.Ordering.{nat_cmp}
 use Rattle.std.specs.Cmp.Lexicographic.{slice_cmp}
 use Rattle.std.specs.List.{flat_map}
 use Rattle.serde_json.specs.Data.{Data, Members, no_members, member}
-use Rattle.serde_json.specs.Find.{as_str}
+use Rattle.serde_json.specs.Find.{as_str, as_bool}
 use Rattle.am_universe.specs.declared.kind.Kind.{Kind}
 use Rattle.am_universe.specs.declared.kind.Kind.TheVariants as kinds
 use Rattle.am_universe.specs.Text.{same_text}
@@ -97,6 +97,10 @@ shape_or rule (Some x) = rule x
 abbrev pub if_there : {A : Type 0} → (A → Option Kind) → Option A → Option Kind
 if_there rule None = None
 if_there rule (Some x) = rule x
+
+-- What is wrong with a field that has a truth value or is absent: it is there, and no truth value.
+abbrev pub boolean_fault : Option Data → Option Kind
+boolean_fault found = if_there (λ d. shape_or (λ _. None) (as_bool d)) found
 
 -- A list has no items.
 abbrev pub is_empty : {A : Type 0} → List A → Bool

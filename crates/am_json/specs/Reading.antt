@@ -2,7 +2,7 @@
 -- Readings serve the proofs of the readers; what callers are told of a fault is said by places.
 use Rattle.std.specs.Prelude.{◌≡◌, ◌≢◌, ◌⊎◌, ℕ, List, [], ◌∷◌, ◌++◌, length, map}
 use Rattle.std.specs.Prelude.{Option, Some, None, option_map, ok_or, Result, Ok, Err}
-use Rattle.std.specs.Prelude.{IsErrAnd, string_bytes, ⊤}
+use Rattle.std.specs.Prelude.{Bool, IsErrAnd, string_bytes, ⊤}
 use Rattle.std.specs.Result.{result_map_both}
 use Rattle.serde_json.specs.Data.{Data, Members}
 use Rattle.serde_json.specs.Find as find
@@ -193,6 +193,16 @@ unfoldable pub required_items : List ℕ → Data → Reading (List Data)
 required_items key d = do
   value ← required_field key d
   reading_within (to_field key) (as_items value)
+
+-- The truth value that the value is, and `shape` for a value of another kind. Where there is no
+-- value it is this default.
+abbrev pub boolean_or : Bool → Option Data → Reading Bool
+boolean_or default None = accept default
+boolean_or default (Some d) = accept_some (find.as_bool d) (refusal_here kinds.Shape)
+
+-- The truth value in a field, and this default where the field is absent.
+unfoldable pub read_boolean_or : Bool → List ℕ → Data → Reading Bool
+read_boolean_or default key d = reading_within (to_field key) (boolean_or default (field key d))
 
 -- ---- One behind the other.
 

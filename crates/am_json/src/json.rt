@@ -6,7 +6,8 @@ ghost use Rattle.am_universe.specs.declared.kind.Kind.TheVariants as kinds;
 ghost use Rattle.am_json.specs.Words.{json_of, field, is_one_of, is_unknown, unknown_field};
 ghost use Rattle.am_json.specs.Words.{refusal_here, Gives, accept_some, refuse_for, check_count};
 ghost use Rattle.am_json.specs.Words.{as_object, as_text, as_items, check_only_fields};
-ghost use Rattle.am_json.specs.Words.{required_field, required_text, required_items, read_json};
+ghost use Rattle.am_json.specs.Words.{required_field, required_text, required_items};
+ghost use Rattle.am_json.specs.Words.{boolean_or, read_boolean_or, read_json};
 
 use crate::limits::MAX_FILE_BYTES;
 use crate::pointer::within_field;
@@ -193,4 +194,34 @@ pub fn required_items<'v>(
 {
     let found = required_field(alloc, value, key)?;
     within_field(alloc, key, as_items(alloc, found))
+}
+
+/// The truth value in the field of this name, and `default` where it is absent, as [`field`] says.
+/// The only refusal is `Shape`, at the field: it is there, and no truth value. Memory may run out
+/// for its pointer.
+#[tactic(auto, using(crate::proofs::Readings::within_gives), unfolding(crate::specs::Reading::read_boolean_or))]
+pub fn read_boolean_or(
+    alloc: Global,
+    value: &Value,
+    key: &str,
+    default: bool,
+) -> Result<bool, ReadError>
+    ensures reading { Gives (λ truth. truth) result
+        (read_boolean_or default key.now (view value.now)) }
+{
+    within_field(alloc, key, boolean_or(alloc, field(value, key), default))
+}
+
+/// The truth value that the value is, and `default` where there is no value.
+fn boolean_or(alloc: Global, found: Option<&Value>, default: bool) -> Result<bool, ReadError>
+    ensures { Gives (λ truth. truth) result
+        (boolean_or default (option_map (λ v. view v.now) found.entry)) }
+{
+    let Some(found) = found else {
+        return Ok(default);
+    };
+    match found.as_bool() {
+        Some(truth) => Ok(truth),
+        None => Err(ReadError::refused(alloc, Kind::Shape)),
+    }
 }

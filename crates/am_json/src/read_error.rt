@@ -69,8 +69,8 @@ impl ReadError {
     }
 
     /// The fault that it is, where the value that is looked at is that of the whole file at this
-    /// place. That memory ran out stands at the place `Memory`, with no pointer. This takes no
-    /// memory.
+    /// place. That memory ran out stands at the place `Memory`, with no pointer. No memory is
+    /// taken.
     pub fn at(self, alloc: Global, place: Place) -> Fault
         ensures fault { IsFaultOf place self result }
     {

@@ -1,0 +1,40 @@
+//! The name and the pattern of a matcher, in any file.
+
+ghost use Rattle.std.specs.Prelude.{◌≡◌, ◌≢◌, []};
+ghost use Rattle.am_json.specs.Words.{Gives};
+ghost use Rattle.am_files.specs.Words.{label_name_fault, check_matcher};
+
+use am_json::ReadError;
+use am_labels::{Kind, Matcher, Op};
+use std::alloc::Global;
+
+/// What is wrong with the name of a label.
+pub(crate) fn label_name_fault(name: &str) -> Option<Kind>
+    ensures { result ≡ label_name_fault name.now }
+{
+    if name.is_empty() {
+        Some(Kind::Empty)
+    } else {
+        None
+    }
+}
+
+/// The matcher of these parts, whose name is not empty, or why its pattern is refused.
+#[tactic(auto, using(am_json::proofs::Readings::steps))]
+pub(crate) fn new_matcher(
+    alloc: Global,
+    name: &str,
+    op: Op,
+    value: &str,
+) -> Result<Matcher, ReadError>
+    requires { name.now ≢ [] }
+    ensures { Gives (λ m. m) result
+        (check_matcher (record { name = name.now; op = op; value = value.now })) }
+{
+    let name = String::from_str(alloc, name)?;
+    let value = String::from_str(alloc, value)?;
+    match Matcher::new(alloc, name, op, value) {
+        Ok(matcher) => Ok(matcher),
+        Err(kind) => Err(ReadError::refused(alloc, kind)),
+    }
+}
