@@ -9,9 +9,10 @@ use Rattle.std.proofs.lemmas.Option.{option_and_then_some, same_Some}
 use Rattle.am_universe.specs.LabelSet.{LabelMap}
 use Rattle.am_universe.proofs.ListLemmas.{IsIn}
 use Rattle.am_files.specs.ConfigFile.{RouteTree, Routes, route, no_routes, next_route, receiver_of}
-use Rattle.am_files.specs.ConfigFile.{Configuration, IsConfig, children_of, has_receivers_below}
+use Rattle.am_files.specs.ConfigFile.{IsConfig, children_of, has_receivers_below}
 use Rattle.am_files.specs.ConfigFile.{have_receivers_below}
 use Rattle.am_files.specs.Path.{list_of, route_at}
+use Rattle.am_eval.specs.World.{World}
 use Rattle.am_eval.specs.Routing.{ends, receivers, receiver_at}
 use Rattle.am_eval.specs.Question.{Receiver, Ends, Enters, holds_of}
 use Rattle.am_eval.proofs.EndLaws.{any_in, is_end, exactly, end_matches}
@@ -31,19 +32,19 @@ on_the_way (p ∷ path) below t u e =
     let r = on_the_way path below child u further in
     (r.0, rw is r.1))
 
-pub no_end_there : (c : Configuration) (s : LabelMap) (path : List ℕ) → route_at c.root path ≡ None
-    → IsFalse (holds_of c (Ends path) s)
-no_end_there c s path none = not_true (holds_of c (Ends path) s) (λ h.
-    let m = end_matches s c.root path (is_end c s path h) in
+pub no_end_there : (w : World) (s : LabelMap) (path : List ℕ) → route_at w.config.root path ≡ None
+    → IsFalse (holds_of w (Ends path) s)
+no_end_there w s path none = not_true (holds_of w (Ends path) s) (λ h.
+    let m = end_matches s w.config.root path (is_end w s path h) in
     let e : None ≡ Some m.0 = sym none ∙ m.1 in
     cc)
 
-pub no_end_below : (c : Configuration) (s : LabelMap) (path : List ℕ) → route_at c.root path ≡ None
-    → IsFalse (holds_of c (Enters path) s)
-no_end_below c s path none = not_true (holds_of c (Enters path) s) (λ h.
-    let b = (exactly c s path).0 h in
-    let m = end_matches s c.root (path ++ b.0) (is_end c s (path ++ b.0) b.1) in
-    let r = on_the_way path b.0 c.root m.0 m.1 in
+pub no_end_below : (w : World) (s : LabelMap) (path : List ℕ) → route_at w.config.root path ≡ None
+    → IsFalse (holds_of w (Enters path) s)
+no_end_below w s path none = not_true (holds_of w (Enters path) s) (λ h.
+    let b = (exactly w s path).0 h in
+    let m = end_matches s w.config.root (path ++ b.0) (is_end w s (path ++ b.0) b.1) in
+    let r = on_the_way path b.0 w.config.root m.0 m.1 in
     let e : None ≡ Some r.0 = sym none ∙ r.1 in
     cc)
 
@@ -93,9 +94,10 @@ receiver_of_route n receiver root path (Some t) at sound e =
     subst (λ (r : ℕ). nat_lt r n ≡ true) (same_Some (receiver_of t) receiver e)
     (receiver_below n path root t sound at)
 
-pub no_receiver_there : (c : Configuration) (s : LabelMap) (receiver : ℕ) → IsConfig c
-    → length c.receivers ≤ receiver → IsFalse (holds_of c (Receiver receiver) s)
-no_receiver_there c s receiver sound beyond = not_true (holds_of c (Receiver receiver) s) (λ h.
+pub no_receiver_there : (w : World) (s : LabelMap) (receiver : ℕ) → IsConfig w.config
+    → length w.config.receivers ≤ receiver → IsFalse (holds_of w (Receiver receiver) s)
+no_receiver_there w s receiver sound beyond = not_true (holds_of w (Receiver receiver) s) (λ h.
+    let c = w.config in
     let r = any_in (λ other. other == receiver) (receivers s c) h in
     let m = mapped_from (receiver_at c) (ends s c) r.0 r.1 in
     let below = receiver_of_route (length c.receivers) r.0 c.root m.0 (route_at c.root m.0) refl

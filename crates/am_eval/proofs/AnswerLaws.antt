@@ -11,7 +11,7 @@ use Rattle.am_universe.specs.Choice.{IsWhole, all_choices}
 use Rattle.am_universe.specs.LabelSet.{label_set_of}
 use Rattle.am_universe.proofs.ListLemmas.{IsIn, IsIn-from_Contains, Contains-from_IsIn}
 use Rattle.am_universe.proofs.ChoiceLemmas.{choices_whole, choices_sorted}
-use Rattle.am_files.specs.ConfigFile.{Configuration}
+use Rattle.am_eval.specs.World.{World}
 use Rattle.am_eval.specs.Question.{Question, satisfies, is_answer, answers}
 
 -- ---- What a filter keeps.
@@ -30,7 +30,7 @@ passes_from_kept test [] y h = absurd h
 passes_from_kept test (x ∷ xs) y h =
     kept_step test x y (test x) xs (filter test xs) refl h (passes_from_kept test xs y)
 
-kept_behind : {X : Type 0} (b : Bool) (x y : X) (ks : List X) → IsIn ks y
+pub kept_behind : {X : Type 0} (b : Bool) (x y : X) (ks : List X) → IsIn ks y
     → IsIn (cond b (x ∷ ks) ks) y
 kept_behind true x y ks h = inr h
 kept_behind false x y ks h = h
@@ -47,13 +47,13 @@ kept_from_passes test (x ∷ xs) y (inr h) e =
 
 -- ---- The answers.
 
-pub answers_exact : (u : List Label) (config : Configuration) (question : Question) (c : List ℕ)
-    → Contains (answers u config question) c
-    ↔ (IsWhole (sizes u) c × (satisfies config question (label_set_of u c) ≡ true))
-answers_exact u config question c =
+pub answers_exact : (u : List Label) (w : World) (question : Question) (c : List ℕ)
+    → Contains (answers u w question) c
+    ↔ (IsWhole (sizes u) c × (satisfies w question (label_set_of u c) ≡ true))
+answers_exact u w question c =
     let all : List (List ℕ) = all_choices u in
     let whole = choices_whole (sizes u) c in
-    let test : List ℕ → Bool = is_answer u config question in (
+    let test : List ℕ → Bool = is_answer u w question in (
       λ h.
           let r = passes_from_kept test all c (IsIn-from_Contains (filter test all) c h) in
           (whole.0 (Contains-from_IsIn all c r.0), r.1),
@@ -62,8 +62,8 @@ answers_exact u config question c =
           Contains-from_IsIn (filter test all) c (kept_from_passes test all c there h.1),
     )
 
-pub answers_sorted : (u : List Label) (config : Configuration) (question : Question)
-    → IsStrictlySortedBy (slice_cmp nat_cmp) (answers u config question)
-answers_sorted u config question =
-    IsStrictlySortedBy-filter (slice_cmp nat_cmp) (is_answer u config question) (all_choices u)
+pub answers_sorted : (u : List Label) (w : World) (question : Question)
+    → IsStrictlySortedBy (slice_cmp nat_cmp) (answers u w question)
+answers_sorted u w question =
+    IsStrictlySortedBy-filter (slice_cmp nat_cmp) (is_answer u w question) (all_choices u)
     (choices_sorted (sizes u))

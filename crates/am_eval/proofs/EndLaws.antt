@@ -16,6 +16,7 @@ use Rattle.am_labels.specs.Matcher.{all_hold}
 use Rattle.am_files.specs.ConfigFile.{RouteTree, Routes, route, no_routes, next_route, matchers_of}
 use Rattle.am_files.specs.ConfigFile.{children_of, receiver_of, Configuration, IsConfig}
 use Rattle.am_files.specs.Path.{list_of, route_at, leads_through}
+use Rattle.am_eval.specs.World.{World}
 use Rattle.am_eval.specs.Routing.{Child, tried, ends_tried, or_itself, ends_at, children_seen, ends}
 use Rattle.am_eval.specs.Routing.{receiver_at, receivers, MatchesAt, is_last}
 use Rattle.am_eval.specs.Question.{Any, Ends, Enters, holds_of}
@@ -174,47 +175,47 @@ one_receiver_an_end c s =
     (λ path h. receiver_of_match s c path (end_matches s c.root path h))
 
 -- the path is an end
-pub is_end : (c : Configuration) (s : LabelMap) (path : List ℕ) → IsTrue (holds_of c (Ends path) s)
-    → IsIn (ends s c) path
-is_end c s path h =
-    let r = any_in (λ end. same_text end path) (ends s c) h in
-    subst (λ (x : List ℕ). IsIn (ends s c) x) ((bytes_decides r.0 path).0 r.2) r.1
+pub is_end : (w : World) (s : LabelMap) (path : List ℕ) → IsTrue (holds_of w (Ends path) s)
+    → IsIn (ends s w.config) path
+is_end w s path h =
+    let r = any_in (λ end. same_text end path) (ends s w.config) h in
+    subst (λ (x : List ℕ). IsIn (ends s w.config) x) ((bytes_decides r.0 path).0 r.2) r.1
 
-holds_at_end : (c : Configuration) (s : LabelMap) (path : List ℕ) → IsIn (ends s c) path
-    → IsTrue (holds_of c (Ends path) s)
-holds_at_end c s path h =
-    in_any (λ end. same_text end path) (ends s c) path h ((bytes_decides path path).1 refl)
+holds_at_end : (w : World) (s : LabelMap) (path : List ℕ) → IsIn (ends s w.config) path
+    → IsTrue (holds_of w (Ends path) s)
+holds_at_end w s path h =
+    in_any (λ end. same_text end path) (ends s w.config) path h ((bytes_decides path path).1 refl)
 
-pub exactly : (c : Configuration) (s : LabelMap) (path : List ℕ)
-    → (IsTrue (holds_of c (Enters path) s)
-    ↔ ((below : List ℕ) × IsTrue (holds_of c (Ends (path ++ below)) s)))
-exactly c s path = (
+pub exactly : (w : World) (s : LabelMap) (path : List ℕ)
+    → (IsTrue (holds_of w (Enters path) s)
+    ↔ ((below : List ℕ) × IsTrue (holds_of w (Ends (path ++ below)) s)))
+exactly w s path = (
   λ h.
-      let r = any_in (leads_through path) (ends s c) h in
+      let r = any_in (leads_through path) (ends s w.config) h in
       let below = drop (length path) r.0 in (
         below,
-        holds_at_end c s (path ++ below)
-            (subst (λ (x : List ℕ). IsIn (ends s c) x) (sym (goes_on_from path r.0 r.2)) r.1),
+        holds_at_end w s (path ++ below)
+            (subst (λ (x : List ℕ). IsIn (ends s w.config) x) (sym (goes_on_from path r.0 r.2)) r.1),
       ),
   λ h.
-      in_any (leads_through path) (ends s c) (path ++ h.0) (is_end c s (path ++ h.0) h.1)
+      in_any (leads_through path) (ends s w.config) (path ++ h.0) (is_end w s (path ++ h.0) h.1)
       (begins path h.0),
 )
 
-pub itself : (c : Configuration) (s : LabelMap) (path : List ℕ)
-    → IsTrue (holds_of c (Ends path) s) → IsTrue (holds_of c (Enters path) s)
-itself c s path h = (exactly c s path).1 ([], rw (append-nil path) h)
+pub itself : (w : World) (s : LabelMap) (path : List ℕ)
+    → IsTrue (holds_of w (Ends path) s) → IsTrue (holds_of w (Enters path) s)
+itself w s path h = (exactly w s path).1 ([], rw (append-nil path) h)
 
 first_of : (paths : List (List ℕ)) → paths ≢ [] → (path : List ℕ) × IsIn paths path
 first_of [] some = absurd (some refl)
 first_of (path ∷ paths) some = (path, inl refl)
 
-pub same : (c : Configuration) (s : LabelMap) → IsConfig c
-    → (IsTrue (holds_of c Any s) ↔ ((path : List ℕ) × IsTrue (holds_of c (Ends path) s)))
-same c s sound = (
+pub same : (w : World) (s : LabelMap) → IsConfig w.config
+    → (IsTrue (holds_of w Any s) ↔ ((path : List ℕ) × IsTrue (holds_of w (Ends path) s)))
+same w s sound = (
   λ h.
-      let first = first_of (ends s c) (somewhere c s sound) in
-      (first.0, holds_at_end c s first.0 first.1),
+      let first = first_of (ends s w.config) (somewhere w.config s sound) in
+      (first.0, holds_at_end w s first.0 first.1),
   λ h. refl,
 )
 

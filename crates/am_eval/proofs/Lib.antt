@@ -1,4 +1,6 @@
 pub mod AnswerLaws
+pub mod SilenceLaws
+pub mod SilenceSteps
 pub mod ChildEnds
 pub mod EndLaws
 pub mod RoutingExamples

@@ -1,34 +1,24 @@
 -- The steps of a reader, and what becomes of the rest.
-use Rattle.std.proofs.Common.{◌≡◌, ◌≤◌, ◌-◌, ℕ, suc, List, [], ◌∷◌, Option, Some, None, codes, map}
+use Rattle.std.proofs.Common.{◌≡◌, ◌↔◌, ◌≤◌, ◌-◌, ℕ, suc, List, [], ◌∷◌, Option, Some, None, codes, map}
 use Rattle.std.proofs.Common.{length, take, drop, get_or, refl, sym, ap, arith}
 use Rattle.std.proofs.Common.{Bool, true, false, ◌==◌, ◌∙◌}
-use Rattle.std.specs.Box.{box_value}
-use Rattle.std.specs.Global.{Box}
 use Rattle.std.proofs.Math.Seq.{take-length}
 use Rattle.std.proofs.lemmas.List.{nil_from_length}
 use Rattle.std.proofs.lemmas.Bool.{eqb-true}
 use Rattle.am_universe.specs.Text.{same_text}
-use Rattle.am_eval.specs.Tree.{Tree, Part, Not, And, Or}
+use Rattle.am_eval.specs.Tree.{Tree, And, Or}
 use Rattle.am_eval.specs.Tokens.{Token, Word, BraceList}
-use Rattle.am_eval.specs.Grammar.{Written, WrittenAny, WrittenReceiver, WrittenEnds, WrittenEnters}
-use Rattle.am_eval.specs.Grammar.{WrittenBraces}
+use Rattle.am_eval.specs.Grammar.{Written, WrittenAny, WrittenSilenced, WrittenReceiver}
+use Rattle.am_eval.specs.Grammar.{WrittenEnds, WrittenEnters, WrittenBraces}
 use Rattle.am_eval.specs.GrammarReading.{behind, behind_open, behind_close, IsPathText, name_of}
-use Rattle.am_eval.specs.GrammarReading.{TakesPart, take_any, take_receiver, take_ends, take_enters}
-use Rattle.am_eval.specs.GrammarReading.{take_braces}
+use Rattle.am_eval.specs.GrammarReading.{TakesPart, take_any, take_silenced, take_receiver}
+use Rattle.am_eval.specs.GrammarReading.{take_ends, take_enters, take_braces}
 use Rattle.am_eval.specs.GrammarReading.{TakesQuestion, take_question, JoinsByOr, no_or, one_or}
 use Rattle.am_eval.specs.GrammarReading.{TakesBoth, take_both, JoinsByAnd, no_and, one_and}
 use Rattle.am_eval.specs.GrammarReading.{TakesOne, take_not, take_simple, TakesSimple, take_inside}
 use Rattle.am_eval.specs.GrammarReading.{take_part}
 use Rattle.am_eval.specs.TokenView.{token_view}
-use Rattle.am_eval.specs.TreeView.{tree_view, view_step, written_view}
 use Rattle.am_eval.specs.declared.tokens.Token as kept
-use Rattle.am_eval.specs.declared.grammar.Tree as kept_trees
-use Rattle.am_eval.specs.declared.grammar.Tree.{fold-roll-Tree}
-use Rattle.am_eval.specs.declared.grammar.Tree.TheOpen.{Tree-F}
-use Rattle.am_eval.specs.declared.grammar.Tree.TheVariants as views
-use Rattle.am_eval.specs.declared.grammar.Tree.TheVariants.{rolls-Part, rolls-Not, rolls-And}
-use Rattle.am_eval.specs.declared.grammar.Tree.TheVariants.{rolls-Or}
-use Rattle.am_eval.specs.declared.grammar.Written as kept_parts
 use Rattle.am_eval.proofs.Takes.{same_question, same_one, same_both, same_behind, one_of_two}
 
 -- ---- The first token, and the rest.
@@ -42,28 +32,36 @@ first_and_rest (token ∷ tokens) first some is =
     let n : suc (length tokens) - 1 ≡ length tokens = omega arith in
     let e : first ≡ token = is in rw (e, n, take-length)
 
+-- ---- What is read from here on is what is read from the start.
+
+-- two ways of reading read the same
+abbrev pub ReadsSame : (R S : Tree Written → List Token → Type 0) → Type 0
+ReadsSame R S = (q : Tree Written) (rest : List Token) → R q rest ↔ S q rest
+
+pub through : {R S T : Tree Written → List Token → Type 0} → ReadsSame R S → ReadsSame S T
+    → ReadsSame R T
+through h k q rest = (λ r. (k q rest).0 ((h q rest).0 r), λ t. (h q rest).1 ((k q rest).1 t))
+
 -- ---- Joined by `or`.
 
-pub or_from : {ts m : List Token} {q : Tree Written} → TakesBoth ts q m
-    → (r : Tree Written) (left : List Token) → JoinsByOr q m r left → TakesQuestion ts r left
-or_from b r left j = take_question _ _ _ _ _ b j
-
-pub or_to : {ts m : List Token} {q : Tree Written} → TakesBoth ts q m
-    → (r : Tree Written) (left : List Token) → TakesQuestion ts r left → JoinsByOr q m r left
-or_to b r left (take_question ts middle rest q' r' b' j) =
+or_to : {ts m left : List Token} {q r : Tree Written} → TakesBoth ts q m
+    → TakesQuestion ts r left → JoinsByOr q m r left
+or_to b (take_question ts middle rest q' r' b' j) =
     let s = same_both b b' refl in rw (s.0, s.1) j
 
-pub or_on : {ts us m : List Token} {q r p : Tree Written} → behind (codes "or") ts ≡ Some us
-    → TakesBoth us r m → p ≡ Or q r
-    → (s : Tree Written) (left : List Token) → JoinsByOr p m s left → JoinsByOr q ts s left
-or_on h b e s left j = one_or _ _ _ _ _ _ _ h b (rw e at j)
+pub or_first : {ts m : List Token} {q : Tree Written} → TakesBoth ts q m
+    → ReadsSame (JoinsByOr q m) (TakesQuestion ts)
+or_first b r left = (λ j. take_question _ _ _ _ _ b j, λ taken. or_to b taken)
 
-pub or_back : {ts us m : List Token} {q r p : Tree Written} → behind (codes "or") ts ≡ Some us
-    → TakesBoth us r m → p ≡ Or q r
-    → (s : Tree Written) (left : List Token) → JoinsByOr q ts s left → JoinsByOr p m s left
-or_back h b e s left (no_or ts q n) = one_of_two ts ts _ refl n h
-or_back h b e s left (one_or ts us middle rest q r s' h' b' j) =
+or_back : {ts us m left : List Token} {q r p s : Tree Written} → behind (codes "or") ts ≡ Some us
+    → TakesBoth us r m → p ≡ Or q r → JoinsByOr q ts s left → JoinsByOr p m s left
+or_back h b e (no_or ts q n) = one_of_two ts ts _ refl n h
+or_back h b e (one_or ts us middle rest q r s' h' b' j) =
     let both = same_both b b' (same_behind ts ts _ refl h h') in rw (e, both.0, both.1) j
+
+pub or_next : {ts us m : List Token} {q r p : Tree Written} → behind (codes "or") ts ≡ Some us
+    → TakesBoth us r m → p ≡ Or q r → ReadsSame (JoinsByOr p m) (JoinsByOr q ts)
+or_next h b e s left = (λ j. one_or _ _ _ _ _ _ _ h b (rw e at j), λ j. or_back h b e j)
 
 pub or_stuck : {ts us : List Token} {q : Tree Written} → behind (codes "or") ts ≡ Some us
     → ((r : Tree Written) (m : List Token) → TakesBoth us r m → ⊥)
@@ -74,26 +72,24 @@ or_stuck h none s left (one_or ts us middle rest q r s' h' b j) =
 
 -- ---- Joined by `and`.
 
-pub and_from : {ts m : List Token} {q : Tree Written} → TakesOne ts q m
-    → (r : Tree Written) (left : List Token) → JoinsByAnd q m r left → TakesBoth ts r left
-and_from b r left j = take_both _ _ _ _ _ b j
-
-pub and_to : {ts m : List Token} {q : Tree Written} → TakesOne ts q m
-    → (r : Tree Written) (left : List Token) → TakesBoth ts r left → JoinsByAnd q m r left
-and_to b r left (take_both ts middle rest q' r' b' j) =
+and_to : {ts m left : List Token} {q r : Tree Written} → TakesOne ts q m
+    → TakesBoth ts r left → JoinsByAnd q m r left
+and_to b (take_both ts middle rest q' r' b' j) =
     let s = same_one b b' refl in rw (s.0, s.1) j
 
-pub and_on : {ts us m : List Token} {q r p : Tree Written} → behind (codes "and") ts ≡ Some us
-    → TakesOne us r m → p ≡ And q r
-    → (s : Tree Written) (left : List Token) → JoinsByAnd p m s left → JoinsByAnd q ts s left
-and_on h b e s left j = one_and _ _ _ _ _ _ _ h b (rw e at j)
+pub and_first : {ts m : List Token} {q : Tree Written} → TakesOne ts q m
+    → ReadsSame (JoinsByAnd q m) (TakesBoth ts)
+and_first b r left = (λ j. take_both _ _ _ _ _ b j, λ taken. and_to b taken)
 
-pub and_back : {ts us m : List Token} {q r p : Tree Written} → behind (codes "and") ts ≡ Some us
-    → TakesOne us r m → p ≡ And q r
-    → (s : Tree Written) (left : List Token) → JoinsByAnd q ts s left → JoinsByAnd p m s left
-and_back h b e s left (no_and ts q n) = one_of_two ts ts _ refl n h
-and_back h b e s left (one_and ts us middle rest q r s' h' b' j) =
+and_back : {ts us m left : List Token} {q r p s : Tree Written} → behind (codes "and") ts ≡ Some us
+    → TakesOne us r m → p ≡ And q r → JoinsByAnd q ts s left → JoinsByAnd p m s left
+and_back h b e (no_and ts q n) = one_of_two ts ts _ refl n h
+and_back h b e (one_and ts us middle rest q r s' h' b' j) =
     let one = same_one b b' (same_behind ts ts _ refl h h') in rw (e, one.0, one.1) j
+
+pub and_next : {ts us m : List Token} {q r p : Tree Written} → behind (codes "and") ts ≡ Some us
+    → TakesOne us r m → p ≡ And q r → ReadsSame (JoinsByAnd p m) (JoinsByAnd q ts)
+and_next h b e s left = (λ j. one_and _ _ _ _ _ _ _ h b (rw e at j), λ j. and_back h b e j)
 
 pub and_stuck : {ts us : List Token} {q : Tree Written} → behind (codes "and") ts ≡ Some us
     → ((r : Tree Written) (m : List Token) → TakesOne us r m → ⊥)
@@ -150,6 +146,10 @@ pub any_taken : (word : List ℕ) (ts : List Token) → same_text word (codes "a
     → TakesPart (Word word ∷ ts) WrittenAny ts
 any_taken word ts e = take_any _ ts (rw e)
 
+pub silenced_taken : (word : List ℕ) (ts : List Token) → same_text word (codes "silenced") ≡ true
+    → TakesPart (Word word ∷ ts) WrittenSilenced ts
+silenced_taken word ts e = take_silenced _ ts (rw e)
+
 pub receiver_taken : (word name : List ℕ) (ts rest : List Token) (token : Token)
     → word ≡ codes "receiver" → ts ≡ token ∷ rest → Some name ≡ name_of token
     → TakesPart (Word word ∷ ts) (WrittenReceiver name) rest
@@ -174,6 +174,7 @@ ends_refused : (token : Token) (ts : List Token)
     → ((text : List ℕ) → token ≡ Word text → IsPathText text → ⊥)
     → {w : Written} {rest : List Token} → TakesPart (Word (codes "ends") ∷ token ∷ ts) w rest → ⊥
 ends_refused token ts none (take_any us left h) = cc
+ends_refused token ts none (take_silenced us left h) = cc
 ends_refused token ts none (take_receiver us left other name h n) = cc
 ends_refused token ts none (take_ends us left text h p) = none text (cc) p
 ends_refused token ts none (take_enters us left text h p) = cc
@@ -182,6 +183,7 @@ enters_refused : (token : Token) (ts : List Token)
     → ((text : List ℕ) → token ≡ Word text → IsPathText text → ⊥)
     → {w : Written} {rest : List Token} → TakesPart (Word (codes "enters") ∷ token ∷ ts) w rest → ⊥
 enters_refused token ts none (take_any us left h) = cc
+enters_refused token ts none (take_silenced us left h) = cc
 enters_refused token ts none (take_receiver us left other name h n) = cc
 enters_refused token ts none (take_ends us left text h p) = cc
 enters_refused token ts none (take_enters us left text h p) = none text (cc) p
@@ -208,30 +210,3 @@ pub something_left : (tokens : List kept.Token) (b : Bool) → b ≡ (length tok
     → map token_view tokens ≡ [] → ⊥
 something_left [] b e is none = cc
 something_left (token ∷ tokens) b e is none = cc
-
--- ---- Trees that were put together.
-
-pub view_part : (part : kept_parts.Written) → tree_view (views.Part part) ≡ Part (written_view part)
-view_part part =
-    ap tree_view (sym (rolls-Part part))
-    ∙ fold-roll-Tree (Tree Written) view_step (Tree-F.Part part)
-
-pub view_not : (a : kept_trees.Tree) (box : Box kept_trees.Tree) → box_value box ≡ a
-    → tree_view (views.Not box) ≡ Not (tree_view a)
-view_not a box e =
-    ap tree_view (sym (rolls-Not box)) ∙ (fold-roll-Tree (Tree Written) view_step (Tree-F.Not box)
-    ∙ ap (λ x. Not (tree_view x)) e)
-
-pub view_and : (a b : kept_trees.Tree) (left right : Box kept_trees.Tree) → box_value left ≡ a
-    → box_value right ≡ b
-    → tree_view (views.And left right) ≡ And (tree_view a) (tree_view b)
-view_and a b left right e f =
-    ap tree_view (sym (rolls-And left right))
-    ∙ (fold-roll-Tree (Tree Written) view_step (Tree-F.And left right) ∙ rw (e, f))
-
-pub view_or : (a b : kept_trees.Tree) (left right : Box kept_trees.Tree) → box_value left ≡ a
-    → box_value right ≡ b
-    → tree_view (views.Or left right) ≡ Or (tree_view a) (tree_view b)
-view_or a b left right e f =
-    ap tree_view (sym (rolls-Or left right))
-    ∙ (fold-roll-Tree (Tree Written) view_step (Tree-F.Or left right) ∙ rw (e, f))

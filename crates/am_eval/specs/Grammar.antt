@@ -8,6 +8,7 @@ use Rattle.am_eval.specs.Tokens.{Token, Open, Close, Word, Quoted, BraceList}
 -- of matchers by its text.
 pub data Written : Type 0 where
   WrittenAny : Written
+  WrittenSilenced : Written
   WrittenReceiver : List ℕ → Written
   WrittenEnds : List ℕ → Written
   WrittenEnters : List ℕ → Written
@@ -41,7 +42,8 @@ mutual
         → IsOne (Word (codes "not") ∷ ts) (Not q)
     simple : (ts : List Token) (q : Tree Written) → IsSimple ts q → IsOne ts q
 
-  -- simple := "(" question ")" | "receiver" NAME | "ends" PATH | "enters" PATH | "any" | BRACES
+  -- simple := "(" question ")" | "receiver" NAME | "ends" PATH | "enters" PATH | "silenced"
+  -- | "any" | BRACES
   pub data IsSimple : List Token → Tree Written → Type 0 where
     in_parentheses : (ts : List Token) (q : Tree Written) → IsQuestion ts q
         → IsSimple (Open ∷ (ts ++ (Close ∷ []))) q
@@ -53,5 +55,6 @@ mutual
     enters : (path : List ℕ)
         → IsSimple (Word (codes "enters") ∷ Word (path_text path) ∷ [])
         (Part (WrittenEnters (path_text path)))
+    silenced : IsSimple (Word (codes "silenced") ∷ []) (Part WrittenSilenced)
     any : IsSimple (Word (codes "any") ∷ []) (Part WrittenAny)
     braces : (list : List ℕ) → IsSimple (BraceList list ∷ []) (Part (WrittenBraces list))

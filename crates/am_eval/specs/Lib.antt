@@ -1,5 +1,9 @@
 pub mod Routing
 pub mod RoutingExamples
+pub mod World
+pub mod WorldCode
+pub mod Silencing
+pub mod SilencingExample
 pub mod Tree
 pub mod Question
 pub mod Tokens

@@ -6,21 +6,23 @@ use Rattle.am_universe.specs.Choice.{all_choices}
 use Rattle.am_universe.specs.LabelSet.{LabelMap, label_set_of}
 use Rattle.am_universe.specs.Text.{same_text}
 use Rattle.am_labels.specs.Matcher.{Condition, all_hold}
-use Rattle.am_files.specs.ConfigFile.{Configuration}
 use Rattle.am_files.specs.Path.{leads_through}
+use Rattle.am_eval.specs.World.{World}
 use Rattle.am_eval.specs.Routing.{ends, receivers}
+use Rattle.am_eval.specs.Silencing.{is_silenced}
 use Rattle.am_eval.specs.Tree.{Tree, Part, Not, And, Or}
 
--- A simple part: anything; a receiver, by its position; the routes that handle the alert; those
--- and the routes above them; a list of matchers.
+-- A simple part: anything; that a silence hides the alert; a receiver, by its position; the routes
+-- that handle the alert; those and the routes above them; a list of matchers.
 pub data Simple : Type 0 where
   Any : Simple
+  Silenced : Simple
   Receiver : ℕ → Simple
   Ends : List ℕ → Simple
   Enters : List ℕ → Simple
   Braces : List Condition → Simple
 
--- A question about a configuration.
+-- A question about a world.
 abbrev pub Question : Type 0
 Question = Tree Simple
 
@@ -29,31 +31,32 @@ Question = Tree Simple
 -- Source: own choice.
 -- Example: where an alert ends at `/0/1` alone, `ends /0/1`, `enters /0/1` and `enters /0` are
 -- true, and `ends /0` is not.
-abbrev pub holds_of : Configuration → Simple → LabelMap → Bool
-holds_of c Any s = true
-holds_of c (Receiver receiver) s = list_any (λ other. other == receiver) (receivers s c)
-holds_of c (Ends path) s = list_any (λ end. same_text end path) (ends s c)
-holds_of c (Enters path) s = list_any (leads_through path) (ends s c)
-holds_of c (Braces matchers) s = all_hold s matchers
+abbrev pub holds_of : World → Simple → LabelMap → Bool
+holds_of w Any s = true
+holds_of w Silenced s = is_silenced w s
+holds_of w (Receiver receiver) s = list_any (λ other. other == receiver) (receivers s w.config)
+holds_of w (Ends path) s = list_any (λ end. same_text end path) (ends s w.config)
+holds_of w (Enters path) s = list_any (leads_through path) (ends s w.config)
+holds_of w (Braces matchers) s = all_hold s matchers
 
 -- The truth of a question on a label set.
 -- Source: own choice.
 -- Example: `enters /0 and not ends /0` is true of an alert that ends below `/0`, and not of one
 -- that ends at `/0`.
-abbrev pub satisfies : Configuration → Question → LabelMap → Bool
-satisfies c (Part simple) s = holds_of c simple s
-satisfies c (Not q) s = not (satisfies c q s)
-satisfies c (And q r) s = satisfies c q s && satisfies c r s
-satisfies c (Or q r) s = satisfies c q s || satisfies c r s
+abbrev pub satisfies : World → Question → LabelMap → Bool
+satisfies w (Part simple) s = holds_of w simple s
+satisfies w (Not q) s = not (satisfies w q s)
+satisfies w (And q r) s = satisfies w q s && satisfies w r s
+satisfies w (Or q r) s = satisfies w q s || satisfies w r s
 
 -- The same, on the label set of a choice.
-abbrev pub is_answer : List Label → Configuration → Question → List ℕ → Bool
-is_answer u c q choice = satisfies c q (label_set_of u choice)
+abbrev pub is_answer : List Label → World → Question → List ℕ → Bool
+is_answer u w q choice = satisfies w q (label_set_of u choice)
 
 -- The answers: the choices of the universe, in declared order, whose label sets satisfy the
 -- question.
 -- Source: own choice.
 -- Example: of a universe with the one label `team`, which may be `db` or `web`, the answers to
 -- `{team!="db"}` are the one choice 1.
-abbrev pub answers : List Label → Configuration → Question → List (List ℕ)
-answers u c q = filter (is_answer u c q) (all_choices u)
+abbrev pub answers : List Label → World → Question → List (List ℕ)
+answers u w q = filter (is_answer u w q) (all_choices u)

@@ -16,10 +16,10 @@ use Rattle.am_files.specs.Path.{path_text, route_at}
 use Rattle.am_eval.specs.declared.limits.TheConstants.{MAX_TOKENS}
 use Rattle.am_eval.specs.Tree.{Tree, Part, Not, And, Or}
 use Rattle.am_eval.specs.Question.{Question}
-use Rattle.am_eval.specs.Question.{Simple, Any, Receiver, Ends, Enters, Braces}
+use Rattle.am_eval.specs.Question.{Simple, Any, Silenced, Receiver, Ends, Enters, Braces}
 use Rattle.am_eval.specs.Tokens.{Token, SpellsTokens}
-use Rattle.am_eval.specs.Grammar.{Written, WrittenAny, WrittenReceiver, WrittenEnds, WrittenEnters}
-use Rattle.am_eval.specs.Grammar.{WrittenBraces, IsQuestion}
+use Rattle.am_eval.specs.Grammar.{Written, WrittenAny, WrittenSilenced, WrittenReceiver}
+use Rattle.am_eval.specs.Grammar.{WrittenEnds, WrittenEnters, WrittenBraces, IsQuestion}
 
 -- ---- What is meant.
 
@@ -34,6 +34,7 @@ IsPathOfRoute c text path = (text ≡ path_text path) × IsTrue (is_some (route_
 -- A simple part as it is written means one of the configuration.
 abbrev pub Means : Configuration → Written → Simple → Type 0
 Means c WrittenAny simple = simple ≡ Any
+Means c WrittenSilenced simple = simple ≡ Silenced
 Means c (WrittenReceiver name) simple =
     (receiver : ℕ) × (receiver_named c name ≡ Some receiver) × (simple ≡ Receiver receiver)
 Means c (WrittenEnds text) simple =
@@ -76,9 +77,10 @@ parts_of (And t u) = parts_of t ++ parts_of u
 parts_of (Or t u) = parts_of t ++ parts_of u
 
 -- Why a simple part is refused: no receiver of the name is declared, no route is at the path, or as
--- the text of a matcher list is
+-- the text of a matcher list is.
 abbrev pub PartRefusedFor : Configuration → Written → Kind → Type 0
 PartRefusedFor c WrittenAny kind = ⊥
+PartRefusedFor c WrittenSilenced kind = ⊥
 PartRefusedFor c (WrittenReceiver name) kind =
     (kind ≡ kinds.UnknownReceiver) × (receiver_named c name ≡ None)
 PartRefusedFor c (WrittenEnds text) kind =

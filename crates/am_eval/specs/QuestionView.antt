@@ -3,11 +3,12 @@ use Rattle.am_eval.specs.declared.question.Question as kept
 use Rattle.am_eval.specs.declared.question.Question.{fold-Question}
 use Rattle.am_eval.specs.declared.question.Question.TheOpen.{Question-F}
 use Rattle.am_eval.specs.Tree.{Part, Not, And, Or}
-use Rattle.am_eval.specs.Question.{Question, Any, Receiver, Ends, Enters, Braces}
+use Rattle.am_eval.specs.Question.{Question, Any, Silenced, Receiver, Ends, Enters, Braces}
 
 -- One part, with each question in it already seen.
 abbrev pub view_step : Question-F Question → Question
 view_step Question-F.Any = Part Any
+view_step Question-F.Silenced = Part Silenced
 view_step (Question-F.Receiver receiver) = Part (Receiver receiver)
 view_step (Question-F.Ends path) = Part (Ends path)
 view_step (Question-F.Enters path) = Part (Enters path)

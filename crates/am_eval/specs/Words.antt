@@ -2,6 +2,10 @@
 pub use Rattle.am_eval.specs.Routing.{ends, receivers, ends_at, children_seen, ends_tried}
 pub use Rattle.am_eval.specs.Routing.{receiver_at, MatchesAt, EndsThere}
 pub use Rattle.am_eval.specs.RoutingExamples.{worked, Has}
+pub use Rattle.am_eval.specs.World.{World}
+pub use Rattle.am_eval.specs.Silencing.{is_active, hides, is_silenced, silencers}
+pub use Rattle.am_eval.specs.Silencing.{positions_where, at_instant, IsSteady}
+pub use Rattle.am_eval.specs.SilencingExample.{silenced_world}
 pub use Rattle.am_eval.specs.Question.{Question, holds_of, satisfies, is_answer, answers}
 pub use Rattle.am_eval.specs.QuestionView.{question_view}
 pub use Rattle.am_eval.specs.Tokens.{Token, SpellsTokens, is_word_character}

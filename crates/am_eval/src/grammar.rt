@@ -28,6 +28,7 @@ pub(crate) enum Tree<'a> {
 #[derive(Clone, Copy, Debug)]
 pub(crate) enum Written<'a> {
     Any,
+    Silenced,
     /// The name of a receiver.
     Receiver(&'a str),
     /// The text of a path.
@@ -170,6 +171,9 @@ fn read_word_part<'a>(word: &str, tokens: &'a [Token<'a>]) -> Option<(Written<'a
 {
     if word == "any" {
         return Some((Written::Any, tokens));
+    }
+    if word == "silenced" {
+        return Some((Written::Silenced, tokens));
     }
     let [first, rest @ ..] = tokens else {
         return None;

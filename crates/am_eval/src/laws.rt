@@ -1,18 +1,23 @@
 //! What holds of the definitions by themselves: each fact is the contract of a function with an
 //! empty body.
 ghost use Rattle.std.specs.Prelude.{◌≡◌, ◌≢◌, ◌↔◌, ◌++◌, ◌∷◌, ℕ, List, [], length, Contains};
-ghost use Rattle.std.specs.Prelude.{IsTrue, IsFalse, None, ◌≤◌, codes};
+ghost use Rattle.std.specs.Prelude.{IsTrue, IsFalse, Some, None, ◌≤◌, ℤ, pos, ◌≤ℤ◌, ◌<ℤ◌};
+ghost use Rattle.std.specs.Prelude.{slice_get, true, false, codes};
 ghost use Rattle.std.specs.Ordering.{nat_cmp};
 ghost use Rattle.std.specs.Cmp.Lexicographic.{slice_cmp};
-ghost use Rattle.std.specs.List.{AllByRecursion};
+ghost use Rattle.std.specs.List.{AllByRecursion, filter};
 ghost use Rattle.std.specs.List.Sorted.{IsStrictlySortedBy};
 ghost use Rattle.am_labels.specs.Words.{Label, sizes, IsWhole, LabelMap, label_set_of, all_hold};
+ghost use Rattle.am_labels.specs.Words.{condition_holds};
 ghost use Rattle.am_files.specs.Words.{RouteTree, Configuration, IsConfig, matchers_of, route_at};
 ghost use Rattle.am_files.specs.Words.{children_of, list_of};
 ghost use Rattle.am_eval.specs.declared.limits.TheConstants.{MAX_TOKENS};
 ghost use Rattle.am_eval.specs.Tree.{Not, And, Or};
-ghost use Rattle.am_eval.specs.Question.{Any, Receiver, Ends, Enters};
+ghost use Rattle.am_eval.specs.Question.{Any, Silenced, Receiver, Ends, Enters};
 ghost use Rattle.am_eval.specs.Words.{ends, receivers, ends_at, MatchesAt, EndsThere, worked, Has};
+ghost use Rattle.am_files.specs.SilencesFile.{Silence};
+ghost use Rattle.am_eval.specs.Words.{World, is_active, hides, is_silenced, silencers};
+ghost use Rattle.am_eval.specs.Words.{at_instant, IsSteady, silenced_world};
 ghost use Rattle.am_eval.specs.Words.{Question, holds_of, satisfies, answers, Token, SpellsTokens};
 ghost use Rattle.am_eval.specs.Words.{Tree, Written, IsQuestion, ReadsQuestion};
 ghost use Rattle.am_eval.specs.Words.{any_word, not_word, and_word, or_word, any_tree};
@@ -61,43 +66,98 @@ pub fn an_example_of_routing()
 
 /// A receiver or a route that the configuration does not have makes its part of a question false.
 pub fn what_is_not_there_is_false()
-    ensures receiver { (c : Configuration) (s : LabelMap) (receiver : ℕ) → IsConfig c
-        → length c.receivers ≤ receiver → IsFalse (holds_of c (Receiver receiver) s) }
-    ensures ends { (c : Configuration) (s : LabelMap) (path : List ℕ)
-        → route_at c.root path ≡ None → IsFalse (holds_of c (Ends path) s) }
-    ensures enters { (c : Configuration) (s : LabelMap) (path : List ℕ)
-        → route_at c.root path ≡ None → IsFalse (holds_of c (Enters path) s) }
+    ensures receiver { (w : World) (s : LabelMap) (receiver : ℕ) → IsConfig w.config
+        → length w.config.receivers ≤ receiver → IsFalse (holds_of w (Receiver receiver) s) }
+    ensures ends { (w : World) (s : LabelMap) (path : List ℕ)
+        → route_at w.config.root path ≡ None → IsFalse (holds_of w (Ends path) s) }
+    ensures enters { (w : World) (s : LabelMap) (path : List ℕ)
+        → route_at w.config.root path ≡ None → IsFalse (holds_of w (Enters path) s) }
 {}
 
 /// `enters` is true of a path exactly where a route is an end that the path leads to or through.
 pub fn ends_are_entered()
-    ensures itself { (c : Configuration) (s : LabelMap) (path : List ℕ)
-        → IsTrue (holds_of c (Ends path) s) → IsTrue (holds_of c (Enters path) s) }
-    ensures exactly { (c : Configuration) (s : LabelMap) (path : List ℕ)
-        → (IsTrue (holds_of c (Enters path) s)
-        ↔ ((below : List ℕ) × IsTrue (holds_of c (Ends (path ++ below)) s))) }
+    ensures itself { (w : World) (s : LabelMap) (path : List ℕ)
+        → IsTrue (holds_of w (Ends path) s) → IsTrue (holds_of w (Enters path) s) }
+    ensures exactly { (w : World) (s : LabelMap) (path : List ℕ)
+        → (IsTrue (holds_of w (Enters path) s)
+        ↔ ((below : List ℕ) × IsTrue (holds_of w (Ends (path ++ below)) s))) }
 {}
 
 /// `any` is true of the same label sets as all `ends` together.
 pub fn any_is_every_end()
-    ensures same { (c : Configuration) (s : LabelMap) → IsConfig c
-        → (IsTrue (holds_of c Any s)
-        ↔ ((path : List ℕ) × IsTrue (holds_of c (Ends path) s))) }
+    ensures same { (w : World) (s : LabelMap) → IsConfig w.config
+        → (IsTrue (holds_of w Any s)
+        ↔ ((path : List ℕ) × IsTrue (holds_of w (Ends path) s))) }
+{}
+
+/// An alert is silenced exactly where some silence hides it, and so where it has a silencer.
+/// Its silencers are the positions of the silences that hide it, in order, each once.
+pub fn an_alert_is_silenced_by_its_silencers()
+    ensures some { (w : World) (s : LabelMap) → IsTrue (is_silenced w s) ↔ (silencers w s ≢ []) }
+    ensures exactly { (w : World) (s : LabelMap) (i : ℕ) → (Contains (silencers w s) i
+        ↔ ((silence : Silence) × (slice_get w.silences i ≡ Some silence)
+        × IsTrue (hides w s silence))) }
+    ensures ascending { (w : World) (s : LabelMap) → IsStrictlySortedBy nat_cmp (silencers w s) }
+{}
+
+/// An alert is silenced exactly where an instant is asked about, and some silence has begun by then
+/// and has not ended, each of whose matchers matches the alert.
+pub fn an_alert_is_silenced_while_a_silence_matches_it()
+    ensures exactly { (w : World) (s : LabelMap) → (IsTrue (holds_of w Silenced s)
+        ↔ ((instant : ℤ) × (silence : Silence) × (w.instant ≡ Some instant)
+        × Contains w.silences silence
+        × (silence.starts ≤ℤ instant) × (instant <ℤ silence.ends)
+        × AllByRecursion (λ m. IsTrue (condition_holds s m)) silence.matchers)) }
+{}
+
+/// Where no silence is active, and so where no instant is given, nothing is silenced.
+pub fn inactive_silences_hide_nothing()
+    ensures inactive { (w : World) (s : LabelMap)
+        → AllByRecursion (λ silence. IsFalse (is_active w.instant silence)) w.silences
+        → IsFalse (is_silenced w s) }
+    ensures no_instant { (w : World) (s : LabelMap) → w.instant ≡ None
+        → IsFalse (is_silenced w s) }
+{}
+
+/// Worlds of one configuration give the same answers to every question where the same silences are
+/// active, in the same order. So two instants give the same answers where no silence begins or ends
+/// after the first and up to the second, that one included.
+pub fn answers_change_only_where_silences_begin_or_end()
+    ensures same_active { (u : List Label) (w v : World) (question : Question)
+        → w.config ≡ v.config
+        → filter (is_active w.instant) w.silences ≡ filter (is_active v.instant) v.silences
+        → answers u w question ≡ answers u v question }
+    ensures steady { (u : List Label) (w : World) (from to : ℤ) (question : Question)
+        → from ≤ℤ to → AllByRecursion (IsSteady from to) w.silences
+        → answers u (at_instant w from) question ≡ answers u (at_instant w to) question }
+{}
+
+/// An example: what a silence of the team `db`, from 10 to 20, hides at 10, at 20, of another team,
+/// and where no instant is given.
+pub fn an_example_of_silencing()
+    ensures begun { (s : LabelMap) → Has s (codes "db") []
+        → is_silenced (at_instant silenced_world (pos 10)) s ≡ true }
+    ensures ended { (s : LabelMap) → Has s (codes "db") []
+        → is_silenced (at_instant silenced_world (pos 20)) s ≡ false }
+    ensures other { (s : LabelMap) → Has s (codes "web") []
+        → is_silenced (at_instant silenced_world (pos 10)) s ≡ false }
+    ensures no_instant { (s : LabelMap) → Has s (codes "db") []
+        → is_silenced silenced_world s ≡ false }
 {}
 
 /// A choice is among the answers exactly where it is whole and its label set satisfies the
 /// question.
 pub fn answers_are_the_whole_choices_that_satisfy()
-    ensures exactly { (u : List Label) (c : Configuration) (question : Question) (choice : List ℕ)
-        → (Contains (answers u c question) choice
+    ensures exactly { (u : List Label) (w : World) (question : Question) (choice : List ℕ)
+        → (Contains (answers u w question) choice
         ↔ (IsWhole (sizes u) choice
-        × IsTrue (satisfies c question (label_set_of u choice)))) }
+        × IsTrue (satisfies w question (label_set_of u choice)))) }
 {}
 
 /// Each answer comes before those after it in declared order, so none stands twice.
 pub fn answers_ascend()
-    ensures ascending { (u : List Label) (c : Configuration) (question : Question)
-        → IsStrictlySortedBy (slice_cmp nat_cmp) (answers u c question) }
+    ensures ascending { (u : List Label) (w : World) (question : Question)
+        → IsStrictlySortedBy (slice_cmp nat_cmp) (answers u w question) }
 {}
 
 /// A text has at most one list of tokens.

@@ -3,11 +3,13 @@
 use am_files::Path;
 use am_labels::Matchers;
 
-/// A question about a label set.
+/// A question about a label set, as the labels of an alert.
 #[derive(Drop)]
 pub enum Question {
     /// True of every label set.
     Any,
+    /// Some silence hides the alert.
+    Silenced,
     /// Some end has the receiver at this position.
     Receiver(usize),
     /// The route at this path is an end.

@@ -1,10 +1,8 @@
-use Rattle.std.proofs.Common.{◌<◌, ◌*◌, ◌+◌, List, length, map}
-use Rattle.am_eval.specs.Tokens.{Token}
-use Rattle.am_eval.specs.Tree.{Tree}
-use Rattle.am_eval.specs.Grammar.{Written}
+use Rattle.std.proofs.Common.{◌<◌, ◌*◌, ◌+◌, length, map}
 use Rattle.am_eval.specs.GrammarReading.{TakesQuestion, TakesBoth, JoinsByOr, JoinsByAnd}
 use Rattle.am_eval.specs.TokenView.{token_view}
 use Rattle.am_eval.specs.TreeView.{tree_view}
+use Rattle.am_eval.proofs.TakesSteps.{ReadsSame}
 use Rattle.am_eval.proofs.grammar.+questions.Given as goal
 
 -- A call goes down one line of the grammar, or some token was read before it.
@@ -24,12 +22,8 @@ decreases-read_simple l = 4 * length l.tokens.now
 abbrev pub invariant-read_question-loop-behind : goal.invariant-read_question-loop-behind
 invariant-read_question-loop-behind l = record {
   shorter : length l.rest < length l.fn.tokens;
-  onward : (q : Tree Written) (left : List Token)
-      → JoinsByOr (tree_view l.tree) (map token_view l.rest) q left
-      → TakesQuestion (map token_view l.fn.tokens) q left;
-  back : (q : Tree Written) (left : List Token)
-      → TakesQuestion (map token_view l.fn.tokens) q left
-      → JoinsByOr (tree_view l.tree) (map token_view l.rest) q left;
+  same : ReadsSame (JoinsByOr (tree_view l.tree) (map token_view l.rest))
+      (TakesQuestion (map token_view l.fn.tokens));
 }
 
 abbrev pub decreases-read_question-loop-behind : goal.decreases-read_question-loop-behind
@@ -38,12 +32,8 @@ decreases-read_question-loop-behind l = length l.rest
 abbrev pub invariant-read_both-loop-behind : goal.invariant-read_both-loop-behind
 invariant-read_both-loop-behind l = record {
   shorter : length l.rest < length l.fn.tokens;
-  onward : (q : Tree Written) (left : List Token)
-      → JoinsByAnd (tree_view l.tree) (map token_view l.rest) q left
-      → TakesBoth (map token_view l.fn.tokens) q left;
-  back : (q : Tree Written) (left : List Token)
-      → TakesBoth (map token_view l.fn.tokens) q left
-      → JoinsByAnd (tree_view l.tree) (map token_view l.rest) q left;
+  same : ReadsSame (JoinsByAnd (tree_view l.tree) (map token_view l.rest))
+      (TakesBoth (map token_view l.fn.tokens));
 }
 
 abbrev pub decreases-read_both-loop-behind : goal.decreases-read_both-loop-behind

@@ -1,0 +1,54 @@
+-- Silencing: which alerts a silence hides. An alert is its label set.
+use Rattle.std.specs.Prelude.{ℕ, ℤ, ◌+◌, List, [], ◌∷◌, Bool, false, ◌&&◌, int_lt, int_le}
+use Rattle.std.specs.Prelude.{if◌then◌else◌, Option, Some, None, IsFalse}
+use Rattle.std.specs.List.{list_any}
+use Rattle.am_universe.specs.LabelSet.{LabelMap}
+use Rattle.am_labels.specs.Matcher.{all_hold}
+use Rattle.am_files.specs.SilencesFile.{Silence}
+use Rattle.am_eval.specs.World.{World}
+
+-- A silence is active at an instant: from the one at which it begins on, and up to, and not at, the
+-- one at which it ends. Where no instant is given, none is active.
+-- Source: Alertmanager API v2, "silence": `startsAt` and `endsAt`. Own choice: at the instant at
+-- which it ends it is not active, and the status that an export gives it means nothing.
+-- Example: a silence from 10:00 to 11:00 is active at 10:00, and not at 11:00.
+abbrev pub is_active : Option ℤ → Silence → Bool
+is_active None silence = false
+is_active (Some instant) silence = int_le silence.starts instant && int_lt instant silence.ends
+
+-- A silence hides an alert: it is active, and each of its matchers matches the alert.
+-- Source: Alertmanager documentation 0.25, "Silences": an alert is checked whether it matches all
+-- the equality or regular expression matchers of an active silence.
+-- Example: an active silence with the matchers `team="db"` and `severity="warning"` hides no alert
+-- of the severity `critical`.
+abbrev pub hides : World → LabelMap → Silence → Bool
+hides w s silence = is_active w.instant silence && all_hold s silence.matchers
+
+-- An alert is silenced: some silence hides it.
+-- Source: Alertmanager documentation 0.25, "Silences".
+-- Example: with no active silence no alert is silenced.
+abbrev pub is_silenced : World → LabelMap → Bool
+is_silenced w s = list_any (hides w s) w.silences
+
+-- The silences that hide an alert, by their positions in the file, in order.
+-- Source: own choice.
+-- Example: where the first and the third of three silences hide an alert, its silencers are 0 and
+-- 2.
+abbrev pub positions_where : {A : Type 0} → (A → Bool) → ℕ → List A → List ℕ
+positions_where test from [] = []
+positions_where test from (x ∷ xs) =
+    if test x then from ∷ positions_where test (from + 1) xs else positions_where test (from + 1) xs
+
+abbrev pub silencers : World → LabelMap → List ℕ
+silencers w s = positions_where (hides w s) 0 w.silences
+
+-- The same world, asked about at another instant.
+abbrev pub at_instant : World → ℤ → World
+at_instant w instant =
+    record { config = w.config; silences = w.silences; instant = Some instant }
+
+-- A silence neither begins nor ends after one instant and up to another, that one included.
+abbrev pub IsSteady : ℤ → ℤ → Silence → Type 0
+IsSteady from to silence =
+    IsFalse (int_lt from silence.starts && int_le silence.starts to)
+    × IsFalse (int_lt from silence.ends && int_le silence.ends to)

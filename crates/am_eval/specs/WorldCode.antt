@@ -1,0 +1,76 @@
+-- The code of a world: a tree of numbers, by which proofs tell worlds apart.
+use Rattle.std.proofs.Common.{◌≡◌, ℕ, ℤ, List, Option, Bool, refl, sym, ap, subst}
+use Rattle.std.specs.Prelude.{⊤}
+use Rattle.std.specs.Coded.{Coded, code_by, coded×, coded_ℕ, coded_ℤ, coded_bool, coded_list}
+use Rattle.std.specs.Coded.{coded_option}
+use base.Stored.{Gv, gnil, gnum, gcons}
+use Rattle.am_labels.specs.Matcher.{Condition}
+use Rattle.am_labels.specs.contracts.matchers.Matchers as matchers
+use Rattle.am_files.specs.ConfigFile.{RouteSettings, RouteTree, Routes, route, no_routes}
+use Rattle.am_files.specs.ConfigFile.{next_route}
+use Rattle.am_files.specs.SilencesFile.{Silence}
+use Rattle.am_files.specs.contracts.silence.Silences as silences
+use Rattle.am_eval.specs.World.{World}
+
+-- The parts of a code.
+abbrev head : Gv → Gv
+head gnil = gnil
+head (gnum n) = gnil
+head (gcons a b) = a
+
+abbrev tail : Gv → Gv
+tail gnil = gnil
+tail (gnum n) = gnil
+tail (gcons a b) = b
+
+abbrev IsPair : Gv → Type 0
+IsPair gnil = ⊥
+IsPair (gnum n) = ⊥
+IsPair (gcons a b) = ⊤
+
+-- The codes of what a route says of itself, of a route with its children, and of children in order.
+abbrev coded_settings : Coded RouteSettings
+coded_settings =
+    code_by (ℕ × (List Condition × Bool))
+    (coded× coded_ℕ (coded× matchers.the_row.coded coded_bool))
+    (λ s. (s.receiver, (s.matchers, s.continues)))
+    (λ p. record { receiver = p.0; matchers = p.1.0; continues = p.1.1 }) (λ _. refl)
+
+abbrev mutual
+  pub route_code : RouteTree → Gv
+  route_code (route settings children) =
+      gcons (coded_settings.code settings) (routes_code children)
+
+  pub routes_code : Routes → Gv
+  routes_code no_routes = gnil
+  routes_code (next_route t ts) = gcons (route_code t) (routes_code ts)
+
+-- Where the codes are the same, the trees are.
+mutual
+  pub route_told : (t u : RouteTree) → route_code t ≡ route_code u → t ≡ u
+  route_told (route a ts) (route b us) e =
+      λ i. route (coded_settings.inj a b (ap head e) i) (routes_told ts us (ap tail e) i)
+
+  routes_told : (ts us : Routes) → routes_code ts ≡ routes_code us → ts ≡ us
+  routes_told no_routes no_routes e = refl
+  routes_told no_routes (next_route u us) e = absurd (subst IsPair (sym e) tt)
+  routes_told (next_route t ts) no_routes e = absurd (subst IsPair e tt)
+  routes_told (next_route t ts) (next_route u us) e =
+      λ i. next_route (route_told t u (ap head e) i) (routes_told ts us (ap tail e) i)
+
+abbrev pub coded_route : Coded RouteTree
+coded_route = record { code = route_code; inj = route_told }
+
+-- The code of a world, as that of its parts.
+abbrev pub coded_world : Coded World
+coded_world =
+    code_by ((List (List ℕ) × RouteTree) × (List Silence × Option ℤ))
+    (coded× (coded× (coded_list (coded_list coded_ℕ)) coded_route)
+    (coded× silences.the_row.coded (coded_option coded_ℤ)))
+    (λ w. ((w.config.receivers, w.config.root), (w.silences, w.instant)))
+    (λ p. record {
+      config = record { receivers = p.0.0; root = p.0.1 };
+      silences = p.1.0;
+      instant = p.1.1;
+    })
+    (λ _. refl)

@@ -1,0 +1,50 @@
+//! Silencing: which silences hide an alert.
+
+ghost use Rattle.std.specs.Prelude.{◌≡◌, IfOk};
+ghost use Rattle.am_eval.specs.Words.{hides, is_silenced, silencers};
+
+use crate::world::World;
+use am_files::Silence;
+use am_labels::LabelSet;
+use std::alloc::{AllocError, Global};
+
+/// The silences that hide an alert with these labels, by their positions in the file, in order. An
+/// `Err` only where memory was refused.
+pub fn silenced_by(alloc: Global, world: &World, set: &LabelSet) -> Result<Vec<usize>, AllocError>
+    ensures silencers { IfOk result (λ found. found.items ≡ silencers world.now set.now) }
+{
+    let mut found = Vec::new(alloc);
+    for i in 0..world.silences().len() {
+        if hides(alloc, world, world.silences().get(i), set)? {
+            found.push(i)?;
+        }
+    }
+    Ok(found)
+}
+
+/// Whether some silence hides an alert with these labels. An `Err` only where memory was refused.
+pub(crate) fn is_silenced(alloc: Global, world: &World, set: &LabelSet) -> Result<bool, AllocError>
+    ensures { IfOk result (λ hidden. hidden ≡ is_silenced world.now set.now) }
+{
+    for i in 0..world.silences().len() {
+        if hides(alloc, world, world.silences().get(i), set)? {
+            return Ok(true);
+        }
+    }
+    Ok(false)
+}
+
+/// Whether a silence hides an alert with these labels. An `Err` only where memory was refused.
+fn hides(
+    alloc: Global,
+    world: &World,
+    silence: &Silence,
+    set: &LabelSet,
+) -> Result<bool, AllocError>
+    ensures { IfOk result (λ hidden. hidden ≡ hides world.now set.now silence.now) }
+{
+    if !world.is_active(silence) {
+        return Ok(false);
+    }
+    silence.matchers().matches(alloc, set)
+}
