@@ -1,8 +1,8 @@
 -- What `ask` answers. (This project's own.)
 use Rattle.std.specs.Prelude.{ℕ, List}
 use Rattle.am_universe.specs.Universe.{Label}
-use Rattle.am_files.specs.ConfigFile.{Configuration}
 use Rattle.am_commands.specs.declared.trailer.Trailer.{Trailer}
+use Rattle.am_eval.specs.World.{World}
 use Rattle.am_eval.specs.Question.{Question, answers}
 use Rattle.am_commands.specs.PageText.{page_text}
 use Rattle.am_commands.specs.Inputs.{Inputs, AcceptsInputs}
@@ -12,7 +12,7 @@ use Rattle.am_commands.specs.Inputs.{Inputs, AcceptsInputs}
 pub record AnswersInputs (inputs : Inputs) (trailer : Trailer) (IsWritten : List ℕ → Type 0)
     : Type 0 where
   pub universe : List Label
-  pub configuration : Configuration
+  pub world : World
   pub question : Question
-  pub accepts : AcceptsInputs inputs universe configuration question
-  pub page : IsWritten (page_text universe (answers universe configuration question) trailer)
+  pub accepts : AcceptsInputs inputs universe world question
+  pub page : IsWritten (page_text universe (answers universe world question) trailer)

@@ -5,7 +5,6 @@ use Rattle.std.specs.List.{flat_map}
 use Rattle.am_universe.specs.declared.fault.Fault.{Fault}
 use Rattle.am_universe.specs.declared.kind.Kind.{Kind}
 use Rattle.am_universe.specs.declared.kind.Kind.TheVariants as kinds
-use Rattle.am_universe.specs.declared.place.Place.{Place}
 use Rattle.am_universe.specs.Bytes.{backslash, line_feed}
 use Rattle.am_universe.specs.Kind.{kind_text}
 use Rattle.am_universe.specs.Place.{place_text}

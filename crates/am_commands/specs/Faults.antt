@@ -1,5 +1,5 @@
 -- Which fault of a call comes first. (This project's own.)
-use Rattle.std.specs.Prelude.{◌≡◌, ◌⊎◌, ℕ, List, [], ◌∷◌}
+use Rattle.std.specs.Prelude.{◌≡◌, ◌⊎◌, ℕ, List, [], ◌∷◌, Option, Some, None}
 use Rattle.am_universe.specs.declared.place.Place.{Place}
 use Rattle.am_universe.specs.declared.place.Place.TheVariants as places
 use Rattle.am_universe.specs.Universe.{Label}
@@ -8,6 +8,10 @@ use Rattle.am_files.specs.UniverseFile.{FileSaysUniverse}
 use Rattle.am_files.specs.UniverseFaults.{IsFirstFaultOfUniverseFile}
 use Rattle.am_files.specs.ConfigFile.{Configuration, FileSaysConfig}
 use Rattle.am_files.specs.ConfigFaults.{ConfigFileRefusedFor}
+use Rattle.am_files.specs.SilencesFile.{Silence}
+use Rattle.am_files.specs.SilencesFaults.{SilencesFileRefusedFor}
+use Rattle.am_commands.specs.Files.{SaysSilencesIfAny}
+use Rattle.am_commands.specs.AskedInstant.{instant_fault}
 use Rattle.am_eval.specs.Question.{Question}
 use Rattle.am_eval.specs.QuestionText.{ReadsQuestion, QuestionRefusedFor}
 
@@ -34,6 +38,20 @@ SaysSomeUniverse bytes = (universe : List Label) × FileSaysUniverse bytes unive
 -- The bytes of a file say a configuration.
 abbrev pub SaysSomeConfig : List ℕ → Type 0
 SaysSomeConfig bytes = (configuration : Configuration) × FileSaysConfig bytes configuration
+
+-- The bytes of a file, if there is one, say silences.
+abbrev pub SaysSomeSilences : Option (List ℕ) → Type 0
+SaysSomeSilences file = (silences : List Silence) × SaysSilencesIfAny file silences
+
+-- Why the bytes of a file of silences are refused, if there is one.
+abbrev pub SilencesRefusedFor : Option (List ℕ) → Refusal → Type 0
+SilencesRefusedFor None r = ⊥
+SilencesRefusedFor (Some bytes) r = SilencesFileRefusedFor bytes r
+
+-- Why the text of the instant is refused, or that there is none, beside this file of silences. Such
+-- a fault stands at no part of a file.
+abbrev pub InstantRefusedFor : Option (List ℕ) → Option (List ℕ) → Refusal → Type 0
+InstantRefusedFor silences at r = (instant_fault silences at ≡ Some r.kind) × (r.pointer ≡ [])
 
 -- The text is a question about the configuration that the bytes of a file say
 abbrev pub ReadsSomeQuestion : List ℕ → List ℕ → Type 0
@@ -62,6 +80,22 @@ config_stage bytes = record {
   place = places.Config;
   accepts = SaysSomeConfig bytes;
   refuses = ConfigFileRefusedFor bytes;
+}
+
+-- The file of silences, if there is one.
+abbrev pub silences_stage : Option (List ℕ) → Stage
+silences_stage file = record {
+  place = places.Silences;
+  accepts = SaysSomeSilences file;
+  refuses = SilencesRefusedFor file;
+}
+
+-- The text of the instant, if there is one, beside a file of silences, if there is one.
+abbrev pub instant_stage : Option (List ℕ) → Option (List ℕ) → Stage
+instant_stage silences at = record {
+  place = places.Instant;
+  accepts = instant_fault silences at ≡ None;
+  refuses = InstantRefusedFor silences at;
 }
 
 -- The text of the question about the configuration of a file

@@ -1,8 +1,16 @@
--- What stands for an input file that is not handed in.
-use Rattle.std.specs.Prelude.{ℕ, List, Option, unwrap_or}
+-- What the input files say, and what stands for one that is not handed in.
+use Rattle.std.specs.Prelude.{◌≡◌, ℕ, List, [], Option, Some, None, unwrap_or}
 use Rattle.am_files.specs.SmallestConfig.{smallest_config_file}
+use Rattle.am_files.specs.SilencesFile.{Silence, FileSaysSilences}
 
 -- The bytes of the configuration file, or of what stands in for it: the smallest configuration.
 -- (This project's own.)
 abbrev pub config_of : Option (List ℕ) → List ℕ
 config_of config = unwrap_or config smallest_config_file
+
+-- The silences are those of the file. Without a file there are none.
+-- Source: own choice.
+-- Example: without a file, and with one that is `null` or `[]`, there are no silences.
+abbrev pub SaysSilencesIfAny : Option (List ℕ) → List Silence → Type 0
+SaysSilencesIfAny None silences = silences ≡ []
+SaysSilencesIfAny (Some bytes) silences = FileSaysSilences bytes silences

@@ -3,6 +3,7 @@ pub mod Trailer
 pub mod PageText
 pub mod FaultText
 pub mod Files
+pub mod AskedInstant
 pub mod Faults
 pub mod Inputs
 pub mod AskOutcome

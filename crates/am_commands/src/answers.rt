@@ -1,11 +1,9 @@
 ghost use Rattle.std.specs.Prelude.{◌≡◌, [], ◌∷◌, ◌++◌, IfOk, OnOk, IsTrue};
 ghost use Rattle.am_labels.specs.Words.{sizes, IsWhole, admits, completions};
-ghost use Rattle.am_files.specs.Words.{config_view};
 ghost use Rattle.am_eval.specs.Words.{answers, is_answer, question_view};
 ghost use Rattle.std.specs.List.{AllByRecursion, filter};
 
-use am_eval::{Question, truth};
-use am_files::Config;
+use am_eval::{Question, World, truth};
 use am_labels::{Choice, Position, Universe, set_of};
 use std::alloc::{AllocError, Global};
 
@@ -14,11 +12,11 @@ use std::alloc::{AllocError, Global};
 pub fn answers_of(
     alloc: Global,
     universe: &Universe,
-    config: &Config,
+    world: &World,
     question: &Question,
 ) -> Result<Vec<Choice>, AllocError>
     ensures answers { IfOk result (λ found. found.items
-        ≡ answers universe.now (config_view config.now) (question_view question.now)) }
+        ≡ answers universe.now world.now (question_view question.now)) }
     ensures whole { IfOk result (λ found.
         AllByRecursion (IsWhole (sizes universe.now)) found.items) }
 {
@@ -26,7 +24,7 @@ pub fn answers_of(
     add_answers(
         alloc,
         universe,
-        config,
+        world,
         question,
         Choice::empty(),
         &mut found,
@@ -39,23 +37,23 @@ pub fn answers_of(
 fn add_answers(
     alloc: Global,
     universe: &Universe,
-    config: &Config,
+    world: &World,
     question: &Question,
     prefix: Choice,
     found: &mut Vec<Choice>,
 ) -> Result<(), AllocError>
     requires { IsTrue (admits (sizes universe.now) prefix) }
     ensures { OnOk result (found.new.items ≡ found.old.items
-        ++ filter (is_answer universe.now (config_view config.now) (question_view question.now))
+        ++ filter (is_answer universe.now world.now (question_view question.now))
         (completions (sizes universe.now) prefix)) }
 {
     if prefix.len() == universe.len() {
-        return add_answer(alloc, universe, config, question, prefix, found);
+        return add_answer(alloc, universe, world, question, prefix, found);
     }
     for position in 0..universe.size(prefix.len()) {
         let mut longer = prefix;
         longer.push(position as Position);
-        add_answers(alloc, universe, config, question, longer, found)?;
+        add_answers(alloc, universe, world, question, longer, found)?;
     }
     Ok(())
 }
@@ -64,18 +62,18 @@ fn add_answers(
 fn add_answer(
     alloc: Global,
     universe: &Universe,
-    config: &Config,
+    world: &World,
     question: &Question,
     choice: Choice,
     found: &mut Vec<Choice>,
 ) -> Result<(), AllocError>
     requires { IsWhole (sizes universe.now) choice }
     ensures { OnOk result (found.new.items ≡ found.old.items
-        ++ filter (is_answer universe.now (config_view config.now) (question_view question.now))
+        ++ filter (is_answer universe.now world.now (question_view question.now))
         (choice ∷ [])) }
 {
     let set = set_of(alloc, universe, &choice)?;
-    if truth(alloc, config, question, &set)? {
+    if truth(alloc, world, question, &set)? {
         found.push(choice)?;
     }
     Ok(())

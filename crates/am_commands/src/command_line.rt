@@ -8,6 +8,8 @@ pub enum Request<'a> {
     Ask {
         universe: &'a str,
         config: Option<&'a str>,
+        silences: Option<&'a str>,
+        at: Option<&'a str>,
         question: &'a str,
     },
 }
@@ -40,6 +42,16 @@ Each label set of it is taken for the labels of an alert, which the configuratio
 Without --config there is one route, /, and its receiver is called none. A fault in a
 file names the file and, by a JSON Pointer, the part at fault.
 
+The silences of --silences are a file that amtool writes:
+
+  amtool silence query -o json > silences.json
+
+They need --at, the time that is asked about: a silence hides alerts from its start on
+and until its end. The time has a date and Z or an offset from UTC, as in
+2024-05-01T10:00:00Z and 2024-05-01T12:00:00+02:00. Now is
+
+  --at \"$(date -u +%FT%TZ)\"
+
 A question is one of these:
 
   receiver NAME    the alert goes to this receiver
@@ -48,6 +60,8 @@ A question is one of these:
                      ends /2
   enters PATH      this route or one below it handles the alert
                      enters /2
+  silenced         a silence hides the alert at the time of --at
+                     silenced
   any              every alert
                      any
   {MATCHERS}       the labels of the alert match all of these matchers
@@ -86,6 +100,12 @@ and then `# end`:
 
 writes the label sets of the alerts that go to the receiver db-pager.
 
+  amcover ask --universe u.json --config alertmanager.json \\
+    --silences silences.json --at \"$(date -u +%FT%TZ)\" \\
+    'silenced and receiver db-pager'
+
+writes those of them that a silence hides now.
+
 Exit status: 0 done, 1 refused input, 2 usage, 3 out of memory, 4 the output failed.";
 
 /// Reads a command line, its first word the program's name. An `Err` has the text to show: of a
@@ -107,6 +127,8 @@ fn ask_request<'a>(matches: &ArgMatches<'a>) -> Option<Request<'a>> {
     Some(Request::Ask {
         universe,
         config: matches.get_str("config"),
+        silences: matches.get_str("silences"),
+        at: matches.get_str("at"),
         question,
     })
 }
@@ -133,6 +155,14 @@ fn ask_command<'a>(alloc: Global) -> Result<Command<'a>, AllocError> {
         .long("config")
         .value_name("FILE")
         .help("The Alertmanager configuration, as JSON");
+    let silences = Arg::new(alloc, "silences")
+        .long("silences")
+        .value_name("FILE")
+        .help("The silences, as amtool silence query -o json writes them");
+    let at = Arg::new(alloc, "at")
+        .long("at")
+        .value_name("TIME")
+        .help("The time that is asked about, as 2024-05-01T10:00:00Z");
     let question = Arg::new(alloc, "question")
         .value_name("QUESTION")
         .required(true)
@@ -142,5 +172,7 @@ fn ask_command<'a>(alloc: Global) -> Result<Command<'a>, AllocError> {
         .after_help(ASK_HELP)
         .arg(universe)?
         .arg(config)?
+        .arg(silences)?
+        .arg(at)?
         .arg(question)
 }

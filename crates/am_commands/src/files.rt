@@ -1,11 +1,16 @@
 ghost use Rattle.std.specs.Prelude.{◌≡◌, option_copied};
 ghost use Rattle.am_commands.specs.Words.{config_of};
 
-/// The input files beside the universe, each as its bytes, as far as they are handed in.
+/// The input files beside the universe, each as its bytes, and the instant that is asked about, as
+/// far as they are handed in.
 #[derive(Clone, Copy)]
 pub struct Files<'a> {
-    /// The configuration.
+    /// The configuration. Without one, a configuration of one receiver and one route stands for it.
     pub config: Option<&'a [u8]>,
+    /// The silences, as `amtool silence query -o json` writes them. Without them there are none.
+    pub silences: Option<&'a [u8]>,
+    /// The instant at which silences are active or not, as a text. Silences need one.
+    pub at: Option<&'a str>,
 }
 
 /// What stands for a configuration that is not handed in: one receiver and the top-level route

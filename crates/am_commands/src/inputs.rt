@@ -1,29 +1,33 @@
-ghost use Rattle.std.specs.Prelude.{◌≡◌, ◌≢◌, [], IfOk, IfErr, string_bytes};
+ghost use Rattle.std.specs.Prelude.{◌≡◌, ◌≢◌, [], None, option_map, option_copied};
+ghost use Rattle.std.specs.Prelude.{IfOk, IfErr, string_bytes};
 ghost use Rattle.am_universe.specs.declared.kind.Kind.TheVariants as kinds;
 ghost use Rattle.am_universe.specs.declared.place.Place.TheVariants as places;
 ghost use Rattle.am_json.specs.Words.{refusal_of};
 ghost use Rattle.am_files.specs.Words.{config_view};
 ghost use Rattle.am_eval.specs.Words.{question_view};
 ghost use Rattle.am_commands.specs.Words.{inputs_of, AcceptsInputs, ask_stages, IsFirstFaultOfCall};
+ghost use Rattle.am_commands.specs.Words.{SaysSilencesIfAny, SilencesRefusedFor, asked_instant};
+ghost use Rattle.am_commands.specs.Words.{instant_fault, InstantRefusedFor};
 
 use crate::fault::fault_at;
 use crate::files::Files;
-use am_eval::{Question, parse_question};
-use am_files::{Config, read_config, read_universe};
-use am_labels::{Fault, Place, Universe};
+use am_eval::{Question, World, parse_question};
+use am_files::{Silences, parse_instant, read_config, read_silences, read_universe};
+use am_labels::{Fault, Kind, Place, Universe};
+use jiff::Timestamp;
 use std::alloc::Global;
 
 /// What the inputs of a call say, where they are accepted.
 #[derive(Drop)]
 pub struct AcceptedInputs {
     pub universe: Universe,
-    pub config: Config,
+    pub world: World,
     pub question: Question,
 }
 
-/// Reads the inputs of a call: the universe file, then the configuration file, then the question.
-/// The first fault is the one answered, at `Universe`, `Config` or `Question`. `Memory`, at
-/// `Memory`, comes wherever memory ran out.
+/// Reads the inputs of a call: the universe file, the configuration file, the file of silences, the
+/// instant, and then the question. The first fault is the one answered, at `Universe`, `Config`,
+/// `Silences`, `Instant` or `Question`. `Memory`, at `Memory`, comes wherever memory ran out.
 pub fn read_inputs(
     alloc: Global,
     universe: &[u8],
@@ -32,7 +36,7 @@ pub fn read_inputs(
 ) -> Result<AcceptedInputs, Fault>
     ensures accepts { IfOk result (λ accepted. AcceptsInputs
         (inputs_of universe.now files.now question.now)
-        accepted.universe (config_view accepted.config) (question_view accepted.question)) }
+        accepted.universe accepted.world (question_view accepted.question)) }
     ensures first { IfErr result (λ fault. fault.kind ≢ kinds.Memory
         → IsFirstFaultOfCall (ask_stages (inputs_of universe.now files.now question.now))
         fault.place (refusal_of fault)) }
@@ -42,12 +46,57 @@ pub fn read_inputs(
 {
     let universe = read_universe(alloc, universe)?;
     let config = read_config(alloc, files.config())?;
+    let silences = read_silences_if_any(alloc, files.silences)?;
+    let instant = read_instant_for(alloc, files)?;
     match parse_question(alloc, question, &config) {
         Ok(question) => Ok(AcceptedInputs {
             universe,
-            config,
+            world: World::new(config, silences, instant),
             question,
         }),
         Err(kind) => Err(fault_at(alloc, kind, Place::Question)),
+    }
+}
+
+/// The silences of a file. Without one there are none.
+fn read_silences_if_any(alloc: Global, file: Option<&[u8]>) -> Result<Silences, Fault>
+    ensures says { IfOk result (SaysSilencesIfAny (option_copied file.entry)) }
+    ensures first { IfErr result (λ fault. fault.kind ≢ kinds.Memory
+        → (fault.place ≡ places.Silences)
+        × SilencesRefusedFor (option_copied file.entry) (refusal_of fault)) }
+    ensures memory { IfErr result (λ fault. fault.kind ≡ kinds.Memory
+        → (fault.place ≡ places.Memory) × (string_bytes fault.pointer ≡ [])) }
+    ensures no_write { IfErr result (λ fault. fault.kind ≢ kinds.Write) }
+{
+    match file {
+        Some(bytes) => read_silences(alloc, bytes),
+        None => Ok(Silences::none(alloc)),
+    }
+}
+
+/// The instant that is asked about, if there is one, or the fault of its text: `BadTime` where it
+/// says none, `NeedAt` where there is no text and a file of silences needs one.
+fn read_instant_for(alloc: Global, files: &Files<'_>) -> Result<Option<Timestamp>, Fault>
+    ensures asked { IfOk result (λ instant. option_map (λ t. t.nanosecond) instant
+        ≡ asked_instant (option_copied files.now.at)) }
+    ensures accepted { IfOk result (λ _. instant_fault
+        (option_copied files.now.silences) (option_copied files.now.at) ≡ None) }
+    ensures refused { IfErr result (λ fault. (fault.place ≡ places.Instant)
+        × InstantRefusedFor (option_copied files.now.silences) (option_copied files.now.at)
+        (refusal_of fault)) }
+    ensures own { IfErr result (λ fault.
+        (fault.kind ≢ kinds.Memory) × (fault.kind ≢ kinds.Write)) }
+{
+    match files.at {
+        Some(text) => match parse_instant(alloc, text) {
+            Ok(instant) => Ok(Some(instant)),
+            Err(kind) => Err(fault_at(alloc, kind, Place::Instant)),
+        },
+        None => {
+            if files.silences.is_some() {
+                return Err(fault_at(alloc, Kind::NeedAt, Place::Instant));
+            }
+            Ok(None)
+        }
     }
 }

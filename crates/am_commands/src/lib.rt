@@ -1,9 +1,9 @@
 //! The commands of `amcover`, as functions over bytes and a [`Sink`](am_labels::Sink), and the
 //! program's run over them.
 //!
-//! [`ask`] writes the label sets of a universe that satisfy a question. [`run`] reads a command
-//! line and the files that it names, calls the command and answers the exit status; the program
-//! `amcover` is that call and no more.
+//! [`ask`] writes the label sets of a universe that satisfy a question about a configuration and
+//! silences. [`run`] reads a command line and the files that it names, calls the command and
+//! answers the exit status; the program `amcover` is that call and no more.
 #![tactic(auto)]
 
 // What goes in.

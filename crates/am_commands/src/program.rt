@@ -58,15 +58,17 @@ fn run_request<R: Files + AllocGlobal, W: Write + Drop>(
     let Request::Ask {
         universe,
         config,
+        silences,
+        at,
         question,
     } = request;
     let universe = read_input(rt, universe, Place::Universe)?;
-    let config = match config {
-        Some(path) => Some(read_input(rt, path, Place::Config)?),
-        None => None,
-    };
+    let config = read_input_if_any(rt, config, Place::Config)?;
+    let silences = read_input_if_any(rt, silences, Place::Silences)?;
     let files = files::Files {
         config: config.as_ref().map(|bytes| bytes.as_slice()),
+        silences: silences.as_ref().map(|bytes| bytes.as_slice()),
+        at,
     };
     ask_buffered(rt.alloc(), universe.as_slice(), &files, question, out)
 }
@@ -106,6 +108,18 @@ fn read_input<R: Files + AllocGlobal>(rt: &R, path: &str, place: Place) -> Resul
     match read_file(rt, path) {
         Ok(bytes) => Ok(bytes),
         Err(kind) => Err(fault_at(rt.alloc(), kind, place)),
+    }
+}
+
+/// The bytes of an input file that may be left out.
+fn read_input_if_any<R: Files + AllocGlobal>(
+    rt: &R,
+    path: Option<&str>,
+    place: Place,
+) -> Result<Option<Vec<u8>>, Fault> {
+    match path {
+        Some(path) => Ok(Some(read_input(rt, path, place)?)),
+        None => Ok(None),
     }
 }
 

@@ -2,7 +2,6 @@
 use Rattle.std.proofs.Common.{◌∷◌, [], length, ap, length-append, arith}
 use Rattle.std.proofs.lemmas.Result.{on_ok_weaker}
 use Rattle.am_universe.specs.Universe.{sizes}
-use Rattle.am_files.specs.ConfigView.{config_view}
 use Rattle.am_eval.specs.Question.{is_answer}
 use Rattle.am_eval.specs.QuestionView.{question_view}
 use Rattle.am_commands.proofs.AnswerLemmas.{prefix_fits, found_here, longer_admitted, found_more, found_all}
@@ -11,7 +10,7 @@ use Rattle.am_commands.proofs.answers.+add_answers.Goals as goal
 pub returns-then-len : goal.returns-then-len
 returns-then-len t c =
     let u = c.args.universe.now in
-    on_ok_weaker c.add_answer.result (found_here u (is_answer u (config_view c.args.config.now) (question_view c.args.question.now)) c.args.prefix c.args.found.now.items c.add_answer.new.found.items c.requires (omega arith)) c.add_answer.ensures
+    on_ok_weaker c.add_answer.result (found_here u (is_answer u c.args.world.now (question_view c.args.question.now)) c.args.prefix c.args.found.now.items c.add_answer.new.found.items c.requires (omega arith)) c.add_answer.ensures
 
 pub size-position-end-requires : goal.size-position-end-requires
 size-position-end-requires t c = omega (arith, prefix_fits c.args.universe.now c.args.prefix c.requires)
@@ -32,12 +31,12 @@ loop-position-preserved t c =
     let u = c.args.universe.now in
     let longer = longer_admitted (sizes u) c.args.prefix c.len-3.result c.loop-position.position c.size-position-end.result
     c.requires c.len-3.ensures.len c.size-position-end.ensures.size c.loop-position-test.true in
-    found_more (sizes u) c.args.prefix c.push.new.self (is_answer u (config_view c.args.config.now) (question_view c.args.question.now))
+    found_more (sizes u) c.args.prefix c.push.new.self (is_answer u c.args.world.now (question_view c.args.question.now))
     c.args.found.now.items c.loop-position.found.items c.add_answers.new.found.items c.loop-position.position
     longer c.loop-position.invariant c.push.ensures.added c.in_ok-add_answers.ensures
 
 pub returns : goal.returns
 returns t c =
     let u = c.args.universe.now in
-    found_all (sizes u) c.args.prefix (is_answer u (config_view c.args.config.now) (question_view c.args.question.now)) c.args.found.now.items c.loop-position.found.items c.len-3.result c.loop-position.position c.size-position-end.result
+    found_all (sizes u) c.args.prefix (is_answer u c.args.world.now (question_view c.args.question.now)) c.args.found.now.items c.loop-position.found.items c.len-3.result c.loop-position.position c.size-position-end.result
     c.requires c.loop-position.invariant c.len-3.ensures.len c.size-position-end.ensures.size (omega arith)

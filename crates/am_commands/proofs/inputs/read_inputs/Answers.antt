@@ -19,6 +19,12 @@ returns-in-Err-clause-first c = λ remembered.
       (c.in_ok-universe.universe, c.in_ok-universe.ensures.says),
       inr (
         (config, says_config),
-        inl (c.fault_at.ensures.place given, (config, says_config, refused, c.fault_at.ensures.pointer)),
+        inr (
+          (c.in_ok-silences.silences, c.in_ok-silences.ensures.says),
+          inr (
+            c.in_ok-instant.ensures.accepted,
+            inl (c.fault_at.ensures.place given, (config, says_config, refused, c.fault_at.ensures.pointer)),
+          ),
+        ),
       ),
     )
