@@ -5,6 +5,7 @@ ghost use Rattle.am_universe.specs.Universe.{sizes};
 
 use crate::lines::{split_at_first, split_at_last, utf8};
 use crate::problem::Problem;
+use crate::silences::{of_instant, of_silenced, of_silences};
 use crate::trees::config_text;
 use am_commands::{Files, ask, status, write_fault};
 use am_eval::{ends, receivers_of};
@@ -20,6 +21,9 @@ use std::alloc::Global;
 pub enum Call {
     Universe,
     Config,
+    Silences,
+    Instant,
+    Silenced,
     Matchers,
     Set,
     Pattern,
@@ -34,22 +38,25 @@ pub enum Call {
 #[derive(Clone, Copy)]
 pub struct Over<'a> {
     pub universe: &'a [u8],
-    pub config: Option<&'a [u8]>,
+    /// The file that it is with, if there is one: a configuration, or of `silenced` silences.
+    pub with: Option<&'a [u8]>,
 }
 
 impl<'a> Over<'a> {
-    /// This universe, and no configuration.
+    /// This universe, and no other file.
     fn universe(universe: &'a [u8]) -> Over<'a> {
         Over {
             universe,
-            config: None,
+            with: None,
         }
     }
 
     /// The files that `ask` takes behind the universe.
     pub fn files(&self) -> Files<'a> {
         Files {
-            config: self.config,
+            config: self.with,
+            silences: None,
+            at: None,
         }
     }
 }
@@ -59,6 +66,9 @@ pub fn call_named(name: &[u8]) -> Option<Call> {
     match name {
         b"universe" => Some(Call::Universe),
         b"config" => Some(Call::Config),
+        b"silences" => Some(Call::Silences),
+        b"instant" => Some(Call::Instant),
+        b"silenced" => Some(Call::Silenced),
         b"matchers" => Some(Call::Matchers),
         b"set" => Some(Call::Set),
         b"pattern" => Some(Call::Pattern),
@@ -83,24 +93,27 @@ pub fn given(
     match call {
         Call::Universe => of_universe(alloc, text, brief),
         Call::Config => of_config(alloc, text, brief),
+        Call::Silences => of_silences(alloc, text, brief),
+        Call::Instant => of_instant(alloc, utf8(alloc, text)?),
+        Call::Silenced => of_silenced(alloc, over.with.unwrap_or(b""), text),
         Call::Matchers => of_matchers(alloc, utf8(alloc, text)?),
         Call::Set => of_set(alloc, utf8(alloc, text)?),
         Call::Pattern => of_pattern(alloc, utf8(alloc, text)?),
         Call::Match => of_match(alloc, text),
         Call::Row => of_row(alloc, over.universe, utf8(alloc, text)?),
-        Call::Ends => of_ends(alloc, over.config.unwrap_or(b""), utf8(alloc, text)?),
+        Call::Ends => of_ends(alloc, over.with.unwrap_or(b""), utf8(alloc, text)?),
         Call::Ask => of_ask(alloc, over, utf8(alloc, text)?),
         Call::Fault => of_fault(alloc, text),
     }
 }
 
 /// These words.
-fn told(alloc: Global, words: &str) -> Result<Vec<u8>, Problem> {
+pub fn told(alloc: Global, words: &str) -> Result<Vec<u8>, Problem> {
     Ok(Vec::from_slice(alloc, words.as_bytes())?)
 }
 
 /// The word of a kind; memory that ran out is no outcome of a case.
-fn refused(alloc: Global, kind: Kind) -> Result<Vec<u8>, Problem> {
+pub fn refused(alloc: Global, kind: Kind) -> Result<Vec<u8>, Problem> {
     if kind == Kind::Memory {
         return Err(Problem::Memory);
     }
@@ -108,7 +121,7 @@ fn refused(alloc: Global, kind: Kind) -> Result<Vec<u8>, Problem> {
 }
 
 /// What the program writes of a fault, behind `amcover: ` and behind this.
-fn fault_behind(alloc: Global, before: &[u8], fault: &Fault) -> Result<Vec<u8>, Problem> {
+pub fn fault_behind(alloc: Global, before: &[u8], fault: &Fault) -> Result<Vec<u8>, Problem> {
     if fault.kind == Kind::Memory {
         return Err(Problem::Memory);
     }

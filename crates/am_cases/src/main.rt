@@ -19,6 +19,7 @@ mod writer;
 mod calls;
 mod commands;
 mod script;
+mod silences;
 mod tables;
 mod tally;
 mod trees;

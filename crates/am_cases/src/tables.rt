@@ -20,8 +20,8 @@ pub struct Heading {
     round: Vec<Vec<u8>>,
     /// The universe file that the call is over.
     universe: Vec<u8>,
-    /// The configuration file that it is with, if there is one.
-    config: Option<Vec<u8>>,
+    /// The file that it is with, if there is one.
+    with: Option<Vec<u8>>,
     /// The pointer of the text.
     at: Vec<u8>,
 }
@@ -31,7 +31,7 @@ impl Heading {
     fn over(&self) -> Over<'_> {
         Over {
             universe: self.universe.as_slice(),
-            config: self.config.as_ref().map(|bytes| bytes.as_slice()),
+            with: self.with.as_ref().map(|bytes| bytes.as_slice()),
         }
     }
 }
@@ -97,8 +97,8 @@ pub fn read_heading(
         Some((rest, at)) => (rest, at),
         None => (rest, b"".as_slice()),
     };
-    let (rest, config) = match cut_behind(rest, b"with ", b" with ") {
-        Some((rest, config)) => (rest, Some(filled(alloc, texts, config)?)),
+    let (rest, with) = match cut_behind(rest, b"with ", b" with ") {
+        Some((rest, with)) => (rest, Some(filled(alloc, texts, with)?)),
         None => (rest, None),
     };
     let (template, universe) = match cut_behind(rest, b"over ", b" over ") {
@@ -109,7 +109,7 @@ pub fn read_heading(
         call,
         round: round_the_text(alloc, texts, template)?,
         universe: filled(alloc, texts, universe)?,
-        config,
+        with,
         at: filled(alloc, texts, at)?,
     }))
 }
