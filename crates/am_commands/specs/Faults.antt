@@ -4,12 +4,12 @@ use Rattle.am_universe.specs.declared.place.Place.{Place}
 use Rattle.am_universe.specs.declared.place.Place.TheVariants as places
 use Rattle.am_universe.specs.Universe.{Label}
 use Rattle.am_json.specs.Pointer.{Refusal}
-use Rattle.am_files.specs.UniverseFile.{FileSaysUniverse}
-use Rattle.am_files.specs.UniverseFaults.{IsFirstFaultOfUniverseFile}
+use Rattle.am_records.specs.UniverseFile.{FileSaysUniverse}
+use Rattle.am_records.specs.UniverseFaults.{IsFirstFaultOfUniverseFile}
 use Rattle.am_files.specs.ConfigFile.{Configuration, FileSaysConfig}
 use Rattle.am_files.specs.ConfigFaults.{ConfigFileRefusedFor}
-use Rattle.am_files.specs.SilencesFile.{Silence}
-use Rattle.am_files.specs.SilencesFaults.{SilencesFileRefusedFor}
+use Rattle.am_records.specs.SilencesFile.{Silence}
+use Rattle.am_records.specs.SilencesFaults.{SilencesFileRefusedFor}
 use Rattle.am_commands.specs.Files.{SaysSilencesIfAny}
 use Rattle.am_commands.specs.AskedInstant.{instant_fault}
 use Rattle.am_eval.specs.Question.{Question}

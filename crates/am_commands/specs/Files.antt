@@ -1,7 +1,7 @@
 -- What the input files say, and what stands for one that is not handed in.
 use Rattle.std.specs.Prelude.{◌≡◌, ℕ, List, [], Option, Some, None, unwrap_or}
 use Rattle.am_files.specs.SmallestConfig.{smallest_config_file}
-use Rattle.am_files.specs.SilencesFile.{Silence, FileSaysSilences}
+use Rattle.am_records.specs.SilencesFile.{Silence, FileSaysSilences}
 
 -- The bytes of the configuration file, or of what stands in for it: the smallest configuration.
 -- (This project's own.)

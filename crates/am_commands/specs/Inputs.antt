@@ -2,7 +2,7 @@
 -- project's own.)
 use Rattle.std.specs.Prelude.{◌≡◌, ℕ, List, [], ◌∷◌, Option, None, option_copied}
 use Rattle.am_universe.specs.Universe.{Label}
-use Rattle.am_files.specs.UniverseFile.{FileSaysUniverse}
+use Rattle.am_records.specs.UniverseFile.{FileSaysUniverse}
 use Rattle.am_files.specs.ConfigFile.{FileSaysConfig}
 use Rattle.am_commands.specs.declared.files.Files.{Files}
 use Rattle.am_commands.specs.Files.{config_of, SaysSilencesIfAny}

@@ -17,7 +17,7 @@ use Rattle.am_universe.proofs.ListLemmas.{IsIn, IsIn-from_Contains, Contains-fro
 use Rattle.am_universe.specs.Text.{same_text}
 use Rattle.am_labels.specs.Matcher.{Condition, condition_holds, all_hold}
 use Rattle.am_files.specs.Path.{leads_through}
-use Rattle.am_files.specs.SilencesFile.{Silence}
+use Rattle.am_records.specs.SilencesFile.{Silence}
 use Rattle.am_eval.specs.Routing.{ends, receivers}
 use Rattle.am_eval.specs.World.{World}
 use Rattle.am_eval.specs.Silencing.{is_active, hides, is_silenced, positions_where, silencers}

@@ -8,8 +8,8 @@ use Rattle.am_labels.specs.Matcher.{Condition}
 use Rattle.am_labels.specs.contracts.matchers.Matchers as matchers
 use Rattle.am_files.specs.ConfigFile.{RouteSettings, RouteTree, Routes, route, no_routes}
 use Rattle.am_files.specs.ConfigFile.{next_route}
-use Rattle.am_files.specs.SilencesFile.{Silence}
-use Rattle.am_files.specs.contracts.silence.Silences as silences
+use Rattle.am_records.specs.SilencesFile.{Silence}
+use Rattle.am_records.specs.contracts.silence.Silences as silences
 use Rattle.am_eval.specs.World.{World}
 
 -- The parts of a code.

@@ -15,7 +15,7 @@ ghost use Rattle.am_eval.specs.declared.limits.TheConstants.{MAX_TOKENS};
 ghost use Rattle.am_eval.specs.Tree.{Not, And, Or};
 ghost use Rattle.am_eval.specs.Question.{Any, Silenced, Receiver, Ends, Enters};
 ghost use Rattle.am_eval.specs.Words.{ends, receivers, ends_at, MatchesAt, EndsThere, worked, Has};
-ghost use Rattle.am_files.specs.SilencesFile.{Silence};
+ghost use Rattle.am_records.specs.SilencesFile.{Silence};
 ghost use Rattle.am_eval.specs.Words.{World, is_active, hides, is_silenced, silencers};
 ghost use Rattle.am_eval.specs.Words.{at_instant, IsSteady, silenced_world};
 ghost use Rattle.am_eval.specs.Words.{Question, holds_of, satisfies, answers, Token, SpellsTokens};

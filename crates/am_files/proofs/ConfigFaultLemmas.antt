@@ -37,7 +37,7 @@ use Rattle.am_json.specs.Reading.{IsPatternRefusal, MayRefuse, Reading, accept, 
 use Rattle.am_json.specs.Reading.{as_object, read_items, reading_within, refuse_for}
 use Rattle.am_json.specs.Reading.{required_field, required_text, ◌>>=◌}
 use Rattle.am_files.specs.declared.limits.TheConstants.{MAX_LEVELS, MAX_RECEIVERS}
-use Rattle.am_files.specs.MatcherFaults.{is_profile_pattern}
+use Rattle.am_records.specs.MatcherFaults.{is_profile_pattern}
 use Rattle.am_files.proofs.ConfigParts.{name_says}
 use Rattle.am_files.proofs.ConfigSays.{config_decides}
 use Rattle.am_json.proofs.FieldLemmas.{items_form, items_seen, items_sequence, text_field_judges}

@@ -16,7 +16,7 @@ use Rattle.am_labels.specs.declared.limits.TheConstants.{MAX_MATCHERS}
 use Rattle.am_labels.specs.Matcher.{Condition}
 use Rattle.am_labels.specs.MatcherText.{Spells}
 use Rattle.am_labels.specs.MatcherReading.{read_list}
-use Rattle.am_labels.specs.MatcherRefusals.{has_valid_pattern, have_valid_patterns, pattern_refusal}
+use Rattle.am_labels.specs.MatcherRefusals.{has_valid_pattern, have_valid_patterns}
 use Rattle.am_universe.proofs.DistinctLists.{distinct_none, distinct_push, distinct_pushed}
 use Rattle.am_universe.proofs.DistinctLists.{distinct_front}
 use Rattle.am_labels.proofs.MatcherTextWhole.{list_is_spelled}
@@ -36,15 +36,16 @@ use Rattle.am_files.specs.ConfigReading.{append_matchers}
 use Rattle.am_files.specs.ConfigReading.{read_matcher_text, read_next_matcher_text}
 use Rattle.am_files.specs.ConfigReading.{read_named_text, read_matcher_pair}
 use Rattle.am_files.specs.ConfigReading.{read_next_pair}
-use Rattle.am_files.specs.MatcherFaults.{check_matcher, check_patterns, label_name_fault}
-use Rattle.am_files.specs.MatcherFaults.{pattern_fault}
+use Rattle.am_records.specs.MatcherFaults.{check_patterns, label_name_fault, pattern_fault}
 use Rattle.am_json.proofs.Readings.{bind_ok, within_ok, refuse_for_ok, check_count_ok}
 use Rattle.am_json.proofs.Readings.{check_count_fits, ok_or_some, same_read}
 use Rattle.am_json.proofs.Items.{AllFit, items_say, items_read}
 use Rattle.am_json.proofs.Fields.{as_text_says, as_text_reads, as_object_says, as_object_reads}
 use Rattle.am_json.proofs.Fields.{required_text_says, required_text_reads, required_items_say}
 use Rattle.am_json.proofs.Fields.{required_items_read}
-use Rattle.am_files.proofs.Matching.{named_passes, name_is_some, text_gives}
+use Rattle.am_records.proofs.Matching.{named_passes, name_is_some, passes_sound}
+use Rattle.am_records.proofs.Matching.{checked_says, checked_reads, same_condition}
+use Rattle.am_files.proofs.MatcherTexts.{text_gives}
 
 -- ---- The names of receivers.
 
@@ -254,27 +255,6 @@ unfolding read_children
 children_read d items said = rw (optional_items_read (codes "routes") d items said) refl
 
 -- ---- Sound patterns.
-
-sound_by : (m : Condition) (ms : List Condition) (b : Bool) → has_valid_pattern m ≡ b
-    → cond b (pattern_fault ms) (Some (pattern_refusal m.value)) ≡ None
-    → (pattern_fault ms ≡ None → IsTrue (have_valid_patterns ms))
-    → IsTrue (have_valid_patterns (m ∷ ms))
-sound_by m ms true is h rest = rw (is, rest h) refl
-sound_by m ms false is h rest = absurd cc
-
-pub passes_sound : (ms : List Condition) → pattern_fault ms ≡ None → IsTrue (have_valid_patterns ms)
-passes_sound [] h = refl
-passes_sound (m ∷ ms) h = sound_by m ms (has_valid_pattern m) refl h (passes_sound ms)
-
-pub checked_says : (n m : Condition) → (check_matcher n).result ≡ Ok m
-    → (n ≡ m) × IsTrue (has_valid_pattern n)
-checked_says n m h =
-    let fine = bind_ok ((check_patterns (n ∷ [])).result) (λ _. Ok n) m h in
-    let valid = passes_sound (n ∷ []) (refuse_for_ok (pattern_fault (n ∷ [])) fine.0 fine.1) in
-    (same_read n m fine.2, (and_parts (has_valid_pattern n) true valid).0)
-
-pub checked_reads : (m : Condition) → IsTrue (has_valid_pattern m) → (check_matcher m).result ≡ Ok m
-checked_reads m valid = rw valid refl
 
 pub sound_append : (xs ys : List Condition) → IsTrue (have_valid_patterns xs)
     → IsTrue (have_valid_patterns ys) → IsTrue (have_valid_patterns (xs ++ ys))
@@ -499,10 +479,6 @@ pair_says op name d m h =
     let checked = checked_says made m text.2 in
     subst (λ (x : Condition). SaysMatcherPair op (name, d) x × IsTrue (have_valid_patterns (x ∷ [])))
     checked.0 ((named_text_says name d text.0 text.1, refl), rw checked.1 refl)
-
-pub same_condition : (m : Condition) (name : List ℕ) (op : Op) → m.name ≡ name → m.op ≡ op
-    → record { name = name; op = op; value = m.value } ≡ m
-same_condition m name op n o = rw (← n, ← o) refl
 
 pair_reads : (op : Op) (name : List ℕ) (d : Data) (m : Condition) → SaysMatcherPair op (name, d) m
     → IsTrue (have_valid_patterns (m ∷ [])) → (read_matcher_pair op name d).result ≡ Ok m

@@ -21,14 +21,14 @@ use Rattle.am_files.specs.ConfigFaults.{texts_matcher, texts_path}
 use Rattle.am_files.specs.ConfigReading.{append_matchers, optional_texts}
 use Rattle.am_files.specs.ConfigReading.{read_matcher_text, read_matcher_texts}
 use Rattle.am_files.specs.ConfigReading.{read_next_matcher_text, read_texts, refuse_root_matchers}
-use Rattle.am_files.specs.MatcherFaults.{check_patterns, is_profile_pattern, one_pattern_fault}
+use Rattle.am_records.specs.MatcherFaults.{check_patterns, is_profile_pattern, one_pattern_fault}
 use Rattle.am_json.specs.Json.{items_of}
 use Rattle.am_json.specs.Places.{Step, array_item, if_there, items_in_field, limit_fault, rank_of}
 use Rattle.am_json.specs.Places.{shape_or, turn}
 use Rattle.am_json.specs.Pointer.{refusal_here, to_field, to_item}
 use Rattle.am_json.specs.Reading.{Reading, accept, accept_some, check_count, reading_within}
 use Rattle.am_json.specs.Reading.{refuse_for, ◌>>=◌}
-use Rattle.am_files.proofs.PatternFaultLemmas.{patterns_form, patterns_judge}
+use Rattle.am_records.proofs.PatternFaultLemmas.{patterns_form, patterns_judge}
 use Rattle.am_json.proofs.PlaceLemmas.{Clear, Form, IsPart, Judges, itself_refused, judges_plain}
 use Rattle.am_json.proofs.PlaceLemmas.{one_place, part_judges, refuse_judges, shape_judged}
 use Rattle.am_json.proofs.PlaceLemmas.{some_judged}

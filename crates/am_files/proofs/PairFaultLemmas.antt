@@ -20,7 +20,7 @@ use Rattle.am_files.specs.ConfigFaults.{pairs_matcher, pairs_path}
 use Rattle.am_files.specs.ConfigReading.{append_matchers, optional_pairs}
 use Rattle.am_files.specs.ConfigReading.{read_matcher_pair, read_named_text}
 use Rattle.am_files.specs.ConfigReading.{read_next_pair, read_pairs, refuse_root_matchers}
-use Rattle.am_files.specs.MatcherFaults.{check_patterns, is_profile_pattern, one_pattern_fault}
+use Rattle.am_records.specs.MatcherFaults.{check_patterns, is_profile_pattern, one_pattern_fault}
 use Rattle.am_json.specs.Json.{member_list}
 use Rattle.am_json.specs.Places.{OnlyPlace, Step, if_there, known_member}
 use Rattle.am_json.specs.Places.{limit_fault, only_path, rank_of, shape_or, turn}
@@ -29,7 +29,7 @@ use Rattle.am_json.specs.Reading.{Reading, accept, accept_some}
 use Rattle.am_json.specs.Reading.{check_count, read_each, reading_within}
 use Rattle.am_json.specs.Reading.{refuse_for, ◌>>=◌}
 use Rattle.am_files.proofs.MatcherFaultLemmas.{root_gives}
-use Rattle.am_files.proofs.PatternFaultLemmas.{matcher_judged}
+use Rattle.am_records.proofs.PatternFaultLemmas.{matcher_judged}
 use Rattle.am_json.proofs.PlaceLemmas.{Clear, Form, IsPart, Judges, itself_refused}
 use Rattle.am_json.proofs.PlaceLemmas.{judges_plain, one_place, one_refused, part_judges}
 use Rattle.am_json.proofs.PlaceLemmas.{refuse_judges, said, said_of}

@@ -23,7 +23,7 @@ use Rattle.am_json.specs.Reading.{Reading, accept, check_count, check_only_field
 use Rattle.am_json.specs.Reading.{boolean_or, reading_within, ◌>>=◌}
 use Rattle.am_json.proofs.FieldLemmas.{boolean_judged}
 use Rattle.am_files.specs.declared.limits.TheConstants.{MAX_ROUTES}
-use Rattle.am_files.specs.MatcherFaults.{is_profile_pattern}
+use Rattle.am_records.specs.MatcherFaults.{is_profile_pattern}
 use Rattle.am_files.proofs.MatcherFaultLemmas.{texts_field_gives, texts_field_judged, texts_reading}
 use Rattle.am_files.proofs.PairFaultLemmas.{pairs_field_gives, pairs_field_judged, pairs_reading}
 use Rattle.am_json.proofs.PlaceLemmas.{Clear, Form, Judges, itself_refused, judges_plain}

@@ -29,7 +29,7 @@ use Rattle.am_json.specs.Pointer.{refusal_here, refusal_within, to_field}
 use Rattle.am_json.specs.Reading.{Reading, accept_some, check_count, check_only_fields}
 use Rattle.am_json.specs.Reading.{refuse_for, refuse_unknown_field, ◌>>=◌}
 use Rattle.am_files.specs.declared.limits.TheConstants.{MAX_ROUTES}
-use Rattle.am_files.specs.MatcherFaults.{is_profile_pattern}
+use Rattle.am_records.specs.MatcherFaults.{is_profile_pattern}
 use Rattle.am_files.proofs.MatcherFaultLemmas.{texts_form}
 use Rattle.am_json.proofs.ObjectLemmas.{least_unknown, not_unknown}
 use Rattle.am_files.proofs.PairFaultLemmas.{pairs_form}

@@ -24,7 +24,7 @@ use Rattle.am_json.specs.Places.{ObjectPlace, object_itself, other_field, in_fie
 use Rattle.am_json.specs.Places.{object_fault, open_object_fault, ArrayPlace, array_path}
 use Rattle.am_json.specs.Places.{items_in_field, required_array_fault}
 use Rattle.am_files.specs.ConfigFile.{route_fields}
-use Rattle.am_files.specs.MatcherFaults.{one_pattern_fault, is_profile_pattern}
+use Rattle.am_records.specs.MatcherFaults.{one_pattern_fault, is_profile_pattern}
 use Rattle.am_files.specs.declared.limits.TheConstants.{MAX_RECEIVERS, MAX_ROUTES, MAX_LEVELS}
 
 -- ---- Receivers (reference, "<receiver>").

@@ -25,7 +25,7 @@ use Rattle.am_json.specs.Reading.{read_boolean_or, read_each, read_items, read_j
 use Rattle.am_files.specs.ConfigFile.{RouteSettings, RouteTree, route, Configuration, MatcherFields}
 use Rattle.am_files.specs.ConfigFile.{route_matcher_fields, routes_of, routes_count, route_fields}
 use Rattle.am_json.specs.Places.{is_empty}
-use Rattle.am_files.specs.MatcherFaults.{label_name_fault, check_patterns, check_matcher}
+use Rattle.am_records.specs.MatcherFaults.{label_name_fault, check_patterns, check_matcher}
 use Rattle.am_files.specs.ConfigFaults.{receiver_name_fault, given_fault}
 
 -- ---- The receivers.

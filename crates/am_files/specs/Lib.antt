@@ -1,17 +1,9 @@
 pub mod Words
-pub mod UniverseFile
 pub mod ConfigFile
 pub mod SmallestConfig
-pub mod MatcherFaults
 pub mod ConfigReading
 pub mod RouteView
 pub mod ConfigView
 pub mod Path
-pub mod Instant
-pub mod SilencesFile
-pub mod SilencesFaults
-pub mod SilencesReading
-pub mod SilencesExample
 pub mod PathView
-pub mod UniverseFaults
 pub mod ConfigFaults

@@ -1,11 +1,4 @@
 -- The words of clauses: what the contracts of this crate, and of those above it, cite.
-pub use Rattle.am_files.specs.UniverseFile.{SaysUniverse, FileSaysUniverse, read_value}
-unfoldable pub use Rattle.am_files.specs.UniverseFile.{read_next_value, read_values}
-unfoldable pub use Rattle.am_files.specs.UniverseFile.{read_next_label, read_labels, read_universe}
-unfoldable pub use Rattle.am_files.specs.UniverseFile.{read_universe_file}
-pub use Rattle.am_files.specs.UniverseFile.{fault_of_universe, fault_of_universe_file}
-pub use Rattle.am_files.specs.UniverseFaults.{UniversePlace, universe_fault_at}
-pub use Rattle.am_files.specs.UniverseFaults.{IsFirstFaultOfUniverse, IsFirstFaultOfUniverseFile}
 pub use Rattle.am_files.specs.ConfigFile.{Configuration, RouteTree, Routes, IsConfig}
 pub use Rattle.am_files.specs.ConfigFile.{matchers_of, continues_of, receiver_of, children_of}
 pub use Rattle.am_files.specs.ConfigFile.{routes_of, route_count, routes_count, no_routes}
@@ -13,7 +6,6 @@ pub use Rattle.am_files.specs.ConfigFile.{route_levels, routes_levels}
 pub use Rattle.am_files.specs.ConfigFile.{route_fields, route_matcher_fields}
 pub use Rattle.am_files.specs.ConfigFile.{SaysConfig, FileSaysConfig}
 pub use Rattle.am_files.specs.SmallestConfig.{smallest_config_file, smallest_config}
-pub use Rattle.am_files.specs.MatcherFaults.{label_name_fault, check_matcher}
 pub use Rattle.am_files.specs.RouteView.{route_view, names_of}
 pub use Rattle.am_files.specs.ConfigView.{config_view, fields_view, matcher_fields_view}
 unfoldable pub use Rattle.am_files.specs.ConfigReading.{read_next_receiver, read_receiver_names}
@@ -37,19 +29,3 @@ pub use Rattle.am_files.specs.ConfigFaults.{IsMetPatternOfConfig, ConfigFileRefu
 pub use Rattle.am_files.specs.Path.{path_text, step_text, list_of, route_at, leads_through}
 pub use Rattle.am_files.specs.Path.{IsPath}
 unfoldable pub use Rattle.am_files.specs.Path.{numeral}
-pub use Rattle.am_files.specs.Instant.{instant_of}
-pub use Rattle.am_files.specs.SilencesFile.{flagged_op, SaysSilences, FileSaysSilences}
-pub use Rattle.am_files.specs.SilencesExample.{severity_condition, silences_example}
-pub use Rattle.am_files.specs.SilencesExample.{example_silences}
-pub use Rattle.am_files.specs.SilencesFaults.{matcher_count_fault}
-pub use Rattle.am_files.specs.SilencesFaults.{SilencesPlace, silences_fault_at}
-pub use Rattle.am_files.specs.SilencesFaults.{IsFirstFaultOfSilences, IsFirstFaultOfSilencesFile}
-pub use Rattle.am_files.specs.SilencesFaults.{IsMetPatternOfSilences, SilencesFileRefusedFor}
-pub use Rattle.am_files.specs.SilencesReading.{read_flagged_matcher, read_instant}
-pub use Rattle.am_files.specs.SilencesReading.{read_next_silence_matcher, read_next_silence}
-unfoldable pub use Rattle.am_files.specs.SilencesReading.{read_label_name}
-unfoldable pub use Rattle.am_files.specs.SilencesReading.{read_silence_matcher}
-unfoldable pub use Rattle.am_files.specs.SilencesReading.{read_silence_matchers, required_instant}
-unfoldable pub use Rattle.am_files.specs.SilencesReading.{read_silence, read_silence_array}
-unfoldable pub use Rattle.am_files.specs.SilencesReading.{read_silences_file}
-pub use Rattle.am_files.specs.SilencesReading.{read_silences}

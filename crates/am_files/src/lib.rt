@@ -1,19 +1,19 @@
-//! The input files of the program, read from their bytes.
+//! The configuration file of the program, read from its bytes.
 //!
-//! [`read_universe`] reads a universe file, [`read_config`] a configuration file, which is an
-//! Alertmanager configuration as JSON, and [`read_silences`] an export of silences. Each answers
-//! what the file says, or its first fault: why the file is refused and, by a JSON Pointer
-//! (RFC 6901), at which part. docs/FORMATS.md has the form of each file, and the order of its
+//! [`read_config`] reads a configuration file, which is an Alertmanager configuration as JSON. It
+//! answers what the file says, or its first fault: why the file is refused and, by a JSON Pointer
+//! (RFC 6901), at which part. docs/FORMATS.md has the form of the file, and the order of its
 //! faults.
+//!
+//! The public names of the crate `am_records` that callers need are given again here: the readers
+//! of the other input files, and what they answer.
 #![tactic(auto)]
 
 // How much there may be.
 pub mod limits;
 
-// The universe file.
-mod universe_file;
-
-pub use universe_file::read_universe;
+// The layer below: universe files, instants and silences.
+pub use am_records::{Silence, Silences, parse_instant, read_silences, read_universe};
 
 // A configuration, its routes, and the paths that lead to them.
 mod config;
@@ -24,23 +24,11 @@ pub use config::Config;
 pub use path::Path;
 pub use route::Route;
 
-// A matcher, as every file has it.
-mod matcher;
-
 // The configuration file.
 mod config_file;
 mod route_matchers;
 
 pub use config_file::read_config;
-
-// Instants, silences, and the export of silences.
-mod instant;
-mod silence;
-mod silences_file;
-
-pub use instant::parse_instant;
-pub use silence::{Silence, Silences};
-pub use silences_file::read_silences;
 
 // What holds of the definitions by themselves.
 pub mod laws;

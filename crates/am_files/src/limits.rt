@@ -9,9 +9,6 @@ pub const MAX_ROUTES: usize = 1024;
 /// The most levels in which the routes of a configuration lie, the top-level route in the first.
 pub const MAX_LEVELS: usize = 32;
 
-/// The most silences of an export.
-pub const MAX_SILENCES: usize = 4096;
-
 /// The most positions of a path: one for each level below the first.
 pub const MAX_PATH_STEPS: usize = MAX_LEVELS - 1;
 

@@ -12,11 +12,11 @@ ghost use Rattle.am_files.specs.Words.{optional_pairs, read_pairs, read_next_pai
 ghost use Rattle.am_files.specs.Words.{read_matcher_pair, read_named_text};
 ghost use Rattle.am_files.specs.Words.{refuse_root_matchers};
 
-use crate::matcher::{label_name_fault, new_matcher};
 use am_json::{
     ReadError, as_items, as_object, as_text, field, refuse_for, within_field, within_item,
 };
 use am_labels::{Kind, Matcher, Matchers, Op, parse_matchers};
+use am_records::{label_name_fault, new_matcher};
 use serde_json::{Map, Value};
 use std::alloc::Global;
 

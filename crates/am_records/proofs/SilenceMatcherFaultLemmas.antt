@@ -1,0 +1,257 @@
+-- The first fault of a matcher of a silence, by its places.
+use Rattle.std.proofs.Common.{Bool, List, None, Ok, Option, Some, [], arith, codes, false, refl}
+use Rattle.std.proofs.Common.{subst, suc, true, unwrap_or, zero, ℕ, ◌<◌, ◌∙◌, ◌∷◌, ◌≡◌}
+use Rattle.serde_json.specs.Data.{Data}
+use Rattle.serde_json.specs.Find as find
+use Rattle.am_universe.specs.declared.kind.Kind.TheVariants as kinds
+use Rattle.am_labels.specs.Matcher.{Condition}
+use Rattle.am_json.specs.Json.{field}
+use Rattle.am_json.specs.Places.{OnlyPlace, boolean_fault, in_field, known_member, object_itself, other_field}
+use Rattle.am_json.specs.Places.{name_of, rank_of, shape_or, text_of}
+use Rattle.am_json.specs.Pointer.{refusal_here, to_field}
+use Rattle.am_json.specs.Reading.{Reading, accept, accept_some, reading_within, refuse_for}
+use Rattle.am_json.specs.Reading.{boolean_or, read_boolean_or, required_text, ◌>>=◌}
+use Rattle.am_records.specs.SilencesFaults.{SilenceMatcherField, SilenceMatcherPlace}
+use Rattle.am_records.specs.SilencesFaults.{pattern_in_matcher, matcher_is_equal, matcher_is_regex}
+use Rattle.am_records.specs.SilencesFaults.{matcher_name, matcher_pattern, matcher_value}
+use Rattle.am_records.specs.SilencesFaults.{silence_matcher, silence_matcher_fault_at}
+use Rattle.am_records.specs.SilencesFaults.{silence_matcher_field_fault, silence_matcher_field_path}
+use Rattle.am_records.specs.SilencesFaults.{silence_matcher_path, truth_or}
+use Rattle.am_records.specs.SilencesFile.{flagged_op}
+use Rattle.am_records.specs.SilencesReading.{read_flagged_matcher, read_label_name}
+use Rattle.am_records.specs.SilencesReading.{read_silence_matcher}
+use Rattle.am_records.specs.MatcherFaults.{check_matcher, is_profile_pattern, label_name_fault}
+use Rattle.am_json.proofs.FieldLemmas.{boolean_judged, text_field_judges}
+use Rattle.am_json.proofs.ObjectLemmas.{object_tells, open_form, open_judged}
+use Rattle.am_records.proofs.PatternFaultLemmas.{matcher_form, matcher_judged}
+use Rattle.am_json.proofs.PlaceLemmas.{Clear, Form, IsPart, Judges, RanksTell, judges_plain}
+use Rattle.am_json.proofs.PlaceLemmas.{one_place, part_judges}
+use Rattle.am_json.proofs.PlaceLemmas.{said_of, same_judged}
+use Rattle.am_json.proofs.PlaceOrder.{lead}
+use Rattle.am_json.proofs.Readings.{same_read}
+use Rattle.am_json.proofs.SameReadings.{then_accept, then_assoc}
+
+-- ---- A truth value.
+
+truth_gives : (default : Bool) (found : Option Data) (truth : Bool)
+    → (boolean_or default found).result ≡ Ok truth → truth_or default found ≡ truth
+truth_gives default None truth ok = same_read default truth ok
+truth_gives default (Some d) truth ok = by (find.as_bool d) ok where
+  by : (found : Option Bool)
+      → (accept_some found (refusal_here kinds.Shape)).result ≡ Ok truth
+      → unwrap_or found default ≡ truth
+  by None ok = absurd cc
+  by (Some other) ok = same_read other truth ok
+
+-- ---- A matcher.
+
+module _ (d : Data) where
+  abbrev matcher_fields : Form SilenceMatcherField
+  matcher_fields = record {
+    path = silence_matcher_field_path;
+    fault_at = silence_matcher_field_fault d;
+    has_pattern = λ place. is_profile_pattern (pattern_in_matcher d (in_field place));
+  }
+
+  abbrev field_lead : SilenceMatcherField → ℕ
+  field_lead place = lead (rank_of (silence_matcher_field_path place))
+
+  name_covers : (place : SilenceMatcherField) → field_lead place ≡ 2
+      → OnlyPlace × (place ≡ matcher_name)
+  name_covers matcher_name e = (tt, refl)
+  name_covers place e = absurd (omega (arith, e))
+
+  value_covers : (place : SilenceMatcherField) → field_lead place ≡ 3
+      → OnlyPlace × (place ≡ matcher_value)
+  value_covers matcher_value e = (tt, refl)
+  value_covers place e = absurd (omega (arith, e))
+
+  regex_covers : (place : SilenceMatcherField) → field_lead place ≡ 4
+      → OnlyPlace × (place ≡ matcher_is_regex)
+  regex_covers matcher_is_regex e = (tt, refl)
+  regex_covers place e = absurd (omega (arith, e))
+
+  equal_covers : (place : SilenceMatcherField) → field_lead place ≡ 5
+      → OnlyPlace × (place ≡ matcher_is_equal)
+  equal_covers matcher_is_equal e = (tt, refl)
+  equal_covers place e = absurd (omega (arith, e))
+
+  pattern_covers : (place : SilenceMatcherField) → field_lead place ≡ 6
+      → OnlyPlace × (place ≡ matcher_pattern)
+  pattern_covers matcher_pattern e = (tt, refl)
+  pattern_covers place e = absurd (omega (arith, e))
+
+  name_part : IsPart matcher_fields 1 (known_member 1 (codes "name"))
+      (one_place (shape_or label_name_fault (text_of (field (codes "name") d)))) (λ _. matcher_name)
+  name_part = record { rank = refl; seen = λ _. refl; covers = name_covers }
+
+  value_part : IsPart matcher_fields 2 (known_member 2 (codes "value"))
+      (one_place (shape_or (λ _. None) (text_of (field (codes "value") d)))) (λ _. matcher_value)
+  value_part = record { rank = refl; seen = λ _. refl; covers = value_covers }
+
+  regex_part : IsPart matcher_fields 3 (known_member 3 (codes "isRegex"))
+      (one_place (boolean_fault (field (codes "isRegex") d))) (λ _. matcher_is_regex)
+  regex_part = record { rank = refl; seen = λ _. refl; covers = regex_covers }
+
+  equal_part : IsPart matcher_fields 4 (known_member 4 (codes "isEqual"))
+      (one_place (boolean_fault (field (codes "isEqual") d))) (λ _. matcher_is_equal)
+  equal_part = record { rank = refl; seen = λ _. refl; covers = equal_covers }
+
+  pattern_part : IsPart matcher_fields 5 (known_member 5 (codes "value"))
+      (matcher_form (silence_matcher d)) (λ _. matcher_pattern)
+  pattern_part = record { rank = refl; seen = λ _. refl; covers = pattern_covers }
+
+  none_yet : Clear matcher_fields 2
+  none_yet matcher_name lt = absurd (omega (arith, lt))
+  none_yet place lt = absurd (omega (arith, lt))
+
+  fields_clear : Clear matcher_fields 7 → (place : SilenceMatcherField)
+      → silence_matcher_field_fault d place ≡ None
+  fields_clear clear matcher_name = clear matcher_name (omega arith)
+  fields_clear clear place = clear place (omega arith)
+
+  -- behind the four fields
+  abbrev flagged : List ℕ → List ℕ → Bool → Bool → Reading Condition
+  flagged name value is_regex is_equal =
+      read_flagged_matcher name (flagged_op is_regex is_equal) value
+
+  -- the fields of the matcher, as far as they were read
+  abbrev value_in : List ℕ
+  value_in = unwrap_or (text_of (field (codes "value") d)) []
+
+  abbrev regex_in : Bool
+  regex_in = truth_or false (field (codes "isRegex") d)
+
+  abbrev equal_in : Bool
+  equal_in = truth_or true (field (codes "isEqual") d)
+
+  pattern_judges : Clear matcher_fields 6
+      → Judges matcher_fields (flagged (name_of d) value_in regex_in equal_in)
+  pattern_judges clear =
+      let m = silence_matcher d in
+      subst (Judges matcher_fields)
+      (then_accept (reading_within (to_field (codes "value")) (check_matcher m)))
+      (part_judges matcher_fields 5 (known_member 5 (codes "value")) (matcher_form m)
+      (λ _. matcher_pattern) pattern_part clear (check_matcher m) (λ read. accept read)
+      (matcher_judged m)
+      (λ read _ last. judges_plain matcher_fields (Ok read) (fields_clear last)))
+
+  equal_judges : Clear matcher_fields 5
+      → Judges matcher_fields (read_boolean_or true (codes "isEqual") d
+      >>= flagged (name_of d) value_in regex_in)
+  unfolding read_boolean_or
+  equal_judges clear =
+      let found = field (codes "isEqual") d in
+      part_judges matcher_fields 4 (known_member 4 (codes "isEqual"))
+      (one_place (boolean_fault found)) (λ _. matcher_is_equal) equal_part clear
+      (boolean_or true found) (flagged (name_of d) value_in regex_in) (boolean_judged true found)
+      (λ is_equal ok next.
+      subst (λ (truth : Bool). Judges matcher_fields
+      (flagged (name_of d) value_in regex_in truth)) (truth_gives true found is_equal ok)
+      (pattern_judges next))
+
+  -- behind the name and the value
+  abbrev flags_then : List ℕ → List ℕ → Reading Condition
+  flags_then name value = do
+    is_regex ← read_boolean_or false (codes "isRegex") d
+    is_equal ← read_boolean_or true (codes "isEqual") d
+    flagged name value is_regex is_equal
+
+  flags_judge : Clear matcher_fields 4 → Judges matcher_fields (flags_then (name_of d) value_in)
+  unfolding read_boolean_or
+  flags_judge clear =
+      let found = field (codes "isRegex") d in
+      part_judges matcher_fields 3 (known_member 3 (codes "isRegex"))
+      (one_place (boolean_fault found)) (λ _. matcher_is_regex) regex_part clear
+      (boolean_or false found)
+      (λ is_regex. read_boolean_or true (codes "isEqual") d >>= flagged (name_of d) value_in is_regex)
+      (boolean_judged false found)
+      (λ is_regex ok next.
+      subst (λ (truth : Bool). Judges matcher_fields
+      (read_boolean_or true (codes "isEqual") d >>= flagged (name_of d) value_in truth))
+      (truth_gives false found is_regex ok) (equal_judges next))
+
+  value_judges : Clear matcher_fields 3
+      → Judges matcher_fields (required_text (codes "value") d >>= flags_then (name_of d))
+  value_judges clear =
+      text_field_judges matcher_fields 2 (codes "value") d (λ _. None) (λ _. matcher_value)
+      value_part clear (flags_then (name_of d))
+      (λ value is next.
+      subst (λ (text : List ℕ). Judges matcher_fields (flags_then (name_of d) text))
+      (λ i. unwrap_or (is i) []) (flags_judge next))
+
+  -- the name, and then what is behind it
+  name_then : (f : List ℕ → Reading Condition)
+      → (read_label_name d >>= f)
+      ≡ (required_text (codes "name") d
+      >>= λ name. reading_within (to_field (codes "name")) (refuse_for (label_name_fault name))
+      >>= λ _. f name)
+  unfolding read_label_name
+  name_then f =
+      then_assoc (required_text (codes "name") d)
+      (λ name. reading_within (to_field (codes "name")) (refuse_for (label_name_fault name))
+      >>= λ _. accept name) f
+      ∙ (λ i. required_text (codes "name") d
+      >>= λ name. then_assoc
+      (reading_within (to_field (codes "name")) (refuse_for (label_name_fault name)))
+      (λ _. accept name) f i)
+
+  abbrev fields_reading : Reading Condition
+  fields_reading = read_label_name d >>= λ name. required_text (codes "value") d >>= flags_then name
+
+  fields_judge : Judges matcher_fields fields_reading
+  fields_judge =
+      rw (name_then (λ name. required_text (codes "value") d >>= flags_then name))
+      (text_field_judges matcher_fields 1 (codes "name") d label_name_fault (λ _. matcher_name)
+      name_part none_yet (λ name. required_text (codes "value") d >>= flags_then name)
+      (λ name is next.
+      subst (λ (text : List ℕ). Judges matcher_fields
+      (required_text (codes "value") d >>= flags_then text)) (λ i. unwrap_or (is i) [])
+      (value_judges next)))
+
+  abbrev pub silence_matcher_form : Form SilenceMatcherPlace
+  silence_matcher_form = record {
+    path = silence_matcher_path;
+    fault_at = silence_matcher_fault_at d;
+    has_pattern = λ place. is_profile_pattern (pattern_in_matcher d place);
+  }
+
+  same_places : (place : SilenceMatcherPlace)
+      → said_of silence_matcher_form place
+      ≡ said_of (open_form (find.as_object d) matcher_fields) place
+  same_places object_itself = refl
+  same_places (other_field key) = refl
+  same_places (in_field place) = refl
+
+  pub silence_matcher_judged : Judges silence_matcher_form (read_silence_matcher d)
+  unfolding read_silence_matcher
+  silence_matcher_judged =
+      same_judged silence_matcher_form (open_form (find.as_object d) matcher_fields) same_places
+      (read_silence_matcher d)
+      (open_judged matcher_fields fields_reading fields_judge (find.as_object d))
+
+-- ---- Ranks tell places.
+
+abbrev matcher_field_at : List ℕ → SilenceMatcherField
+matcher_field_at (suc zero ∷ rank) = matcher_name
+matcher_field_at (suc (suc zero) ∷ rank) = matcher_value
+matcher_field_at (suc (suc (suc zero)) ∷ rank) = matcher_is_regex
+matcher_field_at (suc (suc (suc (suc zero))) ∷ rank) = matcher_is_equal
+matcher_field_at _ = matcher_pattern
+
+field_tells : RanksTell silence_matcher_field_path
+field_tells = (matcher_field_at, is) where
+  is : (place : SilenceMatcherField)
+      → matcher_field_at (rank_of (silence_matcher_field_path place)) ≡ place
+  is matcher_name = refl
+  is matcher_value = refl
+  is matcher_is_regex = refl
+  is matcher_is_equal = refl
+  is matcher_pattern = refl
+
+in_matcher : (place : SilenceMatcherField) → 1 < lead (rank_of (silence_matcher_field_path place))
+in_matcher matcher_name = omega arith
+in_matcher place = omega arith
+
+pub silence_matcher_tells : RanksTell silence_matcher_path
+silence_matcher_tells = object_tells silence_matcher_field_path in_matcher field_tells

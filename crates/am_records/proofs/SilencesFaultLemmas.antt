@@ -1,0 +1,367 @@
+-- The fault that reading silences meets first is the first by its places.
+use Rattle.std.proofs.Common.{Bool, Err, List, None, Ok, Option, Some, [], arith, codes, length}
+use Rattle.std.proofs.Common.{option_and_then, refl, slice_get, suc, unwrap_or, zero, ℕ}
+use Rattle.std.proofs.Common.{ℤ, ◌<◌, ◌↔◌, ◌∷◌, ◌≡◌, ◌⊎◌}
+use Rattle.std.specs.Prelude.{⊤}
+use Rattle.serde_json.specs.Data.{Data, array, boolean, null, number, object, string}
+use Rattle.serde_json.specs.Find as find
+use Rattle.am_universe.specs.declared.kind.Kind.{Kind}
+use Rattle.am_universe.specs.declared.kind.Kind.TheVariants as kinds
+use Rattle.am_labels.specs.Matcher.{Condition}
+use Rattle.am_records.specs.Instant.{instant_of}
+use Rattle.am_json.specs.Json.{field, items_of}
+use Rattle.am_json.specs.Places.{ArrayPlace, OnlyPlace, Step, array_fault, array_itself}
+use Rattle.am_json.specs.Places.{array_path, in_field, in_item, items_in_field, known_member}
+use Rattle.am_json.specs.Places.{limit_fault, object_itself, other_field, rank_of, shape_or}
+use Rattle.am_json.specs.Places.{text_of}
+use Rattle.am_json.specs.Pointer.{Refusal, refusal_here, to_field}
+use Rattle.am_json.specs.Reading.{IsPatternRefusal, MayRefuse, Reading, accept, accept_some}
+use Rattle.am_json.specs.Reading.{read_items, reading_within, required_items, ◌>>=◌}
+use Rattle.am_records.specs.SilencesFaults.{IsFirstFaultOfSilences, IsFirstFaultOfSilencesFile}
+use Rattle.am_records.specs.SilencesFaults.{IsMetPatternOfSilences, SilenceField}
+use Rattle.am_records.specs.SilencesFaults.{SilenceMatcherPlace, SilencePlace}
+use Rattle.am_records.specs.SilencesFaults.{SilencesFileRefusedFor, SilencesPlace}
+use Rattle.am_records.specs.SilencesFaults.{has_silence_pattern, pattern_in_matcher}
+use Rattle.am_records.specs.SilencesFaults.{pattern_in_silence, matcher_count_fault, silence_ends}
+use Rattle.am_records.specs.SilencesFaults.{silence_fault_at, silence_field_fault}
+use Rattle.am_records.specs.SilencesFaults.{silence_field_path, silence_matcher_fault_at}
+use Rattle.am_records.specs.SilencesFaults.{silence_matcher_path, silence_matchers, silence_path}
+use Rattle.am_records.specs.SilencesFaults.{silence_starts, silences_fault_at}
+use Rattle.am_records.specs.SilencesFaults.{silences_itself_fault, silences_path, time_fault}
+use Rattle.am_records.specs.SilencesFile.{SaysSilences, Silence}
+use Rattle.am_records.specs.SilencesReading.{read_instant, read_next_silence}
+use Rattle.am_records.specs.SilencesReading.{read_next_silence_matcher, read_silence}
+use Rattle.am_records.specs.SilencesReading.{read_silence_array, read_silence_matchers}
+use Rattle.am_records.specs.SilencesReading.{read_silences, read_silences_file, required_instant}
+use Rattle.am_records.specs.declared.limits.TheConstants.{MAX_SILENCES}
+use Rattle.am_records.specs.MatcherFaults.{is_profile_pattern}
+use Rattle.am_json.proofs.FieldLemmas.{items_form, items_sequence, pattern_items_seen}
+use Rattle.am_json.proofs.FileLemmas.{bytes_decide, bytes_refused}
+use Rattle.am_json.proofs.ObjectLemmas.{array_tells, object_tells, open_form, open_judged}
+use Rattle.am_json.proofs.PlaceLemmas.{Clear, Form, IsPart, Judges, RanksTell, first_decides}
+use Rattle.am_json.proofs.PlaceLemmas.{judges_plain, none_reads, one_place, part_judges, read_none}
+use Rattle.am_json.proofs.PlaceLemmas.{refused_reached, said_of, same_judged, shape_judged}
+use Rattle.am_json.proofs.PlaceLemmas.{some_judged}
+use Rattle.am_json.proofs.PlaceOrder.{lead}
+use Rattle.am_json.proofs.Readings.{Decides}
+use Rattle.am_json.proofs.SameReadings.{items_within_then, text_read_within}
+use Rattle.am_json.proofs.SequenceLemmas.{Sequence, array_form, items_judged, pattern_of_next}
+use Rattle.am_json.proofs.SequenceLemmas.{required_array}
+use Rattle.am_records.proofs.SilenceMatcherFaultLemmas.{silence_matcher_judged}
+use Rattle.am_records.proofs.SilenceMatcherFaultLemmas.{silence_matcher_tells}
+
+-- ---- Patterns in the items of an array.
+
+abbrev pattern_at : {Q : Type 0} → (Data → Q → Option Condition) → Data → Q → Bool
+pattern_at matcher_at item place = is_profile_pattern (matcher_at item place)
+
+-- the matcher of an item, if there is one, has the pattern
+item_pattern : {Q : Type 0} (path : Q → List Step) (fault_in : List Data → Data → Q → Option Kind)
+    (matcher_at : Data → Q → Option Condition) (item : Option Data) (place : Q)
+    → is_profile_pattern (option_and_then (λ d. matcher_at d place) item)
+    ≡ pattern_of_next (items_sequence path fault_in (pattern_at matcher_at)) item place
+item_pattern path fault_in matcher_at None place = refl
+item_pattern path fault_in matcher_at (Some d) place = refl
+
+-- ---- The matchers of a silence.
+
+abbrev matcher_fault_in : List Data → Data → SilenceMatcherPlace → Option Kind
+matcher_fault_in before item at = silence_matcher_fault_at item at
+
+abbrev matchers_sequence : Sequence Data SilenceMatcherPlace
+matchers_sequence =
+    items_sequence silence_matcher_path matcher_fault_in (pattern_at pattern_in_matcher)
+
+abbrev matchers_form : Option Data → Form (ArrayPlace SilenceMatcherPlace)
+matchers_form =
+    items_form silence_matcher_path matcher_fault_in (pattern_at pattern_in_matcher)
+    matcher_count_fault
+
+matchers_judge : (found : Option Data)
+    → Judges (matchers_form found)
+    (accept_some (option_and_then items_of found) (refusal_here kinds.Shape)
+    >>= read_silence_matchers)
+unfolding read_silence_matchers
+matchers_judge found =
+    required_array matchers_sequence (λ items. matcher_count_fault (length items))
+    (read_items read_next_silence_matcher []) (option_and_then items_of found)
+    (items_judged read_next_silence_matcher matchers_sequence (λ i. refl) (λ _ _. ⊤) tt
+    (items_in_field found) (λ _ d _ _ _ _. silence_matcher_judged d) (λ _ _ _ _ _ _. tt))
+
+-- ---- An instant.
+
+instant_judged : (found : Option (List ℕ))
+    → Judges (one_place (shape_or time_fault found))
+    (accept_some found (refusal_here kinds.Shape) >>= read_instant)
+instant_judged found =
+    shape_judged time_fault found read_instant (λ t. some_judged kinds.BadTime (instant_of t))
+
+instant_within : (key : List ℕ) (d : Data)
+    → required_instant key d
+    ≡ reading_within (to_field key)
+    (accept_some (text_of (field key d)) (refusal_here kinds.Shape) >>= read_instant)
+unfolding required_instant
+instant_within key d = text_read_within key read_instant d
+
+-- ---- A silence.
+
+module _ (d : Data) where
+  abbrev silence_fields : Form SilenceField
+  silence_fields = record {
+    path = silence_field_path;
+    fault_at = silence_field_fault d;
+    has_pattern = λ place. is_profile_pattern (pattern_in_silence d (in_field place));
+  }
+
+  abbrev matchers_field : Option Data
+  matchers_field = field (codes "matchers") d
+
+  abbrev starts_field : Option (List ℕ)
+  starts_field = text_of (field (codes "startsAt") d)
+
+  abbrev ends_field : Option (List ℕ)
+  ends_field = text_of (field (codes "endsAt") d)
+
+  matchers_cover : (place : SilenceField) → lead (rank_of (silence_field_path place)) ≡ 2
+      → (inner : ArrayPlace SilenceMatcherPlace) × (place ≡ silence_matchers inner)
+  matchers_cover (silence_matchers inner) e = (inner, refl)
+  matchers_cover place e = absurd (omega (arith, e))
+
+  starts_covers : (place : SilenceField) → lead (rank_of (silence_field_path place)) ≡ 3
+      → OnlyPlace × (place ≡ silence_starts)
+  starts_covers silence_starts e = (tt, refl)
+  starts_covers place e = absurd (omega (arith, e))
+
+  ends_covers : (place : SilenceField) → lead (rank_of (silence_field_path place)) ≡ 4
+      → OnlyPlace × (place ≡ silence_ends)
+  ends_covers silence_ends e = (tt, refl)
+  ends_covers place e = absurd (omega (arith, e))
+
+  matchers_pattern : (place : ArrayPlace SilenceMatcherPlace)
+      → is_profile_pattern (pattern_in_silence d (in_field (silence_matchers place)))
+      ≡ (matchers_form matchers_field).has_pattern place
+  matchers_pattern array_itself = refl
+  matchers_pattern (in_item j place) =
+      item_pattern silence_matcher_path matcher_fault_in pattern_in_matcher
+      (slice_get (items_in_field matchers_field) j) place
+
+  matchers_part : IsPart silence_fields 1 (known_member 1 (codes "matchers"))
+      (matchers_form matchers_field) silence_matchers
+  matchers_part = record {
+    rank = refl;
+    seen = pattern_items_seen silence_matcher_path matcher_fault_in (pattern_at pattern_in_matcher)
+        matcher_count_fault (codes "matchers") 1 matchers_field
+        (λ place. is_profile_pattern (pattern_in_silence d (in_field (silence_matchers place))))
+        matchers_pattern;
+    covers = matchers_cover;
+  }
+
+  starts_part : IsPart silence_fields 2 (known_member 2 (codes "startsAt"))
+      (one_place (shape_or time_fault starts_field)) (λ _. silence_starts)
+  starts_part = record { rank = refl; seen = λ _. refl; covers = starts_covers }
+
+  ends_part : IsPart silence_fields 3 (known_member 3 (codes "endsAt"))
+      (one_place (shape_or time_fault ends_field)) (λ _. silence_ends)
+  ends_part = record { rank = refl; seen = λ _. refl; covers = ends_covers }
+
+  none_yet : Clear silence_fields 2
+  none_yet (silence_matchers inner) lt = absurd (omega (arith, lt))
+  none_yet place lt = absurd (omega (arith, lt))
+
+  fields_clear : Clear silence_fields 5 → (place : SilenceField)
+      → silence_field_fault d place ≡ None
+  fields_clear clear (silence_matchers inner) = clear (silence_matchers inner) (omega arith)
+  fields_clear clear place = clear place (omega arith)
+
+  abbrev made_silence : List Condition → ℤ → ℤ → Silence
+  made_silence matchers starts ends =
+      record { matchers = matchers; starts = starts; ends = ends }
+
+  ends_judge : (matchers : List Condition) (starts : ℤ) → Clear silence_fields 4
+      → Judges silence_fields (required_instant (codes "endsAt") d
+      >>= λ ends. accept (made_silence matchers starts ends))
+  ends_judge matchers starts clear =
+      rw (instant_within (codes "endsAt") d)
+      (part_judges silence_fields 3 (known_member 3 (codes "endsAt"))
+      (one_place (shape_or time_fault ends_field)) (λ _. silence_ends) ends_part clear
+      (accept_some ends_field (refusal_here kinds.Shape) >>= read_instant)
+      (λ ends. accept (made_silence matchers starts ends)) (instant_judged ends_field)
+      (λ ends _ last.
+      judges_plain silence_fields (Ok (made_silence matchers starts ends)) (fields_clear last)))
+
+  -- behind its matchers
+  abbrev instants_then : List Condition → Reading Silence
+  instants_then matchers = do
+    starts ← required_instant (codes "startsAt") d
+    ends ← required_instant (codes "endsAt") d
+    accept (made_silence matchers starts ends)
+
+  instants_judge : (matchers : List Condition) → Clear silence_fields 3
+      → Judges silence_fields (instants_then matchers)
+  instants_judge matchers clear =
+      rw (instant_within (codes "startsAt") d)
+      (part_judges silence_fields 2 (known_member 2 (codes "startsAt"))
+      (one_place (shape_or time_fault starts_field)) (λ _. silence_starts) starts_part clear
+      (accept_some starts_field (refusal_here kinds.Shape) >>= read_instant)
+      (λ starts. required_instant (codes "endsAt") d
+      >>= λ ends. accept (made_silence matchers starts ends)) (instant_judged starts_field)
+      (λ starts _ next. ends_judge matchers starts next))
+
+  abbrev fields_reading : Reading Silence
+  fields_reading = do
+    items ← required_items (codes "matchers") d
+    matchers ← reading_within (to_field (codes "matchers")) (read_silence_matchers items)
+    instants_then matchers
+
+  fields_judge : Judges silence_fields fields_reading
+  fields_judge =
+      rw (items_within_then (codes "matchers") read_silence_matchers d instants_then)
+      (part_judges silence_fields 1 (known_member 1 (codes "matchers"))
+      (matchers_form matchers_field) silence_matchers matchers_part none_yet
+      (accept_some (option_and_then items_of matchers_field) (refusal_here kinds.Shape)
+      >>= read_silence_matchers) instants_then (matchers_judge matchers_field)
+      (λ matchers _ next. instants_judge matchers next))
+
+  abbrev silence_form : Form SilencePlace
+  silence_form = record {
+    path = silence_path;
+    fault_at = silence_fault_at d;
+    has_pattern = λ place. is_profile_pattern (pattern_in_silence d place);
+  }
+
+  same_in_silence : (place : SilencePlace)
+      → said_of silence_form place ≡ said_of (open_form (find.as_object d) silence_fields) place
+  same_in_silence object_itself = refl
+  same_in_silence (other_field key) = refl
+  same_in_silence (in_field place) = refl
+
+  silence_judged : Judges silence_form (read_silence d)
+  unfolding read_silence
+  silence_judged =
+      same_judged silence_form (open_form (find.as_object d) silence_fields) same_in_silence
+      (read_silence d) (open_judged silence_fields fields_reading fields_judge (find.as_object d))
+
+-- ---- The file.
+
+abbrev silence_fault_in : List Data → Data → SilencePlace → Option Kind
+silence_fault_in before item at = silence_fault_at item at
+
+abbrev silences_sequence : Sequence Data SilencePlace
+silences_sequence = items_sequence silence_path silence_fault_in (pattern_at pattern_in_silence)
+
+module _ (d : Data) where
+  abbrev items_in : List Data
+  items_in = unwrap_or (items_of d) []
+
+  abbrev silences_form : Form SilencesPlace
+  silences_form = record {
+    path = silences_path;
+    fault_at = silences_fault_at d;
+    has_pattern = has_silence_pattern d;
+  }
+
+  same_in_file : (place : SilencesPlace)
+      → said_of silences_form place
+      ≡ said_of (array_form silences_sequence (silences_itself_fault d) items_in) place
+  same_in_file array_itself = refl
+  same_in_file (in_item i place) = λ j. (
+    silences_path (in_item i place),
+    silences_fault_at d (in_item i place),
+    item_pattern silence_path silence_fault_in pattern_in_silence (slice_get items_in i) place j,
+  )
+
+  array_judge : Judges
+      (array_form silences_sequence (shape_or (λ items. limit_fault MAX_SILENCES (length items))
+      (items_of d)) items_in) (read_silence_array d)
+  unfolding read_silence_array
+  array_judge =
+      required_array silences_sequence (λ items. limit_fault MAX_SILENCES (length items))
+      (read_items read_next_silence []) (items_of d)
+      (items_judged read_next_silence silences_sequence (λ i. refl) (λ _ _. ⊤) tt items_in
+      (λ _ item _ _ _ _. silence_judged item) (λ _ _ _ _ _ _. tt))
+
+no_silences : (place : SilencesPlace) → array_fault None silence_fault_in [] place ≡ None
+no_silences array_itself = refl
+no_silences (in_item i place) = refl
+
+items_judge : (d : Data)
+    → Judges (array_form silences_sequence (silences_itself_fault d) (items_in d)) (read_silences d)
+items_judge null =
+    judges_plain (array_form silences_sequence None []) (Ok []) no_silences
+items_judge (boolean b) = array_judge (boolean b)
+items_judge (number n) = array_judge (number n)
+items_judge (string s) = array_judge (string s)
+items_judge (array items) = array_judge (array items)
+items_judge (object members) = array_judge (object members)
+
+silences_judged : (d : Data) → Judges (silences_form d) (read_silences d)
+silences_judged d =
+    same_judged (silences_form d) (array_form silences_sequence (silences_itself_fault d) (items_in d))
+    (same_in_file d) (read_silences d) (items_judge d)
+
+-- ---- Ranks tell places.
+
+matchers_tell : RanksTell (array_path silence_matcher_path)
+matchers_tell = array_tells silence_matcher_path silence_matcher_tells
+
+abbrev silence_field_at : List ℕ → SilenceField
+silence_field_at (suc zero ∷ rank) = silence_matchers (matchers_tell.0 rank)
+silence_field_at (suc (suc zero) ∷ rank) = silence_starts
+silence_field_at _ = silence_ends
+
+silence_field_tells : RanksTell silence_field_path
+silence_field_tells = (silence_field_at, is) where
+  is : (place : SilenceField) → silence_field_at (rank_of (silence_field_path place)) ≡ place
+  is (silence_matchers place) = λ i. silence_matchers (matchers_tell.1 place i)
+  is silence_starts = refl
+  is silence_ends = refl
+
+in_silence : (place : SilenceField) → 1 < lead (rank_of (silence_field_path place))
+in_silence (silence_matchers place) = omega arith
+in_silence place = omega arith
+
+silences_tell : RanksTell silences_path
+silences_tell = array_tells silence_path (object_tells silence_field_path in_silence
+    silence_field_tells)
+
+-- ---- The laws.
+
+pub silences_first : (d : Data) (r : Refusal)
+    → ((read_silences d).result ≡ Err r) ↔ IsFirstFaultOfSilences d r
+silences_first d r = let judged = silences_judged d in
+    first_decides (silences_form d) silences_tell (read_silences d).result judged.tells r
+
+pub silences_met : (d : Data) (r : Refusal) → IsPatternRefusal (read_silences d).patterns r
+    → IsMetPatternOfSilences d r
+silences_met d r h = let judged = silences_judged d in judged.meets r h
+
+pub silences_refused : (d : Data) (r : Refusal) → MayRefuse (read_silences d) r
+    → IsFirstFaultOfSilences d r ⊎ IsMetPatternOfSilences d r
+silences_refused d r refused =
+    refused_reached (silences_form d) (read_silences d) (silences_judged d) r refused
+
+-- a value says silences where no place is at fault, and only there
+pub silences_sound : (d : Data) → Decides (SaysSilences d) (read_silences d).result
+    → ((silences : List Silence) × SaysSilences d silences)
+    ↔ ((place : SilencesPlace) → silences_fault_at d place ≡ None)
+silences_sound d decides =
+    let judged = silences_judged d in (
+      λ said. read_none (silences_form d) (read_silences d).result said.0 judged.tells
+          (decides.reads said.0 said.1),
+      λ none. let found = none_reads (silences_form d) (read_silences d).result judged.tells none in
+          (found.0, decides.says found.0 found.1),
+    )
+
+pub silences_file_first : (bytes : List ℕ) (r : Refusal)
+    → ((read_silences_file bytes).result ≡ Err r) ↔ IsFirstFaultOfSilencesFile bytes r
+unfolding read_silences_file
+silences_file_first bytes r =
+    bytes_decide IsFirstFaultOfSilences IsMetPatternOfSilences read_silences silences_first
+    silences_met bytes r
+
+pub silences_file_refused : (bytes : List ℕ) (r : Refusal) → MayRefuse (read_silences_file bytes) r
+    → SilencesFileRefusedFor bytes r
+unfolding read_silences_file
+silences_file_refused bytes r refused =
+    bytes_refused IsFirstFaultOfSilences IsMetPatternOfSilences read_silences silences_first
+    silences_met bytes r refused

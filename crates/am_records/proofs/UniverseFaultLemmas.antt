@@ -1,0 +1,389 @@
+-- The fault that reading a universe file meets first is the first by its places.
+use Rattle.std.proofs.Common.{Bool, Err, List, None, Ok, Option, Some, [], ap, arith, codes, false}
+use Rattle.std.proofs.Common.{inl, inr, length, map, option_and_then, refl, subst, suc, sym, true}
+use Rattle.std.proofs.Common.{unwrap_or, zero, ℕ, ◌++◌, ◌<◌, ◌||◌, ◌↔◌, ◌∙◌, ◌∷◌, ◌≡◌}
+use Rattle.std.proofs.lemmas.List.{map_push}
+use Rattle.std.specs.List.{list_any}
+use Rattle.std.specs.Prelude.{if◌then◌else◌, not}
+use Rattle.serde_json.specs.Data.{Data, array, boolean, null, number, object, string}
+use Rattle.serde_json.specs.Find.{as_str}
+use Rattle.am_universe.specs.Text.{same_text}
+use Rattle.am_universe.specs.Universe.{Label, Values, count_fault, is_label_name}
+use Rattle.am_universe.specs.Universe.{name_fault, names, value_fault}
+use Rattle.am_universe.specs.declared.kind.Kind.{Kind}
+use Rattle.am_universe.specs.declared.kind.Kind.TheVariants as kinds
+use Rattle.am_universe.specs.declared.limits.TheConstants.{MAX_LABELS}
+use Rattle.am_json.specs.Json.{field, items_of, json_of}
+use Rattle.am_json.specs.Places.{ArrayPlace, IsMetPatternOfValue, OnlyPlace, array_path}
+use Rattle.am_json.specs.Places.{items_in_field, known_member, limit_fault, only_path, rank_of}
+use Rattle.am_json.specs.Places.{shape_or, text_of}
+use Rattle.am_json.specs.Pointer.{Refusal, refusal_here, to_field}
+use Rattle.am_json.specs.Reading.{IsPatternRefusal, MayRefuse, Reading, accept, accept_some}
+use Rattle.am_json.specs.Reading.{read_items, reading_within, refuse_for, required_items}
+use Rattle.am_json.specs.Reading.{required_text, ◌>>=◌}
+use Rattle.am_records.specs.UniverseFaults.{IsFirstFaultOfUniverse, IsFirstFaultOfUniverseFile}
+use Rattle.am_records.specs.UniverseFaults.{LabelField, LabelPlace, UniverseField, UniversePlace}
+use Rattle.am_records.specs.UniverseFaults.{file_labels, label_fault_at, label_field_fault}
+use Rattle.am_records.specs.UniverseFaults.{label_field_path, label_name, label_path, label_values}
+use Rattle.am_records.specs.UniverseFaults.{named_label, universe_fault_at, universe_field_fault}
+use Rattle.am_records.specs.UniverseFaults.{universe_field_path, universe_path, value_fault_at}
+use Rattle.am_records.specs.UniverseFile.{SaysUniverse, SaysValue, file_fields, label_fields}
+use Rattle.am_records.specs.UniverseFile.{read_labels, read_next_label, read_next_value}
+use Rattle.am_records.specs.UniverseFile.{read_universe, read_universe_file, read_values}
+use Rattle.am_json.proofs.FieldLemmas.{items_form, items_seen, items_sequence, text_field_judges}
+use Rattle.am_json.proofs.FileLemmas.{bytes_decide, bytes_refused}
+use Rattle.am_json.proofs.ObjectLemmas.{array_tells, closed_judged, no_open_pattern, object_tells}
+use Rattle.am_json.proofs.ObjectLemmas.{only_tells, open_pattern}
+use Rattle.am_json.proofs.PlaceLemmas.{Clear, Form, IsPart, Judges, RanksTell, cause_judges}
+use Rattle.am_json.proofs.PlaceLemmas.{first_decides, judges_plain, none_reads, one_place}
+use Rattle.am_json.proofs.PlaceLemmas.{one_refused, part_judges, read_none, said}
+use Rattle.am_json.proofs.PlaceOrder.{lead}
+use Rattle.am_json.proofs.SameReadings.{items_within, items_within_then, then_accept}
+use Rattle.am_json.proofs.SequenceLemmas.{Sequence, items_judged, next_form, required_array}
+use Rattle.am_records.proofs.UniverseSays.{label_says, universe_decides, value_says}
+
+-- ---- A value.
+
+value_judged : (ds : List Data) (d : Data)
+    → Judges (one_place (value_fault_at ds d tt)) (read_next_value (map as_str ds) d)
+unfolding read_next_value
+value_judged ds null = cause_judges (value_fault (map as_str ds) None) None
+value_judged ds (string s) = cause_judges (value_fault (map as_str ds) (Some s)) (Some s)
+value_judged ds (boolean b) = one_refused kinds.Shape
+value_judged ds (number n) = one_refused kinds.Shape
+value_judged ds (array items) = one_refused kinds.Shape
+value_judged ds (object ms) = one_refused kinds.Shape
+
+said_value : (d : Data) (value : Option (List ℕ)) → SaysValue d value → as_str d ≡ value
+said_value d None said = ap as_str said
+said_value d (Some t) said = ap as_str said
+
+abbrev values_sequence : Sequence Data OnlyPlace
+values_sequence = items_sequence only_path value_fault_at (λ _ _. false)
+
+-- the values of items are those that were read
+abbrev AreValues : List Data → Values → Type 0
+AreValues ds values = map as_str ds ≡ values
+
+values_judged : (ds : List Data) (values : Values) (d : Data) → AreValues ds values
+    → Judges (next_form values_sequence ds d) (read_next_value values d)
+values_judged ds values d are =
+    subst (λ (vs : Values). Judges (next_form values_sequence ds d) (read_next_value vs d)) are
+    (value_judged ds d)
+
+values_go_on : (ds : List Data) (values : Values) (d : Data) (value : Option (List ℕ))
+    → AreValues ds values → (read_next_value values d).result ≡ Ok value
+    → AreValues (ds ++ d ∷ []) (values ++ value ∷ [])
+values_go_on ds values d value are is =
+    let said : as_str d ≡ value = said_value d value (value_says values d value is).0 in
+    map_push as_str ds d ∙ (λ i. are i ++ said i ∷ [])
+
+abbrev values_form : Option Data → Form (ArrayPlace OnlyPlace)
+values_form = items_form only_path value_fault_at (λ _ _. false) count_fault
+
+values_judge : (found : Option Data)
+    → Judges (values_form found)
+    (accept_some (option_and_then items_of found) (refusal_here kinds.Shape) >>= read_values)
+unfolding read_values
+values_judge found =
+    required_array values_sequence (λ items. count_fault (length items))
+    (read_items read_next_value []) (option_and_then items_of found)
+    (items_judged read_next_value values_sequence (λ i. refl) AreValues refl (items_in_field found)
+    (λ ds d _ values _ are. values_judged ds values d are)
+    (λ ds d values value are is. values_go_on ds values d value are is))
+
+-- ---- A label.
+
+module _ (ds : List Data) (d : Data) where
+  abbrev label_form : Form LabelField
+  label_form = record {
+    path =
+        label_field_path;
+    fault_at = label_field_fault ds d;
+    has_pattern = λ _. false;
+  }
+
+  abbrev values_field : Option Data
+  values_field = field (codes "values") d
+
+  name_covers : (place : LabelField) → lead (rank_of (label_field_path place)) ≡ 2
+      → OnlyPlace × (place ≡ label_name)
+  name_covers label_name e = (tt, refl)
+  name_covers (label_values place) e = absurd (omega (arith, e))
+
+  values_cover : (place : LabelField) → lead (rank_of (label_field_path place)) ≡ 3
+      → (inner : ArrayPlace OnlyPlace) × (place ≡ label_values inner)
+  values_cover label_name e = absurd (omega (arith, e))
+  values_cover (label_values place) e = (place, refl)
+
+  name_part : IsPart label_form 1 (known_member 1 (codes "name"))
+      (one_place (shape_or (name_fault (map named_label ds)) (text_of (field (codes "name") d))))
+      (λ _. label_name)
+  name_part = record { rank = refl; seen = λ _. refl; covers = name_covers }
+
+  values_part : IsPart label_form 2 (known_member 2 (codes "values")) (values_form values_field)
+      label_values
+  values_part = record {
+    rank = refl;
+    seen = items_seen only_path value_fault_at (λ _ _. false) count_fault (codes "values") 2
+        values_field (λ _ _. refl);
+    covers = values_cover;
+  }
+
+  none_yet : Clear label_form 2
+  none_yet label_name lt = absurd (omega (arith, lt))
+  none_yet (label_values place) lt = absurd (omega (arith, lt))
+
+  label_clear : Clear label_form 4 → (place : LabelField) → label_field_fault ds d place ≡ None
+  label_clear clear label_name = clear label_name (omega arith)
+  label_clear clear (label_values place) = clear (label_values place) (omega arith)
+
+-- a label that was read
+abbrev made_label : List ℕ → Values → Label
+made_label name values = record { name = name; values = values }
+
+-- what is read of a label behind the check of its fields, with a rule for its name
+abbrev fields_of_label : (List ℕ → Option Kind) → Data → Reading Label
+fields_of_label rule d = do
+  name ← required_text (codes "name") d
+  _ ← reading_within (to_field (codes "name")) (refuse_for (rule name))
+  items ← required_items (codes "values") d
+  values ← reading_within (to_field (codes "values")) (read_values items)
+  accept (made_label name values)
+
+label_fields_judge : (ds : List Data) (d : Data)
+    → Judges (label_form ds d) (fields_of_label (name_fault (map named_label ds)) d)
+label_fields_judge ds d =
+    text_field_judges (label_form ds d) 1 (codes "name") d (name_fault (map named_label ds))
+    (λ _. label_name) (name_part ds d) (none_yet ds d)
+    (λ name. required_items (codes "values") d
+    >>= λ items. reading_within (to_field (codes "values")) (read_values items)
+    >>= λ values. accept (made_label name values))
+    (λ name _ next.
+    rw (items_within_then (codes "values") read_values d
+    (λ values. accept (made_label name values)))
+    (part_judges (label_form ds d) 2 (known_member 2 (codes "values"))
+    (values_form (field (codes "values") d)) label_values (values_part ds d) next
+    (accept_some (option_and_then items_of (field (codes "values") d))
+    (refusal_here kinds.Shape) >>= read_values)
+    (λ values. accept (made_label name values))
+    (values_judge (field (codes "values") d))
+    (λ values are last. judges_plain (label_form ds d) (Ok (made_label name values))
+    (label_clear ds d last))))
+
+in_label : (place : LabelField) → 1 < lead (rank_of (label_field_path place))
+in_label label_name = omega arith
+in_label (label_values place) = omega arith
+
+any-map : {X Y : Type 0} (p : Y → Bool) (f : X → Y) (xs : List X)
+    → list_any p (map f xs) ≡ list_any (λ x. p (f x)) xs
+any-map p f [] = refl
+any-map p f (x ∷ xs) = ap (λ (b : Bool). p (f x) || b) (any-map p f xs)
+
+-- a fault of a name goes by the names of the other labels
+same_fault_of : (u v : List Label) → names u ≡ names v → (name : List ℕ)
+    → name_fault u name ≡ name_fault v name
+same_fault_of u v e [] = refl
+same_fault_of u v e (c ∷ cs) = λ i.
+    if not (is_label_name (c ∷ cs)) then Some kinds.Shape
+    else if same (c ∷ cs) i then Some kinds.Duplicate
+    else None
+  where
+    same : (name : List ℕ)
+        → list_any (λ l. same_text l.name name) u ≡ list_any (λ l. same_text l.name name) v
+    same name = sym (any-map (λ other. same_text other name) (λ (l : Label). l.name) u)
+        ∙ (ap (list_any (λ other. same_text other name)) e
+        ∙ any-map (λ other. same_text other name) (λ (l : Label). l.name) v)
+
+same_name_fault : (u v : List Label) → names u ≡ names v → name_fault u ≡ name_fault v
+same_name_fault u v e = λ i name. same_fault_of u v e name i
+
+-- the names of items are those of the labels that were read
+abbrev AreNamed : List Data → List Label → Type 0
+AreNamed ds u = names (map named_label ds) ≡ names u
+
+abbrev labels_sequence : Sequence Data LabelPlace
+labels_sequence =
+    items_sequence label_path label_fault_at (λ _. open_pattern (λ _. false))
+
+labels_judged : (ds : List Data) (u : List Label) (d : Data) → AreNamed ds u
+    → Judges (next_form labels_sequence ds d) (read_next_label u d)
+unfolding read_next_label
+labels_judged ds u d are =
+    let judged = subst (λ (rule : List ℕ → Option Kind). Judges (label_form ds d)
+    (fields_of_label rule d)) (same_name_fault (map named_label ds) u are)
+    (label_fields_judge ds d) in
+    closed_judged label_fields (label_form ds d) in_label (fields_of_label (name_fault u) d) judged
+    d
+
+labels_go_on : (ds : List Data) (u : List Label) (d : Data) (label : Label) → AreNamed ds u
+    → (read_next_label u d).result ≡ Ok label → AreNamed (ds ++ d ∷ []) (u ++ label ∷ [])
+labels_go_on ds u d label are is =
+    let found : field (codes "name") d ≡ Some (string label.name) =
+    (label_says u d label is).0.name in
+    let said : (named_label d).name ≡ label.name =
+    ap (λ (o : Option Data). unwrap_or (text_of o) []) found in
+    ap names (map_push named_label ds d)
+    ∙ (map_push (λ (l : Label). l.name) (map named_label ds) (named_label d)
+    ∙ ((λ i. are i ++ said i ∷ []) ∙ sym (map_push (λ (l : Label). l.name) u label)))
+
+abbrev labels_form : Option Data → Form (ArrayPlace LabelPlace)
+labels_form =
+    items_form label_path label_fault_at (λ _. open_pattern (λ _. false)) (limit_fault MAX_LABELS)
+
+labels_judge : (found : Option Data)
+    → Judges (labels_form found)
+    (accept_some (option_and_then items_of found) (refusal_here kinds.Shape) >>= read_labels)
+unfolding read_labels
+labels_judge found =
+    required_array labels_sequence (λ items. limit_fault MAX_LABELS (length items))
+    (read_items read_next_label []) (option_and_then items_of found)
+    (items_judged read_next_label labels_sequence (λ i. refl) AreNamed refl (items_in_field found)
+    (λ ds d _ u _ are. labels_judged ds u d are)
+    (λ ds d u label are is. labels_go_on ds u d label are is))
+
+-- ---- The file.
+
+module _ (d : Data) where
+  abbrev file_form : Form UniverseField
+  file_form = record {
+    path =
+        universe_field_path;
+    fault_at = universe_field_fault d;
+    has_pattern = λ _. false;
+  }
+
+  abbrev labels_field : Option Data
+  labels_field = field (codes "labels") d
+
+  labels_cover : (place : UniverseField) → lead (rank_of (universe_field_path place)) ≡ 2
+      → (inner : ArrayPlace LabelPlace) × (place ≡ file_labels inner)
+  labels_cover (file_labels place) e = (place, refl)
+
+  labels_part : IsPart file_form 1 (known_member 1 (codes "labels")) (labels_form labels_field)
+      file_labels
+  labels_part = record {
+    rank = refl;
+    seen = items_seen label_path label_fault_at (λ _. open_pattern (λ _. false))
+        (limit_fault MAX_LABELS) (codes "labels") 1 labels_field (λ _ place. no_open_pattern place);
+    covers = labels_cover;
+  }
+
+  nothing_yet : Clear file_form 2
+  nothing_yet (file_labels place) lt = absurd (omega (arith, lt))
+
+  universe_clear : Clear file_form 3 → (place : UniverseField) → universe_field_fault d place ≡ None
+  universe_clear clear (file_labels place) = clear (file_labels place) (omega arith)
+
+  abbrev labels_reading : Reading (List Label)
+  labels_reading = accept_some (option_and_then items_of labels_field) (refusal_here
+      kinds.Shape) >>= read_labels
+
+  file_fields_judge : Judges file_form
+      (required_items (codes "labels") d
+      >>= λ items. reading_within (to_field (codes "labels")) (read_labels items))
+  file_fields_judge =
+      let judged = part_judges file_form 1 (known_member 1 (codes "labels"))
+      (labels_form labels_field) file_labels labels_part nothing_yet
+      labels_reading (λ u. accept u) (labels_judge labels_field)
+      (λ u is last. judges_plain file_form (Ok u) (universe_clear last)) in
+      rw (items_within (codes "labels") read_labels d)
+      (subst (Judges file_form)
+      (then_accept (reading_within (to_field (codes "labels")) labels_reading)) judged)
+
+in_file : (place : UniverseField) → 1 < lead (rank_of (universe_field_path place))
+in_file (file_labels place) = omega arith
+
+abbrev universe_form : Data → Form UniversePlace
+universe_form d = record {
+  path =
+      universe_path;
+  fault_at = universe_fault_at d;
+  has_pattern = open_pattern (λ _. false);
+}
+
+universe_judged : (d : Data) → Judges (universe_form d) (read_universe d)
+unfolding read_universe
+universe_judged d = closed_judged file_fields (file_form d) in_file (required_items (codes "labels")
+    d >>= λ items. reading_within (to_field (codes "labels")) (read_labels items))
+    (file_fields_judge d) d
+
+-- ---- Ranks tell places.
+
+abbrev label_place_at : (List ℕ → ArrayPlace OnlyPlace) → List ℕ → LabelField
+label_place_at place_at [] = label_name
+label_place_at place_at (zero ∷ rank) = label_name
+label_place_at place_at (suc zero ∷ rank) = label_name
+label_place_at place_at (suc (suc n) ∷ rank) = label_values (place_at rank)
+
+label_tells : RanksTell label_field_path
+label_tells = (label_place_at values.0, is) where
+  values : RanksTell (array_path only_path)
+  values = array_tells only_path only_tells
+
+  is : (place : LabelField) → label_place_at values.0 (rank_of (label_field_path place)) ≡ place
+  is label_name = refl
+  is (label_values place) = ap label_values (values.1 place)
+
+abbrev universe_place_at : (List ℕ → ArrayPlace LabelPlace) → List ℕ → UniverseField
+universe_place_at place_at [] = file_labels (place_at [])
+universe_place_at place_at (n ∷ rank) = file_labels (place_at rank)
+
+universe_tells : RanksTell universe_field_path
+universe_tells = (universe_place_at labels.0, is) where
+  labels : RanksTell (array_path label_path)
+  labels = array_tells label_path (object_tells label_field_path in_label label_tells)
+
+  is : (place : UniverseField)
+      → universe_place_at labels.0 (rank_of (universe_field_path place)) ≡ place
+  is (file_labels place) = ap file_labels (labels.1 place)
+
+-- ---- The laws.
+
+pub universe_first : (d : Data) (r : Refusal)
+    → ((read_universe d).result ≡ Err r) ↔ IsFirstFaultOfUniverse d r
+universe_first d r = let judged = universe_judged d in
+    first_decides (universe_form d) (object_tells universe_field_path in_file universe_tells)
+    (read_universe d).result judged.tells r
+
+-- no pattern is met in a universe file
+universe_meets_none : (d : Data) (r : Refusal) → IsPatternRefusal (read_universe d).patterns r → ⊥
+universe_meets_none d r h =
+    let judged = universe_judged d in
+    let met = judged.meets r h in
+    let no : true ≡ false = sym met.stands.0 ∙ no_open_pattern met.place in
+    cc
+
+pub universe_file_first : (bytes : List ℕ) (r : Refusal)
+    → ((read_universe_file bytes).result ≡ Err r) ↔ IsFirstFaultOfUniverseFile bytes r
+unfolding read_universe_file
+universe_file_first bytes r =
+    bytes_decide IsFirstFaultOfUniverse (λ _ _. ⊥) read_universe universe_first universe_meets_none
+    bytes r
+
+none_met : (found : Option Data) (r : Refusal) → IsMetPatternOfValue (λ _ _. ⊥) found r → ⊥
+none_met None r h = h
+none_met (Some d) r h = h
+
+-- so what is refused of a file is its first fault
+pub universe_file_refused : (bytes : List ℕ) (r : Refusal) → MayRefuse (read_universe_file bytes) r
+    → IsFirstFaultOfUniverseFile bytes r
+unfolding read_universe_file
+universe_file_refused bytes r refused =
+    elim (bytes_refused IsFirstFaultOfUniverse (λ _ _. ⊥) read_universe universe_first
+    universe_meets_none bytes r refused) [
+      | inl first ↦ first
+      | inr met ↦ absurd (none_met (json_of bytes) r met.1)
+    ]
+
+-- a value says a universe where no place is at fault, and only there
+pub universe_sound : (d : Data)
+    → ((u : List Label) × SaysUniverse d u)
+    ↔ ((place : UniversePlace) → universe_fault_at d place ≡ None)
+universe_sound d =
+    let judged = universe_judged d in (
+      λ said. read_none (universe_form d) (read_universe d).result said.0 judged.tells
+          ((universe_decides d).reads said.0 said.1),
+      λ none. let found = none_reads (universe_form d) (read_universe d).result judged.tells none in
+          (found.0, (universe_decides d).says found.0 found.1),
+    )

@@ -1,0 +1,9 @@
+pub mod Words
+pub mod UniverseFile
+pub mod UniverseFaults
+pub mod MatcherFaults
+pub mod Instant
+pub mod SilencesFile
+pub mod SilencesFaults
+pub mod SilencesReading
+pub mod SilencesExample

@@ -1,0 +1,98 @@
+//! What holds of the files' forms, for every JSON value and all bytes.
+
+ghost use Rattle.std.specs.Prelude.{◌≡◌, ◌⊎◌, ◌↔◌, ℕ, List, Bool, not, IsTrue, None, Ok, Err};
+ghost use Rattle.serde_json.specs.Data.{Data};
+ghost use Rattle.am_labels.specs.Words.{Label};
+ghost use Rattle.am_json.specs.Words.{Refusal, MayRefuse};
+ghost use Rattle.am_labels.specs.Matcher.{takes_pattern, negates};
+ghost use Rattle.am_labels.specs.MatcherRefusals.{has_valid_pattern};
+ghost use Rattle.am_records.specs.declared.limits.TheConstants.{MAX_SILENCES};
+ghost use Rattle.am_records.specs.Words.{SaysUniverse, FileSaysUniverse, read_universe};
+ghost use Rattle.am_records.specs.Words.{read_universe_file, fault_of_universe};
+ghost use Rattle.am_records.specs.Words.{fault_of_universe_file, UniversePlace, universe_fault_at};
+ghost use Rattle.am_records.specs.Words.{IsFirstFaultOfUniverse, IsFirstFaultOfUniverseFile};
+ghost use Rattle.am_records.specs.SilencesFile.{Silence};
+ghost use Rattle.am_records.specs.Words.{flagged_op, silences_example, example_silences};
+ghost use Rattle.am_records.specs.Words.{severity_condition};
+ghost use Rattle.am_records.specs.Words.{SaysSilences, FileSaysSilences, SilencesPlace};
+ghost use Rattle.am_records.specs.Words.{silences_fault_at, read_silences, read_silences_file};
+ghost use Rattle.am_records.specs.Words.{IsFirstFaultOfSilences, IsFirstFaultOfSilencesFile};
+ghost use Rattle.am_records.specs.Words.{IsMetPatternOfSilences, SilencesFileRefusedFor};
+
+/// A JSON value says a universe exactly where reading it gives that universe. So it says at most
+/// one, and it has no fault exactly where it says one. What reading refuses it for is the first
+/// fault by the places of the form, and it says a universe exactly where no place is at fault.
+pub fn universes_are_read()
+    ensures read { (d : Data) (u : List Label)
+        → SaysUniverse d u ↔ ((read_universe d).result ≡ Ok u) }
+    ensures one { (d : Data) (u v : List Label) → SaysUniverse d u → SaysUniverse d v → u ≡ v }
+    ensures faults { (d : Data)
+        → (fault_of_universe d ≡ None) ↔ ((u : List Label) × SaysUniverse d u) }
+    ensures first { (d : Data) (r : Refusal)
+        → ((read_universe d).result ≡ Err r) ↔ IsFirstFaultOfUniverse d r }
+    ensures sound { (d : Data) → ((u : List Label) × SaysUniverse d u)
+        ↔ ((place : UniversePlace) → universe_fault_at d place ≡ None) }
+{}
+
+/// The same of the bytes of a file.
+pub fn universe_files_are_read()
+    ensures read { (bytes : List ℕ) (u : List Label)
+        → FileSaysUniverse bytes u ↔ ((read_universe_file bytes).result ≡ Ok u) }
+    ensures one { (bytes : List ℕ) (u v : List Label) → FileSaysUniverse bytes u
+        → FileSaysUniverse bytes v → u ≡ v }
+    ensures faults { (bytes : List ℕ)
+        → (fault_of_universe_file bytes ≡ None) ↔ ((u : List Label) × FileSaysUniverse bytes u) }
+    ensures first { (bytes : List ℕ) (r : Refusal)
+        → ((read_universe_file bytes).result ≡ Err r) ↔ IsFirstFaultOfUniverseFile bytes r }
+{}
+
+/// A JSON value says silences exactly where reading it gives them, with each pattern built that
+/// the engine's grammar reads. So it says at most one list of silences, the empty one included, and
+/// has no first fault exactly where it says one. The first fault is the first by the places of the
+/// form, and a value says silences exactly where no place is at fault. Beside the first fault only
+/// the refusals of patterns that are met before it are open.
+pub fn silences_are_read()
+    ensures read { (d : Data) (silences : List Silence)
+        → SaysSilences d silences ↔ ((read_silences d).result ≡ Ok silences) }
+    ensures one { (d : Data) (silences others : List Silence) → SaysSilences d silences
+        → SaysSilences d others → silences ≡ others }
+    ensures first { (d : Data) (r : Refusal)
+        → ((read_silences d).result ≡ Err r) ↔ IsFirstFaultOfSilences d r }
+    ensures sound { (d : Data) → ((silences : List Silence) × SaysSilences d silences)
+        ↔ ((place : SilencesPlace) → silences_fault_at d place ≡ None) }
+    ensures refused { (d : Data) (r : Refusal) → MayRefuse (read_silences d) r
+        → IsFirstFaultOfSilences d r ⊎ IsMetPatternOfSilences d r }
+{}
+
+/// The same of the bytes of a file.
+pub fn silence_files_are_read()
+    ensures read { (bytes : List ℕ) (silences : List Silence)
+        → FileSaysSilences bytes silences ↔ ((read_silences_file bytes).result ≡ Ok silences) }
+    ensures one { (bytes : List ℕ) (silences others : List Silence)
+        → FileSaysSilences bytes silences → FileSaysSilences bytes others → silences ≡ others }
+    ensures first { (bytes : List ℕ) (r : Refusal)
+        → ((read_silences_file bytes).result ≡ Err r) ↔ IsFirstFaultOfSilencesFile bytes r }
+    ensures refused { (bytes : List ℕ) (r : Refusal) → MayRefuse (read_silences_file bytes) r
+        → SilencesFileRefusedFor bytes r }
+{}
+
+/// The two truth values of a matcher of a silence are told by its operator: whether its value is a
+/// pattern, and whether the label must not match it.
+pub fn flags_are_told_by_the_operator()
+    ensures pattern { (is_regex is_equal : Bool)
+        → takes_pattern (flagged_op is_regex is_equal) ≡ is_regex }
+    ensures contrary { (is_regex is_equal : Bool)
+        → negates (flagged_op is_regex is_equal) ≡ not is_equal }
+{}
+
+/// An example: a silence with two matchers, the first without `isEqual`, and the second with
+/// `isRegex` true, `isEqual` false and any valid pattern. Its end is written with an offset.
+pub fn an_example_of_silences()
+    ensures says { (pattern : List ℕ) → IsTrue (has_valid_pattern (severity_condition pattern))
+        → SaysSilences (silences_example pattern) (example_silences pattern) }
+{}
+
+/// How many records a file may have.
+pub fn records_have_limits()
+    ensures silences { MAX_SILENCES ≡ 4096 }
+{}

@@ -1,0 +1,35 @@
+//! The files that are lists of records, read from their bytes, and what their parts say.
+//!
+//! [`read_universe`] reads a universe file, and [`read_silences`] an export of silences. Each
+//! answers what the file says, or its first fault: why the file is refused and, by a JSON Pointer
+//! (RFC 6901), at which part. docs/FORMATS.md has the form of each file, and the order of its
+//! faults. [`parse_instant`] reads an instant.
+//!
+//! The name and the pattern of a matcher are refused for the same in any file, so readers of
+//! other files ask [`label_name_fault`] and [`new_matcher`] too.
+#![tactic(auto)]
+
+// How much there may be.
+pub mod limits;
+
+// The universe file.
+mod universe_file;
+
+pub use universe_file::read_universe;
+
+// A matcher, as every file has it.
+mod matcher;
+
+pub use matcher::{label_name_fault, new_matcher};
+
+// Instants, silences, and the export of silences.
+mod instant;
+mod silence;
+mod silences_file;
+
+pub use instant::parse_instant;
+pub use silence::{Silence, Silences};
+pub use silences_file::read_silences;
+
+// What holds of the definitions by themselves.
+pub mod laws;

@@ -1,0 +1,37 @@
+//! The name and the pattern of a matcher, in any file.
+
+ghost use Rattle.std.specs.Prelude.{◌≡◌, ◌≢◌, []};
+ghost use Rattle.am_json.specs.Words.{Gives};
+ghost use Rattle.am_records.specs.Words.{label_name_fault, check_matcher};
+
+use am_json::ReadError;
+use am_labels::{Kind, Matcher, Op};
+use std::alloc::Global;
+
+/// What is wrong with the name of a matcher's label: it is empty. It is for readers of files, which
+/// refuse a name at its place before they come to the parts behind it.
+pub fn label_name_fault(name: &str) -> Option<Kind>
+    ensures fault { result ≡ label_name_fault name.now }
+{
+    if name.is_empty() {
+        Some(Kind::Empty)
+    } else {
+        None
+    }
+}
+
+/// The matcher of these parts, whose name is not empty. It is for readers of files: the pattern is
+/// refused at the value that is looked at, for what [`Matcher::new`] refuses it for.
+#[tactic(auto, using(am_json::proofs::Readings::steps))]
+pub fn new_matcher(alloc: Global, name: &str, op: Op, value: &str) -> Result<Matcher, ReadError>
+    requires named { name.now ≢ [] }
+    ensures reading { Gives (λ m. m) result
+        (check_matcher (record { name = name.now; op = op; value = value.now })) }
+{
+    let name = String::from_str(alloc, name)?;
+    let value = String::from_str(alloc, value)?;
+    match Matcher::new(alloc, name, op, value) {
+        Ok(matcher) => Ok(matcher),
+        Err(kind) => Err(ReadError::refused(alloc, kind)),
+    }
+}

@@ -1,0 +1,210 @@
+//! Reading the universe file.
+
+ghost use Rattle.std.specs.Prelude.{◌≡◌, ◌≢◌, ◌≤◌, [], ◌∷◌, ◌++◌, length, map, None, Ok, Err, IfOk};
+ghost use Rattle.std.specs.Prelude.{IfErr, OnOk, string_bytes, option_map};
+ghost use Rattle.serde_json.specs.View.{view};
+ghost use Rattle.am_universe.specs.declared.kind.Kind.TheVariants as kinds;
+ghost use Rattle.am_universe.specs.declared.place.Place.TheVariants as places;
+ghost use Rattle.am_json.specs.declared.read_error.ReadError.TheVariants as errors;
+ghost use Rattle.am_labels.specs.Words.{label_fault, label_of, texts_of};
+ghost use Rattle.am_json.specs.Words.{to_item, Gives, refusal_of, reading_within, read_items};
+ghost use Rattle.am_records.specs.Words.{FileSaysUniverse, read_value, read_next_value};
+ghost use Rattle.am_records.specs.Words.{read_values, read_next_label, read_labels, read_universe};
+ghost use Rattle.am_records.specs.Words.{read_universe_file, IsFirstFaultOfUniverseFile};
+
+use am_json::{
+    ReadError, as_text, check_count, check_only_fields, read_json, refuse_for, required_items,
+    required_text, within_field, within_item,
+};
+use am_labels::{Fault, Kind, Place, Universe};
+use am_universe::limits::MAX_LABELS;
+use serde_json::Value;
+use std::alloc::{AllocError, Global};
+
+/// The universe that the bytes of a universe file say, with its labels and values in their order.
+///
+/// The first fault is the one answered, at the place `Universe` and at the pointer of the part at
+/// fault. A field that is `null` counts as absent.
+/// - `Limit`: more than `MAX_FILE_BYTES` bytes, [`MAX_LABELS`] labels or `MAX_VALUES` values of a
+///   label;
+/// - `NotJson`: the bytes have no JSON value;
+/// - `Shape`: a value is not of its kind, a required field is absent, or a name is no label name;
+/// - `UnknownField`: there is a field that the form does not have;
+/// - `Empty`: a name or a value is the empty text, or a label has no value;
+/// - `Duplicate`: a name is that of an earlier label, or a value an earlier one of its label.
+///
+/// `Memory`, at the place `Memory` and the empty pointer, comes wherever memory ran out.
+///
+/// The JSON value of the whole file is in memory until the universe is answered.
+pub fn read_universe(alloc: Global, bytes: &[u8]) -> Result<Universe, Fault>
+    ensures says { IfOk result (λ u. FileSaysUniverse bytes.now u) }
+    ensures first { IfErr result (λ fault. fault.kind ≢ kinds.Memory
+        → (fault.place ≡ places.Universe)
+        × IsFirstFaultOfUniverseFile bytes.now (refusal_of fault)) }
+    ensures memory { IfErr result (λ fault. fault.kind ≡ kinds.Memory
+        → (fault.place ≡ places.Memory) × (string_bytes fault.pointer ≡ [])) }
+    ensures no_write { IfErr result (λ fault. fault.kind ≢ kinds.Write) }
+{
+    match read_universe_file(alloc, bytes) {
+        Ok(universe) => Ok(universe),
+        Err(error) => Err(error.at(alloc, Place::Universe)),
+    }
+}
+
+#[tactic(auto, using(am_json::proofs::Readings::steps), unfolding(crate::specs::UniverseFile::read_universe_file))]
+fn read_universe_file(alloc: Global, bytes: &[u8]) -> Result<Universe, ReadError>
+    ensures { Gives (λ u. u) result (read_universe_file bytes.now) }
+{
+    let value = read_json(alloc, bytes)?;
+    read_universe_object(alloc, &value)
+}
+
+#[tactic(auto, using(am_json::proofs::Readings::steps), unfolding(crate::specs::UniverseFile::read_universe))]
+fn read_universe_object(alloc: Global, value: &Value) -> Result<Universe, ReadError>
+    ensures { Gives (λ u. u) result (read_universe (view value.now)) }
+{
+    check_only_fields(alloc, value, &["labels"])?;
+    let items = required_items(alloc, value, "labels")?;
+    within_field(alloc, "labels", read_labels(alloc, items))
+}
+
+#[tactic(auto, unfolding(crate::specs::UniverseFile::read_labels))]
+fn read_labels(alloc: Global, items: &[Value]) -> Result<Universe, ReadError>
+    ensures { Gives (λ u. u) result (read_labels (map view items.now)) }
+{
+    check_count(alloc, MAX_LABELS, items.len())?;
+    read_each_label(alloc, items)
+}
+
+fn read_each_label(alloc: Global, items: &[Value]) -> Result<Universe, ReadError>
+    requires { length items.now ≤ MAX_LABELS }
+    ensures { Gives (λ u. u) result (read_items read_next_label [] (map view items.now)) }
+{
+    let mut universe = Universe::empty(alloc);
+    for item in items {
+        let label = read_label_item(alloc, &universe, item)?;
+        add(&mut universe, label)?;
+    }
+    Ok(universe)
+}
+
+/// Adds a label that has no fault. It fails only where memory ran out.
+fn add(universe: &mut Universe, label: (String, Vec<Option<String>>)) -> Result<(), ReadError>
+    requires { label_fault universe.old (label_of label.0 label.1) ≡ None }
+    ensures ok { OnOk result (universe.new ≡ universe.old ++ label_of label.0 label.1 ∷ []) }
+    ensures memory { IfErr result (λ e. e ≡ errors.Memory) }
+{
+    let (name, values) = label;
+    match universe.add(name, values) {
+        Ok(()) => Ok(()),
+        Err(fault) => {
+            prove!(fault.kind == Kind::Memory);
+            Err(ReadError::Memory)
+        }
+    }
+}
+
+/// The item whose position is the number of labels so far.
+#[tactic(auto, using(am_json::proofs::Readings::steps))]
+fn read_label_item(
+    alloc: Global,
+    universe: &Universe,
+    item: &Value,
+) -> Result<(String, Vec<Option<String>>), ReadError>
+    ensures { Gives (λ label. label_of label.0 label.1) result
+        (reading_within (to_item (length universe.now))
+        (read_next_label universe.now (view item.now))) }
+{
+    within_item(
+        alloc,
+        universe.len(),
+        read_next_label(alloc, universe, item),
+    )
+}
+
+/// A label behind those of the universe: its name and its values.
+#[tactic(auto, using(am_json::proofs::Readings::steps), unfolding(crate::specs::UniverseFile::read_next_label))]
+fn read_next_label(
+    alloc: Global,
+    universe: &Universe,
+    value: &Value,
+) -> Result<(String, Vec<Option<String>>), ReadError>
+    ensures { Gives (λ label. label_of label.0 label.1) result
+        (read_next_label universe.now (view value.now)) }
+{
+    check_only_fields(alloc, value, &["name", "values"])?;
+    let name = required_text(alloc, value, "name")?;
+    within_field(alloc, "name", refuse_for(alloc, universe.name_fault(name)))?;
+    let items = required_items(alloc, value, "values")?;
+    let values = within_field(alloc, "values", read_values(alloc, items))?;
+    Ok((String::from_str(alloc, name)?, values))
+}
+
+#[tactic(auto, unfolding(crate::specs::UniverseFile::read_values))]
+fn read_values(alloc: Global, items: &[Value]) -> Result<Vec<Option<String>>, ReadError>
+    ensures { Gives (λ values. texts_of values.items) result (read_values (map view items.now)) }
+{
+    refuse_for(alloc, Universe::count_fault(items.len()))?;
+    read_each_value(alloc, items)
+}
+
+fn read_each_value(alloc: Global, items: &[Value]) -> Result<Vec<Option<String>>, ReadError>
+    ensures { Gives (λ values. texts_of values.items) result
+        (read_items read_next_value [] (map view items.now)) }
+{
+    let mut values = Vec::new(alloc);
+    for item in items {
+        let value = read_value_item(alloc, values.as_slice(), item)?;
+        values.push(value)?;
+    }
+    Ok(values)
+}
+
+/// The item whose position is the number of values so far.
+fn read_value_item(
+    alloc: Global,
+    before: &[Option<String>],
+    item: &Value,
+) -> Result<Option<String>, ReadError>
+    ensures { Gives (option_map string_bytes) result
+        (reading_within (to_item (length (texts_of before.now)))
+        (read_next_value (texts_of before.now) (view item.now))) }
+{
+    within_item(alloc, before.len(), read_next_value(alloc, before, item))
+}
+
+/// A value behind those before it.
+#[tactic(auto, unfolding(crate::specs::UniverseFile::read_next_value))]
+fn read_next_value(
+    alloc: Global,
+    before: &[Option<String>],
+    value: &Value,
+) -> Result<Option<String>, ReadError>
+    ensures { Gives (option_map string_bytes) result
+        (read_next_value (texts_of before.now) (view value.now)) }
+{
+    let value = read_value(alloc, value)?;
+    refuse_for(alloc, Universe::value_fault(before, value))?;
+    Ok(owned(alloc, value)?)
+}
+
+/// A text, or `None` for `null`.
+fn read_value(alloc: Global, value: &Value) -> Result<Option<&str>, ReadError>
+    ensures { Gives (option_map (λ text. text.now)) result (read_value (view value.now)) }
+{
+    if value.is_null() {
+        return Ok(None);
+    }
+    let text = as_text(alloc, value)?;
+    Ok(Some(text))
+}
+
+fn owned(alloc: Global, value: Option<&str>) -> Result<Option<String>, AllocError>
+    ensures { IfOk result (λ o.
+        option_map string_bytes o ≡ option_map (λ text. text.now) value.entry) }
+{
+    match value {
+        Some(text) => Ok(Some(String::from_str(alloc, text)?)),
+        None => Ok(None),
+    }
+}
