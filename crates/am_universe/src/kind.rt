@@ -28,7 +28,7 @@ pub enum Kind {
     UndefinedReceiver,
     /// The top-level route has matchers.
     RootMatchers,
-    /// A text that is no instant. Nothing answers this one, `BadToken` and `NeedAt` today.
+    /// A text that is no instant.
     BadTime,
     /// A limit is passed.
     Limit,
