@@ -1,7 +1,7 @@
--- Fields as parts. Two have to be there: a text with a rule, and an array with a rule for the number
--- of its items. A truth value may be absent.
+-- Fields as parts. Two have to be there: a text with a rule, and an array with a rule for the
+-- number of its items. A truth value may be absent.
 use Rattle.std.proofs.Common.{Bool, List, None, Ok, Option, Some, [], ap, false, length}
-use Rattle.std.proofs.Common.{option_and_then, refl, slice_get, suc, sym, ℕ, ◌∷◌, ◌≡◌}
+use Rattle.std.proofs.Common.{option_and_then, refl, suc, ℕ, ◌∷◌, ◌≡◌}
 use Rattle.serde_json.specs.Data.{Data}
 use Rattle.serde_json.specs.Find.{as_bool}
 use Rattle.am_universe.specs.declared.kind.Kind.{Kind}
@@ -18,7 +18,7 @@ use Rattle.am_json.proofs.PlaceLemmas.{Clear, Form, IsPart, Judges, cause_judges
 use Rattle.am_json.proofs.PlaceLemmas.{one_accepted, one_refused, part_judges, said, shape_judged}
 use Rattle.am_json.proofs.Readings.{same_read}
 use Rattle.am_json.proofs.SameReadings.{ruled_text, text_within}
-use Rattle.am_json.proofs.SequenceLemmas.{Sequence, array_form, pattern_of_next}
+use Rattle.am_json.proofs.SequenceLemmas.{Sequence, array_form, no_item_pattern}
 
 -- ---- A text that has to be there.
 
@@ -109,18 +109,11 @@ module _ {Q : Type 0} (path : Q → List Step) (fault_in : List Data → Data �
 
     -- where none does
     module _ (none : (d : Data) (place : Q) → pattern_in d place ≡ false) where
-      none_in : (item : Option Data) (place : Q)
-          → false ≡ pattern_of_next items_sequence item place
-      none_in None place = refl
-      none_in (Some d) place = sym (none d place)
-
-      no_pattern : (place : ArrayPlace Q) → false ≡ field_form.has_pattern place
-      no_pattern array_itself = refl
-      no_pattern (in_item i place) = none_in (slice_get (items_in_field found) i) place
-
       pub items_seen : (place : ArrayPlace Q)
           → said (known_member number key ∷ array_path path place)
           (required_array_fault count_fault fault_in found place) false
           ≡ said (known_member number key ∷ field_form.path place) (field_form.fault_at place)
           (field_form.has_pattern place)
-      items_seen = pattern_items_seen (λ _. false) no_pattern
+      items_seen =
+          pattern_items_seen (λ _. false)
+          (no_item_pattern items_sequence none (items_in_field found))

@@ -60,6 +60,16 @@ as_object_says d ms h =
 pub as_object_reads : (d : Data) (ms : Members) → d ≡ object ms → (as_object d).result ≡ Ok ms
 as_object_reads d ms is = rw is refl
 
+-- an object, by a field that it has
+pub object_of : (key : List ℕ) (d : Data) (v : Data) → field key d ≡ Some v
+    → (ms : Members) × ((as_object d).result ≡ Ok ms)
+object_of key null v h = absurd cc
+object_of key (boolean b) v h = absurd cc
+object_of key (number n) v h = absurd cc
+object_of key (string s) v h = absurd cc
+object_of key (array ds) v h = absurd cc
+object_of key (object ms) v h = (ms, refl)
+
 -- ---- An object that has no fields but these.
 
 known_says : (null known : Bool) → (not null && not known) ≡ false → (null ≡ true) ⊎ (known ≡ true)
@@ -118,7 +128,7 @@ only_fields_read known d only = rw (only.1, only_none known only.0 only.2) refl
 -- ---- A field that has to be there.
 
 -- what is read of it is read of the value that is there
-field_says : {A : Type 0} (key : List ℕ) (d : Data) (read : Data → Reading A) (x : A)
+pub field_says : {A : Type 0} (key : List ℕ) (d : Data) (read : Data → Reading A) (x : A)
     → (required_field key d >>= λ v. reading_within (to_field key) (read v)).result ≡ Ok x
     → (v : Data) × (field key d ≡ Some v) × ((read v).result ≡ Ok x)
 field_says key d read x h =

@@ -77,3 +77,19 @@ module _ {A : Type 0} (IsFirst IsMet : Data → Refusal → Type 0) (read : Data
       → IsFirstFaultOfFile IsFirst bytes r ⊎ IsMetPatternOfFile IsMet bytes r
   bytes_refused bytes r (inl e) = inl ((bytes_decide bytes r).0 e)
   bytes_refused bytes r (inr h) = inr (bytes_meet bytes r h)
+
+-- where no value has patterns, what is refused of a file is its first fault
+module _ {A : Type 0} (IsFirst : Data → Refusal → Type 0) (read : Data → Reading A)
+    (decides : (d : Data) (r : Refusal) → ((read d).result ≡ Err r) ↔ IsFirst d r)
+    (none : (d : Data) (r : Refusal) → IsPatternRefusal (read d).patterns r → ⊥) where
+  none_met : (found : Option Data) (r : Refusal) → IsMetPatternOfValue (λ _ _. ⊥) found r → ⊥
+  none_met None r h = h
+  none_met (Some d) r h = h
+
+  pub first_refused : (bytes : List ℕ) (r : Refusal) → MayRefuse (read_json bytes >>= read) r
+      → IsFirstFaultOfFile IsFirst bytes r
+  first_refused bytes r refused =
+      elim (bytes_refused IsFirst (λ _ _. ⊥) read decides none bytes r refused) [
+        | inl first ↦ first
+        | inr met ↦ absurd (none_met (json_of bytes) r met.1)
+      ]

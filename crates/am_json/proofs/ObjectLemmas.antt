@@ -2,7 +2,7 @@
 -- their form: there the least other field is the first. What a place is, by its rank.
 use Rattle.std.proofs.Common.{Bool, Equal, Greater, Less, List, None, Option, Ordering, Some, []}
 use Rattle.std.proofs.Common.{ap, append-nil, arith, cond, false, inl, inr, refl, suc, sym, true}
-use Rattle.std.proofs.Common.{zero, ℕ, ◌&&◌, ◌++◌, ◌<◌, ◌||◌, ◌∙◌, ◌∷◌, ◌≡◌, ◌⊎◌}
+use Rattle.std.proofs.Common.{slice_get, zero, ℕ, ◌&&◌, ◌++◌, ◌<◌, ◌||◌, ◌∙◌, ◌∷◌, ◌≡◌, ◌⊎◌}
 use Rattle.std.proofs.lemmas.Bool.{and_right, false_from_ne_true, or_from, or_right}
 use Rattle.std.proofs.lemmas.Cmp.{alike_right, nat_list_cmp_total, tied_itself}
 use Rattle.std.proofs.lemmas.Option.{same_Some}
@@ -16,7 +16,8 @@ use Rattle.am_universe.specs.Text.{same_text}
 use Rattle.am_universe.specs.declared.kind.Kind.TheVariants as kinds
 use Rattle.am_json.specs.Json.{is_unknown, lesser_key, unknown_field}
 use Rattle.am_json.specs.Places.{ArrayPlace, IsBefore, ObjectPlace, Step, array_itself, array_path}
-use Rattle.am_json.specs.Places.{has_unknown, in_field, in_item, object_fault, object_itself}
+use Rattle.am_json.specs.Places.{has_unknown, in_field, in_item, items_path, object_fault}
+use Rattle.am_json.specs.Places.{object_itself}
 use Rattle.am_json.specs.Places.{object_path, only_path, open_object_fault, other_field, rank_of}
 use Rattle.am_json.specs.Pointer.{refusal_here}
 use Rattle.am_json.specs.Reading.{Reading, accept_some, check_only_fields, refuse_unknown_field}
@@ -238,3 +239,21 @@ array_tells {Q} path tell = (array_place_at tell.0, is) where
   is : (place : ArrayPlace Q) → array_place_at tell.0 (rank_of (array_path path place)) ≡ place
   is array_itself = refl
   is (in_item i place) = ap (in_item i) (tell.1 place)
+
+-- where the steps in an item depend on its value
+abbrev valued_place_at : {Q : Type 0} → (Option Data → List ℕ → Q) → List Data → List ℕ
+    → ArrayPlace Q
+valued_place_at place_at items [] = array_itself
+valued_place_at place_at items (i ∷ rank) = in_item i (place_at (slice_get items i) rank)
+
+pub items_tell : {Q : Type 0} (path : Option Data → Q → List Step)
+    → ((found : Option Data) → RanksTell (path found)) → (items : List Data)
+    → RanksTell (items_path path items)
+items_tell {Q} path tell items = (valued_place_at place_at items, is) where
+  place_at : Option Data → List ℕ → Q
+  place_at found = (tell found).0
+
+  is : (place : ArrayPlace Q)
+      → valued_place_at place_at items (rank_of (items_path path items place)) ≡ place
+  is array_itself = refl
+  is (in_item i place) = ap (in_item i) ((tell (slice_get items i)).1 place)

@@ -19,6 +19,7 @@ use Rattle.am_json.specs.Reading.{patterns_then, reading_within, refuse, refuse_
 use Rattle.am_json.specs.Reading.{◌>>=◌}
 use Rattle.am_json.proofs.PlaceOrder.{lead, lead_le, neither_before, none_before_itself}
 use Rattle.am_json.proofs.PlaceOrder.{rest_decides}
+use Rattle.am_json.proofs.Readings.{Decides}
 use Rattle.am_json.proofs.SameReadings.{no_more}
 
 pub record Form (P : Type 0) : Type 0 where
@@ -92,6 +93,16 @@ pub read_none : {P A : Type 0} (form : Form P) (result : Result A Refusal) (x : 
     → Tells form result → result ≡ Ok x → (place : P) → form.fault_at place ≡ None
 read_none form (Ok y) x tells e = tells
 read_none form (Err r) x tells e = absurd cc
+
+-- something is said where no place is at fault, and only there
+pub none_decides : {P A : Type 0} {Says : A → Type 0} (form : Form P) (result : Result A Refusal)
+    → Tells form result → Decides Says result
+    → ((x : A) × Says x) ↔ ((place : P) → form.fault_at place ≡ None)
+none_decides form result tells decides = (
+  λ said. read_none form result said.0 tells (decides.reads said.0 said.1),
+  λ none. let found = none_reads form result tells none in
+      (found.0, decides.says found.0 found.1),
+)
 
 -- what is refused is the first fault, or a pattern that is met
 pub refused_reached : {P A : Type 0} (form : Form P) (m : Reading A) → Judges form m

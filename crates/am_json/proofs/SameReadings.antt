@@ -14,8 +14,8 @@ use Rattle.am_json.specs.Json.{field, items_of}
 use Rattle.am_json.specs.Places.{text_of}
 use Rattle.am_json.specs.Pointer.{Refusal, refusal_here, refusal_within, to_field, to_item}
 use Rattle.am_json.specs.Reading.{Reading, accept, accept_some, as_text, patterns_then}
-use Rattle.am_json.specs.Reading.{read_next_item, reading_within, refuse_for, required_items}
-use Rattle.am_json.specs.Reading.{required_text, result_then, ◌>>=◌}
+use Rattle.am_json.specs.Reading.{read_next_item, reading_within, refuse_for, required_field}
+use Rattle.am_json.specs.Reading.{required_items, required_text, result_then, ◌>>=◌}
 
 -- ---- One step behind the other.
 
@@ -152,6 +152,23 @@ module _ {X A : Type 0} (key : List ℕ) (kind_of : Data → Option X) (read : X
       (accept_some (option_and_then kind_of found) (refusal_here kinds.Shape) >>= read)
   by_kind None = refl
   by_kind (Some v) = by_value (kind_of v)
+
+  -- the same, where the kind and the reading stand together
+  one_value : (found : Option Data)
+      → (accept_some found (refusal_within (to_field key) (refusal_here kinds.Shape))
+      >>= λ v. reading_within (to_field key)
+      (accept_some (kind_of v) (refusal_here kinds.Shape) >>= read))
+      ≡ reading_within (to_field key)
+      (accept_some (option_and_then kind_of found) (refusal_here kinds.Shape) >>= read)
+  one_value None = refl
+  one_value (Some v) = refl
+
+  pub value_read_within : (d : Data)
+      → (required_field key d >>= λ v. reading_within (to_field key)
+      (accept_some (kind_of v) (refusal_here kinds.Shape) >>= read))
+      ≡ reading_within (to_field key)
+      (accept_some (option_and_then kind_of (field key d)) (refusal_here kinds.Shape) >>= read)
+  value_read_within d = one_value (field key d)
 
 -- a text
 pub text_read_within : {A : Type 0} (key : List ℕ) (read : List ℕ → Reading A) (d : Data)

@@ -7,17 +7,22 @@ use Rattle.std.proofs.Common.{take_at, unwrap_or, ℕ, ◌++◌, ◌+◌, ◌∙
 use Rattle.std.proofs.lemmas.Bool.{cases_lt}
 use Rattle.std.proofs.lemmas.Option.{slice_get_past}
 use Rattle.std.specs.List.{enumerate_from}
+use Rattle.std.specs.Prelude.{if◌then◌else◌, ⊤}
 use Rattle.std.specs.Result.{result_map_both}
-use Rattle.serde_json.specs.Data.{Data}
+use Rattle.serde_json.specs.Data.{Data, array, boolean, null, number, object, string}
 use Rattle.am_universe.specs.declared.kind.Kind.{Kind}
 use Rattle.am_universe.specs.declared.kind.Kind.TheVariants as kinds
+use Rattle.am_json.specs.Json.{is_null, items_of}
 use Rattle.am_json.specs.Places.{ArrayPlace, Step, array_fault, array_item, array_itself, if_there}
-use Rattle.am_json.specs.Places.{in_item, rank_of, shape_or, step_pointer, step_rank}
+use Rattle.am_json.specs.Places.{in_item, items_or_null_fault, items_path, limit_fault}
+use Rattle.am_json.specs.Places.{name_of_pair, pair_name, rank_of, shape_or, step_pointer}
+use Rattle.am_json.specs.Places.{step_rank}
 use Rattle.am_json.specs.Pointer.{Refusal, refusal_here, refusal_within, to_item}
-use Rattle.am_json.specs.Reading.{Reading, accept, accept_some, read_each, read_items}
+use Rattle.am_json.specs.Reading.{Reading, accept, accept_some, as_items, check_count, read_each}
+use Rattle.am_json.specs.Reading.{read_items}
 use Rattle.am_json.specs.Reading.{read_next_item, reading_within, refuse_for, ◌>>=◌}
 use Rattle.am_json.proofs.PlaceLemmas.{Clear, Form, IsPart, Judges, accept_judges, itself_refused}
-use Rattle.am_json.proofs.PlaceLemmas.{judges_plain, part_judges, within_judged}
+use Rattle.am_json.proofs.PlaceLemmas.{judges_plain, part_judges, said, said_of, within_judged}
 use Rattle.am_json.proofs.PlaceOrder.{lead}
 use Rattle.am_json.proofs.Readings.{bind_ok, same_read, within_ok}
 use Rattle.am_json.proofs.SameReadings.{item_within}
@@ -26,6 +31,14 @@ pub slice_get_at : {X : Type 0} (front : List X) (x : X) (back : List X)
     → slice_get (front ++ x ∷ back) (length front) ≡ Some x
 slice_get_at [] x back = refl
 slice_get_at (y ∷ front) x back = slice_get_at front x back
+
+-- the name of a pair that stands there
+pub pair_name_at : (pairs front : List (List ℕ × Data)) (pair : List ℕ × Data)
+    (back : List (List ℕ × Data)) → pairs ≡ front ++ pair ∷ back
+    → pair_name pairs (length front) ≡ pair.0
+pair_name_at pairs front pair back e =
+    ap (λ (ps : List (List ℕ × Data)). pair_name ps (length front)) e
+    ∙ ap name_of_pair (slice_get_at front pair back)
 
 ok_within : {A : Type 0} (part : List ℕ) (result : Result A Refusal) (x : A) → result ≡ Ok x
     → result_map_both (λ y. y) (refusal_within part) result ≡ Ok x
@@ -81,6 +94,17 @@ module _ {Q : Type 0} (s : Sequence Data Q) where
     has_pattern = array_form_pattern items;
   }
 
+  -- where no pattern stands in them
+  module _ (none : (d : Data) (place : Q) → s.pattern_in d place ≡ false) where
+    none_in : (item : Option Data) (place : Q) → false ≡ pattern_of_next s item place
+    none_in None place = refl
+    none_in (Some d) place = sym (none d place)
+
+    pub no_item_pattern : (items : List Data) (place : ArrayPlace Q)
+        → false ≡ array_form_pattern items place
+    no_item_pattern items array_itself = refl
+    no_item_pattern items (in_item i place) = none_in (slice_get items i) place
+
   in_items : (items : List Data) (place : ArrayPlace Q)
       → ((found : ℕ × Q) × (place ≡ in_item found.0 found.1))
       ⊎ ((array_form None items).fault_at place ≡ None)
@@ -113,6 +137,38 @@ module _ {Q : Type 0} (s : Sequence Data Q) where
       itself_refused (array_form (Some kinds.Shape) []) array_itself kinds.Shape refl refl
   required_array rule read (Some items) all =
       ruled_array (rule items) items (read items) (array_judged items (read items) all)
+
+  -- one of at most so many, or `null`, which says that there are no items
+  module _ {A : Type 0} (limit : ℕ) (read : List Data → Reading (List A)) where
+    no_item : (place : ArrayPlace Q) → (array_form None []).fault_at place ≡ None
+    no_item array_itself = refl
+    no_item (in_item i place) = refl
+
+    abbrev or_null_form : Data → Form (ArrayPlace Q)
+    or_null_form d = array_form (items_or_null_fault limit d) (unwrap_or (items_of d) [])
+
+    abbrev or_null : Data → Reading (List A)
+    or_null d =
+        if (is_null d) then accept []
+        else (as_items d >>= λ items. check_count limit (length items) >>= λ _. read items)
+
+    abbrev AreJudged : Data → Type 0
+    AreJudged d =
+        Judges (sequence_form s (unwrap_or (items_of d) [])) (read (unwrap_or (items_of d) []))
+
+    limited : (d : Data) → AreJudged d
+        → Judges (array_form (shape_or (λ items. limit_fault limit (length items)) (items_of d))
+        (unwrap_or (items_of d) []))
+        (as_items d >>= λ items. check_count limit (length items) >>= λ _. read items)
+    limited d all = required_array (λ items. limit_fault limit (length items)) read (items_of d) all
+
+    pub or_null_judged : (d : Data) → AreJudged d → Judges (or_null_form d) (or_null d)
+    or_null_judged null all = judges_plain (or_null_form null) (Ok []) no_item
+    or_null_judged (boolean b) all = limited (boolean b) all
+    or_null_judged (number n) all = limited (number n) all
+    or_null_judged (string t) all = limited (string t) all
+    or_null_judged (array ds) all = limited (array ds) all
+    or_null_judged (object ms) all = limited (object ms) all
 
 -- what is read of it is read of its items
 pub required_array_gives : {A : Type 0} (rule : List Data → Option Kind)
@@ -318,3 +374,48 @@ module _ {A Q : Type 0} (read : List A → Data → Reading A) (s : Sequence Dat
       let all = all_read (each_loop (read_next_item read)) s items AreAll next_item item_read [] xs
       (none_read, refl) ok in
       all.0
+
+-- ---- The items of an array, where the steps in one depend on its value.
+
+module _ {Q : Type 0} (path : Option Data → Q → List Step)
+    (fault_in : List Data → Data → Q → Option Kind) (pattern_in : Data → Q → Bool)
+    (items : List Data) where
+  abbrev pub valued_sequence : Sequence Data Q
+  valued_sequence = record {
+    step = λ i. array_item i i;
+    rank = λ i. refl;
+    path = λ i. path (slice_get items i);
+    fault_in = fault_in;
+    pattern_in = pattern_in;
+  }
+
+  -- one of them behind others
+  abbrev valued_form : List Data → Data → Option Data → Form Q
+  valued_form before d found =
+      record { path = path found; fault_at = fault_in before d; has_pattern = pattern_in d }
+
+  -- where each is read by itself
+  pub valued_judged : {A : Type 0} (read : Data → Reading A)
+      → ((before : List Data) (d : Data) → Judges (valued_form before d (Some d)) (read d))
+      → Judges (sequence_form valued_sequence items) (read_items (λ _ d. read d) [] items)
+  valued_judged read judged =
+      items_judged (λ _ d. read d) valued_sequence (λ i. refl) (λ _ _. ⊤) tt items
+      (λ front d back _ e _. subst (λ (found : Option Data). Judges (valued_form front d found)
+      (read d)) (sym (ap (λ (ds : List Data). slice_get ds (length front)) e
+      ∙ slice_get_at front d back)) (judged front d))
+      (λ _ _ _ _ _ _. tt)
+
+  -- what is said of the places of the array, where patterns stand in the same places
+  pub valued_seen : (itself : Option Kind) (pattern : ArrayPlace Q → Bool)
+      → ((place : ArrayPlace Q)
+      → pattern place ≡ (array_form valued_sequence itself items).has_pattern place)
+      → (place : ArrayPlace Q)
+      → said (items_path path items place) (array_fault itself fault_in items place)
+      (pattern place)
+      ≡ said_of (array_form valued_sequence itself items) place
+  valued_seen itself pattern same array_itself = λ j. ([], itself, same array_itself j)
+  valued_seen itself pattern same (in_item i place) = λ j. (
+    array_item i i ∷ path (slice_get items i) place,
+    array_fault itself fault_in items (in_item i place),
+    same (in_item i place) j,
+  )

@@ -1,17 +1,23 @@
 -- The parts of a JSON value, as they are kept in memory.
 use Rattle.std.proofs.Common.{◌≡◌, ℕ, List, [], ◌∷◌, Bool, true, false, Some, None, refl}
-use Rattle.std.proofs.Common.{ap}
+use Rattle.std.proofs.Common.{ap, length, suc}
 use Rattle.std.specs.Str.{IsUtf8, is_utf8}
 use Rattle.std.proofs.lemmas.Str.{IsUtf8-from_is_utf8, is_utf8-from_IsUtf8}
 use Rattle.serde_json.specs.Data.{Data}
 use Rattle.serde_json.specs.Read.{read}
 use Rattle.serde_json.specs.View as view
-use Rattle.am_json.specs.Json.{json_of, item_list}
+use Rattle.serde_json.proofs.Views.{Entry}
+use Rattle.am_json.specs.Json.{json_of, item_list, member_list}
 
 -- a list of values, and back
 pub item_list-items_of : (ds : List Data) → item_list (view.items_of ds) ≡ ds
 item_list-items_of [] = refl
 item_list-items_of (d ∷ ds) = ap (λ (es : List Data). d ∷ es) (item_list-items_of ds)
+
+-- as many members as are kept
+pub members_long : (es : List Entry) → length (member_list (view.members_view es)) ≡ length es
+members_long [] = refl
+members_long (e ∷ es) = ap suc (members_long es)
 
 -- what is read from text is the value of its bytes
 pub json_of_text : (bytes : List ℕ) (d : Data) → IsUtf8 bytes → read bytes ≡ Some d

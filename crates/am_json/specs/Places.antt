@@ -6,17 +6,17 @@
 -- order.
 use Rattle.std.specs.Prelude.{◌≡◌, ◌⊎◌, ◌<◌, ◌≤◌, ℕ, List, [], ◌∷◌, length, take, slice_get}
 use Rattle.std.specs.Prelude.{Bool, true, false, ◌&&◌, ◌||◌, nat_lt, if◌then◌else◌, Option}
-use Rattle.std.specs.Prelude.{Some, None, option_and_then, unwrap_or, codes, IsTrue, ⊤}
+use Rattle.std.specs.Prelude.{Some, None, option_and_then, option_map, unwrap_or, codes, IsTrue, ⊤}
 use Rattle.std.specs.declared.cmp.Ordering.TheVariants.{Less}
 use Rattle.std.specs.Ordering.{nat_cmp}
 use Rattle.std.specs.Cmp.Lexicographic.{slice_cmp}
 use Rattle.std.specs.List.{flat_map}
 use Rattle.serde_json.specs.Data.{Data, Members, no_members, member}
-use Rattle.serde_json.specs.Find.{as_str, as_bool}
+use Rattle.serde_json.specs.Find.{as_object, as_str, as_bool}
 use Rattle.am_universe.specs.declared.kind.Kind.{Kind}
 use Rattle.am_universe.specs.declared.kind.Kind.TheVariants as kinds
 use Rattle.am_universe.specs.Text.{same_text}
-use Rattle.am_json.specs.Json.{json_of, field, is_unknown, items_of}
+use Rattle.am_json.specs.Json.{json_of, is_null, field, is_unknown, items_of, member_list}
 use Rattle.am_json.specs.Pointer.{Refusal, refusal_here, to_field, to_item}
 use Rattle.am_json.specs.declared.limits.TheConstants.{MAX_FILE_BYTES}
 
@@ -166,6 +166,18 @@ open_object_fault members fault_at object_itself = shape_or (λ _. None) members
 open_object_fault members fault_at (other_field key) = None
 open_object_fault members fault_at (in_field place) = fault_at place
 
+-- The names and values of the object in a field, as they stand, and none where it has no object;
+-- the name of one of them, if there is one, and of the one at a position.
+abbrev pub field_pairs : Option Data → List (List ℕ × Data)
+field_pairs found = unwrap_or (option_map member_list (option_and_then as_object found)) []
+
+abbrev pub name_of_pair : Option (List ℕ × Data) → List ℕ
+name_of_pair None = []
+name_of_pair (Some pair) = pair.0
+
+abbrev pub pair_name : List (List ℕ × Data) → ℕ → List ℕ
+pair_name pairs j = name_of_pair (slice_get pairs j)
+
 -- ---- Arrays.
 
 -- The places of an array, and the steps to each: itself, and the places in its items.
@@ -177,6 +189,12 @@ abbrev pub array_path : {P : Type 0} → (P → List Step) → ArrayPlace P → 
 array_path path array_itself = []
 array_path path (in_item i place) = array_item i i ∷ path place
 
+-- The same where the steps in an item depend on its value.
+abbrev pub items_path : {P : Type 0} → (Option Data → P → List Step) → List Data → ArrayPlace P
+    → List Step
+items_path path items array_itself = []
+items_path path items (in_item i place) = array_item i i ∷ path (slice_get items i) place
+
 -- What is wrong at a place of an array of these items: the array itself has this fault or none, and
 -- a place in an item has a rule, which is handed the items before that one.
 abbrev pub array_fault : {P : Type 0} → Option Kind → (List Data → Data → P → Option Kind)
@@ -184,6 +202,12 @@ abbrev pub array_fault : {P : Type 0} → Option Kind → (List Data → Data �
 array_fault itself fault_at items array_itself = itself
 array_fault itself fault_at items (in_item i place) =
     if_there (λ d. fault_at (take i items) d place) (slice_get items i)
+
+-- What is wrong with a value that has to be `null`, which says that there are no items, or an array
+-- of at most so many.
+abbrev pub items_or_null_fault : ℕ → Data → Option Kind
+items_or_null_fault limit d =
+    if is_null d then None else shape_or (λ items. limit_fault limit (length items)) (items_of d)
 
 -- The items of the array in a field, and none where there is no array.
 abbrev pub items_in_field : Option Data → List Data

@@ -6,7 +6,7 @@ pub use Rattle.am_json.specs.Pointer.{Refusal, refusal_here, refusal_within}
 pub use Rattle.am_json.specs.Reading.{Gives, MayRefuse, IsRefusalOrMemory, IsReadingWithin}
 pub use Rattle.am_json.specs.Reading.{refusal_of, IsFaultAt, IsFaultOf, accept_some, refuse_for}
 pub use Rattle.am_json.specs.Reading.{check_count, as_object, as_text, as_items, required_field}
-pub use Rattle.am_json.specs.Reading.{boolean_or}
+pub use Rattle.am_json.specs.Reading.{boolean_or, accept}
 unfoldable pub use Rattle.am_json.specs.Reading.{check_only_fields, required_text, required_items}
 unfoldable pub use Rattle.am_json.specs.Reading.{read_boolean_or, read_each, read_json}
 pub use Rattle.am_json.specs.Reading.{reading_within, read_items}
