@@ -6,3 +6,7 @@ pub mod UniverseFaultLemmas
 pub mod PatternFaultLemmas
 pub mod SilenceMatcherFaultLemmas
 pub mod SilencesFaultLemmas
+pub mod NamedTextLemmas
+pub mod AlertsSays
+pub mod AlertsExample
+pub mod AlertsFaultLemmas

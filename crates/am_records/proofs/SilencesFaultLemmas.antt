@@ -3,16 +3,16 @@ use Rattle.std.proofs.Common.{Bool, Err, List, None, Ok, Option, Some, [], arith
 use Rattle.std.proofs.Common.{option_and_then, refl, slice_get, suc, unwrap_or, zero, ℕ}
 use Rattle.std.proofs.Common.{ℤ, ◌<◌, ◌↔◌, ◌∷◌, ◌≡◌, ◌⊎◌}
 use Rattle.std.specs.Prelude.{⊤}
-use Rattle.serde_json.specs.Data.{Data, array, boolean, null, number, object, string}
+use Rattle.serde_json.specs.Data.{Data}
 use Rattle.serde_json.specs.Find as find
 use Rattle.am_universe.specs.declared.kind.Kind.{Kind}
 use Rattle.am_universe.specs.declared.kind.Kind.TheVariants as kinds
 use Rattle.am_labels.specs.Matcher.{Condition}
 use Rattle.am_records.specs.Instant.{instant_of}
 use Rattle.am_json.specs.Json.{field, items_of}
-use Rattle.am_json.specs.Places.{ArrayPlace, OnlyPlace, Step, array_fault, array_itself}
+use Rattle.am_json.specs.Places.{ArrayPlace, OnlyPlace, Step, array_itself}
 use Rattle.am_json.specs.Places.{array_path, in_field, in_item, items_in_field, known_member}
-use Rattle.am_json.specs.Places.{limit_fault, object_itself, other_field, rank_of, shape_or}
+use Rattle.am_json.specs.Places.{object_itself, other_field, rank_of, shape_or}
 use Rattle.am_json.specs.Places.{text_of}
 use Rattle.am_json.specs.Pointer.{Refusal, refusal_here, to_field}
 use Rattle.am_json.specs.Reading.{IsPatternRefusal, MayRefuse, Reading, accept, accept_some}
@@ -39,14 +39,14 @@ use Rattle.am_json.proofs.FieldLemmas.{items_form, items_sequence, pattern_items
 use Rattle.am_json.proofs.FileLemmas.{bytes_decide, bytes_refused}
 use Rattle.am_json.proofs.ObjectLemmas.{array_tells, object_tells, open_form, open_judged}
 use Rattle.am_json.proofs.PlaceLemmas.{Clear, Form, IsPart, Judges, RanksTell, first_decides}
-use Rattle.am_json.proofs.PlaceLemmas.{judges_plain, none_reads, one_place, part_judges, read_none}
+use Rattle.am_json.proofs.PlaceLemmas.{judges_plain, none_decides, one_place, part_judges}
 use Rattle.am_json.proofs.PlaceLemmas.{refused_reached, said_of, same_judged, shape_judged}
 use Rattle.am_json.proofs.PlaceLemmas.{some_judged}
 use Rattle.am_json.proofs.PlaceOrder.{lead}
 use Rattle.am_json.proofs.Readings.{Decides}
 use Rattle.am_json.proofs.SameReadings.{items_within_then, text_read_within}
-use Rattle.am_json.proofs.SequenceLemmas.{Sequence, array_form, items_judged, pattern_of_next}
-use Rattle.am_json.proofs.SequenceLemmas.{required_array}
+use Rattle.am_json.proofs.SequenceLemmas.{Sequence, array_form, items_judged, or_null_judged}
+use Rattle.am_json.proofs.SequenceLemmas.{pattern_of_next, required_array}
 use Rattle.am_records.proofs.SilenceMatcherFaultLemmas.{silence_matcher_judged}
 use Rattle.am_records.proofs.SilenceMatcherFaultLemmas.{silence_matcher_tells}
 
@@ -270,34 +270,18 @@ module _ (d : Data) where
     item_pattern silence_path silence_fault_in pattern_in_silence (slice_get items_in i) place j,
   )
 
-  array_judge : Judges
-      (array_form silences_sequence (shape_or (λ items. limit_fault MAX_SILENCES (length items))
-      (items_of d)) items_in) (read_silence_array d)
-  unfolding read_silence_array
-  array_judge =
-      required_array silences_sequence (λ items. limit_fault MAX_SILENCES (length items))
-      (read_items read_next_silence []) (items_of d)
-      (items_judged read_next_silence silences_sequence (λ i. refl) (λ _ _. ⊤) tt items_in
-      (λ _ item _ _ _ _. silence_judged item) (λ _ _ _ _ _ _. tt))
-
-no_silences : (place : SilencesPlace) → array_fault None silence_fault_in [] place ≡ None
-no_silences array_itself = refl
-no_silences (in_item i place) = refl
-
 items_judge : (d : Data)
     → Judges (array_form silences_sequence (silences_itself_fault d) (items_in d)) (read_silences d)
-items_judge null =
-    judges_plain (array_form silences_sequence None []) (Ok []) no_silences
-items_judge (boolean b) = array_judge (boolean b)
-items_judge (number n) = array_judge (number n)
-items_judge (string s) = array_judge (string s)
-items_judge (array items) = array_judge (array items)
-items_judge (object members) = array_judge (object members)
+unfolding read_silence_array
+items_judge d =
+    or_null_judged silences_sequence MAX_SILENCES (read_items read_next_silence []) d
+    (items_judged read_next_silence silences_sequence (λ i. refl) (λ _ _. ⊤) tt (items_in d)
+    (λ _ item _ _ _ _. silence_judged item) (λ _ _ _ _ _ _. tt))
 
 silences_judged : (d : Data) → Judges (silences_form d) (read_silences d)
 silences_judged d =
-    same_judged (silences_form d) (array_form silences_sequence (silences_itself_fault d) (items_in d))
-    (same_in_file d) (read_silences d) (items_judge d)
+    same_judged (silences_form d)
+    (array_form silences_sequence (silences_itself_fault d) (items_in d)) (same_in_file d) (read_silences d) (items_judge d)
 
 -- ---- Ranks tell places.
 
@@ -345,12 +329,8 @@ pub silences_sound : (d : Data) → Decides (SaysSilences d) (read_silences d).r
     → ((silences : List Silence) × SaysSilences d silences)
     ↔ ((place : SilencesPlace) → silences_fault_at d place ≡ None)
 silences_sound d decides =
-    let judged = silences_judged d in (
-      λ said. read_none (silences_form d) (read_silences d).result said.0 judged.tells
-          (decides.reads said.0 said.1),
-      λ none. let found = none_reads (silences_form d) (read_silences d).result judged.tells none in
-          (found.0, decides.says found.0 found.1),
-    )
+    let judged = silences_judged d in
+    none_decides (silences_form d) (read_silences d).result judged.tells decides
 
 pub silences_file_first : (bytes : List ℕ) (r : Refusal)
     → ((read_silences_file bytes).result ≡ Err r) ↔ IsFirstFaultOfSilencesFile bytes r

@@ -1,19 +1,19 @@
 -- A value says silences exactly where reading it finds no fault, and then those silences.
-use Rattle.std.proofs.Common.{◌≡◌, ◌≢◌, ℕ, ℤ, ◌≤◌, List, [], ◌∷◌, ◌++◌, length, true, false}
-use Rattle.std.proofs.Common.{Some, None, Ok, inl, inr, refl, sym, ap, subst}
-use Rattle.std.specs.Prelude.{⊤, codes, IsTrue}
+use Rattle.std.proofs.Common.{◌≡◌, ◌≢◌, ℕ, ℤ, ◌≤◌, List, [], ◌∷◌, length, true, false}
+use Rattle.std.proofs.Common.{Some, None, Ok, refl, sym, ap, subst}
+use Rattle.std.specs.Prelude.{codes, IsTrue}
 use Rattle.std.specs.List.{AllZip}
 use borrow.Author.Tests.{le-ltb}
-use Rattle.serde_json.specs.Data.{Data, null, boolean, number, string, array, object, Members}
+use Rattle.serde_json.specs.Data.{Data, string}
 use Rattle.am_universe.specs.declared.kind.Kind.TheVariants as kinds
 use Rattle.am_labels.specs.declared.limits.TheConstants.{MAX_MATCHERS}
 use Rattle.am_labels.specs.Matcher.{Condition}
 use Rattle.am_labels.specs.MatcherRefusals.{has_valid_pattern}
 use Rattle.am_records.specs.declared.limits.TheConstants.{MAX_SILENCES}
-use Rattle.am_json.specs.Json.{field, items_of}
+use Rattle.am_json.specs.Json.{field}
 use Rattle.am_json.specs.Pointer.{refusal_here, to_field}
-use Rattle.am_json.specs.Reading.{reading_within, refuse_for, check_count, read_items, as_object}
-use Rattle.am_json.specs.Reading.{as_items, required_text, required_items, read_boolean_or}
+use Rattle.am_json.specs.Reading.{reading_within, refuse_for, read_items, as_object}
+use Rattle.am_json.specs.Reading.{required_text, required_items, read_boolean_or}
 use Rattle.am_records.specs.Instant.{instant_of}
 use Rattle.am_records.specs.SilencesFile.{Silence, flagged_op, SaysSilenceMatcher}
 use Rattle.am_records.specs.SilencesFile.{SaysInstant, SaysSilence, AreSilences, SaysSilences}
@@ -26,24 +26,13 @@ use Rattle.am_records.specs.SilencesReading.{read_silence, read_next_silence, re
 use Rattle.am_records.specs.SilencesReading.{read_silences, read_silences_file}
 use Rattle.am_records.specs.MatcherFaults.{check_matcher, label_name_fault}
 use Rattle.am_json.proofs.Readings.{bind_ok, within_ok, refuse_for_ok, check_count_ok}
-use Rattle.am_json.proofs.Readings.{check_count_fits, ok_or_some, same_read, Decides}
-use Rattle.am_json.proofs.Items.{AllFit, items_say, items_read}
+use Rattle.am_json.proofs.Readings.{ok_or_some, same_read, Decides}
+use Rattle.am_json.proofs.Items.{each_says, each_reads, or_null_decides}
 use Rattle.am_json.proofs.Fields.{required_text_says, required_text_reads, required_items_say}
 use Rattle.am_json.proofs.Fields.{required_items_read, boolean_or_says, boolean_or_reads}
-use Rattle.am_json.proofs.Fields.{file_decided}
+use Rattle.am_json.proofs.Fields.{file_decided, object_of}
 use Rattle.am_records.proofs.Matching.{named_passes, name_is_some}
 use Rattle.am_records.proofs.Matching.{checked_says, checked_reads, same_condition}
-
--- ---- An object, by a field that it has.
-
-object_of : (key : List ℕ) (d : Data) (v : Data) → field key d ≡ Some v
-    → (members : Members) × ((as_object d).result ≡ Ok members)
-object_of key null v h = absurd cc
-object_of key (boolean b) v h = absurd cc
-object_of key (number n) v h = absurd cc
-object_of key (string s) v h = absurd cc
-object_of key (array ds) v h = absurd cc
-object_of key (object members) v h = (members, refl)
 
 -- ---- A matcher.
 
@@ -124,13 +113,8 @@ matcher_reads d m said =
 
 -- ---- The matchers of a silence.
 
--- each may stand behind any others
-abbrev AlwaysFits : {A : Type 0} → List A → A → Type 0
-AlwaysFits before x = ⊤
-
-all_fit : {A : Type 0} (before xs : List A) → AllFit AlwaysFits before xs
-all_fit before [] = tt
-all_fit before (x ∷ xs) = (tt, all_fit (before ++ x ∷ []) xs)
+matcher_decides : (d : Data) → Decides (SaysSilenceMatcher d) ((read_silence_matcher d).result)
+matcher_decides d = record { says = matcher_says d; reads = matcher_reads d }
 
 count_fits : (items : List Data) → matcher_count_fault (length items) ≡ None
     → (items ≢ []) × (length items ≤ MAX_MATCHERS)
@@ -158,14 +142,10 @@ matchers_say items ms h =
     (λ _. (read_items read_next_silence_matcher [] items).result) ms h in
     let fits =
     count_fits items (refuse_for_ok (matcher_count_fault (length items)) count.0 count.1) in
-    let found =
-    items_say SaysSilenceMatcher AlwaysFits read_next_silence_matcher
-    (λ before d m read. (matcher_says d m read, tt)) [] items ms count.2 in
     record {
       some = fits.0;
       few = fits.1;
-      matchers = subst (λ (ns : List Condition). AllZip SaysSilenceMatcher items ns)
-          (sym found.1) found.2;
+      matchers = each_says SaysSilenceMatcher read_silence_matcher matcher_decides items ms count.2;
     }
 
 matchers_read : (items : List Data) (ms : List Condition) → SaysMatchers items ms
@@ -174,9 +154,7 @@ unfolding read_silence_matchers
 matchers_read items ms said =
     rw (
       fits_count items said.some said.few,
-      items_read SaysSilenceMatcher AlwaysFits read_next_silence_matcher
-          (λ before d m says fits. matcher_reads d m says) [] items ms said.matchers
-          (all_fit [] ms),
+      each_reads SaysSilenceMatcher read_silence_matcher matcher_decides items ms said.matchers,
     ) refl
 
 -- ---- A silence.
@@ -236,69 +214,22 @@ silence_reads d s said =
 
 -- ---- All silences.
 
+silence_decides : (d : Data) → Decides (SaysSilence d) ((read_silence d).result)
+silence_decides d = record { says = silence_says d; reads = silence_reads d }
+
 -- each item that was read says a silence
 pub items_say_silences : (items : List Data) (silences : List Silence)
     → (read_items read_next_silence [] items).result ≡ Ok silences
     → AllZip SaysSilence items silences
 items_say_silences items silences h =
-    let found =
-    items_say SaysSilence AlwaysFits read_next_silence
-    (λ before d s read. (silence_says d s read, tt)) [] items silences h in
-    subst (λ (ss : List Silence). AllZip SaysSilence items ss) (sym found.1) found.2
-
-array_says : (d : Data) (silences : List Silence) → (read_silence_array d).result ≡ Ok silences
-    → AreSilences d silences
-unfolding read_silence_array
-array_says d silences h =
-    let items = bind_ok ((as_items d).result) _ silences h in
-    let few =
-    bind_ok ((check_count MAX_SILENCES (length items.0)).result)
-    (λ _. (read_items read_next_silence [] items.0).result) silences items.2 in
-    record {
-      items = items.0;
-      is_array = ok_or_some (items_of d) (refusal_here kinds.Shape) items.0 items.1;
-      few = check_count_ok MAX_SILENCES (length items.0) few.0 few.1;
-      each = items_say_silences items.0 silences few.2;
-    }
-
-array_reads : (d : Data) (silences : List Silence) → AreSilences d silences
-    → (read_silence_array d).result ≡ Ok silences
-unfolding read_silence_array
-array_reads d silences said =
-    rw (
-      said.is_array,
-      check_count_fits MAX_SILENCES (length said.items) said.few,
-      items_read SaysSilence AlwaysFits read_next_silence
-          (λ before item s says fits. silence_reads item s says) [] said.items silences said.each
-          (all_fit [] silences),
-    ) refl
-
-pub silences_say : (d : Data) (silences : List Silence) → (read_silences d).result ≡ Ok silences
-    → SaysSilences d silences
-silences_say null silences h = inl (refl, sym (same_read [] silences h))
-silences_say (boolean b) silences h = inr (array_says (boolean b) silences h)
-silences_say (number n) silences h = inr (array_says (number n) silences h)
-silences_say (string s) silences h = inr (array_says (string s) silences h)
-silences_say (array ds) silences h = inr (array_says (array ds) silences h)
-silences_say (object ms) silences h = inr (array_says (object ms) silences h)
-
-array_is_read : (d : Data) (silences : List Silence) → AreSilences d silences
-    → (read_silences d).result ≡ Ok silences
-array_is_read null silences said =
-    let none = said.is_array in absurd cc
-array_is_read (boolean b) silences said = array_reads (boolean b) silences said
-array_is_read (number n) silences said = array_reads (number n) silences said
-array_is_read (string s) silences said = array_reads (string s) silences said
-array_is_read (array ds) silences said = array_reads (array ds) silences said
-array_is_read (object ms) silences said = array_reads (object ms) silences said
-
-pub silences_read : (d : Data) (silences : List Silence) → SaysSilences d silences
-    → (read_silences d).result ≡ Ok silences
-silences_read d silences (inl said) = rw (said.0, said.1) refl
-silences_read d silences (inr said) = array_is_read d silences said
+    each_says SaysSilence read_silence silence_decides items silences h
 
 pub silences_decide : (d : Data) → Decides (SaysSilences d) ((read_silences d).result)
-silences_decide d = record { says = silences_say d; reads = silences_read d }
+unfolding read_silence_array
+silences_decide d =
+    or_null_decides SaysSilence read_silence silence_decides MAX_SILENCES AreSilences
+    (λ _ _ are. record { items = are.0; is_array = are.1; few = are.2; each = are.3 })
+    (λ _ _ said. (said.items, said.is_array, said.few, said.each)) d
 
 pub silences_file_decides : (bytes : List ℕ)
     → Decides (FileSaysSilences bytes) ((read_silences_file bytes).result)

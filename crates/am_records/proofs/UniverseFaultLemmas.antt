@@ -1,6 +1,6 @@
 -- The fault that reading a universe file meets first is the first by its places.
 use Rattle.std.proofs.Common.{Bool, Err, List, None, Ok, Option, Some, [], ap, arith, codes, false}
-use Rattle.std.proofs.Common.{inl, inr, length, map, option_and_then, refl, subst, suc, sym, true}
+use Rattle.std.proofs.Common.{length, map, option_and_then, refl, subst, suc, sym, true}
 use Rattle.std.proofs.Common.{unwrap_or, zero, ℕ, ◌++◌, ◌<◌, ◌||◌, ◌↔◌, ◌∙◌, ◌∷◌, ◌≡◌}
 use Rattle.std.proofs.lemmas.List.{map_push}
 use Rattle.std.specs.List.{list_any}
@@ -13,8 +13,8 @@ use Rattle.am_universe.specs.Universe.{name_fault, names, value_fault}
 use Rattle.am_universe.specs.declared.kind.Kind.{Kind}
 use Rattle.am_universe.specs.declared.kind.Kind.TheVariants as kinds
 use Rattle.am_universe.specs.declared.limits.TheConstants.{MAX_LABELS}
-use Rattle.am_json.specs.Json.{field, items_of, json_of}
-use Rattle.am_json.specs.Places.{ArrayPlace, IsMetPatternOfValue, OnlyPlace, array_path}
+use Rattle.am_json.specs.Json.{field, items_of}
+use Rattle.am_json.specs.Places.{ArrayPlace, OnlyPlace, array_path}
 use Rattle.am_json.specs.Places.{items_in_field, known_member, limit_fault, only_path, rank_of}
 use Rattle.am_json.specs.Places.{shape_or, text_of}
 use Rattle.am_json.specs.Pointer.{Refusal, refusal_here, to_field}
@@ -31,12 +31,12 @@ use Rattle.am_records.specs.UniverseFile.{SaysUniverse, SaysValue, file_fields, 
 use Rattle.am_records.specs.UniverseFile.{read_labels, read_next_label, read_next_value}
 use Rattle.am_records.specs.UniverseFile.{read_universe, read_universe_file, read_values}
 use Rattle.am_json.proofs.FieldLemmas.{items_form, items_seen, items_sequence, text_field_judges}
-use Rattle.am_json.proofs.FileLemmas.{bytes_decide, bytes_refused}
+use Rattle.am_json.proofs.FileLemmas.{bytes_decide, first_refused}
 use Rattle.am_json.proofs.ObjectLemmas.{array_tells, closed_judged, no_open_pattern, object_tells}
 use Rattle.am_json.proofs.ObjectLemmas.{only_tells, open_pattern}
 use Rattle.am_json.proofs.PlaceLemmas.{Clear, Form, IsPart, Judges, RanksTell, cause_judges}
-use Rattle.am_json.proofs.PlaceLemmas.{first_decides, judges_plain, none_reads, one_place}
-use Rattle.am_json.proofs.PlaceLemmas.{one_refused, part_judges, read_none, said}
+use Rattle.am_json.proofs.PlaceLemmas.{first_decides, judges_plain, none_decides, one_place}
+use Rattle.am_json.proofs.PlaceLemmas.{one_refused, part_judges, said}
 use Rattle.am_json.proofs.PlaceOrder.{lead}
 use Rattle.am_json.proofs.SameReadings.{items_within, items_within_then, then_accept}
 use Rattle.am_json.proofs.SequenceLemmas.{Sequence, items_judged, next_form, required_array}
@@ -361,29 +361,18 @@ universe_file_first bytes r =
     bytes_decide IsFirstFaultOfUniverse (λ _ _. ⊥) read_universe universe_first universe_meets_none
     bytes r
 
-none_met : (found : Option Data) (r : Refusal) → IsMetPatternOfValue (λ _ _. ⊥) found r → ⊥
-none_met None r h = h
-none_met (Some d) r h = h
-
 -- so what is refused of a file is its first fault
 pub universe_file_refused : (bytes : List ℕ) (r : Refusal) → MayRefuse (read_universe_file bytes) r
     → IsFirstFaultOfUniverseFile bytes r
 unfolding read_universe_file
 universe_file_refused bytes r refused =
-    elim (bytes_refused IsFirstFaultOfUniverse (λ _ _. ⊥) read_universe universe_first
-    universe_meets_none bytes r refused) [
-      | inl first ↦ first
-      | inr met ↦ absurd (none_met (json_of bytes) r met.1)
-    ]
+    first_refused IsFirstFaultOfUniverse read_universe universe_first universe_meets_none bytes r
+    refused
 
 -- a value says a universe where no place is at fault, and only there
 pub universe_sound : (d : Data)
     → ((u : List Label) × SaysUniverse d u)
     ↔ ((place : UniversePlace) → universe_fault_at d place ≡ None)
 universe_sound d =
-    let judged = universe_judged d in (
-      λ said. read_none (universe_form d) (read_universe d).result said.0 judged.tells
-          ((universe_decides d).reads said.0 said.1),
-      λ none. let found = none_reads (universe_form d) (read_universe d).result judged.tells none in
-          (found.0, (universe_decides d).says found.0 found.1),
-    )
+    let judged = universe_judged d in
+    none_decides (universe_form d) (read_universe d).result judged.tells (universe_decides d)

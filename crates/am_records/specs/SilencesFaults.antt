@@ -1,7 +1,7 @@
 -- The first fault of an export of silences: its places, and what may be wrong at each, by the JSON
 -- value alone. (The form that `amtool silence query -o json` writes; the order and the limits are
 -- this project's own.)
-use Rattle.std.specs.Prelude.{◌⊎◌, ℕ, zero, suc, List, [], ◌∷◌, length, Bool, true, false}
+use Rattle.std.specs.Prelude.{◌⊎◌, ℕ, zero, suc, List, [], ◌∷◌, Bool, true, false}
 use Rattle.std.specs.Prelude.{is_some, if◌then◌else◌, Option, Some, None, option_and_then}
 use Rattle.std.specs.Prelude.{slice_get, unwrap_or, codes}
 use Rattle.serde_json.specs.Data.{Data}
@@ -11,13 +11,13 @@ use Rattle.am_universe.specs.declared.kind.Kind.TheVariants as kinds
 use Rattle.am_labels.specs.declared.limits.TheConstants.{MAX_MATCHERS}
 use Rattle.am_labels.specs.Matcher.{Condition}
 use Rattle.am_records.specs.declared.limits.TheConstants.{MAX_SILENCES}
-use Rattle.am_json.specs.Json.{is_null, field, items_of}
+use Rattle.am_json.specs.Json.{field, items_of}
 use Rattle.am_json.specs.Pointer.{Refusal}
 use Rattle.am_json.specs.Places.{Step, known_member, IsFirstFault, IsFirstFaultOfFile}
 use Rattle.am_json.specs.Places.{IsMetPattern, IsMetPatternOfFile, shape_or, boolean_fault}
 use Rattle.am_json.specs.Places.{limit_fault, text_of, name_of, ObjectPlace, in_field, object_path}
 use Rattle.am_json.specs.Places.{open_object_fault, ArrayPlace, in_item, array_path, array_fault}
-use Rattle.am_json.specs.Places.{items_in_field, required_array_fault}
+use Rattle.am_json.specs.Places.{items_in_field, items_or_null_fault, required_array_fault}
 use Rattle.am_records.specs.MatcherFaults.{label_name_fault, one_pattern_fault}
 use Rattle.am_records.specs.MatcherFaults.{is_profile_pattern}
 use Rattle.am_records.specs.Instant.{instant_of}
@@ -134,9 +134,7 @@ silences_path place = array_path silence_path place
 -- What is wrong with the value of the file itself: it is neither `null` nor an array, or it has too
 -- many items.
 abbrev pub silences_itself_fault : Data → Option Kind
-silences_itself_fault d =
-    if is_null d then None
-    else shape_or (λ items. limit_fault MAX_SILENCES (length items)) (items_of d)
+silences_itself_fault d = items_or_null_fault MAX_SILENCES d
 
 -- What is wrong at a place of the file.
 abbrev pub silences_fault_at : Data → SilencesPlace → Option Kind

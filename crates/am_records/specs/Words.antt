@@ -23,3 +23,12 @@ unfoldable pub use Rattle.am_records.specs.SilencesReading.{read_silence_matcher
 unfoldable pub use Rattle.am_records.specs.SilencesReading.{read_silence, read_silence_array}
 unfoldable pub use Rattle.am_records.specs.SilencesReading.{read_silences_file}
 pub use Rattle.am_records.specs.SilencesReading.{read_silences}
+unfoldable pub use Rattle.am_records.specs.NamedText.{read_named_text}
+pub use Rattle.am_records.specs.AlertsFile.{SaysAlerts, FileSaysAlerts}
+pub use Rattle.am_records.specs.AlertsExample.{alerts_example, example_alerts}
+pub use Rattle.am_records.specs.AlertsFaults.{AlertsPlace, alerts_fault_at}
+pub use Rattle.am_records.specs.AlertsFaults.{IsFirstFaultOfAlerts, IsFirstFaultOfAlertsFile}
+unfoldable pub use Rattle.am_records.specs.AlertsReading.{read_next_alert_label}
+unfoldable pub use Rattle.am_records.specs.AlertsReading.{read_alert_labels, read_alert}
+pub use Rattle.am_records.specs.AlertsReading.{read_next_alert, read_alerts}
+unfoldable pub use Rattle.am_records.specs.AlertsReading.{read_alert_array, read_alerts_file}

@@ -2,11 +2,12 @@
 
 ghost use Rattle.std.specs.Prelude.{◌≡◌, ◌⊎◌, ◌↔◌, ℕ, List, Bool, not, IsTrue, None, Ok, Err};
 ghost use Rattle.serde_json.specs.Data.{Data};
-ghost use Rattle.am_labels.specs.Words.{Label};
+ghost use Rattle.am_labels.specs.Words.{Label, LabelMap};
 ghost use Rattle.am_json.specs.Words.{Refusal, MayRefuse};
 ghost use Rattle.am_labels.specs.Matcher.{takes_pattern, negates};
 ghost use Rattle.am_labels.specs.MatcherRefusals.{has_valid_pattern};
-ghost use Rattle.am_records.specs.declared.limits.TheConstants.{MAX_SILENCES};
+ghost use Rattle.am_records.specs.declared.limits.TheConstants.{MAX_SILENCES, MAX_ALERTS};
+ghost use Rattle.am_records.specs.declared.limits.TheConstants.{MAX_ALERT_LABELS};
 ghost use Rattle.am_records.specs.Words.{SaysUniverse, FileSaysUniverse, read_universe};
 ghost use Rattle.am_records.specs.Words.{read_universe_file, fault_of_universe};
 ghost use Rattle.am_records.specs.Words.{fault_of_universe_file, UniversePlace, universe_fault_at};
@@ -18,6 +19,9 @@ ghost use Rattle.am_records.specs.Words.{SaysSilences, FileSaysSilences, Silence
 ghost use Rattle.am_records.specs.Words.{silences_fault_at, read_silences, read_silences_file};
 ghost use Rattle.am_records.specs.Words.{IsFirstFaultOfSilences, IsFirstFaultOfSilencesFile};
 ghost use Rattle.am_records.specs.Words.{IsMetPatternOfSilences, SilencesFileRefusedFor};
+ghost use Rattle.am_records.specs.Words.{SaysAlerts, FileSaysAlerts, AlertsPlace, alerts_fault_at};
+ghost use Rattle.am_records.specs.Words.{read_alerts, read_alerts_file, IsFirstFaultOfAlerts};
+ghost use Rattle.am_records.specs.Words.{IsFirstFaultOfAlertsFile, alerts_example, example_alerts};
 
 /// A JSON value says a universe exactly where reading it gives that universe. So it says at most
 /// one, and it has no fault exactly where it says one. What reading refuses it for is the first
@@ -92,7 +96,38 @@ pub fn an_example_of_silences()
         → SaysSilences (silences_example pattern) (example_silences pattern) }
 {}
 
-/// How many records a file may have.
+/// A JSON value says alerts exactly where reading it gives them. So it says at most one list of
+/// alerts, the empty one included. What reading refuses it for is the first fault by the places of
+/// the form, and it says alerts exactly where no place is at fault.
+pub fn alerts_are_read()
+    ensures read { (d : Data) (alerts : List LabelMap)
+        → SaysAlerts d alerts ↔ ((read_alerts d).result ≡ Ok alerts) }
+    ensures one { (d : Data) (alerts others : List LabelMap) → SaysAlerts d alerts
+        → SaysAlerts d others → alerts ≡ others }
+    ensures first { (d : Data) (r : Refusal)
+        → ((read_alerts d).result ≡ Err r) ↔ IsFirstFaultOfAlerts d r }
+    ensures sound { (d : Data) → ((alerts : List LabelMap) × SaysAlerts d alerts)
+        ↔ ((place : AlertsPlace) → alerts_fault_at d place ≡ None) }
+{}
+
+/// The same of the bytes of a file.
+pub fn alert_files_are_read()
+    ensures read { (bytes : List ℕ) (alerts : List LabelMap)
+        → FileSaysAlerts bytes alerts ↔ ((read_alerts_file bytes).result ≡ Ok alerts) }
+    ensures one { (bytes : List ℕ) (alerts others : List LabelMap)
+        → FileSaysAlerts bytes alerts → FileSaysAlerts bytes others → alerts ≡ others }
+    ensures first { (bytes : List ℕ) (r : Refusal)
+        → ((read_alerts_file bytes).result ≡ Err r) ↔ IsFirstFaultOfAlertsFile bytes r }
+{}
+
+/// An example: an alert with two labels, one of which has the empty value and so is missing.
+pub fn an_example_of_alerts()
+    ensures says { SaysAlerts alerts_example example_alerts }
+{}
+
+/// How many records a file may have, and how many labels an alert.
 pub fn records_have_limits()
     ensures silences { MAX_SILENCES ≡ 4096 }
+    ensures alerts { MAX_ALERTS ≡ 4096 }
+    ensures labels { MAX_ALERT_LABELS ≡ 256 }
 {}

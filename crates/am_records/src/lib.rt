@@ -1,12 +1,12 @@
 //! The files that are lists of records, read from their bytes, and what their parts say.
 //!
-//! [`read_universe`] reads a universe file, and [`read_silences`] an export of silences. Each
-//! answers what the file says, or its first fault: why the file is refused and, by a JSON Pointer
-//! (RFC 6901), at which part. docs/FORMATS.md has the form of each file, and the order of its
-//! faults. [`parse_instant`] reads an instant.
+//! [`read_universe`] reads a universe file, [`read_silences`] an export of silences, and
+//! [`read_alerts`] one of alerts. Each answers what the file says, or its first fault: why the
+//! file is refused and, by a JSON Pointer (RFC 6901), at which part. docs/FORMATS.md has the form
+//! of each file, and the order of its faults. [`parse_instant`] reads an instant.
 //!
 //! The name and the pattern of a matcher are refused for the same in any file, so readers of
-//! other files ask [`label_name_fault`] and [`new_matcher`] too.
+//! other files ask [`label_name_fault`], [`new_matcher`] and [`read_named_text`] too.
 #![tactic(auto)]
 
 // How much there may be.
@@ -20,7 +20,7 @@ pub use universe_file::read_universe;
 // A matcher, as every file has it.
 mod matcher;
 
-pub use matcher::{label_name_fault, new_matcher};
+pub use matcher::{label_name_fault, new_matcher, read_named_text};
 
 // Instants, silences, and the export of silences.
 mod instant;
@@ -30,6 +30,13 @@ mod silences_file;
 pub use instant::parse_instant;
 pub use silence::{Silence, Silences};
 pub use silences_file::read_silences;
+
+// Firing alerts, and the export of alerts.
+mod alert;
+mod alerts_file;
+
+pub use alert::Alerts;
+pub use alerts_file::read_alerts;
 
 // What holds of the definitions by themselves.
 pub mod laws;

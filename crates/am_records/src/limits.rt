@@ -2,3 +2,9 @@
 
 /// The most silences of an export.
 pub const MAX_SILENCES: usize = 4096;
+
+/// The most alerts of an export.
+pub const MAX_ALERTS: usize = 4096;
+
+/// The most labels of an alert.
+pub const MAX_ALERT_LABELS: usize = 256;

@@ -1,10 +1,11 @@
 use Rattle.am_json.proofs.Readings.{says_one}
 use Rattle.am_records.proofs.SilencesFaultLemmas.{silences_first, silences_refused, silences_sound}
-use Rattle.am_records.proofs.SilencesSays.{silences_decide, silences_read, silences_say}
+use Rattle.am_records.proofs.SilencesSays.{silences_decide}
 use Rattle.am_records.proofs.laws.silences_are_read.Goals as goal
 
 pub returns-clause-read : goal.returns-clause-read
-returns-clause-read c = λ d silences. (silences_read d silences, silences_say d silences)
+returns-clause-read c = λ d silences.
+    ((silences_decide d).reads silences, (silences_decide d).says silences)
 
 pub returns-clause-one : goal.returns-clause-one
 returns-clause-one c = λ d silences others. says_one (silences_decide d) silences others

@@ -1,0 +1,151 @@
+//! Reading an export of alerts.
+
+ghost use Rattle.std.specs.Prelude.{◌≡◌, ◌≢◌, [], map, IfOk, IfErr, string_bytes};
+ghost use Rattle.std.specs.FinMap as finite;
+ghost use Rattle.serde_json.specs.View.{view, members_view};
+ghost use Rattle.am_universe.specs.declared.kind.Kind.TheVariants as kinds;
+ghost use Rattle.am_universe.specs.declared.place.Place.TheVariants as places;
+ghost use Rattle.am_labels.specs.Words.{with_value};
+ghost use Rattle.am_json.specs.Words.{member_list, Gives, refusal_of, accept, read_each};
+ghost use Rattle.am_json.specs.Words.{read_items};
+ghost use Rattle.am_records.specs.Words.{FileSaysAlerts, IsFirstFaultOfAlertsFile};
+ghost use Rattle.am_records.specs.Words.{read_next_alert_label, read_alert_labels, read_alert};
+ghost use Rattle.am_records.specs.Words.{read_next_alert, read_alert_array, read_alerts};
+ghost use Rattle.am_records.specs.Words.{read_alerts_file};
+
+use crate::alert::Alerts;
+use crate::limits::{MAX_ALERT_LABELS, MAX_ALERTS};
+use crate::matcher::read_named_text;
+use am_json::{
+    ReadError, as_items, as_object, check_count, read_json, required_field, within_field,
+    within_item,
+};
+use am_labels::{Fault, LabelSet, Place};
+use serde_json::{Map, Value};
+use std::alloc::Global;
+
+/// The alerts that the bytes of an export say, as `amtool alert query -o json` writes it. The value
+/// `null` says that there are none.
+///
+/// The first fault is the one answered, at the place `Alerts` and at the pointer of the part at
+/// fault. A field that is `null` counts as absent, and fields that the form does not name are not
+/// read, the status among them. A label with the empty value counts as missing.
+/// - `Limit`: more than `MAX_FILE_BYTES` bytes, [`MAX_ALERTS`] alerts or [`MAX_ALERT_LABELS`]
+///   labels of an alert;
+/// - `NotJson`: the bytes have no JSON value;
+/// - `Shape`: a value is not of its kind, or a required field is absent;
+/// - `Empty`: a label's name is the empty text.
+///
+/// `Memory`, at the place `Memory` and the empty pointer, comes wherever memory ran out.
+pub fn read_alerts(alloc: Global, bytes: &[u8]) -> Result<Alerts, Fault>
+    ensures says { IfOk result (λ alerts. FileSaysAlerts bytes.now alerts) }
+    ensures first { IfErr result (λ fault. fault.kind ≢ kinds.Memory
+        → (fault.place ≡ places.Alerts) × IsFirstFaultOfAlertsFile bytes.now (refusal_of fault)) }
+    ensures memory { IfErr result (λ fault. fault.kind ≡ kinds.Memory
+        → (fault.place ≡ places.Memory) × (string_bytes fault.pointer ≡ [])) }
+    ensures no_write { IfErr result (λ fault. fault.kind ≢ kinds.Write) }
+{
+    match read_alerts_file(alloc, bytes) {
+        Ok(alerts) => Ok(alerts),
+        Err(error) => Err(error.at(alloc, Place::Alerts)),
+    }
+}
+
+#[tactic(auto, using(am_json::proofs::Readings::steps), unfolding(crate::specs::AlertsReading::read_alerts_file))]
+fn read_alerts_file(alloc: Global, bytes: &[u8]) -> Result<Alerts, ReadError>
+    ensures { Gives (λ alerts. alerts) result (read_alerts_file bytes.now) }
+{
+    let value = read_json(alloc, bytes)?;
+    read_alerts_value(alloc, &value)
+}
+
+fn read_alerts_value(alloc: Global, value: &Value) -> Result<Alerts, ReadError>
+    ensures { Gives (λ alerts. alerts) result (read_alerts (view value.now)) }
+{
+    if value.is_null() {
+        return Ok(Alerts::none(alloc));
+    }
+    read_alert_array(alloc, value)
+}
+
+#[tactic(auto, using(am_json::proofs::Readings::steps), unfolding(crate::specs::AlertsReading::read_alert_array))]
+fn read_alert_array(alloc: Global, value: &Value) -> Result<Alerts, ReadError>
+    ensures { Gives (λ alerts. alerts) result (read_alert_array (view value.now)) }
+{
+    let items = as_items(alloc, value)?;
+    check_count(alloc, MAX_ALERTS, items.len())?;
+    let alerts = read_each_alert(alloc, items)?;
+    Ok(Alerts { alerts })
+}
+
+fn read_each_alert(alloc: Global, items: &[Value]) -> Result<Vec<LabelSet>, ReadError>
+    ensures { Gives (λ alerts. alerts.items) result
+        (read_items read_next_alert [] (map view items.now)) }
+{
+    let mut alerts = Vec::new(alloc);
+    for item in items {
+        let found = read_alert(alloc, item);
+        let alert = within_item(alloc, alerts.len(), found)?;
+        alerts.push(alert)?;
+    }
+    Ok(alerts)
+}
+
+#[tactic(auto, using(am_json::proofs::Readings::steps), unfolding(crate::specs::AlertsReading::read_alert))]
+fn read_alert(alloc: Global, value: &Value) -> Result<LabelSet, ReadError>
+    ensures { Gives (λ s. s) result (read_alert (view value.now)) }
+{
+    as_object(alloc, value)?;
+    let labels = required_field(alloc, value, "labels")?;
+    within_field(alloc, "labels", read_alert_labels(alloc, labels))
+}
+
+#[tactic(auto, using(am_json::proofs::Readings::steps, am_json::proofs::Values::members_long), unfolding(crate::specs::AlertsReading::read_alert_labels))]
+fn read_alert_labels(alloc: Global, value: &Value) -> Result<LabelSet, ReadError>
+    ensures { Gives (λ s. s) result (read_alert_labels (view value.now)) }
+{
+    let members = as_object(alloc, value)?;
+    check_count(alloc, MAX_ALERT_LABELS, members.len())?;
+    read_each_alert_label(alloc, members)
+}
+
+fn read_each_alert_label(alloc: Global, members: &Map<String, Value>) -> Result<LabelSet, ReadError>
+    ensures { Gives (λ s. s) result (read_each read_next_alert_label finite.empty
+        (member_list (members_view members.now.entries))) }
+{
+    let mut labels = LabelSet::empty(alloc);
+    for (name, value) in members.iter() {
+        labels = read_next_alert_label(alloc, labels, name.as_str(), value)?;
+    }
+    Ok(labels)
+}
+
+/// The labels with that of a name and a text behind others.
+#[tactic(auto, using(am_json::proofs::Readings::steps), unfolding(crate::specs::AlertsReading::read_next_alert_label))]
+fn read_next_alert_label(
+    alloc: Global,
+    before: LabelSet,
+    name: &str,
+    value: &Value,
+) -> Result<LabelSet, ReadError>
+    ensures { Gives (λ s. s) result (read_next_alert_label before (name.now, view value.now)) }
+{
+    let text = within_field(alloc, name, read_named_text(alloc, name, value))?;
+    with_label(alloc, before, name, text)
+}
+
+/// The labels with this one put in. It fails only where memory ran out.
+fn with_label(
+    alloc: Global,
+    before: LabelSet,
+    name: &str,
+    text: &str,
+) -> Result<LabelSet, ReadError>
+    ensures { Gives (λ s. s) result (accept (with_value before name.now text.now)) }
+{
+    let name = String::from_str(alloc, name)?;
+    let text = String::from_str(alloc, text)?;
+    let mut labels = before;
+    labels.put(name, text)?;
+    Ok(labels)
+}
