@@ -7,10 +7,13 @@ use Rattle.serde_json.specs.Data.{Data, null, number, string, array, object, uns
 use Rattle.serde_json.specs.Data.{no_items, item, Members, no_members, member}
 use Rattle.am_universe.specs.declared.kind.Kind.TheVariants as kinds
 use Rattle.am_json.specs.Places.{pointer_of, IsBefore, object_itself, other_field, in_field}
+use Rattle.am_json.specs.Places.{array_itself, in_item}
 use Rattle.am_files.specs.ConfigFaults.{RoutePlace, ConfigPlace, route_receiver, route_matchers}
-use Rattle.am_files.specs.ConfigFaults.{route_match, route_match_re, one_text}
-use Rattle.am_files.specs.ConfigFaults.{text_total, texts_given, one_pair, pair_total}
-use Rattle.am_files.specs.ConfigFaults.{pairs_given, config_route, config_path, config_fault_at}
+use Rattle.am_files.specs.ConfigFaults.{route_match, route_match_re, texts_itself, one_text}
+use Rattle.am_files.specs.ConfigFaults.{text_total, texts_given, pairs_itself, one_pair, pair_total}
+use Rattle.am_files.specs.ConfigFaults.{pairs_given, RulePlace, rule_source, rule_target}
+use Rattle.am_files.specs.ConfigFaults.{rule_equal, side_texts, side_equalities, side_patterns}
+use Rattle.am_files.specs.ConfigFaults.{config_route, config_rules, config_path, config_fault_at}
 
 abbrev items : List Data → Items
 items [] = no_items
@@ -184,3 +187,95 @@ undeclared = refl
 unset : config_fault_at (config (object (members ((codes "receiver", string []) ∷ []))))
     (at [] (in_field route_receiver)) ≡ Some kinds.Shape
 unset = refl
+
+-- ---- Inhibition rules.
+
+-- a file with this value in `inhibit_rules`, beside a route with the one receiver
+abbrev ruled : Data → Data
+ruled rules = object (members
+    ((codes "inhibit_rules", rules)
+    ∷ (
+      codes "receivers",
+      array
+          (items (object (members ((codes "name", string (codes "a")) ∷ [])) ∷ [])),
+    )
+    ∷ (codes "route", object (members ((codes "receiver", string (codes "a")) ∷ []))) ∷ []))
+
+-- and one with one rule, which has this field
+abbrev rule_with : List ℕ → Data → Data
+rule_with key d = ruled (array (items (object (members ((key, d) ∷ [])) ∷ [])))
+
+-- a place in the first rule
+abbrev in_rule : RulePlace → ConfigPlace
+in_rule place = in_field (config_rules (in_item 0 place))
+
+no_array : config_fault_at (ruled one) (in_field (config_rules array_itself)) ≡ Some kinds.Shape
+no_array = refl
+
+no_object : config_fault_at (ruled (array (items (one ∷ [])))) (in_rule object_itself)
+    ≡ Some kinds.Shape
+no_object = refl
+
+unknown_in_rule : config_fault_at (rule_with (codes "x") one) (in_rule (other_field (codes "x")))
+    ≡ Some kinds.UnknownField
+unknown_in_rule = refl
+
+unknown_in_rule_pointer : pointer (rule_with (codes "x") one) (in_rule (other_field (codes "x")))
+    ≡ codes "/inhibit_rules/0/x"
+unfolding fmt.digits
+unknown_in_rule_pointer = refl
+
+-- the name of a rule may be any value
+named_one : config_fault_at (rule_with (codes "name") one) (in_rule (other_field (codes "name")))
+    ≡ None
+named_one = refl
+
+-- an empty text in `equal`
+abbrev unnamed : Data
+unnamed = rule_with (codes "equal") (array (items (string [] ∷ [])))
+
+abbrev in_equal : ConfigPlace
+in_equal = in_rule (in_field (rule_equal (in_item 0 tt)))
+
+empty_name : config_fault_at unnamed in_equal ≡ Some kinds.Empty
+empty_name = refl
+
+empty_name_pointer : pointer unnamed in_equal ≡ codes "/inhibit_rules/0/equal/0"
+unfolding fmt.digits
+empty_name_pointer = refl
+
+-- a name that stands 65 times, and one that stands 64 times
+abbrev names : ℕ → Data
+names count = rule_with (codes "equal") (array (items (replicate count (string (codes "a")))))
+
+many_names : config_fault_at (names 65) (in_rule (in_field (rule_equal array_itself)))
+    ≡ Some kinds.Limit
+many_names = refl
+
+same_names : config_fault_at (names 64) (in_rule (in_field (rule_equal array_itself))) ≡ None
+same_names = refl
+
+-- an empty key on the target side
+abbrev in_target : ConfigPlace
+in_target = in_rule (in_field (rule_target (side_equalities (one_pair 0))))
+
+target_key : config_fault_at
+    (rule_with (codes "target_match") (object (members ((codes "", one) ∷ [])))) in_target
+    ≡ Some kinds.Empty
+target_key = refl
+
+target_key_pointer : pointer
+    (rule_with (codes "target_match") (object (members ((codes "", one) ∷ [])))) in_target
+    ≡ codes "/inhibit_rules/0/target_match/"
+unfolding fmt.digits
+target_key_pointer = refl
+
+-- the source side comes before the target side, and the routes before the rules
+source_first : IsBefore
+    (config_path (ruled one) (in_rule (in_field (rule_source (side_patterns pairs_itself)))))
+    (config_path (ruled one) (in_rule (in_field (rule_target (side_texts texts_itself)))))
+source_first = refl
+
+routes_first : IsBefore (config_path (ruled one) (at (1023 ∷ []) object_itself))
+    (config_path (ruled one) (in_field (config_rules array_itself)))
+routes_first = refl

@@ -1,55 +1,50 @@
 -- The fault that reading a configuration file meets first is the first by its places.
-use Rattle.std.proofs.Common.{Bool, Err, List, None, Ok, Option, Some, [], ap, append-nil, arith}
-use Rattle.std.proofs.Common.{codes, false, length, map, option_and_then, refl, subst, suc, sym}
-use Rattle.std.proofs.Common.{unwrap_or, zero, ℕ, ◌++◌, ◌<◌, ◌↔◌, ◌∙◌, ◌∷◌, ◌≡◌, ◌⊎◌}
+use Rattle.std.proofs.Common.{Bool, Err, List, None, Ok, Option, Some, [], ap, arith, codes, false}
+use Rattle.std.proofs.Common.{length, map, option_and_then, refl, slice_get, subst, sym, unwrap_or}
+use Rattle.std.proofs.Common.{ℕ, ◌++◌, ◌↔◌, ◌∙◌, ◌∷◌, ◌≡◌, ◌⊎◌}
 use Rattle.std.proofs.lemmas.List.{map_push}
 use Rattle.std.specs.Prelude.{⊤}
 use Rattle.serde_json.specs.Data.{Data}
 use Rattle.serde_json.specs.Find as find
-use Rattle.am_universe.specs.declared.kind.Kind.{Kind}
 use Rattle.am_universe.specs.declared.kind.Kind.TheVariants as kinds
 use Rattle.am_files.specs.ConfigFaults.{ConfigField, ConfigPlace, IsFirstFaultOfConfig}
 use Rattle.am_files.specs.ConfigFaults.{IsFirstFaultOfConfigFile, IsMetPatternOfConfig}
-use Rattle.am_files.specs.ConfigFaults.{IsMetPatternOfConfigFile, PairsPlace, ReceiverField}
-use Rattle.am_files.specs.ConfigFaults.{ReceiverPlace, RoutePlace, TextsPlace, config_fault_at}
-use Rattle.am_files.specs.ConfigFaults.{config_field_fault, config_field_path, config_path}
-use Rattle.am_files.specs.ConfigFaults.{config_receivers, config_route, config_route_at}
-use Rattle.am_files.specs.ConfigFaults.{config_rules, declared_names, field_pairs, has_pattern}
-use Rattle.am_files.specs.ConfigFaults.{one_pair, one_text, pair_total}
-use Rattle.am_files.specs.ConfigFaults.{pairs_given, pairs_itself, pairs_path, receiver_fault_at}
-use Rattle.am_files.specs.ConfigFaults.{receiver_field_fault, receiver_field_path, receiver_name}
-use Rattle.am_files.specs.ConfigFaults.{receiver_name_fault, receiver_path, root_fault, route_at}
-use Rattle.am_files.specs.ConfigFaults.{route_continue, route_field_path, route_match}
-use Rattle.am_files.specs.ConfigFaults.{route_match_re, route_matchers, route_receiver}
-use Rattle.am_files.specs.ConfigFaults.{route_routes, text_alone, text_pattern, text_total}
-use Rattle.am_files.specs.ConfigFaults.{texts_given, texts_itself, texts_path, tree_matcher}
-use Rattle.am_files.specs.ConfigFaults.{way_path}
-use Rattle.am_files.specs.ConfigFile.{Configuration, RouteTree, SaysConfig}
-use Rattle.am_files.specs.ConfigReading.{read_config, read_config_file, read_next_receiver}
-use Rattle.am_files.specs.ConfigReading.{read_receiver_names, read_receivers, read_route}
-use Rattle.am_files.specs.ConfigReading.{refuse_inhibit_rules}
+use Rattle.am_files.specs.ConfigFaults.{IsMetPatternOfConfigFile, ReceiverField, ReceiverPlace}
+use Rattle.am_files.specs.ConfigFaults.{RulePlace, config_fault_at, config_field_fault}
+use Rattle.am_files.specs.ConfigFaults.{config_field_path, config_path, config_receivers}
+use Rattle.am_files.specs.ConfigFaults.{config_route, config_rules, declared_names, has_pattern}
+use Rattle.am_files.specs.ConfigFaults.{receiver_fault_at, receiver_field_fault}
+use Rattle.am_files.specs.ConfigFaults.{receiver_field_path, receiver_name, receiver_name_fault}
+use Rattle.am_files.specs.ConfigFaults.{receiver_path, root_fault, route_at, route_field_path}
+use Rattle.am_files.specs.ConfigFaults.{tree_matcher, way_path}
+use Rattle.am_json.specs.Places.{ArrayPlace, array_itself, in_field, in_item, items_in_field}
+use Rattle.am_json.specs.Places.{known_member, limit_fault, name_of, object_itself, object_path}
+use Rattle.am_json.specs.Places.{other_field, rank_of, shape_or, text_of}
+use Rattle.am_files.specs.ConfigFile.{Configuration, RouteTree, Rule, SaysConfig}
+use Rattle.am_files.specs.ConfigReading.{optional_items, read_config, read_config_file}
+use Rattle.am_files.specs.ConfigReading.{read_next_receiver, read_receiver_names, read_receivers}
+use Rattle.am_files.specs.ConfigReading.{read_route, read_rule_items, read_rules}
 use Rattle.am_json.specs.Json.{field, items_of}
-use Rattle.am_json.specs.Places.{ArrayPlace, array_path, if_there, in_field, known_member}
-use Rattle.am_json.specs.Places.{limit_fault, object_itself, object_path, other_field, rank_of}
-use Rattle.am_json.specs.Places.{name_of, shape_or, text_of}
 use Rattle.am_json.specs.Pointer.{Refusal, refusal_here, refusal_within, to_field}
 use Rattle.am_json.specs.Reading.{IsPatternRefusal, MayRefuse, Reading, accept, accept_some}
-use Rattle.am_json.specs.Reading.{as_object, read_items, reading_within, refuse_for}
-use Rattle.am_json.specs.Reading.{required_field, required_text, ◌>>=◌}
+use Rattle.am_json.specs.Reading.{as_object, read_items, reading_within, refuse_for, required_field}
+use Rattle.am_json.specs.Reading.{required_text, ◌>>=◌}
 use Rattle.am_files.specs.declared.limits.TheConstants.{MAX_LEVELS, MAX_RECEIVERS}
 use Rattle.am_records.specs.MatcherFaults.{is_profile_pattern}
 use Rattle.am_files.proofs.ConfigParts.{name_says}
 use Rattle.am_files.proofs.ConfigSays.{config_decides}
 use Rattle.am_json.proofs.FieldLemmas.{items_form, items_seen, items_sequence, text_field_judges}
 use Rattle.am_json.proofs.FileLemmas.{bytes_decide, bytes_refused}
-use Rattle.am_json.proofs.ObjectLemmas.{array_tells, no_open_pattern, object_tells, open_form}
-use Rattle.am_json.proofs.ObjectLemmas.{open_judged, open_pattern}
-use Rattle.am_json.proofs.PlaceLemmas.{Clear, Form, IsPart, Judges, RanksTell, first_decides}
-use Rattle.am_json.proofs.PlaceLemmas.{itself_refused, judges_plain, none_reads, one_place}
-use Rattle.am_json.proofs.PlaceLemmas.{part_judges, read_none, refuse_judges, refused_reached}
+use Rattle.am_json.proofs.ObjectLemmas.{no_open_pattern, open_form, open_judged, open_pattern}
+use Rattle.am_json.proofs.PlaceLemmas.{Clear, Form, IsPart, Judges, first_decides, itself_refused}
+use Rattle.am_json.proofs.PlaceLemmas.{judges_plain, none_decides, one_place, part_judges}
+use Rattle.am_json.proofs.PlaceLemmas.{refused_reached}
 use Rattle.am_json.proofs.PlaceOrder.{lead}
+use Rattle.am_files.proofs.RuleFaultLemmas.{rule_pattern, rules_form, rules_judged, rules_seen}
+use Rattle.am_files.proofs.RuleFaultLemmas.{rules_within}
 use Rattle.am_files.proofs.RouteFaultLemmas.{tree_judged}
 use Rattle.am_files.proofs.RouteParts.{TreePlace}
+use Rattle.am_files.proofs.ConfigRanks.{config_tells}
 use Rattle.am_json.proofs.SameReadings.{items_within}
 use Rattle.am_json.proofs.SequenceLemmas.{Sequence, array_form, items_are_read, items_judged}
 use Rattle.am_json.proofs.SequenceLemmas.{next_form, required_array, required_array_gives}
@@ -185,17 +180,6 @@ root_within : {B : Type 0} (names : List (List ℕ)) (found : Option Data) (f : 
 root_within names None f = refl
 root_within names (Some value) f = refl
 
--- ---- Inhibition rules, which are not read yet.
-
-abbrev rules_fault : Option Data → Option Kind
-rules_fault found = if_there (λ _. Some kinds.UnknownField) found
-
-rules_within : (found : Option Data)
-    → refuse_inhibit_rules found
-    ≡ reading_within (to_field (codes "inhibit_rules")) (refuse_for (rules_fault found))
-rules_within None = refl
-rules_within (Some d) = refl
-
 -- ---- The file.
 
 module _ (d : Data) where
@@ -211,6 +195,9 @@ module _ (d : Data) where
   abbrev receivers_found : Option (List Data)
   receivers_found = option_and_then items_of (field (codes "receivers") d)
 
+  abbrev rules_field : Option Data
+  rules_field = field (codes "inhibit_rules") d
+
   receivers_cover : (place : ConfigField) → lead (rank_of (config_field_path d place)) ≡ 2
       → (inner : ArrayPlace ReceiverPlace) × (place ≡ config_receivers inner)
   receivers_cover (config_receivers inner) e = (inner, refl)
@@ -222,8 +209,8 @@ module _ (d : Data) where
   route_covers place e = absurd (omega (arith, e))
 
   rules_cover : (place : ConfigField) → lead (rank_of (config_field_path d place)) ≡ 4
-      → ⊤ × (place ≡ config_rules)
-  rules_cover config_rules e = (tt, refl)
+      → (inner : ArrayPlace RulePlace) × (place ≡ config_rules inner)
+  rules_cover (config_rules inner) e = (inner, refl)
   rules_cover place e = absurd (omega (arith, e))
 
   receivers_part : IsPart fields_form 1 (known_member 1 (codes "receivers"))
@@ -241,9 +228,20 @@ module _ (d : Data) where
       (λ inner. config_route inner.0 inner.1)
   route_part = record { rank = refl; seen = λ _. refl; covers = route_covers }
 
+  rules_pattern : (place : ArrayPlace RulePlace)
+      → has_pattern d (in_field (config_rules place)) ≡ (rules_form rules_field).has_pattern place
+  rules_pattern array_itself = refl
+  rules_pattern (in_item i place) =
+      rule_pattern (items_in_field rules_field) (slice_get (items_in_field rules_field) i) place
+
   rules_part : IsPart fields_form 3 (known_member 3 (codes "inhibit_rules"))
-      (one_place (rules_fault (field (codes "inhibit_rules") d))) (λ _. config_rules)
-  rules_part = record { rank = refl; seen = λ _. refl; covers = rules_cover }
+      (rules_form rules_field) config_rules
+  rules_part = record {
+    rank = refl;
+    seen = rules_seen (known_member 3 (codes "inhibit_rules")) rules_field
+        (λ place. has_pattern d (in_field (config_rules place))) rules_pattern;
+    covers = rules_cover;
+  }
 
   nothing_yet : Clear fields_form 2
   nothing_yet (config_receivers inner) lt = absurd (omega (arith, lt))
@@ -253,14 +251,16 @@ module _ (d : Data) where
   config_clear clear (config_receivers inner) = clear (config_receivers inner) (omega arith)
   config_clear clear place = clear place (omega arith)
 
-  abbrev made_config : List (List ℕ) → RouteTree → Configuration
-  made_config names root = record { receivers = names; root = root }
+  abbrev made_config : List (List ℕ) → RouteTree → List Rule → Configuration
+  made_config names root rules = record { receivers = names; root = root; rules = rules }
+
+  abbrev rules_reading : Reading (List Rule)
+  rules_reading = optional_items rules_field >>= read_rule_items
 
   abbrev rules_then : List (List ℕ) → RouteTree → Reading Configuration
   rules_then names root =
-      reading_within (to_field (codes "inhibit_rules"))
-      (refuse_for (rules_fault (field (codes "inhibit_rules") d)))
-      >>= λ _. accept (made_config names root)
+      reading_within (to_field (codes "inhibit_rules")) rules_reading
+      >>= λ rules. accept (made_config names root rules)
 
   abbrev root_then : List (List ℕ) → Reading Configuration
   root_then names = reading_within (to_field (codes "route")) (root_reading names
@@ -275,31 +275,28 @@ module _ (d : Data) where
     names ← read_receivers d
     value ← required_field (codes "route") d
     root ← reading_within (to_field (codes "route")) (read_route names MAX_LEVELS None 0 value)
-    _ ← refuse_inhibit_rules (field (codes "inhibit_rules") d)
-    accept (made_config names root)
+    rules ← read_rules d
+    accept (made_config names root rules)
 
   rest_is : rest_as_read ≡ config_rest
   unfolding read_receivers
   rest_is = λ i.
       items_within (codes "receivers") read_receiver_names d i >>= λ names.
       (root_within names (field (codes "route") d)
-      (λ root. refuse_inhibit_rules (field (codes "inhibit_rules") d)
-      >>= λ _. accept (made_config names root))
-      ∙ ap (λ (m : Reading ⊤). reading_within (to_field (codes "route"))
+      (λ root. read_rules d >>= λ rules. accept (made_config names root rules))
+      ∙ ap (λ (m : Reading (List Rule)). reading_within (to_field (codes "route"))
       (root_reading names (field (codes "route") d)) >>= λ root. m
-      >>= λ _. accept (made_config names root))
-      (rules_within (field (codes "inhibit_rules") d))) i
+      >>= λ rules. accept (made_config names root rules))
+      (rules_within d)) i
 
   rules_judge : (names : List (List ℕ)) (root : RouteTree) → Clear fields_form 4
       → Judges fields_form (rules_then names root)
   rules_judge names root clear =
       part_judges fields_form 3 (known_member 3 (codes "inhibit_rules"))
-      (one_place (rules_fault (field (codes "inhibit_rules") d))) (λ _. config_rules) rules_part
-      clear
-      (refuse_for (rules_fault (field (codes "inhibit_rules") d)))
-      (λ _. accept (made_config names root))
-      (refuse_judges (rules_fault (field (codes "inhibit_rules") d)))
-      (λ _ _ all. judges_plain fields_form (Ok (made_config names root)) (config_clear all))
+      (rules_form rules_field) config_rules rules_part clear
+      rules_reading (λ rules. accept (made_config names root rules)) (rules_judged rules_field)
+      (λ rules _ all. judges_plain fields_form (Ok (made_config names root rules))
+      (config_clear all))
 
   root_judge : Clear fields_form 3 → Judges fields_form (root_then (declared_names d))
   root_judge clear =
@@ -344,117 +341,12 @@ module _ (d : Data) where
       (record { path = config_path d; fault_at = config_fault_at d; has_pattern = pattern })
       (as_object d >>= λ _. rest_as_read)) (λ i place. same_pattern place i) read
 
--- ---- Ranks tell places.
-
-abbrev texts_at : List ℕ → TextsPlace
-texts_at [] = texts_itself
-texts_at (zero ∷ i ∷ zero ∷ rank) = one_text i
-texts_at (zero ∷ i ∷ suc zero ∷ rank) = text_alone i
-texts_at (zero ∷ i ∷ suc (suc zero) ∷ j ∷ rank) = text_pattern i j
-texts_at (zero ∷ i ∷ suc (suc (suc n)) ∷ rank) = text_total i
-texts_at _ = texts_given
-
-texts_tell : (place : TextsPlace) → texts_at (rank_of (texts_path place)) ≡ place
-texts_tell texts_itself = refl
-texts_tell (one_text i) = refl
-texts_tell (text_alone i) = refl
-texts_tell (text_pattern i j) = refl
-texts_tell (text_total i) = refl
-texts_tell texts_given = refl
-
-abbrev pairs_at : List ℕ → PairsPlace
-pairs_at [] = pairs_itself
-pairs_at (zero ∷ j ∷ zero ∷ rank) = one_pair j
-pairs_at (zero ∷ j ∷ suc n ∷ rank) = pair_total j
-pairs_at _ = pairs_given
-
-pairs_tell : (pairs : List (List ℕ × Data)) (place : PairsPlace)
-    → pairs_at (rank_of (pairs_path pairs place)) ≡ place
-pairs_tell pairs pairs_itself = refl
-pairs_tell pairs (one_pair j) = refl
-pairs_tell pairs (pair_total j) = refl
-pairs_tell pairs pairs_given = refl
-
-abbrev child_of : ℕ → TreePlace → TreePlace
-child_of i place = (i ∷ place.0, place.1)
-
-abbrev tree_at : List ℕ → TreePlace
-tree_at [] = ([], object_itself)
-tree_at (zero ∷ key) = ([], other_field key)
-tree_at (suc zero ∷ rank) = ([], in_field route_receiver)
-tree_at (suc (suc zero) ∷ rank) = ([], in_field (route_matchers (texts_at rank)))
-tree_at (suc (suc (suc zero)) ∷ rank) = ([], in_field (route_match (pairs_at rank)))
-tree_at (suc (suc (suc (suc zero))) ∷ rank) = ([], in_field (route_match_re (pairs_at rank)))
-tree_at (suc (suc (suc (suc (suc zero)))) ∷ rank) = ([], in_field route_continue)
-tree_at (suc (suc (suc (suc (suc (suc n))))) ∷ []) = ([], in_field route_routes)
-tree_at (suc (suc (suc (suc (suc (suc n))))) ∷ i ∷ rank) = child_of i (tree_at rank)
-
-tree_tells : (found : Option Data) (way : List ℕ) (place : RoutePlace)
-    → tree_at (rank_of (way_path way ++ object_path (route_field_path found) place)) ≡ (way, place)
-tree_tells found [] object_itself = refl
-tree_tells found [] (other_field key) = λ i. ([], other_field (append-nil key i))
-tree_tells found [] (in_field route_receiver) = refl
-tree_tells found [] (in_field (route_matchers place)) =
-    λ i. ([], in_field (route_matchers (texts_tell place i)))
-tree_tells found [] (in_field (route_match place)) =
-    λ i. (
-      [],
-      in_field (route_match
-          (pairs_tell (field_pairs (option_and_then (field (codes "match")) found)) place i)),
-    )
-tree_tells found [] (in_field (route_match_re place)) =
-    λ i. (
-      [],
-      in_field (route_match_re
-          (pairs_tell (field_pairs (option_and_then (field (codes "match_re")) found)) place i)),
-    )
-tree_tells found [] (in_field route_continue) = refl
-tree_tells found [] (in_field route_routes) = refl
-tree_tells found (i ∷ way) place = ap (child_of i) (tree_tells found way place)
-
-receiver_tells : RanksTell receiver_field_path
-receiver_tells = (λ _. receiver_name, is) where
-  is : (place : ReceiverField) → receiver_name ≡ place
-  is receiver_name = refl
-
-in_receiver : (place : ReceiverField) → 1 < lead (rank_of (receiver_field_path place))
-in_receiver receiver_name = omega arith
-
-receivers_tell : RanksTell (array_path receiver_path)
-receivers_tell = array_tells receiver_path (object_tells receiver_field_path in_receiver
-    receiver_tells)
-
-abbrev config_field_at : (List ℕ → ArrayPlace ReceiverPlace) → List ℕ → ConfigField
-config_field_at receivers_at (suc zero ∷ rank) = config_receivers (receivers_at rank)
-config_field_at receivers_at (suc (suc zero) ∷ rank) =
-    config_route (tree_at rank).0 (tree_at rank).1
-config_field_at receivers_at _ = config_rules
+-- ---- The laws.
 
 module _ (d : Data) where
-  field_tells : (place : ConfigField)
-      → config_field_at receivers_tell.0 (rank_of (config_field_path d place)) ≡ place
-  field_tells (config_receivers inner) = ap config_receivers (receivers_tell.1 inner)
-  field_tells (config_route way place) =
-      ap (λ (inner : TreePlace). config_route inner.0 inner.1)
-      (tree_tells (config_route_at d way) way place)
-  field_tells config_rules = refl
-
-  in_config : (place : ConfigField) → 1 < lead (rank_of (config_field_path d place))
-  in_config (config_receivers inner) = omega arith
-  in_config (config_route way place) = omega arith
-  in_config config_rules = omega arith
-
-  config_tells : RanksTell (config_path d)
-  config_tells = object_tells (config_field_path d) in_config (
-    config_field_at receivers_tell.0,
-    field_tells,
-  )
-
-  -- ---- The laws.
-
   pub config_first : (r : Refusal) → ((read_config d).result ≡ Err r) ↔ IsFirstFaultOfConfig d r
   config_first r = let judged = config_judged d in
-      first_decides (config_form d) config_tells (read_config d).result judged.tells r
+      first_decides (config_form d) (config_tells d) (read_config d).result judged.tells r
 
   pub config_met : (r : Refusal) → IsPatternRefusal (read_config d).patterns r
       → IsMetPatternOfConfig d r
@@ -470,12 +362,7 @@ module _ (d : Data) where
       ↔ ((place : ConfigPlace) → config_fault_at d place ≡ None)
   config_sound =
       let judged = config_judged d in
-      let decides = config_decides d in (
-        λ said. read_none (config_form d) (read_config d).result said.0 judged.tells
-            (decides.reads said.0 said.1),
-        λ none. let found = none_reads (config_form d) (read_config d).result judged.tells none in
-            (found.0, decides.says found.0 found.1),
-      )
+      none_decides (config_form d) (read_config d).result judged.tells (config_decides d)
 
 pub config_file_first : (bytes : List ℕ) (r : Refusal)
     → ((read_config_file bytes).result ≡ Err r) ↔ IsFirstFaultOfConfigFile bytes r

@@ -26,25 +26,27 @@ use Rattle.am_json.specs.Pointer.{refusal_here, to_field, to_item}
 use Rattle.am_json.specs.Reading.{accept_some, reading_within, refuse_for, check_count, as_text}
 use Rattle.am_json.specs.Reading.{as_object, required_text, required_items, read_each, read_items}
 use Rattle.am_files.specs.ConfigFile.{SaysName, SaysReceiver, SaysMatcherText, HasItems}
-use Rattle.am_files.specs.ConfigFile.{SaysNamedText, SaysMatcherPair}
+use Rattle.am_records.specs.NamedText.{read_named_text}
+use Rattle.am_files.specs.ConfigFile.{SaysMatcherPair}
 use Rattle.am_files.specs.ConfigReading.{read_next_receiver}
 use Rattle.am_files.specs.ConfigFaults.{receiver_name_fault}
 use Rattle.am_files.specs.ConfigReading.{read_receiver_names, read_receivers, receiver_named}
 use Rattle.am_files.specs.ConfigReading.{effective_receiver, read_receiver, optional_items}
-use Rattle.am_files.specs.ConfigReading.{read_children}
+use Rattle.am_files.specs.ConfigReading.{read_optional_items}
 use Rattle.am_files.specs.ConfigReading.{append_matchers}
 use Rattle.am_files.specs.ConfigReading.{read_matcher_text, read_next_matcher_text}
-use Rattle.am_files.specs.ConfigReading.{read_named_text, read_matcher_pair}
+use Rattle.am_files.specs.ConfigReading.{read_matcher_pair}
 use Rattle.am_files.specs.ConfigReading.{read_next_pair}
-use Rattle.am_records.specs.MatcherFaults.{check_patterns, label_name_fault, pattern_fault}
+use Rattle.am_records.specs.MatcherFaults.{check_patterns, pattern_fault}
 use Rattle.am_json.proofs.Readings.{bind_ok, within_ok, refuse_for_ok, check_count_ok}
 use Rattle.am_json.proofs.Readings.{check_count_fits, ok_or_some, same_read}
 use Rattle.am_json.proofs.Items.{AllFit, items_say, items_read}
 use Rattle.am_json.proofs.Fields.{as_text_says, as_text_reads, as_object_says, as_object_reads}
 use Rattle.am_json.proofs.Fields.{required_text_says, required_text_reads, required_items_say}
 use Rattle.am_json.proofs.Fields.{required_items_read}
-use Rattle.am_records.proofs.Matching.{named_passes, name_is_some, passes_sound}
+use Rattle.am_records.proofs.Matching.{passes_sound}
 use Rattle.am_records.proofs.Matching.{checked_says, checked_reads, same_condition}
+use Rattle.am_records.proofs.NamedTextLemmas.{named_text_reads, named_text_says}
 use Rattle.am_files.proofs.MatcherTexts.{text_gives}
 
 -- ---- The names of receivers.
@@ -223,7 +225,7 @@ receiver_reads names parent d r (inr said) =
           refl
     ]
 
--- ---- The values of the children.
+-- ---- The items of an array that may be absent.
 
 pub optional_items_say : (key : List ℕ) (d : Data) (found : Option Data) (items : List Data)
     → field key d ≡ found → (optional_items found).result ≡ Ok items → HasItems key d items
@@ -241,18 +243,17 @@ pub optional_items_read : (key : List ℕ) (d : Data) (items : List Data) → Ha
 optional_items_read key d items (inl said) = rw (said.0, said.1) refl
 optional_items_read key d items (inr said) = some_read (field key d) items said
 
-pub children_say : (d : Data) (items : List Data) → (read_children d).result ≡ Ok items
-    → HasItems (codes "routes") d items
-unfolding read_children
-children_say d items h =
-    optional_items_say (codes "routes") d (field (codes "routes") d) items refl
-    (within_ok (to_field (codes "routes")) ((optional_items (field (codes "routes") d)).result)
-    items h)
+pub optional_array_says : (key : List ℕ) (d : Data) (items : List Data)
+    → (read_optional_items key d).result ≡ Ok items → HasItems key d items
+unfolding read_optional_items
+optional_array_says key d items h =
+    optional_items_say key d (field key d) items refl
+    (within_ok (to_field key) ((optional_items (field key d)).result) items h)
 
-pub children_read : (d : Data) (items : List Data) → HasItems (codes "routes") d items
-    → (read_children d).result ≡ Ok items
-unfolding read_children
-children_read d items said = rw (optional_items_read (codes "routes") d items said) refl
+pub optional_array_reads : (key : List ℕ) (d : Data) (items : List Data) → HasItems key d items
+    → (read_optional_items key d).result ≡ Ok items
+unfolding read_optional_items
+optional_array_reads key d items said = rw (optional_items_read key d items said) refl
 
 -- ---- Sound patterns.
 
@@ -452,22 +453,6 @@ texts_read before i (d ∷ ds) (ms ∷ more) said sound le =
     rw (first, rest) (ap (λ (ns : List Condition). Ok ns) (append_assoc before ms others))
 
 -- ---- Pairs.
-
-named_text_says : (name : List ℕ) (d : Data) (text : List ℕ)
-    → (read_named_text name d).result ≡ Ok text → SaysNamedText (name, d) name text
-unfolding read_named_text
-named_text_says name d text h =
-    let free =
-    bind_ok ((refuse_for (label_name_fault name)).result) (λ _. (as_text d).result) text h in (
-      refl,
-      name_is_some name (refuse_for_ok (label_name_fault name) free.0 free.1),
-      as_text_says d text free.2,
-    )
-
-named_text_reads : (name : List ℕ) (d : Data) (text : List ℕ) → SaysNamedText (name, d) name text
-    → (read_named_text name d).result ≡ Ok text
-unfolding read_named_text
-named_text_reads name d text said = rw (named_passes name said.1, said.2) refl
 
 pair_says : (op : Op) (name : List ℕ) (d : Data) (m : Condition)
     → (read_matcher_pair op name d).result ≡ Ok m → SaysMatcherPair op (name, d) m

@@ -1,221 +1,34 @@
 -- A value says a configuration exactly where reading it finds no fault, and then that
 -- configuration.
-use Rattle.std.proofs.Common.{◌≡◌, ℕ, zero, suc, ◌+◌, ◌≤◌, List, [], ◌∷◌, ◌++◌, length, Bool, true}
-use Rattle.std.proofs.Common.{false, Option, Some, None, Ok, inl, inr, refl, sym, ap, subst, ◌∙◌}
-use Rattle.std.proofs.Common.{append_assoc, append-nil, length-append, arith}
-use Rattle.std.specs.Prelude.{⊤, codes, IsTrue, is_none}
-use Rattle.std.specs.List.{AllZip, flat_map}
+use Rattle.std.proofs.Common.{◌≡◌, ℕ, zero, suc, ◌+◌, ◌≤◌, List, [], ◌∷◌, ◌++◌, true, false, Option}
+use Rattle.std.proofs.Common.{Some, None, Ok, refl, sym, ap, subst, ◌∙◌, append_assoc, append-nil, arith}
+use Rattle.std.specs.Prelude.{codes, is_none}
 use Rattle.serde_json.specs.Data.{Data, null, boolean, number, string, array, object, Members}
-use Rattle.am_labels.specs.declared.op.Op.{Op}
-use Rattle.am_labels.specs.declared.op.Op.TheVariants.{Equal, Matches}
-use Rattle.am_labels.specs.declared.limits.TheConstants.{MAX_MATCHERS}
-use Rattle.am_labels.specs.Matcher.{Condition}
-use Rattle.am_labels.specs.MatcherRefusals.{have_valid_patterns}
 use Rattle.am_files.specs.declared.limits.TheConstants.{MAX_ROUTES, MAX_LEVELS}
-use Rattle.am_json.specs.Json.{field, member_list, HasOnlyFields}
+use Rattle.am_json.specs.Json.{field, HasOnlyFields}
 use Rattle.am_json.specs.Pointer.{to_field}
-use Rattle.am_json.specs.Reading.{reading_within, as_items, as_object, required_field, read_each}
+use Rattle.am_json.specs.Reading.{reading_within, as_object, required_field, read_each}
 use Rattle.am_json.specs.Reading.{read_next_item, read_items}
 use Rattle.am_files.specs.ConfigFile.{RouteSettings, RouteTree, route, Routes, no_routes}
-use Rattle.am_files.specs.ConfigFile.{next_route, Configuration, MatcherFields}
+use Rattle.am_files.specs.ConfigFile.{next_route, Configuration}
 use Rattle.am_files.specs.ConfigFile.{route_matcher_fields, routes_of, matchers_of, route_count}
 use Rattle.am_files.specs.ConfigFile.{routes_count, route_levels, routes_levels, route_fields}
-use Rattle.am_files.specs.ConfigFile.{SaysMatcherText, HasItems, SaysMatcherPair, SaysPairs}
-use Rattle.am_files.specs.ConfigFile.{SaysMatchers, SaysReceiver, SaysContinue, SaysRoute}
+use Rattle.am_files.specs.ConfigFile.{HasItems, SaysMatchers, SaysReceiver, SaysContinue, SaysRoute}
 use Rattle.am_files.specs.ConfigFile.{SaysRoutes, SaysConfig, FileSaysConfig}
-use Rattle.am_files.specs.ConfigReading.{RouteFields, read_receivers, optional_items}
-use Rattle.am_files.specs.ConfigReading.{refuse_root_matchers, read_matcher_texts, read_next_pair}
-use Rattle.am_files.specs.ConfigReading.{read_texts, read_pairs, optional_texts, optional_pairs}
-use Rattle.am_files.specs.ConfigReading.{read_matchers, read_route_fields, read_route}
-use Rattle.am_files.specs.ConfigReading.{read_next_child, refuse_inhibit_rules, read_config}
+use Rattle.am_files.specs.ConfigReading.{RouteFields, read_receivers, read_route_fields, read_route}
+use Rattle.am_files.specs.ConfigReading.{read_next_child, read_rules, read_config}
 use Rattle.am_files.specs.ConfigReading.{read_config_file}
 use Rattle.am_json.proofs.Readings.{bind_ok, within_ok, ok_or_some, same_read, check_count_fits}
 use Rattle.am_json.proofs.Readings.{Decides}
-use Rattle.am_json.proofs.Fields.{only_fields_read, as_object_says, boolean_or_says}
-use Rattle.am_json.proofs.Fields.{boolean_or_reads}
+use Rattle.am_json.proofs.Fields.{only_fields_read, boolean_or_says, boolean_or_reads}
 use Rattle.am_json.proofs.Items.{item_first}
 use Rattle.am_json.proofs.Fields.{file_decided}
 use Rattle.am_files.proofs.Routing.{are_read, count_push}
 use Rattle.am_files.proofs.Sound.{is_read, no_level, root_unmatched, route_sound}
 use Rattle.am_files.proofs.ConfigParts.{names_say, names_read, receiver_says, receiver_reads}
-use Rattle.am_files.proofs.ConfigParts.{optional_items_say}
-use Rattle.am_files.proofs.ConfigParts.{optional_items_read, children_say, children_read, Adds}
-use Rattle.am_files.proofs.ConfigParts.{adds_none, SaysTexts, texts_say, texts_read, pairs_say}
-use Rattle.am_files.proofs.ConfigParts.{pairs_read, sound_append, sound_apart}
-
--- ---- The matchers of a route.
-
-not_root_says : (is_root : Bool) (ms all : List Condition)
-    → (refuse_root_matchers is_root ms).result ≡ Ok all → ms ≡ all
-not_root_says true [] all h = same_read [] all h
-not_root_says true (m ∷ ms) all h = absurd cc
-not_root_says false ms all h = same_read ms all h
-
-not_root_reads : (is_root : Bool) (ms : List Condition) → (is_root ≡ true → ms ≡ [])
-    → (refuse_root_matchers is_root ms).result ≡ Ok ms
-not_root_reads true ms none = rw (none refl) refl
-not_root_reads false ms none = refl
-
--- the matchers of texts that may be absent
-record SaysOptionalTexts (key : List ℕ) (d : Data) (all : List Condition) : Type 0 where
-  pub items : List Data
-  pub is_array : HasItems key d items
-  pub added : Adds (SaysTexts items) [] all
-
-optional_texts_say : (is_root : Bool) (key : List ℕ) (d : Data) (found : Option Data)
-    (all : List Condition) → field key d ≡ found
-    → (optional_texts is_root key found).result ≡ Ok all → SaysOptionalTexts key d all
-unfolding read_texts
-optional_texts_say is_root key d None all is h = record {
-  items = [];
-  is_array = inl (is, refl);
-  added = adds_none (SaysTexts []) [] all (same_read [] all h)
-      (record { lists = []; texts = tt; joined = refl });
-}
-optional_texts_say is_root key d (Some v) all is h =
-    let read = within_ok (to_field key) ((read_texts is_root v).result) all h in
-    let items = bind_ok ((as_items v).result) _ all read in
-    let ms =
-    bind_ok ((read_matcher_texts items.0).result)
-    (λ ns. (refuse_root_matchers is_root ns).result) all items.2 in
-    record {
-      items = items.0;
-      is_array = optional_items_say key d (Some v) items.0 is items.1;
-      added = subst (λ (ns : List Condition). Adds (SaysTexts items.0) [] ns)
-          (not_root_says is_root ms.0 all ms.2) (texts_say [] 0 items.0 ms.0 ms.1);
-    }
-
-optional_pairs_say : (is_root : Bool) (op : Op) (key : List ℕ) (d : Data) (before : List Condition)
-    (found : Option Data) (all : List Condition) → field key d ≡ found
-    → (optional_pairs is_root op key before found).result ≡ Ok all
-    → Adds (SaysPairs op key d) before all
-unfolding read_pairs
-optional_pairs_say is_root op key d before None all is h =
-    adds_none (SaysPairs op key d) before all (same_read before all h) (inl (is, refl))
-optional_pairs_say is_root op key d before (Some v) all is h =
-    let read = within_ok (to_field key) ((read_pairs is_root op before v).result) all h in
-    let members = bind_ok ((as_object v).result) _ all read in
-    let ms =
-    bind_ok ((read_each (read_next_pair op) before (member_list members.0)).result)
-    (λ ns. (refuse_root_matchers is_root ns).result) all members.2 in
-    let added =
-    subst (λ (ns : List Condition). Adds (AllZip (SaysMatcherPair op) (member_list members.0))
-    before ns) (not_root_says is_root ms.0 all ms.2)
-    (pairs_say op before (member_list members.0) ms.0 ms.1) in
-    record {
-      matchers = added.matchers;
-      says = inr (
-        members.0,
-        is ∙ ap (λ (x : Data). Some x) (as_object_says v members.0 members.1),
-        added.says,
-      );
-      are = added.are;
-      valid_patterns = added.valid_patterns;
-      few = added.few;
-    }
-
-matchers_say : (fields : MatcherFields) (is_root : Bool) (d : Data) (all : List Condition)
-    → (read_matchers fields is_root d).result ≡ Ok all → SaysMatchers fields d all
-unfolding read_matchers
-matchers_say fields is_root d all h =
-    let texts =
-    bind_ok ((optional_texts is_root fields.texts (field fields.texts d)).result) _ all h in
-    let equal =
-    bind_ok ((optional_pairs is_root Equal fields.equalities texts.0
-    (field fields.equalities d)).result) _ all texts.2 in
-    let a = optional_texts_say is_root fields.texts d (field fields.texts d) texts.0 refl texts.1 in
-    let b = optional_pairs_say is_root Equal fields.equalities d texts.0 (field fields.equalities d)
-    equal.0 refl equal.1 in
-    let c = optional_pairs_say is_root Matches fields.patterns d equal.0 (field fields.patterns d)
-    all refl equal.2 in
-    let xs : List Condition = flat_map (λ ms. ms) a.added.says.lists in
-    let first : texts.0 ≡ xs = a.added.are ∙ a.added.says.joined in
-    let is : all ≡ xs ++ (b.matchers ++ c.matchers) =
-    c.are ∙ ap (λ (ms : List Condition). ms ++ c.matchers)
-    (b.are ∙ ap (λ (ms : List Condition). ms ++ b.matchers) first)
-    ∙ append_assoc xs b.matchers c.matchers in
-    record {
-      items = a.items;
-      is_array = a.is_array;
-      lists = a.added.says.lists;
-      texts = a.added.says.texts;
-      from_match = b.matchers;
-      match = b.says;
-      from_match_re = c.matchers;
-      match_re = c.says;
-      all = is;
-      few = c.few (b.few (a.added.few (omega arith)));
-      valid_patterns = rw is (sound_append xs (b.matchers ++ c.matchers)
-          (rw (← a.added.says.joined) a.added.valid_patterns)
-          (sound_append b.matchers c.matchers b.valid_patterns c.valid_patterns));
-    }
-
-optional_texts_read : (is_root : Bool) (key : List ℕ) (found : Option Data) (items : List Data)
-    (lists : List (List Condition)) → (optional_items found).result ≡ Ok items
-    → AllZip SaysMatcherText items lists
-    → IsTrue (have_valid_patterns (flat_map (λ ms. ms) lists))
-    → length (flat_map (λ ms. ms) lists) ≤ MAX_MATCHERS
-    → (is_root ≡ true → flat_map (λ ms. ms) lists ≡ [])
-    → (optional_texts is_root key found).result ≡ Ok (flat_map (λ ms. ms) lists)
-unfolding read_texts
-optional_texts_read is_root key None [] [] h said sound le none = refl
-optional_texts_read is_root key None [] (ms ∷ lists) h said sound le none = absurd said
-optional_texts_read is_root key None (e ∷ items) lists h said sound le none = absurd cc
-optional_texts_read is_root key (Some v) items lists h said sound le none =
-    rw (
-      h,
-      texts_read [] 0 items lists said sound (omega (arith, le)),
-      not_root_reads is_root (flat_map (λ ms. ms) lists) none,
-    ) refl
-
-optional_pairs_read : (is_root : Bool) (op : Op) (key : List ℕ) (d : Data)
-    (before ms : List Condition) → SaysPairs op key d ms → IsTrue (have_valid_patterns ms)
-    → length before + length ms ≤ MAX_MATCHERS → (is_root ≡ true → before ++ ms ≡ [])
-    → (optional_pairs is_root op key before (field key d)).result ≡ Ok (before ++ ms)
-unfolding read_pairs
-optional_pairs_read is_root op key d before ms (inl said) sound le none =
-    rw (said.0, said.1) (ap (λ (ns : List Condition). Ok ns) (sym (append-nil before)))
-optional_pairs_read is_root op key d before ms (inr said) sound le none =
-    rw (
-      said.1,
-      pairs_read op before (member_list said.0) ms said.2 sound le,
-      not_root_reads is_root (before ++ ms) none,
-    ) refl
-
-none_front : (xs ys : List Condition) → xs ++ ys ≡ [] → xs ≡ []
-none_front [] ys h = refl
-none_front (x ∷ xs) ys h = absurd cc
-
-matchers_read : (fields : MatcherFields) (is_root : Bool) (d : Data) (all : List Condition)
-    → SaysMatchers fields d all → (is_root ≡ true → all ≡ [])
-    → (read_matchers fields is_root d).result ≡ Ok all
-unfolding read_matchers
-matchers_read fields is_root d all said none =
-    let xs : List Condition = flat_map (λ ms. ms) said.lists in
-    let whole : all ≡ (xs ++ said.from_match) ++ said.from_match_re =
-    said.all ∙ sym (append_assoc xs said.from_match said.from_match_re) in
-    let sound =
-    sound_apart xs (said.from_match ++ said.from_match_re) (rw said.all at said.valid_patterns) in
-    let more = sound_apart said.from_match said.from_match_re sound.1 in
-    let few : length ((xs ++ said.from_match) ++ said.from_match_re) ≤ MAX_MATCHERS =
-    rw whole at said.few in
-    let two : length (xs ++ said.from_match) ≡ length xs + length said.from_match =
-    length-append xs said.from_match in
-    let three : length ((xs ++ said.from_match) ++ said.from_match_re) ≡ length
-    (xs ++ said.from_match) + length said.from_match_re = length-append (xs ++ said.from_match)
-    said.from_match_re in
-    let no_all : is_root ≡ true → (xs ++ said.from_match) ++ said.from_match_re ≡ [] =
-    λ e. sym whole ∙ none e in
-    let no_two : is_root ≡ true → xs ++ said.from_match ≡ [] =
-    λ e. none_front (xs ++ said.from_match) said.from_match_re (no_all e) in
-    let a = optional_texts_read is_root fields.texts (field fields.texts d) said.items said.lists
-    (optional_items_read fields.texts d said.items said.is_array) said.texts sound.0
-    (omega (arith, few, two, three)) (λ e. none_front xs said.from_match (no_two e)) in
-    let b = optional_pairs_read is_root Equal fields.equalities d xs said.from_match said.match
-    more.0 (omega (arith, few, two, three)) no_two in
-    let c = optional_pairs_read is_root Matches fields.patterns d (xs ++ said.from_match)
-    said.from_match_re said.match_re more.1 (omega (arith, few, three)) no_all in
-    rw (a, b, c) (ap (λ (ns : List Condition). Ok ns) (sym whole))
+use Rattle.am_files.proofs.ConfigParts.{optional_array_says, optional_array_reads}
+use Rattle.am_files.proofs.MatchersSay.{matchers_say, matchers_read}
+use Rattle.am_files.proofs.RuleSays.{rules_decide}
 
 -- ---- The fields of a route.
 
@@ -240,7 +53,7 @@ fields_say names parent before d fields h =
           read.matchers;
       continues_is = boolean_or_says false (codes "continue") d fields.settings.continues
           read.continues;
-      is_array = children_say d fields.items read.items;
+      is_array = optional_array_says (codes "routes") d fields.items read.items;
     }
 
 fields_read : (names : List (List ℕ)) (parent : Option ℕ) (before : ℕ) (d : Data)
@@ -256,7 +69,7 @@ fields_read names parent before d fields said room none =
       matchers_read route_matcher_fields (is_none parent) d fields.settings.matchers
           said.matchers_are none,
       boolean_or_reads false (codes "continue") d fields.settings.continues said.continues_is,
-      children_read d fields.items said.is_array,
+      optional_array_reads (codes "routes") d fields.items said.is_array,
     ) refl
 
 -- ---- Routes.
@@ -373,11 +186,6 @@ route_reads names (suc left) parent before d (route settings children) said leve
 
 -- ---- The file.
 
-rules_say : (found : Option Data) (x : ⊤) → (refuse_inhibit_rules found).result ≡ Ok x
-    → found ≡ None
-rules_say None x h = refl
-rules_say (Some d) x h = absurd cc
-
 pub config_says : (d : Data) (c : Configuration) → (read_config d).result ≡ Ok c → SaysConfig d c
 unfolding read_config
 config_says d c h =
@@ -387,15 +195,16 @@ config_says d c h =
     let root =
     bind_ok ((reading_within (to_field (codes "route"))
     (read_route names.0 MAX_LEVELS None 0 value.0)).result) _ c value.2 in
-    let rules =
-    bind_ok ((refuse_inhibit_rules (field (codes "inhibit_rules") d)).result) _ c root.2 in
+    let rules = bind_ok ((read_rules d).result) _ c root.2 in
     let read =
     within_ok (to_field (codes "route")) ((read_route names.0 MAX_LEVELS None 0 value.0).result)
     root.0 root.1 in
     let said = names_say d names.0 names.1 in
     let sound = route_sound names.0 MAX_LEVELS None 0 value.0 root.0 tt read in
-    let is : record { receivers = names.0; root = root.0 } ≡ c = same_read _ c rules.2 in
-    let all : SaysConfig d (record { receivers = names.0; root = root.0 }) = record {
+    let ruled = (rules_decide d).says rules.0 rules.1 in
+    let is : record { receivers = names.0; root = root.0; rules = rules.0 } ≡ c =
+    same_read _ c rules.2 in
+    let all : SaysConfig d (record { receivers = names.0; root = root.0; rules = rules.0 }) = record {
       items = said.items;
       is_array = said.is_array;
       names = said.names_are;
@@ -407,7 +216,10 @@ config_says d c h =
       unmatched = root_unmatched names.0 MAX_LEVELS 0 value.0 root.0 read;
       few_routes = omega (arith, sound.number);
       few_levels = sound.levels;
-      no_rules = rules_say (field (codes "inhibit_rules") d) rules.0 rules.1;
+      rule_items = ruled.items;
+      is_rule_array = ruled.is_array;
+      few_rules = ruled.few;
+      rules = ruled.each;
     } in
     subst (λ (x : Configuration). SaysConfig d x) is all
 
@@ -436,7 +248,15 @@ config_reads d c said =
     let root =
     route_reads c.receivers MAX_LEVELS None 0 said.root c.root said.says_root said.few_levels
     (omega (arith, said.few_routes)) (λ _. said.unmatched) in
-    rw (members.1, names, said.has_root, root, said.no_rules) refl
+    let rules =
+    (rules_decide d).reads c.rules
+    (record {
+      items = said.rule_items;
+      is_array = said.is_rule_array;
+      few = said.few_rules;
+      each = said.rules;
+    }) in
+    rw (members.1, names, said.has_root, root, rules) refl
 
 pub config_decides : (d : Data) → Decides (SaysConfig d) ((read_config d).result)
 config_decides d = record { says = config_says d; reads = config_reads d }

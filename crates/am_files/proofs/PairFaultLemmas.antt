@@ -12,13 +12,15 @@ use Rattle.am_universe.specs.declared.kind.Kind.TheVariants as kinds
 use Rattle.am_labels.specs.Matcher.{Condition}
 use Rattle.am_labels.specs.declared.limits.TheConstants.{MAX_MATCHERS}
 use Rattle.am_labels.specs.declared.op.Op.{Op}
-use Rattle.am_files.specs.ConfigFaults.{PairsPlace, field_pairs, given_fault}
-use Rattle.am_files.specs.ConfigFaults.{name_of_pair, object_shape, one_pair}
-use Rattle.am_files.specs.ConfigFaults.{pair_fault, pair_matcher, pair_name}
+use Rattle.am_json.specs.Places.{field_pairs, pair_name}
+use Rattle.am_files.specs.ConfigFaults.{PairsPlace, given_fault}
+use Rattle.am_files.specs.ConfigFaults.{object_shape, one_pair}
+use Rattle.am_files.specs.ConfigFaults.{pair_fault, pair_matcher}
 use Rattle.am_files.specs.ConfigFaults.{pair_total, pairs_fault, pairs_given, pairs_itself}
 use Rattle.am_files.specs.ConfigFaults.{pairs_matcher, pairs_path}
 use Rattle.am_files.specs.ConfigReading.{append_matchers, optional_pairs}
-use Rattle.am_files.specs.ConfigReading.{read_matcher_pair, read_named_text}
+use Rattle.am_records.specs.NamedText.{read_named_text}
+use Rattle.am_files.specs.ConfigReading.{read_matcher_pair}
 use Rattle.am_files.specs.ConfigReading.{read_next_pair, read_pairs, refuse_root_matchers}
 use Rattle.am_records.specs.MatcherFaults.{check_patterns, is_profile_pattern, one_pattern_fault}
 use Rattle.am_json.specs.Json.{member_list}
@@ -37,7 +39,7 @@ use Rattle.am_json.proofs.PlaceOrder.{lead}
 use Rattle.am_json.proofs.Readings.{bind_ok, same_read}
 use Rattle.am_json.proofs.SameReadings.{within_nothing}
 use Rattle.am_json.proofs.SequenceLemmas.{Sequence, all_judge, all_read, each_loop, next_form}
-use Rattle.am_json.proofs.SequenceLemmas.{pattern_of_next, sequence_form, slice_get_at}
+use Rattle.am_json.proofs.SequenceLemmas.{pair_name_at, pattern_of_next, sequence_form}
 
 -- ---- One pair.
 
@@ -107,8 +109,7 @@ module _ (op : Op) (before : ℕ) (pairs : List (List ℕ × Data)) where
     next_pair_form = next_form pairs_sequence front (name, d)
 
     named : pair_name pairs (length front) ≡ name
-    named = ap (λ (ps : List (List ℕ × Data)). name_of_pair (slice_get ps (length front))) e
-        ∙ ap name_of_pair (slice_get_at front (name, d) back)
+    named = pair_name_at pairs front (name, d) back e
 
     self_covers : (place : OnePair) → lead (rank_of (one_pair_path (length front) place)) ≡ 1
         → ⊤ × (place ≡ pair_self)

@@ -2,44 +2,39 @@
 -- more.
 use Rattle.std.proofs.Common.{Bool, List, None, Ok, Option, Some, [], ap, arith, codes, false}
 use Rattle.std.proofs.Common.{is_none, length, option_and_then, refl, slice_get, subst, suc, sum_by}
-use Rattle.std.proofs.Common.{sym, true, unwrap_or, zero, ℕ, ◌++◌, ◌+◌, ◌∙◌, ◌∷◌, ◌≡◌}
+use Rattle.std.proofs.Common.{sym, zero, ℕ, ◌++◌, ◌+◌, ◌∙◌, ◌∷◌, ◌≡◌}
 use Rattle.std.proofs.lemmas.List.Sums.{sum_by_push}
 use Rattle.serde_json.specs.Data.{Data}
 use Rattle.am_universe.specs.declared.kind.Kind.TheVariants as kinds
 use Rattle.am_labels.specs.Matcher.{Condition}
-use Rattle.am_labels.specs.declared.op.Op.TheVariants.{Equal, Matches}
-use Rattle.am_files.specs.ConfigFaults.{array_shape, child_values}
-use Rattle.am_files.specs.ConfigFaults.{pairs_of_route, receiver_fault, route_at, route_continue}
-use Rattle.am_files.specs.ConfigFaults.{route_field_path, route_match, route_match_re}
-use Rattle.am_files.specs.ConfigFaults.{route_matchers, route_receiver, routes_in, texts_of_route}
+use Rattle.am_files.specs.ConfigFaults.{array_shape, child_values, receiver_fault, route_at}
+use Rattle.am_files.specs.ConfigFaults.{route_continue, route_field_path, route_receiver, routes_in}
 use Rattle.am_files.specs.ConfigFaults.{tree_fault, tree_matcher, way_path}
-use Rattle.am_files.specs.ConfigFile.{RouteTree, route_count, route_fields, routes_count, routes_of}
-use Rattle.am_files.specs.ConfigReading.{effective_receiver, read_route}
-use Rattle.am_json.specs.Json.{field, items_of}
-use Rattle.am_json.specs.Places.{ArrayPlace, in_field, items_in_field, known_member}
-use Rattle.am_json.specs.Places.{boolean_fault, object_itself, object_path}
+use Rattle.am_files.specs.ConfigFile.{RouteTree, route_count, route_fields, route_matcher_fields}
+use Rattle.am_files.specs.ConfigFile.{routes_count, routes_of}
+use Rattle.am_files.specs.ConfigReading.{effective_receiver, read_matchers, read_route}
+use Rattle.am_json.specs.Json.{field}
+use Rattle.am_json.specs.Places.{ArrayPlace, in_field, items_in_field, known_member, boolean_fault}
+use Rattle.am_json.specs.Places.{object_itself, object_path}
 use Rattle.am_json.specs.Pointer.{to_field}
 use Rattle.am_json.specs.Reading.{Reading, accept, check_count, check_only_fields, read_items}
 use Rattle.am_json.specs.Reading.{boolean_or, reading_within, ◌>>=◌}
 use Rattle.am_json.proofs.FieldLemmas.{boolean_judged}
 use Rattle.am_files.specs.declared.limits.TheConstants.{MAX_ROUTES}
 use Rattle.am_records.specs.MatcherFaults.{is_profile_pattern}
-use Rattle.am_files.proofs.MatcherFaultLemmas.{texts_field_gives, texts_field_judged, texts_reading}
-use Rattle.am_files.proofs.PairFaultLemmas.{pairs_field_gives, pairs_field_judged, pairs_reading}
-use Rattle.am_json.proofs.PlaceLemmas.{Clear, Form, Judges, itself_refused, judges_plain}
-use Rattle.am_json.proofs.PlaceLemmas.{one_place, part_judges}
+use Rattle.am_json.proofs.PlaceLemmas.{Clear, Form, Judges, itself_refused, judges_plain, one_place}
+use Rattle.am_json.proofs.PlaceLemmas.{part_judges}
 use Rattle.am_json.proofs.Readings.{bind_ok, same_read, within_ok}
-use Rattle.am_files.proofs.RouteParts.{receiver_judged}
-use Rattle.am_files.proofs.RouteParts.{TreePlace, children_sequence, continue_part}
-use Rattle.am_files.proofs.RouteParts.{into_tree, match_part, match_re_part, match_re_rules}
-use Rattle.am_files.proofs.RouteParts.{match_rules, reached_judged, receiver_part, routes_part}
-use Rattle.am_files.proofs.RouteParts.{routes_rules, texts_part, texts_rules, tree_clear, tree_form}
+use Rattle.am_files.proofs.RouteParts.{TreePlace, children_sequence, continue_part, into_tree}
+use Rattle.am_files.proofs.RouteParts.{matchers_side, of_side, reached_judged, receiver_judged}
+use Rattle.am_files.proofs.RouteParts.{receiver_part, routes_part, routes_rules, tree_clear}
+use Rattle.am_files.proofs.RouteParts.{tree_form}
 use Rattle.am_files.proofs.RouteSteps.{children_reading, made_route, read_child, route_children}
-use Rattle.am_files.proofs.RouteSteps.{route_continues, route_match_on, route_match_re_on}
-use Rattle.am_files.proofs.RouteSteps.{route_matchers_on, route_rest, route_steps}
+use Rattle.am_files.proofs.RouteSteps.{route_continues, route_matchers_on, route_rest, route_steps}
 use Rattle.am_files.proofs.Routing.{count_push}
-use Rattle.am_json.proofs.SequenceLemmas.{array_form, array_judged, items_are_read, items_judged}
-use Rattle.am_json.proofs.SequenceLemmas.{next_form, required_array, required_array_gives}
+use Rattle.am_files.proofs.OptionalArrays.{optional_array, optional_array_gives}
+use Rattle.am_files.proofs.SideFaultLemmas.{side_judges}
+use Rattle.am_json.proofs.SequenceLemmas.{array_form, items_are_read, items_judged, next_form}
 use Rattle.am_json.proofs.SequenceLemmas.{sequence_form, slice_get_at}
 
 -- ---- The children.
@@ -120,27 +115,18 @@ module _ (names : List (List ℕ)) (left : ℕ) (sound : Sound names left) (rece
 
   field_children : (found : Option Data) → child_values d ≡ items_in_field found
       → Judges (children_rules found) (children_reading names left receiver before found)
-  field_children None are =
-      array_judged (children_sequence names left before d) [] (read_items child_reading [] [])
-      (children_judged [] are)
-  field_children (Some v) are =
-      required_array (children_sequence names left before d) (λ _. None)
-      (read_items child_reading []) (items_of v)
-      (children_judged (unwrap_or (items_of v) []) are)
-
-  field_read : (found : Option Data) (trees : List RouteTree)
-      → (children_reading names left receiver before found).result ≡ Ok trees
-      → (read_items child_reading [] (items_in_field found)).result ≡ Ok trees
-  field_read None trees ok = ok
-  field_read (Some v) trees ok =
-      required_array_gives (λ _. None) (read_items child_reading []) (items_of v) trees ok
+  field_children found are =
+      optional_array (λ _. None) (read_items child_reading [])
+      (children_sequence names left before d) found refl
+      (children_judged (items_in_field found) are)
 
   field_counted : (found : Option Data) (trees : List RouteTree)
       → child_values d ≡ items_in_field found
       → (children_reading names left receiver before found).result ≡ Ok trees
       → routes_count (routes_of trees) ≡ sum_by (routes_in left) (child_values d)
   field_counted found trees are ok =
-      children_counted (items_in_field found) are trees (field_read found trees ok)
+      children_counted (items_in_field found) are trees
+      (optional_array_gives (λ _. None) (read_items child_reading []) found trees ok)
       ∙ sym (ap (sum_by (routes_in left)) are)
 
 -- ---- One level more.
@@ -178,58 +164,13 @@ module _ (names : List (List ℕ)) (left : ℕ) (sound : Sound names left) (pare
       (boolean_judged false (field (codes "continue") d))
       (λ continues _ next. routes_judged receiver matchers continues next)
 
-  -- the count of matchers, and that the top-level route has none
-  abbrev Given : List Condition → ℕ → Type 0
-  Given ms count = (length ms ≡ count) × ((is_root ≡ true) → ms ≡ [])
-
-  bare_count : (ms : List Condition) (count : ℕ) → Given ms count → (is_root ≡ true) → count ≡ 0
-  bare_count ms count given e = sym given.0 ∙ ap length (given.1 e)
-
-  match_re_judged : (receiver : ℕ) (equal : List Condition)
-      → Given equal (length (texts_of_route d) + length (pairs_of_route d)) → Clear one_more 5
-      → Judges one_more (route_match_re_on names left parent before d receiver equal)
-  match_re_judged receiver equal given clear =
-      part_judges one_more 4 (known_member 4 (codes "match_re"))
-      (match_re_rules names is_root left before d)
-      (λ inner. ([], in_field (route_match_re inner)))
-      (match_re_part names is_root left before d) clear
-      (pairs_reading is_root Matches equal (field (codes "match_re") d))
-      (route_continues names left parent before d receiver)
-      (pairs_field_judged is_root Matches (length (texts_of_route d) + length (pairs_of_route d))
-      equal (field (codes "match_re") d)
-      (bare_count equal (length (texts_of_route d) + length (pairs_of_route d)) given)
-      given.0)
-      (λ matchers _ next. continues_judged receiver matchers next)
-
-  match_judged : (receiver : ℕ) (texts : List Condition) → Given texts (length (texts_of_route d))
-      → Clear one_more 4 → Judges one_more (route_match_on names left parent before d receiver
-      texts)
-  match_judged receiver texts given clear =
-      part_judges one_more 3 (known_member 3 (codes "match"))
-      (match_rules names is_root left before d) (λ inner. ([], in_field (route_match inner)))
-      (match_part names is_root left before d) clear
-      (pairs_reading is_root Equal texts (field (codes "match") d))
-      (route_match_re_on names left parent before d receiver)
-      (pairs_field_judged is_root Equal (length (texts_of_route d)) texts
-      (field (codes "match") d) (bare_count texts (length (texts_of_route d)) given) given.0)
-      (λ equal ok next.
-      let gives = pairs_field_gives is_root Equal texts equal (field (codes "match") d) given.1
-      ok in
-      match_re_judged receiver equal
-      (gives.0 ∙ ap (λ (n : ℕ). n + length (pairs_of_route d)) given.0, gives.1) next)
-
   matchers_judged : (receiver : ℕ) → Clear one_more 3
       → Judges one_more (route_matchers_on names left parent before d receiver)
   matchers_judged receiver clear =
-      part_judges one_more 2 (known_member 2 (codes "matchers"))
-      (texts_rules names is_root left before d) (λ inner. ([], in_field (route_matchers inner)))
-      (texts_part names is_root left before d) clear
-      (texts_reading is_root (field (codes "matchers") d))
-      (route_match_on names left parent before d receiver)
-      (texts_field_judged is_root (field (codes "matchers") d))
-      (λ texts ok next.
-      let gives = texts_field_gives is_root (field (codes "matchers") d) texts ok in
-      match_judged receiver texts (sym (ap length gives.0), gives.1) next)
+      side_judges 2 is_root route_matcher_fields d one_more of_side
+      (matchers_side names is_root left before d)
+      (route_continues names left parent before d receiver)
+      (λ matchers next. continues_judged receiver matchers next) clear
 
   rest_judged : Clear one_more 2 → Judges one_more (route_rest names left parent before d)
   rest_judged clear =
@@ -258,19 +199,8 @@ module _ (names : List (List ℕ)) (left : ℕ) (sound : Sound names left) (pare
       let receiver = bind_ok (reading_within (to_field (codes "receiver"))
       (effective_receiver names parent (field (codes "receiver") d))).result
       (λ x. (route_matchers_on names left parent before d x).result) t fields.2 in
-      let texts = bind_ok
-      (reading_within (to_field (codes "matchers"))
-      (texts_reading is_root (field (codes "matchers") d))).result
-      (λ x. (route_match_on names left parent before d receiver.0 x).result) t
-      receiver.2 in
-      let equal = bind_ok
-      (reading_within (to_field (codes "match"))
-      (pairs_reading is_root Equal texts.0 (field (codes "match") d))).result
-      (λ x. (route_match_re_on names left parent before d receiver.0 x).result) t
-      texts.2 in
-      let matchers = bind_ok (reading_within (to_field (codes "match_re"))
-      (pairs_reading is_root Matches equal.0 (field (codes "match_re") d))).result
-      (λ x. (route_continues names left parent before d receiver.0 x).result) t equal.2 in
+      let matchers = bind_ok (read_matchers route_matcher_fields is_root d).result
+      (λ x. (route_continues names left parent before d receiver.0 x).result) t receiver.2 in
       let continues = bind_ok (reading_within (to_field (codes "continue"))
       (boolean_or false (field (codes "continue") d))).result
       (λ x. (route_children names left parent before d receiver.0 matchers.0 x).result) t

@@ -1,44 +1,39 @@
 -- The fields of a route as parts of the tree of routes, and a route when it is reached.
 use Rattle.std.proofs.Common.{Bool, Less, List, None, Option, Some, [], append-nil, arith, codes}
-use Rattle.std.proofs.Common.{false, is_none, length, nat_lt, position, refl, slice_get, suc}
-use Rattle.std.proofs.Common.{subst, sum_by, true, ℕ, ◌++◌, ◌+◌, ◌∙◌, ◌∷◌, ◌≡◌, ◌≤◌}
+use Rattle.std.proofs.Common.{false, is_none, nat_lt, position, refl, slice_get, subst, suc, sum_by}
+use Rattle.std.proofs.Common.{true, ℕ, ◌++◌, ◌+◌, ◌<◌, ◌∙◌, ◌∷◌, ◌≡◌, ◌≤◌}
 use Rattle.std.specs.Cmp.Lexicographic.{slice_cmp}
 use Rattle.std.specs.Ordering.{nat_cmp}
 use Rattle.std.specs.Prelude.{if◌then◌else◌, ⊤}
 use Rattle.serde_json.specs.Data.{Data, Members}
-use Rattle.serde_json.specs.Find.{as_str}
 use Rattle.serde_json.specs.Find as find
 use Rattle.am_universe.specs.Text.{same_text}
 use Rattle.am_universe.specs.declared.kind.Kind.TheVariants as kinds
-use Rattle.am_labels.specs.declared.op.Op.TheVariants.{Equal, Matches}
-use Rattle.am_files.specs.ConfigFaults.{PairsPlace, RoutePlace, TextsPlace, array_shape}
-use Rattle.am_files.specs.ConfigFaults.{child_values, field_pairs}
-use Rattle.am_files.specs.ConfigFaults.{named_receiver_fault, object_shape, pairs_of_route}
-use Rattle.am_files.specs.ConfigFaults.{receiver_fault, route_at, route_continue, route_field_path}
-use Rattle.am_files.specs.ConfigFaults.{route_match, route_match_re, route_matchers, route_receiver}
-use Rattle.am_files.specs.ConfigFaults.{route_routes, routes_in, texts_of_route, tree_fault}
-use Rattle.am_files.specs.ConfigFaults.{tree_matcher, way_path}
-use Rattle.am_files.specs.ConfigFile.{route_fields}
+use Rattle.am_files.specs.ConfigFaults.{RoutePlace, SidePlace, array_shape, child_values}
+use Rattle.am_files.specs.ConfigFaults.{named_receiver_fault, receiver_fault, route_at}
+use Rattle.am_files.specs.ConfigFaults.{route_continue, route_field_path, route_match}
+use Rattle.am_files.specs.ConfigFaults.{route_match_re, route_matchers, route_receiver}
+use Rattle.am_files.specs.ConfigFaults.{route_routes, routes_in, side_equalities, side_patterns}
+use Rattle.am_files.specs.ConfigFaults.{side_texts, tree_fault, tree_matcher, way_path}
+use Rattle.am_json.specs.Places.{ArrayPlace, IsBefore, IsFirstFault, array_item, array_itself}
+use Rattle.am_json.specs.Places.{has_unknown, in_field, in_item, known_member, object_itself}
+use Rattle.am_json.specs.Places.{object_path, other_field, rank_of, boolean_fault, shape_or}
+use Rattle.am_files.specs.ConfigFile.{route_fields, route_matcher_fields}
 use Rattle.am_files.specs.ConfigReading.{effective_receiver, receiver_named}
 use Rattle.am_json.specs.Json.{field, is_one_of, unknown_field}
-use Rattle.am_json.specs.Places.{ArrayPlace, IsBefore, IsFirstFault, array_item, array_itself}
-use Rattle.am_json.specs.Places.{has_unknown, in_field, in_item, items_in_field}
-use Rattle.am_json.specs.Places.{known_member, object_itself, object_path, other_field, rank_of}
-use Rattle.am_json.specs.Places.{boolean_fault, shape_or}
 use Rattle.am_json.specs.Pointer.{refusal_here, refusal_within, to_field}
-use Rattle.am_json.specs.Reading.{Reading, accept_some, check_count, check_only_fields}
-use Rattle.am_json.specs.Reading.{refuse_for, refuse_unknown_field, ◌>>=◌}
+use Rattle.am_json.specs.Reading.{Reading, accept_some, check_count, check_only_fields, refuse_for}
+use Rattle.am_json.specs.Reading.{refuse_unknown_field, ◌>>=◌}
 use Rattle.am_files.specs.declared.limits.TheConstants.{MAX_ROUTES}
 use Rattle.am_records.specs.MatcherFaults.{is_profile_pattern}
-use Rattle.am_files.proofs.MatcherFaultLemmas.{texts_form}
 use Rattle.am_json.proofs.ObjectLemmas.{least_unknown, not_unknown}
-use Rattle.am_files.proofs.PairFaultLemmas.{pairs_form}
 use Rattle.am_json.proofs.PlaceLemmas.{Clear, Form, IsPart, Judges, itself_refused, one_accepted}
 use Rattle.am_json.proofs.PlaceLemmas.{one_place, one_refused, said, said_of, shape_judged}
 use Rattle.am_json.proofs.PlaceLemmas.{some_judged}
 use Rattle.am_json.proofs.PlaceOrder.{lead, lead_le, rest_decides}
 use Rattle.am_json.proofs.SequenceLemmas.{Sequence, array_form, pattern_of_next}
 use Rattle.am_files.proofs.Positions.{position_any}
+use Rattle.am_files.proofs.SideFaultLemmas.{IsSide}
 
 -- ---- The receiver of a route.
 
@@ -92,6 +87,12 @@ abbrev pub into_tree : ArrayPlace TreePlace → TreePlace
 into_tree array_itself = ([], in_field route_routes)
 into_tree (in_item i (way, place)) = (i ∷ way, place)
 
+-- its fields with matchers
+abbrev pub of_side : SidePlace → TreePlace
+of_side (side_texts place) = ([], in_field (route_matchers place))
+of_side (side_equalities place) = ([], in_field (route_match place))
+of_side (side_patterns place) = ([], in_field (route_match_re place))
+
 module _ (names : List (List ℕ)) (is_root : Bool) (left before : ℕ) (d : Data) where
   abbrev pub whole : Form TreePlace
   whole = tree_form names is_root (suc left) before d
@@ -104,20 +105,12 @@ module _ (names : List (List ℕ)) (is_root : Bool) (left before : ℕ) (d : Dat
   receiver_covers ([], in_field route_receiver) e = (tt, refl)
   receiver_covers place e = absurd (omega (arith, e))
 
-  texts_cover : (place : TreePlace) → tree_lead place ≡ 3
-      → (inner : TextsPlace) × (place ≡ ([], in_field (route_matchers inner)))
-  texts_cover ([], in_field (route_matchers inner)) e = (inner, refl)
-  texts_cover place e = absurd (omega (arith, e))
-
-  match_covers : (place : TreePlace) → tree_lead place ≡ 4
-      → (inner : PairsPlace) × (place ≡ ([], in_field (route_match inner)))
-  match_covers ([], in_field (route_match inner)) e = (inner, refl)
-  match_covers place e = absurd (omega (arith, e))
-
-  match_re_covers : (place : TreePlace) → tree_lead place ≡ 5
-      → (inner : PairsPlace) × (place ≡ ([], in_field (route_match_re inner)))
-  match_re_covers ([], in_field (route_match_re inner)) e = (inner, refl)
-  match_re_covers place e = absurd (omega (arith, e))
+  matchers_cover : (place : TreePlace) → 2 < tree_lead place → tree_lead place ≤ 5
+      → (inner : SidePlace) × (place ≡ of_side inner)
+  matchers_cover ([], in_field (route_matchers inner)) gt le = (side_texts inner, refl)
+  matchers_cover ([], in_field (route_match inner)) gt le = (side_equalities inner, refl)
+  matchers_cover ([], in_field (route_match_re inner)) gt le = (side_patterns inner, refl)
+  matchers_cover place gt le = absurd (omega (arith, gt, le))
 
   continue_covers : (place : TreePlace) → tree_lead place ≡ 6
       → ⊤ × (place ≡ ([], in_field route_continue))
@@ -135,37 +128,15 @@ module _ (names : List (List ℕ)) (is_root : Bool) (left before : ℕ) (d : Dat
       (λ _. ([], in_field route_receiver))
   receiver_part = record { rank = refl; seen = λ _. refl; covers = receiver_covers }
 
-  abbrev texts_field : Option Data
-  texts_field = field (codes "matchers") d
-
-  abbrev match_field : Option Data
-  match_field = field (codes "match") d
-
-  abbrev match_re_field : Option Data
-  match_re_field = field (codes "match_re") d
-
-  abbrev pub texts_rules : Form TextsPlace
-  texts_rules = texts_form is_root (array_shape texts_field) (items_in_field texts_field)
-
-  abbrev pub match_rules : Form PairsPlace
-  match_rules = pairs_form is_root Equal (length (texts_of_route d)) (object_shape
-      match_field) (field_pairs match_field)
-
-  abbrev pub match_re_rules : Form PairsPlace
-  match_re_rules = pairs_form is_root Matches (length (texts_of_route d) + length
-      (pairs_of_route d)) (object_shape match_re_field) (field_pairs match_re_field)
-
-  pub texts_part : IsPart whole 2 (known_member 2 (codes "matchers")) texts_rules
-      (λ inner. ([], in_field (route_matchers inner)))
-  texts_part = record { rank = refl; seen = λ _. refl; covers = texts_cover }
-
-  pub match_part : IsPart whole 3 (known_member 3 (codes "match")) match_rules
-      (λ inner. ([], in_field (route_match inner)))
-  match_part = record { rank = refl; seen = λ _. refl; covers = match_covers }
-
-  pub match_re_part : IsPart whole 4 (known_member 4 (codes "match_re")) match_re_rules
-      (λ inner. ([], in_field (route_match_re inner)))
-  match_re_part = record { rank = refl; seen = λ _. refl; covers = match_re_covers }
+  pub matchers_side : IsSide 2 is_root route_matcher_fields d whole of_side
+  matchers_side = record {
+    seen = elim [
+      | side_texts place ↦ refl
+      | side_equalities place ↦ refl
+      | side_patterns place ↦ refl
+    ];
+    covers = matchers_cover;
+  }
 
   pub continue_part : IsPart whole 5 (known_member 5 (codes "continue"))
       (one_place (boolean_fault (field (codes "continue") d))) (λ _. ([], in_field route_continue))

@@ -14,7 +14,7 @@ use Rattle.am_json.specs.Reading.{IsRefusalOrMemory, Fails}
 use Rattle.am_files.specs.ConfigFile.{RouteTree, route, routes_of, route_count, routes_count}
 use Rattle.am_files.specs.ConfigFile.{route_fields, route_matcher_fields}
 use Rattle.am_files.specs.ConfigReading.{RouteFields, read_receiver, read_matchers}
-use Rattle.am_files.specs.ConfigReading.{read_children, read_route_fields, read_route}
+use Rattle.am_files.specs.ConfigReading.{read_optional_items, read_route_fields, read_route}
 use Rattle.am_files.specs.ConfigReading.{read_next_child}
 use Rattle.am_json.proofs.Readings.{Leads, leads-refl, leads_on, fails_led, fails_first}
 use Rattle.am_json.proofs.Readings.{fails_refused, bind_ok, check_count_ok, same_read}
@@ -105,7 +105,7 @@ pub record AreRead (names : List (List ℕ)) (parent : Option ℕ) (before : ℕ
   pub matchers : (read_matchers route_matcher_fields (is_none parent) d).result ≡ Ok
       fields.settings.matchers
   pub continues : (read_boolean_or false (codes "continue") d).result ≡ Ok fields.settings.continues
-  pub items : (read_children d).result ≡ Ok fields.items
+  pub items : (read_optional_items (codes "routes") d).result ≡ Ok fields.items
 
 pub are_read : (names : List (List ℕ)) (parent : Option ℕ) (before : ℕ) (d : Data)
     (fields : RouteFields) → (read_route_fields names parent before d).result ≡ Ok fields
@@ -119,7 +119,7 @@ are_read names parent before d fields h =
     bind_ok ((read_matchers route_matcher_fields (is_none parent) d).result) _ fields
     receiver.2 in
     let continues = bind_ok ((read_boolean_or false (codes "continue") d).result) _ fields matchers.2 in
-    let items = bind_ok ((read_children d).result) _ fields continues.2 in
+    let items = bind_ok ((read_optional_items (codes "routes") d).result) _ fields continues.2 in
     let is : record {
       settings = record
           { receiver = receiver.0; matchers = matchers.0; continues = continues.0 };

@@ -19,7 +19,8 @@ use Rattle.am_json.specs.Json.{field, member_list}
 use Rattle.am_json.specs.Pointer.{refusal_here, to_field}
 use Rattle.am_json.specs.Reading.{reading_within, as_text, as_items, as_object, read_each}
 use Rattle.am_json.specs.Reading.{read_next_item, read_items}
-use Rattle.am_files.specs.ConfigFile.{RouteSettings, RouteTree, route, Routes, no_routes, IsConfig}
+use Rattle.am_files.specs.ConfigFile.{RouteSettings, RouteTree, route, Routes, no_routes, Rule}
+use Rattle.am_files.specs.ConfigFile.{IsConfig}
 use Rattle.am_files.specs.ConfigFile.{MatcherFields, route_matcher_fields, routes_of, matchers_of}
 use Rattle.am_files.specs.ConfigFile.{route_count, routes_count, route_levels, routes_levels}
 use Rattle.am_files.specs.ConfigFile.{has_receivers_below, have_receivers_below}
@@ -245,10 +246,10 @@ root_unmatched names (suc left) before d t h =
 
 -- ---- The configuration.
 
-pub config_sound : (names : List (List ℕ)) (d : Data) (t : RouteTree)
+pub config_sound : (names : List (List ℕ)) (d : Data) (t : RouteTree) (rules : List Rule)
     → (read_route names MAX_LEVELS None 0 d).result ≡ Ok t
-    → IsConfig (record { receivers = names; root = t })
-config_sound names d t h =
+    → IsConfig (record { receivers = names; root = t; rules = rules })
+config_sound names d t rules h =
     let is = route_sound names MAX_LEVELS None 0 d t tt h in
     record {
       receivers_declared = is.in_range;

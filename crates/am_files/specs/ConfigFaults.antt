@@ -15,17 +15,20 @@ use Rattle.am_labels.specs.declared.op.Op.TheVariants.{Equal, Matches}
 use Rattle.am_labels.specs.declared.limits.TheConstants.{MAX_MATCHERS}
 use Rattle.am_labels.specs.Matcher.{Condition}
 use Rattle.am_labels.specs.MatcherReading.{read_list}
-use Rattle.am_json.specs.Json.{field, is_one_of, items_of, member_list}
+use Rattle.am_json.specs.Json.{field, is_one_of, items_of}
 use Rattle.am_json.specs.Pointer.{Refusal}
 use Rattle.am_json.specs.Places.{Step, known_member, array_item, turn, IsFirstFault}
 use Rattle.am_json.specs.Places.{IsFirstFaultOfFile, IsMetPattern, IsMetPatternOfFile, shape_or}
 use Rattle.am_json.specs.Places.{if_there, boolean_fault, is_empty, limit_fault, text_of, name_of}
 use Rattle.am_json.specs.Places.{ObjectPlace, object_itself, other_field, in_field, object_path}
 use Rattle.am_json.specs.Places.{object_fault, open_object_fault, ArrayPlace, array_path}
-use Rattle.am_json.specs.Places.{items_in_field, required_array_fault}
-use Rattle.am_files.specs.ConfigFile.{route_fields}
-use Rattle.am_records.specs.MatcherFaults.{one_pattern_fault, is_profile_pattern}
+use Rattle.am_json.specs.Places.{items_in_field, items_path, array_fault, required_array_fault}
+use Rattle.am_json.specs.Places.{OnlyPlace, only_path, in_item, field_pairs, pair_name}
+use Rattle.am_files.specs.ConfigFile.{MatcherFields, route_fields, rule_fields}
+use Rattle.am_files.specs.ConfigFile.{source_matcher_fields, target_matcher_fields}
+use Rattle.am_records.specs.MatcherFaults.{label_name_fault, one_pattern_fault, is_profile_pattern}
 use Rattle.am_files.specs.declared.limits.TheConstants.{MAX_RECEIVERS, MAX_ROUTES, MAX_LEVELS}
+use Rattle.am_files.specs.declared.limits.TheConstants.{MAX_RULES, MAX_EQUAL_NAMES}
 
 -- ---- Receivers (reference, "<receiver>").
 
@@ -138,19 +141,6 @@ pub data PairsPlace : Type 0 where
   pair_total : ℕ → PairsPlace
   -- that it gives a matcher, which it may not on the top-level route
   pairs_given : PairsPlace
-
--- The names and their values, and none where the field has no object.
-abbrev pub field_pairs : Option Data → List (List ℕ × Data)
-field_pairs found = unwrap_or (option_map member_list (option_and_then as_object found)) []
-
--- The name of a pair, if there is one.
-abbrev pub name_of_pair : Option (List ℕ × Data) → List ℕ
-name_of_pair None = []
-name_of_pair (Some pair) = pair.0
-
--- The name at a position.
-abbrev pub pair_name : List (List ℕ × Data) → ℕ → List ℕ
-pair_name pairs j = name_of_pair (slice_get pairs j)
 
 -- The steps to each place: the object, then the pairs in their order, each with its two places, and
 -- then that a matcher is given.
@@ -317,13 +307,91 @@ root_fault names None [] object_itself = Some kinds.Shape
 root_fault names None way place = None
 root_fault names (Some d) way place = tree_fault names true MAX_LEVELS 0 d way place
 
+-- ---- Inhibition rules (reference, "<inhibit_rule>").
+
+-- The places of one side of a rule, in its three fields with matchers.
+pub data SidePlace : Type 0 where
+  side_texts : TextsPlace → SidePlace
+  side_equalities : PairsPlace → SidePlace
+  side_patterns : PairsPlace → SidePlace
+
+-- The steps to each, where the fields have these names, and so many fields of the rule come before
+-- them.
+abbrev pub side_path : ℕ → MatcherFields → Option Data → SidePlace → List Step
+side_path before fields found (side_texts place) =
+    known_member (before + 1) fields.texts ∷ texts_path place
+side_path before fields found (side_equalities place) =
+    known_member (before + 2) fields.equalities
+    ∷ pairs_path (field_pairs (option_and_then (field fields.equalities) found)) place
+side_path before fields found (side_patterns place) =
+    known_member (before + 3) fields.patterns
+    ∷ pairs_path (field_pairs (option_and_then (field fields.patterns) found)) place
+
+-- What is wrong at each, as at the fields of a route below the top-level one.
+abbrev pub side_fault : MatcherFields → Data → SidePlace → Option Kind
+side_fault fields d (side_texts place) =
+    let found = field fields.texts d in
+    texts_fault false (array_shape found) (items_in_field found) place
+side_fault fields d (side_equalities place) =
+    let found = field fields.equalities d in
+    pairs_fault false Equal (length (field_matchers (field fields.texts d))) (object_shape found)
+    (field_pairs found) place
+side_fault fields d (side_patterns place) =
+    let found = field fields.patterns d in
+    pairs_fault false Matches
+    (length (field_matchers (field fields.texts d))
+    + length (field_pairs (field fields.equalities d)))
+    (object_shape found) (field_pairs found) place
+
+-- The fields of a rule that are read, with their places.
+pub data RuleField : Type 0 where
+  rule_source : SidePlace → RuleField
+  rule_target : SidePlace → RuleField
+  rule_equal : ArrayPlace OnlyPlace → RuleField
+
+-- The steps to a place in a field, where the value of the rule is this, if there is one.
+abbrev pub rule_field_path : Option Data → RuleField → List Step
+rule_field_path found (rule_source place) = side_path 0 source_matcher_fields found place
+rule_field_path found (rule_target place) = side_path 3 target_matcher_fields found place
+rule_field_path found (rule_equal place) =
+    known_member 7 (codes "equal") ∷ array_path only_path place
+
+-- The places of a rule, and the steps to each.
+abbrev pub RulePlace : Type 0
+RulePlace = ObjectPlace RuleField
+
+abbrev pub rule_path : Option Data → RulePlace → List Step
+rule_path found place = object_path (rule_field_path found) place
+
+-- What is wrong with an array that may be absent: it is none, or has too many items.
+abbrev pub optional_array_fault : ℕ → Option Data → Option Kind
+optional_array_fault limit found =
+    if_there (λ d. shape_or (λ items. limit_fault limit (length items)) (items_of d)) found
+
+-- What is wrong with an item of `equal`: it is no text, or it is empty.
+abbrev pub equal_name_fault : Data → Option Kind
+equal_name_fault d = shape_or label_name_fault (as_str d)
+
+-- What is wrong at a place in the fields of a rule.
+abbrev pub rule_field_fault : Data → RuleField → Option Kind
+rule_field_fault d (rule_source place) = side_fault source_matcher_fields d place
+rule_field_fault d (rule_target place) = side_fault target_matcher_fields d place
+rule_field_fault d (rule_equal place) =
+    let found = field (codes "equal") d in
+    array_fault (optional_array_fault MAX_EQUAL_NAMES found)
+    (λ before item at. equal_name_fault item) (items_in_field found) place
+
+-- What is wrong at a place of a rule, which has no other fields than those of its form.
+abbrev pub rule_fault_at : Data → RulePlace → Option Kind
+rule_fault_at d place = object_fault rule_fields (as_object d) (rule_field_fault d) place
+
 -- ---- The file (reference, "File layout and global settings").
 
 -- The fields of the file, with their places.
 pub data ConfigField : Type 0 where
   config_receivers : ArrayPlace ReceiverPlace → ConfigField
   config_route : List ℕ → RoutePlace → ConfigField
-  config_rules : ConfigField
+  config_rules : ArrayPlace RulePlace → ConfigField
 
 -- The places of the file.
 abbrev pub ConfigPlace : Type 0
@@ -340,7 +408,9 @@ config_field_path d (config_receivers place) =
 config_field_path d (config_route way place) =
     known_member 2 (codes "route")
     ∷ (way_path way ++ object_path (route_field_path (config_route_at d way)) place)
-config_field_path d config_rules = known_member 3 (codes "inhibit_rules") ∷ []
+config_field_path d (config_rules place) =
+    known_member 3 (codes "inhibit_rules")
+    ∷ items_path rule_path (items_in_field (field (codes "inhibit_rules") d)) place
 
 abbrev pub config_path : Data → ConfigPlace → List Step
 config_path d place = object_path (config_field_path d) place
@@ -349,15 +419,17 @@ config_path d place = object_path (config_field_path d) place
 abbrev pub declared_names : Data → List (List ℕ)
 declared_names d = map name_of (items_in_field (field (codes "receivers") d))
 
--- What is wrong at a place in the fields of the file; inhibition rules are not read yet.
+-- What is wrong at a place in the fields of the file.
 abbrev pub config_field_fault : Data → ConfigField → Option Kind
 config_field_fault d (config_receivers place) =
     required_array_fault (limit_fault MAX_RECEIVERS) receiver_fault_at (field (codes "receivers") d)
     place
 config_field_fault d (config_route way place) =
     root_fault (declared_names d) (field (codes "route") d) way place
-config_field_fault d config_rules =
-    if_there (λ _. Some kinds.UnknownField) (field (codes "inhibit_rules") d)
+config_field_fault d (config_rules place) =
+    let found = field (codes "inhibit_rules") d in
+    array_fault (optional_array_fault MAX_RULES found) (λ before item at. rule_fault_at item at)
+    (items_in_field found) place
 
 -- What is wrong at a place of the file; its other fields are not read.
 abbrev pub config_fault_at : Data → ConfigPlace → Option Kind
@@ -366,7 +438,7 @@ config_fault_at d place = open_object_fault (as_object d) (config_field_fault d)
 -- ---- Patterns.
 
 -- The matcher whose pattern is looked at in a place of texts, of pairs, of a route, of the route at
--- the end of a way, and of the file.
+-- the end of a way, of one side of a rule, of a rule, and of the file.
 abbrev pub texts_matcher : List Data → TextsPlace → Option Condition
 texts_matcher items (text_pattern i j) = text_matcher items i j
 texts_matcher items _ = None
@@ -389,9 +461,25 @@ tree_matcher d way (in_field place) =
     option_and_then (λ route. route_matcher route place) (route_at d way)
 tree_matcher d way _ = None
 
+abbrev pub side_matcher : MatcherFields → Data → SidePlace → Option Condition
+side_matcher fields d (side_texts place) =
+    texts_matcher (items_in_field (field fields.texts d)) place
+side_matcher fields d (side_equalities place) =
+    pairs_matcher Equal (field_pairs (field fields.equalities d)) place
+side_matcher fields d (side_patterns place) =
+    pairs_matcher Matches (field_pairs (field fields.patterns d)) place
+
+abbrev pub rule_matcher : Data → RulePlace → Option Condition
+rule_matcher d (in_field (rule_source place)) = side_matcher source_matcher_fields d place
+rule_matcher d (in_field (rule_target place)) = side_matcher target_matcher_fields d place
+rule_matcher d _ = None
+
 abbrev pub config_matcher : Data → ConfigPlace → Option Condition
 config_matcher d (in_field (config_route way place)) =
     option_and_then (λ root. tree_matcher root way place) (field (codes "route") d)
+config_matcher d (in_field (config_rules (in_item i place))) =
+    option_and_then (λ rule. rule_matcher rule place)
+    (slice_get (items_in_field (field (codes "inhibit_rules") d)) i)
 config_matcher d _ = None
 
 -- A pattern of the profile is looked at in this place.

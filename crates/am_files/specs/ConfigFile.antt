@@ -13,8 +13,9 @@ use Rattle.am_labels.specs.MatcherRefusals.{have_valid_patterns}
 use Rattle.am_labels.specs.declared.op.Op.{Op}
 use Rattle.am_labels.specs.declared.op.Op.TheVariants.{Equal, Matches}
 use Rattle.am_json.specs.declared.limits.TheConstants.{MAX_FILE_BYTES}
-use Rattle.am_files.specs.declared.limits.TheConstants.{MAX_RECEIVERS, MAX_ROUTES}
-use Rattle.am_files.specs.declared.limits.TheConstants.{MAX_LEVELS}
+use Rattle.am_records.specs.NamedText.{SaysNamedText}
+use Rattle.am_files.specs.declared.limits.TheConstants.{MAX_RECEIVERS, MAX_ROUTES, MAX_LEVELS}
+use Rattle.am_files.specs.declared.limits.TheConstants.{MAX_RULES, MAX_EQUAL_NAMES}
 use Rattle.am_json.specs.Json.{json_of, field, items_of, member_list, SaysBooleanOr, HasOnlyFields}
 
 -- ---- Configurations.
@@ -37,11 +38,20 @@ mutual
     no_routes : Routes
     next_route : RouteTree → Routes → Routes
 
--- A configuration: the names of the receivers, and the top-level route. (Reference, "File layout
--- and global settings".)
+-- An inhibition rule: the matchers of the alerts that inhibit, those of the alerts that are
+-- inhibited, and the names of the labels that have to have the same value in both. (Reference,
+-- "<inhibit_rule>".)
+pub record Rule : Type 0 where
+  pub source : List Condition
+  pub target : List Condition
+  pub equal : List (List ℕ)
+
+-- A configuration: the names of the receivers, the top-level route, and the inhibition rules.
+-- (Reference, "File layout and global settings".)
 pub record Configuration : Type 0 where
   pub receivers : List (List ℕ)
   pub root : RouteTree
+  pub rules : List Rule
 
 -- A list of routes as the children of one.
 abbrev pub routes_of : List RouteTree → Routes
@@ -125,6 +135,29 @@ abbrev pub route_matcher_fields : MatcherFields
 route_matcher_fields =
     record { texts = codes "matchers"; equalities = codes "match"; patterns = codes "match_re" }
 
+-- The fields that an inhibition rule may have. Those with matchers are as the fields of a route:
+-- three of the source side, and three of the target side. (Reference, "<inhibit_rule>", where
+-- `source_match` and the like are deprecated. Own choice: `name`, which later versions have, may
+-- stand and is not read.)
+abbrev pub rule_fields : List (List ℕ)
+rule_fields =
+    codes "name" ∷ codes "source_matchers" ∷ codes "source_match" ∷ codes "source_match_re"
+    ∷ codes "target_matchers" ∷ codes "target_match" ∷ codes "target_match_re" ∷ codes "equal" ∷ []
+
+abbrev pub source_matcher_fields : MatcherFields
+source_matcher_fields = record {
+  texts = codes "source_matchers";
+  equalities = codes "source_match";
+  patterns = codes "source_match_re";
+}
+
+abbrev pub target_matcher_fields : MatcherFields
+target_matcher_fields = record {
+  texts = codes "target_matchers";
+  equalities = codes "target_match";
+  patterns = codes "target_match_re";
+}
+
 -- ---- Which value says which configuration.
 
 -- An object says its `name`, a text that is not empty. (Reference, "<receiver>".)
@@ -167,11 +200,7 @@ HasItems key d items =
     ((field key d ≡ None) × (items ≡ []))
     ⊎ (option_and_then items_of (field key d) ≡ Some items)
 
--- A member of an object says a name, which is not empty, and a text.
-abbrev pub SaysNamedText : List ℕ × Data → List ℕ → List ℕ → Type 0
-SaysNamedText pair name text = (name ≡ pair.0) × (pair.0 ≢ []) × (pair.1 ≡ string text)
-
--- It says a matcher with this operator.
+-- A member of an object says a matcher with this operator.
 abbrev pub SaysMatcherPair : Op → List ℕ × Data → Condition → Type 0
 SaysMatcherPair op pair m = SaysNamedText pair m.name m.value × (m.op ≡ op)
 
@@ -184,8 +213,9 @@ SaysPairs op key d matchers =
 
 -- The matchers of three fields, one behind the other: those of the texts, then the pairs for `=`,
 -- then those for `=~`, whose texts are patterns. They are at most 64, and each pattern is sound.
--- Source: Alertmanager configuration reference 0.25, "<route>": `matchers`, `match` and `match_re`.
--- Own choice: their order, their number, and which patterns are sound.
+-- Source: Alertmanager configuration reference 0.25, "<route>": `matchers`, `match` and `match_re`,
+-- and "<inhibit_rule>", where they are called `source_matchers`, `target_matchers` and so on. Own
+-- choice: their order, their number, and which patterns are sound.
 -- Example: `{"match_re": {"e": "f|g"}, "match": {"c": "d"}, "matchers": ["a!=b"]}` has the matchers
 -- `a!="b"`, `c="d"` and `e=~"f|g"`, in this order.
 pub record SaysMatchers (fields : MatcherFields) (d : Data) (matchers : List Condition)
@@ -240,10 +270,33 @@ abbrev mutual
   SaysRoutes names receiver (d ∷ ds) (next_route t ts) =
       SaysRoute names (Some receiver) d t × SaysRoutes names receiver ds ts
 
--- An object says a configuration: receivers of different names, and a top-level route without
--- matchers. There are no inhibition rules, and no other field of the object is read.
--- Source: Alertmanager configuration reference 0.25, "File layout and global settings", "<route>"
--- and "<receiver>". Own choice: the limits, and that inhibition rules are refused.
+-- A value in `equal` says the name of a label: a text that is not empty.
+-- Source: Alertmanager configuration reference 0.25, "<inhibit_rule>": `equal`. Own choice: any
+-- text but the empty one is a name, and a name may stand twice.
+-- Example: `"cluster"` says the name `cluster`, and `""` and `1` say none.
+abbrev pub SaysEqualName : Data → List ℕ → Type 0
+SaysEqualName d name = (d ≡ string name) × (name ≢ [])
+
+-- An object with the fields of an inhibition rule alone says a rule, field by field. A side without
+-- matchers matches every alert.
+-- Source: Alertmanager configuration reference 0.25, "<inhibit_rule>". Own choice: the limits; of
+-- the fields the name is not read, and any that the form does not list are refused.
+-- Example: `{"source_match": {"a": "b"}, "target_matchers": ["c=d"], "equal": ["e"]}` says a rule
+-- with the source matcher `a="b"`, the target matcher `c="d"` and the label `e`. `{}` says a rule
+-- without matchers and labels: both its sides match every alert, so by it none is inhibited.
+pub record SaysRule (d : Data) (rule : Rule) : Type 0 where
+  pub only : HasOnlyFields rule_fields d
+  pub source : SaysMatchers source_matcher_fields d rule.source
+  pub target : SaysMatchers target_matcher_fields d rule.target
+  pub items : List Data
+  pub is_array : HasItems (codes "equal") d items
+  pub few : length items ≤ MAX_EQUAL_NAMES
+  pub equal : AllZip SaysEqualName items rule.equal
+
+-- An object says a configuration: receivers of different names, a top-level route without matchers,
+-- and inhibition rules, of which there may be none. No other field of the object is read.
+-- Source: Alertmanager configuration reference 0.25, "File layout and global settings", "<route>",
+-- "<inhibit_rule>" and "<receiver>". Own choice: the limits.
 -- Example: `{"receivers": [{"name": "a"}], "route": {"receiver": "a"}}` says one receiver and one
 -- route, which has it. With `"matchers": ["x=y"]` in that route the object says no configuration.
 pub record SaysConfig (d : Data) (c : Configuration) : Type 0 where
@@ -258,7 +311,10 @@ pub record SaysConfig (d : Data) (c : Configuration) : Type 0 where
   pub unmatched : matchers_of c.root ≡ []
   pub few_routes : route_count c.root ≤ MAX_ROUTES
   pub few_levels : route_levels c.root ≤ MAX_LEVELS
-  pub no_rules : field (codes "inhibit_rules") d ≡ None
+  pub rule_items : List Data
+  pub is_rule_array : HasItems (codes "inhibit_rules") d rule_items
+  pub few_rules : length rule_items ≤ MAX_RULES
+  pub rules : AllZip SaysRule rule_items c.rules
 
 -- The bytes of a file, at most `MAX_FILE_BYTES`, say the configuration that their JSON value says.
 abbrev pub FileSaysConfig : List ℕ → Configuration → Type 0

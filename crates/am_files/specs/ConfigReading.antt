@@ -3,7 +3,7 @@
 -- front.
 use Rattle.std.specs.Prelude.{◌+◌, ℕ, zero, suc, List, [], ◌∷◌, ◌++◌, length, Bool, false}
 use Rattle.std.specs.Prelude.{if◌then◌else◌, is_none, Option, Some, None}
-use Rattle.std.specs.Prelude.{position, codes, ⊤}
+use Rattle.std.specs.Prelude.{position, codes}
 use Rattle.std.specs.Result.{result_err}
 use Rattle.std.specs.List.{enumerate_from}
 use Rattle.serde_json.specs.Data.{Data}
@@ -16,6 +16,7 @@ use Rattle.am_labels.specs.declared.limits.TheConstants.{MAX_MATCHERS}
 use Rattle.am_labels.specs.Matcher.{Condition}
 use Rattle.am_labels.specs.MatcherReading.{read_list}
 use Rattle.am_files.specs.declared.limits.TheConstants.{MAX_RECEIVERS, MAX_ROUTES, MAX_LEVELS}
+use Rattle.am_files.specs.declared.limits.TheConstants.{MAX_RULES, MAX_EQUAL_NAMES}
 use Rattle.am_json.specs.Json.{field, member_list}
 use Rattle.am_json.specs.Pointer.{Refusal, refusal_here, refusal_within, to_field, to_item}
 use Rattle.am_json.specs.Reading.{Reading, ◌>>=◌, accept, accept_some, refuse, reading_within}
@@ -24,8 +25,11 @@ use Rattle.am_json.specs.Reading.{check_only_fields, required_field, required_te
 use Rattle.am_json.specs.Reading.{read_boolean_or, read_each, read_items, read_json}
 use Rattle.am_files.specs.ConfigFile.{RouteSettings, RouteTree, route, Configuration, MatcherFields}
 use Rattle.am_files.specs.ConfigFile.{route_matcher_fields, routes_of, routes_count, route_fields}
+use Rattle.am_files.specs.ConfigFile.{Rule, rule_fields, source_matcher_fields}
+use Rattle.am_files.specs.ConfigFile.{target_matcher_fields}
 use Rattle.am_json.specs.Places.{is_empty}
 use Rattle.am_records.specs.MatcherFaults.{label_name_fault, check_patterns, check_matcher}
+use Rattle.am_records.specs.NamedText.{read_named_text}
 use Rattle.am_files.specs.ConfigFaults.{receiver_name_fault, given_fault}
 
 -- ---- The receivers.
@@ -78,15 +82,13 @@ read_receiver names parent d =
     reading_within (to_field (codes "receiver"))
     (effective_receiver names parent (field (codes "receiver") d))
 
--- The items of an array that may be absent.
+-- The items of an array that may be absent, and those of the array in a field that may be absent.
 abbrev pub optional_items : Option Data → Reading (List Data)
 optional_items None = accept []
 optional_items (Some d) = as_items d
 
--- The values of a route's children, in `routes`.
-unfoldable pub read_children : Data → Reading (List Data)
-read_children d =
-    reading_within (to_field (codes "routes")) (optional_items (field (codes "routes") d))
+unfoldable pub read_optional_items : List ℕ → Data → Reading (List Data)
+read_optional_items key d = reading_within (to_field key) (optional_items (field key d))
 
 -- ---- Matchers.
 
@@ -120,12 +122,6 @@ read_next_matcher_text before item = do
 -- The matchers of texts, one behind the other.
 abbrev pub read_matcher_texts : List Data → Reading (List Condition)
 read_matcher_texts items = read_each read_next_matcher_text [] (enumerate_from 0 items)
-
--- The text of a name in an object of names and texts.
-unfoldable pub read_named_text : List ℕ → Data → Reading (List ℕ)
-read_named_text name d = do
-  _ ← refuse_for (label_name_fault name)
-  as_text d
 
 -- The matcher of a name and a text, which is a pattern for some operators.
 unfoldable pub read_matcher_pair : Op → List ℕ → Data → Reading Condition
@@ -193,7 +189,7 @@ read_route_fields names parent before d = do
   receiver ← read_receiver names parent d
   matchers ← read_matchers route_matcher_fields (is_none parent) d
   continues ← read_boolean_or false (codes "continue") d
-  items ← read_children d
+  items ← read_optional_items (codes "routes") d
   accept (record {
     settings = record { receiver = receiver; matchers = matchers; continues = continues };
     items = items;
@@ -216,13 +212,55 @@ abbrev pub read_next_child : List (List ℕ) → ℕ → ℕ → ℕ → List Ro
 read_next_child names left receiver before earlier =
     read_route names left (Some receiver) (before + routes_count (routes_of earlier))
 
--- ---- The file.
+-- ---- Inhibition rules.
 
--- Inhibition rules, which are not read yet.
-abbrev pub refuse_inhibit_rules : Option Data → Reading ⊤
-refuse_inhibit_rules None = accept tt
-refuse_inhibit_rules (Some d) =
-    refuse (refusal_within (to_field (codes "inhibit_rules")) (refusal_here kinds.UnknownField))
+-- A name in `equal`.
+unfoldable pub read_equal_name : Data → Reading (List ℕ)
+read_equal_name d = do
+  name ← as_text d
+  _ ← refuse_for (label_name_fault name)
+  accept name
+
+-- A name behind others, which it does not depend on.
+abbrev pub read_next_equal_name : List (List ℕ) → Data → Reading (List ℕ)
+read_next_equal_name before d = read_equal_name d
+
+-- The names of a list, and those in `equal`.
+unfoldable pub read_equal_names : List Data → Reading (List (List ℕ))
+read_equal_names items = do
+  _ ← check_count MAX_EQUAL_NAMES (length items)
+  read_items read_next_equal_name [] items
+
+unfoldable pub read_equal : Data → Reading (List (List ℕ))
+read_equal d = do
+  items ← read_optional_items (codes "equal") d
+  reading_within (to_field (codes "equal")) (read_equal_names items)
+
+-- A rule.
+unfoldable pub read_rule : Data → Reading Rule
+read_rule d = do
+  _ ← check_only_fields rule_fields d
+  source ← read_matchers source_matcher_fields false d
+  target ← read_matchers target_matcher_fields false d
+  equal ← read_equal d
+  accept (record { source = source; target = target; equal = equal })
+
+-- A rule behind others, which it does not depend on.
+abbrev pub read_next_rule : List Rule → Data → Reading Rule
+read_next_rule before d = read_rule d
+
+-- The rules of a list, and those of the file, in `inhibit_rules`.
+unfoldable pub read_rule_items : List Data → Reading (List Rule)
+read_rule_items items = do
+  _ ← check_count MAX_RULES (length items)
+  read_items read_next_rule [] items
+
+unfoldable pub read_rules : Data → Reading (List Rule)
+read_rules d = do
+  items ← read_optional_items (codes "inhibit_rules") d
+  reading_within (to_field (codes "inhibit_rules")) (read_rule_items items)
+
+-- ---- The file.
 
 -- The configuration that a value says, or its first fault.
 unfoldable pub read_config : Data → Reading Configuration
@@ -231,8 +269,8 @@ read_config d = do
   names ← read_receivers d
   value ← required_field (codes "route") d
   root ← reading_within (to_field (codes "route")) (read_route names MAX_LEVELS None 0 value)
-  _ ← refuse_inhibit_rules (field (codes "inhibit_rules") d)
-  accept (record { receivers = names; root = root })
+  rules ← read_rules d
+  accept (record { receivers = names; root = root; rules = rules })
 
 -- The configuration that a file says, or its first fault.
 unfoldable pub read_config_file : List ℕ → Reading Configuration

@@ -10,7 +10,11 @@ use Rattle.am_files.specs.RouteView.{route_view, names_of}
 
 -- The configuration that a `Config` stands for.
 abbrev pub config_view : Config → Configuration
-config_view c = record { receivers = names_of c.receivers.items; root = route_view c.root }
+config_view c = record {
+  receivers = names_of c.receivers.items;
+  root = route_view c.root;
+  rules = c.rules.items;
+}
 
 -- What is read of a route before its children, with their JSON values.
 abbrev pub fields_view : declared.RouteFields.RouteFields → RouteFields

@@ -1,6 +1,7 @@
 pub mod Words
 pub mod ConfigFile
 pub mod SmallestConfig
+pub mod RuleExample
 pub mod ConfigReading
 pub mod RouteView
 pub mod ConfigView

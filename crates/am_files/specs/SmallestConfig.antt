@@ -12,4 +12,5 @@ abbrev pub smallest_config : Configuration
 smallest_config = record {
   receivers = codes "none" ∷ [];
   root = route (record { receiver = 0; matchers = []; continues = false }) no_routes;
+  rules = [];
 }

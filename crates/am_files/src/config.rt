@@ -8,14 +8,19 @@ ghost use Rattle.am_files.specs.RouteView.{route_view, names_of};
 
 use crate::path::Path;
 use crate::route::Route;
+use crate::rule::Rule;
 
-/// A configuration: the receivers, and the tree of routes.
+/// A configuration: the receivers, the tree of routes, and the inhibition rules.
 #[derive(Drop)]
 pub struct Config {
     pub(crate) receivers: Vec<String>,
     pub(crate) root: Route,
-    pub(crate) ghost sound: { IsConfig
-        (record { receivers = names_of receivers.items; root = route_view root }) },
+    pub(crate) rules: Vec<Rule>,
+    pub(crate) ghost sound: { IsConfig (record {
+      receivers = names_of receivers.items;
+      root = route_view root;
+      rules = rules.items;
+    }) },
 }
 
 impl Config {
@@ -43,6 +48,13 @@ impl Config {
         ensures sound { IsConfig (config_view self.now) }
     {
         &self.root
+    }
+
+    /// The inhibition rules, in the order of the file.
+    pub fn rules(&self) -> &[Rule]
+        ensures rules { result.now ≡ (config_view self.now).rules }
+    {
+        &self.rules
     }
 
     /// The position of the receiver with this name, if it is declared.

@@ -1,32 +1,37 @@
 //! Reading the configuration file.
 
-ghost use Rattle.std.specs.Prelude.{◌≡◌, ◌≢◌, ◌≤◌, ◌<◌, ◌+◌, [], codes, length, map, Some, None};
-ghost use Rattle.std.specs.Prelude.{Ok, Err, IfOk, IfErr, string_bytes, option_map, position};
+ghost use Rattle.std.specs.Prelude.{◌≡◌, ◌≢◌, ◌≤◌, ◌+◌, [], length, map, None, IfOk, IfErr};
+ghost use Rattle.std.specs.Prelude.{string_bytes, option_map, false};
 ghost use Rattle.serde_json.specs.View.{view};
 ghost use Rattle.am_universe.specs.declared.kind.Kind.TheVariants as kinds;
 ghost use Rattle.am_universe.specs.declared.place.Place.TheVariants as places;
-ghost use Rattle.am_labels.specs.Words.{same_text};
-ghost use Rattle.am_json.specs.Words.{field, to_item, Gives, refusal_of, reading_within};
+ghost use Rattle.am_json.specs.Words.{to_item, Gives, refusal_of, reading_within};
 ghost use Rattle.am_json.specs.Words.{check_only_fields, read_items};
 ghost use Rattle.am_files.specs.Words.{FileSaysConfig, route_fields, route_matcher_fields};
 ghost use Rattle.am_files.specs.Words.{route_count, routes_count, routes_of, route_view, names_of};
 ghost use Rattle.am_files.specs.Words.{config_view, fields_view, read_next_receiver};
 ghost use Rattle.am_files.specs.Words.{read_receiver_names, read_receivers, parent_receiver};
 ghost use Rattle.am_files.specs.Words.{receiver_position, effective_receiver, read_receiver};
-ghost use Rattle.am_files.specs.Words.{read_children, read_matchers, read_route_fields, read_route};
-ghost use Rattle.am_files.specs.Words.{read_next_child, refuse_inhibit_rules, read_config};
+ghost use Rattle.am_files.specs.Words.{read_optional_items, read_matchers, read_route_fields};
+ghost use Rattle.am_files.specs.Words.{read_route, source_matcher_fields, target_matcher_fields};
+ghost use Rattle.am_files.specs.Words.{rule_fields, read_equal_name, read_next_equal_name};
+ghost use Rattle.am_files.specs.Words.{read_equal_names, read_equal};
+ghost use Rattle.am_files.specs.Words.{read_rule, read_next_rule, read_rule_items, read_rules};
+ghost use Rattle.am_files.specs.Words.{read_next_child, read_config};
 ghost use Rattle.am_files.specs.Words.{read_config_file, receiver_name_fault, ConfigFileRefusedFor};
 
 use crate::config::{Config, position};
-use crate::limits::{MAX_LEVELS, MAX_RECEIVERS, MAX_ROUTES};
+use crate::limits::{MAX_EQUAL_NAMES, MAX_LEVELS, MAX_RECEIVERS, MAX_ROUTES, MAX_RULES};
 use crate::route::Route;
 use crate::route_matchers::{MatcherFields, read_matchers};
+use crate::rule::Rule;
 use am_json::{
     ReadError, as_items, as_object, as_text, check_count, check_only_fields, field,
     read_boolean_or, read_json, refuse_for, required_field, required_items, required_text,
     within_field, within_item,
 };
 use am_labels::{Fault, Kind, Matchers, Place};
+use am_records::label_name_fault;
 use serde_json::Value;
 use std::alloc::Global;
 
@@ -51,16 +56,17 @@ const ROUTE_FIELDS: [&str; 12] = [
 /// The first fault is the one answered, at the place `Config` and at the pointer of the part at
 /// fault. A field that is `null` counts as absent.
 /// - `Limit`: more than `MAX_FILE_BYTES` bytes, [`MAX_RECEIVERS`] receivers, [`MAX_ROUTES`]
-///   routes, [`MAX_LEVELS`] levels of routes or `MAX_MATCHERS` matchers of a route;
+///   routes, [`MAX_LEVELS`] levels of routes, `MAX_MATCHERS` matchers of a route or of one side of
+///   a rule, [`MAX_RULES`] inhibition rules or [`MAX_EQUAL_NAMES`] names in `equal`;
 /// - `NotJson`: the bytes have no JSON value;
 /// - `Shape`: a value is not of its kind, or a required field is absent;
-/// - `UnknownField`: a route has a field that the form does not have, or there are inhibition
-///   rules, which are not read yet;
-/// - `Empty`: the name of a receiver, or one in `match` or `match_re`, is the empty text;
+/// - `UnknownField`: a route or an inhibition rule has a field that the form does not have;
+/// - `Empty`: the name of a receiver is the empty text, or one in `equal`, or in `match`,
+///   `match_re` and the like;
 /// - `Duplicate`: a receiver has the name of an earlier one;
 /// - `UndefinedReceiver`: a route names a receiver that is not declared;
 /// - `RootMatchers`: the top-level route has matchers;
-/// - `BadMatcher`: a text in `matchers` spells no list of matchers;
+/// - `BadMatcher`: a text in `matchers` or the like spells no list of matchers;
 /// - `PatternProfile`: a pattern is outside the profile;
 /// - `Pattern`: the engine refuses a pattern of the profile, as it does where its grammar does not
 ///   read it, and may do where it is too large. Such a refusal may come before the first fault that
@@ -100,23 +106,12 @@ fn read_config_object(alloc: Global, value: &Value) -> Result<Config, ReadError>
     let receivers = read_receivers(alloc, value)?;
     let root = required_field(alloc, value, "route")?;
     let root = within_field(alloc, "route", read_root(alloc, &receivers, root))?;
-    refuse_inhibit_rules(alloc, value)?;
-    Ok(Config { receivers, root })
-}
-
-/// Inhibition rules are not read yet.
-fn refuse_inhibit_rules(alloc: Global, value: &Value) -> Result<(), ReadError>
-    ensures { Gives (λ _. tt) result
-        (refuse_inhibit_rules (field (codes "inhibit_rules") (view value.now))) }
-{
-    match field(value, "inhibit_rules") {
-        None => Ok(()),
-        Some(_) => within_field(
-            alloc,
-            "inhibit_rules",
-            Err(ReadError::refused(alloc, Kind::UnknownField)),
-        ),
-    }
+    let rules = read_rules(alloc, value)?;
+    Ok(Config {
+        receivers,
+        root,
+        rules,
+    })
 }
 
 // ---- The receivers.
@@ -231,7 +226,7 @@ fn read_route_fields<'v>(
     let receiver = read_receiver(alloc, names, parent, value)?;
     let matchers = read_route_matchers(alloc, parent.is_none(), value)?;
     let continues = read_boolean_or(alloc, value, "continue", false)?;
-    let items = read_children(alloc, value)?;
+    let items = read_optional_items(alloc, value, "routes")?;
     Ok(RouteFields {
         receiver,
         matchers,
@@ -326,14 +321,19 @@ fn read_routes(
     Ok((routes, after))
 }
 
-/// The values of a route's children.
-#[tactic(auto, unfolding(crate::specs::ConfigReading::read_children))]
-fn read_children(alloc: Global, value: &Value) -> Result<&[Value], ReadError>
-    ensures { Gives (λ items. map view items.now) result (read_children (view value.now)) }
+/// The items of the array in a field that may be absent.
+#[tactic(auto, unfolding(crate::specs::ConfigReading::read_optional_items))]
+fn read_optional_items<'v>(
+    alloc: Global,
+    value: &'v Value,
+    key: &str,
+) -> Result<&'v [Value], ReadError>
+    ensures { Gives (λ items. map view items.now) result
+        (read_optional_items key.now (view value.now)) }
 {
-    match field(value, "routes") {
+    match field(value, key) {
         None => Ok(&[]),
-        Some(found) => within_field(alloc, "routes", as_items(alloc, found)),
+        Some(found) => within_field(alloc, key, as_items(alloc, found)),
     }
 }
 
@@ -390,4 +390,137 @@ fn receiver_position(alloc: Global, names: &[String], name: &str) -> Result<usiz
         Some(receiver) => Ok(receiver),
         None => Err(ReadError::refused(alloc, Kind::UndefinedReceiver)),
     }
+}
+
+// ---- The inhibition rules.
+
+/// The fields of an inhibition rule. Its name is not read.
+const RULE_FIELDS: [&str; 8] = [
+    "name",
+    "source_matchers",
+    "source_match",
+    "source_match_re",
+    "target_matchers",
+    "target_match",
+    "target_match_re",
+    "equal",
+];
+
+/// The names of the fields of a rule that have the matchers of its source side.
+const SOURCE_FIELDS: MatcherFields<'static> = MatcherFields {
+    texts: "source_matchers",
+    equalities: "source_match",
+    patterns: "source_match_re",
+};
+
+/// The names of those that have the matchers of its target side.
+const TARGET_FIELDS: MatcherFields<'static> = MatcherFields {
+    texts: "target_matchers",
+    equalities: "target_match",
+    patterns: "target_match_re",
+};
+
+#[tactic(auto, using(am_json::proofs::Readings::steps), unfolding(crate::specs::ConfigReading::read_rules))]
+fn read_rules(alloc: Global, value: &Value) -> Result<Vec<Rule>, ReadError>
+    ensures { Gives (λ rules. rules.items) result (read_rules (view value.now)) }
+{
+    let items = read_optional_items(alloc, value, "inhibit_rules")?;
+    within_field(alloc, "inhibit_rules", read_rule_items(alloc, items))
+}
+
+#[tactic(auto, unfolding(crate::specs::ConfigReading::read_rule_items))]
+fn read_rule_items(alloc: Global, items: &[Value]) -> Result<Vec<Rule>, ReadError>
+    ensures { Gives (λ rules. rules.items) result (read_rule_items (map view items.now)) }
+{
+    check_count(alloc, MAX_RULES, items.len())?;
+    read_each_rule(alloc, items)
+}
+
+fn read_each_rule(alloc: Global, items: &[Value]) -> Result<Vec<Rule>, ReadError>
+    ensures { Gives (λ rules. rules.items) result
+        (read_items read_next_rule [] (map view items.now)) }
+{
+    let mut rules = Vec::new(alloc);
+    for item in items {
+        let found = read_rule(alloc, item);
+        let rule = within_item(alloc, rules.len(), found)?;
+        rules.push(rule)?;
+    }
+    Ok(rules)
+}
+
+#[tactic(auto, using(am_json::proofs::Readings::steps), unfolding(crate::specs::ConfigReading::read_rule))]
+fn read_rule(alloc: Global, value: &Value) -> Result<Rule, ReadError>
+    ensures { Gives (λ rule. rule) result (read_rule (view value.now)) }
+{
+    check_rule_fields(alloc, value)?;
+    let source = read_source(alloc, value)?;
+    let target = read_target(alloc, value)?;
+    let equal = read_equal(alloc, value)?;
+    Ok(Rule {
+        source,
+        target,
+        equal,
+    })
+}
+
+/// A rule has no other fields than those of the form.
+fn check_rule_fields(alloc: Global, value: &Value) -> Result<(), ReadError>
+    ensures { Gives (λ _. tt) result (check_only_fields rule_fields (view value.now)) }
+{
+    check_only_fields(alloc, value, &RULE_FIELDS)
+}
+
+fn read_source(alloc: Global, value: &Value) -> Result<Matchers, ReadError>
+    ensures { Gives (λ ms. ms) result
+        (read_matchers source_matcher_fields false (view value.now)) }
+{
+    read_matchers(alloc, SOURCE_FIELDS, false, value)
+}
+
+fn read_target(alloc: Global, value: &Value) -> Result<Matchers, ReadError>
+    ensures { Gives (λ ms. ms) result
+        (read_matchers target_matcher_fields false (view value.now)) }
+{
+    read_matchers(alloc, TARGET_FIELDS, false, value)
+}
+
+#[tactic(auto, using(am_json::proofs::Readings::steps), unfolding(crate::specs::ConfigReading::read_equal))]
+fn read_equal(alloc: Global, value: &Value) -> Result<Vec<String>, ReadError>
+    ensures { Gives (λ names. names_of names.items) result (read_equal (view value.now)) }
+{
+    let items = read_optional_items(alloc, value, "equal")?;
+    within_field(alloc, "equal", read_equal_names(alloc, items))
+}
+
+#[tactic(auto, unfolding(crate::specs::ConfigReading::read_equal_names))]
+fn read_equal_names(alloc: Global, items: &[Value]) -> Result<Vec<String>, ReadError>
+    ensures { Gives (λ names. names_of names.items) result
+        (read_equal_names (map view items.now)) }
+{
+    check_count(alloc, MAX_EQUAL_NAMES, items.len())?;
+    read_each_equal_name(alloc, items)
+}
+
+fn read_each_equal_name(alloc: Global, items: &[Value]) -> Result<Vec<String>, ReadError>
+    ensures { Gives (λ names. names_of names.items) result
+        (read_items read_next_equal_name [] (map view items.now)) }
+{
+    let mut names = Vec::new(alloc);
+    for item in items {
+        let found = read_equal_name(alloc, item);
+        let name = within_item(alloc, names.len(), found)?;
+        names.push(name)?;
+    }
+    Ok(names)
+}
+
+/// The name of a label, which is not empty.
+#[tactic(auto, using(am_json::proofs::Readings::steps), unfolding(crate::specs::ConfigReading::read_equal_name))]
+fn read_equal_name(alloc: Global, value: &Value) -> Result<String, ReadError>
+    ensures { Gives string_bytes result (read_equal_name (view value.now)) }
+{
+    let name = as_text(alloc, value)?;
+    refuse_for(alloc, label_name_fault(name))?;
+    Ok(String::from_str(alloc, name)?)
 }

@@ -7,12 +7,14 @@ ghost use Rattle.serde_json.specs.Data.{Data};
 ghost use Rattle.am_json.specs.Words.{Refusal, MayRefuse};
 ghost use Rattle.am_files.specs.declared.limits.TheConstants.{MAX_LEVELS, MAX_RECEIVERS};
 ghost use Rattle.am_files.specs.declared.limits.TheConstants.{MAX_ROUTES, MAX_PATH_STEPS};
-ghost use Rattle.am_files.specs.declared.limits.TheConstants.{MAX_CHILD_POSITION};
+ghost use Rattle.am_files.specs.declared.limits.TheConstants.{MAX_CHILD_POSITION, MAX_RULES};
+ghost use Rattle.am_files.specs.declared.limits.TheConstants.{MAX_EQUAL_NAMES};
 ghost use Rattle.am_files.specs.Words.{Configuration, SaysConfig, FileSaysConfig, read_config};
 ghost use Rattle.am_files.specs.Words.{read_config_file, fault_of_config, fault_of_config_file};
 ghost use Rattle.am_files.specs.Words.{ConfigPlace, config_fault_at, IsFirstFaultOfConfig};
 ghost use Rattle.am_files.specs.Words.{IsFirstFaultOfConfigFile, IsMetPatternOfConfig};
 ghost use Rattle.am_files.specs.Words.{ConfigFileRefusedFor, smallest_config_file, smallest_config};
+ghost use Rattle.am_files.specs.Words.{SaysRule, rule_example, example_rule};
 ghost use Rattle.am_files.specs.Words.{RouteTree, IsConfig, children_of, path_text, list_of};
 ghost use Rattle.am_files.specs.Words.{route_at, IsPath, no_routes, route_levels};
 
@@ -54,6 +56,12 @@ pub fn the_smallest_configuration()
     ensures says { FileSaysConfig smallest_config_file smallest_config }
 {}
 
+/// An example: an inhibition rule with a matcher on each side, and a name that stands twice in
+/// `equal`.
+pub fn an_example_of_a_rule()
+    ensures says { SaysRule rule_example example_rule }
+{}
+
 /// The limits of a configuration, and of its paths.
 pub fn files_have_limits()
     ensures receivers { MAX_RECEIVERS ≡ 1024 }
@@ -61,6 +69,8 @@ pub fn files_have_limits()
     ensures levels { MAX_LEVELS ≡ 32 }
     ensures steps { MAX_PATH_STEPS ≡ 31 }
     ensures positions { MAX_CHILD_POSITION ≡ 1022 }
+    ensures rules { MAX_RULES ≡ 1024 }
+    ensures names { MAX_EQUAL_NAMES ≡ 64 }
 {}
 
 /// A text is that of at most one path.

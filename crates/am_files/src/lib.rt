@@ -12,17 +12,21 @@
 // How much there may be.
 pub mod limits;
 
-// The layer below: universe files, instants and silences.
-pub use am_records::{Silence, Silences, parse_instant, read_silences, read_universe};
+// The layer below: universe files, instants, silences and alerts.
+pub use am_records::{
+    Alerts, Silence, Silences, parse_instant, read_alerts, read_silences, read_universe,
+};
 
-// A configuration, its routes, and the paths that lead to them.
+// A configuration: its routes, the paths that lead to them, and its inhibition rules.
 mod config;
 mod path;
 mod route;
+mod rule;
 
 pub use config::Config;
 pub use path::Path;
 pub use route::Route;
+pub use rule::Rule;
 
 // The configuration file.
 mod config_file;

@@ -1,6 +1,6 @@
 //! The matchers of three fields of an object, one behind the other, as a route has them.
 
-ghost use Rattle.std.specs.Prelude.{◌≡◌, ◌≢◌, [], ◌∷◌, map, option_map, Err, IfOk, IsErrAnd};
+ghost use Rattle.std.specs.Prelude.{◌≡◌, ◌≢◌, [], ◌∷◌, map, option_map, Err, IsErrAnd};
 ghost use Rattle.am_universe.specs.declared.kind.Kind.TheVariants as kinds;
 ghost use Rattle.am_json.specs.declared.read_error.ReadError.TheVariants as errors;
 ghost use Rattle.serde_json.specs.View.{view, members_view};
@@ -9,14 +9,13 @@ ghost use Rattle.am_files.specs.Words.{matcher_fields_view, read_matchers, optio
 ghost use Rattle.am_files.specs.Words.{read_texts, read_matcher_texts, read_next_matcher_text};
 ghost use Rattle.am_files.specs.Words.{read_matcher_text, text_refusal, append_matchers};
 ghost use Rattle.am_files.specs.Words.{optional_pairs, read_pairs, read_next_pair};
-ghost use Rattle.am_files.specs.Words.{read_matcher_pair, read_named_text};
-ghost use Rattle.am_files.specs.Words.{refuse_root_matchers};
+ghost use Rattle.am_files.specs.Words.{read_matcher_pair, refuse_root_matchers};
 
 use am_json::{
     ReadError, as_items, as_object, as_text, field, refuse_for, within_field, within_item,
 };
 use am_labels::{Kind, Matcher, Matchers, Op, parse_matchers};
-use am_records::{label_name_fault, new_matcher};
+use am_records::{new_matcher, read_named_text};
 use serde_json::{Map, Value};
 use std::alloc::Global;
 
@@ -216,16 +215,6 @@ fn read_matcher_pair(alloc: Global, op: Op, name: &str, value: &Value) -> Result
 {
     let text = read_named_text(alloc, name, value)?;
     new_matcher(alloc, name, op, text)
-}
-
-/// The text of a name in an object of names and texts. The name is not empty.
-#[tactic(auto, unfolding(crate::specs::ConfigReading::read_named_text))]
-fn read_named_text<'v>(alloc: Global, name: &str, value: &'v Value) -> Result<&'v str, ReadError>
-    ensures reads { Gives (λ t. t.now) result (read_named_text name.now (view value.now)) }
-    ensures named { IfOk result (λ _. name.now ≢ []) }
-{
-    refuse_for(alloc, label_name_fault(name))?;
-    as_text(alloc, value)
 }
 
 /// The top-level route has no matchers.

@@ -1,0 +1,144 @@
+-- Inhibition rules: a value says one exactly where reading it finds no fault, and then that rule.
+use Rattle.std.proofs.Common.{◌≡◌, ℕ, ◌≤◌, List, [], length, false, Ok, refl, subst}
+use Rattle.std.specs.Prelude.{codes}
+use Rattle.std.specs.List.{AllZip}
+use Rattle.serde_json.specs.Data.{Data}
+use Rattle.am_json.specs.Pointer.{to_field}
+use Rattle.am_json.specs.Reading.{Reading, ◌>>=◌, reading_within, refuse_for, check_count, as_text}
+use Rattle.am_json.specs.Reading.{check_only_fields, read_items}
+use Rattle.am_records.specs.MatcherFaults.{label_name_fault}
+use Rattle.am_files.specs.declared.limits.TheConstants.{MAX_RULES, MAX_EQUAL_NAMES}
+use Rattle.am_files.specs.ConfigFile.{Rule, rule_fields, source_matcher_fields}
+use Rattle.am_files.specs.ConfigFile.{target_matcher_fields, HasItems, SaysEqualName, SaysRule}
+use Rattle.am_files.specs.ConfigReading.{read_optional_items, read_matchers, read_equal_name}
+use Rattle.am_files.specs.ConfigReading.{read_equal_names, read_equal, read_rule, read_rule_items}
+use Rattle.am_files.specs.ConfigReading.{read_rules}
+use Rattle.am_json.proofs.Readings.{bind_ok, within_ok, refuse_for_ok, check_count_ok}
+use Rattle.am_json.proofs.Readings.{check_count_fits, same_read, Decides}
+use Rattle.am_json.proofs.Items.{each_says, each_reads}
+use Rattle.am_json.proofs.Fields.{as_text_says, as_text_reads, only_fields_say, only_fields_read}
+use Rattle.am_records.proofs.Matching.{named_passes, name_is_some}
+use Rattle.am_files.proofs.ConfigParts.{optional_array_says, optional_array_reads}
+use Rattle.am_files.proofs.MatchersSay.{matchers_say, matchers_read}
+
+-- ---- An array that may be absent, whose items are read each by itself.
+
+-- its items are at most so many, and each says something
+pub record SaysEach {A : Type 0} (Says : Data → A → Type 0) (key : List ℕ) (limit : ℕ) (d : Data)
+    (xs : List A) : Type 0 where
+  pub items : List Data
+  pub is_array : HasItems key d items
+  pub few : length items ≤ limit
+  pub each : AllZip Says items xs
+
+module _ {A : Type 0} (Says : Data → A → Type 0) (read : Data → Reading A) (decides : (d : Data)
+    → Decides (Says d) ((read d).result)) (key : List ℕ) (limit : ℕ) where
+  abbrev read_counted : List Data → Reading (List A)
+  read_counted items =
+      check_count limit (length items) >>= λ _. read_items (λ before d. read d) [] items
+
+  abbrev read_array : Data → Reading (List A)
+  read_array d =
+      read_optional_items key d >>= λ items. reading_within (to_field key) (read_counted items)
+
+  array_says : (d : Data) (xs : List A) → (read_array d).result ≡ Ok xs
+      → SaysEach Says key limit d xs
+  array_says d xs h =
+      let items =
+      bind_ok ((read_optional_items key d).result)
+      (λ ds. (reading_within (to_field key) (read_counted ds)).result) xs h in
+      let counted =
+      bind_ok ((check_count limit (length items.0)).result)
+      (λ _. (read_items (λ before e. read e) [] items.0).result) xs
+      (within_ok (to_field key) ((read_counted items.0).result) xs items.2) in
+      record {
+        items = items.0;
+        is_array = optional_array_says key d items.0 items.1;
+        few = check_count_ok limit (length items.0) counted.0 counted.1;
+        each = each_says Says read decides items.0 xs counted.2;
+      }
+
+  array_reads : (d : Data) (xs : List A) → SaysEach Says key limit d xs
+      → (read_array d).result ≡ Ok xs
+  array_reads d xs said =
+      rw (
+        optional_array_reads key d said.items said.is_array,
+        check_count_fits limit (length said.items) said.few,
+        each_reads Says read decides said.items xs said.each,
+      ) refl
+
+  array_decides : (d : Data) → Decides (SaysEach Says key limit d) ((read_array d).result)
+  array_decides d = record { says = array_says d; reads = array_reads d }
+
+-- ---- The names of labels.
+
+equal_name_says : (d : Data) (name : List ℕ) → (read_equal_name d).result ≡ Ok name
+    → SaysEqualName d name
+unfolding read_equal_name
+equal_name_says d name h =
+    let text = bind_ok ((as_text d).result) _ name h in
+    let free = bind_ok ((refuse_for (label_name_fault text.0)).result) _ name text.2 in
+    subst (λ (n : List ℕ). SaysEqualName d n) (same_read text.0 name free.2) (
+      as_text_says d text.0 text.1,
+      name_is_some text.0 (refuse_for_ok (label_name_fault text.0) free.0 free.1),
+    )
+
+equal_name_reads : (d : Data) (name : List ℕ) → SaysEqualName d name
+    → (read_equal_name d).result ≡ Ok name
+unfolding read_equal_name
+equal_name_reads d name said = rw (as_text_reads d name said.0, named_passes name said.1) refl
+
+equal_decides : (d : Data)
+    → Decides (SaysEach SaysEqualName (codes "equal") MAX_EQUAL_NAMES d) ((read_equal d).result)
+unfolding read_equal read_equal_names
+equal_decides d =
+    array_decides SaysEqualName read_equal_name
+    (λ e. record { says = equal_name_says e; reads = equal_name_reads e }) (codes "equal")
+    MAX_EQUAL_NAMES d
+
+-- ---- A rule.
+
+pub rule_says : (d : Data) (rule : Rule) → (read_rule d).result ≡ Ok rule → SaysRule d rule
+unfolding read_rule
+rule_says d rule h =
+    let only = bind_ok ((check_only_fields rule_fields d).result) _ rule h in
+    let source =
+    bind_ok ((read_matchers source_matcher_fields false d).result) _ rule only.2 in
+    let target =
+    bind_ok ((read_matchers target_matcher_fields false d).result) _ rule source.2 in
+    let equal = bind_ok ((read_equal d).result) _ rule target.2 in
+    let named = (equal_decides d).says equal.0 equal.1 in
+    subst (λ (r : Rule). SaysRule d r) (same_read _ rule equal.2) (record {
+      only = only_fields_say rule_fields d only.0 only.1;
+      source = matchers_say source_matcher_fields false d source.0 source.1;
+      target = matchers_say target_matcher_fields false d target.0 target.1;
+      items = named.items;
+      is_array = named.is_array;
+      few = named.few;
+      equal = named.each;
+    })
+
+rule_reads : (d : Data) (rule : Rule) → SaysRule d rule → (read_rule d).result ≡ Ok rule
+unfolding read_rule
+rule_reads d rule said =
+    let named : SaysEach SaysEqualName (codes "equal") MAX_EQUAL_NAMES d rule.equal = record {
+      items = said.items;
+      is_array = said.is_array;
+      few = said.few;
+      each = said.equal;
+    } in
+    rw (
+      only_fields_read rule_fields d said.only,
+      matchers_read source_matcher_fields false d rule.source said.source (λ e. absurd cc),
+      matchers_read target_matcher_fields false d rule.target said.target (λ e. absurd cc),
+      (equal_decides d).reads rule.equal named,
+    ) refl
+
+-- ---- All rules.
+
+pub rules_decide : (d : Data)
+    → Decides (SaysEach SaysRule (codes "inhibit_rules") MAX_RULES d) ((read_rules d).result)
+unfolding read_rules read_rule_items
+rules_decide d =
+    array_decides SaysRule read_rule (λ e. record { says = rule_says e; reads = rule_reads e })
+    (codes "inhibit_rules") MAX_RULES d

@@ -1,0 +1,30 @@
+use Rattle.std.proofs.Common.{codes, map}
+use Rattle.std.proofs.lemmas.Result.{err_from_is_err_and}
+use Rattle.serde_json.specs.View.{view}
+use Rattle.am_json.specs.Pointer.{to_field}
+use Rattle.am_json.specs.Reading.{reading_within}
+use Rattle.am_files.specs.ConfigReading.{read_optional_items, read_rule_items, read_rules}
+use Rattle.am_json.proofs.Readings.{fails_first, gives_later, within_gives}
+use Rattle.am_files.proofs.config_file.read_rules.Goals as goal
+
+pub returns-in_err-items : goal.returns-in_err-items
+unfolding read_rules
+returns-in_err-items c =
+    let p = err_from_is_err_and c.from_residual.result c.from_residual.ensures.1 in
+    rw (p.1, p.2) (fails_first c.in_err-items.field-0.0
+    (read_optional_items (codes "inhibit_rules") (view c.args.value.now))
+    (λ items. reading_within (to_field (codes "inhibit_rules")) (read_rule_items items))
+    c.in_err-items.ensures)
+
+pub returns : goal.returns
+unfolding read_rules
+returns c =
+    let items = map view c.in_ok-items.items.now in
+    let rules =
+    within_gives (λ rs. rs.items) (to_field (codes "inhibit_rules")) c.read_rule_items.result
+    c.within_field.result (read_rule_items items) c.read_rule_items.ensures
+    c.within_field.ensures.within in
+    gives_later (λ rs. rs.items) c.within_field.result
+    (read_optional_items (codes "inhibit_rules") (view c.args.value.now))
+    (λ ds. reading_within (to_field (codes "inhibit_rules")) (read_rule_items ds)) items
+    c.in_ok-items.ensures rules
