@@ -60,7 +60,7 @@ among_children n (next_route u ts) zero t h e =
 among_children n (next_route u ts) (suc p) t h e =
     among_children n ts p t (and_parts (has_receivers_below n u) (have_receivers_below n ts) h).1 e
 
-receiver_below : (n : ℕ) (path : List ℕ) (t u : RouteTree) → has_receivers_below n t ≡ true
+pub receiver_below : (n : ℕ) (path : List ℕ) (t u : RouteTree) → has_receivers_below n t ≡ true
     → route_at t path ≡ Some u → nat_lt (receiver_of u) n ≡ true
 receiver_below n [] (route settings children) u h e =
     let first = (and_parts (nat_lt settings.receiver n) (have_receivers_below n children) h).0 in

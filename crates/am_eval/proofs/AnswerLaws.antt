@@ -36,7 +36,7 @@ kept_behind true x y ks h = inr h
 kept_behind false x y ks h = h
 
 -- and what was there and passes is kept
-kept_from_passes : {X : Type 0} (test : X → Bool) (xs : List X) (y : X) → IsIn xs y
+pub kept_from_passes : {X : Type 0} (test : X → Bool) (xs : List X) (y : X) → IsIn xs y
     → test y ≡ true → IsIn (filter test xs) y
 kept_from_passes test [] y h e = absurd h
 kept_from_passes test (x ∷ xs) y (inl same) e =

@@ -1,6 +1,12 @@
 pub mod AnswerLaws
+pub mod Members
 pub mod SilenceLaws
 pub mod SilenceSteps
+pub mod PairLemmas
+pub mod PairSteps
+pub mod Inhibitors
+pub mod InhibitionLaws
+pub mod InhibitionExample
 pub mod ChildEnds
 pub mod EndLaws
 pub mod RoutingExamples

@@ -6,8 +6,8 @@ use Rattle.am_files.specs.ConfigFile.{Configuration}
 use Rattle.am_files.proofs.PathTexts.{path_text-injective}
 use Rattle.am_eval.specs.Tree.{Tree, Part, Not, And, Or}
 use Rattle.am_eval.specs.Question.{Question, Simple, Receiver, Ends, Enters, Braces}
-use Rattle.am_eval.specs.Grammar.{Written, WrittenAny, WrittenSilenced, WrittenReceiver}
-use Rattle.am_eval.specs.Grammar.{WrittenEnds, WrittenEnters, WrittenBraces}
+use Rattle.am_eval.specs.Grammar.{Written, WrittenAny, WrittenSilenced, WrittenInhibited}
+use Rattle.am_eval.specs.Grammar.{WrittenReceiver, WrittenEnds, WrittenEnters, WrittenBraces}
 use Rattle.am_eval.specs.Tokens.{Token}
 use Rattle.am_eval.specs.Grammar.{IsQuestion}
 use Rattle.am_eval.specs.QuestionText.{Means, TreeMeans, ReadsQuestion}
@@ -17,6 +17,7 @@ use Rattle.am_eval.proofs.Takes.{one_tree}
 one_simple : (c : Configuration) (w : Written) (p q : Simple) → Means c w p → Means c w q → p ≡ q
 one_simple c WrittenAny p q h k = h ∙ sym k
 one_simple c WrittenSilenced p q h k = h ∙ sym k
+one_simple c WrittenInhibited p q h k = h ∙ sym k
 one_simple c (WrittenReceiver name) p q h k =
     h.2 ∙ ap Receiver (same_Some h.0 k.0 (sym h.1 ∙ k.1)) ∙ sym k.2
 one_simple c (WrittenEnds text) p q h k =

@@ -5,8 +5,24 @@ use Rattle.am_eval.specs.declared.question.Question.{fold-roll-Question}
 use Rattle.am_eval.specs.declared.question.Question.TheOpen.{Question-F}
 use Rattle.am_eval.specs.declared.question.Question.TheVariants as variants
 use Rattle.am_eval.specs.Tree.{Part}
-use Rattle.am_eval.specs.Question.{Question, Receiver, Ends, Enters, Braces}
+use Rattle.am_eval.specs.Question.{Question, Any, Silenced, Inhibited, Receiver, Ends, Enters}
+use Rattle.am_eval.specs.Question.{Braces}
 use Rattle.am_eval.specs.QuestionView.{view_step, question_view}
+
+pub any_seen : question_view variants.Any ≡ Part Any
+any_seen =
+    ap question_view (sym variants.rolls-Any)
+    ∙ fold-roll-Question Question view_step Question-F.Any
+
+pub silenced_seen : question_view variants.Silenced ≡ Part Silenced
+silenced_seen =
+    ap question_view (sym variants.rolls-Silenced)
+    ∙ fold-roll-Question Question view_step Question-F.Silenced
+
+pub inhibited_seen : question_view variants.Inhibited ≡ Part Inhibited
+inhibited_seen =
+    ap question_view (sym variants.rolls-Inhibited)
+    ∙ fold-roll-Question Question view_step Question-F.Inhibited
 
 pub receiver_seen : (receiver : ℕ)
     → question_view (variants.Receiver receiver) ≡ Part (Receiver receiver)

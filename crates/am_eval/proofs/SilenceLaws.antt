@@ -23,9 +23,11 @@ use Rattle.am_eval.specs.World.{World}
 use Rattle.am_eval.specs.Silencing.{is_active, hides, is_silenced, positions_where, silencers}
 use Rattle.am_eval.specs.Silencing.{at_instant, IsSteady}
 use Rattle.am_eval.specs.Tree.{Part, Not, And, Or}
-use Rattle.am_eval.specs.Question.{Question, Simple, Any, Silenced, Receiver, Ends, Enters, Braces}
-use Rattle.am_eval.specs.Question.{holds_of, satisfies, answers}
+use Rattle.am_eval.specs.Inhibition.{inhibits}
+use Rattle.am_eval.specs.Question.{Question, Simple, Any, Silenced, Inhibited, Receiver, Ends}
+use Rattle.am_eval.specs.Question.{Enters, Braces, holds_of, satisfies, answers}
 use Rattle.am_eval.proofs.AnswerLaws.{kept_behind}
+use Rattle.am_eval.proofs.Members.{any_in, in_any}
 
 -- ---- Positions.
 
@@ -180,7 +182,7 @@ by_active w s (silence ∷ silences) = elim (cases_Bool (is_active w.instant sil
 
 abbrev AreSame : World → World → Type 0
 AreSame w v =
-    (w.config ≡ v.config)
+    (w.config ≡ v.config) × (w.alerts ≡ v.alerts)
     × (filter (is_active w.instant) w.silences ≡ filter (is_active v.instant) v.silences)
 
 same_part : (w v : World) (s : LabelMap) (simple : Simple) → AreSame w v
@@ -188,8 +190,10 @@ same_part : (w v : World) (s : LabelMap) (simple : Simple) → AreSame w v
 same_part w v s Any same = refl
 same_part w v s Silenced same =
     by_active w s w.silences
-    ∙ ap (λ active. list_any (λ silence. all_hold s silence.matchers) active) same.1
+    ∙ ap (λ active. list_any (λ silence. all_hold s silence.matchers) active) same.2
     ∙ sym (by_active v s v.silences)
+same_part w v s Inhibited same =
+    λ i. list_any (λ rule. list_any (λ a. inhibits rule a s) (same.1 i)) (same.0 i).rules
 same_part w v s (Receiver receiver) same =
     ap (λ c. list_any (λ other. other == receiver) (receivers s c)) same.0
 same_part w v s (Ends path) same = ap (λ c. list_any (λ end. same_text end path) (ends s c)) same.0
@@ -208,10 +212,11 @@ same_truth w v s (Or q r) same =
     let right = same_truth w v s r same in λ i. left i || right i
 
 pub same_active : (u : List Label) (w v : World) (question : Question) → w.config ≡ v.config
+    → w.alerts ≡ v.alerts
     → filter (is_active w.instant) w.silences ≡ filter (is_active v.instant) v.silences
     → answers u w question ≡ answers u v question
-same_active u w v question config active =
-    λ i. filter (λ choice. same_truth w v (label_set_of u choice) question (config, active) i)
+same_active u w v question config alerts active =
+    λ i. filter (λ choice. same_truth w v (label_set_of u choice) question (config, alerts, active) i)
     (all_choices u)
 
 all_steady : (from to : ℤ) (silences : List Silence) → from ≤ℤ to
@@ -228,28 +233,10 @@ pub steady : (u : List Label) (w : World) (from to : ℤ) (question : Question) 
     → AllByRecursion (IsSteady from to) w.silences
     → answers u (at_instant w from) question ≡ answers u (at_instant w to) question
 steady u w from to question later each =
-    same_active u (at_instant w from) (at_instant w to) question refl
+    same_active u (at_instant w from) (at_instant w to) question refl refl
     (all_steady from to w.silences later each)
 
 -- ---- What it is to be silenced.
-
-any_in : {X : Type 0} (test : X → Bool) (xs : List X) → IsTrue (list_any test xs)
-    → (x : X) × IsIn xs x × IsTrue (test x)
-any_in test [] h = absurd (cc)
-any_in test (x ∷ xs) h = elim (cases_Bool (test x)) [
-  | inl passes ↦ (x, inl refl, passes)
-  | inr fails ↦ let later = any_in test xs (rw fails at h) in (later.0, inr later.1, later.2)
-]
-
-in_any : {X : Type 0} (test : X → Bool) (xs : List X) (x : X) → IsIn xs x → IsTrue (test x)
-    → IsTrue (list_any test xs)
-in_any test [] x h passes = absurd h
-in_any test (y ∷ xs) x (inl same) passes =
-    let here : test y ≡ true = ap test same ∙ passes in rw here refl
-in_any test (y ∷ xs) x (inr later) passes = elim (cases_Bool (test y)) [
-  | inl first ↦ rw first refl
-  | inr fails ↦ rw fails (in_any test xs x later passes)
-]
 
 each_holds : (s : LabelMap) (ms : List Condition) → IsTrue (all_hold s ms)
     → AllByRecursion (λ m. IsTrue (condition_holds s m)) ms

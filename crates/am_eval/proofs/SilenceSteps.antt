@@ -1,16 +1,10 @@
 -- A step of a loop over silences: what is left is the silence at a position, and what is behind it.
-use Rattle.std.proofs.Common.{◌≡◌, zero, suc, ℕ, ◌+◌, List, [], ◌∷◌, ◌++◌, Some, Bool, true, false}
-use Rattle.std.proofs.Common.{drop, arith, refl, append_assoc}
+use Rattle.std.proofs.Common.{◌≡◌, ℕ, ◌+◌, List, [], ◌∷◌, ◌++◌, Some, Bool, true, false}
+use Rattle.std.proofs.Common.{drop, refl, append_assoc}
 use Rattle.std.specs.Prelude.{slice_get}
 use Rattle.std.specs.List.{list_any}
 use Rattle.am_eval.specs.Silencing.{positions_where}
-
-left_at : {X : Type 0} (xs : List X) (i : ℕ) (x : X) → slice_get xs i ≡ Some x
-    → drop i xs ≡ x ∷ drop (i + 1) xs
-left_at [] i x e = absurd (cc)
-left_at (y ∷ xs) zero x e = cc
-left_at (y ∷ xs) (suc i) x e =
-    let n : suc i + 1 ≡ suc (i + 1) = omega arith in rw n (left_at xs i x e)
+use Rattle.am_eval.proofs.Members.{left_at}
 
 -- one that does not hide the alert
 pub none_here : {X : Type 0} (test : X → Bool) (xs : List X) (i : ℕ) {x : X}

@@ -5,13 +5,13 @@ use Rattle.std.proofs.Common.{option_map}
 use Rattle.am_eval.specs.Tree.{Tree, Part, Not, And, Or}
 use Rattle.am_eval.specs.Tokens.{Token, Open, Close, Word, Quoted, BraceList}
 use Rattle.am_eval.specs.Grammar as g
-use Rattle.am_eval.specs.Grammar.{Written, WrittenAny, WrittenSilenced, WrittenReceiver}
-use Rattle.am_eval.specs.Grammar.{WrittenEnds, WrittenEnters, WrittenBraces, IsName, IsQuestion, IsBoth, IsOne, IsSimple}
+use Rattle.am_eval.specs.Grammar.{Written, WrittenAny, WrittenSilenced, WrittenInhibited}
+use Rattle.am_eval.specs.Grammar.{WrittenReceiver, WrittenEnds, WrittenEnters, WrittenBraces, IsName, IsQuestion, IsBoth, IsOne, IsSimple}
 use Rattle.am_universe.specs.Text.{same_text}
 use Rattle.std.proofs.lemmas.Slice.Eq.{bytes_eq-Decides}
 use Rattle.am_eval.specs.GrammarReading.{behind, behind_open, behind_close, name_of}
-use Rattle.am_eval.specs.GrammarReading.{TakesPart, take_any, take_silenced, take_receiver}
-use Rattle.am_eval.specs.GrammarReading.{take_ends, take_enters, take_braces}
+use Rattle.am_eval.specs.GrammarReading.{TakesPart, take_any, take_silenced, take_inhibited}
+use Rattle.am_eval.specs.GrammarReading.{take_receiver, take_ends, take_enters, take_braces}
 use Rattle.am_eval.specs.GrammarReading.{TakesQuestion, take_question, JoinsByOr, no_or, one_or}
 use Rattle.am_eval.specs.GrammarReading.{TakesBoth, take_both, JoinsByAnd, no_and, one_and}
 use Rattle.am_eval.specs.GrammarReading.{TakesOne, take_not, take_simple, TakesSimple, take_inside}
@@ -73,6 +73,7 @@ part_at (BraceList list ∷ ts) = Some (WrittenBraces list, ts)
 part_at (Word word ∷ ts) =
     if same_text word (codes "any") then Some (WrittenAny, ts)
     else if same_text word (codes "silenced") then Some (WrittenSilenced, ts)
+    else if same_text word (codes "inhibited") then Some (WrittenInhibited, ts)
     else if same_text word (codes "receiver") then named WrittenReceiver ts
     else if same_text word (codes "ends") then named WrittenEnds ts
     else if same_text word (codes "enters") then named WrittenEnters ts else None
@@ -82,6 +83,7 @@ part_is_at : {ts rest : List Token} {w : Written} → TakesPart ts w rest
     → part_at ts ≡ Some (w, rest)
 part_is_at (take_any ts rest h) = rw (behind_some _ ts h)
 part_is_at (take_silenced ts rest h) = rw (behind_some _ ts h)
+part_is_at (take_inhibited ts rest h) = rw (behind_some _ ts h)
 part_is_at (take_receiver ts rest token name h n) = rw (behind_some _ ts h, n)
 part_is_at (take_ends ts rest text h p) = rw (behind_some _ ts h)
 part_is_at (take_enters ts rest text h p) = rw (behind_some _ ts h)
@@ -214,6 +216,7 @@ mutual
   )
   simple_taken g.any rest = (refl, take_part _ rest _ refl (take_any _ rest refl))
   simple_taken g.silenced rest = (refl, take_part _ rest _ refl (take_silenced _ rest refl))
+  simple_taken g.inhibited rest = (refl, take_part _ rest _ refl (take_inhibited _ rest refl))
   simple_taken (g.braces list) rest = (refl, take_part _ rest _ refl (take_braces list rest))
 
 -- ---- What is read is in the grammar.
@@ -243,6 +246,8 @@ part_front (take_any ts rest h) =
     record { front = Word (codes "any") ∷ []; split = behind_some _ ts h; has = g.any }
 part_front (take_silenced ts rest h) =
     record { front = Word (codes "silenced") ∷ []; split = behind_some _ ts h; has = g.silenced }
+part_front (take_inhibited ts rest h) =
+    record { front = Word (codes "inhibited") ∷ []; split = behind_some _ ts h; has = g.inhibited }
 part_front (take_receiver ts rest token name h n) = record {
   front = Word (codes "receiver") ∷ token ∷ [];
   split = behind_some _ ts h;

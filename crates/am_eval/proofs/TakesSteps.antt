@@ -8,11 +8,11 @@ use Rattle.std.proofs.lemmas.Bool.{eqb-true}
 use Rattle.am_universe.specs.Text.{same_text}
 use Rattle.am_eval.specs.Tree.{Tree, And, Or}
 use Rattle.am_eval.specs.Tokens.{Token, Word, BraceList}
-use Rattle.am_eval.specs.Grammar.{Written, WrittenAny, WrittenSilenced, WrittenReceiver}
-use Rattle.am_eval.specs.Grammar.{WrittenEnds, WrittenEnters, WrittenBraces}
+use Rattle.am_eval.specs.Grammar.{Written, WrittenAny, WrittenSilenced, WrittenInhibited}
+use Rattle.am_eval.specs.Grammar.{WrittenReceiver, WrittenEnds, WrittenEnters, WrittenBraces}
 use Rattle.am_eval.specs.GrammarReading.{behind, behind_open, behind_close, IsPathText, name_of}
-use Rattle.am_eval.specs.GrammarReading.{TakesPart, take_any, take_silenced, take_receiver}
-use Rattle.am_eval.specs.GrammarReading.{take_ends, take_enters, take_braces}
+use Rattle.am_eval.specs.GrammarReading.{TakesPart, take_any, take_silenced, take_inhibited}
+use Rattle.am_eval.specs.GrammarReading.{take_receiver, take_ends, take_enters, take_braces}
 use Rattle.am_eval.specs.GrammarReading.{TakesQuestion, take_question, JoinsByOr, no_or, one_or}
 use Rattle.am_eval.specs.GrammarReading.{TakesBoth, take_both, JoinsByAnd, no_and, one_and}
 use Rattle.am_eval.specs.GrammarReading.{TakesOne, take_not, take_simple, TakesSimple, take_inside}
@@ -150,6 +150,10 @@ pub silenced_taken : (word : List ℕ) (ts : List Token) → same_text word (cod
     → TakesPart (Word word ∷ ts) WrittenSilenced ts
 silenced_taken word ts e = take_silenced _ ts (rw e)
 
+pub inhibited_taken : (word : List ℕ) (ts : List Token)
+    → same_text word (codes "inhibited") ≡ true → TakesPart (Word word ∷ ts) WrittenInhibited ts
+inhibited_taken word ts e = take_inhibited _ ts (rw e)
+
 pub receiver_taken : (word name : List ℕ) (ts rest : List Token) (token : Token)
     → word ≡ codes "receiver" → ts ≡ token ∷ rest → Some name ≡ name_of token
     → TakesPart (Word word ∷ ts) (WrittenReceiver name) rest
@@ -175,6 +179,7 @@ ends_refused : (token : Token) (ts : List Token)
     → {w : Written} {rest : List Token} → TakesPart (Word (codes "ends") ∷ token ∷ ts) w rest → ⊥
 ends_refused token ts none (take_any us left h) = cc
 ends_refused token ts none (take_silenced us left h) = cc
+ends_refused token ts none (take_inhibited us left h) = cc
 ends_refused token ts none (take_receiver us left other name h n) = cc
 ends_refused token ts none (take_ends us left text h p) = none text (cc) p
 ends_refused token ts none (take_enters us left text h p) = cc
@@ -184,6 +189,7 @@ enters_refused : (token : Token) (ts : List Token)
     → {w : Written} {rest : List Token} → TakesPart (Word (codes "enters") ∷ token ∷ ts) w rest → ⊥
 enters_refused token ts none (take_any us left h) = cc
 enters_refused token ts none (take_silenced us left h) = cc
+enters_refused token ts none (take_inhibited us left h) = cc
 enters_refused token ts none (take_receiver us left other name h n) = cc
 enters_refused token ts none (take_ends us left text h p) = cc
 enters_refused token ts none (take_enters us left text h p) = none text (cc) p

@@ -9,6 +9,7 @@ use Rattle.am_eval.specs.Tokens.{Token, Open, Close, Word, Quoted, BraceList}
 pub data Written : Type 0 where
   WrittenAny : Written
   WrittenSilenced : Written
+  WrittenInhibited : Written
   WrittenReceiver : List ℕ → Written
   WrittenEnds : List ℕ → Written
   WrittenEnters : List ℕ → Written
@@ -43,7 +44,7 @@ mutual
     simple : (ts : List Token) (q : Tree Written) → IsSimple ts q → IsOne ts q
 
   -- simple := "(" question ")" | "receiver" NAME | "ends" PATH | "enters" PATH | "silenced"
-  -- | "any" | BRACES
+  -- | "inhibited" | "any" | BRACES
   pub data IsSimple : List Token → Tree Written → Type 0 where
     in_parentheses : (ts : List Token) (q : Tree Written) → IsQuestion ts q
         → IsSimple (Open ∷ (ts ++ (Close ∷ []))) q
@@ -56,5 +57,6 @@ mutual
         → IsSimple (Word (codes "enters") ∷ Word (path_text path) ∷ [])
         (Part (WrittenEnters (path_text path)))
     silenced : IsSimple (Word (codes "silenced") ∷ []) (Part WrittenSilenced)
+    inhibited : IsSimple (Word (codes "inhibited") ∷ []) (Part WrittenInhibited)
     any : IsSimple (Word (codes "any") ∷ []) (Part WrittenAny)
     braces : (list : List ℕ) → IsSimple (BraceList list ∷ []) (Part (WrittenBraces list))

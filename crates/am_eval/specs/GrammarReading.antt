@@ -8,8 +8,8 @@ use Rattle.am_universe.specs.declared.kind.Kind.TheVariants as kinds
 use Rattle.am_files.specs.Path.{path_text}
 use Rattle.am_eval.specs.Tree.{Tree, Part, Not, And, Or}
 use Rattle.am_eval.specs.Tokens.{Token, Open, Close, Word, Quoted, BraceList}
-use Rattle.am_eval.specs.Grammar.{Written, WrittenAny, WrittenSilenced, WrittenReceiver}
-use Rattle.am_eval.specs.Grammar.{WrittenEnds, WrittenEnters, WrittenBraces}
+use Rattle.am_eval.specs.Grammar.{Written, WrittenAny, WrittenSilenced, WrittenInhibited}
+use Rattle.am_eval.specs.Grammar.{WrittenReceiver, WrittenEnds, WrittenEnters, WrittenBraces}
 
 -- The token is this word.
 abbrev pub is_word : List ℕ → Token → Bool
@@ -47,6 +47,8 @@ pub data TakesPart : List Token → Written → List Token → Type 0 where
       → TakesPart ts WrittenAny rest
   take_silenced : (ts rest : List Token) → behind (codes "silenced") ts ≡ Some rest
       → TakesPart ts WrittenSilenced rest
+  take_inhibited : (ts rest : List Token) → behind (codes "inhibited") ts ≡ Some rest
+      → TakesPart ts WrittenInhibited rest
   take_receiver : (ts rest : List Token) (token : Token) (name : List ℕ)
       → behind (codes "receiver") ts ≡ Some (token ∷ rest) → name_of token ≡ Some name
       → TakesPart ts (WrittenReceiver name) rest

@@ -4,6 +4,9 @@ pub mod World
 pub mod WorldCode
 pub mod Silencing
 pub mod SilencingExample
+pub mod Pairs
+pub mod Inhibition
+pub mod InhibitionExample
 pub mod Tree
 pub mod Question
 pub mod Tokens

@@ -10,13 +10,16 @@ use Rattle.am_files.specs.Path.{leads_through}
 use Rattle.am_eval.specs.World.{World}
 use Rattle.am_eval.specs.Routing.{ends, receivers}
 use Rattle.am_eval.specs.Silencing.{is_silenced}
+use Rattle.am_eval.specs.Inhibition.{is_inhibited}
 use Rattle.am_eval.specs.Tree.{Tree, Part, Not, And, Or}
 
--- A simple part: anything; that a silence hides the alert; a receiver, by its position; the routes
--- that handle the alert; those and the routes above them; a list of matchers.
+-- A simple part: anything; that a silence hides the alert; that a firing alert inhibits it; a
+-- receiver, by its position; the routes that handle the alert; those and the routes above them; a
+-- list of matchers.
 pub data Simple : Type 0 where
   Any : Simple
   Silenced : Simple
+  Inhibited : Simple
   Receiver : ℕ → Simple
   Ends : List ℕ → Simple
   Enters : List ℕ → Simple
@@ -34,6 +37,7 @@ Question = Tree Simple
 abbrev pub holds_of : World → Simple → LabelMap → Bool
 holds_of w Any s = true
 holds_of w Silenced s = is_silenced w s
+holds_of w Inhibited s = is_inhibited w s
 holds_of w (Receiver receiver) s = list_any (λ other. other == receiver) (receivers s w.config)
 holds_of w (Ends path) s = list_any (λ end. same_text end path) (ends s w.config)
 holds_of w (Enters path) s = list_any (leads_through path) (ends s w.config)

@@ -1,8 +1,7 @@
 -- Question texts: which text is which question of a configuration, and why a text is refused.
 -- (This project's own.)
 use Rattle.std.specs.Prelude.{◌≡◌, ◌≤◌, ◌<◌, ◌⊎◌, ℕ, List, [], ◌∷◌, ◌++◌, length, Option, Some}
-use Rattle.std.specs.Prelude.{None}
-use Rattle.std.specs.Prelude.{position, IsTrue, is_some}
+use Rattle.std.specs.Prelude.{None, position, IsTrue, is_some}
 use Rattle.std.specs.List.{AllByRecursion}
 use Rattle.am_universe.specs.Text.{same_text}
 use Rattle.am_universe.specs.declared.kind.Kind.{Kind}
@@ -16,10 +15,12 @@ use Rattle.am_files.specs.Path.{path_text, route_at}
 use Rattle.am_eval.specs.declared.limits.TheConstants.{MAX_TOKENS}
 use Rattle.am_eval.specs.Tree.{Tree, Part, Not, And, Or}
 use Rattle.am_eval.specs.Question.{Question}
-use Rattle.am_eval.specs.Question.{Simple, Any, Silenced, Receiver, Ends, Enters, Braces}
+use Rattle.am_eval.specs.Question.{Simple, Any, Silenced, Inhibited, Receiver, Ends, Enters}
+use Rattle.am_eval.specs.Question.{Braces}
 use Rattle.am_eval.specs.Tokens.{Token, SpellsTokens}
-use Rattle.am_eval.specs.Grammar.{Written, WrittenAny, WrittenSilenced, WrittenReceiver}
-use Rattle.am_eval.specs.Grammar.{WrittenEnds, WrittenEnters, WrittenBraces, IsQuestion}
+use Rattle.am_eval.specs.Grammar.{Written, WrittenAny, WrittenSilenced, WrittenInhibited}
+use Rattle.am_eval.specs.Grammar.{WrittenReceiver, WrittenEnds, WrittenEnters, WrittenBraces}
+use Rattle.am_eval.specs.Grammar.{IsQuestion}
 
 -- ---- What is meant.
 
@@ -35,6 +36,7 @@ IsPathOfRoute c text path = (text ≡ path_text path) × IsTrue (is_some (route_
 abbrev pub Means : Configuration → Written → Simple → Type 0
 Means c WrittenAny simple = simple ≡ Any
 Means c WrittenSilenced simple = simple ≡ Silenced
+Means c WrittenInhibited simple = simple ≡ Inhibited
 Means c (WrittenReceiver name) simple =
     (receiver : ℕ) × (receiver_named c name ≡ Some receiver) × (simple ≡ Receiver receiver)
 Means c (WrittenEnds text) simple =
@@ -81,6 +83,7 @@ parts_of (Or t u) = parts_of t ++ parts_of u
 abbrev pub PartRefusedFor : Configuration → Written → Kind → Type 0
 PartRefusedFor c WrittenAny kind = ⊥
 PartRefusedFor c WrittenSilenced kind = ⊥
+PartRefusedFor c WrittenInhibited kind = ⊥
 PartRefusedFor c (WrittenReceiver name) kind =
     (kind ≡ kinds.UnknownReceiver) × (receiver_named c name ≡ None)
 PartRefusedFor c (WrittenEnds text) kind =

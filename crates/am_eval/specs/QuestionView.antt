@@ -3,12 +3,14 @@ use Rattle.am_eval.specs.declared.question.Question as kept
 use Rattle.am_eval.specs.declared.question.Question.{fold-Question}
 use Rattle.am_eval.specs.declared.question.Question.TheOpen.{Question-F}
 use Rattle.am_eval.specs.Tree.{Part, Not, And, Or}
-use Rattle.am_eval.specs.Question.{Question, Any, Silenced, Receiver, Ends, Enters, Braces}
+use Rattle.am_eval.specs.Question.{Question, Any, Silenced, Inhibited, Receiver, Ends, Enters}
+use Rattle.am_eval.specs.Question.{Braces}
 
 -- One part, with each question in it already seen.
 abbrev pub view_step : Question-F Question → Question
 view_step Question-F.Any = Part Any
 view_step Question-F.Silenced = Part Silenced
+view_step Question-F.Inhibited = Part Inhibited
 view_step (Question-F.Receiver receiver) = Part (Receiver receiver)
 view_step (Question-F.Ends path) = Part (Ends path)
 view_step (Question-F.Enters path) = Part (Enters path)

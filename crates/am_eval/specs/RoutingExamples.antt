@@ -30,6 +30,7 @@ worked = record {
       (node 1 (team_db ∷ []) true (node 2 (severity_critical ∷ []) false [] ∷ [])
       ∷ node 3 (severity_critical ∷ []) false []
       ∷ node 4 (team_db ∷ severity_critical ∷ []) false [] ∷ []);
+  rules = [];
 }
 
 -- A label set has these values of `team` and `severity`, where the empty text is a missing label.

@@ -30,22 +30,28 @@ hides w s silence = is_active w.instant silence && all_hold s silence.matchers
 abbrev pub is_silenced : World → LabelMap → Bool
 is_silenced w s = list_any (hides w s) w.silences
 
--- The silences that hide an alert, by their positions in the file, in order.
--- Source: own choice.
--- Example: where the first and the third of three silences hide an alert, its silencers are 0 and
--- 2.
+-- The positions in a list of what passes a test, in order, counted from a number on.
 abbrev pub positions_where : {A : Type 0} → (A → Bool) → ℕ → List A → List ℕ
 positions_where test from [] = []
 positions_where test from (x ∷ xs) =
     if test x then from ∷ positions_where test (from + 1) xs else positions_where test (from + 1) xs
 
+-- The silences that hide an alert, by their positions in the file, in order.
+-- Source: own choice.
+-- Example: where the first and the third of three silences hide an alert, its silencers are 0 and
+-- 2.
 abbrev pub silencers : World → LabelMap → List ℕ
 silencers w s = positions_where (hides w s) 0 w.silences
 
 -- The same world, asked about at another instant.
 abbrev pub at_instant : World → ℤ → World
 at_instant w instant =
-    record { config = w.config; silences = w.silences; instant = Some instant }
+    record {
+      config = w.config;
+      silences = w.silences;
+      alerts = w.alerts;
+      instant = Some instant;
+    }
 
 -- A silence neither begins nor ends after one instant and up to another, that one included.
 abbrev pub IsSteady : ℤ → ℤ → Silence → Type 0

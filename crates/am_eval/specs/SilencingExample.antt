@@ -9,5 +9,6 @@ abbrev pub silenced_world : World
 silenced_world = record {
   config = worked;
   silences = record { matchers = team_db ∷ []; starts = pos 10; ends = pos 20 } ∷ [];
+  alerts = [];
   instant = None;
 }

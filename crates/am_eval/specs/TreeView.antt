@@ -6,13 +6,14 @@ use Rattle.am_eval.specs.declared.grammar.Tree as kept
 use Rattle.am_eval.specs.declared.grammar.Tree.{fold-Tree}
 use Rattle.am_eval.specs.declared.grammar.Tree.TheOpen.{Tree-F}
 use Rattle.am_eval.specs.Tree.{Tree, Part, Not, And, Or}
-use Rattle.am_eval.specs.Grammar.{Written, WrittenAny, WrittenSilenced, WrittenReceiver}
-use Rattle.am_eval.specs.Grammar.{WrittenEnds, WrittenEnters, WrittenBraces}
+use Rattle.am_eval.specs.Grammar.{Written, WrittenAny, WrittenSilenced, WrittenInhibited}
+use Rattle.am_eval.specs.Grammar.{WrittenReceiver, WrittenEnds, WrittenEnters, WrittenBraces}
 
 -- A simple part without where its text lies in memory.
 abbrev pub written_view : kept_parts.Written → Written
 written_view parts.Any = WrittenAny
 written_view parts.Silenced = WrittenSilenced
+written_view parts.Inhibited = WrittenInhibited
 written_view (parts.Receiver name) = WrittenReceiver name.now
 written_view (parts.Ends path) = WrittenEnds path.now
 written_view (parts.Enters path) = WrittenEnters path.now

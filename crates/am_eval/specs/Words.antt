@@ -1,11 +1,15 @@
 -- The words of clauses: what the contracts of this crate, and of those above it, cite.
 pub use Rattle.am_eval.specs.Routing.{ends, receivers, ends_at, children_seen, ends_tried}
 pub use Rattle.am_eval.specs.Routing.{receiver_at, MatchesAt, EndsThere}
-pub use Rattle.am_eval.specs.RoutingExamples.{worked, Has}
+pub use Rattle.am_eval.specs.RoutingExamples.{worked, severity_critical, Has}
 pub use Rattle.am_eval.specs.World.{World}
 pub use Rattle.am_eval.specs.Silencing.{is_active, hides, is_silenced, silencers}
 pub use Rattle.am_eval.specs.Silencing.{positions_where, at_instant, IsSteady}
 pub use Rattle.am_eval.specs.SilencingExample.{silenced_world}
+pub use Rattle.am_eval.specs.Pairs.{pairs_of, pairs_of_rule}
+pub use Rattle.am_eval.specs.Inhibition.{have_equal, is_two_sided, inhibits, is_inhibited}
+pub use Rattle.am_eval.specs.Inhibition.{inhibitors, pair_inhibits}
+pub use Rattle.am_eval.specs.InhibitionExample.{inhibiting_world, severity_warning, severity_any}
 pub use Rattle.am_eval.specs.Question.{Question, holds_of, satisfies, is_answer, answers}
 pub use Rattle.am_eval.specs.QuestionView.{question_view}
 pub use Rattle.am_eval.specs.Tokens.{Token, SpellsTokens, is_word_character}

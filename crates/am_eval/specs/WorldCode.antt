@@ -6,10 +6,13 @@ use Rattle.std.specs.Coded.{coded_option}
 use base.Stored.{Gv, gnil, gnum, gcons}
 use Rattle.am_labels.specs.Matcher.{Condition}
 use Rattle.am_labels.specs.contracts.matchers.Matchers as matchers
-use Rattle.am_files.specs.ConfigFile.{RouteSettings, RouteTree, Routes, route, no_routes}
-use Rattle.am_files.specs.ConfigFile.{next_route}
+use Rattle.am_universe.specs.LabelSet.{LabelMap}
 use Rattle.am_records.specs.SilencesFile.{Silence}
+use Rattle.am_records.specs.contracts.alert.Alerts as alerts
 use Rattle.am_records.specs.contracts.silence.Silences as silences
+use Rattle.am_files.specs.ConfigFile.{RouteSettings, RouteTree, Routes, Rule, route, no_routes}
+use Rattle.am_files.specs.ConfigFile.{next_route}
+use Rattle.am_files.specs.contracts.rule.Rule as rule
 use Rattle.am_eval.specs.World.{World}
 
 -- The parts of a code.
@@ -61,16 +64,23 @@ mutual
 abbrev pub coded_route : Coded RouteTree
 coded_route = record { code = route_code; inj = route_told }
 
+-- The code of inhibition rules in order.
+abbrev coded_rules : Coded (List Rule)
+coded_rules = coded_list rule.the_row.coded
+
 -- The code of a world, as that of its parts.
 abbrev pub coded_world : Coded World
 coded_world =
-    code_by ((List (List ℕ) × RouteTree) × (List Silence × Option ℤ))
-    (coded× (coded× (coded_list (coded_list coded_ℕ)) coded_route)
-    (coded× silences.the_row.coded (coded_option coded_ℤ)))
-    (λ w. ((w.config.receivers, w.config.root), (w.silences, w.instant)))
+    code_by
+    ((List (List ℕ) × (RouteTree × List Rule)) × (List Silence × (List LabelMap × Option ℤ)))
+    (coded× (coded× (coded_list (coded_list coded_ℕ)) (coded× coded_route coded_rules))
+    (coded× silences.the_row.coded (coded× alerts.the_row.coded (coded_option coded_ℤ))))
+    (λ w.
+    ((w.config.receivers, (w.config.root, w.config.rules)), (w.silences, (w.alerts, w.instant))))
     (λ p. record {
-      config = record { receivers = p.0.0; root = p.0.1 };
+      config = record { receivers = p.0.0; root = p.0.1.0; rules = p.0.1.1 };
       silences = p.1.0;
-      instant = p.1.1;
+      alerts = p.1.1.0;
+      instant = p.1.1.1;
     })
     (λ _. refl)

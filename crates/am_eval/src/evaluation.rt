@@ -3,6 +3,7 @@
 ghost use Rattle.std.specs.Prelude.{◌≡◌, IfOk};
 ghost use Rattle.am_eval.specs.Words.{satisfies, question_view};
 
+use crate::inhibition::is_inhibited;
 use crate::question::Question;
 use crate::routing::{ends, receivers_of};
 use crate::silencing::is_silenced;
@@ -28,6 +29,7 @@ pub fn truth(
     match question {
         Question::Any => Ok(true),
         Question::Silenced => is_silenced(alloc, world, set),
+        Question::Inhibited => is_inhibited(alloc, world, set),
         Question::Receiver(receiver) => Ok(receivers_of(alloc, world.config(), set)?.contains(
             receiver,
         )),

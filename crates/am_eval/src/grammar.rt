@@ -29,6 +29,7 @@ pub(crate) enum Tree<'a> {
 pub(crate) enum Written<'a> {
     Any,
     Silenced,
+    Inhibited,
     /// The name of a receiver.
     Receiver(&'a str),
     /// The text of a path.
@@ -174,6 +175,9 @@ fn read_word_part<'a>(word: &str, tokens: &'a [Token<'a>]) -> Option<(Written<'a
     }
     if word == "silenced" {
         return Some((Written::Silenced, tokens));
+    }
+    if word == "inhibited" {
+        return Some((Written::Inhibited, tokens));
     }
     let [first, rest @ ..] = tokens else {
         return None;

@@ -2,22 +2,27 @@
 //! empty body.
 ghost use Rattle.std.specs.Prelude.{◌≡◌, ◌≢◌, ◌↔◌, ◌++◌, ◌∷◌, ℕ, List, [], length, Contains};
 ghost use Rattle.std.specs.Prelude.{IsTrue, IsFalse, Some, None, ◌≤◌, ℤ, pos, ◌≤ℤ◌, ◌<ℤ◌};
-ghost use Rattle.std.specs.Prelude.{slice_get, true, false, codes};
+ghost use Rattle.std.specs.Prelude.{slice_get, true, false, codes, map};
 ghost use Rattle.std.specs.Ordering.{nat_cmp};
 ghost use Rattle.std.specs.Cmp.Lexicographic.{slice_cmp};
 ghost use Rattle.std.specs.List.{AllByRecursion, filter};
 ghost use Rattle.std.specs.List.Sorted.{IsStrictlySortedBy};
 ghost use Rattle.am_labels.specs.Words.{Label, sizes, IsWhole, LabelMap, label_set_of, all_hold};
-ghost use Rattle.am_labels.specs.Words.{condition_holds};
+ghost use Rattle.am_labels.specs.Words.{condition_holds, value_of};
 ghost use Rattle.am_files.specs.Words.{RouteTree, Configuration, IsConfig, matchers_of, route_at};
 ghost use Rattle.am_files.specs.Words.{children_of, list_of};
-ghost use Rattle.am_eval.specs.declared.limits.TheConstants.{MAX_TOKENS};
+ghost use Rattle.am_eval.specs.declared.limits.TheConstants.{MAX_TOKENS, MAX_PAIRS};
+ghost use Rattle.am_eval.specs.declared.pair.Pair.{Pair};
 ghost use Rattle.am_eval.specs.Tree.{Not, And, Or};
 ghost use Rattle.am_eval.specs.Question.{Any, Silenced, Receiver, Ends, Enters};
 ghost use Rattle.am_eval.specs.Words.{ends, receivers, ends_at, MatchesAt, EndsThere, worked, Has};
 ghost use Rattle.am_records.specs.SilencesFile.{Silence};
 ghost use Rattle.am_eval.specs.Words.{World, is_active, hides, is_silenced, silencers};
 ghost use Rattle.am_eval.specs.Words.{at_instant, IsSteady, silenced_world};
+ghost use Rattle.am_files.specs.ConfigFile.{Rule};
+ghost use Rattle.am_eval.specs.Words.{is_two_sided, inhibits, is_inhibited, inhibitors, pairs_of};
+ghost use Rattle.am_eval.specs.Words.{pair_inhibits, inhibiting_world, severity_critical};
+ghost use Rattle.am_eval.specs.Words.{severity_warning, severity_any};
 ghost use Rattle.am_eval.specs.Words.{Question, holds_of, satisfies, answers, Token, SpellsTokens};
 ghost use Rattle.am_eval.specs.Words.{Tree, Written, IsQuestion, ReadsQuestion};
 ghost use Rattle.am_eval.specs.Words.{any_word, not_word, and_word, or_word, any_tree};
@@ -119,12 +124,12 @@ pub fn inactive_silences_hide_nothing()
         → IsFalse (is_silenced w s) }
 {}
 
-/// Worlds of one configuration give the same answers to every question where the same silences are
-/// active, in the same order. So two instants give the same answers where no silence begins or ends
-/// after the first and up to the second, that one included.
+/// Worlds of one configuration and the same firing alerts give the same answers to every question
+/// where the same silences are active, in the same order. So two instants give the same answers
+/// where no silence begins or ends after the first and up to the second, that one included.
 pub fn answers_change_only_where_silences_begin_or_end()
     ensures same_active { (u : List Label) (w v : World) (question : Question)
-        → w.config ≡ v.config
+        → w.config ≡ v.config → w.alerts ≡ v.alerts
         → filter (is_active w.instant) w.silences ≡ filter (is_active v.instant) v.silences
         → answers u w question ≡ answers u v question }
     ensures steady { (u : List Label) (w : World) (from to : ℤ) (question : Question)
@@ -143,6 +148,82 @@ pub fn an_example_of_silencing()
         → is_silenced (at_instant silenced_world (pos 10)) s ≡ false }
     ensures no_instant { (s : LabelMap) → Has s (codes "db") []
         → is_silenced silenced_world s ≡ false }
+{}
+
+/// By a rule, a firing alert inhibits another exactly where the rule's source side matches the one
+/// that fires, its target side matches the other, both have the same value for each label in
+/// `equal`, and it is not so that the target side matches the one that fires too and the source
+/// side the other.
+pub fn an_alert_inhibits_as_the_rule_says()
+    ensures exactly { (rule : Rule) (firing s : LabelMap) → (IsTrue (inhibits rule firing s)
+        ↔ (IsTrue (all_hold firing rule.source) × IsTrue (all_hold s rule.target)
+        × AllByRecursion (λ name. value_of firing name ≡ value_of s name) rule.equal
+        × (IsTrue (all_hold firing rule.target) → IsTrue (all_hold s rule.source) → ⊥))) }
+{}
+
+/// An alert that is two-sided for a rule never inhibits by that rule one that is two-sided for it.
+/// So no alert inhibits itself.
+pub fn two_sided_alerts_do_not_inhibit_each_other()
+    ensures two_sided { (rule : Rule) (firing s : LabelMap) → IsTrue (is_two_sided rule firing)
+        → IsTrue (is_two_sided rule s) → IsFalse (inhibits rule firing s) }
+    ensures itself { (rule : Rule) (s : LabelMap) → IsFalse (inhibits rule s s) }
+{}
+
+/// An alert is inhibited exactly where it has an inhibitor. Its inhibitors are the rules and the
+/// firing alerts that inhibit it by them, in order, each once.
+pub fn an_alert_is_inhibited_by_its_inhibitors()
+    ensures some { (w : World) (s : LabelMap)
+        → IsTrue (is_inhibited w s) ↔ (inhibitors w s ≢ []) }
+    ensures exactly { (w : World) (s : LabelMap) (i j : ℕ) → (Contains (inhibitors w s) (i, j)
+        ↔ ((rule : Rule) × (firing : LabelMap) × (slice_get w.config.rules i ≡ Some rule)
+        × (slice_get w.alerts j ≡ Some firing) × IsTrue (inhibits rule firing s))) }
+    ensures ascending { (w : World) (s : LabelMap) → IsStrictlySortedBy (slice_cmp nat_cmp)
+        (map (λ found. found.0 ∷ found.1 ∷ []) (inhibitors w s)) }
+{}
+
+/// The pairs are each rule with each firing alert that its source side matches, in order, each
+/// once, and say whether the target side matches that alert too. What inhibits an alert is among
+/// them.
+pub fn pairs_are_the_firing_alerts_of_rules()
+    ensures exactly { (rules : List Rule) (alerts : List LabelMap) (pair : Pair)
+        → (Contains (pairs_of rules alerts) pair
+        ↔ ((rule : Rule) × (firing : LabelMap) × (slice_get rules pair.rule ≡ Some rule)
+        × (slice_get alerts pair.alert ≡ Some firing) × IsTrue (all_hold firing rule.source)
+        × (pair.both ≡ all_hold firing rule.target))) }
+    ensures ascending { (rules : List Rule) (alerts : List LabelMap)
+        → IsStrictlySortedBy (slice_cmp nat_cmp)
+        (map (λ pair. pair.rule ∷ pair.alert ∷ []) (pairs_of rules alerts)) }
+    ensures inhibitors { (w : World) (s : LabelMap) → inhibitors w s
+        ≡ map (λ pair. (pair.rule, pair.alert))
+        (filter (pair_inhibits w s) (pairs_of w.config.rules w.alerts)) }
+{}
+
+/// Where no alert fires, or there is no rule, nothing is inhibited.
+pub fn without_alerts_or_rules_nothing_is_inhibited()
+    ensures no_alerts { (w : World) (s : LabelMap) → w.alerts ≡ []
+        → IsFalse (is_inhibited w s) }
+    ensures no_rules { (w : World) (s : LabelMap) → w.config.rules ≡ []
+        → IsFalse (is_inhibited w s) }
+{}
+
+/// An example, while a critical alert of the team `db` fires: what is inhibited by a rule from
+/// `critical` to `warning` for the same team, and for the same region, which neither alert has; by
+/// one from any severity to any; and by one from any severity to `warning`.
+pub fn an_example_of_inhibition()
+    ensures same_team { (s : LabelMap) → Has s (codes "db") (codes "warning")
+        → is_inhibited (inhibiting_world severity_critical severity_warning (codes "team")) s
+        ≡ true }
+    ensures other_team { (s : LabelMap) → Has s (codes "web") (codes "warning")
+        → is_inhibited (inhibiting_world severity_critical severity_warning (codes "team")) s
+        ≡ false }
+    ensures no_region { (s : LabelMap) → Has s (codes "web") (codes "warning")
+        → value_of s (codes "region") ≡ []
+        → is_inhibited (inhibiting_world severity_critical severity_warning (codes "region")) s
+        ≡ true }
+    ensures two_sided { (s : LabelMap) → Has s (codes "db") (codes "warning")
+        → is_inhibited (inhibiting_world severity_any severity_any (codes "team")) s ≡ false }
+    ensures one_sided { (s : LabelMap) → Has s (codes "db") (codes "warning")
+        → is_inhibited (inhibiting_world severity_any severity_warning (codes "team")) s ≡ true }
 {}
 
 /// A choice is among the answers exactly where it is whole and its label set satisfies the
@@ -192,7 +273,8 @@ pub fn one_question_a_text()
         → ReadsQuestion c text p → ReadsQuestion c text q → p ≡ q }
 {}
 
-/// The limit of questions.
-pub fn questions_have_a_limit()
+/// The limits of questions and of worlds.
+pub fn questions_and_worlds_have_limits()
     ensures tokens { MAX_TOKENS ≡ 256 }
+    ensures pairs { MAX_PAIRS ≡ 16384 }
 {}

@@ -1,7 +1,8 @@
 //! What a configuration does to a label set, and the questions that ask of it.
 //!
 //! [`ends`] says which routes handle an alert, and [`receivers_of`] at which receivers it ends. In
-//! a [`World`] there are silences too, and [`silenced_by`] says which of them hide it.
+//! a [`World`] there are silences and firing alerts too: [`silenced_by`] says which silences hide
+//! it, and [`inhibited_by`] what inhibits it.
 //! [`parse_question`] reads a [`Question`], and [`truth`] says whether a label set satisfies it.
 #![tactic(auto)]
 
@@ -13,10 +14,14 @@ mod routing;
 
 pub use routing::{ends, receivers_of};
 
-// What alerts are looked at in, and the silences that hide them.
+// What alerts are looked at in: what silences hide them, and what firing alerts inhibit them.
+mod inhibition;
+mod pair;
 mod silencing;
 mod world;
 
+pub use inhibition::inhibited_by;
+pub use pair::Pair;
 pub use silencing::silenced_by;
 pub use world::World;
 

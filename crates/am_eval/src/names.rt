@@ -72,6 +72,7 @@ fn part_of(alloc: Global, config: &Config, written: &Written<'_>) -> Result<Ques
     match written {
         Written::Any => Ok(Question::Any),
         Written::Silenced => Ok(Question::Silenced),
+        Written::Inhibited => Ok(Question::Inhibited),
         Written::Receiver(name) => match config.receiver_position(name) {
             Some(receiver) => Ok(Question::Receiver(receiver)),
             None => Err(Kind::UnknownReceiver),

@@ -10,6 +10,8 @@ pub enum Question {
     Any,
     /// Some silence hides the alert.
     Silenced,
+    /// Some firing alert inhibits the alert, by a rule.
+    Inhibited,
     /// Some end has the receiver at this position.
     Receiver(usize),
     /// The route at this path is an end.

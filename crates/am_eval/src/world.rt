@@ -1,25 +1,39 @@
-//! What questions are asked about: a configuration, silences and an instant.
+//! What questions are asked about: a configuration, silences, firing alerts and an instant.
 
 // The module of words stands on this type, so its own words come from where they stand.
-ghost use Rattle.std.specs.Prelude.{◌≡◌, ◌<◌, length, option_map, slice_get, IfSome, Some};
+ghost use Rattle.std.specs.Prelude.{◌≡◌, ◌≢◌, ◌<◌, ◌≤◌, [], length, option_map, slice_get, Some};
+ghost use Rattle.std.specs.Prelude.{IfOk, IfErr, string_bytes};
+ghost use Rattle.am_universe.specs.declared.kind.Kind.TheVariants as kinds;
+ghost use Rattle.am_universe.specs.declared.place.Place.TheVariants as places;
 ghost use Rattle.am_files.specs.Words.{config_view};
+ghost use Rattle.am_eval.specs.declared.limits.TheConstants.{MAX_PAIRS};
 ghost use Rattle.am_eval.specs.Silencing.{is_active};
+ghost use Rattle.am_eval.specs.Pairs.{pairs_of};
 
-use am_files::{Config, Silence, Silences};
+use crate::limits::MAX_PAIRS;
+use crate::pair::{Pair, pairs_of};
+use am_files::{Alerts, Config, Silence, Silences};
+use am_labels::{Fault, Kind, Place};
 use jiff::Timestamp;
+use std::alloc::Global;
 use std::marker::Model;
 
-/// A configuration, the silences that there are, and the instant that is asked about.
+/// A configuration, the silences that there are, the alerts that fire, and the instant that is
+/// asked about.
 #[derive(Drop)]
 pub struct World {
     config: Config,
     silences: Silences,
+    alerts: Alerts,
     instant: Option<Timestamp>,
+    pairs: Vec<Pair>,
 }
 
 impl Model for World {
-    ghost use Rattle.std.specs.Prelude.{option_map};
+    ghost use Rattle.std.specs.Prelude.{◌≡◌, ◌≤◌, length, option_map};
     ghost use Rattle.am_files.specs.Words.{config_view};
+    ghost use Rattle.am_eval.specs.declared.limits.TheConstants.{MAX_PAIRS};
+    ghost use Rattle.am_eval.specs.Pairs.{pairs_of};
     ghost use Rattle.am_eval.specs.WorldCode.{coded_world};
     ghost use Rattle.am_eval.specs.World as spec;
 
@@ -30,23 +44,54 @@ impl Model for World {
     ghost view = { λ w. record {
       config = config_view w.config;
       silences = w.silences;
+      alerts = w.alerts;
       instant = option_map (λ t. t.nanosecond) w.instant;
     } };
+
+    ghost invariant = { λ w. (w.pairs.items ≡ pairs_of (config_view w.config).rules w.alerts)
+        × (length w.pairs.items ≤ MAX_PAIRS) };
 }
 
 impl World {
     ghost use Rattle.am_eval.specs.World as spec;
 
-    /// The world of these. Without an instant no silence is active. It takes no memory.
-    pub fn new(config: Config, silences: Silences, instant: Option<Timestamp>) -> World
-        ensures config { result.config ≡ config_view config }
-        ensures silences { result.silences ≡ silences }
-        ensures instant { result.instant ≡ option_map (λ t. t.nanosecond) instant }
+    /// The world of these. Without an instant no silence is active. Each of the alerts counts as
+    /// firing, whether or not it is silenced or inhibited itself, and with or without an instant.
+    ///
+    /// `Limit`, at `Alerts` and with no pointer, for more than [`MAX_PAIRS`] pairs of an inhibition
+    /// rule and an alert that its source side matches; `Memory`, at `Memory`, only where memory was
+    /// refused. Each rule's source side is held against each alert, and its target side against
+    /// those of them that the source side matches.
+    pub fn new(
+        alloc: Global,
+        config: Config,
+        silences: Silences,
+        alerts: Alerts,
+        instant: Option<Timestamp>,
+    ) -> Result<World, Fault>
+        ensures config { IfOk result (λ world. world.config ≡ config_view config) }
+        ensures silences { IfOk result (λ world. world.silences ≡ silences) }
+        ensures alerts { IfOk result (λ world. world.alerts ≡ alerts) }
+        ensures instant { IfOk result (λ world.
+            world.instant ≡ option_map (λ t. t.nanosecond) instant) }
+        ensures few { IfOk result (λ world.
+            length (pairs_of world.config.rules world.alerts) ≤ MAX_PAIRS) }
+        ensures limit { IfErr result (λ fault. fault.kind ≢ kinds.Memory
+            → (fault.kind ≡ kinds.Limit) × (fault.place ≡ places.Alerts)
+            × (MAX_PAIRS < length (pairs_of (config_view config).rules alerts))) }
+        ensures memory { IfErr result (λ fault. fault.kind ≡ kinds.Memory
+            → fault.place ≡ places.Memory) }
+        ensures pointer { IfErr result (λ fault. string_bytes fault.pointer ≡ []) }
     {
-        World {
-            config,
-            silences,
-            instant,
+        match pairs_of(alloc, config.rules(), &alerts) {
+            Ok(pairs) => Ok(World {
+                config,
+                silences,
+                alerts,
+                instant,
+                pairs,
+            }),
+            Err(kind) => Err(fault_of_pairs(alloc, kind)),
         }
     }
 
@@ -62,6 +107,22 @@ impl World {
         ensures silences { result.now ≡ self.now.silences }
     {
         &self.silences
+    }
+
+    /// The alerts that fire.
+    pub fn alerts(&self) -> &Alerts
+        ensures alerts { result.now ≡ self.now.alerts }
+    {
+        &self.alerts
+    }
+
+    /// The pairs of an inhibition rule and a firing alert that its source side matches, at most
+    /// [`MAX_PAIRS`]: rule by rule, and for each rule alert by alert.
+    pub fn pairs(&self) -> &[Pair]
+        ensures pairs { result.now ≡ pairs_of self.now.config.rules self.now.alerts }
+        ensures few { length result.now ≤ MAX_PAIRS }
+    {
+        &self.pairs
     }
 
     /// Whether the silence at `i` is active at the instant: it has begun, and has not ended.
@@ -81,5 +142,19 @@ impl World {
             Some(instant) => silence.starts() <= instant && instant < silence.ends(),
             None => false,
         }
+    }
+}
+
+/// Why the pairs could not be had: there are too many of them, or memory ran out.
+fn fault_of_pairs(alloc: Global, kind: Kind) -> Fault
+    ensures kind { result.kind ≡ kind }
+    ensures memory { kind ≡ kinds.Memory → result.place ≡ places.Memory }
+    ensures place { kind ≢ kinds.Memory → result.place ≡ places.Alerts }
+    ensures pointer { string_bytes result.pointer ≡ [] }
+{
+    if kind == Kind::Memory {
+        Fault::of(alloc, kind, Place::Memory)
+    } else {
+        Fault::of(alloc, kind, Place::Alerts)
     }
 }

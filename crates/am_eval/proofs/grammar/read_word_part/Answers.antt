@@ -1,6 +1,7 @@
 use Rattle.std.proofs.Common.{sym, ◌∙◌}
-use Rattle.am_eval.proofs.TakesSteps.{first_and_rest, any_taken, silenced_taken, receiver_taken}
-use Rattle.am_eval.proofs.TakesSteps.{ends_taken, ends_stuck, enters_taken, enters_stuck}
+use Rattle.am_eval.proofs.TakesSteps.{first_and_rest, any_taken, silenced_taken, inhibited_taken}
+use Rattle.am_eval.proofs.TakesSteps.{receiver_taken, ends_taken, ends_stuck, enters_taken}
+use Rattle.am_eval.proofs.TakesSteps.{enters_stuck}
 use Rattle.am_eval.proofs.grammar.read_word_part.Goals as goal
 use Rattle.am_eval.proofs.grammar.read_word_part.Goals.{in-receiver+in_ok-name_of-in-receiver}
 use Rattle.am_eval.proofs.grammar.read_word_part.Goals.{in-ends+in_ok-path_of-in-ends}
@@ -11,6 +12,9 @@ returns-then-eq-clause-taken c = any_taken _ _ (sym c.eq.ensures ∙ c.if-eq.tru
 
 pub returns-then-eq-2-clause-taken : goal.returns-then-eq-2-clause-taken
 returns-then-eq-2-clause-taken c = silenced_taken _ _ (sym c.eq-2.ensures ∙ c.if-eq-2.true)
+
+pub returns-then-eq-3-clause-taken : goal.returns-then-eq-3-clause-taken
+returns-then-eq-3-clause-taken c = inhibited_taken _ _ (sym c.eq-3.ensures ∙ c.if-eq-3.true)
 
 pub returns-in_err-path_of-in-ends-clause-refused :
     goal.returns-in_err-path_of-in-ends-clause-refused

@@ -2,11 +2,36 @@
 use Rattle.std.proofs.Common.{◌≡◌, Some, sym, subst, refl, ◌∙◌}
 use Rattle.am_files.specs.ConfigView.{config_view}
 use Rattle.am_eval.specs.declared.grammar.Written as kept
-use Rattle.am_eval.specs.Question.{Receiver, Ends, Enters, Braces}
+use Rattle.am_eval.specs.Question.{Any, Silenced, Inhibited, Receiver, Ends, Enters, Braces}
 use Rattle.am_eval.specs.QuestionText.{Means, receiver_named}
 use Rattle.am_eval.specs.TreeView.{written_view}
-use Rattle.am_eval.proofs.QuestionSeen.{receiver_seen, ends_seen, enters_seen, braces_seen}
+use Rattle.am_eval.proofs.QuestionSeen.{any_seen, silenced_seen, inhibited_seen, receiver_seen}
+use Rattle.am_eval.proofs.QuestionSeen.{ends_seen, enters_seen, braces_seen}
 use Rattle.am_eval.proofs.names.part_of.Goals as goal
+
+pub returns-in-Any-clause-meant : goal.returns-in-Any-clause-meant
+returns-in-Any-clause-meant c =
+    let config = config_view c.args.config.now in (
+      Any,
+      subst (λ (w : kept.Written). Means config (written_view w) Any) (sym c.in-Any.is) refl,
+      any_seen,
+    )
+
+pub returns-in-Silenced-clause-meant : goal.returns-in-Silenced-clause-meant
+returns-in-Silenced-clause-meant c =
+    let config = config_view c.args.config.now in (
+      Silenced,
+      subst (λ (w : kept.Written). Means config (written_view w) Silenced) (sym c.in-Silenced.is) refl,
+      silenced_seen,
+    )
+
+pub returns-in-Inhibited-clause-meant : goal.returns-in-Inhibited-clause-meant
+returns-in-Inhibited-clause-meant c =
+    let config = config_view c.args.config.now in (
+      Inhibited,
+      subst (λ (w : kept.Written). Means config (written_view w) Inhibited) (sym c.in-Inhibited.is) refl,
+      inhibited_seen,
+    )
 
 pub returns-in-Some-clause-meant : goal.returns-in-Some-clause-meant
 returns-in-Some-clause-meant c =

@@ -1,0 +1,69 @@
+-- The steps of the loops that collect pairs: what is left is what stands at a position, and what is
+-- behind it.
+use Rattle.std.proofs.Common.{◌≡◌, ℕ, ◌+◌, ◌<◌, true, false, List, [], ◌∷◌, ◌++◌, Some, map}
+use Rattle.std.proofs.Common.{length, drop, ap, ◌∙◌, refl, append_assoc, arith}
+use Rattle.std.specs.Prelude.{slice_get}
+use Rattle.std.specs.List.{filter, flat_map, enumerate_from}
+use Rattle.std.proofs.lemmas.List.{length-append}
+use Rattle.am_universe.specs.LabelSet.{LabelMap}
+use Rattle.am_labels.specs.Matcher.{all_hold}
+use Rattle.am_files.specs.ConfigFile.{Rule}
+use Rattle.am_eval.specs.declared.pair.Pair.{Pair}
+use Rattle.am_eval.specs.Pairs.{pair_of, pairs_of_rule}
+use Rattle.am_eval.proofs.Members.{left_at}
+use Rattle.am_eval.proofs.PairLemmas.{fires}
+
+-- ---- The alerts of a rule.
+
+-- the pairs of a rule with the alerts from a position on
+abbrev pub pairs_from : ℕ × Rule → ℕ → List LabelMap → List Pair
+pairs_from rule from alerts =
+    map (pair_of rule) (filter (fires rule) (enumerate_from from (drop from alerts)))
+
+pub no_pair : (rule : ℕ × Rule) (found : List Pair) (alerts : List LabelMap) (i : ℕ) {a : LabelMap}
+    → slice_get alerts i ≡ Some a → all_hold a rule.1.source ≡ false
+    → found ++ pairs_from rule (i + 1) alerts ≡ found ++ pairs_from rule i alerts
+no_pair rule found alerts i {a = a} here fails = rw (left_at alerts i a here, fails) refl
+
+pub one_pair : (rule : ℕ × Rule) (found : List Pair) (alerts : List LabelMap) (i : ℕ) (pair : Pair)
+    {a : LabelMap} → slice_get alerts i ≡ Some a → all_hold a rule.1.source ≡ true
+    → pair ≡ pair_of rule (i, a)
+    → (found ++ pair ∷ []) ++ pairs_from rule (i + 1) alerts ≡ found ++ pairs_from rule i alerts
+one_pair rule found alerts i pair {a = a} here passes says =
+    rw (left_at alerts i a here, passes, ← says)
+    (append_assoc found (pair ∷ []) (pairs_from rule (i + 1) alerts))
+
+-- where there are as many as there may be, another is one too many
+pub one_too_many : (rule : ℕ × Rule) (found all : List Pair) (alerts : List LabelMap) (i n : ℕ)
+    {a : LabelMap} → slice_get alerts i ≡ Some a → all_hold a rule.1.source ≡ true
+    → length found ≡ n → found ++ pairs_from rule i alerts ≡ all → n < length all
+one_too_many rule found all alerts i n {a = a} here passes full e =
+    let rest = pairs_from rule (i + 1) alerts in
+    let pair = pair_of rule (i, a) in
+    let more : found ++ (pair ∷ rest) ≡ all = (rw (left_at alerts i a here, passes) refl) ∙ e in
+    omega (arith, length-append found (pair ∷ rest), ap length more, full)
+
+-- ---- Rules.
+
+-- the pairs of the rules from a position on
+abbrev pub pairs_left : List LabelMap → ℕ → List Rule → List Pair
+pairs_left alerts from rules =
+    flat_map (pairs_of_rule alerts) (enumerate_from from (drop from rules))
+
+pub next_rule : (alerts : List LabelMap) (rules : List Rule) (found more all : List Pair) (i : ℕ)
+    {rule : Rule} → slice_get rules i ≡ Some rule → more ≡ found ++ pairs_of_rule alerts (i, rule)
+    → found ++ pairs_left alerts i rules ≡ all → more ++ pairs_left alerts (i + 1) rules ≡ all
+next_rule alerts rules found more all i {rule = rule} here added e =
+    rw (added, append_assoc) ((rw (left_at rules i rule here) at e))
+
+-- where the pairs of one rule are too many, all are
+pub too_many_of_one : (alerts : List LabelMap) (rules : List Rule) (found all : List Pair) (i n : ℕ)
+    {rule : Rule} → slice_get rules i ≡ Some rule
+    → n < length (found ++ pairs_of_rule alerts (i, rule))
+    → found ++ pairs_left alerts i rules ≡ all → n < length all
+too_many_of_one alerts rules found all i n {rule = rule} there many e =
+    let here = pairs_of_rule alerts (i, rule) in
+    let rest = pairs_left alerts (i + 1) rules in
+    let together : (found ++ here) ++ rest ≡ all =
+    append_assoc found here rest ∙ (rw (left_at rules i rule there) at e) in
+    omega (arith, length-append (found ++ here) rest, ap length together, many)

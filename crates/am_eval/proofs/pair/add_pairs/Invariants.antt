@@ -1,0 +1,13 @@
+use Rattle.std.proofs.Common.{◌≡◌, ◌≤◌, ◌++◌, length}
+use Rattle.am_eval.specs.declared.limits.TheConstants.{MAX_PAIRS}
+use Rattle.am_eval.specs.Pairs.{pairs_of_rule}
+use Rattle.am_eval.proofs.PairSteps.{pairs_from}
+use Rattle.am_eval.proofs.pair.add_pairs.Given as goal
+
+-- what was found, and the pairs with the alerts that are left, are all
+abbrev pub invariant-loop-i : goal.invariant-loop-i
+invariant-loop-i l = record {
+  together : l.found.items ++ pairs_from (l.position, l.rule) l.i l.alerts
+      ≡ l.fn.found.items ++ pairs_of_rule l.alerts (l.position, l.rule);
+  few : length l.found.items ≤ MAX_PAIRS;
+}

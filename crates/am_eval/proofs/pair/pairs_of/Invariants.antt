@@ -1,0 +1,12 @@
+use Rattle.std.proofs.Common.{◌≡◌, ◌≤◌, ◌++◌, length}
+use Rattle.am_eval.specs.declared.limits.TheConstants.{MAX_PAIRS}
+use Rattle.am_eval.specs.Pairs.{pairs_of}
+use Rattle.am_eval.proofs.PairSteps.{pairs_left}
+use Rattle.am_eval.proofs.pair.pairs_of.Given as goal
+
+-- what was found, and the pairs of the rules that are left, are all
+abbrev pub invariant-loop-i : goal.invariant-loop-i
+invariant-loop-i l = record {
+  together : l.found.items ++ pairs_left l.alerts l.i l.rules ≡ pairs_of l.rules l.alerts;
+  few : length l.found.items ≤ MAX_PAIRS;
+}

@@ -1,0 +1,35 @@
+-- A worked example of inhibition: worlds with one rule and one firing alert.
+use Rattle.std.specs.Prelude.{ℕ, List, [], ◌∷◌, None, codes}
+use Rattle.std.specs.FinMap.{from_entries}
+use Rattle.am_universe.specs.LabelSet.{LabelMap}
+use Rattle.am_labels.specs.Matcher.{Condition}
+use Rattle.am_labels.specs.declared.op.Op.TheVariants.{Equal, NotEqual}
+use Rattle.am_eval.specs.RoutingExamples.{worked}
+use Rattle.am_eval.specs.World.{World}
+
+-- The firing alert `{severity="critical",team="db"}`.
+abbrev pub team_db_critical : LabelMap
+team_db_critical =
+    from_entries
+    ((codes "severity", codes "critical") ∷ (codes "team", codes "db") ∷ [])
+
+-- The matchers `severity="warning"` and `severity!=""`, which asks for any severity.
+abbrev pub severity_warning : Condition
+severity_warning = record { name = codes "severity"; op = Equal; value = codes "warning" }
+
+abbrev pub severity_any : Condition
+severity_any = record { name = codes "severity"; op = NotEqual; value = [] }
+
+-- The world of that alert and one rule, whose sides have a matcher each, and whose `equal` has one
+-- label.
+abbrev pub inhibiting_world : Condition → Condition → List ℕ → World
+inhibiting_world source target label = record {
+  config = record {
+    receivers = worked.receivers;
+    root = worked.root;
+    rules = record { source = source ∷ []; target = target ∷ []; equal = label ∷ [] } ∷ [];
+  };
+  silences = [];
+  alerts = team_db_critical ∷ [];
+  instant = None;
+}

@@ -1,0 +1,85 @@
+//! Inhibition: which alerts are muted while others fire.
+
+ghost use Rattle.std.specs.Prelude.{◌≡◌, Contains, IfOk, IsTrue};
+ghost use Rattle.am_labels.specs.Words.{all_hold};
+ghost use Rattle.am_files.specs.Words.{names_of};
+ghost use Rattle.am_eval.specs.Words.{pairs_of, have_equal, inhibits, pair_inhibits, is_inhibited};
+ghost use Rattle.am_eval.specs.Words.{inhibitors};
+
+use crate::pair::Pair;
+use crate::world::World;
+use am_files::Rule;
+use am_labels::LabelSet;
+use std::alloc::{AllocError, Global};
+
+/// What inhibits an alert with these labels: the rules and the firing alerts that do so by them, by
+/// their positions, rule by rule, and for each rule alert by alert. An `Err` only where memory was
+/// refused.
+pub fn inhibited_by(
+    alloc: Global,
+    world: &World,
+    set: &LabelSet,
+) -> Result<Vec<(usize, usize)>, AllocError>
+    ensures inhibitors { IfOk result (λ found. found.items ≡ inhibitors world.now set.now) }
+{
+    let mut found = Vec::new(alloc);
+    for pair in world.pairs() {
+        if pair_inhibits(alloc, world, *pair, set)? {
+            found.push((pair.rule, pair.alert))?;
+        }
+    }
+    Ok(found)
+}
+
+/// Whether some firing alert inhibits an alert with these labels. An `Err` only where memory was
+/// refused.
+pub(crate) fn is_inhibited(alloc: Global, world: &World, set: &LabelSet) -> Result<bool, AllocError>
+    ensures { IfOk result (λ muted. muted ≡ is_inhibited world.now set.now) }
+{
+    for pair in world.pairs() {
+        if pair_inhibits(alloc, world, *pair, set)? {
+            return Ok(true);
+        }
+    }
+    Ok(false)
+}
+
+/// Whether the alert of a pair inhibits an alert with these labels, by the rule of the pair.
+fn pair_inhibits(
+    alloc: Global,
+    world: &World,
+    pair: Pair,
+    set: &LabelSet,
+) -> Result<bool, AllocError>
+    requires { Contains (pairs_of world.now.config.rules world.now.alerts) pair }
+    ensures { IfOk result (λ muted. muted ≡ pair_inhibits world.now set.now pair) }
+{
+    let rule = &world.config().rules()[pair.rule];
+    inhibits(alloc, rule, world.alerts().get(pair.alert), pair.both, set)
+}
+
+/// Whether a firing alert, which the source side of a rule matches, inhibits by that rule an alert
+/// with these labels. `both` says whether the target side matches the one that fires too.
+fn inhibits(
+    alloc: Global,
+    rule: &Rule,
+    firing: &LabelSet,
+    both: bool,
+    set: &LabelSet,
+) -> Result<bool, AllocError>
+    requires source { IsTrue (all_hold firing.now rule.now.source) }
+    requires both { both ≡ all_hold firing.now rule.now.target }
+    ensures { IfOk result (λ muted. muted ≡ inhibits rule.now firing.now set.now) }
+{
+    if !have_equal(rule.equal(), firing, set) || !rule.target().matches(alloc, set)? {
+        return Ok(false);
+    }
+    Ok(!both || !rule.source().matches(alloc, set)?)
+}
+
+/// Whether two alerts have the same values for these labels.
+fn have_equal(names: &[String], alert: &LabelSet, set: &LabelSet) -> bool
+    ensures { result ≡ have_equal (names_of names.now) alert.now set.now }
+{
+    names.iter().all(|name| alert.get(name) == set.get(name))
+}

@@ -1,0 +1,102 @@
+//! The firing alerts that inhibition rules are about.
+
+// The module of words stands on this type, so its own words come from where they stand.
+ghost use Rattle.std.specs.Prelude.{◌≡◌, ◌≢◌, ◌<◌, ◌≤◌, ◌++◌, ◌∷◌, [], length, is_some};
+ghost use Rattle.std.specs.Prelude.{IfOk, IfErr, IfSome, OnOk};
+ghost use Rattle.am_universe.specs.declared.kind.Kind.TheVariants as kinds;
+ghost use Rattle.am_labels.specs.Words.{all_hold};
+ghost use Rattle.am_eval.specs.declared.limits.TheConstants.{MAX_PAIRS};
+ghost use Rattle.am_eval.specs.Pairs.{pair_of, pairs_of, pairs_of_rule};
+
+use crate::limits::MAX_PAIRS;
+use am_files::{Alerts, Rule};
+use am_labels::{Kind, LabelSet};
+use std::alloc::{AllocError, Global};
+
+/// An inhibition rule and a firing alert that its source side matches, each by its position.
+#[derive(Clone, Copy, Debug)]
+pub struct Pair {
+    /// The rule, among those of the configuration.
+    pub rule: usize,
+    /// The alert, among those that fire.
+    pub alert: usize,
+    /// Whether the target side matches that alert too.
+    pub both: bool,
+}
+
+/// The pairs of all rules, rule by rule, and for each rule alert by alert. `Limit` for more than
+/// [`MAX_PAIRS`]; `Memory` only where memory was refused.
+pub(crate) fn pairs_of(alloc: Global, rules: &[Rule], alerts: &Alerts) -> Result<Vec<Pair>, Kind>
+    ensures pairs { IfOk result (λ found. found.items ≡ pairs_of rules.now alerts.now) }
+    ensures few { IfOk result (λ found. length found.items ≤ MAX_PAIRS) }
+    ensures limit { IfErr result (λ kind. kind ≢ kinds.Memory
+        → (kind ≡ kinds.Limit) × (MAX_PAIRS < length (pairs_of rules.now alerts.now))) }
+{
+    let mut found = Vec::new(alloc);
+    for (i, rule) in rules.iter().enumerate() {
+        add_pairs(alloc, i, rule, alerts, &mut found)?;
+    }
+    Ok(found)
+}
+
+/// Adds the pairs of the rule at this position.
+fn add_pairs(
+    alloc: Global,
+    position: usize,
+    rule: &Rule,
+    alerts: &Alerts,
+    found: &mut Vec<Pair>,
+) -> Result<(), Kind>
+    requires { length found.old.items ≤ MAX_PAIRS }
+    ensures added { OnOk result (found.new.items ≡ found.old.items
+        ++ pairs_of_rule alerts.now (position, rule.now)) }
+    ensures few { OnOk result (length found.new.items ≤ MAX_PAIRS) }
+    ensures limit { IfErr result (λ kind. kind ≢ kinds.Memory → (kind ≡ kinds.Limit)
+        × (MAX_PAIRS < length (found.old.items
+        ++ pairs_of_rule alerts.now (position, rule.now)))) }
+{
+    for i in 0..alerts.len() {
+        if let Some(pair) = pair_of(alloc, position, rule, i, alerts.get(i))? {
+            add_pair(found, pair)?;
+        }
+    }
+    Ok(())
+}
+
+/// The pair of the rule and the alert at these positions, where the source side matches the alert.
+/// The target side is looked at only then.
+fn pair_of(
+    alloc: Global,
+    position: usize,
+    rule: &Rule,
+    i: usize,
+    alert: &LabelSet,
+) -> Result<Option<Pair>, AllocError>
+    ensures matched { IfOk result (λ found. is_some found ≡ all_hold alert.now rule.now.source) }
+    ensures pair { IfOk result (λ found. IfSome found (λ pair.
+        pair ≡ pair_of (position, rule.now) (i, alert.now))) }
+{
+    if !rule.source().matches(alloc, alert)? {
+        return Ok(None);
+    }
+    Ok(Some(Pair {
+        rule: position,
+        alert: i,
+        both: rule.target().matches(alloc, alert)?,
+    }))
+}
+
+/// Adds a pair. `Limit` where there are [`MAX_PAIRS`]; `Memory` only where memory was refused.
+fn add_pair(found: &mut Vec<Pair>, pair: Pair) -> Result<(), Kind>
+    requires { length found.old.items ≤ MAX_PAIRS }
+    ensures added { OnOk result (found.new.items ≡ found.old.items ++ pair ∷ []) }
+    ensures few { OnOk result (length found.new.items ≤ MAX_PAIRS) }
+    ensures limit { IfErr result (λ kind. kind ≢ kinds.Memory → (kind ≡ kinds.Limit)
+        × (length found.old.items ≡ MAX_PAIRS)) }
+{
+    if found.len() == MAX_PAIRS {
+        return Err(Kind::Limit);
+    }
+    found.push(pair)?;
+    Ok(())
+}
