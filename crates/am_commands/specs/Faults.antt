@@ -1,16 +1,22 @@
 -- Which fault of a call comes first. (This project's own.)
-use Rattle.std.specs.Prelude.{◌≡◌, ◌⊎◌, ℕ, List, [], ◌∷◌, Option, Some, None}
+use Rattle.std.specs.Prelude.{◌≡◌, ◌⊎◌, ◌<◌, ◌≤◌, ℕ, List, [], ◌∷◌, length, Option, Some, None}
+use Rattle.am_universe.specs.declared.kind.Kind.TheVariants as kinds
 use Rattle.am_universe.specs.declared.place.Place.{Place}
 use Rattle.am_universe.specs.declared.place.Place.TheVariants as places
 use Rattle.am_universe.specs.Universe.{Label}
-use Rattle.am_json.specs.Pointer.{Refusal}
+use Rattle.am_universe.specs.LabelSet.{LabelMap}
+use Rattle.am_labels.specs.ParsedLabelSet.{SpellsSet, SetTextRefusedFor}
+use Rattle.am_json.specs.Pointer.{Refusal, refusal_here}
 use Rattle.am_records.specs.UniverseFile.{FileSaysUniverse}
 use Rattle.am_records.specs.UniverseFaults.{IsFirstFaultOfUniverseFile}
 use Rattle.am_files.specs.ConfigFile.{Configuration, FileSaysConfig}
 use Rattle.am_files.specs.ConfigFaults.{ConfigFileRefusedFor}
 use Rattle.am_records.specs.SilencesFile.{Silence}
 use Rattle.am_records.specs.SilencesFaults.{SilencesFileRefusedFor}
-use Rattle.am_commands.specs.Files.{SaysSilencesIfAny}
+use Rattle.am_records.specs.AlertsFaults.{IsFirstFaultOfAlertsFile}
+use Rattle.am_eval.specs.declared.limits.TheConstants.{MAX_PAIRS}
+use Rattle.am_eval.specs.Pairs.{pairs_of}
+use Rattle.am_commands.specs.Files.{SaysSilencesIfAny, SaysAlertsIfAny}
 use Rattle.am_commands.specs.AskedInstant.{instant_fault}
 use Rattle.am_eval.specs.Question.{Question}
 use Rattle.am_eval.specs.QuestionText.{ReadsQuestion, QuestionRefusedFor}
@@ -53,14 +59,53 @@ SilencesRefusedFor (Some bytes) r = SilencesFileRefusedFor bytes r
 abbrev pub InstantRefusedFor : Option (List ℕ) → Option (List ℕ) → Refusal → Type 0
 InstantRefusedFor silences at r = (instant_fault silences at ≡ Some r.kind) × (r.pointer ≡ [])
 
--- The text is a question about the configuration that the bytes of a file say
+-- The bytes of a file, if there is one, say alerts.
+abbrev pub SaysSomeAlerts : Option (List ℕ) → Type 0
+SaysSomeAlerts file = (alerts : List LabelMap) × SaysAlertsIfAny file alerts
+
+-- Why the bytes of a file of alerts are refused, if there is one.
+abbrev pub AlertsRefusedFor : Option (List ℕ) → Refusal → Type 0
+AlertsRefusedFor None r = ⊥
+AlertsRefusedFor (Some bytes) r = IsFirstFaultOfAlertsFile bytes r
+
+-- The files say a configuration and alerts of which there are not too many pairs.
+pub record SaysFewPairs (config : List ℕ) (file : Option (List ℕ)) : Type 0 where
+  pub configuration : Configuration
+  pub says_config : FileSaysConfig config configuration
+  pub alerts : List LabelMap
+  pub says_alerts : SaysAlertsIfAny file alerts
+  pub few : length (pairs_of configuration.rules alerts) ≤ MAX_PAIRS
+
+-- The files say a configuration and alerts of which there are too many pairs. Such a fault stands
+-- at no part of a file.
+-- Source: own choice.
+-- Example: 128 rules and 128 alerts are accepted, where each source side matches each alert. With a
+-- 129th such rule there are 16,512 pairs, and it is `limit`.
+pub record PairsRefusedFor (config : List ℕ) (file : Option (List ℕ)) (r : Refusal)
+    : Type 0 where
+  pub configuration : Configuration
+  pub says_config : FileSaysConfig config configuration
+  pub alerts : List LabelMap
+  pub says_alerts : SaysAlertsIfAny file alerts
+  pub many : MAX_PAIRS < length (pairs_of configuration.rules alerts)
+  pub refusal : r ≡ refusal_here kinds.Limit
+
+-- The text is that of a label set.
+abbrev pub SpellsSomeSet : List ℕ → Type 0
+SpellsSomeSet text = (set : LabelMap) × SpellsSet text set
+
+-- Why the text is refused as that of a label set; its faults stand at no part of a file.
+abbrev pub SetStageRefusedFor : List ℕ → Refusal → Type 0
+SetStageRefusedFor text r = SetTextRefusedFor text r.kind × (r.pointer ≡ [])
+
+-- The text is a question about the configuration that the bytes of a file say.
 abbrev pub ReadsSomeQuestion : List ℕ → List ℕ → Type 0
 ReadsSomeQuestion bytes text =
     (configuration : Configuration) × FileSaysConfig bytes configuration
     × (question : Question) × ReadsQuestion configuration text question
 
 -- Why the text is refused, as a question about the configuration that the bytes of a file say; its
--- faults stand at no part of a file
+-- faults stand at no part of a file.
 abbrev pub QuestionStageRefusedFor : List ℕ → List ℕ → Refusal → Type 0
 QuestionStageRefusedFor bytes text r =
     (configuration : Configuration) × FileSaysConfig bytes configuration
@@ -90,6 +135,14 @@ silences_stage file = record {
   refuses = SilencesRefusedFor file;
 }
 
+-- The file of alerts, if there is one.
+abbrev pub alerts_stage : Option (List ℕ) → Stage
+alerts_stage file = record {
+  place = places.Alerts;
+  accepts = SaysSomeAlerts file;
+  refuses = AlertsRefusedFor file;
+}
+
 -- The text of the instant, if there is one, beside a file of silences, if there is one.
 abbrev pub instant_stage : Option (List ℕ) → Option (List ℕ) → Stage
 instant_stage silences at = record {
@@ -98,7 +151,23 @@ instant_stage silences at = record {
   refuses = InstantRefusedFor silences at;
 }
 
--- The text of the question about the configuration of a file
+-- The pairs of the rules of a configuration file and the alerts of a file, if there is one.
+abbrev pub pairs_stage : List ℕ → Option (List ℕ) → Stage
+pairs_stage config file = record {
+  place = places.Alerts;
+  accepts = SaysFewPairs config file;
+  refuses = PairsRefusedFor config file;
+}
+
+-- The text of a label set.
+abbrev pub set_stage : List ℕ → Stage
+set_stage text = record {
+  place = places.Set;
+  accepts = SpellsSomeSet text;
+  refuses = SetStageRefusedFor text;
+}
+
+-- The text of the question about the configuration of a file.
 abbrev pub question_stage : List ℕ → List ℕ → Stage
 question_stage bytes text = record {
   place = places.Question;

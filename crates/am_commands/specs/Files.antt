@@ -1,7 +1,9 @@
 -- What the input files say, and what stands for one that is not handed in.
 use Rattle.std.specs.Prelude.{◌≡◌, ℕ, List, [], Option, Some, None, unwrap_or}
 use Rattle.am_files.specs.SmallestConfig.{smallest_config_file}
+use Rattle.am_universe.specs.LabelSet.{LabelMap}
 use Rattle.am_records.specs.SilencesFile.{Silence, FileSaysSilences}
+use Rattle.am_records.specs.AlertsFile.{FileSaysAlerts}
 
 -- The bytes of the configuration file, or of what stands in for it: the smallest configuration.
 -- (This project's own.)
@@ -14,3 +16,10 @@ config_of config = unwrap_or config smallest_config_file
 abbrev pub SaysSilencesIfAny : Option (List ℕ) → List Silence → Type 0
 SaysSilencesIfAny None silences = silences ≡ []
 SaysSilencesIfAny (Some bytes) silences = FileSaysSilences bytes silences
+
+-- The alerts are those of the file. Without a file there are none.
+-- Source: own choice.
+-- Example: without a file, and with one that is `null` or `[]`, no alert fires.
+abbrev pub SaysAlertsIfAny : Option (List ℕ) → List LabelMap → Type 0
+SaysAlertsIfAny None alerts = alerts ≡ []
+SaysAlertsIfAny (Some bytes) alerts = FileSaysAlerts bytes alerts

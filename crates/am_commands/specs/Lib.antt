@@ -7,3 +7,4 @@ pub mod AskedInstant
 pub mod Faults
 pub mod Inputs
 pub mod AskOutcome
+pub mod Explanation

@@ -16,17 +16,19 @@ use std::alloc::Global;
 /// Writes the label sets of the universe that satisfy the question, each once and in declared
 /// order, a line for each, and then the trailer.
 ///
-/// `universe` is a universe file, `files` has the configuration file, the file of silences and the
-/// instant that is asked about, as far as there are such, and `question` is a question about what
-/// these say. All input is read and all answers are found before the first byte is written.
+/// `universe` is a universe file, `files` has the configuration file, the file of silences, the
+/// file of alerts and the instant that is asked about, as far as there are such, and `question` is
+/// a question about what these say. All input is read and all answers are found before the first
+/// byte is written.
 ///
 /// The first fault is the one answered: a fault of the universe file, at `Universe`, as
 /// `read_universe` has it; of the configuration file, at `Config`, as `read_config` has it; of the
-/// file of silences, at `Silences`, as `read_silences` has it; of the instant, at `Instant` and
-/// with no pointer: `BadTime` where its text says none, and `NeedAt` where there is a file of
-/// silences and no text; of the question, as `parse_question` has it, at `Question` and with no
-/// pointer; `Write`, at `Output`. `Memory`, at `Memory`, comes wherever memory ran out. After any
-/// but `Write` the sink is as it was.
+/// file of silences, at `Silences`, as `read_silences` has it; of the file of alerts, at `Alerts`,
+/// as `read_alerts` has it; of the instant, at `Instant` and with no pointer: `BadTime` where its
+/// text says none, and `NeedAt` where there is a file of silences and no text; of the pairs of
+/// rules and alerts, at `Alerts`, as `World::new` has it; of the question, as `parse_question` has
+/// it, at `Question` and with no pointer; `Write`, at `Output`. `Memory`, at `Memory`, comes
+/// wherever memory ran out. After any but `Write` the sink is as it was.
 ///
 /// Each label set of the universe is tried by itself, so time grows with the product of the numbers
 /// of values, and memory with the number of answers.

@@ -7,21 +7,35 @@ pub enum Request<'a> {
     /// The label sets of a universe that satisfy a question.
     Ask {
         universe: &'a str,
-        config: Option<&'a str>,
-        silences: Option<&'a str>,
-        at: Option<&'a str>,
+        world: WorldPaths<'a>,
         question: &'a str,
+    },
+    /// Why a label set goes where it goes.
+    Explain {
+        world: WorldPaths<'a>,
+        set: &'a str,
     },
 }
 
-const ABOUT: &str = "Decides which label sets of a declared universe satisfy a question";
+/// The files that a world is made of, by their paths, and the time that is asked about, as far as
+/// they are given.
+#[derive(Clone, Copy)]
+pub struct WorldPaths<'a> {
+    pub config: Option<&'a str>,
+    pub silences: Option<&'a str>,
+    pub alerts: Option<&'a str>,
+    pub at: Option<&'a str>,
+}
+
+const ABOUT: &str = "Decides where Alertmanager routes alerts, and what silences or inhibits them";
 
 const EXAMPLE: &str = "\
 Example:
 
   amcover ask --universe u.json '{team=\"db\"}'
+  amcover explain --config alertmanager.json 'team=db,severity=warning'
 
-`amcover ask --help` says what it reads and writes, and what a question may be.";
+`amcover ask --help` and `amcover explain --help` say what they read and write.";
 
 const ASK_ABOUT: &str = "Write every label set of a universe that satisfies a question";
 
@@ -52,6 +66,14 @@ and until its end. The time has a date and Z or an offset from UTC, as in
 
   --at \"$(date -u +%FT%TZ)\"
 
+The alerts of --alerts are those that fire. amtool writes them; without -a -s -i -u it
+leaves out those that are silenced or inhibited, which inhibit others all the same:
+
+  amtool alert query -a -s -i -u -o json > alerts.json
+
+Every alert of that file counts as firing, whatever --at says. Without --silences no alert
+is silenced, and without --alerts none is inhibited.
+
 A question is one of these:
 
   receiver NAME    the alert goes to this receiver
@@ -62,6 +84,8 @@ A question is one of these:
                      enters /2
   silenced         a silence hides the alert at the time of --at
                      silenced
+  inhibited        an alert of --alerts inhibits the alert, by a rule of --config
+                     inhibited
   any              every alert
                      any
   {MATCHERS}       the labels of the alert match all of these matchers
@@ -106,6 +130,50 @@ writes the label sets of the alerts that go to the receiver db-pager.
 
 writes those of them that a silence hides now.
 
+  amcover ask --universe u.json --config alertmanager.json --alerts alerts.json \\
+    'receiver db-pager and not inhibited'
+
+writes those that no firing alert inhibits.
+
+Exit status: 0 done, 1 refused input, 2 usage, 3 out of memory, 4 the output failed.";
+
+const EXPLAIN_ABOUT: &str = "Write why a label set goes where it goes";
+
+const EXPLAIN_HELP: &str = "\
+The label set is that of one alert: matchers in the classic syntax of Alertmanager, each
+with =, as in team=db,severity=warning. It need not be in any universe.
+
+The configuration is JSON; an alertmanager.yml becomes JSON by
+
+  yq -o=json . alertmanager.yml > alertmanager.json
+
+The silences of --silences and the alerts of --alerts are files that amtool writes:
+
+  amtool silence query -o json > silences.json
+  amtool alert query -a -s -i -u -o json > alerts.json
+
+Silences need --at, the time that is asked about, as 2024-05-01T10:00:00Z. The alerts are
+those that fire, whatever --at says. Without -a -s -i -u amtool leaves out those that are
+silenced or inhibited, which inhibit others all the same.
+
+Example:
+
+  amcover explain --config alertmanager.json --silences silences.json \\
+    --alerts alerts.json --at \"$(date -u +%FT%TZ)\" 'team=db,severity=warning'
+
+writes the label set, and then for example
+
+  {severity=\"warning\",team=\"db\"}
+  end /0 \"dba\"
+  silenced 0
+  inhibited 1 4
+
+The route /0 handles the alert, and its receiver is dba. The first silence of the file
+hides it, and by the second rule the fifth alert inhibits it: positions count from 0.
+There is a line for each such route, silence, and rule with an alert. Without a line
+silenced or inhibited no silence and no alert of these files hides it. A file that is left
+out hides nothing, and time intervals are not looked at.
+
 Exit status: 0 done, 1 refused input, 2 usage, 3 out of memory, 4 the output failed.";
 
 /// Reads a command line, its first word the program's name. An `Err` has the text to show: of a
@@ -113,22 +181,31 @@ Exit status: 0 done, 1 refused input, 2 usage, 3 out of memory, 4 the output fai
 pub fn parse_command_line<'a>(alloc: Global, words: &'a [String]) -> Result<Request<'a>, Error> {
     let mut command = command(alloc)?;
     let matches = command.try_get_matches_from_mut(words)?;
-    if let Some((_, matches)) = matches.subcommand()
-        && let Some(request) = ask_request(matches)
+    if let Some((name, matches)) = matches.subcommand()
+        && let Some(request) = request_of(name, matches)
     {
         return Ok(request);
     }
     Err(command.error(ErrorKind::MissingSubcommand, "a command is missing")?)
 }
 
-fn ask_request<'a>(matches: &ArgMatches<'a>) -> Option<Request<'a>> {
+/// What the command of this name asks for.
+fn request_of<'a>(name: &str, matches: &ArgMatches<'a>) -> Option<Request<'a>> {
+    let world = WorldPaths {
+        config: matches.get_str("config"),
+        silences: matches.get_str("silences"),
+        alerts: matches.get_str("alerts"),
+        at: matches.get_str("at"),
+    };
+    if name == "explain" {
+        let set = matches.get_str("set")?;
+        return Some(Request::Explain { world, set });
+    }
     let universe = matches.get_str("universe")?;
     let question = matches.get_str("question")?;
     Some(Request::Ask {
         universe,
-        config: matches.get_str("config"),
-        silences: matches.get_str("silences"),
-        at: matches.get_str("at"),
+        world,
         question,
     })
 }
@@ -142,7 +219,8 @@ fn command<'a>(alloc: Global) -> Result<Command<'a>, AllocError> {
         .arg_required_else_help(true)
         .subcommand_required(true)
         .disable_help_subcommand(true)
-        .subcommand(ask_command(alloc)?)
+        .subcommand(ask_command(alloc)?)?
+        .subcommand(explain_command(alloc)?)
 }
 
 fn ask_command<'a>(alloc: Global) -> Result<Command<'a>, AllocError> {
@@ -151,18 +229,6 @@ fn ask_command<'a>(alloc: Global) -> Result<Command<'a>, AllocError> {
         .value_name("FILE")
         .required(true)
         .help("The universe, a JSON file");
-    let config = Arg::new(alloc, "config")
-        .long("config")
-        .value_name("FILE")
-        .help("The Alertmanager configuration, as JSON");
-    let silences = Arg::new(alloc, "silences")
-        .long("silences")
-        .value_name("FILE")
-        .help("The silences, as amtool silence query -o json writes them");
-    let at = Arg::new(alloc, "at")
-        .long("at")
-        .value_name("TIME")
-        .help("The time that is asked about, as 2024-05-01T10:00:00Z");
     let question = Arg::new(alloc, "question")
         .value_name("QUESTION")
         .required(true)
@@ -171,8 +237,52 @@ fn ask_command<'a>(alloc: Global) -> Result<Command<'a>, AllocError> {
         .about(ASK_ABOUT)
         .after_help(ASK_HELP)
         .arg(universe)?
-        .arg(config)?
-        .arg(silences)?
-        .arg(at)?
+        .arg(config_arg(alloc))?
+        .arg(silences_arg(alloc))?
+        .arg(alerts_arg(alloc))?
+        .arg(at_arg(alloc))?
         .arg(question)
+}
+
+fn explain_command<'a>(alloc: Global) -> Result<Command<'a>, AllocError> {
+    let set = Arg::new(alloc, "set")
+        .value_name("SET")
+        .required(true)
+        .help("The label set, as team=db,severity=warning");
+    Command::new(alloc, "explain")
+        .about(EXPLAIN_ABOUT)
+        .after_help(EXPLAIN_HELP)
+        .arg(config_arg(alloc).required(true))?
+        .arg(silences_arg(alloc))?
+        .arg(alerts_arg(alloc))?
+        .arg(at_arg(alloc))?
+        .arg(set)
+}
+
+fn config_arg<'a>(alloc: Global) -> Arg<'a> {
+    Arg::new(alloc, "config")
+        .long("config")
+        .value_name("FILE")
+        .help("The Alertmanager configuration, as JSON")
+}
+
+fn silences_arg<'a>(alloc: Global) -> Arg<'a> {
+    Arg::new(alloc, "silences")
+        .long("silences")
+        .value_name("FILE")
+        .help("The silences, as amtool silence query -o json writes them")
+}
+
+fn alerts_arg<'a>(alloc: Global) -> Arg<'a> {
+    Arg::new(alloc, "alerts")
+        .long("alerts")
+        .value_name("FILE")
+        .help("The firing alerts, as amtool alert query -a -s -i -u -o json writes them")
+}
+
+fn at_arg<'a>(alloc: Global) -> Arg<'a> {
+    Arg::new(alloc, "at")
+        .long("at")
+        .value_name("TIME")
+        .help("The time that is asked about, as 2024-05-01T10:00:00Z")
 }

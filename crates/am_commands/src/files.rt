@@ -9,6 +9,9 @@ pub struct Files<'a> {
     pub config: Option<&'a [u8]>,
     /// The silences, as `amtool silence query -o json` writes them. Without them there are none.
     pub silences: Option<&'a [u8]>,
+    /// The alerts that fire, as `amtool alert query -a -s -i -u -o json` writes them. Without these
+    /// letters it leaves out alerts that are silenced or inhibited. Without the file none fires.
+    pub alerts: Option<&'a [u8]>,
     /// The instant at which silences are active or not, as a text. Silences need one.
     pub at: Option<&'a str>,
 }

@@ -2,22 +2,26 @@ ghost use Rattle.std.specs.Prelude.{◌≡◌, ◌≢◌, [], None, option_map, 
 ghost use Rattle.std.specs.Prelude.{IfOk, IfErr, string_bytes};
 ghost use Rattle.am_universe.specs.declared.kind.Kind.TheVariants as kinds;
 ghost use Rattle.am_universe.specs.declared.place.Place.TheVariants as places;
+ghost use Rattle.am_labels.specs.Words.{SpellsSet};
 ghost use Rattle.am_json.specs.Words.{refusal_of};
-ghost use Rattle.am_files.specs.Words.{config_view};
 ghost use Rattle.am_eval.specs.Words.{question_view};
 ghost use Rattle.am_commands.specs.Words.{inputs_of, AcceptsInputs, ask_stages, IsFirstFaultOfCall};
-ghost use Rattle.am_commands.specs.Words.{SaysSilencesIfAny, SilencesRefusedFor, asked_instant};
-ghost use Rattle.am_commands.specs.Words.{instant_fault, InstantRefusedFor};
+ghost use Rattle.am_commands.specs.Words.{world_inputs_of, AcceptsWorld, world_stages};
+ghost use Rattle.am_commands.specs.Words.{SaysSilencesIfAny, SilencesRefusedFor, SaysAlertsIfAny};
+ghost use Rattle.am_commands.specs.Words.{AlertsRefusedFor, asked_instant, instant_fault};
+ghost use Rattle.am_commands.specs.Words.{InstantRefusedFor, SetStageRefusedFor};
 
 use crate::fault::fault_at;
 use crate::files::Files;
 use am_eval::{Question, World, parse_question};
-use am_files::{Silences, parse_instant, read_config, read_silences, read_universe};
-use am_labels::{Fault, Kind, Place, Universe};
+use am_files::{
+    Alerts, Silences, parse_instant, read_alerts, read_config, read_silences, read_universe,
+};
+use am_labels::{Fault, Kind, LabelSet, Place, Universe, parse_set};
 use jiff::Timestamp;
 use std::alloc::Global;
 
-/// What the inputs of a call say, where they are accepted.
+/// What the inputs of a question say, where they are accepted.
 #[derive(Drop)]
 pub struct AcceptedInputs {
     pub universe: Universe,
@@ -25,9 +29,9 @@ pub struct AcceptedInputs {
     pub question: Question,
 }
 
-/// Reads the inputs of a call: the universe file, the configuration file, the file of silences, the
-/// instant, and then the question. The first fault is the one answered, at `Universe`, `Config`,
-/// `Silences`, `Instant` or `Question`. `Memory`, at `Memory`, comes wherever memory ran out.
+/// Reads the inputs of a question: the universe file, the world, and then the question. The first
+/// fault is the one answered, at `Universe`, where [`read_world`] has it, or at `Question`.
+/// `Memory`, at `Memory`, comes wherever memory ran out.
 pub fn read_inputs(
     alloc: Global,
     universe: &[u8],
@@ -45,17 +49,35 @@ pub fn read_inputs(
     ensures no_write { IfErr result (λ fault. fault.kind ≢ kinds.Write) }
 {
     let universe = read_universe(alloc, universe)?;
-    let config = read_config(alloc, files.config())?;
-    let silences = read_silences_if_any(alloc, files.silences)?;
-    let instant = read_instant_for(alloc, files)?;
-    match parse_question(alloc, question, &config) {
+    let world = read_world(alloc, files)?;
+    match parse_question(alloc, question, world.config()) {
         Ok(question) => Ok(AcceptedInputs {
             universe,
-            world: World::new(config, silences, instant),
+            world,
             question,
         }),
         Err(kind) => Err(fault_at(alloc, kind, Place::Question)),
     }
+}
+
+/// Reads what a world is made of: the configuration file, the file of silences, the file of alerts,
+/// the instant, and then the pairs of rules and alerts. The first fault is the one answered, at
+/// `Config`, `Silences`, `Alerts` or `Instant`, and at `Alerts` for too many pairs. `Memory`, at
+/// `Memory`, comes wherever memory ran out.
+pub fn read_world(alloc: Global, files: &Files<'_>) -> Result<World, Fault>
+    ensures accepts { IfOk result (AcceptsWorld (world_inputs_of files.now)) }
+    ensures first { IfErr result (λ fault. fault.kind ≢ kinds.Memory
+        → IsFirstFaultOfCall (world_stages (world_inputs_of files.now))
+        fault.place (refusal_of fault)) }
+    ensures memory { IfErr result (λ fault. fault.kind ≡ kinds.Memory
+        → (fault.place ≡ places.Memory) × (string_bytes fault.pointer ≡ [])) }
+    ensures no_write { IfErr result (λ fault. fault.kind ≢ kinds.Write) }
+{
+    let config = read_config(alloc, files.config())?;
+    let silences = read_silences_if_any(alloc, files.silences)?;
+    let alerts = read_alerts_if_any(alloc, files.alerts)?;
+    let instant = read_instant_for(alloc, files)?;
+    World::new(alloc, config, silences, alerts, instant)
 }
 
 /// The silences of a file. Without one there are none.
@@ -71,6 +93,22 @@ fn read_silences_if_any(alloc: Global, file: Option<&[u8]>) -> Result<Silences, 
     match file {
         Some(bytes) => read_silences(alloc, bytes),
         None => Ok(Silences::none(alloc)),
+    }
+}
+
+/// The alerts of a file. Without one there are none.
+fn read_alerts_if_any(alloc: Global, file: Option<&[u8]>) -> Result<Alerts, Fault>
+    ensures says { IfOk result (SaysAlertsIfAny (option_copied file.entry)) }
+    ensures first { IfErr result (λ fault. fault.kind ≢ kinds.Memory
+        → (fault.place ≡ places.Alerts)
+        × AlertsRefusedFor (option_copied file.entry) (refusal_of fault)) }
+    ensures memory { IfErr result (λ fault. fault.kind ≡ kinds.Memory
+        → (fault.place ≡ places.Memory) × (string_bytes fault.pointer ≡ [])) }
+    ensures no_write { IfErr result (λ fault. fault.kind ≢ kinds.Write) }
+{
+    match file {
+        Some(bytes) => read_alerts(alloc, bytes),
+        None => Ok(Alerts::none(alloc)),
     }
 }
 
@@ -98,5 +136,20 @@ fn read_instant_for(alloc: Global, files: &Files<'_>) -> Result<Option<Timestamp
             }
             Ok(None)
         }
+    }
+}
+
+/// Reads the text of a label set. Its faults stand at `Set`.
+pub fn read_set(alloc: Global, text: &str) -> Result<LabelSet, Fault>
+    ensures spelled { IfOk result (SpellsSet text.now) }
+    ensures refused { IfErr result (λ fault. fault.kind ≢ kinds.Memory
+        → (fault.place ≡ places.Set) × SetStageRefusedFor text.now (refusal_of fault)) }
+    ensures memory { IfErr result (λ fault. fault.kind ≡ kinds.Memory
+        → (fault.place ≡ places.Memory) × (string_bytes fault.pointer ≡ [])) }
+    ensures no_write { IfErr result (λ fault. fault.kind ≢ kinds.Write) }
+{
+    match parse_set(alloc, text) {
+        Ok(set) => Ok(set),
+        Err(kind) => Err(fault_at(alloc, kind, Place::Set)),
     }
 }

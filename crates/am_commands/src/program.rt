@@ -1,10 +1,11 @@
 use crate::asking::ask;
-use crate::command_line::{Request, parse_command_line};
+use crate::command_line::{Request, WorldPaths, parse_command_line};
+use crate::explaining::explain;
 use crate::fault::fault_at;
 use crate::fault_text::report;
 use crate::files;
 use crate::read_file::read_file;
-use am_labels::{Fault, Kind, Out, Place};
+use am_labels::{Fault, Kind, Out, Place, Sink};
 use clap::Error;
 use clap::error::ErrorKind;
 use std::alloc::Global;
@@ -49,36 +50,62 @@ pub fn refuse_arguments<E: Write>(error: &io::Error, alloc: Global, err: &mut E)
     USAGE
 }
 
+/// A command, with what it is handed beside the files of its world.
+#[derive(Clone, Copy)]
+enum Call<'a> {
+    Ask {
+        universe: &'a [u8],
+        question: &'a str,
+    },
+    Explain {
+        set: &'a str,
+    },
+}
+
 /// Reads the files that the request names, and does what it asks for.
 fn run_request<R: Files + AllocGlobal, W: Write + Drop>(
     rt: &R,
     request: Request<'_>,
     out: &mut W,
 ) -> Result<u8, Fault> {
-    let Request::Ask {
-        universe,
-        config,
-        silences,
-        at,
-        question,
-    } = request;
-    let universe = read_input(rt, universe, Place::Universe)?;
-    let config = read_input_if_any(rt, config, Place::Config)?;
-    let silences = read_input_if_any(rt, silences, Place::Silences)?;
+    match request {
+        Request::Ask {
+            universe,
+            world,
+            question,
+        } => {
+            let universe = read_input(rt, universe, Place::Universe)?;
+            let universe = universe.as_slice();
+            call_over(rt, Call::Ask { universe, question }, world, out)
+        }
+        Request::Explain { world, set } => call_over(rt, Call::Explain { set }, world, out),
+    }
+}
+
+/// Reads the files of a world, and calls the command over them.
+fn call_over<R: Files + AllocGlobal, W: Write + Drop>(
+    rt: &R,
+    call: Call<'_>,
+    world: WorldPaths<'_>,
+    out: &mut W,
+) -> Result<u8, Fault> {
+    let config = read_input_if_any(rt, world.config, Place::Config)?;
+    let silences = read_input_if_any(rt, world.silences, Place::Silences)?;
+    let alerts = read_input_if_any(rt, world.alerts, Place::Alerts)?;
     let files = files::Files {
         config: config.as_ref().map(|bytes| bytes.as_slice()),
         silences: silences.as_ref().map(|bytes| bytes.as_slice()),
-        at,
+        alerts: alerts.as_ref().map(|bytes| bytes.as_slice()),
+        at: world.at,
     };
-    ask_buffered(rt.alloc(), universe.as_slice(), &files, question, out)
+    call_buffered(rt.alloc(), call, &files, out)
 }
 
-/// Asks over a buffer of the output, which is flushed after the page.
-fn ask_buffered<W: Write + Drop>(
+/// Calls the command over a buffer of the output, which is flushed at the end.
+fn call_buffered<W: Write + Drop>(
     alloc: Global,
-    universe: &[u8],
+    call: Call<'_>,
     files: &files::Files<'_>,
-    question: &str,
     out: &mut W,
 ) -> Result<u8, Fault> {
     let buffered = match BufWriter::with_capacity(alloc, BUFFER, out) {
@@ -86,10 +113,10 @@ fn ask_buffered<W: Write + Drop>(
         Err(_) => return Err(Fault::of(alloc, Kind::Memory, Place::Memory)),
     };
     let mut sink = Out::new(buffered);
-    let outcome = ask(alloc, universe, files, question, &mut sink);
+    let outcome = make_call(alloc, call, files, &mut sink);
     let mut buffered = sink.into_inner();
     let flushed = match &outcome {
-        Ok(_) => buffered.flush().is_ok(),
+        Ok(()) => buffered.flush().is_ok(),
         Err(_) => true,
     };
     // What is left in the buffer after a failure is not tried again, as dropping the buffer would.
@@ -99,6 +126,21 @@ fn ask_buffered<W: Write + Drop>(
         Ok(DONE)
     } else {
         Err(Fault::of(alloc, Kind::Write, Place::Output))
+    }
+}
+
+fn make_call<W: Sink>(
+    alloc: Global,
+    call: Call<'_>,
+    files: &files::Files<'_>,
+    out: &mut W,
+) -> Result<(), Fault> {
+    match call {
+        Call::Ask { universe, question } => {
+            ask(alloc, universe, files, question, out)?;
+            Ok(())
+        }
+        Call::Explain { set } => explain(alloc, files, set, out),
     }
 }
 

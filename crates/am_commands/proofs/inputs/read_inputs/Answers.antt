@@ -1,30 +1,44 @@
 -- Where reading stops is the first fault: what was read before is accepted.
-use Rattle.std.proofs.Common.{◌≢◌, ℕ, List, sym, subst, inl, inr, option_copied, ◌∙◌}
-use Rattle.am_universe.specs.declared.kind.Kind.{Kind}
+use Rattle.std.proofs.Common.{◌≢◌, [], ◌∷◌, inr, ◌∙◌}
+use Rattle.am_universe.specs.declared.fault.Fault.{Fault}
 use Rattle.am_universe.specs.declared.kind.Kind.TheVariants as kinds
-use Rattle.am_files.specs.ConfigFile.{FileSaysConfig}
-use Rattle.am_files.specs.ConfigView.{config_view}
-use Rattle.am_commands.specs.Files.{config_of}
+use Rattle.am_json.specs.Reading.{refusal_of}
 use Rattle.am_eval.specs.QuestionText.{QuestionRefusedFor}
+use Rattle.am_commands.specs.Faults.{IsFirstFaultOfCall, question_stage}
+use Rattle.am_commands.specs.Files.{config_of}
+use Rattle.am_commands.specs.Inputs.{inputs_of, ask_stages, world_stages}
+use Rattle.am_commands.proofs.FirstFaults.{first_of_more, first_behind_world, handed_on}
 use Rattle.am_commands.proofs.inputs.read_inputs.Goals as goal
+
+pub returns-in_err-world-clause-first : goal.returns-in_err-world-clause-first
+returns-in_err-world-clause-first c =
+    let fault = c.in_err-world.field-0.0 in
+    let inputs = inputs_of c.args.universe.now c.args.files.now c.args.question.now in
+    handed_on
+    (λ (f : Fault). f.kind ≢ kinds.Memory
+    → IsFirstFaultOfCall (ask_stages inputs) f.place (refusal_of f))
+    fault c.from_residual-in_err-world.result c.from_residual-in_err-world.ensures.1
+    (λ remembered. inr (
+      (c.in_ok-universe.universe, c.in_ok-universe.ensures.says),
+      first_of_more (world_stages inputs.world)
+          (question_stage (config_of inputs.world.config) inputs.question ∷ []) fault.place
+          (refusal_of fault) (c.in_err-world.ensures.first remembered),
+    ))
 
 pub returns-in-Err-clause-first : goal.returns-in-Err-clause-first
 returns-in-Err-clause-first c = λ remembered.
-    let config = config_view c.in_ok-config.config in
-    let says_config : FileSaysConfig (config_of (option_copied c.args.files.now.config)) config =
-    subst (λ (bytes : List ℕ). FileSaysConfig bytes config) c.config.ensures.bytes c.in_ok-config.ensures.says in
+    let inputs = inputs_of c.args.universe.now c.args.files.now c.args.question.now in
+    let world = c.in_ok-world.world in
+    let accepts = c.in_ok-world.ensures.accepts in
     let given : c.in-Err.kind ≢ kinds.Memory = λ e. remembered (c.fault_at.ensures.kind ∙ e) in
-    let refused = subst (λ (k : Kind). QuestionRefusedFor config c.args.question.now k) (sym c.fault_at.ensures.kind) (c.in-Err.ensures.refused given) in
+    let refused : QuestionRefusedFor world.config inputs.question c.fault_at.result.kind =
+    rw (c.fault_at.ensures.kind, ← c.config.ensures.config) (c.in-Err.ensures.refused given) in
     inr (
       (c.in_ok-universe.universe, c.in_ok-universe.ensures.says),
-      inr (
-        (config, says_config),
-        inr (
-          (c.in_ok-silences.silences, c.in_ok-silences.ensures.says),
-          inr (
-            c.in_ok-instant.ensures.accepted,
-            inl (c.fault_at.ensures.place given, (config, says_config, refused, c.fault_at.ensures.pointer)),
+      first_behind_world inputs.world world
+          (question_stage (config_of inputs.world.config) inputs.question) c.fault_at.result.place
+          (refusal_of c.fault_at.result) accepts (
+            c.fault_at.ensures.place given,
+            (world.config, accepts.says_config, refused, c.fault_at.ensures.pointer),
           ),
-        ),
-      ),
     )
