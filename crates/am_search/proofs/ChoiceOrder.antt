@@ -1,0 +1,158 @@
+-- The order of choices, and lists of choices that ascend in it.
+use Rattle.std.proofs.Common.{◌≡◌, ◌⊎◌, ℕ, zero, suc, ◌-◌, ◌<◌, Bool, true, false, not, cond, List, [], ◌∷◌, length, drop, get_or, Option, Some, None, IfSome, ap, sym, subst, ◌∙◌, refl, inl, inr, arith}
+use Rattle.std.specs.List.{filter, find}
+use Rattle.std.specs.List.Sorted.{IsStrictlySortedBy}
+use Rattle.std.specs.Ordering.{nat_cmp, is_lt, ordering_reverse}
+use Rattle.std.specs.declared.cmp.Ordering.{Ordering}
+use Rattle.std.specs.declared.cmp.Ordering.TheVariants.{Less, Equal, Greater}
+use Rattle.std.specs.Cmp.Lexicographic.{slice_cmp}
+use Rattle.std.proofs.lemmas.Bool.{false≢true}
+use Rattle.std.proofs.lemmas.Cmp.{nat_list_cmp_total}
+use Rattle.am_universe.proofs.ListLemmas.{IsIn, AllByRecursion-at}
+use Rattle.am_search.specs.Start.{comes_before, at_or_after}
+
+-- ---- The order.
+
+is_less : (o : Ordering) → is_lt o ≡ true → o ≡ Less
+is_less Less h = refl
+is_less Equal h = absurd (false≢true h)
+is_less Greater h = absurd (false≢true h)
+
+not_both : (o : Ordering) → o ≡ ordering_reverse o → is_lt o ≡ false
+not_both Less e = ap is_lt e
+not_both Equal e = refl
+not_both Greater e = refl
+
+pub not_itself : (c : List ℕ) → comes_before c c ≡ false
+not_itself c = not_both (slice_cmp nat_cmp c c) (nat_list_cmp_total.antisymm c c)
+
+pub before_trans : (a b c : List ℕ) → comes_before a b ≡ true → comes_before b c ≡ true → comes_before a c ≡ true
+before_trans a b c h k = ap is_lt (nat_list_cmp_total.trans a b c (is_less _ h) (is_less _ k))
+
+reversed : (o : Ordering) → o ≡ Less → is_lt (ordering_reverse o) ≡ false
+reversed o e = ap (λ p. is_lt (ordering_reverse p)) e
+
+pub not_back : (a b : List ℕ) → comes_before a b ≡ true → comes_before b a ≡ false
+not_back a b h = ap is_lt (nat_list_cmp_total.antisymm b a) ∙ reversed (slice_cmp nat_cmp a b) (is_less _ h)
+
+-- ---- Filters.
+
+pub filter_step : {X : Type 0} (test : X → Bool) (x : X) (xs : List X) (b : Bool) → test x ≡ b → filter test (x ∷ xs) ≡ cond b (x ∷ filter test xs) (filter test xs)
+filter_step test x xs b e = ap (λ b. cond b (x ∷ filter test xs) (filter test xs)) e
+
+pub filter_all : {X : Type 0} (test : X → Bool) (xs : List X) → ((y : X) → IsIn xs y → test y ≡ true) → filter test xs ≡ xs
+filter_all test [] h = refl
+filter_all test (x ∷ xs) h = filter_step test x xs true (h x (inl refl)) ∙ ap (λ l. x ∷ l) (filter_all test xs (λ y i. h y (inr i)))
+
+pub filter_none : {X : Type 0} (test : X → Bool) (xs : List X) → ((y : X) → IsIn xs y → test y ≡ false) → filter test xs ≡ []
+filter_none test [] h = refl
+filter_none test (x ∷ xs) h = filter_step test x xs false (h x (inl refl)) ∙ filter_none test xs (λ y i. h y (inr i))
+
+pub filter_same : {X : Type 0} (f g : X → Bool) (xs : List X) → ((y : X) → IsIn xs y → f y ≡ g y) → filter f xs ≡ filter g xs
+filter_same f g [] h = refl
+filter_same f g (x ∷ xs) h = filter_step f x xs (g x) (h x (inl refl)) ∙ ap (λ l. cond (g x) (x ∷ l) l) (filter_same f g xs (λ y i. h y (inr i)))
+
+-- what a filter keeps
+in_cond : {X : Type 0} (test : X → Bool) (x y : X) (l : List X) (b : Bool) → test x ≡ b → IsIn (cond b (x ∷ l) l) y → ((x ≡ y) × (test y ≡ true)) ⊎ IsIn l y
+in_cond test x y l true e (inl s) = inl (s, sym (ap test s) ∙ e)
+in_cond test x y l true e (inr i) = inr i
+in_cond test x y l false e i = inr i
+
+pub in_filter : {X : Type 0} (test : X → Bool) (xs : List X) (y : X) → IsIn (filter test xs) y → IsIn xs y × (test y ≡ true)
+in_filter test [] y h = absurd h
+in_filter test (x ∷ xs) y h = elim (in_cond test x y (filter test xs) (test x) refl h) [
+  | inl a ↦ (inl a.0, a.1)
+  | inr i ↦ let r = in_filter test xs y i in (inr r.0, r.1)
+]
+
+-- the first that passes is one of them
+found_cond : (test : List ℕ → Bool) (x : List ℕ) (xs : List (List ℕ)) (b : Bool) → IfSome (find test xs) (λ f. IsIn xs f) → IfSome (cond b (Some x) (find test xs)) (λ f. IsIn (x ∷ xs) f)
+found_cond test x xs true h = inl refl
+found_cond test x xs false h = later (find test xs) h
+  where
+    later : (o : Option (List ℕ)) → IfSome o (λ f. IsIn xs f) → IfSome o (λ f. IsIn (x ∷ xs) f)
+    later None h = tt
+    later (Some f) h = inr h
+
+pub found_in : (test : List ℕ → Bool) (xs : List (List ℕ)) → IfSome (find test xs) (λ f. IsIn xs f)
+found_in test [] = tt
+found_in test (x ∷ xs) = found_cond test x xs (test x) (found_in test xs)
+
+-- ---- Lists of choices that ascend.
+
+abbrev pub Ascends : List (List ℕ) → Type 0
+Ascends = IsStrictlySortedBy (slice_cmp nat_cmp)
+
+pub above_first : (x : List ℕ) (xs : List (List ℕ)) (y : List ℕ) → Ascends (x ∷ xs) → IsIn xs y → comes_before x y ≡ true
+unfolding IsStrictlySortedBy
+above_first x xs y s i = ap is_lt (AllByRecursion-at (λ z. slice_cmp nat_cmp x z ≡ Less) xs y s.0 i)
+
+pub ascends_rest : (x : List ℕ) (xs : List (List ℕ)) → Ascends (x ∷ xs) → Ascends xs
+unfolding IsStrictlySortedBy
+ascends_rest x xs s = s.1
+
+-- all are at or after the first of them
+pub from_first : (x : List ℕ) (xs : List (List ℕ)) → Ascends (x ∷ xs) → at_or_after (Some x) (x ∷ xs) ≡ x ∷ xs
+from_first x xs s =
+    filter_step (λ d. not (comes_before d x)) x xs true (ap not (not_itself x))
+    ∙ ap (λ l. x ∷ l) (filter_all (λ d. not (comes_before d x)) xs (λ y i. ap not (not_back x y (above_first x xs y s i))))
+
+-- what comes after the first of them
+after_first : (x : List ℕ) (xs : List (List ℕ)) → Ascends (x ∷ xs) → filter (comes_before x) (x ∷ xs) ≡ xs
+after_first x xs s = filter_step (comes_before x) x xs false (not_itself x) ∙ filter_all (comes_before x) xs (λ y i. above_first x xs y s i)
+
+from_later : (x : List ℕ) (xs : List (List ℕ)) (o : Option (List ℕ)) → Ascends (x ∷ xs) → IfSome o (λ f. IsIn xs f) → at_or_after o (x ∷ xs) ≡ at_or_after o xs
+from_later x xs None s h = refl
+from_later x xs (Some f) s h = filter_step (λ d. not (comes_before d f)) x xs false (ap not (above_first x xs f s h))
+
+-- one of them, and what comes after it
+pub from_member : (xs : List (List ℕ)) (c : List ℕ) → Ascends xs → IsIn xs c → at_or_after (Some c) xs ≡ c ∷ filter (comes_before c) xs
+from_member [] c s i = absurd i
+from_member (x ∷ xs) c s (inl e) = subst (λ c. at_or_after (Some c) (x ∷ xs) ≡ c ∷ filter (comes_before c) (x ∷ xs)) e
+    (from_first x xs s ∙ ap (λ l. x ∷ l) (sym (after_first x xs s)))
+from_member (x ∷ xs) c s (inr i) =
+    let less : comes_before x c ≡ true = above_first x xs c s i in
+    from_later x xs (Some c) s i ∙ from_member xs c (ascends_rest x xs s) i
+    ∙ ap (λ l. c ∷ l) (sym (filter_step (comes_before c) x xs false (not_back x c less)))
+
+-- from the first that comes after a choice on, all do
+pub from_found : (xs : List (List ℕ)) (c : List ℕ) → Ascends xs → at_or_after (find (comes_before c) xs) xs ≡ filter (comes_before c) xs
+from_found [] c s = refl
+from_found (x ∷ xs) c s = by (from_found xs c (ascends_rest x xs s)) (comes_before c x) refl
+  where
+    by : at_or_after (find (comes_before c) xs) xs ≡ filter (comes_before c) xs → (b : Bool) → comes_before c x ≡ b → at_or_after (cond (comes_before c x) (Some x) (find (comes_before c) xs)) (x ∷ xs) ≡ filter (comes_before c) (x ∷ xs)
+    by rest true e =
+        ap (λ b. at_or_after (cond b (Some x) (find (comes_before c) xs)) (x ∷ xs)) e ∙ from_first x xs s
+        ∙ sym (filter_all (comes_before c) (x ∷ xs) (λ y i. elim i [ inl same ↦ sym (ap (comes_before c) same) ∙ e | inr later ↦ before_trans c x y e (above_first x xs y s later) ]))
+    by rest false e =
+        ap (λ b. at_or_after (cond b (Some x) (find (comes_before c) xs)) (x ∷ xs)) e
+        ∙ from_later x xs (find (comes_before c) xs) s (found_in (comes_before c) xs) ∙ rest
+        ∙ sym (filter_step (comes_before c) x xs false e)
+
+-- a member, and what is from the first after it on
+pub member_then_rest : (xs : List (List ℕ)) (c : List ℕ) → Ascends xs → IsIn xs c → at_or_after (Some c) xs ≡ c ∷ at_or_after (find (comes_before c) xs) xs
+member_then_rest xs c s i = from_member xs c s i ∙ ap (λ l. c ∷ l) (sym (from_found xs c s))
+
+-- ---- What is left behind so many of them.
+
+in_at : (ys : List (List ℕ)) (k : ℕ) → k < length ys → IsIn ys (get_or ys k [])
+in_at [] k h = absurd (omega arith)
+in_at (y ∷ ys) zero h = inl refl
+in_at (y ∷ ys) (suc k) h = inr (in_at ys k (omega arith))
+
+after_nth : (xs : List (List ℕ)) (n : ℕ) → Ascends xs → n < length xs → filter (comes_before (get_or xs n [])) xs ≡ drop (suc n) xs
+after_nth [] n s h = absurd (omega arith)
+after_nth (x ∷ xs) zero s h = after_first x xs s
+after_nth (x ∷ xs) (suc n) s h =
+    let c : List ℕ = get_or xs n [] in
+    let less : comes_before x c ≡ true = above_first x xs c s (in_at xs n (omega arith)) in
+    filter_step (comes_before c) x xs false (not_back x c less) ∙ after_nth xs n (ascends_rest x xs s) (omega arith)
+
+-- after the last of the first n come the others
+pub after_taken : (xs : List (List ℕ)) (n : ℕ) → Ascends xs → 0 < n → n < length xs → filter (comes_before (get_or xs (n - 1) [])) xs ≡ drop n xs
+after_taken xs n s some h =
+    let same : suc (n - 1) ≡ n = omega arith in
+    after_nth xs (n - 1) s (omega arith) ∙ ap (λ k. drop k xs) same
+
+pub taken_last : (xs : List (List ℕ)) (n : ℕ) → 0 < n → n < length xs → IsIn xs (get_or xs (n - 1) [])
+taken_last xs n some h = in_at xs (n - 1) (omega arith)

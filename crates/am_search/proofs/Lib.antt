@@ -1,0 +1,6 @@
+pub mod ChoiceOrder
+pub mod Odometer
+pub mod Walks
+pub mod Positions
+pub mod TokenTexts
+pub mod Pages

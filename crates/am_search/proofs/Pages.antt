@@ -1,0 +1,245 @@
+-- The choices from a start on, and the pages of the answers among them.
+use Rattle.std.proofs.Common.{◌≡◌, ◌↔◌, ℕ, zero, suc, ◌+◌, ◌-◌, ◌<◌, ◌≤◌, Bool, true, false, not, cond, List, [], ◌∷◌, ◌++◌, length, take, drop, get_or, slice_get, nat_lt, Contains, Option, Some, None, IfSome, ap, sym, subst, ◌∙◌, refl, inl, inr, arith, append-nil}
+use Rattle.std.specs.Prelude.{IsTrue}
+use Rattle.std.specs.List.{filter, find, AllByRecursion}
+use Rattle.std.specs.List.Sorted.{IsStrictlySortedBy}
+use Rattle.std.specs.Ordering.{nat_cmp, is_lt, ordering_then}
+use Rattle.std.specs.Cmp.Lexicographic.{slice_cmp}
+use Rattle.std.proofs.lemmas.Bool.{false≢true, and_parts}
+use Rattle.std.proofs.lemmas.Bool.Decides.{nat_tests}
+use Rattle.std.proofs.lemmas.List.{take-append-drop}
+use Rattle.std.proofs.lemmas.List.Kept.{IsStrictlySortedBy-filter}
+use Rattle.am_universe.specs.Choice.{choices, admits, IsWhole}
+use Rattle.am_universe.proofs.ListLemmas.{IsIn, IsIn-from_Contains, Contains-from_IsIn}
+use Rattle.am_universe.proofs.ChoiceLemmas.{choices_sorted, whole_from_in, less_first}
+use Rattle.am_search.specs.declared.start.Start.{Start}
+use Rattle.am_search.specs.declared.start.Start.TheVariants.{At, After}
+use Rattle.am_search.specs.declared.trailer.Trailer.{Trailer}
+use Rattle.am_search.specs.declared.trailer.Trailer.TheVariants.{End, Next}
+use Rattle.am_search.specs.Judge.{AreSizes}
+use Rattle.am_search.specs.Start.{comes_before, IsStart, first_of_start, at_or_after, choices_from, answers_from}
+use Rattle.am_search.specs.Page.{Page, page_of, page_from, left_behind, IsPage, IsChain, goes_on, all_choices_of}
+use Rattle.am_search.proofs.ChoiceOrder.{Ascends, before_trans, not_back, filter_step, filter_all, filter_same, in_filter, from_found, after_taken, taken_last}
+use Rattle.am_search.proofs.Odometer.{filled, first_completion_is, positive}
+use Rattle.am_search.proofs.Walks.{first_is_whole, one_more}
+
+-- ---- The choices from a start on.
+
+-- before a prefix, and before its first completion, stand the same whole choices
+nothing_before : (d : List ℕ) → comes_before d [] ≡ false
+nothing_before [] = refl
+nothing_before (p ∷ d) = refl
+
+before_first : (ns d : List ℕ) → length d ≡ length ns → comes_before d (filled ns []) ≡ false
+before_first [] [] e = refl
+before_first [] (p ∷ d) e = absurd (omega arith)
+before_first (n ∷ ns) [] e = absurd (omega arith)
+before_first (n ∷ ns) (zero ∷ d) e = before_first ns d (omega arith)
+before_first (n ∷ ns) (suc p ∷ d) e = not_back (0 ∷ filled ns []) (suc p ∷ d) (ap is_lt (less_first 0 (suc p) (filled ns []) d (omega arith)))
+
+before_filled : (ns prefix d : List ℕ) → admits ns prefix ≡ true → length d ≡ length ns → comes_before d (filled ns prefix) ≡ comes_before d prefix
+before_filled ns [] d a e = before_first ns d e ∙ sym (nothing_before d)
+before_filled [] (p ∷ prefix) d a e = cc
+before_filled (n ∷ ns) (p ∷ prefix) [] a e = absurd (omega arith)
+before_filled (n ∷ ns) (p ∷ prefix) (q ∷ d) a e =
+    by (nat_cmp q p) (before_filled ns prefix d (and_parts (nat_lt p n) (admits ns prefix) a).1 (omega arith))
+  where
+    by : (o : Rattle.std.specs.declared.cmp.Ordering.Ordering) → comes_before d (filled ns prefix) ≡ comes_before d prefix
+        → is_lt (ordering_then o (slice_cmp nat_cmp d (filled ns prefix))) ≡ is_lt (ordering_then o (slice_cmp nat_cmp d prefix))
+    by Rattle.std.specs.declared.cmp.Ordering.TheVariants.Less h = refl
+    by Rattle.std.specs.declared.cmp.Ordering.TheVariants.Equal h = h
+    by Rattle.std.specs.declared.cmp.Ordering.TheVariants.Greater h = refl
+
+pub choices_at : (ns prefix : List ℕ) → AreSizes ns → admits ns prefix ≡ true → choices_from ns (At prefix) ≡ filter (λ c. not (comes_before c prefix)) (choices ns)
+choices_at ns prefix h a =
+    ap (λ o. at_or_after o (choices ns)) (first_completion_is ns prefix (positive ns h.values) a)
+    ∙ filter_same _ _ (choices ns) (λ d i. ap not (before_filled ns prefix d a (whole_from_in ns d i).1))
+
+pub none_from : (ns : List ℕ) (start : Start) → first_of_start ns start ≡ None → choices_from ns start ≡ []
+none_from ns start e = ap (λ o. at_or_after o (choices ns)) e
+
+pub begins_with : (ns c : List ℕ) (start : Start) → first_of_start ns start ≡ Some c → IsWhole ns c × (choices_from ns start ≡ c ∷ choices_from ns (After c))
+begins_with ns c start e =
+    let w = first_is_whole ns start c e in
+    (w, ap (λ o. at_or_after o (choices ns)) e ∙ one_more ns c w)
+
+pub some_at : (ns prefix : List ℕ) → AreSizes ns → admits ns prefix ≡ true → 0 < length (choices_from ns (At prefix))
+some_at ns prefix h a = omega (arith, ap length (begins_with ns (filled ns prefix) (At prefix) (first_completion_is ns prefix (positive ns h.values) a)).1)
+
+pub choices_after : (ns c : List ℕ) → choices_from ns (After c) ≡ filter (comes_before c) (choices ns)
+choices_after ns c = from_found (choices ns) c (choices_sorted ns)
+
+-- ---- The answers.
+
+into_filter : (test : List ℕ → Bool) (cs : List (List ℕ)) (c : List ℕ) → IsIn cs c → test c ≡ true → IsIn (filter test cs) c
+into_filter test [] c i h = absurd i
+into_filter test (d ∷ cs) c (inl e) h =
+    subst (λ l. IsIn l c) (sym (filter_step test d cs true (ap test e ∙ h))) (inl e)
+into_filter test (d ∷ cs) c (inr i) h = by (test d) (into_filter test cs c i h)
+  where
+    by : (b : Bool) → IsIn (filter test cs) c → IsIn (cond b (d ∷ filter test cs) (filter test cs)) c
+    by true j = inr j
+    by false j = j
+
+pub answers_exactly : (ns c : List ℕ) (truth : List ℕ → Bool) (start : Start)
+    → (Contains (answers_from ns truth start) c ↔ (Contains (choices_from ns start) c × IsTrue (truth c)))
+answers_exactly ns c truth start = (
+  λ h. let r = in_filter truth (choices_from ns start) c (IsIn-from_Contains (answers_from ns truth start) c h) in (Contains-from_IsIn (choices_from ns start) c r.0, r.1),
+  λ h. Contains-from_IsIn (answers_from ns truth start) c (into_filter truth (choices_from ns start) c (IsIn-from_Contains (choices_from ns start) c h.0) h.1),
+)
+
+sorted_nothing : Ascends []
+unfolding IsStrictlySortedBy
+sorted_nothing = tt
+
+from_sorted : (ns : List ℕ) (o : Option (List ℕ)) → Ascends (at_or_after o (choices ns))
+from_sorted ns None = sorted_nothing
+from_sorted ns (Some c) = IsStrictlySortedBy-filter (slice_cmp nat_cmp) (λ d. not (comes_before d c)) (choices ns) (choices_sorted ns)
+
+pub answers_sorted : (ns : List ℕ) (truth : List ℕ → Bool) (start : Start) → Ascends (answers_from ns truth start)
+answers_sorted ns truth start = IsStrictlySortedBy-filter (slice_cmp nat_cmp) truth (choices_from ns start) (from_sorted ns (first_of_start ns start))
+
+-- ---- What comes after one of the answers.
+
+swapped_cond : {X : Type 0} (f : X → Bool) (x : X) (b : Bool) (xs : List X) → filter f (cond b (x ∷ xs) xs) ≡ cond b (cond (f x) (x ∷ filter f xs) (filter f xs)) (filter f xs)
+swapped_cond f x true xs = refl
+swapped_cond f x false xs = refl
+
+two_conds : {X : Type 0} (a b : Bool) (x : X) (xs : List X) → cond a (cond b (x ∷ xs) xs) xs ≡ cond b (cond a (x ∷ xs) xs) xs
+two_conds true b x xs = refl
+two_conds false true x xs = refl
+two_conds false false x xs = refl
+
+filters_swapped : {X : Type 0} (f g : X → Bool) (xs : List X) → filter f (filter g xs) ≡ filter g (filter f xs)
+filters_swapped f g [] = refl
+filters_swapped f g (x ∷ xs) =
+    swapped_cond f x (g x) (filter g xs) ∙ ap (λ l. cond (g x) (cond (f x) (x ∷ l) l) l) (filters_swapped f g xs)
+    ∙ two_conds (g x) (f x) x (filter g (filter f xs)) ∙ sym (swapped_cond g x (f x) (filter f xs))
+
+-- where all that pass a test pass another, the other changes nothing
+filter_within : {X : Type 0} (f g : X → Bool) (xs : List X) → ((x : X) → f x ≡ true → g x ≡ true) → filter f (filter g xs) ≡ filter f xs
+filter_within f g xs h = filters_swapped f g xs ∙ filter_all g (filter f xs) (λ y i. h y (in_filter f xs y i).1)
+
+is_not : (b : Bool) → not b ≡ true → b ≡ false
+is_not true h = absurd (false≢true h)
+is_not false h = refl
+
+-- a choice after one that is at or after the first is so too
+stays_after : (first c d : List ℕ) → not (comes_before c first) ≡ true → comes_before c d ≡ true → not (comes_before d first) ≡ true
+stays_after first c d h k = by (comes_before d first) refl
+  where
+    by : (b : Bool) → comes_before d first ≡ b → not b ≡ true
+    by true e = absurd (false≢true (sym (is_not (comes_before c first) h) ∙ before_trans c d first k e))
+    by false e = refl
+
+after_from : (o : Option (List ℕ)) (cs : List (List ℕ)) (c : List ℕ) → IsIn (at_or_after o cs) c → filter (comes_before c) (at_or_after o cs) ≡ filter (comes_before c) cs
+after_from None cs c i = absurd i
+after_from (Some first) cs c i =
+    filter_within (comes_before c) (λ d. not (comes_before d first)) cs (λ d k. stays_after first c d (in_filter (λ d. not (comes_before d first)) cs c i).1 k)
+
+pub after_answer : (ns c : List ℕ) (truth : List ℕ → Bool) (start : Start) → IsIn (answers_from ns truth start) c
+    → filter (comes_before c) (answers_from ns truth start) ≡ answers_from ns truth (After c)
+after_answer ns c truth start i =
+    filters_swapped (comes_before c) truth (choices_from ns start)
+    ∙ ap (filter truth) (after_from (first_of_start ns start) (choices ns) c (in_filter truth (choices_from ns start) c i).0 ∙ sym (choices_after ns c))
+
+from_in_choices : (ns : List ℕ) (o : Option (List ℕ)) (c : List ℕ) → IsIn (at_or_after o (choices ns)) c → IsIn (choices ns) c
+from_in_choices ns None c i = absurd i
+from_in_choices ns (Some first) c i = (in_filter _ (choices ns) c i).0
+
+answer_whole : (ns c : List ℕ) (truth : List ℕ → Bool) (start : Start) → IsIn (answers_from ns truth start) c → IsWhole ns c
+answer_whole ns c truth start i = whole_from_in ns c (from_in_choices ns (first_of_start ns start) c (in_filter truth (choices_from ns start) c i).0)
+
+-- ---- Pages.
+
+-- what a page of a list is, by whether there is more than the limit
+record IsPart (xs : List (List ℕ)) (page : Page) (c : List ℕ) (n : ℕ) : Type 0 where
+  choices : page.choices ≡ take n xs
+  trailer : page.trailer ≡ Next c
+  last : c ≡ get_or xs (n - 1) []
+  some : 0 < n
+  more : n < length xs
+
+record IsAll (xs : List (List ℕ)) (page : Page) : Type 0 where
+  choices : page.choices ≡ xs
+  trailer : page.trailer ≡ End
+
+data PageKind (xs : List (List ℕ)) (page : Page) : Type 0 where
+  part : (c : List ℕ) (n : ℕ) → IsPart xs page c n → PageKind xs page
+  whole : IsAll xs page → PageKind xs page
+
+kind_of : (xs : List (List ℕ)) (limit : Option ℕ) → IfSome limit (λ n. 0 < n) → PageKind xs (page_of xs limit)
+kind_of xs None h = whole (record { choices = refl; trailer = refl })
+kind_of xs (Some n) h = by (nat_lt n (length xs)) refl
+  where
+    by : (b : Bool) → nat_lt n (length xs) ≡ b → PageKind xs (page_of xs (Some n))
+    by true e =
+        let same : page_of xs (Some n) ≡ record { choices = take n xs; trailer = Next (get_or xs (n - 1) []) } =
+        ap (λ b. cond b (record { choices = take n xs; trailer = Next (get_or xs (n - 1) []) }) (record { choices = xs; trailer = End })) e in
+        part (get_or xs (n - 1) []) n (record { choices = ap (λ p. p.choices) same; trailer = ap (λ p. p.trailer) same; last = refl; some = h; more = grind (arith, nat_tests, e) })
+    by false e =
+        let same : page_of xs (Some n) ≡ record { choices = xs; trailer = End } =
+        ap (λ b. cond b (record { choices = take n xs; trailer = Next (get_or xs (n - 1) []) }) (record { choices = xs; trailer = End })) e in
+        whole (record { choices = ap (λ p. p.choices) same; trailer = ap (λ p. p.trailer) same })
+
+page_kind : (ns : List ℕ) (truth : List ℕ → Bool) (start : Start) (page : Page) → IsPage ns truth start page → PageKind (answers_from ns truth start) page
+page_kind ns truth start page h = subst (PageKind (answers_from ns truth start)) (sym h.is) (kind_of (answers_from ns truth start) h.limit h.some)
+
+rest_of_part : (ns c : List ℕ) (truth : List ℕ → Bool) (start : Start) (page : Page) (n : ℕ) → IsPart (answers_from ns truth start) page c n → answers_from ns truth (After c) ≡ drop n (answers_from ns truth start)
+rest_of_part ns c truth start page n h =
+    let xs : List (List ℕ) = answers_from ns truth start in
+    let i : IsIn xs c = subst (IsIn xs) (sym h.last) (taken_last xs n h.some h.more) in
+    sym (after_answer ns c truth start i) ∙ ap (λ d. filter (comes_before d) xs) h.last ∙ after_taken xs n (answers_sorted ns truth start) h.some h.more
+
+pub page_rest : (ns : List ℕ) (truth : List ℕ → Bool) (start : Start) (page : Page) → IsPage ns truth start page
+    → answers_from ns truth start ≡ page.choices ++ left_behind ns truth page.trailer
+page_rest ns truth start page h = elim (page_kind ns truth start page h) [
+  | part c n p ↦
+      let xs : List (List ℕ) = answers_from ns truth start in
+      sym (take-append-drop n xs) ∙ ap (λ l. l ++ drop n xs) (sym p.choices)
+      ∙ ap (λ l. page.choices ++ l) (sym (rest_of_part ns c truth start page n p) ∙ ap (left_behind ns truth) (sym p.trailer))
+  | whole w ↦ sym w.choices ∙ sym (append-nil page.choices) ∙ ap (λ l. page.choices ++ l) (ap (left_behind ns truth) (sym w.trailer))
+]
+
+pub next_is_start : (ns c : List ℕ) (truth : List ℕ → Bool) (start : Start) (page : Page) → IsPage ns truth start page → page.trailer ≡ Next c → IsStart ns (After c)
+next_is_start ns c truth start page h e = elim (page_kind ns truth start page h) [
+  | part d n p ↦
+      let xs : List (List ℕ) = answers_from ns truth start in
+      let same : d ≡ c = cc (p.trailer, e) in
+      answer_whole ns c truth start (subst (IsIn xs) (sym p.last ∙ same) (taken_last xs n p.some p.more))
+  | whole w ↦ cc (w.trailer, e)
+]
+
+pub more_left : (ns c : List ℕ) (truth : List ℕ → Bool) (start : Start) (page : Page) → IsPage ns truth start page → page.trailer ≡ Next c → 0 < length (answers_from ns truth (After c))
+more_left ns c truth start page h e = elim (page_kind ns truth start page h) [
+  | part d n p ↦
+      let xs : List (List ℕ) = answers_from ns truth start in
+      let same : d ≡ c = cc (p.trailer, e) in
+      let rest : answers_from ns truth (After c) ≡ drop n xs = subst (λ b. answers_from ns truth (After b) ≡ drop n xs) same (rest_of_part ns d truth start page n p) in
+      omega (arith, ap length rest, Rattle.std.proofs.Common.length-drop n xs, p.more)
+  | whole w ↦ cc (w.trailer, e)
+]
+
+pub within_limit : (ns : List ℕ) (truth : List ℕ → Bool) (start : Start) (n : ℕ) → length (page_from ns truth start (Some n)).choices ≤ n
+within_limit ns truth start n = by (nat_lt n (length xs)) refl
+  where
+    xs : List (List ℕ)
+    xs = answers_from ns truth start
+
+    by : (b : Bool) → nat_lt n (length xs) ≡ b → length (page_of xs (Some n)).choices ≤ n
+    by true e = subst (λ (p : Page). length p.choices ≤ n) (sym (ap (λ b. cond b (record { choices = take n xs; trailer = Next (get_or xs (n - 1) []) }) (record { choices = xs; trailer = End })) e))
+        (omega (arith, Rattle.std.proofs.Common.length-take n xs))
+    by false e = subst (λ (p : Page). length p.choices ≤ n) (sym (ap (λ b. cond b (record { choices = take n xs; trailer = Next (get_or xs (n - 1) []) }) (record { choices = xs; trailer = End })) e))
+        (grind (arith, nat_tests, e))
+
+-- ---- Pages in a row.
+
+pub chain_joined : (ns : List ℕ) (truth : List ℕ → Bool) (start : Start) (pages : List Page) → IsChain ns truth start pages → all_choices_of pages ≡ answers_from ns truth start
+chain_joined ns truth start [] h = absurd h
+chain_joined ns truth start (page ∷ pages) h =
+    ap (λ l. page.choices ++ l) (by page.trailer h.1 (λ next k. chain_joined ns truth next pages k)) ∙ sym (page_rest ns truth start page h.0)
+  where
+    by : (t : Trailer) → goes_on t (pages ≡ []) (λ next. IsChain ns truth next pages) → ((next : Start) → IsChain ns truth next pages → all_choices_of pages ≡ answers_from ns truth next)
+        → all_choices_of pages ≡ left_behind ns truth t
+    by End e more = ap all_choices_of e
+    by (Next c) k more = more (After c) k

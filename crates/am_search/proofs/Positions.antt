@@ -1,0 +1,127 @@
+-- Positions in decimal, and what is joined of them.
+use Rattle.std.proofs.Common.{◌≡◌, ℕ, zero, suc, ◌+◌, ◌<◌, ◌^◌, false, List, [], ◌∷◌, ◌++◌, length, map, take, drop, get_or, Result, Ok, Err, refl, sym, ap, ap₂, ◌∙◌, arith, append_assoc, append-nil, add-one}
+use Rattle.std.specs.Prelude.{◌==◌}
+use Rattle.std.specs.List.{AllByRecursion, slice_split, join_with_byte, All}
+use Rattle.std.specs.Fmt.{decimal}
+use Rattle.std.specs.Result.{OkIff}
+use Rattle.std.specs.Str.Parse.{AllDigits, digits_value, ParsesUnsigned}
+use Rattle.std.proofs.lemmas.Fmt.{decimal_is_IsNumeral}
+use Rattle.std.proofs.lemmas.Str.Parse.{digit_from_value, parse_digits, numerals_by_value, tells_digits}
+use Rattle.std.proofs.lemmas.List.{take_more}
+use Rattle.std.proofs.lemmas.List.Splits.{slice_split_none, slice_split_at}
+use borrow.Author.Tests.{ne_eqb}
+
+-- ---- One number.
+
+pub decimal-injective : (m n : ℕ) → m < 2 ^ 64 → n < 2 ^ 64 → decimal m ≡ decimal n → m ≡ n
+decimal-injective m n h k same =
+    sym (decimal_is_IsNumeral m h).1 ∙ ap (digits_value 10) same ∙ (decimal_is_IsNumeral n k).1
+
+parse_gives : {E : Type 0} (k n : ℕ) (r : Result ℕ E) → n < 2 ^ 64 → ParsesUnsigned k 10 (decimal n) r
+    → OkIff r ((0 < length (decimal n)) × (n < 2 ^ k)) n
+parse_gives k n r small h =
+    let is = decimal_is_IsNumeral n small in
+    rw is.1 at (parse_digits (numerals_by_value _ tells_digits) k (decimal n) r h is.0.1)
+
+pub parsed : {E : Type 0} (k n p : ℕ) (r : Result ℕ E) → n < 2 ^ 64 → ParsesUnsigned k 10 (decimal n) r
+    → r ≡ Ok p → p ≡ n
+parsed k n p r small h is = (rw is at (parse_gives k n r small h)).1
+
+pub not_parsed : {E : Type 0} (k n : ℕ) (e : E) (r : Result ℕ E) → n < 2 ^ 64 → n < 2 ^ k
+    → ParsesUnsigned k 10 (decimal n) r → r ≡ Err e → ⊥
+not_parsed k n e r small fits h is =
+    (rw is at (parse_gives k n r small h)) ((decimal_is_IsNumeral n small).0.0, fits)
+
+-- ---- Numbers joined by full stops.
+
+abbrev pub AreSmall : List ℕ → Type 0
+AreSmall = AllByRecursion (λ p. p < 2 ^ 64)
+
+abbrev pub pieces_of : List ℕ → List (List ℕ)
+pieces_of text = slice_split (λ b. b == 46) text
+
+no_stop_among : (text : List ℕ) → AllDigits 10 text → All (λ c. (c == 46) ≡ false) text
+no_stop_among [] h k d within = absurd (omega arith)
+no_stop_among (c ∷ cs) h zero d within = ne_eqb c 46 (λ e. omega (arith, digit_from_value c h.0))
+no_stop_among (c ∷ cs) h (suc k) d within = no_stop_among cs h.1 k d (omega arith)
+
+no_stop : (n : ℕ) → n < 2 ^ 64 → All (λ c. (c == 46) ≡ false) (decimal n)
+no_stop n small = no_stop_among (decimal n) (decimal_is_IsNumeral n small).0.1
+
+-- the pieces between the full stops are the numbers
+pub pieces_of_joined : (p : ℕ) (ps : List ℕ) → AreSmall (p ∷ ps) → pieces_of (join_with_byte 46 (map decimal (p ∷ ps))) ≡ map decimal (p ∷ ps)
+pieces_of_joined p [] small = slice_split_none (λ b. b == 46) (decimal p) (no_stop p small.0)
+pieces_of_joined p (q ∷ qs) small =
+    slice_split_at (λ b. b == 46) (decimal p) 46 (join_with_byte 46 (map decimal (q ∷ qs))) (no_stop p small.0) refl
+    ∙ ap (λ ts. decimal p ∷ ts) (pieces_of_joined q qs small.1)
+
+pub decimals-injective : (c d : List ℕ) → AreSmall c → AreSmall d → map decimal c ≡ map decimal d → c ≡ d
+decimals-injective [] [] h k same = refl
+decimals-injective [] (q ∷ d) h k same = absurd (omega (arith, ap length same))
+decimals-injective (p ∷ c) [] h k same = absurd (omega (arith, ap length same))
+decimals-injective (p ∷ c) (q ∷ d) h k same =
+    ap₂ (λ x xs. x ∷ xs) (decimal-injective p q h.0 k.0 (ap (λ ts. get_or ts 0 []) same))
+    (decimals-injective c d h.1 k.1 (ap (drop 1) same))
+
+some_digits : (p : ℕ) (ps : List ℕ) → AreSmall (p ∷ ps) → 0 < length (join_with_byte 46 (map decimal (p ∷ ps)))
+some_digits p [] small = (decimal_is_IsNumeral p small.0).0.0
+some_digits p (q ∷ qs) small = grind (arith, Rattle.std.proofs.lemmas.Grind.common_steps)
+
+pub joined-injective : (c d : List ℕ) → AreSmall c → AreSmall d → join_with_byte 46 (map decimal c) ≡ join_with_byte 46 (map decimal d) → c ≡ d
+joined-injective [] [] h k same = refl
+joined-injective [] (q ∷ d) h k same = absurd (omega (arith, ap length same, some_digits q d k))
+joined-injective (p ∷ c) [] h k same = absurd (omega (arith, ap length same, some_digits p c h))
+joined-injective (p ∷ c) (q ∷ d) h k same =
+    decimals-injective (p ∷ c) (q ∷ d) h k (sym (pieces_of_joined p c h) ∙ ap pieces_of same ∙ pieces_of_joined q d k)
+
+-- ---- Written number by number.
+
+abbrev pub joined : List ℕ → List ℕ
+joined c = join_with_byte 46 (map decimal c)
+
+-- what separates a number from those before it
+abbrev pub separator : List ℕ → List ℕ
+separator [] = []
+separator (p ∷ ps) = 46 ∷ []
+
+-- the numbers that follow another, each behind its full stop
+abbrev following : List ℕ → List ℕ
+following [] = []
+following (p ∷ ps) = 46 ∷ (decimal p ++ following ps)
+
+joined-cons : (p : ℕ) (ps : List ℕ) → joined (p ∷ ps) ≡ decimal p ++ following ps
+joined-cons p [] = sym (append-nil (decimal p))
+joined-cons p (q ∷ qs) = ap (λ t. decimal p ++ (46 ∷ t)) (joined-cons q qs)
+
+following-append : (ps qs : List ℕ) → following (ps ++ qs) ≡ following ps ++ following qs
+following-append [] qs = refl
+following-append (p ∷ ps) qs =
+    ap (λ t. 46 ∷ (decimal p ++ t)) (following-append ps qs) ∙ ap (λ t. 46 ∷ t) (sym (append_assoc (decimal p) (following ps) (following qs)))
+
+joined_among : (ps : List ℕ) (p : ℕ) (qs : List ℕ) → joined (ps ++ p ∷ qs) ≡ joined ps ++ ((separator ps ++ decimal p) ++ following qs)
+joined_among [] p qs = joined-cons p qs
+joined_among (o ∷ ps) p qs =
+    joined-cons o (ps ++ p ∷ qs) ∙ ap (λ t. decimal o ++ t) (following-append ps (p ∷ qs)) ∙ sym (append_assoc (decimal o) (following ps) (following (p ∷ qs)))
+    ∙ ap (λ t. t ++ following (p ∷ qs)) (sym (joined-cons o ps))
+
+split_at : (c : List ℕ) (i p : ℕ) → i < length c → p ≡ get_or c i 0 → c ≡ take i c ++ p ∷ drop (i + 1) c
+split_at [] i p h is = absurd (omega arith)
+split_at (q ∷ c) zero p h is = ap (λ x. x ∷ c) (sym is)
+split_at (q ∷ c) (suc i) p h is = rw add-one (ap (λ l. q ∷ l) (rw add-one at (split_at c i p (omega arith) is)))
+
+-- the number at i stands between those before it and those behind it
+pub joined_through : (c : List ℕ) (i p : ℕ) (s : List ℕ) → i < length c → p ≡ get_or c i 0 → s ≡ separator (take i c)
+    → joined (take i c) ++ ((s ++ decimal p) ++ following (drop (i + 1) c)) ≡ joined c
+joined_through c i p s h is same =
+    ap (λ t. joined (take i c) ++ ((t ++ decimal p) ++ following (drop (i + 1) c))) same
+    ∙ sym (joined_among (take i c) p (drop (i + 1) c)) ∙ ap joined (sym (split_at c i p h is))
+
+pub joined_more : (c : List ℕ) (i p : ℕ) (s : List ℕ) → i < length c → p ≡ get_or c i 0 → s ≡ separator (take i c)
+    → joined (take i c) ++ (s ++ decimal p) ≡ joined (take (i + 1) c)
+joined_more c i p s h is same =
+    ap (λ t. joined (take i c) ++ (t ++ decimal p)) same ∙ ap (λ t. joined (take i c) ++ t) (sym (append-nil (separator (take i c) ++ decimal p)))
+    ∙ sym (joined_among (take i c) p []) ∙ ap (λ q. joined (take i c ++ q ∷ [])) is ∙ ap joined (sym (take_more c i 0 h))
+
+pub separator_more : (c : List ℕ) (i : ℕ) → i < length c → 46 ∷ [] ≡ separator (take (i + 1) c)
+separator_more [] i h = absurd (omega arith)
+separator_more (p ∷ c) i h = rw add-one refl

@@ -1,0 +1,138 @@
+-- A list of positions read piece by piece, under the sizes of a universe.
+use Rattle.std.proofs.Common.{◌≡◌, ℕ, ◌<◌, ◌≤◌, true, List, [], ◌∷◌, ◌++◌, length, map, slice_index, nat_lt, Option, Some, None, MatchOption, Ok, Bor, sym, ap, subst, ◌∙◌, arith, append-nil, append_assoc, length-append, get_or, drop}
+use Rattle.std.specs.Prelude.{codes, ok_or}
+use Rattle.std.specs.Str.Pattern.{StripsPrefix, FindsTextPrefix}
+use Rattle.std.specs.Iterator.{AlwaysYields}
+use Rattle.std.specs.List.{AllByRecursion, join_with_byte}
+use Rattle.std.specs.Fmt.{decimal}
+use Rattle.std.proofs.lemmas.Bool.{and_parts}
+use Rattle.std.proofs.lemmas.Bool.Decides.{nat_tests}
+use Rattle.std.proofs.lemmas.List.{map-append}
+use Rattle.std.proofs.lemmas.List.Splits.{join_with_byte-slice_split}
+use Rattle.am_universe.specs.Choice.{admits, IsWhole}
+use Rattle.am_universe.specs.Universe.{Label, IsLabel, IsUniverse, sizes}
+use Rattle.am_universe.specs.declared.limits.TheConstants.{MAX_VALUES}
+use Rattle.am_universe.proofs.CompletionLemmas.{admits_next}
+use Rattle.am_search.specs.Judge.{AreSizes}
+use Rattle.am_search.specs.declared.start.Start.{Start}
+use Rattle.am_search.specs.declared.start.Start.TheVariants.{At, After}
+use Rattle.am_search.specs.Start.{IsStart}
+use Rattle.am_search.specs.Token.{positions_text, token_text}
+use Rattle.am_search.proofs.Positions.{AreSmall, pieces_of, pieces_of_joined, joined-injective}
+use Rattle.std.proofs.lemmas.List.{length-map}
+
+-- ---- The sizes of a universe.
+
+abbrev pub AreLimited : List ℕ → Type 0
+AreLimited = AllByRecursion (λ size. (0 < size) × (size ≤ MAX_VALUES))
+
+limited : (u : List Label) → AllByRecursion IsLabel u → AreLimited (sizes u)
+limited [] h = tt
+limited (l ∷ u) h = ((h.0.some_value, h.0.at_most), limited u h.1)
+
+pub sizes_of_universe : (u : List Label) → IsUniverse u → AreSizes (sizes u)
+sizes_of_universe u h = record {
+  labels = omega (arith, h.at_most, length-map u (λ (l : Label). length l.values));
+  values = limited u h.labels;
+}
+
+pub small_positions : (ns c : List ℕ) → AreLimited ns → admits ns c ≡ true → AreSmall c
+small_positions ns [] h a = tt
+small_positions [] (p ∷ c) h a = cc
+small_positions (n ∷ ns) (p ∷ c) h a =
+    let parts = and_parts (nat_lt p n) (admits ns c) a in
+    let below : p < n = grind (arith, nat_tests, parts.0) in
+    (omega (arith, below, h.0.1), small_positions ns c h.1 parts.1)
+
+-- ---- A choice of which the front is read.
+
+-- the position behind the front, which the next piece says
+pub record IsAtSeam (ns c front piece : List ℕ) : Type 0 where
+  pub position : ℕ
+  pub is : decimal position ≡ piece
+  pub label : length front < length ns
+  pub below : position < slice_index ns (length front)
+  pub limit : slice_index ns (length front) ≤ MAX_VALUES
+
+at_seam : (ns c front piece : List ℕ) (rest : List (List ℕ)) → AreLimited ns → admits ns c ≡ true
+    → map decimal c ≡ map decimal front ++ piece ∷ rest → IsAtSeam ns c front piece
+at_seam ns [] front piece rest h a e = absurd (omega (arith, ap length e, length-append (map decimal front) (piece ∷ rest)))
+at_seam [] (p ∷ c) front piece rest h a e = cc
+at_seam (n ∷ ns) (p ∷ c) [] piece rest h a e =
+    let parts = and_parts (nat_lt p n) (admits ns c) a in
+    record { position = p; is = ap (λ ts. get_or ts 0 []) e; label = omega arith; below = grind (arith, nat_tests, parts.0); limit = h.0.1 }
+at_seam (n ∷ ns) (p ∷ c) (q ∷ front) piece rest h a e =
+    let s = at_seam ns c front piece rest h.1 (and_parts (nat_lt p n) (admits ns c) a).1 (ap (drop 1) e) in
+    record { position = s.position; is = s.is; label = omega (arith, s.label); below = s.below; limit = s.limit }
+
+-- the pieces of a text are a choice's, where the text is
+pieces_are : (text c : List ℕ) → 0 < length text → AreSmall c → positions_text c ≡ text → pieces_of text ≡ map decimal c
+pieces_are text [] some small e = absurd (omega (arith, ap length e))
+pieces_are text (p ∷ ps) some small e = ap pieces_of (sym e) ∙ pieces_of_joined p ps small
+
+module _ {S : Type 0} (steps : S → Option (Bor (List ℕ)) → S → Type 0) where
+  -- the front is read, and s yields the pieces that are left
+  pub record IsReadSoFar (ns text front : List ℕ) (s : S) : Type 0 where
+    pub left : List (List ℕ)
+    pub all : pieces_of text ≡ map decimal front ++ left
+    pub yields : AlwaysYields steps (λ x. x.now) s left
+    pub admitted : admits ns front ≡ true
+
+  -- the piece at which s stands
+  pub record IsNext (text front piece : List ℕ) (t : S) : Type 0 where
+    pub rest : List (List ℕ)
+    pub all : pieces_of text ≡ map decimal front ++ (piece ∷ rest)
+    pub yields : AlwaysYields steps (λ x. x.now) t rest
+
+  pub next_piece : (ns text front : List ℕ) (s t : S) (part : Bor (List ℕ)) → IsReadSoFar ns text front s → steps s (Some part) t → IsNext text front part.now t
+  next_piece ns text front s t part h goes = by h.left h.all h.yields
+    where
+      by : (left : List (List ℕ)) → pieces_of text ≡ map decimal front ++ left → AlwaysYields steps (λ x. x.now) s left → IsNext text front part.now t
+      by [] all yields = absurd (yields part t goes)
+      by (piece ∷ rest) all yields =
+          let now = yields.1 part t goes in
+          record { rest = rest; all = all ∙ ap (λ x. map decimal front ++ (x ∷ rest)) (sym now.0); yields = now.1 }
+
+  -- no piece is left
+  pub all_read : (ns text front : List ℕ) (s t : S) → IsReadSoFar ns text front s → steps s None t → positions_text front ≡ text
+  all_read ns text front s t h goes = by h.left h.all h.yields
+    where
+      by : (left : List (List ℕ)) → pieces_of text ≡ map decimal front ++ left → AlwaysYields steps (λ x. x.now) s left → positions_text front ≡ text
+      by [] all yields = ap (join_with_byte 46) (sym (append-nil (map decimal front)) ∙ sym all) ∙ join_with_byte-slice_split 46 text
+      by (piece ∷ rest) all yields = absurd (yields.0 t goes)
+
+  pub piece_read : (ns text front piece : List ℕ) (s t : S) (p : ℕ) → (next : IsNext text front piece t) → IsReadSoFar ns text front s
+      → decimal p ≡ piece → length front < length ns → p < slice_index ns (length front) → IsReadSoFar ns text (front ++ (p ∷ [])) t
+  piece_read ns text front piece s t p next h is room below = record {
+    left = next.rest;
+    all = next.all ∙ ap (λ x. map decimal front ++ (x ∷ next.rest)) (sym is) ∙ sym (append_assoc (map decimal front) (decimal p ∷ []) next.rest) ∙ ap (λ ts. ts ++ next.rest) (sym (map-append decimal front (p ∷ [])));
+    yields = next.yields;
+    admitted = admits_next ns front p h.admitted room below;
+  }
+
+  -- each choice with the text has a position that the next piece says
+  pub seam : (ns text front piece c : List ℕ) (t : S) → AreLimited ns → 0 < length text → IsNext text front piece t
+      → admits ns c ≡ true → positions_text c ≡ text → IsAtSeam ns c front piece
+  seam ns text front piece c t h some next a e =
+      at_seam ns c front piece next.rest h a (sym (pieces_are text c some (small_positions ns c h a) e) ∙ next.all)
+
+-- ---- One start a token.
+
+pub same_start : (ns : List ℕ) (s t : Start) → AreSizes ns → IsStart ns s → IsStart ns t → token_text s ≡ token_text t → s ≡ t
+same_start ns (At c) (At d) h a b e = ap At (joined-injective c d (small_positions ns c h.values a) (small_positions ns d h.values b) (ap (drop 3) e))
+same_start ns (At c) (After d) h a b e = absurd (omega (arith, ap (λ t. get_or t 0 0) e))
+same_start ns (After c) (At d) h a b e = absurd (omega (arith, ap (λ t. get_or t 0 0) e))
+same_start ns (After c) (After d) h a b e = ap After (joined-injective c d (small_positions ns c h.values a.0) (small_positions ns d h.values b.0) (ap (drop 3) e))
+
+pub no_token : (ns text : List ℕ) → ((rest : List ℕ) → text ≡ codes "s1:" ++ rest → ⊥) → ((d : List ℕ) → IsWhole ns d → codes "t1:" ++ positions_text d ≡ text → ⊥)
+    → (start : Start) → IsStart ns start → token_text start ≡ text → ⊥
+no_token ns text s t (At prefix) is e = s (positions_text prefix) (sym e)
+no_token ns text s t (After d) is e = t d is e
+
+pub ok_or_gives : {E : Type 0} (N : Type 0) (Q : List ℕ → Type 0) (r : Option (List ℕ)) (k : E) (x : List ℕ) → MatchOption r N Q → ok_or r k ≡ Ok x → Q x
+ok_or_gives N Q None k x h e = cc
+ok_or_gives N Q (Some y) k x h e = let same : y ≡ x = cc in subst Q same h
+
+-- what `strip_prefix` says of a text that it has cut
+pub cut : (prefix text rest : List ℕ) → StripsPrefix (FindsTextPrefix prefix) text rest → text ≡ prefix ++ rest
+cut prefix text rest (n, found, is, fits) = found.1 ∙ ap (λ t. prefix ++ t) (sym is)

@@ -1,0 +1,94 @@
+-- The answers that are left at a choice, and what a judge says of it.
+use Rattle.std.proofs.Common.{◌≡◌, ◌≢◌, ℕ, ◌<◌, true, false, cond, Bool, List, [], ◌∷◌, length, Option, Some, None, IfSome, MatchOption, slice_get, ap, sym, subst, ◌∙◌, refl, inl, arith}
+use Rattle.std.specs.Prelude.{⊤, IsTrue}
+use Rattle.std.specs.List.{filter, find, AllByRecursion}
+use Rattle.std.specs.Iterator.{YieldsFirst, MakesProgress, item_count}
+use Rattle.am_universe.specs.Choice.{choices, IsWhole}
+use Rattle.am_universe.specs.Completions.{completions}
+use Rattle.am_universe.proofs.ListLemmas.{IsIn, IsIn-from_Contains}
+use Rattle.am_universe.proofs.ChoiceLemmas.{choices_whole, choices_sorted, whole_from_in}
+use Rattle.am_universe.proofs.CompletionLemmas.{completions_are_below, completions_of_whole}
+use Rattle.am_search.specs.declared.verdict.Verdict.{Verdict}
+use Rattle.am_search.specs.declared.verdict.Verdict.TheVariants.{Yes, No, Open}
+use Rattle.am_search.specs.declared.start.Start.{Start}
+use Rattle.am_search.specs.declared.start.Start.TheVariants.{At, After}
+use Rattle.am_search.specs.Judge.{IsJudge}
+use Rattle.am_search.specs.Start.{comes_before, first_of_start, at_or_after, choices_from}
+use Rattle.am_search.proofs.ChoiceOrder.{found_in, in_filter, filter_step, from_first, member_then_rest}
+
+-- ---- A start begins at a whole choice.
+
+got_in : (cs : List (List ℕ)) (c : List ℕ) → slice_get cs 0 ≡ Some c → IsIn cs c
+got_in [] c e = cc
+got_in (d ∷ cs) c e = inl cc
+
+found : (o : Option (List ℕ)) (cs : List (List ℕ)) (c : List ℕ) → IfSome o (λ f. IsIn cs f) → o ≡ Some c → IsIn cs c
+found None cs c h e = cc
+found (Some f) cs c h e = let same : f ≡ c = cc in subst (IsIn cs) same h
+
+pub first_is_whole : (ns : List ℕ) (start : Start) (c : List ℕ) → first_of_start ns start ≡ Some c → IsWhole ns c
+first_is_whole ns (At prefix) c e = whole_from_in ns c (in_filter _ (choices ns) c (got_in (completions ns prefix) c e)).0
+first_is_whole ns (After d) c e = whole_from_in ns c (found (find (comes_before d) (choices ns)) (choices ns) c (found_in (comes_before d) (choices ns)) e)
+
+-- ---- One choice, and then those that are left behind it.
+
+pub in_choices : (ns c : List ℕ) → IsWhole ns c → IsIn (choices ns) c
+in_choices ns c w = IsIn-from_Contains (choices ns) c ((choices_whole ns c).1 w)
+
+pub one_more : (ns c : List ℕ) → IsWhole ns c → at_or_after (Some c) (choices ns) ≡ c ∷ choices_from ns (After c)
+one_more ns c w = member_then_rest (choices ns) c (choices_sorted ns) (in_choices ns c w)
+
+pub left_at_true : (ns : List ℕ) (truth : List ℕ → Bool) (c : List ℕ) → IsWhole ns c → truth c ≡ true
+    → filter truth (at_or_after (Some c) (choices ns)) ≡ c ∷ filter truth (choices_from ns (After c))
+left_at_true ns truth c w h = ap (filter truth) (one_more ns c w) ∙ filter_step truth c (choices_from ns (After c)) true h
+
+pub left_at_false : (ns : List ℕ) (truth : List ℕ → Bool) (c : List ℕ) → IsWhole ns c → truth c ≡ false
+    → filter truth (at_or_after (Some c) (choices ns)) ≡ filter truth (choices_from ns (After c))
+left_at_false ns truth c w h = ap (filter truth) (one_more ns c w) ∙ filter_step truth c (choices_from ns (After c)) false h
+
+pub fewer_left : (ns c : List ℕ) → IsWhole ns c → length (choices_from ns (After c)) < length (at_or_after (Some c) (choices ns))
+fewer_left ns c w = omega (arith, ap length (one_more ns c w))
+
+-- ---- What a verdict at a whole choice says of it.
+
+module _ (ns : List ℕ) (truth : List ℕ → Bool) (verdict : List ℕ → Verdict) (law : IsJudge ns truth verdict) where
+  pub true_at : (c : List ℕ) → IsWhole ns c → verdict c ≡ Yes → truth c ≡ true
+  true_at c w h = (subst (AllByRecursion (λ d. IsTrue (truth d))) (completions_of_whole ns c w) (law.yes c w.0 h)).0
+
+  pub false_at : (c : List ℕ) → IsWhole ns c → verdict c ≢ Yes → truth c ≡ false
+  false_at c w other = by (verdict c) refl
+    where
+      by : (v : Verdict) → verdict c ≡ v → truth c ≡ false
+      by Yes e = absurd (other e)
+      by No e = (subst (AllByRecursion (λ d. truth d ≡ false)) (completions_of_whole ns c w) (law.no c w.0 e)).0
+      by Open e = absurd (law.whole c w e)
+
+-- ---- What `next` says.
+
+pub progress : {S A : Type 0} (rest : S → List A) (s : S) (r : Option A) (t : S) → YieldsFirst rest s r t → MakesProgress (λ _. ⊤) (item_count rest) s r t
+progress rest s None t h = record { on = λ f. tt; keeps = tt; rests = λ f. tt }
+progress rest s (Some x) t h = record { on = λ f. (tt, tt, omega (arith, ap length h)); keeps = tt; rests = λ f. tt }
+
+pub first_of_all : (ns : List ℕ) → choices_from ns (At []) ≡ choices ns
+first_of_all ns = ap (λ cs. at_or_after (slice_get cs 0) (choices ns)) (completions_are_below ns [] refl) ∙ by (choices ns) (choices_sorted ns)
+  where
+    by : (cs : List (List ℕ)) → Rattle.am_search.proofs.ChoiceOrder.Ascends cs → at_or_after (slice_get cs 0) cs ≡ cs
+    by [] s = refl
+    by (c ∷ cs) s = from_first c cs s
+
+found_first : (truth : List ℕ → Bool) (cs : List (List ℕ)) → find truth cs ≡ slice_get (filter truth cs) 0
+found_first truth [] = refl
+found_first truth (c ∷ cs) = by (truth c) (found_first truth cs)
+  where
+    by : (b : Bool) → find truth cs ≡ slice_get (filter truth cs) 0 → cond b (Some c) (find truth cs) ≡ slice_get (cond b (c ∷ filter truth cs) (filter truth cs)) 0
+    by true e = refl
+    by false e = e
+
+pub first_answer : (ns : List ℕ) (truth : List ℕ → Bool) (prefix : List ℕ) (left rest : List (List ℕ)) (r : Option (List ℕ)) → prefix ≡ [] → left ≡ filter truth (choices_from ns (At prefix))
+    → MatchOption r ((left ≡ []) × (rest ≡ [])) (λ x. left ≡ x ∷ rest) → r ≡ find truth (choices ns)
+first_answer ns truth prefix left rest r none are h =
+    got r h ∙ ap (λ cs. slice_get cs 0) (are ∙ ap (λ q. filter truth (choices_from ns (At q))) none ∙ ap (filter truth) (first_of_all ns)) ∙ sym (found_first truth (choices ns))
+  where
+    got : (o : Option (List ℕ)) → MatchOption o ((left ≡ []) × (rest ≡ [])) (λ x. left ≡ x ∷ rest) → o ≡ slice_get left 0
+    got None k = ap (λ cs. slice_get cs 0) (sym k.0)
+    got (Some x) k = ap (λ cs. slice_get cs 0) (sym k)

@@ -1,0 +1,28 @@
+-- Judges: what a search asks whether the completions of a prefix are true.
+use Rattle.std.specs.Prelude.{◌≡◌, ◌≢◌, ℕ, ◌<◌, ◌≤◌, List, length, Bool, false, IsTrue}
+use Rattle.std.specs.List.{AllByRecursion}
+use Rattle.am_universe.specs.declared.limits.TheConstants.{MAX_LABELS, MAX_VALUES}
+use Rattle.am_universe.specs.Words.{admits, IsWhole, completions}
+use Rattle.am_search.specs.declared.verdict.Verdict.{Verdict}
+use Rattle.am_search.specs.declared.verdict.Verdict.TheVariants.{Yes, No, Open}
+
+-- How many values each label has: at most `MAX_LABELS` labels, each with 1 to `MAX_VALUES`.
+pub record AreSizes (sizes : List ℕ) : Type 0 where
+  pub labels : length sizes ≤ MAX_LABELS
+  pub values : AllByRecursion (λ size. (0 < size) × (size ≤ MAX_VALUES)) sizes
+
+-- The laws of a judge, of the truth of whole choices and the verdict at each prefix: `Yes` means
+-- that every completion is true, `No` that none is, and a whole choice is never `Open`. `Open`
+-- says nothing, so a judge may answer it where it could know more.
+-- Source: own choice.
+-- Example: over the sizes 2 and 2, where 0 0 and 0 1 alone are true, the verdict at 0 may be `Yes`
+-- or `Open`, that at 1 `No` or `Open`, that at the empty prefix is `Open`, and that at 0 1 is
+-- `Yes`.
+pub record IsJudge (sizes : List ℕ) (truth : List ℕ → Bool) (verdict : List ℕ → Verdict)
+    : Type 0 where
+  pub limits : AreSizes sizes
+  pub yes : (prefix : List ℕ) → IsTrue (admits sizes prefix) → verdict prefix ≡ Yes
+      → AllByRecursion (λ c. IsTrue (truth c)) (completions sizes prefix)
+  pub no : (prefix : List ℕ) → IsTrue (admits sizes prefix) → verdict prefix ≡ No
+      → AllByRecursion (λ c. truth c ≡ false) (completions sizes prefix)
+  pub whole : (c : List ℕ) → IsWhole sizes c → verdict c ≢ Open

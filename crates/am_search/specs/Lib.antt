@@ -1,0 +1,6 @@
+pub mod Words
+pub mod Judge
+pub mod Start
+pub mod Page
+pub mod Token
+pub mod AnswersView

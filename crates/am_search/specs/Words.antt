@@ -1,0 +1,8 @@
+-- The words of clauses: what the contracts of this crate, and of those above it, cite.
+pub use Rattle.am_search.specs.Judge.{AreSizes, IsJudge}
+pub use Rattle.am_search.specs.Start.{comes_before, IsStart, first_of_start, choices_from}
+pub use Rattle.am_search.specs.Start.{answers_from}
+pub use Rattle.am_search.specs.Page.{Page, page_of, page_from, left_behind, IsPage, IsChain}
+pub use Rattle.am_search.specs.Page.{all_choices_of}
+pub use Rattle.am_search.specs.Token.{token_text}
+pub use Rattle.am_search.specs.AnswersView.{answers_left, answers_judge, answers_state}

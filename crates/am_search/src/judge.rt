@@ -1,0 +1,36 @@
+ghost use Rattle.std.specs.Prelude.{◌≡◌, ℕ, ◌<◌, List, Bool, length, slice_get, IsTrue, Some};
+ghost use Rattle.am_universe.specs.Words.{admits};
+ghost use Rattle.am_search.specs.declared.verdict.Verdict.{Verdict};
+ghost use Rattle.am_search.specs.Judge.{IsJudge};
+
+use crate::Verdict;
+use am_universe::Choice;
+
+/// What says which choices over some labels are true.
+pub trait Judge {
+    /// How many values each label has, in declared order.
+    ghost sizes: { Self → List ℕ };
+
+    /// Whether a whole choice is true.
+    ghost truth: { Self → List ℕ → Bool };
+
+    /// What `judge` answers at a prefix.
+    ghost verdict: { Self → List ℕ → Verdict };
+
+    /// How many labels there are, at most `MAX_LABELS`.
+    fn labels(&self) -> usize
+        ensures labels { result ≡ length (sizes self.now) };
+
+    /// How many values the label at `i` has, 1 to `MAX_VALUES`.
+    fn size(&self, i: usize) -> usize
+        requires { i < length (sizes self.now) }
+        ensures size { slice_get (sizes self.now) i ≡ Some result };
+
+    /// What is known of the completions of a prefix: `Yes`, all are true; `No`, none is. A whole
+    /// choice, which is its own one completion, is never `Open`.
+    fn judge(&self, prefix: &Choice) -> Verdict
+        requires { IsTrue (admits (sizes self.now) prefix.now) }
+        ensures verdict { result ≡ verdict self.now prefix.now };
+
+    ghost laws: { (judge : Self) → IsJudge (sizes judge) (truth judge) (verdict judge) };
+}

@@ -1,0 +1,91 @@
+//! Facts about the definitions alone: each is the contract of a function with an empty body.
+ghost use Rattle.std.specs.Prelude.{◌≡◌, ◌↔◌, ◌<◌, ◌≤◌, ℕ, List, [], ◌∷◌, ◌++◌, length, Bool, not};
+ghost use Rattle.std.specs.Prelude.{Some, None, IsTrue, Contains};
+ghost use Rattle.std.specs.Ordering.{nat_cmp};
+ghost use Rattle.std.specs.Cmp.Lexicographic.{slice_cmp};
+ghost use Rattle.std.specs.List.{filter};
+ghost use Rattle.std.specs.List.Sorted.{IsStrictlySortedBy};
+ghost use Rattle.am_universe.specs.Words.{Label, IsUniverse, sizes, admits, choices, IsWhole};
+ghost use Rattle.am_search.specs.declared.start.Start.{Start};
+ghost use Rattle.am_search.specs.declared.start.Start.TheVariants.{At, After};
+ghost use Rattle.am_search.specs.declared.trailer.Trailer.TheVariants.{Next};
+ghost use Rattle.am_search.specs.Words.{AreSizes, comes_before, IsStart, first_of_start};
+ghost use Rattle.am_search.specs.Words.{choices_from, answers_from, Page, page_from, left_behind};
+ghost use Rattle.am_search.specs.Words.{IsPage, IsChain, all_choices_of, token_text};
+
+/// The sizes of a universe are such as a judge may have.
+pub fn sizes_of_a_universe()
+    ensures sizes { (u : List Label) → IsUniverse u → AreSizes (sizes u) }
+{}
+
+/// At a prefix begin the choices that do not stand before it in the order of a dictionary. There is
+/// at least one.
+pub fn choices_at_a_prefix()
+    ensures choices { (ns prefix : List ℕ) → AreSizes ns → IsTrue (admits ns prefix)
+        → choices_from ns (At prefix) ≡ filter (λ c. not (comes_before c prefix)) (choices ns) }
+    ensures some { (ns prefix : List ℕ) → AreSizes ns → IsTrue (admits ns prefix)
+        → 0 < length (choices_from ns (At prefix)) }
+{}
+
+/// At the empty prefix begin all choices.
+pub fn choices_from_the_first_on()
+    ensures all { (ns : List ℕ) → choices_from ns (At []) ≡ choices ns }
+{}
+
+/// After a choice come those that it stands before in the order of a dictionary.
+pub fn choices_after_a_choice()
+    ensures choices { (ns c : List ℕ)
+        → choices_from ns (After c) ≡ filter (comes_before c) (choices ns) }
+{}
+
+/// A start begins at a whole choice, where it begins at all, and goes on with those after that one.
+pub fn a_start_begins_with_its_first_choice()
+    ensures none { (ns : List ℕ) (start : Start) → first_of_start ns start ≡ None
+        → choices_from ns start ≡ [] }
+    ensures first { (ns c : List ℕ) (start : Start) → first_of_start ns start ≡ Some c
+        → IsWhole ns c × (choices_from ns start ≡ c ∷ choices_from ns (After c)) }
+{}
+
+/// The answers from a start on are the true choices among those from there on, and no others.
+pub fn answers_are_the_true_choices()
+    ensures exactly { (ns c : List ℕ) (truth : List ℕ → Bool) (start : Start)
+        → Contains (answers_from ns truth start) c
+        ↔ (Contains (choices_from ns start) c × IsTrue (truth c)) }
+{}
+
+/// Each answer comes before those after it in the order of a dictionary, so none stands twice.
+pub fn answers_ascend()
+    ensures ascending { (ns : List ℕ) (truth : List ℕ → Bool) (start : Start)
+        → IsStrictlySortedBy (slice_cmp nat_cmp) (answers_from ns truth start) }
+{}
+
+/// A page has no more choices than its limit.
+pub fn a_page_keeps_its_limit()
+    ensures within { (ns : List ℕ) (truth : List ℕ → Bool) (start : Start) (n : ℕ)
+        → length (page_from ns truth start (Some n)).choices ≤ n }
+{}
+
+/// The answers from the start of a page on are its choices, and then those that its trailer leaves:
+/// those from the trailer's start on, or none.
+pub fn a_page_and_its_rest_are_the_answers()
+    ensures rest { (ns : List ℕ) (truth : List ℕ → Bool) (start : Start) (page : Page)
+        → IsPage ns truth start page
+        → answers_from ns truth start ≡ page.choices ++ left_behind ns truth page.trailer }
+    ensures start { (ns c : List ℕ) (truth : List ℕ → Bool) (start : Start) (page : Page)
+        → IsPage ns truth start page → page.trailer ≡ Next c → IsStart ns (After c) }
+    ensures more { (ns c : List ℕ) (truth : List ℕ → Bool) (start : Start) (page : Page)
+        → IsPage ns truth start page → page.trailer ≡ Next c
+        → 0 < length (answers_from ns truth (After c)) }
+{}
+
+/// The choices of pages in a row, joined, are the answers from the first page's start on.
+pub fn pages_in_a_row_are_the_answers()
+    ensures joined { (ns : List ℕ) (truth : List ℕ → Bool) (start : Start) (pages : List Page)
+        → IsChain ns truth start pages → all_choices_of pages ≡ answers_from ns truth start }
+{}
+
+/// Two different starts over the same sizes have different tokens.
+pub fn one_start_a_token()
+    ensures same_start { (ns : List ℕ) (s t : Start) → AreSizes ns → IsStart ns s → IsStart ns t
+        → token_text s ≡ token_text t → s ≡ t }
+{}

@@ -1,0 +1,34 @@
+//! The search: which choices of a universe are answers, from a start on, page by page.
+//!
+//! A [`Judge`] says of each whole choice whether it is true, and of each prefix what is known of
+//! its completions. [`Answers`] are the true choices from a [`Start`] on, in declared order, and
+//! [`first`] is the first of all. A start is written as a token, by which a page says where the
+//! next one begins: [`write_token`] and [`parse_token`].
+#![tactic(auto)]
+
+// What a search asks.
+mod judge;
+mod verdict;
+
+pub use judge::Judge;
+pub use verdict::Verdict;
+
+// Where answers begin, and how a page ends.
+mod start;
+mod trailer;
+
+pub use start::Start;
+pub use trailer::Trailer;
+
+// The answers from a start on.
+mod answers;
+
+pub use answers::{Answers, State, first};
+
+// Starts as texts.
+mod token;
+
+pub use token::{parse_token, write_token};
+
+// What holds of the definitions by themselves.
+pub mod laws;

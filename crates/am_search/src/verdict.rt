@@ -1,0 +1,10 @@
+/// What a judge knows of the completions of a prefix.
+#[derive(Clone, Copy, Debug, PartialEq, Eq)]
+pub enum Verdict {
+    /// Every completion is true.
+    Yes,
+    /// No completion is true.
+    No,
+    /// Completions have to be looked at.
+    Open,
+}
