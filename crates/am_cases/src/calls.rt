@@ -3,16 +3,18 @@
 ghost use Rattle.std.specs.Prelude.{◌≡◌, Some, IfSome, length, slice_get};
 ghost use Rattle.am_universe.specs.Universe.{sizes};
 
+use crate::alerts::of_alerts;
 use crate::lines::{split_at_first, split_at_last, utf8};
 use crate::problem::Problem;
-use crate::silences::{of_instant, of_silenced, of_silences};
+use crate::silences::{of_instant, of_silences};
 use crate::trees::config_text;
+use crate::worlds::{of_explain, of_inhibited, of_pairs, of_silenced};
 use am_commands::{Files, ask, status, write_fault};
 use am_eval::{ends, receivers_of};
 use am_files::{Config, Path, read_config, read_universe};
 use am_labels::{
-    Fault, Kind, Matcher, Matchers, Op, Out, Place, Row, Universe, parse_matchers, parse_set,
-    put_str, write_map, write_text,
+    Fault, Kind, LabelSet, Matcher, Matchers, Op, Out, Place, Row, Universe, parse_matchers,
+    parse_set, put_str, write_map, write_text,
 };
 use std::alloc::Global;
 
@@ -22,8 +24,11 @@ pub enum Call {
     Universe,
     Config,
     Silences,
+    Alerts,
     Instant,
     Silenced,
+    Pairs,
+    Inhibited,
     Matchers,
     Set,
     Pattern,
@@ -31,6 +36,7 @@ pub enum Call {
     Row,
     Ends,
     Ask,
+    Explain,
     Fault,
 }
 
@@ -40,6 +46,10 @@ pub struct Over<'a> {
     pub universe: &'a [u8],
     /// The file that it is with, if there is one: a configuration, or of `silenced` silences.
     pub with: Option<&'a [u8]>,
+    /// The silences beside a configuration, if there are any.
+    pub silences: Option<&'a [u8]>,
+    /// The alerts beside a configuration, if there are any.
+    pub alerts: Option<&'a [u8]>,
 }
 
 impl<'a> Over<'a> {
@@ -48,15 +58,18 @@ impl<'a> Over<'a> {
         Over {
             universe,
             with: None,
+            silences: None,
+            alerts: None,
         }
     }
 
-    /// The files that `ask` takes behind the universe.
-    pub fn files(&self) -> Files<'a> {
+    /// The files that a command takes beside the universe, and this instant.
+    pub fn files(&self, at: Option<&'a str>) -> Files<'a> {
         Files {
             config: self.with,
-            silences: None,
-            at: None,
+            silences: self.silences,
+            alerts: self.alerts,
+            at,
         }
     }
 }
@@ -67,8 +80,11 @@ pub fn call_named(name: &[u8]) -> Option<Call> {
         b"universe" => Some(Call::Universe),
         b"config" => Some(Call::Config),
         b"silences" => Some(Call::Silences),
+        b"alerts" => Some(Call::Alerts),
         b"instant" => Some(Call::Instant),
         b"silenced" => Some(Call::Silenced),
+        b"pairs" => Some(Call::Pairs),
+        b"inhibited" => Some(Call::Inhibited),
         b"matchers" => Some(Call::Matchers),
         b"set" => Some(Call::Set),
         b"pattern" => Some(Call::Pattern),
@@ -76,6 +92,7 @@ pub fn call_named(name: &[u8]) -> Option<Call> {
         b"row" => Some(Call::Row),
         b"ends" => Some(Call::Ends),
         b"ask" => Some(Call::Ask),
+        b"explain" => Some(Call::Explain),
         b"fault" => Some(Call::Fault),
         _ => None,
     }
@@ -94,8 +111,11 @@ pub fn given(
         Call::Universe => of_universe(alloc, text, brief),
         Call::Config => of_config(alloc, text, brief),
         Call::Silences => of_silences(alloc, text, brief),
+        Call::Alerts => of_alerts(alloc, text, brief),
         Call::Instant => of_instant(alloc, utf8(alloc, text)?),
         Call::Silenced => of_silenced(alloc, over.with.unwrap_or(b""), text),
+        Call::Pairs => of_pairs(alloc, over.with, text, brief),
+        Call::Inhibited => of_inhibited(alloc, &over.files(None), utf8(alloc, text)?),
         Call::Matchers => of_matchers(alloc, utf8(alloc, text)?),
         Call::Set => of_set(alloc, utf8(alloc, text)?),
         Call::Pattern => of_pattern(alloc, utf8(alloc, text)?),
@@ -103,6 +123,7 @@ pub fn given(
         Call::Row => of_row(alloc, over.universe, utf8(alloc, text)?),
         Call::Ends => of_ends(alloc, over.with.unwrap_or(b""), utf8(alloc, text)?),
         Call::Ask => of_ask(alloc, over, utf8(alloc, text)?),
+        Call::Explain => of_explain(alloc, over, text),
         Call::Fault => of_fault(alloc, text),
     }
 }
@@ -210,14 +231,17 @@ fn operator_text(op: Op) -> &'static str {
 
 fn of_set(alloc: Global, text: &str) -> Result<Vec<u8>, Problem> {
     match parse_set(alloc, text) {
-        Ok(set) => {
-            let mut out = Out::new(told(alloc, "ok: ")?);
-            match write_map(&set, &mut out) {
-                Ok(()) => Ok(out.into_inner()),
-                Err(_) => Err(Problem::Memory),
-            }
-        }
+        Ok(set) => set_behind(alloc, "ok: ", &set),
         Err(kind) => refused(alloc, kind),
+    }
+}
+
+/// A label set, behind these words.
+pub fn set_behind(alloc: Global, before: &str, set: &LabelSet) -> Result<Vec<u8>, Problem> {
+    let mut out = Out::new(told(alloc, before)?);
+    match write_map(set, &mut out) {
+        Ok(()) => Ok(out.into_inner()),
+        Err(_) => Err(Problem::Memory),
     }
 }
 
@@ -329,7 +353,7 @@ fn add_receivers(config: &Config, receivers: &[usize], text: &mut Vec<u8>) -> Re
 /// The page of a question, its lines with a blank between, or the fault.
 fn of_ask(alloc: Global, over: Over<'_>, question: &str) -> Result<Vec<u8>, Problem> {
     let mut out = Out::new(told(alloc, "ok: ")?);
-    match ask(alloc, over.universe, &over.files(), question, &mut out) {
+    match ask(alloc, over.universe, &over.files(None), question, &mut out) {
         Ok(_) => Ok(on_one_line(out.into_inner())),
         Err(fault) if fault.kind == Kind::Write => Err(Problem::Memory),
         Err(fault) => fault_behind(alloc, b"", &fault),
@@ -337,7 +361,7 @@ fn of_ask(alloc: Global, over: Over<'_>, question: &str) -> Result<Vec<u8>, Prob
 }
 
 /// Lines with a blank in place of each line feed, and none at the end.
-fn on_one_line(mut lines: Vec<u8>) -> Vec<u8> {
+pub fn on_one_line(mut lines: Vec<u8>) -> Vec<u8> {
     let _ = lines.pop();
     for byte in lines.iter_mut() {
         if *byte == b'\n' {

@@ -16,6 +16,7 @@ mod words;
 mod shelf;
 mod writer;
 // What is run.
+mod alerts;
 mod calls;
 mod commands;
 mod script;
@@ -23,6 +24,7 @@ mod silences;
 mod tables;
 mod tally;
 mod trees;
+mod worlds;
 
 use crate::problem::Problem;
 use crate::script::{count_texts, run_file};

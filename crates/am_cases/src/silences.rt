@@ -1,12 +1,8 @@
 //! Silences and instants: what the calls of the libraries give at a text, as a text.
 
 use crate::calls::{add_matchers, fault_behind, refused, told};
-use crate::lines::{split_at_last, utf8};
 use crate::problem::Problem;
-use am_commands::Files;
-use am_eval::{World, silenced_by};
-use am_files::{Silence, Silences, parse_instant, read_config, read_silences};
-use am_labels::{Fault, LabelSet, Place, parse_set};
+use am_files::{Silence, Silences, parse_instant, read_silences};
 use std::alloc::Global;
 
 /// The silences of an export, or its fault.
@@ -49,55 +45,4 @@ pub fn of_instant(alloc: Global, text: &str) -> Result<Vec<u8>, Problem> {
         }
         Err(kind) => refused(alloc, kind),
     }
-}
-
-/// Which silences of an export are active, and which of them hide a label set.
-pub fn of_silenced(alloc: Global, file: &[u8], text: &[u8]) -> Result<Vec<u8>, Problem> {
-    let (set, at) = match split_at_last(text, b" at ") {
-        Some((set, at)) => (set, Some(utf8(alloc, at)?)),
-        None => (text, None),
-    };
-    let world = match world_of(alloc, file, at) {
-        Ok(world) => world,
-        Err(fault) => return fault_behind(alloc, b"", &fault),
-    };
-    match parse_set(alloc, utf8(alloc, set)?) {
-        Ok(set) => silenced_text(alloc, &world, &set),
-        Err(kind) => refused(alloc, kind),
-    }
-}
-
-/// The world of these silences and of no configuration.
-fn world_of(alloc: Global, file: &[u8], at: Option<&str>) -> Result<World, Fault> {
-    let none = Files {
-        config: None,
-        silences: None,
-        at: None,
-    };
-    let config = read_config(alloc, none.config())?;
-    let silences = read_silences(alloc, file)?;
-    let instant = match at {
-        Some(at) => match parse_instant(alloc, at) {
-            Ok(instant) => Some(instant),
-            Err(kind) => return Err(Fault::of(alloc, kind, Place::Instant)),
-        },
-        None => None,
-    };
-    Ok(World::new(config, silences, instant))
-}
-
-fn silenced_text(alloc: Global, world: &World, set: &LabelSet) -> Result<Vec<u8>, Problem> {
-    let mut text = String::from_str(alloc, "ok:")?;
-    for i in 0..world.silences().len() {
-        if world.active(i) {
-            let active = format!(in alloc; " {i}")?;
-            text.push_str(active.as_str())?;
-        }
-    }
-    text.push(';')?;
-    for i in &silenced_by(alloc, world, set)? {
-        let hides = format!(in alloc; " {i}")?;
-        text.push_str(hides.as_str())?;
-    }
-    Ok(text.into_bytes())
 }

@@ -5,8 +5,9 @@ use crate::inserts::{Named, filled};
 use crate::lines::{Line, split_at_first, split_at_last, utf8};
 use crate::problem::Problem;
 use crate::tally::Tally;
+use crate::worlds::set_and_instant;
 use crate::writer::{Manner, Stop, Writer};
-use am_commands::{ask, status};
+use am_commands::{ask, explain, status};
 use am_labels::{Fault, Kind, Out, Place};
 use std::alloc::Global;
 
@@ -22,6 +23,9 @@ pub struct Heading {
     universe: Vec<u8>,
     /// The file that it is with, if there is one.
     with: Option<Vec<u8>>,
+    /// The silences and the alerts beside that, if there are any.
+    silences: Option<Vec<u8>>,
+    alerts: Option<Vec<u8>>,
     /// The pointer of the text.
     at: Vec<u8>,
 }
@@ -32,6 +36,8 @@ impl Heading {
         Over {
             universe: self.universe.as_slice(),
             with: self.with.as_ref().map(|bytes| bytes.as_slice()),
+            silences: self.silences.as_ref().map(|bytes| bytes.as_slice()),
+            alerts: self.alerts.as_ref().map(|bytes| bytes.as_slice()),
         }
     }
 }
@@ -97,10 +103,9 @@ pub fn read_heading(
         Some((rest, at)) => (rest, at),
         None => (rest, b"".as_slice()),
     };
-    let (rest, with) = match cut_behind(rest, b"with ", b" with ") {
-        Some((rest, with)) => (rest, Some(filled(alloc, texts, with)?)),
-        None => (rest, None),
-    };
+    let (rest, alerts) = cut_file(alloc, texts, rest, split_at_last(rest, b" and alerts "))?;
+    let (rest, silences) = cut_file(alloc, texts, rest, split_at_last(rest, b" and silences "))?;
+    let (rest, with) = cut_file(alloc, texts, rest, cut_behind(rest, b"with ", b" with "))?;
     let (template, universe) = match cut_behind(rest, b"over ", b" over ") {
         Some((template, universe)) => (template, universe),
         None => (rest, b"".as_slice()),
@@ -110,8 +115,23 @@ pub fn read_heading(
         round: round_the_text(alloc, texts, template)?,
         universe: filled(alloc, texts, universe)?,
         with,
+        silences,
+        alerts,
         at: filled(alloc, texts, at)?,
     }))
+}
+
+/// What stands before a word, and the file that stands behind it, where a line has the word.
+fn cut_file<'a>(
+    alloc: Global,
+    texts: &[Named],
+    line: &'a [u8],
+    cut: Option<(&'a [u8], &'a [u8])>,
+) -> Result<(&'a [u8], Option<Vec<u8>>), Problem> {
+    match cut {
+        Some((before, file)) => Ok((before, Some(filled(alloc, texts, file)?))),
+        None => Ok((line, None)),
+    }
 }
 
 /// The parts of a template, cut at each `%`; a line without a template has the text alone.
@@ -305,18 +325,14 @@ fn seen_from(alloc: Global, at: &[u8], wanted: &[u8]) -> Result<Vec<u8>, Problem
 /// Whether a page comes whole over a writer that takes a byte a call, and in part over those that
 /// stop.
 fn check_writers(alloc: Global, heading: &Heading, one: &Wanted) -> Result<(), Problem> {
-    if heading.call != Call::Ask {
-        return Err(Problem::said(alloc, "this table writes to no writer"));
-    }
-    let whole = placed(alloc, heading, one.text.as_slice())?;
-    let question = utf8(alloc, whole.as_slice())?;
-    let over = heading.over();
-    let page = ask_over(alloc, over, question, Manner::WHOLE)?;
+    let text = placed(alloc, heading, one.text.as_slice())?;
+    let text = text.as_slice();
+    let page = written(alloc, heading, text, Manner::WHOLE)?;
     let whole = page.writer.taken.as_slice();
-    let slow = ask_over(
+    let slow = written(
         alloc,
-        over,
-        question,
+        heading,
+        text,
         Manner {
             step: 1,
             ..Manner::WHOLE
@@ -328,7 +344,7 @@ fn check_writers(alloc: Global, heading: &Heading, one: &Wanted) -> Result<(), P
     }
     for call in 1..page.writer.calls.saturating_add(1) {
         for how in [Stop::Fails, Stop::TakesNothing] {
-            let stopped = ask_over(alloc, over, question, Manner::WHOLE.stopped(call, how))?;
+            let stopped = written(alloc, heading, text, Manner::WHOLE.stopped(call, how))?;
             if !is_cut_short(&stopped, call, whole) {
                 let found = stopped.writer.taken.as_slice();
                 return Err(Problem::differs(alloc, "stopped", whole, found));
@@ -340,7 +356,7 @@ fn check_writers(alloc: Global, heading: &Heading, one: &Wanted) -> Result<(), P
 
 /// Whether the call was the last, a part of the page went out, and the failed write is what is
 /// answered.
-fn is_cut_short(stopped: &Asked, call: usize, page: &[u8]) -> bool {
+fn is_cut_short(stopped: &Outcome, call: usize, page: &[u8]) -> bool {
     match &stopped.fault {
         Some(fault) => {
             fault.kind == Kind::Write
@@ -355,24 +371,45 @@ fn is_cut_short(stopped: &Asked, call: usize, page: &[u8]) -> bool {
 
 /// A writer after a page was written to it, and what was answered.
 #[derive(Drop)]
-struct Asked {
+struct Outcome {
     writer: Writer,
     fault: Option<Fault>,
 }
 
 /// A writer of this manner after a page was written to it, and what was answered.
-fn ask_over(
+fn written(
     alloc: Global,
-    over: Over<'_>,
-    question: &str,
+    heading: &Heading,
+    text: &[u8],
     manner: Manner,
-) -> Result<Asked, Problem> {
+) -> Result<Outcome, Problem> {
     let mut out = Out::new(Writer::new(alloc, manner));
-    let fault = ask(alloc, over.universe, &over.files(), question, &mut out).err();
+    let fault = fault_over(alloc, heading, text, &mut out)?;
     let writer = out.into_inner();
     match &fault {
         Some(fault) if fault.kind == Kind::Memory => Err(Problem::Memory),
         _ if writer.starved => Err(Problem::Memory),
-        _ => Ok(Asked { writer, fault }),
+        _ => Ok(Outcome { writer, fault }),
+    }
+}
+
+/// The fault of a call that writes its page here, if it answers one.
+fn fault_over(
+    alloc: Global,
+    heading: &Heading,
+    text: &[u8],
+    out: &mut Out<Writer>,
+) -> Result<Option<Fault>, Problem> {
+    let over = heading.over();
+    match heading.call {
+        Call::Ask => {
+            let question = utf8(alloc, text)?;
+            Ok(ask(alloc, over.universe, &over.files(None), question, out).err())
+        }
+        Call::Explain => {
+            let (set, at) = set_and_instant(alloc, text)?;
+            Ok(explain(alloc, &over.files(at), set, out).err())
+        }
+        _ => Err(Problem::said(alloc, "this table writes to no writer")),
     }
 }

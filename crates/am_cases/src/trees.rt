@@ -2,7 +2,8 @@
 
 use crate::calls::add_matchers;
 use crate::problem::Problem;
-use am_files::{Config, Route};
+use am_files::{Config, Route, Rule};
+use am_labels::{Out, write_text};
 use std::alloc::{AllocError, Global};
 
 /// A route that is still to be written, and its path.
@@ -15,13 +16,21 @@ struct Pending<'c> {
 /// More routes than a configuration can have.
 const MOST_ROUTES: usize = 1025;
 
-/// The receivers and the routes of a configuration, in preorder.
+/// The receivers, the routes in preorder, and the inhibition rules of a configuration.
 pub fn config_text(alloc: Global, config: &Config) -> Result<Vec<u8>, Problem> {
     let mut text = Vec::from_slice(alloc, b"ok: receivers")?;
     for i in 0..config.receivers() {
         text.push(b' ')?;
         text.extend_from_slice(config.receiver_name(i).as_bytes())?;
     }
+    add_routes(alloc, config, &mut text)?;
+    for rule in config.rules() {
+        add_rule(alloc, rule, &mut text)?;
+    }
+    Ok(text)
+}
+
+fn add_routes(alloc: Global, config: &Config, text: &mut Vec<u8>) -> Result<(), Problem> {
     let mut pending = Vec::new(alloc);
     pending.push(Pending {
         path: String::from_str(alloc, "/")?,
@@ -30,10 +39,10 @@ pub fn config_text(alloc: Global, config: &Config) -> Result<Vec<u8>, Problem> {
     for _ in 0..MOST_ROUTES {
         match pending.pop() {
             Some(next) => {
-                add_route(alloc, config, &next, &mut text)?;
+                add_route(alloc, config, &next, text)?;
                 add_children(alloc, &next, &mut pending)?;
             }
-            None => return Ok(text),
+            None => return Ok(()),
         }
     }
     Err(Problem::said(alloc, "more routes than there may be"))
@@ -79,4 +88,26 @@ fn add_route(
     }
     text.push(b' ')?;
     add_matchers(alloc, next.route.matchers(), text)
+}
+
+/// Adds the two sides of a rule, and the names of the labels that have to be equal, in quotes.
+fn add_rule(alloc: Global, rule: &Rule, text: &mut Vec<u8>) -> Result<(), Problem> {
+    text.extend_from_slice(b"; rule ")?;
+    add_matchers(alloc, rule.source(), text)?;
+    text.push(b' ')?;
+    add_matchers(alloc, rule.target(), text)?;
+    for name in rule.equal() {
+        let name = quoted(alloc, name.as_str())?;
+        text.push(b' ')?;
+        text.extend_from_slice(name.as_slice())?;
+    }
+    Ok(())
+}
+
+fn quoted(alloc: Global, name: &str) -> Result<Vec<u8>, Problem> {
+    let mut out = Out::new(Vec::new(alloc));
+    match write_text(&mut out, name) {
+        Ok(()) => Ok(out.into_inner()),
+        Err(_) => Err(Problem::Memory),
+    }
 }
