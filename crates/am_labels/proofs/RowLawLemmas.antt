@@ -1,8 +1,8 @@
 -- What a row says of the label set of a choice.
-use Rattle.std.proofs.Common.{◌≡◌, ℕ, zero, suc, ◌+◌, ◌<◌, Bool, false, ◌&&◌, List, [], ◌∷◌, length, map, get_or, Option, Some, None, option_map, unwrap_or, slice_get, slice_index, ap, sym, ◌∙◌, refl, inl, inr, arith}
+use Rattle.std.proofs.Common.{◌≡◌, ℕ, zero, suc, ◌+◌, ◌<◌, Bool, true, false, ◌&&◌, List, [], ◌∷◌, length, map, get_or, Option, Some, None, option_map, unwrap_or, slice_get, slice_index, ap, sym, ◌∙◌, refl, inl, inr, arith}
 use Rattle.std.specs.Cmp.Lexicographic.{bytes_decides}
 use Rattle.std.specs.List.{position, position_from}
-use Rattle.std.proofs.lemmas.Bool.{cases_Bool, false≢true}
+use Rattle.std.proofs.lemmas.Bool.{cases_Bool, false≢true, lt-ltb}
 use Rattle.std.proofs.lemmas.List.{length-map, get_or-map}
 use Rattle.std.proofs.lemmas.List.Quantifiers.{position-Some}
 use Rattle.std.proofs.lemmas.Iterator.Adapters.{position_from-zero}
@@ -12,7 +12,7 @@ use Rattle.am_universe.specs.Universe.{Label, IsUniverse, sizes, values_at, labe
 use Rattle.am_universe.specs.Choice.{IsWhole}
 use Rattle.am_universe.specs.LabelSet.{value_of, label_set_of}
 use Rattle.am_labels.specs.Matcher.{Condition, holds, condition_holds, all_hold}
-use Rattle.am_labels.specs.Row.{truth_on_value, truths_of, truth_among, row_of, row_holds, rows_hold}
+use Rattle.am_labels.specs.Row.{is_reached, truth_on_value, truths_of, truth_among, row_of, row_holds, rows_hold}
 use Rattle.am_universe.proofs.LabelValueLemmas.{value_in}
 use Rattle.am_universe.proofs.LabelSetLemmas.{value_of_declared, value_of_undeclared}
 use Rattle.am_universe.proofs.UniverseLemmas.{no_label}
@@ -60,8 +60,19 @@ by_label : (u : List Label) (c : List ℕ) (m : Condition) (o : Option ℕ) → 
 by_label u c m None h whole e = undeclared u c m e
 by_label u c m (Some i) h whole e = declared u c m i h whole e
 
+-- a whole choice has a position for a declared label
+is_reached_by : (u : List Label) (c : List ℕ) (m : Condition) (o : Option ℕ) → IsWhole (sizes u) c → label_position u m.name ≡ o
+    → is_reached o (length c) ≡ true
+is_reached_by u c m None whole e = refl
+is_reached_by u c m (Some i) whole e =
+    let found = position-Some (λ l. same_text l.name m.name) u i no_label e in
+    lt-ltb i (length c) (omega (arith, found.0, whole.1, length-map u (λ (l : Label). length l.values)))
+
 pub row_decides : (u : List Label) (c : List ℕ) (m : Condition) → IsUniverse u → IsWhole (sizes u) c → condition_holds (label_set_of u c) m ≡ row_holds (row_of u m) c
-row_decides u c m h whole = by_label u c m (label_position u m.name) h whole refl
+row_decides u c m h whole =
+    let o = label_position u m.name in
+    let reached : is_reached o (length c) ≡ true = is_reached_by u c m o whole refl in
+    by_label u c m o h whole refl ∙ sym (ap (λ b. b && truth_among o (truths_of u m o) (slice_index c (unwrap_or o 0))) reached)
 
 pub rows_decide : (u : List Label) (c : List ℕ) (ms : List Condition) → IsUniverse u → IsWhole (sizes u) c → all_hold (label_set_of u c) ms ≡ rows_hold u ms c
 rows_decide u c [] h whole = refl

@@ -1,6 +1,6 @@
 -- Rows: a matcher's truth on each value of its label.
-use Rattle.std.specs.Prelude.{ℕ, List, [], ◌∷◌, map, Bool, false, slice_index, slice_index_or}
-use Rattle.std.specs.Prelude.{Option, Some, None, unwrap_or}
+use Rattle.std.specs.Prelude.{ℕ, List, [], ◌∷◌, length, map, slice_index, slice_index_or, nat_lt}
+use Rattle.std.specs.Prelude.{Bool, true, false, ◌&&◌, Option, Some, None, unwrap_or}
 use Rattle.std.specs.List.{list_all}
 use Rattle.am_universe.specs.Universe.{Label, values_at, label_position}
 use Rattle.am_labels.specs.Matcher.{Condition, holds}
@@ -35,9 +35,16 @@ truth_among (Some i) truths j = slice_index_or truths j false
 abbrev pub truth_at : TruthRow → ℕ → Bool
 truth_at row j = truth_among row.label row.truths j
 
--- The truth of a row at a choice; and that of the rows of a list of matchers: each of them is true.
+-- A choice of so many positions has one for a label; for one that is not declared none is needed.
+abbrev pub is_reached : Option ℕ → ℕ → Bool
+is_reached None n = true
+is_reached (Some i) n = nat_lt i n
+
+-- The truth of a row at a choice, false at one with no position for its label; and that of the rows
+-- of a list of matchers: each of them is true.
 abbrev pub row_holds : TruthRow → List ℕ → Bool
-row_holds row c = truth_at row (slice_index c (unwrap_or row.label 0))
+row_holds row c =
+    is_reached row.label (length c) && truth_at row (slice_index c (unwrap_or row.label 0))
 
 abbrev pub rows_hold : List Label → List Condition → List ℕ → Bool
 rows_hold u ms c = list_all (λ m. row_holds (row_of u m) c) ms

@@ -1,9 +1,11 @@
 ghost use Rattle.std.specs.Prelude.{◌≡◌, ◌<◌, [], ◌∷◌, length, map, Some, IfOk, IfSome, slice_get};
-ghost use Rattle.am_labels.specs.Words.{sizes, values_at, row_of, truth_at, truth_on_value};
+ghost use Rattle.am_labels.specs.Words.{sizes, values_at, row_of, truth_at, row_holds};
+ghost use Rattle.am_labels.specs.Words.{truth_on_value};
+ghost use Rattle.am_labels.specs.declared.op.Op.TheVariants.{Equal};
 
 use crate::Matcher;
 use crate::matcher::PreparedMatcher;
-use am_universe::Universe;
+use am_universe::{Choice, Universe};
 use std::alloc::{AllocError, Global};
 use std::marker::Model;
 
@@ -43,6 +45,40 @@ impl Row {
             Some(_) => self.truths[j],
             None => self.truths[0],
         }
+    }
+
+    /// Whether the matcher is true on the value that a choice gives to its label. A choice that has
+    /// no position for the label, or one that the label does not have, makes it false. Where the
+    /// label is not declared, the answer is the same for every choice.
+    pub fn holds_at(&self, choice: &Choice) -> bool
+        ensures truth { result ≡ row_holds self.now choice.now }
+    {
+        let Some(i) = self.label else {
+            return self.truths[0];
+        };
+        if i >= choice.len() {
+            return false;
+        }
+        let j = usize::from(choice.get(i));
+        j < self.truths.len() && self.truths[j]
+    }
+
+    /// The row of the matcher `name="value"`, for any name and any value. No matcher is made.
+    pub fn of_value(
+        alloc: Global,
+        universe: &Universe,
+        name: &str,
+        value: &str,
+    ) -> Result<Row, AllocError>
+        ensures row { IfOk result (λ row. row ≡ row_of universe.now
+            (record { name = name.now; op = Equal; value = value.now })) }
+    {
+        let label = universe.position(name);
+        let truths = match label {
+            Some(i) => declared_equalities(alloc, universe, i, value)?,
+            None => undeclared_equality(alloc, value)?,
+        };
+        Ok(Row { label, truths })
     }
 }
 
@@ -95,5 +131,36 @@ fn undeclared_truths(
 {
     let mut truths = Vec::with_capacity(alloc, 1)?;
     truths.push(prepared.holds(""))?;
+    Ok(truths)
+}
+
+/// Whether a text is each value of a label.
+fn declared_equalities(
+    alloc: Global,
+    universe: &Universe,
+    i: usize,
+    text: &str,
+) -> Result<Vec<bool>, AllocError>
+    requires { i < length universe.now }
+    ensures truths { IfOk result (λ truths. truths.items
+        ≡ map (truth_on_value (record { name = []; op = Equal; value = text.now }))
+        (values_at universe.now i)) }
+{
+    let size = universe.size(i);
+    let mut truths = Vec::with_capacity(alloc, size)?;
+    for j in 0..size {
+        let value = universe.value(i, j).unwrap_or("");
+        truths.push(value == text)?;
+    }
+    Ok(truths)
+}
+
+/// Whether a text is the empty one.
+fn undeclared_equality(alloc: Global, text: &str) -> Result<Vec<bool>, AllocError>
+    ensures { IfOk result (λ truths. truths.items
+        ≡ truth_on_value (record { name = []; op = Equal; value = text.now }) None ∷ []) }
+{
+    let mut truths = Vec::with_capacity(alloc, 1)?;
+    truths.push("" == text)?;
     Ok(truths)
 }
