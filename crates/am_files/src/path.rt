@@ -73,6 +73,13 @@ impl Path {
         self.steps[..self.len][i]
     }
 
+    /// The positions in a row.
+    pub fn steps(&self) -> &[u16]
+        ensures steps { result.now ≡ self.now }
+    {
+        &self.steps[..self.len]
+    }
+
     /// The path with this text: `/` for the top-level route, else `/` and a position for each step,
     /// in decimal and with no zero in front.
     ///
