@@ -1,5 +1,5 @@
 -- The order of choices, and lists of choices that ascend in it.
-use Rattle.std.proofs.Common.{◌≡◌, ◌⊎◌, ℕ, zero, suc, ◌-◌, ◌<◌, Bool, true, false, not, cond, List, [], ◌∷◌, length, drop, get_or, Option, Some, None, IfSome, ap, sym, subst, ◌∙◌, refl, inl, inr, arith}
+use Rattle.std.proofs.Common.{◌≡◌, ◌⊎◌, ℕ, zero, suc, ◌-◌, ◌<◌, Bool, true, false, not, cond, List, [], ◌∷◌, length, take, drop, get_or, Option, Some, None, IfSome, ap, sym, subst, ◌∙◌, refl, inl, inr, arith}
 use Rattle.std.specs.List.{filter, find}
 use Rattle.std.specs.List.Sorted.{IsStrictlySortedBy}
 use Rattle.std.specs.Ordering.{nat_cmp, is_lt, ordering_reverse}
@@ -153,6 +153,22 @@ pub after_taken : (xs : List (List ℕ)) (n : ℕ) → Ascends xs → 0 < n → 
 after_taken xs n s some h =
     let same : suc (n - 1) ≡ n = omega arith in
     after_nth xs (n - 1) s (omega arith) ∙ ap (λ k. drop k xs) same
+
+-- the first n are those that the last of them does not come before
+up_to_nth : (xs : List (List ℕ)) (n : ℕ) → Ascends xs → n < length xs → filter (λ d. not (comes_before (get_or xs n []) d)) xs ≡ take (suc n) xs
+up_to_nth [] n s h = absurd (omega arith)
+up_to_nth (x ∷ xs) zero s h =
+    filter_step (λ d. not (comes_before x d)) x xs true (ap not (not_itself x))
+    ∙ ap (λ l. x ∷ l) (filter_none (λ d. not (comes_before x d)) xs (λ y i. ap not (above_first x xs y s i)))
+up_to_nth (x ∷ xs) (suc n) s h =
+    let c : List ℕ = get_or xs n [] in
+    let less : comes_before x c ≡ true = above_first x xs c s (in_at xs n (omega arith)) in
+    filter_step (λ d. not (comes_before c d)) x xs true (ap not (not_back x c less)) ∙ ap (λ l. x ∷ l) (up_to_nth xs n (ascends_rest x xs s) (omega arith))
+
+pub up_to_taken : (xs : List (List ℕ)) (n : ℕ) → Ascends xs → 0 < n → n < length xs → filter (λ d. not (comes_before (get_or xs (n - 1) []) d)) xs ≡ take n xs
+up_to_taken xs n s some h =
+    let same : suc (n - 1) ≡ n = omega arith in
+    up_to_nth xs (n - 1) s (omega arith) ∙ ap (λ k. take k xs) same
 
 pub taken_last : (xs : List (List ℕ)) (n : ℕ) → 0 < n → n < length xs → IsIn xs (get_or xs (n - 1) [])
 taken_last xs n some h = in_at xs (n - 1) (omega arith)

@@ -1,5 +1,5 @@
 -- The choices from a start on, and the pages of the answers among them.
-use Rattle.std.proofs.Common.{◌≡◌, ◌↔◌, ℕ, zero, suc, ◌+◌, ◌-◌, ◌<◌, ◌≤◌, Bool, true, false, not, cond, List, [], ◌∷◌, ◌++◌, length, take, drop, get_or, slice_get, nat_lt, Contains, Option, Some, None, IfSome, ap, sym, subst, ◌∙◌, refl, inl, inr, arith, append-nil}
+use Rattle.std.proofs.Common.{◌≡◌, ◌↔◌, ℕ, zero, suc, ◌+◌, ◌-◌, ◌<◌, ◌≤◌, Bool, true, false, not, cond, List, [], ◌∷◌, ◌++◌, length, take, drop, get_or, slice_get, nat_lt, Contains, Option, Some, None, IfSome, MatchOption, ap, sym, subst, ◌∙◌, refl, inl, inr, arith, append-nil}
 use Rattle.std.specs.Prelude.{IsTrue}
 use Rattle.std.specs.List.{filter, find, AllByRecursion}
 use Rattle.std.specs.List.Sorted.{IsStrictlySortedBy}
@@ -18,8 +18,8 @@ use Rattle.am_search.specs.declared.trailer.Trailer.{Trailer}
 use Rattle.am_search.specs.declared.trailer.Trailer.TheVariants.{End, Next}
 use Rattle.am_search.specs.Judge.{AreSizes}
 use Rattle.am_search.specs.Start.{comes_before, IsStart, first_of_start, at_or_after, choices_from, answers_from}
-use Rattle.am_search.specs.Page.{Page, page_of, page_from, left_behind, IsPage, IsChain, goes_on, all_choices_of}
-use Rattle.am_search.proofs.ChoiceOrder.{Ascends, before_trans, not_back, filter_step, filter_all, filter_same, in_filter, from_found, after_taken, taken_last}
+use Rattle.am_search.specs.Page.{AnswerPage, page_of, page_from, rest_after, IsPage, IsChain, start_after, all_choices_of}
+use Rattle.am_search.proofs.ChoiceOrder.{Ascends, before_trans, not_back, filter_step, filter_all, filter_same, in_filter, from_found, after_taken, up_to_taken, taken_last}
 use Rattle.am_search.proofs.Odometer.{filled, first_completion_is, positive}
 use Rattle.am_search.proofs.Walks.{first_is_whole, one_more}
 
@@ -99,6 +99,16 @@ from_sorted ns (Some c) = IsStrictlySortedBy-filter (slice_cmp nat_cmp) (λ d. n
 pub answers_sorted : (ns : List ℕ) (truth : List ℕ → Bool) (start : Start) → Ascends (answers_from ns truth start)
 answers_sorted ns truth start = IsStrictlySortedBy-filter (slice_cmp nat_cmp) truth (choices_from ns start) (from_sorted ns (first_of_start ns start))
 
+from_in_choices : (ns : List ℕ) (o : Option (List ℕ)) (c : List ℕ) → IsIn (at_or_after o (choices ns)) c → IsIn (choices ns) c
+from_in_choices ns None c i = absurd i
+from_in_choices ns (Some first) c i = (in_filter _ (choices ns) c i).0
+
+from_whole : (ns c : List ℕ) (start : Start) → IsIn (choices_from ns start) c → IsWhole ns c
+from_whole ns c start i = whole_from_in ns c (from_in_choices ns (first_of_start ns start) c i)
+
+pub same_answers : (ns : List ℕ) (f g : List ℕ → Bool) (start : Start) → ((c : List ℕ) → IsWhole ns c → f c ≡ g c) → answers_from ns f start ≡ answers_from ns g start
+same_answers ns f g start h = filter_same f g (choices_from ns start) (λ c i. h c (from_whole ns c start i))
+
 -- ---- What comes after one of the answers.
 
 swapped_cond : {X : Type 0} (f : X → Bool) (x : X) (b : Bool) (xs : List X) → filter f (cond b (x ∷ xs) xs) ≡ cond b (cond (f x) (x ∷ filter f xs) (filter f xs)) (filter f xs)
@@ -143,28 +153,24 @@ after_answer ns c truth start i =
     filters_swapped (comes_before c) truth (choices_from ns start)
     ∙ ap (filter truth) (after_from (first_of_start ns start) (choices ns) c (in_filter truth (choices_from ns start) c i).0 ∙ sym (choices_after ns c))
 
-from_in_choices : (ns : List ℕ) (o : Option (List ℕ)) (c : List ℕ) → IsIn (at_or_after o (choices ns)) c → IsIn (choices ns) c
-from_in_choices ns None c i = absurd i
-from_in_choices ns (Some first) c i = (in_filter _ (choices ns) c i).0
-
 answer_whole : (ns c : List ℕ) (truth : List ℕ → Bool) (start : Start) → IsIn (answers_from ns truth start) c → IsWhole ns c
-answer_whole ns c truth start i = whole_from_in ns c (from_in_choices ns (first_of_start ns start) c (in_filter truth (choices_from ns start) c i).0)
+answer_whole ns c truth start i = from_whole ns c start (in_filter truth (choices_from ns start) c i).0
 
 -- ---- Pages.
 
 -- what a page of a list is, by whether there is more than the limit
-record IsPart (xs : List (List ℕ)) (page : Page) (c : List ℕ) (n : ℕ) : Type 0 where
+record IsPart (xs : List (List ℕ)) (page : AnswerPage) (c : List ℕ) (n : ℕ) : Type 0 where
   choices : page.choices ≡ take n xs
   trailer : page.trailer ≡ Next c
   last : c ≡ get_or xs (n - 1) []
   some : 0 < n
   more : n < length xs
 
-record IsAll (xs : List (List ℕ)) (page : Page) : Type 0 where
+record IsAll (xs : List (List ℕ)) (page : AnswerPage) : Type 0 where
   choices : page.choices ≡ xs
   trailer : page.trailer ≡ End
 
-data PageKind (xs : List (List ℕ)) (page : Page) : Type 0 where
+data PageKind (xs : List (List ℕ)) (page : AnswerPage) : Type 0 where
   part : (c : List ℕ) (n : ℕ) → IsPart xs page c n → PageKind xs page
   whole : IsAll xs page → PageKind xs page
 
@@ -182,26 +188,26 @@ kind_of xs (Some n) h = by (nat_lt n (length xs)) refl
         ap (λ b. cond b (record { choices = take n xs; trailer = Next (get_or xs (n - 1) []) }) (record { choices = xs; trailer = End })) e in
         whole (record { choices = ap (λ p. p.choices) same; trailer = ap (λ p. p.trailer) same })
 
-page_kind : (ns : List ℕ) (truth : List ℕ → Bool) (start : Start) (page : Page) → IsPage ns truth start page → PageKind (answers_from ns truth start) page
-page_kind ns truth start page h = subst (PageKind (answers_from ns truth start)) (sym h.is) (kind_of (answers_from ns truth start) h.limit h.some)
+page_kind : (ns : List ℕ) (truth : List ℕ → Bool) (start : Start) (page : AnswerPage) → IsPage ns truth start page → PageKind (answers_from ns truth start) page
+page_kind ns truth start page h = subst (PageKind (answers_from ns truth start)) (sym h.from_start) (kind_of (answers_from ns truth start) h.limit h.at_least_one)
 
-rest_of_part : (ns c : List ℕ) (truth : List ℕ → Bool) (start : Start) (page : Page) (n : ℕ) → IsPart (answers_from ns truth start) page c n → answers_from ns truth (After c) ≡ drop n (answers_from ns truth start)
+rest_of_part : (ns c : List ℕ) (truth : List ℕ → Bool) (start : Start) (page : AnswerPage) (n : ℕ) → IsPart (answers_from ns truth start) page c n → answers_from ns truth (After c) ≡ drop n (answers_from ns truth start)
 rest_of_part ns c truth start page n h =
     let xs : List (List ℕ) = answers_from ns truth start in
     let i : IsIn xs c = subst (IsIn xs) (sym h.last) (taken_last xs n h.some h.more) in
     sym (after_answer ns c truth start i) ∙ ap (λ d. filter (comes_before d) xs) h.last ∙ after_taken xs n (answers_sorted ns truth start) h.some h.more
 
-pub page_rest : (ns : List ℕ) (truth : List ℕ → Bool) (start : Start) (page : Page) → IsPage ns truth start page
-    → answers_from ns truth start ≡ page.choices ++ left_behind ns truth page.trailer
+pub page_rest : (ns : List ℕ) (truth : List ℕ → Bool) (start : Start) (page : AnswerPage) → IsPage ns truth start page
+    → answers_from ns truth start ≡ page.choices ++ rest_after ns truth page.trailer
 page_rest ns truth start page h = elim (page_kind ns truth start page h) [
   | part c n p ↦
       let xs : List (List ℕ) = answers_from ns truth start in
       sym (take-append-drop n xs) ∙ ap (λ l. l ++ drop n xs) (sym p.choices)
-      ∙ ap (λ l. page.choices ++ l) (sym (rest_of_part ns c truth start page n p) ∙ ap (left_behind ns truth) (sym p.trailer))
-  | whole w ↦ sym w.choices ∙ sym (append-nil page.choices) ∙ ap (λ l. page.choices ++ l) (ap (left_behind ns truth) (sym w.trailer))
+      ∙ ap (λ l. page.choices ++ l) (sym (rest_of_part ns c truth start page n p) ∙ ap (rest_after ns truth) (sym p.trailer))
+  | whole w ↦ sym w.choices ∙ sym (append-nil page.choices) ∙ ap (λ l. page.choices ++ l) (ap (rest_after ns truth) (sym w.trailer))
 ]
 
-pub next_is_start : (ns c : List ℕ) (truth : List ℕ → Bool) (start : Start) (page : Page) → IsPage ns truth start page → page.trailer ≡ Next c → IsStart ns (After c)
+pub next_is_start : (ns c : List ℕ) (truth : List ℕ → Bool) (start : Start) (page : AnswerPage) → IsPage ns truth start page → page.trailer ≡ Next c → IsStart ns (After c)
 next_is_start ns c truth start page h e = elim (page_kind ns truth start page h) [
   | part d n p ↦
       let xs : List (List ℕ) = answers_from ns truth start in
@@ -210,7 +216,7 @@ next_is_start ns c truth start page h e = elim (page_kind ns truth start page h)
   | whole w ↦ cc (w.trailer, e)
 ]
 
-pub more_left : (ns c : List ℕ) (truth : List ℕ → Bool) (start : Start) (page : Page) → IsPage ns truth start page → page.trailer ≡ Next c → 0 < length (answers_from ns truth (After c))
+pub more_left : (ns c : List ℕ) (truth : List ℕ → Bool) (start : Start) (page : AnswerPage) → IsPage ns truth start page → page.trailer ≡ Next c → 0 < length (answers_from ns truth (After c))
 more_left ns c truth start page h e = elim (page_kind ns truth start page h) [
   | part d n p ↦
       let xs : List (List ℕ) = answers_from ns truth start in
@@ -220,6 +226,22 @@ more_left ns c truth start page h e = elim (page_kind ns truth start page h) [
   | whole w ↦ cc (w.trailer, e)
 ]
 
+pub up_to_trailer : (ns c : List ℕ) (truth : List ℕ → Bool) (start : Start) (page : AnswerPage) → IsPage ns truth start page → page.trailer ≡ Next c
+    → page.choices ≡ filter (λ d. not (comes_before c d)) (answers_from ns truth start)
+up_to_trailer ns c truth start page h e = elim (page_kind ns truth start page h) [
+  | part d n p ↦
+      let xs : List (List ℕ) = answers_from ns truth start in
+      let same : d ≡ c = cc (p.trailer, e) in
+      p.choices ∙ sym (up_to_taken xs n (answers_sorted ns truth start) p.some p.more) ∙ ap (λ b. filter (λ a. not (comes_before b a)) xs) (sym p.last ∙ same)
+  | whole w ↦ cc (w.trailer, e)
+]
+
+pub to_the_end : (ns : List ℕ) (truth : List ℕ → Bool) (start : Start) (page : AnswerPage) → IsPage ns truth start page → page.trailer ≡ End → page.choices ≡ answers_from ns truth start
+to_the_end ns truth start page h e = elim (page_kind ns truth start page h) [
+  | part c n p ↦ cc (p.trailer, e)
+  | whole w ↦ w.choices
+]
+
 pub within_limit : (ns : List ℕ) (truth : List ℕ → Bool) (start : Start) (n : ℕ) → length (page_from ns truth start (Some n)).choices ≤ n
 within_limit ns truth start n = by (nat_lt n (length xs)) refl
   where
@@ -227,19 +249,19 @@ within_limit ns truth start n = by (nat_lt n (length xs)) refl
     xs = answers_from ns truth start
 
     by : (b : Bool) → nat_lt n (length xs) ≡ b → length (page_of xs (Some n)).choices ≤ n
-    by true e = subst (λ (p : Page). length p.choices ≤ n) (sym (ap (λ b. cond b (record { choices = take n xs; trailer = Next (get_or xs (n - 1) []) }) (record { choices = xs; trailer = End })) e))
+    by true e = subst (λ (p : AnswerPage). length p.choices ≤ n) (sym (ap (λ b. cond b (record { choices = take n xs; trailer = Next (get_or xs (n - 1) []) }) (record { choices = xs; trailer = End })) e))
         (omega (arith, Rattle.std.proofs.Common.length-take n xs))
-    by false e = subst (λ (p : Page). length p.choices ≤ n) (sym (ap (λ b. cond b (record { choices = take n xs; trailer = Next (get_or xs (n - 1) []) }) (record { choices = xs; trailer = End })) e))
+    by false e = subst (λ (p : AnswerPage). length p.choices ≤ n) (sym (ap (λ b. cond b (record { choices = take n xs; trailer = Next (get_or xs (n - 1) []) }) (record { choices = xs; trailer = End })) e))
         (grind (arith, nat_tests, e))
 
 -- ---- Pages in a row.
 
-pub chain_joined : (ns : List ℕ) (truth : List ℕ → Bool) (start : Start) (pages : List Page) → IsChain ns truth start pages → all_choices_of pages ≡ answers_from ns truth start
+pub chain_joined : (ns : List ℕ) (truth : List ℕ → Bool) (start : Start) (pages : List AnswerPage) → IsChain ns truth start pages → all_choices_of pages ≡ answers_from ns truth start
 chain_joined ns truth start [] h = absurd h
 chain_joined ns truth start (page ∷ pages) h =
     ap (λ l. page.choices ++ l) (by page.trailer h.1 (λ next k. chain_joined ns truth next pages k)) ∙ sym (page_rest ns truth start page h.0)
   where
-    by : (t : Trailer) → goes_on t (pages ≡ []) (λ next. IsChain ns truth next pages) → ((next : Start) → IsChain ns truth next pages → all_choices_of pages ≡ answers_from ns truth next)
-        → all_choices_of pages ≡ left_behind ns truth t
+    by : (t : Trailer) → MatchOption (start_after t) (pages ≡ []) (λ next. IsChain ns truth next pages) → ((next : Start) → IsChain ns truth next pages → all_choices_of pages ≡ answers_from ns truth next)
+        → all_choices_of pages ≡ rest_after ns truth t
     by End e more = ap all_choices_of e
     by (Next c) k more = more (After c) k

@@ -1,6 +1,6 @@
 -- Pages: the answers from a start on, up to a limit, and where the next page begins.
 use Rattle.std.specs.Prelude.{◌≡◌, ℕ, ◌<◌, ◌-◌, List, [], ◌∷◌, ◌++◌, length, take, get_or, Bool}
-use Rattle.std.specs.Prelude.{nat_lt, if◌then◌else◌, Option, Some, None, IfSome}
+use Rattle.std.specs.Prelude.{nat_lt, if◌then◌else◌, Option, Some, None, IfSome, MatchOption}
 use Rattle.am_search.specs.declared.start.Start.{Start}
 use Rattle.am_search.specs.declared.start.Start.TheVariants.{After}
 use Rattle.am_search.specs.declared.trailer.Trailer.{Trailer}
@@ -8,7 +8,7 @@ use Rattle.am_search.specs.declared.trailer.Trailer.TheVariants.{End, Next}
 use Rattle.am_search.specs.Start.{answers_from}
 
 -- A page: some choices, and the trailer that says what is left.
-pub record Page : Type 0 where
+pub record AnswerPage : Type 0 where
   pub choices : List (List ℕ)
   pub trailer : Trailer
 
@@ -18,42 +18,45 @@ pub record Page : Type 0 where
 -- Source: own choice.
 -- Example: where 0 0, 1 0 and 2 0 alone are true, the page after 0 0 with the limit 1 is 1 0, and
 -- `Next` with 1 0; with the limit 2 it is 1 0 and 2 0, and `End`.
-abbrev pub page_of : List (List ℕ) → Option ℕ → Page
+abbrev pub page_of : List (List ℕ) → Option ℕ → AnswerPage
 page_of answers None = record { choices = answers; trailer = End }
 page_of answers (Some limit) =
     if nat_lt limit (length answers) then
     record { choices = take limit answers; trailer = Next (get_or answers (limit - 1) []) }
     else record { choices = answers; trailer = End }
 
-abbrev pub page_from : List ℕ → (List ℕ → Bool) → Start → Option ℕ → Page
+abbrev pub page_from : List ℕ → (List ℕ → Bool) → Start → Option ℕ → AnswerPage
 page_from sizes truth start limit = page_of (answers_from sizes truth start) limit
 
--- The answers that a trailer leaves to later pages.
-abbrev pub left_behind : List ℕ → (List ℕ → Bool) → Trailer → List (List ℕ)
-left_behind sizes truth End = []
-left_behind sizes truth (Next c) = answers_from sizes truth (After c)
+-- The start of the page that follows a trailer, if one does; and the answers from there on, which
+-- are those that the trailer leaves.
+abbrev pub start_after : Trailer → Option Start
+start_after End = None
+start_after (Next c) = Some (After c)
+
+abbrev pub answers_from_any : List ℕ → (List ℕ → Bool) → Option Start → List (List ℕ)
+answers_from_any sizes truth None = []
+answers_from_any sizes truth (Some start) = answers_from sizes truth start
+
+abbrev pub rest_after : List ℕ → (List ℕ → Bool) → Trailer → List (List ℕ)
+rest_after sizes truth trailer = answers_from_any sizes truth (start_after trailer)
 
 -- A page from a start, under whatever limit.
-pub record IsPage (sizes : List ℕ) (truth : List ℕ → Bool) (start : Start) (page : Page)
+pub record IsPage (sizes : List ℕ) (truth : List ℕ → Bool) (start : Start) (page : AnswerPage)
     : Type 0 where
   pub limit : Option ℕ
-  pub some : IfSome limit (λ n. 0 < n)
-  pub is : page ≡ page_from sizes truth start limit
-
--- What follows a page: nothing after `End`, and at `Next` what begins after its choice.
-abbrev pub goes_on : Trailer → Type 0 → (Start → Type 0) → Type 0
-goes_on End ends follows = ends
-goes_on (Next c) ends follows = follows (After c)
+  pub at_least_one : IfSome limit (λ n. 0 < n)
+  pub from_start : page ≡ page_from sizes truth start limit
 
 -- Pages in a row, at least one: each under a limit of its own, the first from the start, each
 -- later one from the trailer before it, and the last with `End`.
-abbrev pub IsChain : List ℕ → (List ℕ → Bool) → Start → List Page → Type 0
+abbrev pub IsChain : List ℕ → (List ℕ → Bool) → Start → List AnswerPage → Type 0
 IsChain sizes truth start [] = ⊥
 IsChain sizes truth start (page ∷ pages) =
     IsPage sizes truth start page
-    × goes_on page.trailer (pages ≡ []) (λ next. IsChain sizes truth next pages)
+    × MatchOption (start_after page.trailer) (pages ≡ []) (λ next. IsChain sizes truth next pages)
 
 -- The choices of pages, joined.
-abbrev pub all_choices_of : List Page → List (List ℕ)
+abbrev pub all_choices_of : List AnswerPage → List (List ℕ)
 all_choices_of [] = []
 all_choices_of (page ∷ pages) = page.choices ++ all_choices_of pages

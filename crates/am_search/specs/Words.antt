@@ -2,7 +2,8 @@
 pub use Rattle.am_search.specs.Judge.{AreSizes, IsJudge}
 pub use Rattle.am_search.specs.Start.{comes_before, IsStart, first_of_start, choices_from}
 pub use Rattle.am_search.specs.Start.{answers_from}
-pub use Rattle.am_search.specs.Page.{Page, page_of, page_from, left_behind, IsPage, IsChain}
+pub use Rattle.am_search.specs.Page.{AnswerPage, page_of, page_from, start_after, rest_after}
+pub use Rattle.am_search.specs.Page.{IsPage, IsChain}
 pub use Rattle.am_search.specs.Page.{all_choices_of}
 pub use Rattle.am_search.specs.Token.{token_text}
 pub use Rattle.am_search.specs.AnswersView.{answers_left, answers_judge, answers_state}

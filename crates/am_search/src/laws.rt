@@ -8,10 +8,10 @@ ghost use Rattle.std.specs.List.Sorted.{IsStrictlySortedBy};
 ghost use Rattle.am_universe.specs.Words.{Label, IsUniverse, sizes, admits, choices, IsWhole};
 ghost use Rattle.am_search.specs.declared.start.Start.{Start};
 ghost use Rattle.am_search.specs.declared.start.Start.TheVariants.{At, After};
-ghost use Rattle.am_search.specs.declared.trailer.Trailer.TheVariants.{Next};
+ghost use Rattle.am_search.specs.declared.trailer.Trailer.TheVariants.{End, Next};
 ghost use Rattle.am_search.specs.Words.{AreSizes, comes_before, IsStart, first_of_start};
-ghost use Rattle.am_search.specs.Words.{choices_from, answers_from, Page, page_from, left_behind};
-ghost use Rattle.am_search.specs.Words.{IsPage, IsChain, all_choices_of, token_text};
+ghost use Rattle.am_search.specs.Words.{choices_from, answers_from, AnswerPage, page_from};
+ghost use Rattle.am_search.specs.Words.{rest_after, IsPage, IsChain, all_choices_of, token_text};
 
 /// The sizes of a universe are such as a judge may have.
 pub fn sizes_of_a_universe()
@@ -53,6 +53,13 @@ pub fn answers_are_the_true_choices()
         ↔ (Contains (choices_from ns start) c × IsTrue (truth c)) }
 {}
 
+/// Which choices are answers is decided at whole choices alone.
+pub fn answers_are_decided_at_whole_choices()
+    ensures same { (ns : List ℕ) (f g : List ℕ → Bool) (start : Start)
+        → ((c : List ℕ) → IsWhole ns c → f c ≡ g c)
+        → answers_from ns f start ≡ answers_from ns g start }
+{}
+
 /// Each answer comes before those after it in the order of a dictionary, so none stands twice.
 pub fn answers_ascend()
     ensures ascending { (ns : List ℕ) (truth : List ℕ → Bool) (start : Start)
@@ -65,22 +72,33 @@ pub fn a_page_keeps_its_limit()
         → length (page_from ns truth start (Some n)).choices ≤ n }
 {}
 
+/// A page has the answers from its start on up to the choice of its trailer, that one included, or
+/// to the end.
+pub fn a_page_ends_at_its_trailer()
+    ensures up_to { (ns c : List ℕ) (truth : List ℕ → Bool) (start : Start) (page : AnswerPage)
+        → IsPage ns truth start page → page.trailer ≡ Next c
+        → page.choices ≡ filter (λ d. not (comes_before c d)) (answers_from ns truth start) }
+    ensures to_the_end { (ns : List ℕ) (truth : List ℕ → Bool) (start : Start) (page : AnswerPage)
+        → IsPage ns truth start page → page.trailer ≡ End
+        → page.choices ≡ answers_from ns truth start }
+{}
+
 /// The answers from the start of a page on are its choices, and then those that its trailer leaves:
 /// those from the trailer's start on, or none.
 pub fn a_page_and_its_rest_are_the_answers()
-    ensures rest { (ns : List ℕ) (truth : List ℕ → Bool) (start : Start) (page : Page)
+    ensures rest { (ns : List ℕ) (truth : List ℕ → Bool) (start : Start) (page : AnswerPage)
         → IsPage ns truth start page
-        → answers_from ns truth start ≡ page.choices ++ left_behind ns truth page.trailer }
-    ensures start { (ns c : List ℕ) (truth : List ℕ → Bool) (start : Start) (page : Page)
+        → answers_from ns truth start ≡ page.choices ++ rest_after ns truth page.trailer }
+    ensures start { (ns c : List ℕ) (truth : List ℕ → Bool) (start : Start) (page : AnswerPage)
         → IsPage ns truth start page → page.trailer ≡ Next c → IsStart ns (After c) }
-    ensures more { (ns c : List ℕ) (truth : List ℕ → Bool) (start : Start) (page : Page)
+    ensures more { (ns c : List ℕ) (truth : List ℕ → Bool) (start : Start) (page : AnswerPage)
         → IsPage ns truth start page → page.trailer ≡ Next c
         → 0 < length (answers_from ns truth (After c)) }
 {}
 
 /// The choices of pages in a row, joined, are the answers from the first page's start on.
 pub fn pages_in_a_row_are_the_answers()
-    ensures joined { (ns : List ℕ) (truth : List ℕ → Bool) (start : Start) (pages : List Page)
+    ensures joined { (ns : List ℕ) (truth : List ℕ → Bool) (start : Start) (pages : List AnswerPage)
         → IsChain ns truth start pages → all_choices_of pages ≡ answers_from ns truth start }
 {}
 

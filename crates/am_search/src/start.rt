@@ -5,6 +5,6 @@ use am_universe::Choice;
 pub enum Start {
     /// At the first completion of a prefix.
     At(Choice),
-    /// Behind a whole choice, at the one that follows it in declared order.
+    /// After a whole choice, at the one that follows it in declared order.
     After(Choice),
 }
