@@ -77,7 +77,7 @@ pub is_last-goes_on : (s : LabelMap) (t : RouteTree) → all_hold s (matchers_of
 is_last-goes_on s t matched goes = rw (matched, goes) refl
 
 -- paths from a child on, and from its parent on
-paths_below : (path : List ℕ) (i : ℕ) (paths : List (List ℕ))
+pub paths_below : (path : List ℕ) (i : ℕ) (paths : List (List ℕ))
     → map (λ below. (path ++ i ∷ []) ++ below) paths
     ≡ map (λ below. path ++ below) (map (λ below. i ∷ below) paths)
 paths_below path i [] = refl

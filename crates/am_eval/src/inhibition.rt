@@ -3,7 +3,7 @@
 ghost use Rattle.std.specs.Prelude.{◌≡◌, Contains, IfOk, IsTrue};
 ghost use Rattle.am_labels.specs.Words.{all_hold};
 ghost use Rattle.am_files.specs.Words.{names_of};
-ghost use Rattle.am_eval.specs.Words.{pairs_of, have_equal, inhibits, pair_inhibits, is_inhibited};
+ghost use Rattle.am_eval.specs.Words.{pairs_of, have_equal, inhibits, pair_inhibits};
 ghost use Rattle.am_eval.specs.Words.{inhibitors};
 
 use crate::pair::Pair;
@@ -29,19 +29,6 @@ pub fn inhibited_by(
         }
     }
     Ok(found)
-}
-
-/// Whether some firing alert inhibits an alert with these labels. An `Err` only where memory was
-/// refused.
-pub(crate) fn is_inhibited(alloc: Global, world: &World, set: &LabelSet) -> Result<bool, AllocError>
-    ensures { IfOk result (λ muted. muted ≡ is_inhibited world.now set.now) }
-{
-    for pair in world.pairs() {
-        if pair_inhibits(alloc, world, *pair, set)? {
-            return Ok(true);
-        }
-    }
-    Ok(false)
 }
 
 /// Whether the alert of a pair inhibits an alert with these labels, by the rule of the pair.

@@ -3,7 +3,7 @@
 //! [`ends`] says which routes handle an alert, and [`receivers_of`] at which receivers it ends. In
 //! a [`World`] there are silences and firing alerts too: [`silenced_by`] says which silences hide
 //! it, and [`inhibited_by`] what inhibits it.
-//! [`parse_question`] reads a [`Question`], and [`truth`] says whether a label set satisfies it.
+//! [`parse_question`] reads a [`Question`] about a label set.
 #![tactic(auto)]
 
 // How much there may be.
@@ -25,14 +25,12 @@ pub use pair::Pair;
 pub use silencing::silenced_by;
 pub use world::World;
 
-// Questions: what they are, their text, and what they say of a label set.
-mod evaluation;
+// Questions: what they are, and their text.
 mod grammar;
 mod names;
 mod question;
 mod tokens;
 
-pub use evaluation::truth;
 pub use names::parse_question;
 pub use question::Question;
 

@@ -1,5 +1,10 @@
 //! Questions, as they are kept in memory.
 
+ghost use Rattle.std.specs.Prelude.{◌≡◌, ℕ};
+ghost use Rattle.am_eval.specs.Words.{question_view};
+ghost use Rattle.am_eval.specs.Tree.{Part};
+ghost use Rattle.am_eval.specs.Question as spec;
+
 use am_files::Path;
 use am_labels::Matchers;
 
@@ -26,4 +31,30 @@ pub enum Question {
     And(Box<Question>, Box<Question>),
     /// One of them is true, or both.
     Or(Box<Question>, Box<Question>),
+}
+
+impl Question {
+    /// Whether the route at a path is an end. Where the configuration has no such route, it is
+    /// none.
+    pub fn ends(path: Path) -> Question
+        ensures ends { question_view result ≡ Part (spec.Ends path) }
+    {
+        Question::Ends(path)
+    }
+
+    /// Whether the route at a path, or one below it, is an end. Where the configuration has no such
+    /// route, it is none.
+    pub fn enters(path: Path) -> Question
+        ensures enters { question_view result ≡ Part (spec.Enters path) }
+    {
+        Question::Enters(path)
+    }
+
+    /// Whether some end has the receiver at a position. Where the configuration declares no such
+    /// receiver, none has it.
+    pub fn receiver(receiver: usize) -> Question
+        ensures receiver { question_view result ≡ Part (spec.Receiver receiver) }
+    {
+        Question::Receiver(receiver)
+    }
 }

@@ -1,7 +1,7 @@
 //! Silencing: which silences hide an alert.
 
 ghost use Rattle.std.specs.Prelude.{◌≡◌, IfOk};
-ghost use Rattle.am_eval.specs.Words.{hides, is_silenced, silencers};
+ghost use Rattle.am_eval.specs.Words.{hides, silencers};
 
 use crate::world::World;
 use am_files::Silence;
@@ -20,18 +20,6 @@ pub fn silenced_by(alloc: Global, world: &World, set: &LabelSet) -> Result<Vec<u
         }
     }
     Ok(found)
-}
-
-/// Whether some silence hides an alert with these labels. An `Err` only where memory was refused.
-pub(crate) fn is_silenced(alloc: Global, world: &World, set: &LabelSet) -> Result<bool, AllocError>
-    ensures { IfOk result (λ hidden. hidden ≡ is_silenced world.now set.now) }
-{
-    for i in 0..world.silences().len() {
-        if hides(alloc, world, world.silences().get(i), set)? {
-            return Ok(true);
-        }
-    }
-    Ok(false)
 }
 
 /// Whether a silence hides an alert with these labels. An `Err` only where memory was refused.
