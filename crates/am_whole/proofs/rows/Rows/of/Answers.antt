@@ -1,0 +1,23 @@
+use Rattle.std.proofs.Common.{map, ap, ◌∙◌, arith}
+use Rattle.std.proofs.lemmas.List.{take_all}
+use Rattle.am_labels.specs.Row.{row_of}
+use Rattle.am_whole.proofs.ListSteps.{mapped_more}
+use Rattle.am_whole.proofs.RowMeaning.{all_of}
+use Rattle.am_whole.proofs.rows.Rows.of.Goals as goal
+
+pub loop-i-preserved : goal.loop-i-preserved
+loop-i-preserved c =
+    c.in_ok-push.ensures.items
+    ∙ mapped_more (row_of c.args.universe.now) c.args.matchers.now c.loop-i.i c.get.result.now
+    c.loop-i.rows.items c.in_ok-row.field-0 c.loop-i.invariant c.get.ensures.matcher
+    c.in_ok-row.ensures.row
+
+pub returns : goal.returns
+returns c =
+    let u = c.args.universe.now in
+    let ms = c.args.matchers.now in
+    let all = take_all c.loop-i.i ms (omega (arith, c.loop-i-test.false, c.len-i-end.ensures.len)) in
+    record {
+      truth = λ choice whole. all_of u ms c.loop-i.rows.items choice c.len.ensures.universe whole
+          (c.loop-i.invariant ∙ ap (map (row_of u)) all);
+    }

@@ -1,0 +1,113 @@
+-- What a clause reads of `Whole`: the sizes of its labels, and which choices are true.
+use Rattle.std.specs.Prelude.{◌≡◌, ℕ, ◌≤◌, List, [], ◌∷◌, length, Bool, true, false, nat_lt}
+use Rattle.std.specs.Prelude.{if◌then◌else◌, IsTrue}
+use Rattle.std.specs.List.{AllByRecursion}
+use Rattle.std.proofs.Common.{sym, subst, refl, arith}
+use Rattle.std.proofs.lemmas.Bool.{and_parts}
+use Rattle.std.proofs.lemmas.Bool.Decides.{nat_tests}
+use Rattle.am_universe.specs.Universe.{Label, sizes}
+use Rattle.am_universe.specs.Choice.{admits, IsWhole}
+use Rattle.am_universe.specs.Completions.{completions}
+use Rattle.am_universe.specs.LabelSet.{label_set_of}
+use Rattle.am_universe.proofs.CompletionLemmas.{completions_of_whole}
+use Rattle.am_eval.specs.World.{World}
+use Rattle.am_search.specs.Judge.{AreSizes, IsJudge}
+use Rattle.am_search.specs.declared.verdict.Verdict.{Verdict}
+use Rattle.am_search.specs.declared.verdict.Verdict.TheVariants.{Yes, No, Open}
+use Rattle.am_whole.specs.declared.whole.Tables.{Tables}
+use Rattle.am_whole.specs.declared.whole.Tables.TheVariants.{Own, Shared}
+use Rattle.am_whole.specs.declared.whole.Whole.{Whole}
+use Rattle.am_whole.specs.WorldOutcome.{WorldOutcome, world_outcome, world_by_rows}
+use Rattle.am_whole.specs.QuestionByRows.{question_at}
+
+-- How many values each label has, and which choices are true.
+abbrev pub whole_sizes : Whole → List ℕ
+whole_sizes whole = sizes whole.universe.now
+
+-- The outcome of a choice by the rows of a judge.
+abbrev pub world_by_tables : List ℕ → Tables → WorldOutcome
+world_by_tables c (Own rows) = world_by_rows c rows
+world_by_tables c (Shared rows) = world_by_rows c rows.now
+
+abbrev pub whole_truth : Whole → List ℕ → Bool
+whole_truth whole c = question_at c (world_by_tables c whole.world) whole.question
+
+-- A judge knows a world, over a universe: the universe is its own, and by its rows each whole
+-- choice has the outcome that its label set has in the world.
+pub record KnowsWorld (whole : Whole) (u : List Label) (w : World) : Type 0 where
+  pub universe : whole.universe.now ≡ u
+  pub outcome : (c : List ℕ) → IsWhole (sizes u) c
+      → world_by_tables c whole.world ≡ world_outcome w (label_set_of u c)
+
+-- The verdict where nothing is known of a prefix that is not whole.
+abbrev pub verdict_when_whole : List ℕ → (List ℕ → Bool) → List ℕ → Verdict
+verdict_when_whole sizes truth prefix =
+    if nat_lt (length prefix) (length sizes) then Open else if truth prefix then Yes else No
+
+abbrev pub whole_verdict : Whole → List ℕ → Verdict
+whole_verdict whole = verdict_when_whole (whole_sizes whole) (whole_truth whole)
+
+-- A prefix that is admitted is not longer than the list of labels.
+admitted_fits : (sizes prefix : List ℕ) → IsTrue (admits sizes prefix)
+    → length prefix ≤ length sizes
+admitted_fits sizes [] a = omega arith
+admitted_fits [] (p ∷ prefix) a = cc
+admitted_fits (size ∷ sizes) (p ∷ prefix) a =
+    let rest = admitted_fits sizes prefix (and_parts (nat_lt p size) (admits sizes prefix) a).1 in
+    omega arith
+
+whole_when_not_short : (sizes prefix : List ℕ) → IsTrue (admits sizes prefix)
+    → nat_lt (length prefix) (length sizes) ≡ false → IsWhole sizes prefix
+whole_when_not_short sizes prefix a long =
+    let fits = admitted_fits sizes prefix a in
+    (a, grind (arith, nat_tests))
+
+-- What is said of a whole choice is said of each of its completions.
+of_completions : (sizes prefix : List ℕ) (P : List ℕ → Type 0) → IsWhole sizes prefix → P prefix
+    → AllByRecursion P (completions sizes prefix)
+of_completions sizes prefix P w h =
+    subst (AllByRecursion P) (sym (completions_of_whole sizes prefix w)) (h, tt)
+
+-- What each verdict says of the two tests.
+tests_of_yes : (short holds : Bool) → (if short then Open else if holds then Yes else No) ≡ Yes
+    → (short ≡ false) × (holds ≡ true)
+tests_of_yes true holds e = cc
+tests_of_yes false true e = (refl, refl)
+tests_of_yes false false e = cc
+
+tests_of_no : (short holds : Bool) → (if short then Open else if holds then Yes else No) ≡ No
+    → (short ≡ false) × (holds ≡ false)
+tests_of_no true holds e = cc
+tests_of_no false true e = cc
+tests_of_no false false e = (refl, refl)
+
+test_of_open : (short holds : Bool) → (if short then Open else if holds then Yes else No) ≡ Open
+    → short ≡ true
+test_of_open true holds e = refl
+test_of_open false true e = cc
+test_of_open false false e = cc
+
+-- Such a verdict is that of a judge.
+is_judge_when_whole : (sizes : List ℕ) (truth : List ℕ → Bool) → AreSizes sizes
+    → IsJudge sizes truth (verdict_when_whole sizes truth)
+is_judge_when_whole sizes truth h =
+    let short : List ℕ → Bool = λ prefix. nat_lt (length prefix) (length sizes) in
+    record {
+      limits = h;
+      yes = λ prefix a e.
+          let tests = tests_of_yes (short prefix) (truth prefix) e in
+          of_completions sizes prefix (λ c. IsTrue (truth c))
+          (whole_when_not_short sizes prefix a tests.0) tests.1;
+      no = λ prefix a e.
+          let tests = tests_of_no (short prefix) (truth prefix) e in
+          of_completions sizes prefix (λ c. truth c ≡ false)
+          (whole_when_not_short sizes prefix a tests.0) tests.1;
+      whole = λ c w undecided.
+          let below = test_of_open (short c) (truth c) undecided in
+          let e = w.1 in
+          grind (arith, nat_tests);
+    }
+
+pub whole_is_judge : (whole : Whole)
+    → IsJudge (whole_sizes whole) (whole_truth whole) (whole_verdict whole)
+whole_is_judge whole = is_judge_when_whole (whole_sizes whole) (whole_truth whole) whole.are_sizes
