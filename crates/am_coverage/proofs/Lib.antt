@@ -1,0 +1,9 @@
+pub mod RoutePaths
+pub mod FirstFound
+pub mod RouteLaws
+pub mod ReceiverLaws
+pub mod PathLaws
+pub mod QuestionLaws
+pub mod ReportLines
+pub mod FirstAlike
+pub mod Gathered

@@ -1,0 +1,161 @@
+-- What becomes of a route is what holds over all label sets.
+use Rattle.std.proofs.Common.{◌≡◌, ◌≢◌, ◌↔◌, ℕ, List, Bool, false, Contains}
+use Rattle.std.proofs.Common.{Option, Some, None, refl, sym, ap, subst, ◌∙◌}
+use Rattle.std.specs.Prelude.{IsTrue}
+use Rattle.std.specs.List.{list_any}
+use Rattle.std.specs.Cmp.Lexicographic.{bytes_decides}
+use Rattle.std.proofs.Math.Seq.{take-length}
+use Rattle.am_universe.specs.Universe.{Label, sizes}
+use Rattle.am_universe.specs.Choice.{IsWhole}
+use Rattle.am_universe.specs.LabelSet.{label_set_of}
+use Rattle.am_universe.specs.Text.{same_text}
+use Rattle.am_universe.proofs.ListLemmas.{IsIn, IsIn-from_Contains, Contains-from_IsIn}
+use Rattle.am_files.specs.ConfigFile.{Configuration}
+use Rattle.am_files.specs.Path.{leads_through}
+use Rattle.am_eval.specs.Routing.{ends}
+use Rattle.am_eval.proofs.Members.{any_in, in_any}
+use Rattle.am_search.specs.Start.{comes_before}
+use Rattle.am_coverage.specs.declared.coverage.RouteCoverage.TheVariants as route_is
+use Rattle.am_coverage.specs.Coverage.{IsDead, IsNeverEntered, first_end}
+use Rattle.am_coverage.specs.Coverage.{first_entry, live_or, dead_by, route_coverage}
+use Rattle.am_coverage.proofs.FirstFound.{found_whole, finds_whole, first_whole, none_whole}
+use Rattle.am_coverage.proofs.FirstFound.{finds_none}
+
+-- ---- The tests are what they stand for.
+
+pub end_from_test : (path : List ℕ) (all : List (List ℕ))
+    → IsTrue (list_any (λ end. same_text end path) all) → Contains all path
+end_from_test path all h =
+    let r = any_in (λ end. same_text end path) all h in
+    Contains-from_IsIn all path
+    (subst (λ (x : List ℕ). IsIn all x) ((bytes_decides r.0 path).0 r.2) r.1)
+
+pub test_from_end : (path : List ℕ) (all : List (List ℕ)) → Contains all path
+    → IsTrue (list_any (λ end. same_text end path) all)
+test_from_end path all h =
+    in_any (λ end. same_text end path) all path (IsIn-from_Contains all path h)
+    ((bytes_decides path path).1 refl)
+
+pub entry_from_test : (path : List ℕ) (all : List (List ℕ))
+    → IsTrue (list_any (leads_through path) all) → (end : List ℕ) × Contains all end × IsTrue (leads_through path end)
+entry_from_test path all h =
+    let r = any_in (leads_through path) all h in (r.0, Contains-from_IsIn all r.0 r.1, r.2)
+
+pub test_from_entry : (path end : List ℕ) (all : List (List ℕ)) → Contains all end
+    → IsTrue (leads_through path end) → IsTrue (list_any (leads_through path) all)
+test_from_entry path end all h through =
+    in_any (leads_through path) all end (IsIn-from_Contains all end h) through
+
+-- a path leads through itself
+through_itself : (path : List ℕ) → IsTrue (leads_through path path)
+through_itself path = (bytes_decides path _).1 (sym (take-length path))
+
+-- ---- What is told of a route.
+
+live_is : (entry end : Option (List ℕ)) (choice : List ℕ)
+    → live_or (dead_by entry) end ≡ route_is.Live choice → end ≡ Some choice
+live_is None None choice e = absurd (cc)
+live_is (Some x) None choice e = absurd (cc)
+live_is entry (Some x) choice e = let same : x ≡ choice = cc in ap (λ y. Some y) same
+
+never_is : (entry end : Option (List ℕ)) → live_or (dead_by entry) end ≡ route_is.NeverEntered
+    → (end ≡ None) × (entry ≡ None)
+never_is None None e = (refl, refl)
+never_is (Some x) None e = absurd (cc)
+never_is entry (Some x) e = absurd (cc)
+
+entered_is : (entry end : Option (List ℕ)) → live_or (dead_by entry) end ≡ route_is.Entered
+    → (end ≡ None) × ((choice : List ℕ) × (entry ≡ Some choice))
+entered_is None None e = absurd (cc)
+entered_is (Some x) None e = (refl, (x, refl))
+entered_is entry (Some x) e = absurd (cc)
+
+is_entered : (entry end : Option (List ℕ)) → end ≡ None → (entry ≡ None → ⊥)
+    → live_or (dead_by entry) end ≡ route_is.Entered
+is_entered None end none some = absurd (some refl)
+is_entered (Some x) end none some = rw none refl
+
+module _ (u : List Label) (c : Configuration) (path : List ℕ) where
+  -- the tests of the first choices
+  abbrev ends_there : List ℕ → Bool
+  ends_there choice = list_any (λ end. same_text end path) (ends (label_set_of u choice) c)
+
+  abbrev enters : List ℕ → Bool
+  enters choice = list_any (leads_through path) (ends (label_set_of u choice) c)
+
+  no_end : IsDead u c path → first_end u c path ≡ None
+  no_end dead =
+      finds_none (sizes u) ends_there (λ choice whole h.
+      dead choice whole (end_from_test path (ends (label_set_of u choice) c) h))
+
+  is_dead : first_end u c path ≡ None → IsDead u c path
+  is_dead e choice whole h =
+      none_whole (sizes u) ends_there choice e whole
+      (test_from_end path (ends (label_set_of u choice) c) h)
+
+  no_entry : IsNeverEntered u c path → first_entry u c path ≡ None
+  no_entry never =
+      finds_none (sizes u) enters (λ choice whole h.
+      let r = entry_from_test path (ends (label_set_of u choice) c) h in
+      never choice r.0 whole r.1 r.2)
+
+  is_never_entered : first_entry u c path ≡ None → IsNeverEntered u c path
+  is_never_entered e choice end whole h through =
+      none_whole (sizes u) enters choice e whole
+      (test_from_entry path end (ends (label_set_of u choice) c) h through)
+
+  -- where none ends at the route or below it, none ends there
+  dead_from_never : IsNeverEntered u c path → IsDead u c path
+  dead_from_never never choice whole h = never choice path whole h (through_itself path)
+
+  pub live_ends : (choice : List ℕ) → route_coverage u c path ≡ route_is.Live choice
+      → IsWhole (sizes u) choice × Contains (ends (label_set_of u choice) c) path
+  live_ends choice e =
+      let first = live_is (first_entry u c path) (first_end u c path) choice e in
+      let r = found_whole (sizes u) ends_there choice first in
+      (r.0, end_from_test path (ends (label_set_of u choice) c) r.1)
+
+  pub live_first : (choice other : List ℕ) → route_coverage u c path ≡ route_is.Live choice
+      → IsWhole (sizes u) other → Contains (ends (label_set_of u other) c) path
+      → comes_before other choice ≡ false
+  live_first choice other e whole h =
+      let first = live_is (first_entry u c path) (first_end u c path) choice e in
+      first_whole (sizes u) ends_there choice other first whole
+      (test_from_end path (ends (label_set_of u other) c) h)
+
+  pub live_told : (choice : List ℕ) → IsWhole (sizes u) choice
+      → Contains (ends (label_set_of u choice) c) path
+      → (first : List ℕ) × (route_coverage u c path ≡ route_is.Live first)
+  live_told choice whole h =
+      let r = finds_whole (sizes u) ends_there choice whole
+      (test_from_end path (ends (label_set_of u choice) c) h) in
+      (r.0, ap (live_or (dead_by (first_entry u c path))) r.1)
+
+  pub dead_exactly : IsDead u c path
+      ↔ ((choice : List ℕ) → route_coverage u c path ≢ route_is.Live choice)
+  dead_exactly = (
+    λ dead choice e. let r = live_ends choice e in dead choice r.0 r.1,
+    λ none choice whole h. let r = live_told choice whole h in none r.0 r.1,
+  )
+
+  pub never_exactly : IsNeverEntered u c path ↔ (route_coverage u c path ≡ route_is.NeverEntered)
+  never_exactly = (
+    λ never.
+        let end : first_end u c path ≡ None = no_end (dead_from_never never) in
+        let entry : first_entry u c path ≡ None = no_entry never in
+        ap (live_or (dead_by (first_entry u c path))) end ∙ ap dead_by entry,
+    λ e. is_never_entered (never_is (first_entry u c path) (first_end u c path) e).1,
+  )
+
+  pub entered_exactly : (IsDead u c path × (IsNeverEntered u c path → ⊥))
+      ↔ (route_coverage u c path ≡ route_is.Entered)
+  entered_exactly = (
+    λ h.
+        is_entered (first_entry u c path) (first_end u c path) (no_end h.0)
+        (λ none. h.1 (is_never_entered none)),
+    λ e.
+        let r = entered_is (first_entry u c path) (first_end u c path) e in (
+          is_dead r.0,
+          λ never. let both : None ≡ Some r.1.0 = sym (no_entry never) ∙ r.1.1 in cc,
+        ),
+  )

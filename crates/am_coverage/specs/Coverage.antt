@@ -1,0 +1,106 @@
+-- Coverage: which routes and receivers the label sets of a universe reach.
+use Rattle.std.specs.Prelude.{ℕ, ◌+◌, List, [], ◌∷◌, ◌++◌, map, Contains, IsTrue}
+use Rattle.std.specs.Prelude.{Option, Some, None, ◌==◌}
+use Rattle.std.specs.List.{find, list_any}
+use Rattle.am_universe.specs.Universe.{Label, sizes}
+use Rattle.am_universe.specs.Choice.{choices, IsWhole}
+use Rattle.am_universe.specs.LabelSet.{label_set_of}
+use Rattle.am_universe.specs.Text.{same_text}
+use Rattle.am_files.specs.ConfigFile.{RouteTree, Routes, route, no_routes, next_route}
+use Rattle.am_files.specs.ConfigFile.{Configuration}
+use Rattle.am_files.specs.Path.{leads_through}
+use Rattle.am_eval.specs.Routing.{ends, receivers}
+use Rattle.am_coverage.specs.declared.coverage.RouteCoverage.{RouteCoverage}
+use Rattle.am_coverage.specs.declared.coverage.RouteCoverage.TheVariants as route_is
+use Rattle.am_coverage.specs.declared.coverage.ReceiverCoverage.{ReceiverCoverage}
+use Rattle.am_coverage.specs.declared.coverage.ReceiverCoverage.TheVariants as receiver_is
+
+-- ---- Over all label sets of the universe.
+
+-- A route is dead: no label set of the universe ends there.
+-- Source: own choice.
+-- Example: a route behind a sibling that matches all that it matches, and has no `continue`.
+abbrev pub IsDead : List Label → Configuration → List ℕ → Type 0
+IsDead u c path =
+    (choice : List ℕ) → IsWhole (sizes u) choice
+    → Contains (ends (label_set_of u choice) c) path → ⊥
+
+-- A route is never entered: no label set of the universe ends there or below it.
+-- Source: own choice.
+-- Example: a route with the matcher `team=ops`, where the universe declares no such value. A route
+-- whose children match all that it matches is entered, and dead.
+abbrev pub IsNeverEntered : List Label → Configuration → List ℕ → Type 0
+IsNeverEntered u c path =
+    (choice end : List ℕ) → IsWhole (sizes u) choice
+    → Contains (ends (label_set_of u choice) c) end → IsTrue (leads_through path end) → ⊥
+
+-- A receiver, by its position, is unmatched: no label set of the universe goes to it.
+-- Source: own choice.
+-- Example: a receiver that no route has, and one all of whose routes are dead.
+abbrev pub IsUnmatched : List Label → Configuration → ℕ → Type 0
+IsUnmatched u c receiver =
+    (choice : List ℕ) → IsWhole (sizes u) choice
+    → Contains (receivers (label_set_of u choice) c) receiver → ⊥
+
+-- ---- The first label set that shows the contrary.
+
+-- The first choice of the universe, in declared order, whose label set ends at a route; that ends
+-- there or below it; that goes to a receiver.
+-- Source: own choice.
+-- Example: of the choices 0 0, 0 1 and 1 1, which alone end at a route, the first is 0 0.
+abbrev pub first_end : List Label → Configuration → List ℕ → Option (List ℕ)
+first_end u c path =
+    find (λ choice. list_any (λ end. same_text end path) (ends (label_set_of u choice) c))
+    (choices (sizes u))
+
+abbrev pub first_entry : List Label → Configuration → List ℕ → Option (List ℕ)
+first_entry u c path =
+    find (λ choice. list_any (leads_through path) (ends (label_set_of u choice) c))
+    (choices (sizes u))
+
+abbrev pub first_receipt : List Label → Configuration → ℕ → Option (List ℕ)
+first_receipt u c receiver =
+    find (λ choice. list_any (λ other. other == receiver) (receivers (label_set_of u choice) c))
+    (choices (sizes u))
+
+-- What becomes of a route: it is live, with the first choice that ends there; or it is dead, and
+-- entered or not. And of a receiver: it is live, with the first choice that goes to it, or
+-- unmatched.
+-- Source: own choice.
+-- Example: a route that nothing but its children handles is `Entered`.
+abbrev pub live_or : RouteCoverage → Option (List ℕ) → RouteCoverage
+live_or dead None = dead
+live_or dead (Some choice) = route_is.Live choice
+
+abbrev pub dead_by : Option (List ℕ) → RouteCoverage
+dead_by None = route_is.NeverEntered
+dead_by (Some choice) = route_is.Entered
+
+abbrev pub route_coverage : List Label → Configuration → List ℕ → RouteCoverage
+route_coverage u c path = live_or (dead_by (first_entry u c path)) (first_end u c path)
+
+abbrev pub live_or_unmatched : Option (List ℕ) → ReceiverCoverage
+live_or_unmatched None = receiver_is.Unmatched
+live_or_unmatched (Some choice) = receiver_is.Live choice
+
+abbrev pub receiver_coverage : List Label → Configuration → ℕ → ReceiverCoverage
+receiver_coverage u c receiver = live_or_unmatched (first_receipt u c receiver)
+
+-- ---- The routes of a configuration.
+
+-- The paths of a route and of all routes below it, from itself on: each route before those below
+-- it, and these before its next sibling. And those of the children from a position on.
+-- Source: own choice.
+-- Example: where the top-level route has two children, and the first of these one, the paths are
+-- `/`, `/0`, `/0/0` and `/1`.
+abbrev mutual
+  pub paths_at : RouteTree → List (List ℕ)
+  paths_at (route settings children) = [] ∷ paths_from 0 children
+
+  pub paths_from : ℕ → Routes → List (List ℕ)
+  paths_from i no_routes = []
+  paths_from i (next_route t ts) =
+      map (λ path. i ∷ path) (paths_at t) ++ paths_from (i + 1) ts
+
+abbrev pub paths_of : Configuration → List (List ℕ)
+paths_of c = paths_at c.root

@@ -1,0 +1,4 @@
+pub mod Words
+pub mod Coverage
+pub mod CoverageView
+pub mod WrittenCoverage

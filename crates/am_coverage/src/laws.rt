@@ -1,0 +1,90 @@
+//! Facts about the definitions alone: each is the contract of a function with an empty body.
+ghost use Rattle.std.specs.Prelude.{◌≡◌, ◌≢◌, ◌↔◌, ℕ, List, [], Some, None, Contains, false};
+ghost use Rattle.std.specs.Ordering.{nat_cmp};
+ghost use Rattle.std.specs.Cmp.Lexicographic.{slice_cmp};
+ghost use Rattle.std.specs.List.Sorted.{IsStrictlySortedBy};
+ghost use Rattle.am_labels.specs.Words.{Label, sizes, IsWhole, label_set_of};
+ghost use Rattle.am_files.specs.Words.{Configuration, RouteTree, route_at, receiver_of};
+ghost use Rattle.am_eval.specs.Tree.{Part};
+ghost use Rattle.am_eval.specs.Question.{Ends, Enters, Receiver};
+ghost use Rattle.am_eval.specs.Words.{ends, receivers, World, answers};
+ghost use Rattle.am_search.specs.Words.{comes_before};
+ghost use Rattle.am_coverage.specs.declared.coverage.RouteCoverage.TheVariants as route_is;
+ghost use Rattle.am_coverage.specs.declared.coverage.ReceiverCoverage.TheVariants as receiver_is;
+ghost use Rattle.am_coverage.specs.Words.{IsDead, IsNeverEntered, IsUnmatched, paths_of};
+ghost use Rattle.am_coverage.specs.Words.{route_coverage, receiver_coverage};
+
+/// A route is told as live exactly where some label set of the universe ends there: with the first
+/// choice whose label set does.
+pub fn a_live_route_has_a_label_set()
+    ensures told { (u : List Label) (c : Configuration) (path choice : List ℕ)
+        → IsWhole (sizes u) choice → Contains (ends (label_set_of u choice) c) path
+        → (first : List ℕ) × (route_coverage u c path ≡ route_is.Live first) }
+    ensures ends { (u : List Label) (c : Configuration) (path choice : List ℕ)
+        → route_coverage u c path ≡ route_is.Live choice
+        → IsWhole (sizes u) choice × Contains (ends (label_set_of u choice) c) path }
+    ensures first { (u : List Label) (c : Configuration) (path choice other : List ℕ)
+        → route_coverage u c path ≡ route_is.Live choice → IsWhole (sizes u) other
+        → Contains (ends (label_set_of u other) c) path
+        → comes_before other choice ≡ false }
+{}
+
+/// A route is told as dead exactly where no label set of the universe ends there, as never entered
+/// exactly where none ends there or below it, and so as entered exactly where one ends below it and
+/// none there.
+pub fn a_dead_route_has_no_label_set()
+    ensures dead { (u : List Label) (c : Configuration) (path : List ℕ)
+        → IsDead u c path ↔ ((choice : List ℕ) → route_coverage u c path ≢ route_is.Live choice) }
+    ensures never_entered { (u : List Label) (c : Configuration) (path : List ℕ)
+        → IsNeverEntered u c path ↔ (route_coverage u c path ≡ route_is.NeverEntered) }
+    ensures entered { (u : List Label) (c : Configuration) (path : List ℕ)
+        → (IsDead u c path × (IsNeverEntered u c path → ⊥))
+        ↔ (route_coverage u c path ≡ route_is.Entered) }
+{}
+
+/// A receiver is told as live exactly where some label set of the universe goes to it: with the
+/// first choice whose label set does.
+pub fn a_live_receiver_has_a_label_set()
+    ensures told { (u : List Label) (c : Configuration) (receiver : ℕ) (choice : List ℕ)
+        → IsWhole (sizes u) choice → Contains (receivers (label_set_of u choice) c) receiver
+        → (first : List ℕ) × (receiver_coverage u c receiver ≡ receiver_is.Live first) }
+    ensures goes { (u : List Label) (c : Configuration) (receiver : ℕ) (choice : List ℕ)
+        → receiver_coverage u c receiver ≡ receiver_is.Live choice → IsWhole (sizes u) choice
+        × Contains (receivers (label_set_of u choice) c) receiver }
+    ensures first { (u : List Label) (c : Configuration) (receiver : ℕ) (choice other : List ℕ)
+        → receiver_coverage u c receiver ≡ receiver_is.Live choice → IsWhole (sizes u) other
+        → Contains (receivers (label_set_of u other) c) receiver
+        → comes_before other choice ≡ false }
+{}
+
+/// A receiver is told as unmatched exactly where no label set of the universe goes to it, which is
+/// exactly where each route that has it is dead.
+pub fn an_unmatched_receiver_has_dead_routes_alone()
+    ensures unmatched { (u : List Label) (c : Configuration) (receiver : ℕ)
+        → IsUnmatched u c receiver ↔ (receiver_coverage u c receiver ≡ receiver_is.Unmatched) }
+    ensures dead_routes { (u : List Label) (c : Configuration) (receiver : ℕ)
+        → IsUnmatched u c receiver
+        ↔ ((path : List ℕ) (t : RouteTree) → route_at c.root path ≡ Some t
+        → receiver_of t ≡ receiver → IsDead u c path) }
+{}
+
+/// A route is dead exactly where the question whether an alert ends there has no answer, and never
+/// entered exactly where the question whether one enters it has none. A receiver is unmatched
+/// exactly where the question whether an alert goes to it has none.
+pub fn a_dead_routes_question_has_no_answer()
+    ensures dead { (u : List Label) (w : World) (path : List ℕ)
+        → IsDead u w.config path ↔ (answers u w (Part (Ends path)) ≡ []) }
+    ensures never_entered { (u : List Label) (w : World) (path : List ℕ)
+        → IsNeverEntered u w.config path ↔ (answers u w (Part (Enters path)) ≡ []) }
+    ensures unmatched { (u : List Label) (w : World) (receiver : ℕ)
+        → IsUnmatched u w.config receiver ↔ (answers u w (Part (Receiver receiver)) ≡ []) }
+{}
+
+/// The paths that are reported are exactly those of the routes, in the order of a dictionary, so
+/// none stands twice.
+pub fn each_route_is_reported_once()
+    ensures exactly { (c : Configuration) (path : List ℕ)
+        → Contains (paths_of c) path ↔ (route_at c.root path ≢ None) }
+    ensures ascending { (c : Configuration)
+        → IsStrictlySortedBy (slice_cmp nat_cmp) (paths_of c) }
+{}

@@ -1,0 +1,100 @@
+//! The reports of routes and of receivers.
+
+ghost use Rattle.std.specs.Prelude.{◌≡◌, ◌++◌, length, map, codes};
+ghost use Rattle.std.specs.List.{AllByRecursion};
+ghost use Rattle.am_labels.specs.Words.{sizes, IsWhole, Writes};
+ghost use Rattle.am_files.specs.Words.{config_view};
+ghost use Rattle.am_coverage.specs.Words.{found_view, IsShown, IsReached, route_line, routes_text};
+ghost use Rattle.am_coverage.specs.Words.{receiver_line, receivers_text, live_text};
+
+use crate::coverage::{ReceiverCoverage, RouteCoverage};
+use crate::route_coverage::RouteFound;
+use am_files::Config;
+use am_labels::{Choice, Kind, Sink, Universe, put_all, write_set, write_text};
+
+/// Writes the report of routes: a line for each, and then `# end`. The only `Err` is `Kind::Write`,
+/// after a part of that from its front. No memory is taken.
+pub fn write_routes<W: Sink>(
+    universe: &Universe,
+    routes: &[RouteFound],
+    out: &mut W,
+) -> Result<(), Kind>
+    requires shown { AllByRecursion (λ route. IsShown (sizes universe.now) route.coverage)
+        routes.now }
+    ensures written { Writes W.taken W.failures out.old out.new
+        (routes_text universe.now (map found_view routes.now)) result }
+{
+    for route in routes {
+        write_route(universe, route, out)?;
+    }
+    write_end(out)
+}
+
+fn write_route<W: Sink>(universe: &Universe, route: &RouteFound, out: &mut W) -> Result<(), Kind>
+    requires { IsShown (sizes universe.now) route.now.coverage }
+    ensures { Writes W.taken W.failures out.old out.new
+        (route_line universe.now (found_view route.now)) result }
+{
+    route.path.write(out)?;
+    match &route.coverage {
+        RouteCoverage::Live(choice) => write_live(universe, choice, out),
+        RouteCoverage::Entered => put_all(out, b" dead entered\n"),
+        RouteCoverage::NeverEntered => put_all(out, b" dead never-entered\n"),
+    }
+}
+
+/// Writes the report of receivers, which is what becomes of each of the configuration: a line for
+/// each, and then `# end`. The only `Err` is `Kind::Write`, after a part of that from its front. No
+/// memory is taken.
+pub fn write_receivers<W: Sink>(
+    universe: &Universe,
+    config: &Config,
+    receivers: &[ReceiverCoverage],
+    out: &mut W,
+) -> Result<(), Kind>
+    requires each { length receivers.now ≡ length (config_view config.now).receivers }
+    requires reached { AllByRecursion (IsReached (sizes universe.now)) receivers.now }
+    ensures written { Writes W.taken W.failures out.old out.new
+        (receivers_text universe.now (config_view config.now).receivers receivers.now) result }
+{
+    for (i, coverage) in receivers.iter().enumerate() {
+        write_receiver(universe, config.receiver_name(i), coverage, out)?;
+    }
+    write_end(out)
+}
+
+fn write_receiver<W: Sink>(
+    universe: &Universe,
+    name: &str,
+    coverage: &ReceiverCoverage,
+    out: &mut W,
+) -> Result<(), Kind>
+    requires { IsReached (sizes universe.now) coverage.now }
+    ensures { Writes W.taken W.failures out.old out.new
+        (receiver_line universe.now (name.now, coverage.now)) result }
+{
+    write_text(out, name)?;
+    match coverage {
+        ReceiverCoverage::Live(choice) => write_live(universe, choice, out),
+        ReceiverCoverage::Unmatched => put_all(out, b" unmatched\n"),
+    }
+}
+
+/// Writes the label set of a choice, as what shows that a route or receiver is live, and ends the
+/// line.
+fn write_live<W: Sink>(universe: &Universe, choice: &Choice, out: &mut W) -> Result<(), Kind>
+    requires { IsWhole (sizes universe.now) choice.now }
+    ensures { Writes W.taken W.failures out.old out.new
+        (live_text universe.now choice.now ++ codes "\n") result }
+{
+    put_all(out, b" live ")?;
+    write_set(universe, choice, out)?;
+    put_all(out, b"\n")
+}
+
+/// Writes the last line of a report.
+fn write_end<W: Sink>(out: &mut W) -> Result<(), Kind>
+    ensures { Writes W.taken W.failures out.old out.new (codes "# end\n") result }
+{
+    put_all(out, b"# end\n")
+}

@@ -1,0 +1,86 @@
+//! What becomes of each route.
+
+ghost use Rattle.std.specs.Prelude.{◌≡◌, List, map, IfOk};
+ghost use Rattle.std.specs.List.{AllByRecursion};
+ghost use Rattle.am_labels.specs.Words.{Label, sizes};
+ghost use Rattle.am_eval.specs.Words.{World};
+ghost use Rattle.am_whole.specs.Words.{whole_sizes, KnowsWorld};
+ghost use Rattle.am_coverage.specs.Coverage.{first_entry, dead_by};
+ghost use Rattle.am_coverage.specs.Words.{route_coverage, paths_of, found_view, IsShown};
+
+use crate::coverage::RouteCoverage;
+use crate::first_answers::first_answer;
+use crate::route_paths::paths_of;
+use am_eval::{Question, World};
+use am_files::Path;
+use am_labels::Universe;
+use am_whole::Whole;
+use std::alloc::{AllocError, Global};
+
+/// A route, by its path, and what becomes of it.
+#[derive(Clone, Copy, Debug)]
+pub struct RouteFound {
+    /// The path of the route.
+    pub path: Path,
+    /// What becomes of it.
+    pub coverage: RouteCoverage,
+}
+
+/// What becomes of each route of the configuration of a world, in preorder: each route before those
+/// below it, and these before its next sibling. An `Err` only where memory was refused.
+///
+/// For each route the choices of the universe are judged one by one, up to the first that ends
+/// there; where there is none, once more up to the first that enters it.
+pub fn routes_covered(
+    alloc: Global,
+    universe: &Universe,
+    world: &World,
+) -> Result<Vec<RouteFound>, AllocError>
+    ensures routes { IfOk result (λ found. map found_view found.items
+        ≡ map (λ path. (path, route_coverage universe.now world.now.config path))
+        (paths_of world.now.config)) }
+    ensures shown { IfOk result (λ found.
+        AllByRecursion (λ route. IsShown (sizes universe.now) route.coverage) found.items) }
+{
+    let any = Question::Any;
+    let tables = Whole::new(alloc, universe, world, &any)?;
+    let paths = paths_of(alloc, world.config())?;
+    let mut found = Vec::with_capacity(alloc, paths.len())?;
+    for path in &paths {
+        found.push(RouteFound {
+            path: *path,
+            coverage: coverage_of(alloc, &tables, *path)?,
+        })?;
+    }
+    Ok(found)
+}
+
+/// What becomes of the route at a path, by a judge that knows the world.
+fn coverage_of(alloc: Global, tables: &Whole<'_>, path: Path) -> Result<RouteCoverage, AllocError>
+    ensures coverage { IfOk result (λ coverage. (u : List Label) (w : World)
+        → KnowsWorld tables.now u w → coverage ≡ route_coverage u w.config path) }
+    ensures shown { IfOk result (IsShown (whole_sizes tables.now)) }
+{
+    let ends = Question::ends(path);
+    match first_answer(alloc, tables, &ends)? {
+        Some(choice) => Ok(RouteCoverage::Live(choice)),
+        None => coverage_of_dead(alloc, tables, path),
+    }
+}
+
+/// What becomes of the route at a path where no label set ends.
+fn coverage_of_dead(
+    alloc: Global,
+    tables: &Whole<'_>,
+    path: Path,
+) -> Result<RouteCoverage, AllocError>
+    ensures coverage { IfOk result (λ coverage. (u : List Label) (w : World)
+        → KnowsWorld tables.now u w → coverage ≡ dead_by (first_entry u w.config path)) }
+    ensures shown { IfOk result (IsShown (whole_sizes tables.now)) }
+{
+    let enters = Question::enters(path);
+    Ok(match first_answer(alloc, tables, &enters)? {
+        Some(_) => RouteCoverage::Entered,
+        None => RouteCoverage::NeverEntered,
+    })
+}
