@@ -18,11 +18,11 @@ first_of_more (stage ∷ stages) later place r (inl here) = inl here
 first_of_more (stage ∷ stages) later place r (inr behind) =
     inr (behind.0, first_of_more stages later place r behind.1)
 
--- behind a world that is accepted the next stage is the first to refuse
-pub first_behind_world : (inputs : WorldInputs) (world : World) (stage : Stage) (place : Place)
-    (r : Refusal) → AcceptsWorld inputs world → (place ≡ stage.place) × stage.refuses r
-    → IsFirstFaultOfCall (world_stages inputs ++ stage ∷ []) place r
-first_behind_world inputs world stage place r h refused =
+-- behind a world that is accepted the first fault is that of the later stages
+pub first_behind_world : (inputs : WorldInputs) (world : World) (later : List Stage) (place : Place)
+    (r : Refusal) → AcceptsWorld inputs world → IsFirstFaultOfCall later place r
+    → IsFirstFaultOfCall (world_stages inputs ++ later) place r
+first_behind_world inputs world later place r h behind =
     let few : SaysFewPairs (config_of inputs.config) inputs.alerts = record {
       configuration = world.config;
       says_config = h.says_config;
@@ -34,7 +34,7 @@ first_behind_world inputs world stage place r h refused =
       (world.config, h.says_config),
       inr (
         (world.silences, h.says_silences),
-        inr ((world.alerts, h.says_alerts), inr (h.has_instant, inr (few, inl refused))),
+        inr ((world.alerts, h.says_alerts), inr (h.has_instant, inr (few, behind))),
       ),
     )
 

@@ -1,3 +1,4 @@
-pub mod AnswerLemmas
 pub mod WrittenItems
+pub mod PageLines
+pub mod AskedPages
 pub mod FirstFaults

@@ -1,18 +1,46 @@
 -- What `ask` answers. (This project's own.)
-use Rattle.std.specs.Prelude.{ℕ, List}
-use Rattle.am_universe.specs.Universe.{Label}
-use Rattle.am_commands.specs.declared.trailer.Trailer.{Trailer}
+use Rattle.std.specs.Prelude.{◌≡◌, ℕ, List, ◌++◌, Option}
+use Rattle.am_universe.specs.Universe.{Label, sizes}
 use Rattle.am_eval.specs.World.{World}
-use Rattle.am_eval.specs.Question.{Question, answers}
+use Rattle.am_eval.specs.Question.{Question, is_answer}
+use Rattle.am_search.specs.declared.start.Start.{Start}
+use Rattle.am_search.specs.declared.trailer.Trailer.{Trailer}
+use Rattle.am_search.specs.Start.{answers_from}
+use Rattle.am_search.specs.Page.{AnswerPage, page_from, rest_after}
 use Rattle.am_commands.specs.PageText.{page_text}
 use Rattle.am_commands.specs.Inputs.{Inputs, AcceptsInputs}
 
--- The inputs are accepted, and this holds of the text of the page of their answers, which ends with
--- this trailer: that it was written, all of it or a part.
-pub record AnswersInputs (inputs : Inputs) (trailer : Trailer) (IsWritten : List ℕ → Type 0)
-    : Type 0 where
+-- The page of the answers to a question about a world, over a universe: from a start on, and under
+-- a limit, if there is one.
+-- Source: own choice.
+-- Example: of three answers, the page from the first choice on under the limit 2 is the first two,
+-- and `Next` with the second.
+abbrev pub answer_page : List Label → World → Question → Start → Option ℕ → AnswerPage
+answer_page u w q start limit = page_from (sizes u) (is_answer u w q) start limit
+
+-- The inputs are accepted, and the page of their answers, from the start that they ask for and
+-- under this limit, was written, and ends with this trailer. What the trailer leaves is exactly the
+-- rest: the answers from the start on are those of the page, and after them those from the
+-- trailer's start on.
+pub record AnswersInputs (inputs : Inputs) (limit : Option ℕ) (trailer : Trailer)
+    (IsWritten : List ℕ → Type 0) : Type 0 where
   pub universe : List Label
   pub world : World
   pub question : Question
-  pub accepts : AcceptsInputs inputs universe world question
-  pub page : IsWritten (page_text universe (answers universe world question) trailer)
+  pub start : Start
+  pub accepts : AcceptsInputs inputs universe world question start
+  pub written : IsWritten (page_text universe (answer_page universe world question start limit))
+  pub ends : trailer ≡ (answer_page universe world question start limit).trailer
+  pub rest : answers_from (sizes universe) (is_answer universe world question) start
+      ≡ (answer_page universe world question start limit).choices
+      ++ rest_after (sizes universe) (is_answer universe world question) trailer
+
+-- The inputs are accepted, and of the page of their answers this was written, a part of its text.
+pub record AnswersInputsInPart (inputs : Inputs) (limit : Option ℕ)
+    (IsWritten : List ℕ → Type 0) : Type 0 where
+  pub universe : List Label
+  pub world : World
+  pub question : Question
+  pub start : Start
+  pub accepts : AcceptsInputs inputs universe world question start
+  pub written : IsWritten (page_text universe (answer_page universe world question start limit))

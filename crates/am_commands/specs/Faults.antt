@@ -17,6 +17,8 @@ use Rattle.am_records.specs.AlertsFaults.{IsFirstFaultOfAlertsFile}
 use Rattle.am_eval.specs.declared.limits.TheConstants.{MAX_PAIRS}
 use Rattle.am_eval.specs.Pairs.{pairs_of}
 use Rattle.am_commands.specs.Files.{SaysSilencesIfAny, SaysAlertsIfAny}
+use Rattle.am_search.specs.declared.start.Start.{Start}
+use Rattle.am_commands.specs.AskedStart.{AsksStart}
 use Rattle.am_commands.specs.AskedInstant.{instant_fault}
 use Rattle.am_eval.specs.Question.{Question}
 use Rattle.am_eval.specs.QuestionText.{ReadsQuestion, QuestionRefusedFor}
@@ -111,6 +113,18 @@ QuestionStageRefusedFor bytes text r =
     (configuration : Configuration) × FileSaysConfig bytes configuration
     × QuestionRefusedFor configuration text r.kind × (r.pointer ≡ [])
 
+-- The token, if there is one, asks for a start over the universe that the bytes of a file say.
+abbrev pub HasSomeStart : List ℕ → Option (List ℕ) → Type 0
+HasSomeStart bytes after =
+    (universe : List Label) × FileSaysUniverse bytes universe
+    × (start : Start) × AsksStart universe after start
+
+-- The token asks for none. Such a fault stands at no part of a file.
+abbrev pub TokenRefusedFor : List ℕ → Option (List ℕ) → Refusal → Type 0
+TokenRefusedFor bytes after r =
+    (universe : List Label) × FileSaysUniverse bytes universe
+    × ((start : Start) → AsksStart universe after start → ⊥) × (r ≡ refusal_here kinds.BadToken)
+
 -- The universe file.
 abbrev pub universe_stage : List ℕ → Stage
 universe_stage bytes = record {
@@ -173,4 +187,12 @@ question_stage bytes text = record {
   place = places.Question;
   accepts = ReadsSomeQuestion bytes text;
   refuses = QuestionStageRefusedFor bytes text;
+}
+
+-- The token of a page, if there is one, beside the bytes of the universe file.
+abbrev pub token_stage : List ℕ → Option (List ℕ) → Stage
+token_stage bytes after = record {
+  place = places.Token;
+  accepts = HasSomeStart bytes after;
+  refuses = TokenRefusedFor bytes after;
 }

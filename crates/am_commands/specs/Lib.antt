@@ -4,7 +4,9 @@ pub mod PageText
 pub mod FaultText
 pub mod Files
 pub mod AskedInstant
+pub mod AskedStart
 pub mod Faults
 pub mod Inputs
 pub mod AskOutcome
 pub mod Explanation
+pub mod Reports

@@ -1,16 +1,18 @@
-ghost use Rattle.std.specs.Prelude.{◌≡◌, ◌≢◌, [], IfOk, IfErr, string_bytes};
+ghost use Rattle.std.specs.Prelude.{◌≡◌, ◌≢◌, ◌<◌, [], IfOk, IfErr, IfSome, string_bytes};
 ghost use Rattle.am_universe.specs.declared.kind.Kind.TheVariants as kinds;
 ghost use Rattle.am_universe.specs.declared.place.Place.TheVariants as places;
 ghost use Rattle.am_labels.specs.Words.{Wrote, WroteInPart};
 ghost use Rattle.am_json.specs.Words.{refusal_of};
-ghost use Rattle.am_commands.specs.Words.{inputs_of, ask_stages, AnswersInputs, IsFirstFaultOfCall};
+ghost use Rattle.am_commands.specs.Words.{inputs_of, ask_stages, IsFirstFaultOfCall};
+ghost use Rattle.am_commands.specs.Words.{AnswersInputs, AnswersInputsInPart};
 
-use crate::answers::answers_of;
 use crate::files::Files;
 use crate::inputs::read_inputs;
-use crate::page::write_page;
-use crate::trailer::Trailer;
+use crate::page::Page;
+use crate::page_text::write_page;
 use am_labels::{Fault, Kind, Place, Sink};
+use am_search::{Answers, Trailer};
+use am_whole::Whole;
 use std::alloc::Global;
 
 /// Writes the label sets of the universe that satisfy the question, each once and in declared
@@ -18,8 +20,11 @@ use std::alloc::Global;
 ///
 /// `universe` is a universe file, `files` has the configuration file, the file of silences, the
 /// file of alerts and the instant that is asked about, as far as there are such, and `question` is
-/// a question about what these say. All input is read and all answers are found before the first
-/// byte is written.
+/// a question about what these say. `page` says where the lines begin, and how many there may be:
+/// where there are more, the trailer is `Next` with the last choice that was written, and the page
+/// of that trailer's token goes on after it. Without a limit, or where there are no more, it is
+/// `End`. All input is read before the first byte is written, and each line is written before the
+/// next label set is looked for.
 ///
 /// The first fault is the one answered: a fault of the universe file, at `Universe`, as
 /// `read_universe` has it; of the configuration file, at `Config`, as `read_config` has it; of the
@@ -27,52 +32,56 @@ use std::alloc::Global;
 /// as `read_alerts` has it; of the instant, at `Instant` and with no pointer: `BadTime` where its
 /// text says none, and `NeedAt` where there is a file of silences and no text; of the pairs of
 /// rules and alerts, at `Alerts`, as `World::new` has it; of the question, as `parse_question` has
-/// it, at `Question` and with no pointer; `Write`, at `Output`. `Memory`, at `Memory`, comes
-/// wherever memory ran out. After any but `Write` the sink is as it was.
+/// it, at `Question` and with no pointer; of the token, as `parse_token` has it, at `Token` and
+/// with no pointer; `Write`, at `Output`. `Memory`, at `Memory`, comes wherever memory ran out.
+/// After any but `Write` the sink is as it was.
 ///
-/// Each label set of the universe is tried by itself, so time grows with the product of the numbers
-/// of values, and memory with the number of answers.
+/// Each label set of the universe from the start on is tried by itself, so time grows with the
+/// product of the numbers of values. Memory does not grow with the number of answers.
 pub fn ask<W: Sink>(
     alloc: Global,
     universe: &[u8],
     files: &Files<'_>,
     question: &str,
+    page: &Page<'_>,
     out: &mut W,
 ) -> Result<Trailer, Fault>
-    // The lines are exactly the label sets that satisfy the question.
+    requires limit { IfSome page.now.limit (λ n. 0 < n) }
+
+    // The lines are exactly the label sets that satisfy the question, from the start on and up to
+    // the trailer, and those after the trailer are exactly the rest.
     ensures answered { IfOk result (λ trailer. AnswersInputs
-        (inputs_of universe.now files.now question.now) trailer
+        (inputs_of universe.now files.now question.now page.now) page.now.limit trailer
         (Wrote W.taken W.failures out.old out.new)) }
 
     // No other fault of the inputs comes before the one that is answered, and the pointer is that
     // of the part at fault.
     ensures first { IfErr result (λ fault. fault.kind ≢ kinds.Write → fault.kind ≢ kinds.Memory
-        → IsFirstFaultOfCall (ask_stages (inputs_of universe.now files.now question.now))
+        → IsFirstFaultOfCall (ask_stages (inputs_of universe.now files.now question.now page.now))
         fault.place (refusal_of fault)) }
     ensures memory { IfErr result (λ fault. fault.kind ≡ kinds.Memory
         → (fault.place ≡ places.Memory) × (string_bytes fault.pointer ≡ [])) }
     ensures write { IfErr result (λ fault. fault.kind ≡ kinds.Write
         → (fault.place ≡ places.Output) × (string_bytes fault.pointer ≡ [])
-        × AnswersInputs (inputs_of universe.now files.now question.now) Trailer.End
-        (WroteInPart W.taken W.failures out.old out.new)) }
+        × AnswersInputsInPart (inputs_of universe.now files.now question.now page.now)
+        page.now.limit (WroteInPart W.taken W.failures out.old out.new)) }
 
     // Nothing is written after a refusal.
     ensures untouched { IfErr result (λ fault. fault.kind ≢ kinds.Write → out.new ≡ out.old) }
 {
-    let accepted = read_inputs(alloc, universe, files, question)?;
-    let found = answers_of(
+    let accepted = read_inputs(alloc, universe, files, question, page)?;
+    let judge = match Whole::new(
         alloc,
         &accepted.universe,
         &accepted.world,
         &accepted.question,
-    );
-    let answers = match found {
-        Ok(answers) => answers,
+    ) {
+        Ok(judge) => judge,
         Err(_) => return Err(Fault::of(alloc, Kind::Memory, Place::Memory)),
     };
-    let trailer = Trailer::End;
-    match write_page(&accepted.universe, answers.as_slice(), trailer, out) {
-        Ok(()) => Ok(trailer),
+    let mut answers = Answers::from(&judge, accepted.start);
+    match write_page(&accepted.universe, &mut answers, page.limit, out) {
+        Ok(trailer) => Ok(trailer),
         Err(kind) => Err(Fault::of(alloc, kind, Place::Output)),
     }
 }

@@ -1,6 +1,8 @@
+use clap::builder::ValueParser;
 use clap::error::ErrorKind;
 use clap::{Arg, ArgMatches, Command, Error};
 use std::alloc::{AllocError, Global};
+use std::num::NonZeroU64;
 
 /// What a command line asks for.
 pub enum Request<'a> {
@@ -9,12 +11,29 @@ pub enum Request<'a> {
         universe: &'a str,
         world: WorldPaths<'a>,
         question: &'a str,
+        after: Option<&'a str>,
+        limit: Option<NonZeroU64>,
+    },
+    /// What a universe reaches: which routes, or which receivers.
+    Coverage {
+        subject: Subject,
+        universe: &'a str,
+        config: &'a str,
     },
     /// Why a label set goes where it goes.
     Explain {
         world: WorldPaths<'a>,
         set: &'a str,
     },
+}
+
+/// What coverage is asked about.
+#[derive(Clone, Copy)]
+pub enum Subject {
+    /// Each route: whether it is dead.
+    Routes,
+    /// Each receiver: whether it is unmatched.
+    Receivers,
 }
 
 /// The files that a world is made of, by their paths, and the time that is asked about, as far as
@@ -27,15 +46,32 @@ pub struct WorldPaths<'a> {
     pub at: Option<&'a str>,
 }
 
+impl<'a> WorldPaths<'a> {
+    /// Those of a configuration alone.
+    pub fn of_config(config: &'a str) -> WorldPaths<'a> {
+        WorldPaths {
+            config: Some(config),
+            silences: None,
+            alerts: None,
+            at: None,
+        }
+    }
+}
+
+/// The most that `--limit` takes.
+const MAX_LIMIT: u64 = 4294967295;
+
 const ABOUT: &str = "Decides where Alertmanager routes alerts, and what silences or inhibits them";
 
 const EXAMPLE: &str = "\
 Example:
 
   amcover ask --universe u.json '{team=\"db\"}'
+  amcover dead --universe u.json --config alertmanager.json
+  amcover receivers --universe u.json --config alertmanager.json
   amcover explain --config alertmanager.json 'team=db,severity=warning'
 
-`amcover ask --help` and `amcover explain --help` say what they read and write.";
+`amcover ask --help` and so on say what each command reads and writes.";
 
 const ASK_ABOUT: &str = "Write every label set of a universe that satisfies a question";
 
@@ -135,7 +171,98 @@ writes those of them that a silence hides now.
 
 writes those that no firing alert inhibits.
 
+  amcover ask --universe u.json --limit 1 '{team=\"db\"}'
+
+writes the first answer alone. Where there are more, the last line has a token:
+
+  {team=\"db\",severity=\"critical\"}
+  # next t1:0.0
+
+The same command with --after and that token goes on after it; without --limit it writes
+all that is left. Change neither files nor question between two pages.
+
+  amcover ask --universe u.json --limit 1 --after t1:0.0 '{team=\"db\"}'
+
+  {team=\"db\",severity=\"warning\"}
+  # end
+
 Exit status: 0 done, 1 refused input, 2 usage, 3 out of memory, 4 the output failed.";
+
+const DEAD_ABOUT: &str = "Write which routes are dead: no label set of a universe ends there";
+
+const DEAD_HELP: &str = "\
+The universe is a JSON file that declares labels and the values each may have, as
+`amcover ask --help` shows. The configuration is JSON; an alertmanager.yml becomes JSON by
+
+  yq -o=json . alertmanager.yml > alertmanager.json
+
+Each label set of the universe is taken for the labels of an alert. It ends at a route
+where that route handles the alert, and none below it does. Silences, inhibition and time
+intervals make no difference.
+
+Example:
+
+  amcover dead --universe u.json --config alertmanager.json
+
+writes a line for each route, a route before those below it, and then `# end`. The lines
+are for example
+
+  / live {team=\"web\",severity=\"critical\"}
+  /0 dead entered
+  /0/0 live {team=\"db\",severity=\"critical\"}
+  /1 dead never-entered
+  # end
+
+/ is the top-level route, /0 its first child, and /0/0 the first child of that. Behind the
+path stands what becomes of the route:
+
+  live SET             the label set SET ends there, the first of the universe that does
+  dead entered         none ends there, but some end below it: its children take every
+                       alert that comes to it
+  dead never-entered   none ends there or below it. For example, routes before it take all
+                       that it matches and have no continue; its matchers and those of its
+                       parent are never true together; or they ask for a value that the
+                       universe does not declare
+
+A route is dead for this universe alone: an alert with other labels or values may end
+there.
+
+Exit status: 0 done, with dead routes or without, 1 refused input, 2 usage, 3 out of
+memory, 4 the output failed.";
+
+const RECEIVERS_ABOUT: &str =
+    "Write which receivers are unmatched: no label set of a universe goes there";
+
+const RECEIVERS_HELP: &str = "\
+The universe is a JSON file that declares labels and the values each may have, as
+`amcover ask --help` shows. The configuration is JSON; an alertmanager.yml becomes JSON by
+
+  yq -o=json . alertmanager.yml > alertmanager.json
+
+Each label set of the universe is taken for the labels of an alert. It goes to the
+receiver of each route that handles the alert where none below it does. A route that names
+no receiver has that of its parent. Silences, inhibition and time intervals make no
+difference.
+
+Example:
+
+  amcover receivers --universe u.json --config alertmanager.json
+
+writes a line for each receiver, in the order of the configuration, and then `# end`. The
+lines are for example
+
+  \"db-pager\" live {team=\"db\",severity=\"critical\"}
+  \"db-mail\" unmatched
+  # end
+
+The label set is the first of the universe that goes to db-pager. None goes to db-mail: no
+route has that receiver, or each that has it is dead, as `amcover dead` shows.
+
+A receiver is unmatched for this universe alone: an alert with other labels or values may
+go there.
+
+Exit status: 0 done, with unmatched receivers or without, 1 refused input, 2 usage, 3 out
+of memory, 4 the output failed.";
 
 const EXPLAIN_ABOUT: &str = "Write why a label set goes where it goes";
 
@@ -202,12 +329,31 @@ fn request_of<'a>(name: &str, matches: &ArgMatches<'a>) -> Option<Request<'a>> {
         return Some(Request::Explain { world, set });
     }
     let universe = matches.get_str("universe")?;
+    if let Some(subject) = subject_of(name) {
+        let config = matches.get_str("config")?;
+        return Some(Request::Coverage {
+            subject,
+            universe,
+            config,
+        });
+    }
     let question = matches.get_str("question")?;
     Some(Request::Ask {
         universe,
         world,
         question,
+        after: matches.get_str("after"),
+        limit: matches.get_one::<u64>("limit").and_then(NonZeroU64::new),
     })
+}
+
+/// What the command of this name asks coverage about, if it does.
+fn subject_of(name: &str) -> Option<Subject> {
+    match name {
+        "dead" => Some(Subject::Routes),
+        "receivers" => Some(Subject::Receivers),
+        _ => None,
+    }
 }
 
 fn command<'a>(alloc: Global) -> Result<Command<'a>, AllocError> {
@@ -220,15 +366,21 @@ fn command<'a>(alloc: Global) -> Result<Command<'a>, AllocError> {
         .subcommand_required(true)
         .disable_help_subcommand(true)
         .subcommand(ask_command(alloc)?)?
+        .subcommand(coverage_command(alloc, "dead", DEAD_ABOUT, DEAD_HELP)?)?
+        .subcommand(coverage_command(alloc, "receivers", RECEIVERS_ABOUT, RECEIVERS_HELP)?)?
         .subcommand(explain_command(alloc)?)
 }
 
 fn ask_command<'a>(alloc: Global) -> Result<Command<'a>, AllocError> {
-    let universe = Arg::new(alloc, "universe")
-        .long("universe")
-        .value_name("FILE")
-        .required(true)
-        .help("The universe, a JSON file");
+    let limit = Arg::new(alloc, "limit")
+        .long("limit")
+        .value_name("N")
+        .value_parser(ValueParser::unsigned(1, MAX_LIMIT))
+        .help("Write at most N label sets, 1 to 4294967295, and a token if there are more");
+    let after = Arg::new(alloc, "after")
+        .long("after")
+        .value_name("TOKEN")
+        .help("Go on after the page that ended with this token, as t1:0.0");
     let question = Arg::new(alloc, "question")
         .value_name("QUESTION")
         .required(true)
@@ -236,12 +388,27 @@ fn ask_command<'a>(alloc: Global) -> Result<Command<'a>, AllocError> {
     Command::new(alloc, "ask")
         .about(ASK_ABOUT)
         .after_help(ASK_HELP)
-        .arg(universe)?
+        .arg(universe_arg(alloc))?
         .arg(config_arg(alloc))?
         .arg(silences_arg(alloc))?
         .arg(alerts_arg(alloc))?
         .arg(at_arg(alloc))?
+        .arg(limit)?
+        .arg(after)?
         .arg(question)
+}
+
+fn coverage_command<'a>(
+    alloc: Global,
+    name: &'a str,
+    about: &'a str,
+    help: &'a str,
+) -> Result<Command<'a>, AllocError> {
+    Command::new(alloc, name)
+        .about(about)
+        .after_help(help)
+        .arg(universe_arg(alloc))?
+        .arg(config_arg(alloc).required(true))
 }
 
 fn explain_command<'a>(alloc: Global) -> Result<Command<'a>, AllocError> {
@@ -257,6 +424,14 @@ fn explain_command<'a>(alloc: Global) -> Result<Command<'a>, AllocError> {
         .arg(alerts_arg(alloc))?
         .arg(at_arg(alloc))?
         .arg(set)
+}
+
+fn universe_arg<'a>(alloc: Global) -> Arg<'a> {
+    Arg::new(alloc, "universe")
+        .long("universe")
+        .value_name("FILE")
+        .required(true)
+        .help("The universe, a JSON file")
 }
 
 fn config_arg<'a>(alloc: Global) -> Arg<'a> {

@@ -3,21 +3,24 @@ ghost use Rattle.std.specs.Prelude.{IfOk, IfErr, string_bytes};
 ghost use Rattle.am_universe.specs.declared.kind.Kind.TheVariants as kinds;
 ghost use Rattle.am_universe.specs.declared.place.Place.TheVariants as places;
 ghost use Rattle.am_labels.specs.Words.{SpellsSet};
-ghost use Rattle.am_json.specs.Words.{refusal_of};
+ghost use Rattle.am_json.specs.Words.{refusal_of, refusal_here};
+ghost use Rattle.am_search.specs.declared.start.Start.{Start};
 ghost use Rattle.am_eval.specs.Words.{question_view};
 ghost use Rattle.am_commands.specs.Words.{inputs_of, AcceptsInputs, ask_stages, IsFirstFaultOfCall};
 ghost use Rattle.am_commands.specs.Words.{world_inputs_of, AcceptsWorld, world_stages};
 ghost use Rattle.am_commands.specs.Words.{SaysSilencesIfAny, SilencesRefusedFor, SaysAlertsIfAny};
 ghost use Rattle.am_commands.specs.Words.{AlertsRefusedFor, asked_instant, instant_fault};
-ghost use Rattle.am_commands.specs.Words.{InstantRefusedFor, SetStageRefusedFor};
+ghost use Rattle.am_commands.specs.Words.{InstantRefusedFor, SetStageRefusedFor, AsksStart};
 
 use crate::fault::fault_at;
 use crate::files::Files;
+use crate::page::Page;
 use am_eval::{Question, World, parse_question};
 use am_files::{
     Alerts, Silences, parse_instant, read_alerts, read_config, read_silences, read_universe,
 };
-use am_labels::{Fault, Kind, LabelSet, Place, Universe, parse_set};
+use am_labels::{Choice, Fault, Kind, LabelSet, Place, Universe, parse_set};
+use am_search::{Start, parse_token};
 use jiff::Timestamp;
 use std::alloc::Global;
 
@@ -27,22 +30,25 @@ pub struct AcceptedInputs {
     pub universe: Universe,
     pub world: World,
     pub question: Question,
+    pub start: Start,
 }
 
-/// Reads the inputs of a question: the universe file, the world, and then the question. The first
-/// fault is the one answered, at `Universe`, where [`read_world`] has it, or at `Question`.
-/// `Memory`, at `Memory`, comes wherever memory ran out.
+/// Reads the inputs of a question: the universe file, the world, the question, and then the token
+/// that says where the answers begin. The first fault is the one answered, at `Universe`, where
+/// [`read_world`] has it, at `Question` or at `Token`. `Memory`, at `Memory`, comes wherever memory
+/// ran out.
 pub fn read_inputs(
     alloc: Global,
     universe: &[u8],
     files: &Files<'_>,
     question: &str,
+    page: &Page<'_>,
 ) -> Result<AcceptedInputs, Fault>
     ensures accepts { IfOk result (λ accepted. AcceptsInputs
-        (inputs_of universe.now files.now question.now)
-        accepted.universe accepted.world (question_view accepted.question)) }
+        (inputs_of universe.now files.now question.now page.now)
+        accepted.universe accepted.world (question_view accepted.question) accepted.start) }
     ensures first { IfErr result (λ fault. fault.kind ≢ kinds.Memory
-        → IsFirstFaultOfCall (ask_stages (inputs_of universe.now files.now question.now))
+        → IsFirstFaultOfCall (ask_stages (inputs_of universe.now files.now question.now page.now))
         fault.place (refusal_of fault)) }
     ensures memory { IfErr result (λ fault. fault.kind ≡ kinds.Memory
         → (fault.place ≡ places.Memory) × (string_bytes fault.pointer ≡ [])) }
@@ -50,13 +56,33 @@ pub fn read_inputs(
 {
     let universe = read_universe(alloc, universe)?;
     let world = read_world(alloc, files)?;
-    match parse_question(alloc, question, world.config()) {
-        Ok(question) => Ok(AcceptedInputs {
-            universe,
-            world,
-            question,
-        }),
-        Err(kind) => Err(fault_at(alloc, kind, Place::Question)),
+    let question = match parse_question(alloc, question, world.config()) {
+        Ok(question) => question,
+        Err(kind) => return Err(fault_at(alloc, kind, Place::Question)),
+    };
+    let start = read_start(alloc, page.after, &universe)?;
+    Ok(AcceptedInputs {
+        universe,
+        world,
+        question,
+        start,
+    })
+}
+
+/// The start that a token asks for, and that of all choices without one. `BadToken`, at `Token`,
+/// where it asks for none. No memory is taken.
+fn read_start(alloc: Global, after: Option<&str>, universe: &Universe) -> Result<Start, Fault>
+    ensures starts { IfOk result (AsksStart universe.now (option_copied after.entry)) }
+    ensures refused { IfErr result (λ fault. (fault.place ≡ places.Token)
+        × ((start : Start) → AsksStart universe.now (option_copied after.entry) start → ⊥)
+        × (refusal_of fault ≡ refusal_here kinds.BadToken)) }
+{
+    let Some(token) = after else {
+        return Ok(Start::At(Choice::empty()));
+    };
+    match parse_token(token, universe) {
+        Ok(start) => Ok(start),
+        Err(kind) => Err(fault_at(alloc, kind, Place::Token)),
     }
 }
 

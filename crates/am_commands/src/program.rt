@@ -1,16 +1,19 @@
 use crate::asking::ask;
-use crate::command_line::{Request, WorldPaths, parse_command_line};
+use crate::command_line::{Request, Subject, WorldPaths, parse_command_line};
 use crate::explaining::explain;
 use crate::fault::fault_at;
 use crate::fault_text::report;
 use crate::files;
+use crate::page::Page;
 use crate::read_file::read_file;
+use crate::reporting::{dead, receivers};
 use am_labels::{Fault, Kind, Out, Place, Sink};
 use clap::Error;
 use clap::error::ErrorKind;
 use std::alloc::Global;
 use std::io;
 use std::io::{BufWriter, Write};
+use std::num::NonZeroU64;
 use std::rt::Files;
 
 const DONE: u8 = 0;
@@ -56,6 +59,12 @@ enum Call<'a> {
     Ask {
         universe: &'a [u8],
         question: &'a str,
+        after: Option<&'a str>,
+        limit: Option<NonZeroU64>,
+    },
+    Coverage {
+        subject: Subject,
+        universe: &'a [u8],
     },
     Explain {
         set: &'a str,
@@ -73,10 +82,29 @@ fn run_request<R: Files + AllocGlobal, W: Write + Drop>(
             universe,
             world,
             question,
+            after,
+            limit,
         } => {
             let universe = read_input(rt, universe, Place::Universe)?;
-            let universe = universe.as_slice();
-            call_over(rt, Call::Ask { universe, question }, world, out)
+            let call = Call::Ask {
+                universe: universe.as_slice(),
+                question,
+                after,
+                limit,
+            };
+            call_over(rt, call, world, out)
+        }
+        Request::Coverage {
+            subject,
+            universe,
+            config,
+        } => {
+            let universe = read_input(rt, universe, Place::Universe)?;
+            let call = Call::Coverage {
+                subject,
+                universe: universe.as_slice(),
+            };
+            call_over(rt, call, WorldPaths::of_config(config), out)
         }
         Request::Explain { world, set } => call_over(rt, Call::Explain { set }, world, out),
     }
@@ -136,10 +164,23 @@ fn make_call<W: Sink>(
     out: &mut W,
 ) -> Result<(), Fault> {
     match call {
-        Call::Ask { universe, question } => {
-            ask(alloc, universe, files, question, out)?;
+        Call::Ask {
+            universe,
+            question,
+            after,
+            limit,
+        } => {
+            let page = Page {
+                after,
+                limit: limit.map(|limit| limit.get()),
+            };
+            ask(alloc, universe, files, question, &page, out)?;
             Ok(())
         }
+        Call::Coverage { subject, universe } => match subject {
+            Subject::Routes => dead(alloc, universe, files.config(), out),
+            Subject::Receivers => receivers(alloc, universe, files.config(), out),
+        },
         Call::Explain { set } => explain(alloc, files, set, out),
     }
 }

@@ -2,20 +2,19 @@ ghost use Rattle.am_labels.specs.Words.{Writes};
 ghost use Rattle.am_commands.specs.Words.{trailer_text};
 
 use am_labels::{Kind, Sink, put_all};
-
-/// How a page ends.
-#[derive(Clone, Copy, Debug, PartialEq, Eq)]
-pub enum Trailer {
-    /// Every answer has been written.
-    End,
-}
+use am_search::{Start, Trailer, write_token};
 
 /// Writes the line of a trailer. The only `Err` is `Kind::Write`, after a part of it from its
 /// front.
-pub fn write_trailer<W: Sink>(trailer: Trailer, out: &mut W) -> Result<(), Kind>
-    ensures written { Writes W.taken W.failures out.old out.new (trailer_text trailer) result }
+pub fn write_trailer<W: Sink>(trailer: &Trailer, out: &mut W) -> Result<(), Kind>
+    ensures written { Writes W.taken W.failures out.old out.new (trailer_text trailer.now) result }
 {
     match trailer {
         Trailer::End => put_all(out, b"# end\n"),
+        Trailer::Next(choice) => {
+            put_all(out, b"# next ")?;
+            write_token(&Start::After(*choice), out)?;
+            put_all(out, b"\n")
+        }
     }
 }

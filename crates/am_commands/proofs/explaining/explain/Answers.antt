@@ -1,5 +1,5 @@
 -- What was read is accepted, and what is written is what was found about it.
-use Rattle.std.proofs.Common.{◌≡◌, ◌≢◌, ℕ, List, [], ◌∷◌, subst}
+use Rattle.std.proofs.Common.{◌≡◌, ◌≢◌, ℕ, List, [], ◌∷◌, inl, subst}
 use Rattle.am_universe.specs.declared.fault.Fault.{Fault}
 use Rattle.am_universe.specs.declared.kind.Kind.TheVariants as kinds
 use Rattle.am_universe.specs.LabelSet.{LabelMap}
@@ -47,8 +47,8 @@ returns-in_err-set-clause-first g c =
     → IsFirstFaultOfCall (explain_stages inputs c.args.set.now) f.place (refusal_of f))
     fault c.from_residual-in_err-set.result c.from_residual-in_err-set.ensures.1
     (λ written remembered. first_behind_world inputs c.in_ok-world.world
-    (set_stage c.args.set.now) fault.place (refusal_of fault) c.in_ok-world.ensures.accepts
-    (c.in_err-set.ensures.refused remembered))
+    (set_stage c.args.set.now ∷ []) fault.place (refusal_of fault) c.in_ok-world.ensures.accepts
+    (inl (c.in_err-set.ensures.refused remembered)))
 
 pub returns-in-Ok-write_explanation-clause-explained : goal.returns-in-Ok-write_explanation-clause-explained
 returns-in-Ok-write_explanation-clause-explained g c = record {

@@ -1,5 +1,5 @@
 use Rattle.am_universe.proofs.Writing.{◌⟩◌, fails}
-use Rattle.am_commands.proofs.page.write_line.Goals as goal
+use Rattle.am_commands.proofs.page_text.write_line.Goals as goal
 
 pub returns-in_err-write_set : goal.returns-in_err-write_set
 returns-in_err-write_set g c = fails _ c.from_residual.ensures c.in_err-write_set.ensures.written

@@ -1,0 +1,39 @@
+-- Pages of the answers to a question.
+use Rattle.std.proofs.Common.{◌≡◌, ℕ, ◌<◌, List, [], ◌∷◌, ◌++◌, Bool, Option, None, IfSome, ap, sym, subst, ◌∙◌, refl}
+use Rattle.std.specs.List.{flat_map}
+use Rattle.std.proofs.lemmas.Grind.{flat_map-append}
+use Rattle.am_universe.specs.Universe.{Label, sizes}
+use Rattle.am_universe.specs.Choice.{IsWhole}
+use Rattle.am_universe.specs.WrittenLabelSet.{line}
+use Rattle.am_search.specs.declared.start.Start.{Start}
+use Rattle.am_search.specs.declared.trailer.Trailer.{Trailer}
+use Rattle.am_search.specs.Start.{answers_from}
+use Rattle.am_search.specs.Page.{AnswerPage, page_of, page_from, rest_after, IsPage, IsChain, all_choices_of}
+use Rattle.am_search.proofs.Pages.{same_answers, page_rest, chain_joined}
+use Rattle.am_commands.specs.PageText.{lines_text}
+
+-- the page of the answers of a judge whose truth at whole choices is that of the answers
+pub page_of_judge : (u : List Label) (ns : List ℕ) (truth answer : List ℕ → Bool) (start : Start) (left : List (List ℕ)) (limit : Option ℕ)
+    → ns ≡ sizes u → ((c : List ℕ) → IsWhole (sizes u) c → truth c ≡ answer c) → left ≡ answers_from ns truth start
+    → page_of left limit ≡ page_from (sizes u) answer start limit
+page_of_judge u ns truth answer start left limit same whole e =
+    ap (λ l. page_of l limit)
+    (e ∙ ap (λ n. answers_from n truth start) same ∙ same_answers (sizes u) truth answer start whole)
+
+-- the answers from a start on are those of the page, and those after a trailer that is the page's
+pub rest_of_page : (u : List Label) (answer : List ℕ → Bool) (start : Start) (limit : Option ℕ) (trailer : Trailer)
+    → IfSome limit (λ n. 0 < n) → trailer ≡ (page_from (sizes u) answer start limit).trailer
+    → answers_from (sizes u) answer start ≡ (page_from (sizes u) answer start limit).choices ++ rest_after (sizes u) answer trailer
+rest_of_page u answer start limit trailer some ends =
+    let there : AnswerPage = page_from (sizes u) answer start limit in
+    let is_page : IsPage (sizes u) answer start there = record { limit = limit; at_least_one = some; from_start = refl } in
+    page_rest (sizes u) answer start there is_page ∙ ap (λ t. there.choices ++ rest_after (sizes u) answer t) (sym ends)
+
+-- the lines of pages, joined, are the lines of all their choices
+lines_of_pages : (u : List Label) (pages : List AnswerPage) → flat_map (λ page. lines_text u page.choices) pages ≡ lines_text u (all_choices_of pages)
+lines_of_pages u [] = refl
+lines_of_pages u (page ∷ pages) = ap (λ rest. lines_text u page.choices ++ rest) (lines_of_pages u pages) ∙ sym (flat_map-append (line u) page.choices (all_choices_of pages))
+
+pub lines_of_chain : (u : List Label) (answer : List ℕ → Bool) (start : Start) (pages : List AnswerPage) → IsChain (sizes u) answer start pages
+    → flat_map (λ page. lines_text u page.choices) pages ≡ lines_text u (page_from (sizes u) answer start None).choices
+lines_of_chain u answer start pages h = lines_of_pages u pages ∙ ap (lines_text u) (chain_joined (sizes u) answer start pages h)
