@@ -5,11 +5,14 @@ ghost use Rattle.am_universe.specs.Universe.{sizes};
 
 use crate::alerts::of_alerts;
 use crate::lines::{split_at_first, split_at_last, utf8};
+use crate::pages::of_ask;
 use crate::problem::Problem;
+use crate::reports::{Report, of_report};
 use crate::silences::{of_instant, of_silences};
+use crate::starts::{of_first, of_judge, of_token};
 use crate::trees::config_text;
 use crate::worlds::{of_explain, of_inhibited, of_pairs, of_silenced};
-use am_commands::{Files, ask, status, write_fault};
+use am_commands::{Files, status, write_fault};
 use am_eval::{ends, receivers_of};
 use am_files::{Config, Path, read_config, read_universe};
 use am_labels::{
@@ -35,7 +38,12 @@ pub enum Call {
     Match,
     Row,
     Ends,
+    Judge,
+    First,
+    Token,
     Ask,
+    Dead,
+    Receivers,
     Explain,
     Fault,
 }
@@ -91,7 +99,12 @@ pub fn call_named(name: &[u8]) -> Option<Call> {
         b"match" => Some(Call::Match),
         b"row" => Some(Call::Row),
         b"ends" => Some(Call::Ends),
+        b"judge" => Some(Call::Judge),
+        b"first" => Some(Call::First),
+        b"token" => Some(Call::Token),
         b"ask" => Some(Call::Ask),
+        b"dead" => Some(Call::Dead),
+        b"receivers" => Some(Call::Receivers),
         b"explain" => Some(Call::Explain),
         b"fault" => Some(Call::Fault),
         _ => None,
@@ -122,7 +135,12 @@ pub fn given(
         Call::Match => of_match(alloc, text),
         Call::Row => of_row(alloc, over.universe, utf8(alloc, text)?),
         Call::Ends => of_ends(alloc, over.with.unwrap_or(b""), utf8(alloc, text)?),
-        Call::Ask => of_ask(alloc, over, utf8(alloc, text)?),
+        Call::Judge => of_judge(alloc, over, text),
+        Call::First => of_first(alloc, over, utf8(alloc, text)?),
+        Call::Token => of_token(alloc, over.universe, utf8(alloc, text)?),
+        Call::Ask => of_ask(alloc, over, text),
+        Call::Dead => of_report(alloc, Report::Routes, over, text),
+        Call::Receivers => of_report(alloc, Report::Receivers, over, text),
         Call::Explain => of_explain(alloc, over, text),
         Call::Fault => of_fault(alloc, text),
     }
@@ -169,7 +187,7 @@ fn of_universe(alloc: Global, text: &[u8], brief: bool) -> Result<Vec<u8>, Probl
     if brief {
         return told(alloc, "ok");
     }
-    let page = of_ask(alloc, Over::universe(text), "{}")?;
+    let page = of_ask(alloc, Over::universe(text), b"{}")?;
     let sets = page.as_slice();
     Ok(Vec::from_slice(alloc, sets.strip_suffix(b" # end").unwrap_or(sets))?)
 }
@@ -348,16 +366,6 @@ fn add_receivers(config: &Config, receivers: &[usize], text: &mut Vec<u8>) -> Re
         }
     }
     Ok(())
-}
-
-/// The page of a question, its lines with a blank between, or the fault.
-fn of_ask(alloc: Global, over: Over<'_>, question: &str) -> Result<Vec<u8>, Problem> {
-    let mut out = Out::new(told(alloc, "ok: ")?);
-    match ask(alloc, over.universe, &over.files(None), question, &mut out) {
-        Ok(_) => Ok(on_one_line(out.into_inner())),
-        Err(fault) if fault.kind == Kind::Write => Err(Problem::Memory),
-        Err(fault) => fault_behind(alloc, b"", &fault),
-    }
 }
 
 /// Lines with a blank in place of each line feed, and none at the end.

@@ -2,12 +2,14 @@
 
 use crate::calls::{Call, Over, call_named, given};
 use crate::inserts::{Named, filled};
-use crate::lines::{Line, split_at_first, split_at_last, utf8};
+use crate::lines::{Line, split_at_first, split_at_last};
+use crate::pages::{Asked, all_lines, check_pages, count_lines, write_asked};
 use crate::problem::Problem;
+use crate::reports::{Report, write_report};
 use crate::tally::Tally;
 use crate::worlds::set_and_instant;
 use crate::writer::{Manner, Stop, Writer};
-use am_commands::{ask, explain, status};
+use am_commands::{explain, status};
 use am_labels::{Fault, Kind, Out, Place};
 use std::alloc::Global;
 
@@ -53,6 +55,8 @@ pub enum Mode {
     Pairs,
     /// Each text, and over writers that stop.
     Writers,
+    /// Each text, and page by page with each limit.
+    Pages,
 }
 
 /// A mode, by its words.
@@ -61,6 +65,7 @@ pub fn mode_named(words: &[u8]) -> Option<Mode> {
         b"each proper prefix" => Some(Mode::Prefixes),
         b"one by one, and two by two" => Some(Mode::Pairs),
         b"over writers that stop" => Some(Mode::Writers),
+        b"page by page" => Some(Mode::Pages),
         _ => None,
     }
 }
@@ -227,7 +232,38 @@ fn run_one(
         let outcome = check_writers(alloc, heading, one);
         tally.count(one.number, outcome)?;
     }
+    if mode == Mode::Pages {
+        return run_pages(alloc, heading, one, tally);
+    }
     Ok(())
+}
+
+/// Asks for the answers of a line page by page, with each limit up to one more than there are.
+fn run_pages(
+    alloc: Global,
+    heading: &Heading,
+    one: &Wanted,
+    tally: &mut Tally,
+) -> Result<(), Problem> {
+    let text = placed(alloc, heading, one.text.as_slice())?;
+    let lines = match lines_over(alloc, heading, text.as_slice()) {
+        Ok(lines) => lines,
+        Err(problem) => return Ok(tally.count(one.number, Err(problem))?),
+    };
+    let lines = lines.as_slice();
+    for limit in 1..count_lines(lines).saturating_add(2) {
+        let outcome = check_pages(alloc, heading.over(), text.as_slice(), limit, lines);
+        tally.count(one.number, outcome)?;
+    }
+    Ok(())
+}
+
+/// The lines of all answers that a line asks for.
+fn lines_over(alloc: Global, heading: &Heading, text: &[u8]) -> Result<Vec<u8>, Problem> {
+    match heading.call {
+        Call::Ask => all_lines(alloc, heading.over(), text),
+        _ => Err(Problem::said(alloc, "this table has no pages")),
+    }
 }
 
 fn run_prefixes(
@@ -403,9 +439,11 @@ fn fault_over(
     let over = heading.over();
     match heading.call {
         Call::Ask => {
-            let question = utf8(alloc, text)?;
-            Ok(ask(alloc, over.universe, &over.files(None), question, out).err())
+            let asked = Asked::of(alloc, text)?;
+            Ok(write_asked(alloc, over, asked, out).err())
         }
+        Call::Dead => Ok(write_report(alloc, Report::Routes, over, text, out).err()),
+        Call::Receivers => Ok(write_report(alloc, Report::Receivers, over, text, out).err()),
         Call::Explain => {
             let (set, at) = set_and_instant(alloc, text)?;
             Ok(explain(alloc, &over.files(at), set, out).err())

@@ -18,7 +18,7 @@ pub fn set_and_instant(alloc: Global, text: &[u8]) -> Result<(&str, Option<&str>
 }
 
 /// The world of these files, at their instant.
-fn world_of(alloc: Global, files: &Files<'_>) -> Result<World, Fault> {
+pub fn world_of(alloc: Global, files: &Files<'_>) -> Result<World, Fault> {
     let config = read_config(alloc, files.config())?;
     let silences = match files.silences {
         Some(file) => read_silences(alloc, file)?,

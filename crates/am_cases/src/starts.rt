@@ -1,0 +1,122 @@
+//! The search: what it gives of tokens and judges, as a text.
+
+use crate::calls::{Over, fault_behind, told};
+use crate::lines::{split_at_last, utf8};
+use crate::problem::Problem;
+use crate::worlds::world_of;
+use am_eval::{Question, World, parse_question};
+use am_files::read_universe;
+use am_labels::{Choice, Fault, Out, Place, Universe};
+use am_search::{Judge, Start, Verdict, first, parse_token, write_token};
+use am_whole::Whole;
+use std::alloc::{AllocError, Global};
+
+/// The start that a token says, or the fault. The start has to have just this token.
+pub fn of_token(alloc: Global, universe: &[u8], token: &str) -> Result<Vec<u8>, Problem> {
+    let universe = match read_universe(alloc, universe) {
+        Ok(universe) => universe,
+        Err(fault) => return fault_behind(alloc, b"", &fault),
+    };
+    let start = match parse_token(token, &universe) {
+        Ok(start) => start,
+        Err(kind) => return fault_behind(alloc, b"", &Fault::of(alloc, kind, Place::Token)),
+    };
+    let written = token_of(alloc, &start)?;
+    if written.as_slice() != token.as_bytes() {
+        return Err(Problem::differs(alloc, "token", token.as_bytes(), written.as_slice()));
+    }
+    match start {
+        Start::At(prefix) => positions_behind(alloc, "ok: at", &prefix),
+        Start::After(choice) => positions_behind(alloc, "ok: after", &choice),
+    }
+}
+
+/// The token of a start.
+pub fn token_of(alloc: Global, start: &Start) -> Result<Vec<u8>, Problem> {
+    let mut out = Out::new(Vec::new(alloc));
+    match write_token(start, &mut out) {
+        Ok(()) => Ok(out.into_inner()),
+        Err(_) => Err(Problem::Memory),
+    }
+}
+
+/// The positions of a choice with a `.` between, behind these words and a blank.
+fn positions_behind(alloc: Global, words: &str, choice: &Choice) -> Result<Vec<u8>, Problem> {
+    let mut text = String::from_str(alloc, words)?;
+    for i in 0..choice.len() {
+        text.push(if i > 0 { '.' } else { ' ' })?;
+        let position = choice.get(i);
+        let position = format!(in alloc; "{position}")?;
+        text.push_str(position.as_str())?;
+    }
+    Ok(text.into_bytes())
+}
+
+/// A question, and what it is about.
+#[derive(Drop)]
+struct Inputs {
+    universe: Universe,
+    world: World,
+    question: Question,
+}
+
+fn inputs_of(alloc: Global, over: Over<'_>, question: &str) -> Result<Inputs, Fault> {
+    let universe = read_universe(alloc, over.universe)?;
+    let world = world_of(alloc, &over.files(None))?;
+    match parse_question(alloc, question, world.config()) {
+        Ok(question) => Ok(Inputs {
+            universe,
+            world,
+            question,
+        }),
+        Err(kind) => Err(Fault::of(alloc, kind, Place::Question)),
+    }
+}
+
+/// What the judge of a question says of a prefix, or the fault.
+pub fn of_judge(alloc: Global, over: Over<'_>, text: &[u8]) -> Result<Vec<u8>, Problem> {
+    let Some((question, positions)) = split_at_last(text, b" on ") else {
+        return Err(Problem::said(alloc, "a question, ` on ` and positions are wanted"));
+    };
+    let inputs = match inputs_of(alloc, over, utf8(alloc, question)?) {
+        Ok(inputs) => inputs,
+        Err(fault) => return fault_behind(alloc, b"", &fault),
+    };
+    let positions = utf8(alloc, positions)?;
+    match verdict_on(alloc, &inputs, positions)? {
+        Some(Verdict::Yes) => told(alloc, "yes"),
+        Some(Verdict::No) => told(alloc, "no"),
+        Some(Verdict::Open) => told(alloc, "open"),
+        None => Err(Problem::about(alloc, "no prefix", positions.as_bytes())),
+    }
+}
+
+/// What the judge says of the prefix of these positions, if it is one.
+fn verdict_on(
+    alloc: Global,
+    inputs: &Inputs,
+    positions: &str,
+) -> Result<Option<Verdict>, AllocError> {
+    let token = format!(in alloc; "s1:{positions}")?;
+    let judge = Whole::new(alloc, &inputs.universe, &inputs.world, &inputs.question)?;
+    let Ok(start) = parse_token(token.as_str(), &inputs.universe) else {
+        return Ok(None);
+    };
+    match start {
+        Start::At(prefix) => Ok(Some(judge.judge(&prefix))),
+        Start::After(_) => Ok(None),
+    }
+}
+
+/// The positions of the first choice of which a question is true, or the fault.
+pub fn of_first(alloc: Global, over: Over<'_>, question: &str) -> Result<Vec<u8>, Problem> {
+    let inputs = match inputs_of(alloc, over, question) {
+        Ok(inputs) => inputs,
+        Err(fault) => return fault_behind(alloc, b"", &fault),
+    };
+    let judge = Whole::new(alloc, &inputs.universe, &inputs.world, &inputs.question)?;
+    match first(&judge) {
+        Some(choice) => positions_behind(alloc, "ok:", &choice),
+        None => told(alloc, "none"),
+    }
+}
