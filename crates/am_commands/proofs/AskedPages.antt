@@ -1,5 +1,5 @@
 -- Pages of the answers to a question.
-use Rattle.std.proofs.Common.{◌≡◌, ℕ, ◌<◌, List, [], ◌∷◌, ◌++◌, Bool, Option, None, IfSome, ap, sym, subst, ◌∙◌, refl}
+use Rattle.std.proofs.Common.{◌≡◌, ℕ, ◌<◌, List, [], ◌∷◌, ◌++◌, Bool, Option, None, Some, IfSome, Result, Ok, Err, IfOk, IfErr, ap, sym, subst, ◌∙◌, refl}
 use Rattle.std.specs.List.{flat_map}
 use Rattle.std.proofs.lemmas.Grind.{flat_map-append}
 use Rattle.am_universe.specs.Universe.{Label, sizes}
@@ -7,10 +7,11 @@ use Rattle.am_universe.specs.Choice.{IsWhole}
 use Rattle.am_universe.specs.WrittenLabelSet.{line}
 use Rattle.am_search.specs.declared.start.Start.{Start}
 use Rattle.am_search.specs.declared.trailer.Trailer.{Trailer}
-use Rattle.am_search.specs.Start.{answers_from}
+use Rattle.am_search.specs.Start.{IsStart, answers_from}
+use Rattle.am_questions.specs.AskedStart.{AsksStart}
 use Rattle.am_search.specs.Page.{AnswerPage, page_of, page_from, rest_after, IsPage, IsChain, all_choices_of}
 use Rattle.am_search.proofs.Pages.{same_answers, page_rest, chain_joined}
-use Rattle.am_commands.specs.PageText.{lines_text}
+use Rattle.am_search.specs.PageText.{lines_text}
 
 -- the page of the answers of a judge whose truth at whole choices is that of the answers
 pub page_of_judge : (u : List Label) (ns : List ℕ) (truth answer : List ℕ → Bool) (start : Start) (left : List (List ℕ)) (limit : Option ℕ)
@@ -37,3 +38,17 @@ lines_of_pages u (page ∷ pages) = ap (λ rest. lines_text u page.choices ++ re
 pub lines_of_chain : (u : List Label) (answer : List ℕ → Bool) (start : Start) (pages : List AnswerPage) → IsChain (sizes u) answer start pages
     → flat_map (λ page. lines_text u page.choices) pages ≡ lines_text u (page_from (sizes u) answer start None).choices
 lines_of_chain u answer start pages h = lines_of_pages u pages ∙ ap (lines_text u) (chain_joined (sizes u) answer start pages h)
+
+-- the start that is asked for is one over the labels of the universe
+pub asked_is_start : (u : List Label) (after : Option (List ℕ)) (start : Start) → AsksStart u after start → IsStart (sizes u) start
+asked_is_start u None start h = subst (IsStart (sizes u)) (sym h) refl
+asked_is_start u (Some token) start h = h.0
+
+-- what follows from two facts of a result follows where there is one
+pub if_both : {T E : Type 0} (result : Result T E) (P Q R : T → Type 0) → ((x : T) → P x → Q x → R x) → IfOk result P → IfOk result Q → IfOk result R
+if_both (Ok x) P Q R f p q = f x p q
+if_both (Err e) P Q R f p q = tt
+
+pub if_failed : {T E : Type 0} (result : Result T E) (P Q : E → Type 0) → ((e : E) → P e → Q e) → IfErr result P → IfErr result Q
+if_failed (Ok x) P Q f p = tt
+if_failed (Err e) P Q f p = f e p

@@ -1,4 +1,1 @@
-pub mod WrittenItems
-pub mod PageLines
 pub mod AskedPages
-pub mod FirstFaults

@@ -3,12 +3,14 @@ use Rattle.std.specs.Prelude.{◌≡◌, ℕ, List, ◌++◌, Option}
 use Rattle.am_universe.specs.Universe.{Label, sizes}
 use Rattle.am_eval.specs.World.{World}
 use Rattle.am_eval.specs.Question.{Question, is_answer}
+use Rattle.am_eval.specs.QuestionView.{question_view}
 use Rattle.am_search.specs.declared.start.Start.{Start}
 use Rattle.am_search.specs.declared.trailer.Trailer.{Trailer}
 use Rattle.am_search.specs.Start.{answers_from}
 use Rattle.am_search.specs.Page.{AnswerPage, page_from, rest_after}
-use Rattle.am_commands.specs.PageText.{page_text}
-use Rattle.am_commands.specs.Inputs.{Inputs, AcceptsInputs}
+use Rattle.am_search.specs.PageText.{page_text}
+use Rattle.am_questions.specs.declared.inputs.AcceptedInputs.{AcceptedInputs}
+use Rattle.am_questions.specs.Inputs.{Inputs, AcceptsInputs}
 
 -- The page of the answers to a question about a world, over a universe: from a start on, and under
 -- a limit, if there is one.
@@ -17,6 +19,11 @@ use Rattle.am_commands.specs.Inputs.{Inputs, AcceptsInputs}
 -- and `Next` with the second.
 abbrev pub answer_page : List Label → World → Question → Start → Option ℕ → AnswerPage
 answer_page u w q start limit = page_from (sizes u) (is_answer u w q) start limit
+
+-- That page where the question, its world, its universe and its start are what inputs were read as.
+abbrev pub page_of_inputs : AcceptedInputs → Option ℕ → AnswerPage
+page_of_inputs read limit =
+    answer_page read.universe read.world (question_view read.question) read.start limit
 
 -- The inputs are accepted, and the page of their answers, from the start that they ask for and
 -- under this limit, was written, and ends with this trailer. What the trailer leaves is exactly the

@@ -1,12 +1,3 @@
 pub mod Words
-pub mod Trailer
-pub mod PageText
-pub mod FaultText
-pub mod Files
-pub mod AskedInstant
-pub mod AskedStart
-pub mod Faults
-pub mod Inputs
 pub mod AskOutcome
-pub mod Explanation
 pub mod Reports

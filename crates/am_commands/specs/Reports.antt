@@ -6,7 +6,7 @@ use Rattle.am_records.specs.UniverseFile.{FileSaysUniverse}
 use Rattle.am_files.specs.ConfigFile.{Configuration, FileSaysConfig}
 use Rattle.am_coverage.specs.Coverage.{route_coverage, receiver_coverage, paths_of}
 use Rattle.am_coverage.specs.WrittenCoverage.{routes_text, receivers_text}
-use Rattle.am_commands.specs.Faults.{Stage, universe_stage, config_stage}
+use Rattle.am_eval.specs.Faults.{Stage, universe_stage, config_stage}
 
 -- The report of all routes of a configuration over a universe, in preorder; and that of all its
 -- receivers, in declared order.

@@ -1,17 +1,17 @@
 ghost use Rattle.std.specs.Prelude.{◌≡◌, ◌≢◌, ◌<◌, [], IfOk, IfErr, IfSome, string_bytes};
 ghost use Rattle.am_universe.specs.declared.kind.Kind.TheVariants as kinds;
 ghost use Rattle.am_universe.specs.declared.place.Place.TheVariants as places;
-ghost use Rattle.am_labels.specs.Words.{Wrote, WroteInPart};
+ghost use Rattle.am_labels.specs.Words.{sizes, Wrote, WroteInPart};
 ghost use Rattle.am_json.specs.Words.{refusal_of};
-ghost use Rattle.am_commands.specs.Words.{inputs_of, ask_stages, IsFirstFaultOfCall};
-ghost use Rattle.am_commands.specs.Words.{AnswersInputs, AnswersInputsInPart};
+ghost use Rattle.am_questions.specs.Words.{inputs_of, ask_stages};
+ghost use Rattle.am_eval.specs.Words.{IsFirstFaultOfCall};
+ghost use Rattle.am_search.specs.Words.{IsStart, page_text};
+ghost use Rattle.am_commands.specs.Words.{AnswersInputs, AnswersInputsInPart, page_of_inputs};
 
-use crate::files::Files;
-use crate::inputs::read_inputs;
-use crate::page::Page;
-use crate::page_text::write_page;
+use am_eval::Files;
 use am_labels::{Fault, Kind, Place, Sink};
-use am_search::{Answers, Trailer};
+use am_questions::{AcceptedInputs, read_inputs};
+use am_search::{Answers, Page, Trailer, write_page};
 use am_whole::Whole;
 use std::alloc::Global;
 
@@ -70,6 +70,32 @@ pub fn ask<W: Sink>(
     ensures untouched { IfErr result (λ fault. fault.kind ≢ kinds.Write → out.new ≡ out.old) }
 {
     let accepted = read_inputs(alloc, universe, files, question, page)?;
+    write_answers(alloc, &accepted, page.limit, out)
+}
+
+/// Writes the page of the answers to a question that is accepted, from its start on and under a
+/// limit, if there is one. The answer is the trailer. `Memory`, at `Memory`, comes before the first
+/// byte is written; `Write` stands at `Output`.
+fn write_answers<W: Sink>(
+    alloc: Global,
+    accepted: &AcceptedInputs,
+    limit: Option<u64>,
+    out: &mut W,
+) -> Result<Trailer, Fault>
+    requires limit { IfSome limit (λ n. 0 < n) }
+    requires start { IsStart (sizes accepted.now.universe) accepted.now.start }
+    ensures trailer { IfOk result (λ trailer.
+        trailer ≡ (page_of_inputs accepted.now limit).trailer) }
+    ensures written { IfOk result (λ _. Wrote W.taken W.failures out.old out.new
+        (page_text accepted.now.universe (page_of_inputs accepted.now limit))) }
+    ensures memory { IfErr result (λ fault. fault.kind ≢ kinds.Write
+        → (fault.kind ≡ kinds.Memory) × (fault.place ≡ places.Memory)
+        × (string_bytes fault.pointer ≡ []) × (out.new ≡ out.old)) }
+    ensures write { IfErr result (λ fault. fault.kind ≡ kinds.Write
+        → (fault.place ≡ places.Output) × (string_bytes fault.pointer ≡ [])
+        × WroteInPart W.taken W.failures out.old out.new
+        (page_text accepted.now.universe (page_of_inputs accepted.now limit))) }
+{
     let judge = match Whole::new(
         alloc,
         &accepted.universe,
@@ -77,10 +103,10 @@ pub fn ask<W: Sink>(
         &accepted.question,
     ) {
         Ok(judge) => judge,
-        Err(_) => return Err(Fault::of(alloc, Kind::Memory, Place::Memory)),
+        Err(_) => return Err(Fault::memory(alloc)),
     };
     let mut answers = Answers::from(&judge, accepted.start);
-    match write_page(&accepted.universe, &mut answers, page.limit, out) {
+    match write_page(&accepted.universe, &mut answers, limit, out) {
         Ok(trailer) => Ok(trailer),
         Err(kind) => Err(Fault::of(alloc, kind, Place::Output)),
     }

@@ -3,12 +3,10 @@ ghost use Rattle.am_universe.specs.declared.kind.Kind.TheVariants as kinds;
 ghost use Rattle.am_universe.specs.declared.place.Place.TheVariants as places;
 ghost use Rattle.am_labels.specs.Words.{Wrote, WroteInPart};
 ghost use Rattle.am_json.specs.Words.{refusal_of};
-ghost use Rattle.am_commands.specs.Words.{world_inputs_of, explain_stages, ExplainsSet};
-ghost use Rattle.am_commands.specs.Words.{IsFirstFaultOfCall};
+ghost use Rattle.am_eval.specs.Words.{world_inputs_of, explain_stages, ExplainsSet};
+ghost use Rattle.am_eval.specs.Words.{IsFirstFaultOfCall};
 
-use crate::explanation::{explanation_of, write_explanation};
-use crate::files::Files;
-use crate::inputs::{read_set, read_world};
+use am_eval::{Files, explanation_of, read_set, read_world, write_explanation};
 use am_labels::{Fault, Kind, Place, Sink};
 use std::alloc::Global;
 

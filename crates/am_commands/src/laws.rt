@@ -8,8 +8,8 @@ ghost use Rattle.am_search.specs.declared.start.Start.TheVariants.{At, After};
 ghost use Rattle.am_search.specs.declared.trailer.Trailer.TheVariants.{Next};
 ghost use Rattle.am_search.specs.Words.{answers_from, AnswerPage, page_from, IsPage, IsChain};
 ghost use Rattle.am_search.specs.Words.{token_text};
-ghost use Rattle.am_commands.specs.Words.{Inputs, AcceptsInputs, AsksStart, after_token};
-ghost use Rattle.am_commands.specs.Words.{lines_text};
+ghost use Rattle.am_questions.specs.Words.{Inputs, AcceptsInputs, AsksStart, after_token};
+ghost use Rattle.am_search.specs.Words.{lines_text};
 
 /// The answers from the first choice on are all answers to the question.
 pub fn answers_from_the_first_choice_on_are_all()

@@ -9,26 +9,10 @@
 //! and no more.
 #![tactic(auto)]
 
-// What goes in.
-mod files;
-mod inputs;
-mod page;
-
-pub use files::Files;
-pub use page::Page;
-
-// What comes out, and how it is written.
-mod explanation;
-mod page_text;
-mod trailer;
-
-pub use am_search::Trailer;
-
-// Faults, and how they are written.
-mod fault;
-mod fault_text;
-
-pub use fault_text::{status, write_fault};
+// The layers below: what goes in, how a page ends, and how a fault is written.
+pub use am_eval::Files;
+pub use am_labels::{status, write_fault};
+pub use am_search::{Page, Trailer};
 
 // The commands.
 mod asking;

@@ -1,13 +1,10 @@
 use crate::asking::ask;
 use crate::command_line::{Request, Subject, WorldPaths, parse_command_line};
 use crate::explaining::explain;
-use crate::fault::fault_at;
-use crate::fault_text::report;
-use crate::files;
-use crate::page::Page;
 use crate::read_file::read_file;
 use crate::reporting::{dead, receivers};
-use am_labels::{Fault, Kind, Out, Place, Sink};
+use am_labels::{Fault, Kind, Out, Place, Sink, fault_at, report};
+use am_search::Page;
 use clap::Error;
 use clap::error::ErrorKind;
 use std::alloc::Global;
@@ -120,7 +117,7 @@ fn call_over<R: Files + AllocGlobal, W: Write + Drop>(
     let config = read_input_if_any(rt, world.config, Place::Config)?;
     let silences = read_input_if_any(rt, world.silences, Place::Silences)?;
     let alerts = read_input_if_any(rt, world.alerts, Place::Alerts)?;
-    let files = files::Files {
+    let files = am_eval::Files {
         config: config.as_ref().map(|bytes| bytes.as_slice()),
         silences: silences.as_ref().map(|bytes| bytes.as_slice()),
         alerts: alerts.as_ref().map(|bytes| bytes.as_slice()),
@@ -133,7 +130,7 @@ fn call_over<R: Files + AllocGlobal, W: Write + Drop>(
 fn call_buffered<W: Write + Drop>(
     alloc: Global,
     call: Call<'_>,
-    files: &files::Files<'_>,
+    files: &am_eval::Files<'_>,
     out: &mut W,
 ) -> Result<u8, Fault> {
     let buffered = match BufWriter::with_capacity(alloc, BUFFER, out) {
@@ -160,7 +157,7 @@ fn call_buffered<W: Write + Drop>(
 fn make_call<W: Sink>(
     alloc: Global,
     call: Call<'_>,
-    files: &files::Files<'_>,
+    files: &am_eval::Files<'_>,
     out: &mut W,
 ) -> Result<(), Fault> {
     match call {

@@ -4,7 +4,8 @@ ghost use Rattle.am_universe.specs.declared.place.Place.TheVariants as places;
 ghost use Rattle.am_labels.specs.Words.{Wrote, WroteInPart};
 ghost use Rattle.am_json.specs.Words.{refusal_of};
 ghost use Rattle.am_commands.specs.Words.{report_stages, AcceptsReport, ReportsFiles};
-ghost use Rattle.am_commands.specs.Words.{routes_report, receivers_report, IsFirstFaultOfCall};
+ghost use Rattle.am_commands.specs.Words.{routes_report, receivers_report};
+ghost use Rattle.am_eval.specs.Words.{IsFirstFaultOfCall};
 
 use am_coverage::{receivers_covered, routes_covered, write_receivers, write_routes};
 use am_eval::World;

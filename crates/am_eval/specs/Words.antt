@@ -12,18 +12,14 @@ pub use Rattle.am_eval.specs.Inhibition.{inhibitors, pair_inhibits}
 pub use Rattle.am_eval.specs.InhibitionExample.{inhibiting_world, severity_warning, severity_any}
 pub use Rattle.am_eval.specs.Question.{Question, holds_of, satisfies, is_answer, answers}
 pub use Rattle.am_eval.specs.QuestionView.{question_view}
-pub use Rattle.am_eval.specs.Tokens.{Token, SpellsTokens, is_word_character}
-pub use Rattle.am_eval.specs.TokenView.{token_view}
-pub use Rattle.am_eval.specs.TokenReading.{is_plain}
-unfoldable pub use Rattle.am_eval.specs.TokenReading.{read_quoted, read_token}
 pub use Rattle.am_eval.specs.Tree.{Tree}
-pub use Rattle.am_eval.specs.TreeView.{tree_view, written_view}
-pub use Rattle.am_eval.specs.Grammar.{Written, IsQuestion}
-pub use Rattle.am_eval.specs.GrammarReading.{behind, behind_open, behind_close, is_word, name_of}
-pub use Rattle.am_eval.specs.GrammarReading.{IsPathText, Refuses}
-pub use Rattle.am_eval.specs.GrammarReading.{TakesQuestion, TakesBoth, TakesOne}
-pub use Rattle.am_eval.specs.GrammarReading.{TakesSimple, TakesPart}
-pub use Rattle.am_eval.specs.GrammarExamples.{any_word, not_word, and_word, or_word, any_tree}
-pub use Rattle.am_eval.specs.QuestionText.{ReadsQuestion, QuestionRefusedFor, TreeMeans}
-pub use Rattle.am_eval.specs.QuestionText.{PartsRefusedFor, PartRefusedFor, IsPathOfRoute}
-pub use Rattle.am_eval.specs.QuestionText.{parts_of}
+pub use Rattle.am_eval.specs.Files.{config_of, SaysSilencesIfAny, SaysAlertsIfAny}
+pub use Rattle.am_eval.specs.AskedInstant.{asked_instant, instant_fault}
+pub use Rattle.am_eval.specs.Faults.{Stage, IsFirstFaultOfCall, universe_stage, config_stage}
+pub use Rattle.am_eval.specs.Faults.{SilencesRefusedFor, InstantRefusedFor, AlertsRefusedFor}
+pub use Rattle.am_eval.specs.Faults.{SetStageRefusedFor}
+pub use Rattle.am_eval.specs.WorldInputs.{WorldInputs, world_inputs_of, AcceptsWorld}
+pub use Rattle.am_eval.specs.WorldInputs.{world_stages}
+pub use Rattle.am_eval.specs.Explanation.{receiver_name_at, end_line, silenced_line}
+pub use Rattle.am_eval.specs.Explanation.{inhibited_line, explanation_text, ExplainsSet}
+pub use Rattle.am_eval.specs.Explanation.{explain_stages}

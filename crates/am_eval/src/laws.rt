@@ -11,7 +11,7 @@ ghost use Rattle.am_labels.specs.Words.{Label, sizes, IsWhole, LabelMap, label_s
 ghost use Rattle.am_labels.specs.Words.{condition_holds, value_of};
 ghost use Rattle.am_files.specs.Words.{RouteTree, Configuration, IsConfig, matchers_of, route_at};
 ghost use Rattle.am_files.specs.Words.{children_of, list_of};
-ghost use Rattle.am_eval.specs.declared.limits.TheConstants.{MAX_TOKENS, MAX_PAIRS};
+ghost use Rattle.am_eval.specs.declared.limits.TheConstants.{MAX_PAIRS};
 ghost use Rattle.am_eval.specs.declared.pair.Pair.{Pair};
 ghost use Rattle.am_eval.specs.Tree.{Not, And, Or};
 ghost use Rattle.am_eval.specs.Question.{Any, Silenced, Receiver, Ends, Enters};
@@ -23,9 +23,8 @@ ghost use Rattle.am_files.specs.ConfigFile.{Rule};
 ghost use Rattle.am_eval.specs.Words.{is_two_sided, inhibits, is_inhibited, inhibitors, pairs_of};
 ghost use Rattle.am_eval.specs.Words.{pair_inhibits, inhibiting_world, severity_critical};
 ghost use Rattle.am_eval.specs.Words.{severity_warning, severity_any};
-ghost use Rattle.am_eval.specs.Words.{Question, holds_of, satisfies, answers, Token, SpellsTokens};
-ghost use Rattle.am_eval.specs.Words.{Tree, Written, IsQuestion, ReadsQuestion};
-ghost use Rattle.am_eval.specs.Words.{any_word, not_word, and_word, or_word, any_tree};
+ghost use Rattle.am_eval.specs.Words.{Question, holds_of, satisfies, answers};
+ghost use Rattle.am_eval.specs.Words.{Tree};
 
 /// An alert ends somewhere, since the top-level route matches every label set. Each end is the
 /// path of a route that matches, and so has a receiver.
@@ -241,40 +240,7 @@ pub fn answers_ascend()
         → IsStrictlySortedBy (slice_cmp nat_cmp) (answers u w question) }
 {}
 
-/// A text has at most one list of tokens.
-pub fn one_list_of_tokens_a_text()
-    ensures one { (text : List ℕ) (ts us : List Token) → SpellsTokens text ts
-        → SpellsTokens text us → ts ≡ us }
-{}
-
-/// A list of tokens is at most one tree.
-pub fn one_tree_a_list_of_tokens()
-    ensures one { (tokens : List Token) (tree other : Tree Written) → IsQuestion tokens tree
-        → IsQuestion tokens other → tree ≡ other }
-{}
-
-/// Four questions made of `any`: `or` and `and` join to the left, `and` binds more tightly than
-/// `or`, and `not` than `and`.
-pub fn joins_to_the_left()
-    ensures or { IsQuestion (any_word ∷ or_word ∷ any_word ∷ or_word ∷ any_word ∷ [])
-        (Or (Or any_tree any_tree) any_tree) }
-    ensures and { IsQuestion (any_word ∷ and_word ∷ any_word ∷ and_word ∷ any_word ∷ [])
-        (And (And any_tree any_tree) any_tree) }
-    ensures and_in_or { IsQuestion
-        (any_word ∷ and_word ∷ any_word ∷ or_word ∷ any_word ∷ and_word ∷ any_word ∷ [])
-        (Or (And any_tree any_tree) (And any_tree any_tree)) }
-    ensures not_in_and { IsQuestion (not_word ∷ any_word ∷ and_word ∷ any_word ∷ [])
-        (And (Not any_tree) any_tree) }
-{}
-
-/// A text is read as at most one question about a configuration.
-pub fn one_question_a_text()
-    ensures one { (c : Configuration) (text : List ℕ) (p q : Question)
-        → ReadsQuestion c text p → ReadsQuestion c text q → p ≡ q }
-{}
-
-/// The limits of questions and of worlds.
-pub fn questions_and_worlds_have_limits()
-    ensures tokens { MAX_TOKENS ≡ 256 }
+/// The limit of worlds.
+pub fn worlds_have_a_limit()
     ensures pairs { MAX_PAIRS ≡ 16384 }
 {}

@@ -2,8 +2,8 @@
 //!
 //! [`ends`] says which routes handle an alert, and [`receivers_of`] at which receivers it ends. In
 //! a [`World`] there are silences and firing alerts too: [`silenced_by`] says which silences hide
-//! it, and [`inhibited_by`] what inhibits it.
-//! [`parse_question`] reads a [`Question`] about a label set.
+//! it, and [`inhibited_by`] what inhibits it. [`read_world`] reads a world from its [`Files`]. An
+//! [`Explanation`] says of one label set why it goes where it goes, and a [`Question`] asks of any.
 #![tactic(auto)]
 
 // How much there may be.
@@ -25,13 +25,21 @@ pub use pair::Pair;
 pub use silencing::silenced_by;
 pub use world::World;
 
-// Questions: what they are, and their text.
-mod grammar;
-mod names;
-mod question;
-mod tokens;
+// What a world is read from, and a label set.
+mod files;
+mod world_inputs;
 
-pub use names::parse_question;
+pub use files::Files;
+pub use world_inputs::{read_set, read_world};
+
+// Why a label set goes where it goes.
+mod explanation;
+
+pub use explanation::{Explanation, explanation_of, write_explanation};
+
+// Questions.
+mod question;
+
 pub use question::Question;
 
 // What holds of the definitions by themselves.

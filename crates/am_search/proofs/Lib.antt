@@ -4,3 +4,4 @@ pub mod Walks
 pub mod Positions
 pub mod TokenTexts
 pub mod Pages
+pub mod PageLines

@@ -4,3 +4,5 @@ pub mod Start
 pub mod Page
 pub mod Token
 pub mod AnswersView
+pub mod TrailerText
+pub mod PageText

@@ -7,3 +7,5 @@ pub use Rattle.am_search.specs.Page.{IsPage, IsChain}
 pub use Rattle.am_search.specs.Page.{all_choices_of}
 pub use Rattle.am_search.specs.Token.{token_text}
 pub use Rattle.am_search.specs.AnswersView.{answers_left, answers_judge, answers_state}
+pub use Rattle.am_search.specs.TrailerText.{trailer_text}
+pub use Rattle.am_search.specs.PageText.{lines_text, page_text}

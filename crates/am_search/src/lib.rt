@@ -25,10 +25,21 @@ mod answers;
 
 pub use answers::{Answers, State, first};
 
+// Which part of the answers is wanted.
+mod page;
+
+pub use page::Page;
+
 // Starts as texts.
 mod token;
 
 pub use token::{parse_token, write_token};
+
+// Pages and their trailers as texts.
+mod page_text;
+mod trailer_text;
+
+pub use page_text::write_page;
 
 // What holds of the definitions by themselves.
 pub mod laws;

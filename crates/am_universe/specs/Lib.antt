@@ -13,3 +13,4 @@ pub mod Completions
 pub mod LabelSet
 pub mod LabelSetView
 pub mod WrittenLabelSet
+pub mod FaultText

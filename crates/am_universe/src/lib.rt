@@ -15,7 +15,7 @@ mod kind;
 mod label_fault;
 mod place;
 
-pub use fault::Fault;
+pub use fault::{Fault, fault_at};
 pub use kind::Kind;
 pub use label_fault::{LabelFault, LabelPart};
 pub use place::Place;
@@ -47,6 +47,11 @@ pub use label_set::{LabelSet, set_of};
 mod write;
 
 pub use write::{put_all, put_str, write_map, write_set, write_text};
+
+// The line for a fault, and the exit status.
+mod fault_text;
+
+pub use fault_text::{report, status, write_fault};
 
 // What holds of the definitions by themselves.
 pub mod laws;

@@ -1,65 +1,49 @@
 -- What was read is accepted, and what is written is the page of its answers.
-use Rattle.std.proofs.Common.{◌≡◌, subst, ap, ◌∙◌}
-use Rattle.am_universe.specs.Sink.{Wrote, WroteInPart}
 use Rattle.am_eval.specs.Question.{is_answer}
 use Rattle.am_eval.specs.QuestionView.{question_view}
-use Rattle.am_search.specs.Page.{AnswerPage, page_of}
-use Rattle.am_search.specs.AnswersView.{answers_left}
-use Rattle.am_whole.specs.WholeView.{whole_sizes, whole_truth}
-use Rattle.am_commands.specs.PageText.{page_text}
-use Rattle.am_commands.specs.AskOutcome.{answer_page}
-use Rattle.am_commands.proofs.AskedPages.{page_of_judge, rest_of_page}
+use Rattle.am_commands.proofs.AskedPages.{rest_of_page, asked_is_start, if_both, if_failed}
 use Rattle.am_commands.proofs.asking.ask.Goals as goal
 
-pub returns-in-Ok-write_page-clause-answered : goal.returns-in-Ok-write_page-clause-answered
-returns-in-Ok-write_page-clause-answered g c =
-    let accepted = c.in_ok-accepted.accepted in
-    let question = question_view accepted.question in
-    let answer = is_answer accepted.universe accepted.world question in
-    let left = answers_left c.from-answers.result in
-    let limit = c.args.page.now.limit in
-    let same : page_of left limit
-    ≡ answer_page accepted.universe accepted.world question accepted.start limit =
-    page_of_judge accepted.universe (whole_sizes c.in-Ok.judge) (whole_truth c.in-Ok.judge) answer
-    accepted.start left limit c.in-Ok.ensures.sizes c.in-Ok.ensures.truth
-    c.from-answers.ensures.left in
-    let ends = c.in-Ok-write_page.ensures.trailer ∙ ap (λ p. p.trailer) same in
+pub write_answers-requires : goal.write_answers-requires
+write_answers-requires g c =
+    let read = c.in_ok-accepted.accepted in
     record {
-      universe = accepted.universe;
-      world = accepted.world;
-      question = question;
-      start = accepted.start;
-      accepts = c.in_ok-accepted.ensures.accepts;
-      written = subst
-          (λ (p : AnswerPage). Wrote g.W.Sink.taken g.W.Sink.failures c.args.out.now
-          c.write_page.new.out (page_text accepted.universe p))
-          same c.in-Ok-write_page.ensures.written.ok;
-      ends = ends;
-      rest = rest_of_page accepted.universe answer accepted.start limit
-          c.in-Ok-write_page.trailer c.requires.limit ends;
+      limit = c.requires.limit;
+      start = asked_is_start read.universe _ read.start c.in_ok-accepted.ensures.accepts.starts;
     }
 
+pub returns-clause-answered : goal.returns-clause-answered
+returns-clause-answered g c =
+    let read = c.in_ok-accepted.accepted in
+    let answer = is_answer read.universe read.world (question_view read.question) in
+    if_both c.write_answers.result _ _ _
+    (λ trailer ends written. record {
+      universe = read.universe;
+      world = read.world;
+      question = question_view read.question;
+      start = read.start;
+      accepts = c.in_ok-accepted.ensures.accepts;
+      written = written;
+      ends = ends;
+      rest = rest_of_page read.universe answer read.start c.args.page.now.limit trailer c.requires.limit ends;
+    })
+    c.write_answers.ensures.trailer c.write_answers.ensures.written
+
 pub returns-clause-write : goal.returns-clause-write
-returns-clause-write g c = λ written.
-    let accepted = c.in_ok-accepted.accepted in
-    let question = question_view accepted.question in
-    let answer = is_answer accepted.universe accepted.world question in
-    let left = answers_left c.from-answers.result in
-    let limit = c.args.page.now.limit in (
-      c.of-in-Err-write_page.ensures.place,
-      c.of-in-Err-write_page.ensures.pointer,
+returns-clause-write g c =
+    let read = c.in_ok-accepted.accepted in
+    if_failed c.write_answers.result _ _
+    (λ fault told failed.
+    let there = told failed in (
+      there.0,
+      there.1,
       record {
-        universe = accepted.universe;
-        world = accepted.world;
-        question = question;
-        start = accepted.start;
+        universe = read.universe;
+        world = read.world;
+        question = question_view read.question;
+        start = read.start;
         accepts = c.in_ok-accepted.ensures.accepts;
-        written = subst
-            (λ (p : AnswerPage). WroteInPart g.W.Sink.taken g.W.Sink.failures c.args.out.now
-            c.write_page.new.out (page_text accepted.universe p))
-            (page_of_judge accepted.universe (whole_sizes c.in-Ok.judge)
-            (whole_truth c.in-Ok.judge) answer accepted.start left limit c.in-Ok.ensures.sizes
-            c.in-Ok.ensures.truth c.from-answers.ensures.left)
-            c.in-Err-write_page.ensures.written.err.1;
+        written = there.2;
       },
-    )
+    ))
+    c.write_answers.ensures.write

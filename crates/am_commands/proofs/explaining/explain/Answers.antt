@@ -12,10 +12,11 @@ use Rattle.am_eval.specs.World.{World}
 use Rattle.am_eval.specs.Routing.{ends}
 use Rattle.am_eval.specs.Silencing.{silencers}
 use Rattle.am_eval.specs.Inhibition.{inhibitors}
-use Rattle.am_commands.specs.Explanation.{explanation_text}
-use Rattle.am_commands.specs.Faults.{IsFirstFaultOfCall, set_stage}
-use Rattle.am_commands.specs.Inputs.{world_inputs_of, world_stages, explain_stages}
-use Rattle.am_commands.proofs.FirstFaults.{first_of_more, first_behind_world, handed_on}
+use Rattle.am_eval.specs.Explanation.{explanation_text}
+use Rattle.am_eval.specs.Faults.{IsFirstFaultOfCall, set_stage}
+use Rattle.am_eval.specs.WorldInputs.{world_inputs_of, world_stages}
+use Rattle.am_eval.specs.Explanation.{explain_stages}
+use Rattle.am_eval.proofs.FirstFaults.{first_of_more, first_behind_world, handed_on}
 use Rattle.am_commands.proofs.explaining.explain.Goals as goal
 
 -- the text of what was found

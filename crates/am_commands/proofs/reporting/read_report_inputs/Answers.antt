@@ -10,9 +10,9 @@ use Rattle.am_files.specs.ConfigFile.{Rule}
 use Rattle.am_files.specs.ConfigView.{config_view}
 use Rattle.am_eval.specs.declared.limits.TheConstants.{MAX_PAIRS}
 use Rattle.am_eval.specs.Pairs.{pairs_of, pairs_of_rule}
-use Rattle.am_commands.specs.Faults.{IsFirstFaultOfCall}
+use Rattle.am_eval.specs.Faults.{IsFirstFaultOfCall}
 use Rattle.am_commands.specs.Reports.{report_stages}
-use Rattle.am_commands.proofs.FirstFaults.{handed_on}
+use Rattle.am_eval.proofs.FirstFaults.{handed_on}
 use Rattle.am_commands.proofs.reporting.read_report_inputs.Goals as goal
 
 -- no alert, no pair

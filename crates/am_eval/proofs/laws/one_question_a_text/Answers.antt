@@ -1,5 +1,0 @@
-use Rattle.am_eval.proofs.OneMeaning.{one_question}
-use Rattle.am_eval.proofs.laws.one_question_a_text.Goals as goal
-
-pub returns : goal.returns
-returns c = record { one = one_question }

@@ -1,0 +1,69 @@
+-- Why a label set goes where it goes: the text of `explain`. (This project's own.)
+use Rattle.std.specs.Prelude.{ℕ, List, [], ◌∷◌, ◌++◌, option_and_then, slice_get, unwrap_or, codes}
+use Rattle.std.specs.Prelude.{decimal}
+use Rattle.std.specs.List.{flat_map}
+use Rattle.am_universe.specs.LabelSet.{LabelMap}
+use Rattle.am_universe.specs.Text.{quoted_text}
+use Rattle.am_universe.specs.WrittenLabelSet.{map_text}
+use Rattle.am_labels.specs.ParsedLabelSet.{SpellsSet}
+use Rattle.am_files.specs.ConfigFile.{Configuration}
+use Rattle.am_files.specs.Path.{path_text}
+use Rattle.am_eval.specs.World.{World}
+use Rattle.am_eval.specs.Routing.{ends, receiver_at}
+use Rattle.am_eval.specs.Silencing.{silencers}
+use Rattle.am_eval.specs.Inhibition.{inhibitors}
+use Rattle.am_eval.specs.Faults.{Stage, set_stage}
+use Rattle.am_eval.specs.WorldInputs.{WorldInputs, AcceptsWorld, world_stages}
+
+-- The name of the receiver of the route at a path.
+abbrev pub receiver_name_at : Configuration → List ℕ → List ℕ
+receiver_name_at c path =
+    unwrap_or (option_and_then (slice_get c.receivers) (receiver_at c path)) []
+
+-- The line of an end, with the path of the route and the name of its receiver in quotes; that of a
+-- silence; and that of a rule and a firing alert. Silences, rules and alerts are told by their
+-- positions, in decimal.
+abbrev pub end_line : Configuration → List ℕ → List ℕ
+end_line c path =
+    codes "end " ++ (path_text path
+    ++ (codes " " ++ (quoted_text (receiver_name_at c path) ++ codes "\n")))
+
+abbrev pub silenced_line : ℕ → List ℕ
+silenced_line i = codes "silenced " ++ (decimal i ++ codes "\n")
+
+abbrev pub inhibited_line : ℕ × ℕ → List ℕ
+inhibited_line found =
+    codes "inhibited " ++ (decimal found.0 ++ (codes " " ++ (decimal found.1 ++ codes "\n")))
+
+-- The text that explains a label set by its ends, the silences that hide it, and the rules and
+-- firing alerts that inhibit it: the set itself, with its labels in the order of the bytes of their
+-- names; then a line for each end, in order; for each silence; and for each rule and alert.
+-- Source: own choice.
+-- Example: where `{team="db"}` ends at `/0`, whose receiver is `dba`, the first silence hides it,
+-- and by the first rule the third alert inhibits it, the lines are `{team="db"}`, `end /0 "dba"`,
+-- `silenced 0` and `inhibited 0 2`.
+abbrev pub explanation_text : Configuration → LabelMap → List (List ℕ) → List ℕ → List (ℕ × ℕ)
+    → List ℕ
+explanation_text c set ends silencers inhibitors =
+    map_text set ++ (codes "\n" ++ (flat_map (end_line c) ends
+    ++ (flat_map silenced_line silencers ++ flat_map inhibited_line inhibitors)))
+
+-- The stages of `explain`, in order: those of the world, the text of the label set.
+-- Source: own choice.
+-- Example: where the configuration is accepted, there are no silences, the file of alerts is `{}`
+-- and the text of the set is `a!=b`, the first fault is the `shape` of the alerts; without that
+-- file it is the `bad-matcher` of the set.
+abbrev pub explain_stages : WorldInputs → List ℕ → List Stage
+explain_stages inputs set = world_stages inputs ++ set_stage set ∷ []
+
+-- The world is accepted, the text is that of the label set, and this holds of the text that
+-- explains the set by all its ends in the world, all silences that hide it there, and all rules and
+-- alerts that inhibit it there: that it was written, all of it or a part.
+pub record ExplainsSet (inputs : WorldInputs) (text : List ℕ) (IsWritten : List ℕ → Type 0)
+    : Type 0 where
+  pub world : World
+  pub set : LabelMap
+  pub accepts : AcceptsWorld inputs world
+  pub spelled : SpellsSet text set
+  pub explanation : IsWritten (explanation_text world.config set
+      (ends set world.config) (silencers world set) (inhibitors world set))

@@ -1,0 +1,153 @@
+-- Which fault of a call comes first. (This project's own.)
+use Rattle.std.specs.Prelude.{◌≡◌, ◌⊎◌, ◌<◌, ◌≤◌, ℕ, List, [], ◌∷◌, length, Option, Some, None}
+use Rattle.am_universe.specs.declared.kind.Kind.TheVariants as kinds
+use Rattle.am_universe.specs.declared.place.Place.{Place}
+use Rattle.am_universe.specs.declared.place.Place.TheVariants as places
+use Rattle.am_universe.specs.Universe.{Label}
+use Rattle.am_universe.specs.LabelSet.{LabelMap}
+use Rattle.am_labels.specs.ParsedLabelSet.{SpellsSet, SetTextRefusedFor}
+use Rattle.am_json.specs.Pointer.{Refusal, refusal_here}
+use Rattle.am_records.specs.UniverseFile.{FileSaysUniverse}
+use Rattle.am_records.specs.UniverseFaults.{IsFirstFaultOfUniverseFile}
+use Rattle.am_files.specs.ConfigFile.{Configuration, FileSaysConfig}
+use Rattle.am_files.specs.ConfigFaults.{ConfigFileRefusedFor}
+use Rattle.am_records.specs.SilencesFile.{Silence}
+use Rattle.am_records.specs.SilencesFaults.{SilencesFileRefusedFor}
+use Rattle.am_records.specs.AlertsFaults.{IsFirstFaultOfAlertsFile}
+use Rattle.am_eval.specs.declared.limits.TheConstants.{MAX_PAIRS}
+use Rattle.am_eval.specs.Pairs.{pairs_of}
+use Rattle.am_eval.specs.Files.{SaysSilencesIfAny, SaysAlertsIfAny}
+use Rattle.am_eval.specs.AskedInstant.{instant_fault}
+
+-- A stage of a call, which reads one of its inputs: the place of its faults, that the input is
+-- accepted, and what it may be refused for.
+pub record Stage : Type 1 where
+  pub place : Place
+  pub accepts : Type 0
+  pub refuses : Refusal → Type 0
+
+-- The first fault of a call whose stages come in this order, unless memory runs out: one stage
+-- refuses its input for it, and every earlier stage accepts its own.
+abbrev pub IsFirstFaultOfCall : List Stage → Place → Refusal → Type 0
+IsFirstFaultOfCall [] place r = ⊥
+IsFirstFaultOfCall (stage ∷ later) place r =
+    ((place ≡ stage.place) × stage.refuses r) ⊎ (stage.accepts × IsFirstFaultOfCall later place r)
+
+-- ---- The stages that there are.
+
+-- The bytes of a file say a universe.
+abbrev pub SaysSomeUniverse : List ℕ → Type 0
+SaysSomeUniverse bytes = (universe : List Label) × FileSaysUniverse bytes universe
+
+-- The bytes of a file say a configuration.
+abbrev pub SaysSomeConfig : List ℕ → Type 0
+SaysSomeConfig bytes = (configuration : Configuration) × FileSaysConfig bytes configuration
+
+-- The bytes of a file, if there is one, say silences.
+abbrev pub SaysSomeSilences : Option (List ℕ) → Type 0
+SaysSomeSilences file = (silences : List Silence) × SaysSilencesIfAny file silences
+
+-- Why the bytes of a file of silences are refused, if there is one.
+abbrev pub SilencesRefusedFor : Option (List ℕ) → Refusal → Type 0
+SilencesRefusedFor None r = ⊥
+SilencesRefusedFor (Some bytes) r = SilencesFileRefusedFor bytes r
+
+-- Why the text of the instant is refused, or that there is none, beside this file of silences. Such
+-- a fault stands at no part of a file.
+abbrev pub InstantRefusedFor : Option (List ℕ) → Option (List ℕ) → Refusal → Type 0
+InstantRefusedFor silences at r = (instant_fault silences at ≡ Some r.kind) × (r.pointer ≡ [])
+
+-- The bytes of a file, if there is one, say alerts.
+abbrev pub SaysSomeAlerts : Option (List ℕ) → Type 0
+SaysSomeAlerts file = (alerts : List LabelMap) × SaysAlertsIfAny file alerts
+
+-- Why the bytes of a file of alerts are refused, if there is one.
+abbrev pub AlertsRefusedFor : Option (List ℕ) → Refusal → Type 0
+AlertsRefusedFor None r = ⊥
+AlertsRefusedFor (Some bytes) r = IsFirstFaultOfAlertsFile bytes r
+
+-- The files say a configuration and alerts of which there are not too many pairs.
+pub record SaysFewPairs (config : List ℕ) (file : Option (List ℕ)) : Type 0 where
+  pub configuration : Configuration
+  pub says_config : FileSaysConfig config configuration
+  pub alerts : List LabelMap
+  pub says_alerts : SaysAlertsIfAny file alerts
+  pub few : length (pairs_of configuration.rules alerts) ≤ MAX_PAIRS
+
+-- The files say a configuration and alerts of which there are too many pairs. Such a fault stands
+-- at no part of a file.
+-- Source: own choice.
+-- Example: 128 rules and 128 alerts are accepted, where each source side matches each alert. With a
+-- 129th such rule there are 16,512 pairs, and it is `limit`.
+pub record PairsRefusedFor (config : List ℕ) (file : Option (List ℕ)) (r : Refusal)
+    : Type 0 where
+  pub configuration : Configuration
+  pub says_config : FileSaysConfig config configuration
+  pub alerts : List LabelMap
+  pub says_alerts : SaysAlertsIfAny file alerts
+  pub many : MAX_PAIRS < length (pairs_of configuration.rules alerts)
+  pub refusal : r ≡ refusal_here kinds.Limit
+
+-- The text is that of a label set.
+abbrev pub SpellsSomeSet : List ℕ → Type 0
+SpellsSomeSet text = (set : LabelMap) × SpellsSet text set
+
+-- Why the text is refused as that of a label set; its faults stand at no part of a file.
+abbrev pub SetStageRefusedFor : List ℕ → Refusal → Type 0
+SetStageRefusedFor text r = SetTextRefusedFor text r.kind × (r.pointer ≡ [])
+
+-- The universe file.
+abbrev pub universe_stage : List ℕ → Stage
+universe_stage bytes = record {
+  place = places.Universe;
+  accepts = SaysSomeUniverse bytes;
+  refuses = IsFirstFaultOfUniverseFile bytes;
+}
+
+-- The configuration file.
+abbrev pub config_stage : List ℕ → Stage
+config_stage bytes = record {
+  place = places.Config;
+  accepts = SaysSomeConfig bytes;
+  refuses = ConfigFileRefusedFor bytes;
+}
+
+-- The file of silences, if there is one.
+abbrev pub silences_stage : Option (List ℕ) → Stage
+silences_stage file = record {
+  place = places.Silences;
+  accepts = SaysSomeSilences file;
+  refuses = SilencesRefusedFor file;
+}
+
+-- The file of alerts, if there is one.
+abbrev pub alerts_stage : Option (List ℕ) → Stage
+alerts_stage file = record {
+  place = places.Alerts;
+  accepts = SaysSomeAlerts file;
+  refuses = AlertsRefusedFor file;
+}
+
+-- The text of the instant, if there is one, beside a file of silences, if there is one.
+abbrev pub instant_stage : Option (List ℕ) → Option (List ℕ) → Stage
+instant_stage silences at = record {
+  place = places.Instant;
+  accepts = instant_fault silences at ≡ None;
+  refuses = InstantRefusedFor silences at;
+}
+
+-- The pairs of the rules of a configuration file and the alerts of a file, if there is one.
+abbrev pub pairs_stage : List ℕ → Option (List ℕ) → Stage
+pairs_stage config file = record {
+  place = places.Alerts;
+  accepts = SaysFewPairs config file;
+  refuses = PairsRefusedFor config file;
+}
+
+-- The text of a label set.
+abbrev pub set_stage : List ℕ → Stage
+set_stage text = record {
+  place = places.Set;
+  accepts = SpellsSomeSet text;
+  refuses = SetStageRefusedFor text;
+}

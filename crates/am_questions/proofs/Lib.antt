@@ -1,0 +1,10 @@
+pub mod QuotedTexts
+pub mod BraceTokens
+pub mod TokenTexts
+pub mod Boundaries
+pub mod Takes
+pub mod TakesSteps
+pub mod PartLemmas
+pub mod RouteNames
+pub mod TreeSeen
+pub mod OneMeaning

@@ -1,0 +1,78 @@
+-- The simple parts of a tree, from left to right: what they mean, and the first that is refused.
+use Rattle.std.proofs.Common.{◌≤◌, ℕ, length, inr}
+use Rattle.std.proofs.Common.{◌≢◌, Result, Ok, Err, IfErr, List, [], ◌∷◌, ◌++◌, ap, sym, ◌∙◌, refl, append_assoc}
+use Rattle.std.specs.List.{AllByRecursion}
+use Rattle.am_universe.specs.declared.kind.Kind.{Kind}
+use Rattle.am_universe.specs.declared.kind.Kind.TheVariants as kinds
+use Rattle.am_files.specs.ConfigFile.{Configuration}
+use Rattle.am_eval.specs.Tree.{Tree, Part, Not, And, Or}
+use Rattle.am_eval.specs.Question.{Question}
+use Rattle.am_questions.specs.declared.limits.TheConstants.{MAX_TOKENS}
+use Rattle.am_questions.specs.Tokens.{Token, SpellsTokens}
+use Rattle.am_questions.specs.Grammar.{Written, IsQuestion}
+use Rattle.am_questions.specs.QuestionText.{TreeMeans, IsMeant, parts_of, PartRefusedFor}
+use Rattle.am_questions.specs.QuestionText.{PartsRefusedFor, QuestionRefusedFor}
+
+all_joined : {X : Type 0} (P : X → Type 0) (xs ys : List X) → AllByRecursion P xs
+    → AllByRecursion P ys → AllByRecursion P (xs ++ ys)
+all_joined P [] ys hx hy = hy
+all_joined P (x ∷ xs) ys hx hy = (hx.0, all_joined P xs ys hx.1 hy)
+
+-- each part of a tree that means a question means something
+pub parts_meant : (c : Configuration) (tree : Tree Written) (question : Question)
+    → TreeMeans c tree question → AllByRecursion (IsMeant c) (parts_of tree)
+parts_meant c (Part written) question h = ((h.0, h.1), tt)
+parts_meant c (Not t) question h = parts_meant c t h.0 h.1
+parts_meant c (And t u) question h =
+    all_joined (IsMeant c) (parts_of t) (parts_of u)
+    (parts_meant c t h.0 h.2) (parts_meant c u h.1 h.3)
+parts_meant c (Or t u) question h =
+    all_joined (IsMeant c) (parts_of t) (parts_of u)
+    (parts_meant c t h.0 h.2) (parts_meant c u h.1 h.3)
+
+-- a part alone
+pub alone_refused : (c : Configuration) (written : Written) (kind : Kind)
+    → PartRefusedFor c written kind → PartsRefusedFor c (written ∷ []) kind
+alone_refused c written kind h =
+    record { before = []; part = written; after = []; among = refl; meant = tt; refused = h }
+
+-- what a part alone is refused for
+pub alone_if_refused : {A : Type 0} (c : Configuration) (written : Written) (result : Result A Kind)
+    → IfErr result (λ kind. kind ≢ kinds.Memory → PartRefusedFor c written kind)
+    → IfErr result (λ kind. kind ≢ kinds.Memory → PartsRefusedFor c (written ∷ []) kind)
+alone_if_refused c written (Ok x) h = tt
+alone_if_refused c written (Err kind) h = λ other. alone_refused c written kind (h other)
+
+-- a part among the first
+pub left_refused : (c : Configuration) (xs ys : List Written) (kind : Kind)
+    → PartsRefusedFor c xs kind → PartsRefusedFor c (xs ++ ys) kind
+left_refused c xs ys kind h = record {
+  before = h.before;
+  part = h.part;
+  after = h.after ++ ys;
+  among = ap (λ zs. zs ++ ys) h.among ∙ append_assoc h.before (h.part ∷ h.after) ys;
+  meant = h.meant;
+  refused = h.refused;
+}
+
+-- a part behind those that mean something
+pub right_refused : (c : Configuration) (xs ys : List Written) (kind : Kind)
+    → AllByRecursion (IsMeant c) xs → PartsRefusedFor c ys kind → PartsRefusedFor c (xs ++ ys) kind
+right_refused c xs ys kind meant h = record {
+  before = xs ++ h.before;
+  part = h.part;
+  after = h.after;
+  among = ap (λ zs. xs ++ zs) h.among ∙ sym (append_assoc xs h.before (h.part ∷ h.after));
+  meant = all_joined (IsMeant c) xs h.before meant h.meant;
+  refused = h.refused;
+}
+
+-- what the parts of a tree are refused for, its text is refused for
+pub text_if_parts_refused : {A : Type 0} (c : Configuration) (text : List ℕ) (tokens : List Token)
+    (tree : Tree Written) (result : Result A Kind) → SpellsTokens text tokens
+    → length tokens ≤ MAX_TOKENS → IsQuestion tokens tree
+    → IfErr result (λ kind. kind ≢ kinds.Memory → PartsRefusedFor c (parts_of tree) kind)
+    → IfErr result (λ kind. kind ≢ kinds.Memory → QuestionRefusedFor c text kind)
+text_if_parts_refused c text tokens tree (Ok x) spelled few is_tree h = tt
+text_if_parts_refused c text tokens tree (Err kind) spelled few is_tree h = λ other.
+    inr (tokens, spelled, inr (inr (few, tree, is_tree, h other)))

@@ -1,0 +1,439 @@
+-- A text begins with a token exactly where one is read there, and its tokens are read one by one.
+use Rattle.std.proofs.Common.{◌≡◌, refl, sym, ◌∙◌, ap, subst, inl, inr, ℕ, suc, ◌+◌, ◌<◌}
+use Rattle.std.proofs.Common.{List, [], ◌∷◌, ◌++◌, length, take, drop, get_or, Bool, true, false}
+use Rattle.std.proofs.Common.{Option, Some, None, option_map, arith, append_assoc, length-append}
+use Rattle.std.proofs.Common.{length-drop}
+use Rattle.std.specs.Prelude.{◌==◌, ◌≢◌}
+use Rattle.std.specs.List.{list_all, prefix_len}
+use Rattle.std.proofs.lemmas.List.{append-nil, get_or_append_left, take-append-drop, take_at}
+use Rattle.std.proofs.lemmas.List.{drop_at, length-take-le}
+use Rattle.std.proofs.lemmas.List.Sums.{prefix_len-le-length}
+use Rattle.std.proofs.lemmas.Option.{some_pair_parts, none-some}
+use Rattle.std.proofs.lemmas.Bool.{and_parts, cases_Bool, eqb-true}
+use Rattle.std.proofs.lemmas.Bool.Decides.{nat_tests}
+use Rattle.am_labels.specs.MatcherText.{is_space, is_blank}
+use Rattle.am_labels.specs.MatcherReading.{without_leading_blanks}
+use Rattle.am_labels.specs.BraceToken.{brace_len}
+use Rattle.am_labels.proofs.MatcherTextLists.{prefix_whole, drop_prefix, all_of_prefix, all_append}
+use Rattle.am_labels.proofs.MatcherTextLists.{first_after_prefix}
+use Rattle.am_questions.specs.Tokens.{Token, Open, Close, Word, Quoted, BraceList, is_word_character}
+use Rattle.am_questions.specs.Tokens.{SpellsToken, MayFollow, SpellsTokens}
+use Rattle.am_questions.specs.TokenReading.{cut, quoted_token, read_quoted, read_token}
+use Rattle.am_questions.proofs.QuotedTexts.{quoted_is_read, read_is_quoted}
+use Rattle.am_questions.proofs.BraceTokens.{has_length, brace_longer, brace_shorter}
+
+-- the text begins with this token, and this stands behind it
+abbrev pub BeginsWith : List ℕ → Token → List ℕ → Type 0
+BeginsWith text token rest =
+    (here : List ℕ) × (text ≡ here ++ rest) × SpellsToken here token × MayFollow token rest
+
+-- ---- one step
+
+open_step : (text : List ℕ) → read_token (40 ∷ text) ≡ Some (Open, text)
+unfolding read_token
+open_step text = refl
+
+close_step : (text : List ℕ) → read_token (41 ∷ text) ≡ Some (Close, text)
+unfolding read_token
+close_step text = refl
+
+quote_step : (text : List ℕ) → read_token (34 ∷ text) ≡ option_map quoted_token (read_quoted text)
+unfolding read_token
+quote_step text = refl
+
+brace_step : (text : List ℕ) → get_or text 0 0 ≡ 123
+    → read_token text ≡ option_map (cut BraceList text) (brace_len text)
+unfolding read_token
+brace_step text e = rw e refl
+
+-- how long the word is with which a text begins
+abbrev word_len : List ℕ → ℕ
+word_len text = prefix_len is_word_character text
+
+word_step : (c : ℕ) (text : List ℕ)
+    → (c == 40) ≡ false → (c == 41) ≡ false → (c == 34) ≡ false → (c == 123) ≡ false
+    → read_token (c ∷ text) ≡ Some (cut Word (c ∷ text) (word_len (c ∷ text)))
+unfolding read_token
+word_step c text e f g h = rw (e, f, g, h) refl
+
+-- ---- words
+
+-- what a word does not begin with
+pub record IsNoOther (c : ℕ) : Type 0 where
+  pub no_open : (c == 40) ≡ false
+  pub no_close : (c == 41) ≡ false
+  pub no_quote : (c == 34) ≡ false
+  pub no_brace : (c == 123) ≡ false
+  pub no_space : is_space c ≡ false
+
+begins_no_other : (c : ℕ) → is_word_character c ≡ true → IsNoOther c
+begins_no_other c h = record {
+  no_open = grind (arith, nat_tests);
+  no_close = grind (arith, nat_tests);
+  no_quote = grind (arith, nat_tests);
+  no_brace = grind (arith, nat_tests);
+  no_space = grind (arith, nat_tests);
+}
+
+begins_word : (c : ℕ) → IsNoOther c → is_word_character c ≡ true
+begins_word c n = rw (n.no_space, n.no_open, n.no_close, n.no_brace, n.no_quote) refl
+
+run_at_end : (p : ℕ → Bool) (xs : List ℕ) → list_all p xs ≡ true
+    → prefix_len p (xs ++ []) ≡ length xs
+run_at_end p [] h = refl
+run_at_end p (x ∷ xs) h =
+    let parts = and_parts (p x) (list_all p xs) h in
+    let more = run_at_end p xs parts.1 in
+    rw (parts.0, more) (omega arith)
+
+word_length : (word rest : List ℕ) → list_all is_word_character word ≡ true
+    → MayFollow (Word word) rest → word_len (word ++ rest) ≡ length word
+word_length word [] h e = run_at_end is_word_character word h
+word_length word (c ∷ rest) h e = prefix_whole is_word_character word (c ∷ rest) h e
+
+word_is_read : (word rest : List ℕ) → word ≢ [] → list_all is_word_character word ≡ true
+    → MayFollow (Word word) rest
+    → read_token (word ++ rest) ≡ Some (Word word, rest)
+word_is_read [] rest some h e = absurd (some refl)
+word_is_read (c ∷ cs) rest some h e =
+    let n = begins_no_other c
+    (and_parts (is_word_character c) (list_all is_word_character cs) h).0 in
+    let len = word_length (c ∷ cs) rest h e in
+    let front = take_at (c ∷ cs) rest (word_len ((c ∷ cs) ++ rest)) (sym len) in
+    let back = drop_at (c ∷ cs) rest (word_len ((c ∷ cs) ++ rest)) (sym len) in
+    word_step c (cs ++ rest) n.no_open n.no_close n.no_quote n.no_brace ∙ rw (front, back) refl
+
+ends_word : (word text : List ℕ) → MayFollow (Word word) (drop (word_len text) text)
+ends_word word [] = tt
+ends_word word (c ∷ text) = elim (cases_Bool (is_word_character c)) [
+  | inl y ↦
+      let n : 1 + word_len text ≡ suc (word_len text) = omega arith in
+      rw (y, n) (ends_word word text)
+  | inr n ↦ rw n n
+]
+
+read_is_word : (c : ℕ) (text : List ℕ) (token : Token) (rest : List ℕ) → IsNoOther c
+    → read_token (c ∷ text) ≡ Some (token, rest)
+    → BeginsWith (c ∷ text) token rest
+read_is_word c text token rest none e =
+    let n : ℕ = word_len (c ∷ text) in
+    let word : List ℕ = take n (c ∷ text) in
+    let same =
+    some_pair_parts (Word word) token (drop n (c ∷ text)) rest
+    (sym (word_step c text none.no_open none.no_close none.no_quote none.no_brace) ∙ e) in
+    let one : n ≡ 1 + word_len text = rw (begins_word c none) refl in
+    let len : length word ≡ n =
+    length-take-le n (c ∷ text) (prefix_len-le-length is_word_character (c ∷ text)) in
+    let some : word ≢ [] = λ z. (let l : length word ≡ 0 = ap length z in absurd (omega arith)) in
+    let now : BeginsWith (c ∷ text) (Word word) (drop n (c ∷ text)) = (
+      word,
+      sym (take-append-drop n (c ∷ text)),
+      (refl, some, all_of_prefix is_word_character (c ∷ text)),
+      ends_word word (c ∷ text),
+    ) in
+    rw (← same.0, ← same.1) now
+
+-- ---- what is spelled is read
+
+pub token_is_read : (token : Token) (here rest : List ℕ) → SpellsToken here token
+    → MayFollow token rest
+    → read_token (here ++ rest) ≡ Some (token, rest)
+token_is_read Open here rest s e = rw s (open_step rest)
+token_is_read Close here rest s e = rw s (close_step rest)
+token_is_read (Word word) here rest s e = rw s.0 (word_is_read word rest s.1 s.2 e)
+token_is_read (Quoted value) here rest s e =
+    let body : List ℕ = s.0 in
+    let parts : here ++ rest ≡ 34 ∷ (body ++ 34 ∷ rest) =
+    ap (λ (t : List ℕ). t ++ rest) s.1
+    ∙ ap (λ (t : List ℕ). 34 ∷ t) (append_assoc body (34 ∷ []) rest) in
+    rw parts (quote_step (body ++ 34 ∷ rest) ∙ rw (quoted_is_read value body rest s.2) refl)
+token_is_read (BraceList list) here rest s e =
+    let h = has_length list (length list) s.1 in
+    let long = brace_longer list rest s.1 in
+    let opens : get_or (list ++ rest) 0 0 ≡ 123 =
+    (has_length (list ++ rest) (length list) long).opens in
+    rw s.0 (brace_step (list ++ rest) opens
+    ∙ rw (long, take_at list rest (length list) refl, drop_at list rest (length list) refl)
+    refl)
+
+-- ---- what is read is spelled
+
+read_is_quote : (text : List ℕ) (token : Token) (rest : List ℕ) (read : Option (List ℕ × List ℕ))
+    → ((v r : List ℕ) → read ≡ Some (v, r) → read_quoted text ≡ Some (v, r))
+    → option_map quoted_token read ≡ Some (token, rest)
+    → BeginsWith (34 ∷ text) token rest
+read_is_quote text token rest None h e = absurd (none-some (token, rest) e)
+read_is_quote text token rest (Some p) h e =
+    let same = some_pair_parts (Quoted p.0) token p.1 rest e in
+    let q = read_is_quoted text p.0 p.1 (h p.0 p.1 refl) in
+    let now : BeginsWith (34 ∷ text) (Quoted p.0) p.1 = (
+      34 ∷ (q.0 ++ 34 ∷ []),
+      ap (λ (t : List ℕ). 34 ∷ t) (q.1 ∙ sym (append_assoc q.0 (34 ∷ []) p.1)),
+      (q.0, refl, q.2),
+      tt,
+    ) in
+    rw (← same.0, ← same.1) now
+
+read_is_brace : (text : List ℕ) (token : Token) (rest : List ℕ) (read : Option ℕ)
+    → ((n : ℕ) → read ≡ Some n → brace_len text ≡ Some n)
+    → option_map (cut BraceList text) read ≡ Some (token, rest)
+    → BeginsWith text token rest
+read_is_brace text token rest None h e = absurd (none-some (token, rest) e)
+read_is_brace text token rest (Some n) h e =
+    let same = some_pair_parts (BraceList (take n text)) token (drop n text) rest e in
+    let short = brace_shorter text n (h n refl) in
+    let whole : brace_len (take n text) ≡ Some (length (take n text)) =
+    short.1 ∙ ap (λ (k : ℕ). Some k) (sym short.0) in
+    let now : BeginsWith text (BraceList (take n text)) (drop n text) =
+    (take n text, sym (take-append-drop n text), (refl, whole), tt) in
+    rw (← same.0, ← same.1) now
+
+pub read_is_token : (text : List ℕ) (token : Token) (rest : List ℕ) → 0 < length text
+    → is_space (get_or text 0 0) ≡ false
+    → read_token text ≡ Some (token, rest) → BeginsWith text token rest
+read_is_token [] token rest l start e = absurd (omega arith)
+read_is_token (c ∷ text) token rest l start e = elim (cases_Bool (c == 40)) [
+  | inl y ↦
+      let is : c ≡ 40 = eqb-true c 40 y in
+      let e' : read_token (40 ∷ text) ≡ Some (token, rest) =
+      subst (λ (b : ℕ). read_token (b ∷ text) ≡ Some (token, rest)) is e in
+      let same = some_pair_parts Open token text rest (sym (open_step text) ∙ e') in
+      let now : BeginsWith (40 ∷ text) Open text = (40 ∷ [], refl, refl, tt) in
+      rw (is, ← same.0, ← same.1) now
+  | inr not_open ↦ elim (cases_Bool (c == 41)) [
+    | inl y ↦
+        let is : c ≡ 41 = eqb-true c 41 y in
+        let e' : read_token (41 ∷ text) ≡ Some (token, rest) =
+        subst (λ (b : ℕ). read_token (b ∷ text) ≡ Some (token, rest)) is e in
+        let same = some_pair_parts Close token text rest (sym (close_step text) ∙ e') in
+        let now : BeginsWith (41 ∷ text) Close text = (41 ∷ [], refl, refl, tt) in
+        rw (is, ← same.0, ← same.1) now
+    | inr not_close ↦ elim (cases_Bool (c == 34)) [
+      | inl y ↦
+          let is : c ≡ 34 = eqb-true c 34 y in
+          let e' : read_token (34 ∷ text) ≡ Some (token, rest) =
+          subst (λ (b : ℕ). read_token (b ∷ text) ≡ Some (token, rest)) is e in
+          rw is (read_is_quote text token rest (read_quoted text) (λ v r h. h)
+          (sym (quote_step text) ∙ e'))
+      | inr not_quote ↦ elim (cases_Bool (c == 123)) [
+        | inl y ↦
+            let is : c ≡ 123 = eqb-true c 123 y in
+            read_is_brace (c ∷ text) token rest (brace_len (c ∷ text)) (λ n h. h)
+            (sym (brace_step (c ∷ text) is) ∙ e)
+        | inr not_brace ↦
+            let none : IsNoOther c = record {
+              no_open = not_open;
+              no_close = not_close;
+              no_quote = not_quote;
+              no_brace = not_brace;
+              no_space = start;
+            } in
+            read_is_word c text token rest none e
+      ]
+    ]
+  ]
+]
+
+-- ---- how a token begins
+
+-- it begins with no whitespace
+pub record Begins (here : List ℕ) : Type 0 where
+  pub some : 0 < length here
+  pub no_space : is_space (get_or here 0 0) ≡ false
+
+word_begins : (word : List ℕ) → word ≢ [] → list_all is_word_character word ≡ true → Begins word
+word_begins [] some h = absurd (some refl)
+word_begins (c ∷ cs) some h = record {
+  some = omega arith;
+  no_space =
+      (begins_no_other c
+      (and_parts (is_word_character c) (list_all is_word_character cs) h).0).no_space;
+}
+
+pub token_begins : (token : Token) (here : List ℕ) → SpellsToken here token → Begins here
+token_begins Open here s = rw s (record { some = omega arith; no_space = refl })
+token_begins Close here s = rw s (record { some = omega arith; no_space = refl })
+token_begins (Word word) here s = rw s.0 (word_begins word s.1 s.2)
+token_begins (Quoted value) here s = rw s.1 (record { some = omega arith; no_space = refl })
+token_begins (BraceList list) here s =
+    let h = has_length list (length list) s.1 in
+    rw s.0 (record { some = omega (arith, h.length_is); no_space = ap is_space h.opens })
+
+-- ---- whitespace before it
+
+blanks_go : (blanks here rest : List ℕ) → is_blank blanks ≡ true → Begins here
+    → without_leading_blanks (blanks ++ (here ++ rest)) ≡ here ++ rest
+blanks_go blanks here rest b begins =
+    drop_prefix is_space blanks (here ++ rest) b
+    (ap is_space (get_or_append_left here rest 0 0 begins.some) ∙ begins.no_space)
+
+blank_goes : (text : List ℕ) → is_blank text ≡ true → without_leading_blanks text ≡ []
+blank_goes text b =
+    let none = drop_prefix is_space text [] b refl in
+    let none' = rw append-nil at none in
+    none'
+
+trimmed_stays : (text : List ℕ) → is_space (get_or text 0 0) ≡ false → without_leading_blanks text ≡ text
+trimmed_stays text h = drop_prefix is_space [] text refl h
+
+pub trimmed_first : (text : List ℕ) → is_space (get_or (without_leading_blanks text) 0 0) ≡ false
+trimmed_first text = first_after_prefix is_space text refl
+
+blanks_before : (text : List ℕ) → take (prefix_len is_space text) text ++ without_leading_blanks text ≡ text
+blanks_before text = take-append-drop (prefix_len is_space text) text
+
+untrim : (text : List ℕ) (us : List Token) → SpellsTokens (without_leading_blanks text) us
+    → SpellsTokens text us
+untrim text [] s =
+    let blanks : List ℕ = take (prefix_len is_space text) text in
+    subst (λ (t : List ℕ). is_blank t ≡ true) (blanks_before text)
+    (all_append is_space blanks (without_leading_blanks text) (all_of_prefix is_space text) s)
+untrim text (u ∷ us) s =
+    let blanks : List ℕ = take (prefix_len is_space text) text in
+    let parts : text ≡ (blanks ++ s.0) ++ (s.1 ++ s.2) =
+    sym (blanks_before text) ∙ ap (λ (t : List ℕ). blanks ++ t) s.3
+    ∙ sym (append_assoc blanks s.0 (s.1 ++ s.2)) in (
+      blanks ++ s.0,
+      s.1,
+      s.2,
+      parts,
+      all_append is_space blanks s.0 (all_of_prefix is_space text) s.4,
+      s.5,
+      s.6,
+      s.7,
+    )
+
+-- what is spelled begins with its first token
+pub record FirstIs (text : List ℕ) (token : Token) (tokens : List Token) : Type 0 where
+  pub here : List ℕ
+  pub rest : List ℕ
+  pub parts : without_leading_blanks text ≡ here ++ rest
+  pub begins : Begins here
+  pub spells : SpellsToken here token
+  pub ends : MayFollow token rest
+  pub more : SpellsTokens rest tokens
+
+first_is : (text : List ℕ) (token : Token) (tokens : List Token)
+    → SpellsTokens text (token ∷ tokens) → FirstIs text token tokens
+first_is text token tokens s =
+    let b = token_begins token s.1 s.5 in
+    record {
+      here = s.1;
+      rest = s.2;
+      parts = ap without_leading_blanks s.3 ∙ blanks_go s.0 s.1 s.2 s.4 b;
+      begins = b;
+      spells = s.5;
+      ends = s.6;
+      more = s.7;
+    }
+
+trim : (text : List ℕ) (us : List Token) → SpellsTokens text us
+    → SpellsTokens (without_leading_blanks text) us
+trim text [] s = rw (blank_goes text s) refl
+trim text (u ∷ us) s =
+    let f = first_is text u us s in
+    ([], f.here, f.rest, f.parts, refl, f.spells, f.ends, f.more)
+
+first_is_read : (text : List ℕ) (token : Token) (tokens : List Token)
+    (f : FirstIs text token tokens)
+    → read_token (without_leading_blanks text) ≡ Some (token, f.rest)
+first_is_read text token tokens f =
+    ap read_token f.parts ∙ token_is_read token f.here f.rest f.spells f.ends
+
+no_token_of_blank : (text : List ℕ) (u : Token) (us : List Token) → is_blank text ≡ true
+    → SpellsTokens text (u ∷ us) → ⊥
+no_token_of_blank text u us b s =
+    let f = first_is text u us s in
+    let none : f.here ++ f.rest ≡ [] = sym f.parts ∙ blank_goes text b in
+    absurd (omega (arith, f.begins.some, length-append f.here f.rest, ap length none))
+
+-- ---- one list of tokens a text
+
+pub one_list : (text : List ℕ) (ts us : List Token) → SpellsTokens text ts → SpellsTokens text us
+    → ts ≡ us
+one_list text [] [] s z = refl
+one_list text [] (u ∷ us) s z = absurd (no_token_of_blank text u us s z)
+one_list text (t ∷ ts) [] s z = absurd (no_token_of_blank text t ts z s)
+one_list text (t ∷ ts) (u ∷ us) s z =
+    let f = first_is text t ts s in
+    let g = first_is text u us z in
+    let same =
+    some_pair_parts t u f.rest g.rest
+    (sym (first_is_read text t ts f) ∙ first_is_read text u us g) in
+    let more : ts ≡ us =
+    one_list f.rest ts us f.more
+    (subst (λ (r : List ℕ). SpellsTokens r us) (sym same.1) g.more) in
+    rw (same.0, more) refl
+
+-- ---- reading the tokens one by one
+
+-- These tokens stand before the rest: with the rest's tokens they are the text's, and where the
+-- text has tokens the rest has.
+pub record ReadsOn (text : List ℕ) (tokens : List Token) (rest : List ℕ) : Type 0 where
+  pub trimmed : is_space (get_or rest 0 0) ≡ false
+  pub onward : (us : List Token) → SpellsTokens rest us → SpellsTokens text (tokens ++ us)
+  pub back : (us : List Token) → SpellsTokens text us → (vs : List Token) × SpellsTokens rest vs
+
+pub at_first : (text : List ℕ) → ReadsOn text [] (without_leading_blanks text)
+at_first text = record {
+  trimmed = trimmed_first text;
+  onward = untrim text;
+  back = λ us s. (us, trim text us s);
+}
+
+-- the rest begins with a token, where it has tokens
+rest_is_read : (rest : List ℕ) (vs : List Token) → 0 < length rest
+    → is_space (get_or rest 0 0) ≡ false → SpellsTokens rest vs
+    → (v : Token) × (behind : List ℕ) × (more : List Token) × (read_token rest ≡ Some (v, behind))
+    × SpellsTokens behind more
+rest_is_read rest [] l h s =
+    absurd (omega (arith, ap length (sym (trimmed_stays rest h) ∙ blank_goes rest s)))
+rest_is_read rest (v ∷ vs) l h s =
+    let f = first_is rest v vs s in
+    (v, f.rest, vs, ap read_token (sym (trimmed_stays rest h)) ∙ first_is_read rest v vs f, f.more)
+
+pub shorter : (text : List ℕ) (token : Token) (rest : List ℕ) → 0 < length text
+    → is_space (get_or text 0 0) ≡ false
+    → read_token text ≡ Some (token, rest) → length (without_leading_blanks rest) < length text
+shorter text token rest l h e =
+    let b = read_is_token text token rest l h e in
+    let begins = token_begins token b.0 b.2 in
+    omega (
+      arith,
+      begins.some,
+      ap length b.1,
+      length-append b.0 rest,
+      length-drop
+          (prefix_len is_space rest) rest,
+    )
+
+pub one_more : (text : List ℕ) (tokens : List Token) (rest : List ℕ) (token : Token)
+    (behind : List ℕ) → 0 < length rest
+    → ReadsOn text tokens rest → read_token rest ≡ Some (token, behind)
+    → ReadsOn text (tokens ++ token ∷ []) (without_leading_blanks behind)
+one_more text tokens rest token behind l on e = record {
+  trimmed = trimmed_first behind;
+  onward = λ us s.
+      let b = read_is_token rest token behind l on.trimmed e in
+      let here : SpellsTokens rest (token ∷ us) =
+      ([], b.0, behind, b.1, refl, b.2, b.3, untrim behind us s) in
+      rw append_assoc (on.onward (token ∷ us) here);
+  back = λ us s.
+      let v = on.back us s in
+      let r = rest_is_read rest v.0 l on.trimmed v.1 in
+      let same = some_pair_parts r.0 token r.1 behind (sym r.3 ∙ e) in
+      (r.2, trim behind r.2 (subst (λ (t : List ℕ). SpellsTokens t r.2) same.1 r.4));
+}
+
+pub at_end : (text : List ℕ) (tokens : List Token) (rest : List ℕ) → length rest ≡ 0
+    → ReadsOn text tokens rest → SpellsTokens text tokens
+at_end text tokens [] z on = rw (← append-nil tokens) (on.onward [] refl)
+at_end text tokens (c ∷ rest) z on = absurd (omega arith)
+
+pub none_here : (text : List ℕ) (tokens : List Token) (rest : List ℕ) → 0 < length rest
+    → ReadsOn text tokens rest
+    → read_token rest ≡ None → (us : List Token) → SpellsTokens text us → ⊥
+none_here text tokens rest l on e us s =
+    let v = on.back us s in
+    let r = rest_is_read rest v.0 l on.trimmed v.1 in
+    none-some (r.0, r.1) (sym e ∙ r.3)

@@ -1,0 +1,79 @@
+-- Where reading stops is the first fault: what was read before is accepted.
+use Rattle.std.proofs.Common.{◌≢◌, [], ◌∷◌, inl, inr, ◌∙◌}
+use Rattle.am_universe.specs.declared.fault.Fault.{Fault}
+use Rattle.am_universe.specs.declared.kind.Kind.TheVariants as kinds
+use Rattle.am_json.specs.Reading.{refusal_of}
+use Rattle.am_eval.specs.QuestionView.{question_view}
+use Rattle.am_questions.specs.QuestionText.{QuestionRefusedFor, ReadsQuestion}
+use Rattle.am_eval.specs.Faults.{IsFirstFaultOfCall}
+use Rattle.am_questions.specs.QuestionStages.{question_stage, token_stage}
+use Rattle.am_eval.specs.Files.{config_of}
+use Rattle.am_questions.specs.Inputs.{inputs_of, ask_stages}
+use Rattle.am_eval.specs.WorldInputs.{world_stages}
+use Rattle.am_eval.proofs.FirstFaults.{first_of_more, first_behind_world, handed_on}
+use Rattle.am_questions.proofs.inputs.read_inputs.Goals as goal
+
+pub returns-in_err-world-clause-first : goal.returns-in_err-world-clause-first
+returns-in_err-world-clause-first c =
+    let fault = c.in_err-world.field-0.0 in
+    let inputs = inputs_of c.args.universe.now c.args.files.now c.args.question.now
+    c.args.page.now in
+    handed_on
+    (λ (f : Fault). f.kind ≢ kinds.Memory
+    → IsFirstFaultOfCall (ask_stages inputs) f.place (refusal_of f))
+    fault c.from_residual-in_err-world.result c.from_residual-in_err-world.ensures.1
+    (λ remembered. inr (
+      (c.in_ok-universe.universe, c.in_ok-universe.ensures.says),
+      first_of_more (world_stages inputs.world)
+          (question_stage (config_of inputs.world.config) inputs.question
+          ∷ token_stage inputs.universe inputs.after ∷ [])
+          fault.place (refusal_of fault) (c.in_err-world.ensures.first remembered),
+    ))
+
+pub returns-in-Err-clause-first : goal.returns-in-Err-clause-first
+returns-in-Err-clause-first c = λ remembered.
+    let inputs = inputs_of c.args.universe.now c.args.files.now c.args.question.now
+    c.args.page.now in
+    let world = c.in_ok-world.world in
+    let accepts = c.in_ok-world.ensures.accepts in
+    let given : c.in-Err.kind ≢ kinds.Memory = λ e. remembered (c.fault_at.ensures.kind ∙ e) in
+    let refused : QuestionRefusedFor world.config inputs.question c.fault_at.result.kind =
+    rw (c.fault_at.ensures.kind, ← c.config.ensures.config) (c.in-Err.ensures.refused given) in
+    inr (
+      (c.in_ok-universe.universe, c.in_ok-universe.ensures.says),
+      first_behind_world inputs.world world
+          (question_stage (config_of inputs.world.config) inputs.question
+          ∷ token_stage inputs.universe inputs.after ∷ [])
+          c.fault_at.result.place (refusal_of c.fault_at.result) accepts (inl (
+            c.fault_at.ensures.place given,
+            (world.config, accepts.says_config, refused, c.fault_at.ensures.pointer),
+          )),
+    )
+
+pub returns-in_err-start-clause-first : goal.returns-in_err-start-clause-first
+returns-in_err-start-clause-first c =
+    let fault = c.in_err-start.field-0.0 in
+    let inputs = inputs_of c.args.universe.now c.args.files.now c.args.question.now
+    c.args.page.now in
+    let world = c.in_ok-world.world in
+    let accepts = c.in_ok-world.ensures.accepts in
+    let reads : ReadsQuestion world.config inputs.question (question_view c.in-Ok.question) =
+    rw (← c.config.ensures.config) c.in-Ok.ensures.read in
+    let refused = c.in_err-start.ensures.refused in
+    handed_on
+    (λ (f : Fault). f.kind ≢ kinds.Memory
+    → IsFirstFaultOfCall (ask_stages inputs) f.place (refusal_of f))
+    fault c.from_residual-in_err-start.result c.from_residual-in_err-start.ensures.1
+    (λ remembered. inr (
+      (c.in_ok-universe.universe, c.in_ok-universe.ensures.says),
+      first_behind_world inputs.world world
+          (question_stage (config_of inputs.world.config) inputs.question
+          ∷ token_stage inputs.universe inputs.after ∷ [])
+          fault.place (refusal_of fault) accepts (inr (
+            (world.config, accepts.says_config, question_view c.in-Ok.question, reads),
+            inl (
+              refused.0,
+              (c.in_ok-universe.universe, c.in_ok-universe.ensures.says, refused.1, refused.2),
+            ),
+          )),
+    ))

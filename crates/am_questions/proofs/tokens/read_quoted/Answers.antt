@@ -1,0 +1,112 @@
+use Rattle.std.proofs.Common.{◌≡◌, ◌≢◌, ◌<◌, ◌≤◌, ◌+◌, refl, ◌∙◌, ℕ, ◌++◌, [], ◌∷◌, length, get_or}
+use Rattle.std.proofs.Common.{take, drop, arith, true, false}
+use Rattle.std.proofs.lemmas.Grind.{common_steps}
+use Rattle.std.proofs.lemmas.Result.{err_from_is_err_and}
+use Rattle.std.proofs.lemmas.Str.{IsCharBoundary-after_ascii, encode_ascii}
+use Rattle.std.specs.String.{string_bytes}
+use Rattle.std.specs.List.{prefix_len}
+use Rattle.am_labels.specs.MatcherText.{has_escape, byte_of_escape}
+use Rattle.am_questions.specs.TokenReading.{is_plain}
+use Rattle.am_labels.proofs.MatcherTextUtf8.{escape_ascii, escaped_ascii}
+use Rattle.am_questions.proofs.Boundaries.{behind_plain}
+use Rattle.am_questions.proofs.QuotedTexts.{quote_closes, escape_goes_on, no_escape_here}
+use Rattle.am_questions.proofs.QuotedTexts.{quote_is_missing}
+use Rattle.am_questions.proofs.tokens.read_quoted.Goals as goal
+
+pub range-requires-clause-end_boundary : goal.range-requires-clause-end_boundary
+range-requires-clause-end_boundary c =
+    behind_plain c.loop-value.rest.now c.plain_len-len.result (grind (arith, common_steps))
+
+pub returns-in_err-escape_of-in-92-clause-refused :
+    goal.returns-in_err-escape_of-in-92-clause-refused
+returns-in_err-escape_of-in-92-clause-refused c =
+    let p = err_from_is_err_and c.from_residual-in_err-escape_of-in-92.result
+    c.from_residual-in_err-escape_of-in-92.ensures.1 in
+    let n : ℕ = c.plain_len-len.result in
+    let rest = c.loop-value.rest.now in
+    let is : n ≡ prefix_len is_plain rest = grind (arith, common_steps) in
+    let inside : n + 1 < length rest = grind (arith, common_steps) in
+    let at : get_or rest n 0 ≡ 92 = grind (arith, common_steps) in
+    let refused = c.in_err-escape_of-in-92.ensures.refused in
+    let unknown : has_escape (get_or rest (n + 1) 0) ≡ false =
+    grind (arith, common_steps, refused.1) in
+    rw (p.1, p.2)
+    (λ other. (
+      refused.0,
+      no_escape_here c.args.text.now (string_bytes c.loop-value.value) rest n
+          is inside at unknown c.loop-value.invariant.1,
+    ))
+
+pub range_from-requires : goal.range_from-requires
+range_from-requires c = λ _.
+    let n : ℕ = c.plain_len-len.result in
+    let rest = c.loop-value.rest.now in
+    let inside : n < length rest = grind (arith, common_steps) in
+    let at : get_or rest n 0 ≡ 34 = grind (arith, common_steps) in
+    IsCharBoundary-after_ascii rest n c.loop-value.invariant.0 inside (omega arith)
+
+pub returns-in-34-clause-read : goal.returns-in-34-clause-read
+returns-in-34-clause-read c =
+    let n : ℕ = c.plain_len-len.result in
+    let rest = c.loop-value.rest.now in
+    let is : n ≡ prefix_len is_plain rest = grind (arith, common_steps) in
+    let inside : n < length rest = grind (arith, common_steps) in
+    let at : get_or rest n 0 ≡ 34 = grind (arith, common_steps) in
+    let read =
+    quote_closes c.args.text.now (string_bytes c.loop-value.value) rest n is inside at
+    c.loop-value.invariant.1 in
+    let value_is : string_bytes c.push_str.new.self
+    ≡ string_bytes c.loop-value.value ++ take n rest = grind (arith, common_steps) in
+    let behind_is : c.range_from.result.now ≡ drop (n + 1) rest = grind (arith, common_steps) in
+    rw (value_is, behind_is) read
+
+pub returns-in_default-clause-refused : goal.returns-in_default-clause-refused
+returns-in_default-clause-refused c = λ _.
+    let n : ℕ = c.plain_len-len.result in
+    let rest = c.loop-value.rest.now in
+    let is : n ≡ prefix_len is_plain rest = grind (arith, common_steps) in
+    let no_quote : n < length rest → get_or rest n 0 ≢ 34 =
+    λ inside e. grind (arith, common_steps) in
+    let no_more : n < length rest → get_or rest n 0 ≡ 92 → length rest ≤ n + 1 =
+    λ inside e. grind (arith, common_steps) in (
+      refl,
+      quote_is_missing c.args.text.now (string_bytes c.loop-value.value) rest n is
+          (λ inside. (no_quote inside, no_more inside)) c.loop-value.invariant.1,
+    )
+
+pub range_from-rest-requires : goal.range_from-rest-requires
+range_from-rest-requires c = λ _.
+    let n : ℕ = c.plain_len-len.result in
+    let rest = c.loop-value.rest.now in
+    let inside : n + 1 < length rest = grind (arith, common_steps) in
+    let read = c.in_ok-escape_of-in-92.ensures.read in
+    let known : has_escape (get_or rest (n + 1) 0) ≡ true = grind (arith, common_steps, read.0) in
+    let at = IsCharBoundary-after_ascii rest (n + 1) c.loop-value.invariant.0 inside
+    (escaped_ascii (get_or rest (n + 1) 0) known) in
+    let two : (n + 1) + 1 ≡ n + 2 = omega arith in
+    rw two at at
+
+pub loop-value-preserved : goal.loop-value-preserved
+loop-value-preserved c =
+    let n : ℕ = c.plain_len-len.result in
+    let rest = c.loop-value.rest.now in
+    let is : n ≡ prefix_len is_plain rest = grind (arith, common_steps) in
+    let inside : n + 1 < length rest = grind (arith, common_steps) in
+    let at : get_or rest n 0 ≡ 92 = grind (arith, common_steps) in
+    let read = c.in_ok-escape_of-in-92.ensures.read in
+    let d : ℕ = get_or rest (n + 1) 0 in
+    let known : has_escape d ≡ true = grind (arith, common_steps, read.0) in
+    let gives : c.in_ok-escape_of-in-92.field-0 ≡ byte_of_escape d =
+    grind (arith, common_steps, read.1) in
+    let goes_on =
+    escape_goes_on c.args.text.now (string_bytes c.loop-value.value) rest n is inside at known
+    c.loop-value.invariant.1 in
+    let run : string_bytes c.push_str.new.self ≡ string_bytes c.loop-value.value ++ take n rest =
+    grind (arith, common_steps) in
+    let one = encode_ascii (byte_of_escape d) (escape_ascii d known) in
+    let value_is : string_bytes c.push.new.self
+    ≡ (string_bytes c.loop-value.value ++ take n rest) ++ byte_of_escape d ∷ [] =
+    c.in_ok-push-in-92.ensures.bytes ∙ rw (run, gives, one) refl in
+    let behind_is : c.range_from-rest.result.now ≡ drop (n + 2) rest =
+    grind (arith, common_steps) in
+    (c.range_from-rest.utf8, rw (value_is, behind_is) goes_on)

@@ -1,0 +1,65 @@
+-- What a call is handed that asks a question, when that is accepted, and the order of its faults.
+-- (This project's own.)
+use Rattle.std.specs.Prelude.{ℕ, List, [], ◌∷◌, ◌++◌, Option, Some, option_copied}
+use Rattle.am_universe.specs.Universe.{Label}
+use Rattle.am_records.specs.UniverseFile.{FileSaysUniverse}
+use Rattle.am_search.specs.declared.start.Start.{Start}
+use Rattle.am_search.specs.declared.page.Page.{Page}
+use Rattle.am_eval.specs.declared.files.Files.{Files}
+use Rattle.am_eval.specs.Files.{config_of}
+use Rattle.am_eval.specs.World.{World}
+use Rattle.am_eval.specs.WorldInputs.{WorldInputs, world_inputs_of, AcceptsWorld, world_stages}
+use Rattle.am_eval.specs.Question.{Question}
+use Rattle.am_eval.specs.Faults.{Stage, universe_stage}
+use Rattle.am_questions.specs.QuestionText.{ReadsQuestion}
+use Rattle.am_questions.specs.AskedStart.{AsksStart}
+use Rattle.am_questions.specs.QuestionStages.{question_stage, token_stage}
+
+-- The inputs of `ask`: the bytes of the universe file, what the world is made of, the text of the
+-- question, and the token that says where the answers begin, if there is one.
+pub record Inputs : Type 0 where
+  pub universe : List ℕ
+  pub world : WorldInputs
+  pub question : List ℕ
+  pub after : Option (List ℕ)
+
+-- The inputs that a call is handed.
+abbrev pub inputs_of : List ℕ → Files → List ℕ → Page → Inputs
+inputs_of universe files question page = record {
+  universe = universe;
+  world = world_inputs_of files;
+  question = question;
+  after = option_copied page.after;
+}
+
+-- The same inputs with this token.
+abbrev pub after_token : Inputs → List ℕ → Inputs
+after_token inputs token = record {
+  universe = inputs.universe;
+  world = inputs.world;
+  question = inputs.question;
+  after = Some token;
+}
+
+-- The inputs are accepted: the file says the universe, the world is accepted, the text is read as
+-- the question about its configuration, and the start is the one that is asked for.
+pub record AcceptsInputs (inputs : Inputs) (universe : List Label) (world : World)
+    (question : Question) (start : Start) : Type 0 where
+  pub says_universe : FileSaysUniverse inputs.universe universe
+  pub accepts_world : AcceptsWorld inputs.world world
+  pub reads : ReadsQuestion world.config inputs.question question
+  pub starts : AsksStart universe inputs.after start
+
+-- The stages of `ask`, in order: the universe file, those of the world, the question, the token.
+-- Source: own choice.
+-- Example: where the universe file is not JSON and the question is the empty text, the first fault
+-- is the `not-json` of the universe file, and not the `question-syntax` of the question. Where all
+-- files are accepted, but an export of silences comes without an instant, it is `need-at`, also
+-- where the token is one of another universe.
+abbrev pub ask_stages : Inputs → List Stage
+ask_stages inputs =
+    universe_stage inputs.universe
+    ∷ (world_stages inputs.world
+    ++ question_stage (config_of inputs.world.config) inputs.question
+    ∷ token_stage inputs.universe inputs.after
+    ∷ [])

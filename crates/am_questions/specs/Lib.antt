@@ -1,0 +1,12 @@
+pub mod Tokens
+pub mod TokenReading
+pub mod Grammar
+pub mod GrammarExamples
+pub mod GrammarReading
+pub mod QuestionText
+pub mod TokenView
+pub mod TreeView
+pub mod AskedStart
+pub mod QuestionStages
+pub mod Inputs
+pub mod Words

@@ -1,0 +1,54 @@
+-- The stages of a call that asks a question, behind those of its files. (This project's own.)
+use Rattle.std.specs.Prelude.{◌≡◌, ℕ, List, [], Option}
+use Rattle.am_universe.specs.declared.kind.Kind.TheVariants as kinds
+use Rattle.am_universe.specs.declared.place.Place.TheVariants as places
+use Rattle.am_universe.specs.Universe.{Label}
+use Rattle.am_json.specs.Pointer.{Refusal, refusal_here}
+use Rattle.am_records.specs.UniverseFile.{FileSaysUniverse}
+use Rattle.am_files.specs.ConfigFile.{Configuration, FileSaysConfig}
+use Rattle.am_search.specs.declared.start.Start.{Start}
+use Rattle.am_eval.specs.Question.{Question}
+use Rattle.am_eval.specs.Faults.{Stage}
+use Rattle.am_questions.specs.QuestionText.{ReadsQuestion, QuestionRefusedFor}
+use Rattle.am_questions.specs.AskedStart.{AsksStart}
+
+-- The text is a question about the configuration that the bytes of a file say.
+abbrev pub ReadsSomeQuestion : List ℕ → List ℕ → Type 0
+ReadsSomeQuestion bytes text =
+    (configuration : Configuration) × FileSaysConfig bytes configuration
+    × (question : Question) × ReadsQuestion configuration text question
+
+-- Why the text is refused, as a question about the configuration that the bytes of a file say; its
+-- faults stand at no part of a file.
+abbrev pub QuestionStageRefusedFor : List ℕ → List ℕ → Refusal → Type 0
+QuestionStageRefusedFor bytes text r =
+    (configuration : Configuration) × FileSaysConfig bytes configuration
+    × QuestionRefusedFor configuration text r.kind × (r.pointer ≡ [])
+
+-- The token, if there is one, asks for a start over the universe that the bytes of a file say.
+abbrev pub HasSomeStart : List ℕ → Option (List ℕ) → Type 0
+HasSomeStart bytes after =
+    (universe : List Label) × FileSaysUniverse bytes universe
+    × (start : Start) × AsksStart universe after start
+
+-- The token asks for none. Such a fault stands at no part of a file.
+abbrev pub TokenRefusedFor : List ℕ → Option (List ℕ) → Refusal → Type 0
+TokenRefusedFor bytes after r =
+    (universe : List Label) × FileSaysUniverse bytes universe
+    × ((start : Start) → AsksStart universe after start → ⊥) × (r ≡ refusal_here kinds.BadToken)
+
+-- The text of the question about the configuration of a file.
+abbrev pub question_stage : List ℕ → List ℕ → Stage
+question_stage bytes text = record {
+  place = places.Question;
+  accepts = ReadsSomeQuestion bytes text;
+  refuses = QuestionStageRefusedFor bytes text;
+}
+
+-- The token of a page, if there is one, beside the bytes of the universe file.
+abbrev pub token_stage : List ℕ → Option (List ℕ) → Stage
+token_stage bytes after = record {
+  place = places.Token;
+  accepts = HasSomeStart bytes after;
+  refuses = TokenRefusedFor bytes after;
+}

@@ -1,0 +1,126 @@
+-- Question texts: which text is which question of a configuration, and why a text is refused.
+-- (This project's own.)
+use Rattle.std.specs.Prelude.{◌≡◌, ◌≤◌, ◌<◌, ◌⊎◌, ℕ, List, [], ◌∷◌, ◌++◌, length, Option, Some}
+use Rattle.std.specs.Prelude.{None, position, IsTrue, is_some}
+use Rattle.std.specs.List.{AllByRecursion}
+use Rattle.am_universe.specs.Text.{same_text}
+use Rattle.am_universe.specs.declared.kind.Kind.{Kind}
+use Rattle.am_universe.specs.declared.kind.Kind.TheVariants as kinds
+use Rattle.am_labels.specs.declared.limits.TheConstants.{MAX_MATCHERS}
+use Rattle.am_labels.specs.Matcher.{Condition}
+use Rattle.am_labels.specs.MatcherText.{Spells}
+use Rattle.am_labels.specs.MatcherRefusals.{have_valid_patterns, TextRefusedFor}
+use Rattle.am_files.specs.ConfigFile.{Configuration}
+use Rattle.am_files.specs.Path.{path_text, route_at}
+use Rattle.am_questions.specs.declared.limits.TheConstants.{MAX_TOKENS}
+use Rattle.am_eval.specs.Tree.{Tree, Part, Not, And, Or}
+use Rattle.am_eval.specs.Question.{Question}
+use Rattle.am_eval.specs.Question.{Simple, Any, Silenced, Inhibited, Receiver, Ends, Enters}
+use Rattle.am_eval.specs.Question.{Braces}
+use Rattle.am_questions.specs.Tokens.{Token, SpellsTokens}
+use Rattle.am_questions.specs.Grammar.{Written, WrittenAny, WrittenSilenced, WrittenInhibited}
+use Rattle.am_questions.specs.Grammar.{WrittenReceiver, WrittenEnds, WrittenEnters, WrittenBraces}
+use Rattle.am_questions.specs.Grammar.{IsQuestion}
+
+-- ---- What is meant.
+
+-- The position of the receiver with a name.
+abbrev pub receiver_named : Configuration → List ℕ → Option ℕ
+receiver_named c name = position (λ other. same_text other name) c.receivers
+
+-- The text is that of the path of a route.
+abbrev pub IsPathOfRoute : Configuration → List ℕ → List ℕ → Type 0
+IsPathOfRoute c text path = (text ≡ path_text path) × IsTrue (is_some (route_at c.root path))
+
+-- A simple part as it is written means one of the configuration.
+abbrev pub Means : Configuration → Written → Simple → Type 0
+Means c WrittenAny simple = simple ≡ Any
+Means c WrittenSilenced simple = simple ≡ Silenced
+Means c WrittenInhibited simple = simple ≡ Inhibited
+Means c (WrittenReceiver name) simple =
+    (receiver : ℕ) × (receiver_named c name ≡ Some receiver) × (simple ≡ Receiver receiver)
+Means c (WrittenEnds text) simple =
+    (path : List ℕ) × IsPathOfRoute c text path × (simple ≡ Ends path)
+Means c (WrittenEnters text) simple =
+    (path : List ℕ) × IsPathOfRoute c text path × (simple ≡ Enters path)
+Means c (WrittenBraces text) simple =
+    (matchers : List Condition) × Spells text matchers × (length matchers ≤ MAX_MATCHERS)
+    × IsTrue (have_valid_patterns matchers) × (simple ≡ Braces matchers)
+
+-- A tree means the question of the same form whose simple parts are meant by its own.
+abbrev pub TreeMeans : Configuration → Tree Written → Question → Type 0
+TreeMeans c (Part written) question =
+    (simple : Simple) × Means c written simple × (question ≡ Part simple)
+TreeMeans c (Not t) question = (q : Question) × TreeMeans c t q × (question ≡ Not q)
+TreeMeans c (And t u) question =
+    (q : Question) × (r : Question) × TreeMeans c t q × TreeMeans c u r × (question ≡ And q r)
+TreeMeans c (Or t u) question =
+    (q : Question) × (r : Question) × TreeMeans c t q × TreeMeans c u r × (question ≡ Or q r)
+
+-- The text is the question: its tokens, of which there are not too many, are a tree that means it.
+-- Source: own choice.
+-- Example: where `ops` is the second receiver, `not receiver ops` is the question whether none of
+-- the receivers is that at position 1.
+pub record ReadsQuestion (c : Configuration) (text : List ℕ) (question : Question) : Type 0 where
+  pub tokens : List Token
+  pub spelled : SpellsTokens text tokens
+  pub within_limit : length tokens ≤ MAX_TOKENS
+  pub tree : Tree Written
+  pub is_tree : IsQuestion tokens tree
+  pub meant : TreeMeans c tree question
+
+-- ---- Why a text is refused.
+
+-- The simple parts of a tree, from left to right.
+abbrev pub parts_of : {P : Type 0} → Tree P → List P
+parts_of (Part p) = p ∷ []
+parts_of (Not t) = parts_of t
+parts_of (And t u) = parts_of t ++ parts_of u
+parts_of (Or t u) = parts_of t ++ parts_of u
+
+-- Why a simple part is refused: no receiver of the name is declared, no route is at the path, or as
+-- the text of a matcher list is.
+abbrev pub PartRefusedFor : Configuration → Written → Kind → Type 0
+PartRefusedFor c WrittenAny kind = ⊥
+PartRefusedFor c WrittenSilenced kind = ⊥
+PartRefusedFor c WrittenInhibited kind = ⊥
+PartRefusedFor c (WrittenReceiver name) kind =
+    (kind ≡ kinds.UnknownReceiver) × (receiver_named c name ≡ None)
+PartRefusedFor c (WrittenEnds text) kind =
+    (kind ≡ kinds.UnknownRoute) × ((path : List ℕ) → IsPathOfRoute c text path → ⊥)
+PartRefusedFor c (WrittenEnters text) kind =
+    (kind ≡ kinds.UnknownRoute) × ((path : List ℕ) → IsPathOfRoute c text path → ⊥)
+PartRefusedFor c (WrittenBraces text) kind = TextRefusedFor text kind
+
+-- A simple part means something.
+abbrev pub IsMeant : Configuration → Written → Type 0
+IsMeant c written = (simple : Simple) × Means c written simple
+
+-- The first of the parts that is refused.
+pub record PartsRefusedFor (c : Configuration) (parts : List Written) (kind : Kind)
+    : Type 0 where
+  pub before : List Written
+  pub part : Written
+  pub after : List Written
+  pub among : parts ≡ before ++ (part ∷ after)
+  pub meant : AllByRecursion (IsMeant c) before
+  pub refused : PartRefusedFor c part kind
+
+-- Why tokens are refused: there are too many; or they are no tree; or else for a simple part.
+abbrev pub TokensRefusedFor : Configuration → List Token → Kind → Type 0
+TokensRefusedFor c tokens kind =
+    ((kind ≡ kinds.Limit) × (MAX_TOKENS < length tokens))
+    ⊎ ((kind ≡ kinds.QuestionSyntax) × (length tokens ≤ MAX_TOKENS)
+    × ((tree : Tree Written) → IsQuestion tokens tree → ⊥))
+    ⊎ ((length tokens ≤ MAX_TOKENS) × (tree : Tree Written) × IsQuestion tokens tree
+    × PartsRefusedFor c (parts_of tree) kind)
+
+-- Why a text is refused: it cannot be cut into tokens; or else for its tokens.
+-- Source: own choice.
+-- Example: `receiver nobody and ends` is refused as `question-syntax`, whatever receivers there
+-- are, and `receiver nobody and ends /9` as `unknown-receiver`, where there is no `nobody`.
+abbrev pub QuestionRefusedFor : Configuration → List ℕ → Kind → Type 0
+QuestionRefusedFor c text kind =
+    ((kind ≡ kinds.QuestionSyntax)
+    × ((tokens : List Token) → SpellsTokens text tokens → ⊥))
+    ⊎ ((tokens : List Token) × SpellsTokens text tokens × TokensRefusedFor c tokens kind)

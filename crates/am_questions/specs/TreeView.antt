@@ -1,0 +1,31 @@
+-- The tree that a `Tree` stands for.
+use Rattle.std.specs.Box.{box_value}
+use Rattle.am_questions.specs.declared.grammar.Written as kept_parts
+use Rattle.am_questions.specs.declared.grammar.Written.TheVariants as parts
+use Rattle.am_questions.specs.declared.grammar.Tree as kept
+use Rattle.am_questions.specs.declared.grammar.Tree.{fold-Tree}
+use Rattle.am_questions.specs.declared.grammar.Tree.TheOpen.{Tree-F}
+use Rattle.am_eval.specs.Tree.{Tree, Part, Not, And, Or}
+use Rattle.am_questions.specs.Grammar.{Written, WrittenAny, WrittenSilenced, WrittenInhibited}
+use Rattle.am_questions.specs.Grammar.{WrittenReceiver, WrittenEnds, WrittenEnters, WrittenBraces}
+
+-- A simple part without where its text lies in memory.
+abbrev pub written_view : kept_parts.Written → Written
+written_view parts.Any = WrittenAny
+written_view parts.Silenced = WrittenSilenced
+written_view parts.Inhibited = WrittenInhibited
+written_view (parts.Receiver name) = WrittenReceiver name.now
+written_view (parts.Ends path) = WrittenEnds path.now
+written_view (parts.Enters path) = WrittenEnters path.now
+written_view (parts.Braces list) = WrittenBraces list.now
+
+-- One level, with each tree in it already seen.
+abbrev pub view_step : Tree-F (Tree Written) → Tree Written
+view_step (Tree-F.Part written) = Part (written_view written)
+view_step (Tree-F.Not t) = Not (box_value t)
+view_step (Tree-F.And t u) = And (box_value t) (box_value u)
+view_step (Tree-F.Or t u) = Or (box_value t) (box_value u)
+
+-- The tree that a `Tree` stands for.
+abbrev pub tree_view : kept.Tree → Tree Written
+tree_view = fold-Tree (Tree Written) view_step

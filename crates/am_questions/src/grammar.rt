@@ -1,0 +1,270 @@
+//! The grammar of questions: from tokens to a tree.
+
+ghost use Rattle.std.specs.Prelude.{◌≡◌, ◌≢◌, ◌<◌, ◌≤◌, ◌↔◌, ◌∷◌, List, map, length};
+ghost use Rattle.std.specs.Prelude.{IfOk, IfErr, IfSome, IfNone, IsTrue, ℕ, option_map};
+ghost use Rattle.am_universe.specs.declared.kind.Kind.TheVariants as kinds;
+ghost use Rattle.am_questions.specs.Grammar as spec;
+ghost use Rattle.am_questions.specs.Tokens.{Word};
+ghost use Rattle.am_eval.specs.Tree as trees;
+ghost use Rattle.am_questions.specs.Words.{behind, behind_open, behind_close, is_word, name_of};
+ghost use Rattle.am_questions.specs.Words.{IsPathText, Refuses, TakesQuestion, TakesBoth, TakesOne};
+ghost use Rattle.am_questions.specs.Words.{TakesSimple, TakesPart, token_view, tree_view};
+ghost use Rattle.am_questions.specs.Words.{written_view};
+
+use crate::tokens::Token;
+use am_files::Path;
+use am_labels::Kind;
+use std::alloc::Global;
+
+/// A question as it is written, before names, paths and matcher lists are looked at.
+#[derive(Debug, Drop)]
+pub(crate) enum Tree<'a> {
+    Part(Written<'a>),
+    Not(Box<Tree<'a>>),
+    And(Box<Tree<'a>>, Box<Tree<'a>>),
+    Or(Box<Tree<'a>>, Box<Tree<'a>>),
+}
+
+/// A simple part as it is written.
+#[derive(Clone, Copy, Debug)]
+pub(crate) enum Written<'a> {
+    Any,
+    Silenced,
+    Inhibited,
+    /// The name of a receiver.
+    Receiver(&'a str),
+    /// The text of a path.
+    Ends(&'a str),
+    /// The text of a path.
+    Enters(&'a str),
+    /// A list of matchers with its braces.
+    Braces(&'a str),
+}
+
+/// The tree that the tokens are. `QuestionSyntax` where they are none; `Memory` only where memory
+/// was refused.
+pub(crate) fn read_tree<'a>(alloc: Global, tokens: &'a [Token<'a>]) -> Result<Tree<'a>, Kind>
+    ensures read { IfOk result (λ tree.
+        spec.IsQuestion (map token_view tokens.now) (tree_view tree)) }
+    ensures refused { IfErr result (λ kind. kind ≢ kinds.Memory → (kind ≡ kinds.QuestionSyntax)
+        × ((tree : trees.Tree spec.Written) → spec.IsQuestion (map token_view tokens.now) tree
+        → ⊥)) }
+{
+    let (tree, rest) = read_question(alloc, tokens)?;
+    if rest.is_empty() {
+        Ok(tree)
+    } else {
+        Err(Kind::QuestionSyntax)
+    }
+}
+
+/// A question, joined by `or`, and the tokens behind it.
+#[cycle(questions)]
+fn read_question<'a>(
+    alloc: Global,
+    tokens: &'a [Token<'a>],
+) -> Result<(Tree<'a>, &'a [Token<'a>]), Kind>
+    ensures taken { IfOk result (λ r. TakesQuestion (map token_view tokens.now) (tree_view r.0)
+        (map token_view r.1.now)) }
+    ensures shorter { IfOk result (λ r. length r.1.now < length tokens.now) }
+    ensures refused { IfErr result (λ kind.
+        Refuses kind (TakesQuestion (map token_view tokens.now))) }
+{
+    let (mut tree, mut rest) = read_both(alloc, tokens)?;
+    while let Some(behind) = behind_word(rest, "or") {
+        let (right, behind) = read_both(alloc, behind)?;
+        tree = Tree::Or(Box::new(alloc, tree)?, Box::new(alloc, right)?);
+        rest = behind;
+    }
+    Ok((tree, rest))
+}
+
+/// A question joined by `and` alone, and the tokens behind it.
+#[cycle(questions)]
+fn read_both<'a>(
+    alloc: Global,
+    tokens: &'a [Token<'a>],
+) -> Result<(Tree<'a>, &'a [Token<'a>]), Kind>
+    ensures taken { IfOk result (λ r. TakesBoth (map token_view tokens.now) (tree_view r.0)
+        (map token_view r.1.now)) }
+    ensures shorter { IfOk result (λ r. length r.1.now < length tokens.now) }
+    ensures refused { IfErr result (λ kind.
+        Refuses kind (TakesBoth (map token_view tokens.now))) }
+{
+    let (mut tree, mut rest) = read_one(alloc, tokens)?;
+    while let Some(behind) = behind_word(rest, "and") {
+        let (right, behind) = read_one(alloc, behind)?;
+        tree = Tree::And(Box::new(alloc, tree)?, Box::new(alloc, right)?);
+        rest = behind;
+    }
+    Ok((tree, rest))
+}
+
+/// A question that is not joined, and the tokens behind it.
+#[cycle(questions)]
+fn read_one<'a>(alloc: Global, tokens: &'a [Token<'a>]) -> Result<(Tree<'a>, &'a [Token<'a>]), Kind>
+    ensures taken { IfOk result (λ r. TakesOne (map token_view tokens.now) (tree_view r.0)
+        (map token_view r.1.now)) }
+    ensures shorter { IfOk result (λ r. length r.1.now < length tokens.now) }
+    ensures refused { IfErr result (λ kind.
+        Refuses kind (TakesOne (map token_view tokens.now))) }
+{
+    match behind_word(tokens, "not") {
+        Some(behind) => {
+            let (tree, rest) = read_one(alloc, behind)?;
+            Ok((Tree::Not(Box::new(alloc, tree)?), rest))
+        }
+        None => read_simple(alloc, tokens),
+    }
+}
+
+/// A simple part or a question in parentheses, and the tokens behind it.
+#[cycle(questions)]
+fn read_simple<'a>(
+    alloc: Global,
+    tokens: &'a [Token<'a>],
+) -> Result<(Tree<'a>, &'a [Token<'a>]), Kind>
+    ensures taken { IfOk result (λ r. TakesSimple (map token_view tokens.now) (tree_view r.0)
+        (map token_view r.1.now)) }
+    ensures shorter { IfOk result (λ r. length r.1.now < length tokens.now) }
+    ensures refused { IfErr result (λ kind.
+        Refuses kind (TakesSimple (map token_view tokens.now))) }
+{
+    match behind_open(tokens) {
+        Some(behind) => {
+            let (tree, rest) = read_question(alloc, behind)?;
+            match behind_close(rest) {
+                Some(rest) => Ok((tree, rest)),
+                None => Err(Kind::QuestionSyntax),
+            }
+        }
+        None => match read_part(tokens) {
+            Some((part, rest)) => Ok((Tree::Part(part), rest)),
+            None => Err(Kind::QuestionSyntax),
+        },
+    }
+}
+
+/// A simple part without parentheses, and the tokens behind it.
+fn read_part<'a>(tokens: &'a [Token<'a>]) -> Option<(Written<'a>, &'a [Token<'a>])>
+    ensures taken { IfSome result (λ r. TakesPart (map token_view tokens.now) (written_view r.0)
+        (map token_view r.1.now)) }
+    ensures shorter { IfSome result (λ r. length r.1.now < length tokens.now) }
+    ensures refused { IfNone result ((written : spec.Written) (rest : List _)
+        → TakesPart (map token_view tokens.now) written rest → ⊥) }
+{
+    let [first, rest @ ..] = tokens else {
+        return None;
+    };
+    match first {
+        Token::Braces(list) => Some((Written::Braces(list), rest)),
+        Token::Word(word) => read_word_part(word, rest),
+        _ => None,
+    }
+}
+
+/// The simple part that begins with a word, and the tokens behind it.
+fn read_word_part<'a>(word: &str, tokens: &'a [Token<'a>]) -> Option<(Written<'a>, &'a [Token<'a>])>
+    ensures taken { IfSome result (λ r. TakesPart (Word word.now ∷ map token_view tokens.now)
+        (written_view r.0) (map token_view r.1.now)) }
+    ensures shorter { IfSome result (λ r. length r.1.now ≤ length tokens.now) }
+    ensures refused { IfNone result ((written : spec.Written) (rest : List _)
+        → TakesPart (Word word.now ∷ map token_view tokens.now) written rest → ⊥) }
+{
+    if word == "any" {
+        return Some((Written::Any, tokens));
+    }
+    if word == "silenced" {
+        return Some((Written::Silenced, tokens));
+    }
+    if word == "inhibited" {
+        return Some((Written::Inhibited, tokens));
+    }
+    let [first, rest @ ..] = tokens else {
+        return None;
+    };
+    let part = match word {
+        "receiver" => Written::Receiver(name_of(first)?),
+        "ends" => Written::Ends(path_of(first)?),
+        "enters" => Written::Enters(path_of(first)?),
+        _ => return None,
+    };
+    Some((part, rest))
+}
+
+/// The name that a token is.
+fn name_of<'a>(token: &'a Token<'a>) -> Option<&'a str>
+    ensures { option_map (λ name. name.now) result ≡ name_of (token_view token.now) }
+{
+    match token {
+        Token::Word(name) => Some(name),
+        Token::Quoted(name) => Some(name.as_str()),
+        _ => None,
+    }
+}
+
+/// The text of a path that a token is.
+fn path_of<'a>(token: &'a Token<'a>) -> Option<&'a str>
+    ensures taken { IfSome result (λ text. (token_view token.now ≡ Word text.now)
+        × IsPathText text.now) }
+    ensures refused { IfNone result ((text : List ℕ) → token_view token.now ≡ Word text
+        → IsPathText text → ⊥) }
+{
+    match token {
+        Token::Word(text) if is_path(text) => Some(text),
+        _ => None,
+    }
+}
+
+/// Whether a word is the text of a path, be there such a route or not.
+fn is_path(word: &str) -> bool
+    ensures { IsTrue result ↔ IsPathText word.now }
+{
+    !matches!(Path::parse(word), Err(Kind::QuestionSyntax))
+}
+
+/// The tokens behind a word, where it is the first token.
+fn behind_word<'a>(tokens: &'a [Token<'a>], word: &str) -> Option<&'a [Token<'a>]>
+    ensures behind { option_map (λ rest. map token_view rest.now) result
+        ≡ behind word.now (map token_view tokens.now) }
+    ensures shorter { IfSome result (λ rest. length rest.now < length tokens.now) }
+{
+    match tokens {
+        [first, rest @ ..] if is_word(first, word) => Some(rest),
+        _ => None,
+    }
+}
+
+/// The tokens behind an opening parenthesis, where it is the first token.
+fn behind_open<'a>(tokens: &'a [Token<'a>]) -> Option<&'a [Token<'a>]>
+    ensures behind { option_map (λ rest. map token_view rest.now) result
+        ≡ behind_open (map token_view tokens.now) }
+    ensures shorter { IfSome result (λ rest. length rest.now < length tokens.now) }
+{
+    match tokens {
+        [Token::Open, rest @ ..] => Some(rest),
+        _ => None,
+    }
+}
+
+/// The tokens behind a closing parenthesis, where it is the first token.
+fn behind_close<'a>(tokens: &'a [Token<'a>]) -> Option<&'a [Token<'a>]>
+    ensures behind { option_map (λ rest. map token_view rest.now) result
+        ≡ behind_close (map token_view tokens.now) }
+    ensures shorter { IfSome result (λ rest. length rest.now < length tokens.now) }
+{
+    match tokens {
+        [Token::Close, rest @ ..] => Some(rest),
+        _ => None,
+    }
+}
+
+/// Whether a token is this word.
+fn is_word(token: &Token<'_>, word: &str) -> bool
+    ensures { result ≡ is_word word.now (token_view token.now) }
+{
+    match token {
+        Token::Word(text) => *text == word,
+        _ => false,
+    }
+}

@@ -1,0 +1,77 @@
+ghost use Rattle.std.specs.Prelude.{◌≡◌, ◌≢◌, [], option_copied};
+ghost use Rattle.std.specs.Prelude.{IfOk, IfErr, string_bytes};
+ghost use Rattle.am_universe.specs.declared.kind.Kind.TheVariants as kinds;
+ghost use Rattle.am_universe.specs.declared.place.Place.TheVariants as places;
+ghost use Rattle.am_json.specs.Words.{refusal_of, refusal_here};
+ghost use Rattle.am_search.specs.declared.start.Start.{Start};
+ghost use Rattle.am_eval.specs.Words.{question_view, IsFirstFaultOfCall};
+ghost use Rattle.am_questions.specs.Words.{inputs_of, AcceptsInputs, ask_stages, AsksStart};
+
+use crate::names::parse_question;
+use am_eval::{Files, Question, World, read_world};
+use am_files::read_universe;
+use am_labels::{Choice, Fault, Place, Universe, fault_at};
+use am_search::{Page, Start, parse_token};
+use std::alloc::Global;
+
+/// What the inputs of a question say, where they are accepted.
+#[derive(Drop)]
+pub struct AcceptedInputs {
+    pub universe: Universe,
+    pub world: World,
+    pub question: Question,
+    pub start: Start,
+}
+
+/// Reads the inputs of a question: the universe file, the world, the question, and then the token
+/// that says where the answers begin. The first fault is the one answered, at `Universe`, where
+/// [`read_world`] has it, at `Question` or at `Token`. `Memory`, at `Memory`, comes wherever memory
+/// ran out.
+pub fn read_inputs(
+    alloc: Global,
+    universe: &[u8],
+    files: &Files<'_>,
+    question: &str,
+    page: &Page<'_>,
+) -> Result<AcceptedInputs, Fault>
+    ensures accepts { IfOk result (λ accepted. AcceptsInputs
+        (inputs_of universe.now files.now question.now page.now)
+        accepted.universe accepted.world (question_view accepted.question) accepted.start) }
+    ensures first { IfErr result (λ fault. fault.kind ≢ kinds.Memory
+        → IsFirstFaultOfCall (ask_stages (inputs_of universe.now files.now question.now page.now))
+        fault.place (refusal_of fault)) }
+    ensures memory { IfErr result (λ fault. fault.kind ≡ kinds.Memory
+        → (fault.place ≡ places.Memory) × (string_bytes fault.pointer ≡ [])) }
+    ensures no_write { IfErr result (λ fault. fault.kind ≢ kinds.Write) }
+{
+    let universe = read_universe(alloc, universe)?;
+    let world = read_world(alloc, files)?;
+    let question = match parse_question(alloc, question, world.config()) {
+        Ok(question) => question,
+        Err(kind) => return Err(fault_at(alloc, kind, Place::Question)),
+    };
+    let start = read_start(alloc, page.after, &universe)?;
+    Ok(AcceptedInputs {
+        universe,
+        world,
+        question,
+        start,
+    })
+}
+
+/// The start that a token asks for, and that of all choices without one. `BadToken`, at `Token`,
+/// where it asks for none. No memory is taken.
+fn read_start(alloc: Global, after: Option<&str>, universe: &Universe) -> Result<Start, Fault>
+    ensures starts { IfOk result (AsksStart universe.now (option_copied after.entry)) }
+    ensures refused { IfErr result (λ fault. (fault.place ≡ places.Token)
+        × ((start : Start) → AsksStart universe.now (option_copied after.entry) start → ⊥)
+        × (refusal_of fault ≡ refusal_here kinds.BadToken)) }
+{
+    let Some(token) = after else {
+        return Ok(Start::At(Choice::empty()));
+    };
+    match parse_token(token, universe) {
+        Ok(start) => Ok(start),
+        Err(kind) => Err(fault_at(alloc, kind, Place::Token)),
+    }
+}

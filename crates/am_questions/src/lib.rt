@@ -1,0 +1,24 @@
+//! The texts of questions, and what the inputs of a call that asks one mean.
+//!
+//! [`parse_question`] reads a [`Question`] about a configuration, and [`read_inputs`] all that a
+//! question is asked over: the universe, the world, the question, and where the answers begin.
+#![tactic(auto)]
+
+// How much there may be.
+pub mod limits;
+
+// The text of a question: its tokens, the tree that they are, and what its parts mean.
+mod grammar;
+mod names;
+mod tokens;
+
+pub use am_eval::Question;
+pub use names::parse_question;
+
+// The inputs of a call that asks a question.
+mod inputs;
+
+pub use inputs::{AcceptedInputs, read_inputs};
+
+// What holds of the definitions by themselves.
+pub mod laws;

@@ -1,0 +1,101 @@
+//! Reading a question: what the names, paths and matcher lists of a tree mean.
+
+ghost use Rattle.std.specs.Prelude.{◌≡◌, ◌≢◌, ℕ, List, IfOk, IfErr};
+ghost use Rattle.am_universe.specs.declared.kind.Kind.TheVariants as kinds;
+ghost use Rattle.am_files.specs.Words.{config_view};
+ghost use Rattle.am_eval.specs.Tree.{Part};
+ghost use Rattle.am_questions.specs.Words.{ReadsQuestion, QuestionRefusedFor, TreeMeans, parts_of};
+ghost use Rattle.am_questions.specs.Words.{PartsRefusedFor, PartRefusedFor, IsPathOfRoute};
+ghost use Rattle.am_questions.specs.Words.{tree_view, written_view};
+ghost use Rattle.am_eval.specs.Words.{question_view};
+
+use crate::grammar::{Tree, Written, read_tree};
+use crate::limits::MAX_TOKENS;
+use crate::tokens::read_tokens;
+use am_eval::Question;
+use am_files::{Config, Path};
+use am_labels::{Kind, parse_matchers};
+use std::alloc::Global;
+
+/// Reads a question about a configuration.
+///
+/// The first of: `QuestionSyntax` where the text has no tokens; `Limit` for more than
+/// [`MAX_TOKENS`]; `QuestionSyntax` where the tokens are no question; then, part by part from left
+/// to right, `UnknownReceiver`, `UnknownRoute`, or what `parse_matchers` answers. `Memory`
+/// only where memory ran out.
+pub fn parse_question(alloc: Global, text: &str, config: &Config) -> Result<Question, Kind>
+    ensures read { IfOk result (λ question.
+        ReadsQuestion (config_view config.now) text.now (question_view question)) }
+    ensures refused { IfErr result (λ kind. kind ≢ kinds.Memory
+        → QuestionRefusedFor (config_view config.now) text.now kind) }
+{
+    let tokens = read_tokens(alloc, text)?;
+    if tokens.len() > MAX_TOKENS {
+        return Err(Kind::Limit);
+    }
+    let tree = read_tree(alloc, tokens.as_slice())?;
+    question_of(alloc, config, &tree)
+}
+
+/// The question that a tree means. An `Err` is that of its first simple part that means nothing.
+fn question_of(alloc: Global, config: &Config, tree: &Tree<'_>) -> Result<Question, Kind>
+    ensures meant { IfOk result (λ question.
+        TreeMeans (config_view config.now) (tree_view tree.now) (question_view question)) }
+    ensures refused { IfErr result (λ kind. kind ≢ kinds.Memory
+        → PartsRefusedFor (config_view config.now) (parts_of (tree_view tree.now)) kind) }
+{
+    match tree {
+        Tree::Part(written) => part_of(alloc, config, written),
+        Tree::Not(tree) => {
+            let question = question_of(alloc, config, tree)?;
+            Ok(Question::Not(Box::new(alloc, question)?))
+        }
+        Tree::And(left, right) => {
+            let left = question_of(alloc, config, left)?;
+            let right = question_of(alloc, config, right)?;
+            Ok(Question::And(Box::new(alloc, left)?, Box::new(alloc, right)?))
+        }
+        Tree::Or(left, right) => {
+            let left = question_of(alloc, config, left)?;
+            let right = question_of(alloc, config, right)?;
+            Ok(Question::Or(Box::new(alloc, left)?, Box::new(alloc, right)?))
+        }
+    }
+}
+
+/// The question that a simple part means.
+fn part_of(alloc: Global, config: &Config, written: &Written<'_>) -> Result<Question, Kind>
+    ensures meant { IfOk result (λ question. TreeMeans (config_view config.now)
+        (Part (written_view written.now)) (question_view question)) }
+    ensures refused { IfErr result (λ kind. kind ≢ kinds.Memory
+        → PartRefusedFor (config_view config.now) (written_view written.now) kind) }
+{
+    match written {
+        Written::Any => Ok(Question::Any),
+        Written::Silenced => Ok(Question::Silenced),
+        Written::Inhibited => Ok(Question::Inhibited),
+        Written::Receiver(name) => match config.receiver_position(name) {
+            Some(receiver) => Ok(Question::Receiver(receiver)),
+            None => Err(Kind::UnknownReceiver),
+        },
+        Written::Ends(text) => Ok(Question::Ends(path_of_route(config, text)?)),
+        Written::Enters(text) => Ok(Question::Enters(path_of_route(config, text)?)),
+        Written::Braces(text) => Ok(Question::Braces(parse_matchers(alloc, text)?)),
+    }
+}
+
+/// The path with this text, where there is a route. `UnknownRoute` where there is none.
+fn path_of_route(config: &Config, text: &str) -> Result<Path, Kind>
+    ensures found { IfOk result (λ path.
+        IsPathOfRoute (config_view config.now) text.now path) }
+    ensures none { IfErr result (λ kind. (kind ≡ kinds.UnknownRoute)
+        × ((path : List ℕ) → IsPathOfRoute (config_view config.now) text.now path → ⊥)) }
+{
+    let Ok(path) = Path::parse(text) else {
+        return Err(Kind::UnknownRoute);
+    };
+    match config.at(&path) {
+        Some(_) => Ok(path),
+        None => Err(Kind::UnknownRoute),
+    }
+}

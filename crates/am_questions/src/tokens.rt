@@ -1,0 +1,129 @@
+//! The tokens of a question's text.
+
+ghost use Rattle.std.specs.Prelude.{◌≡◌, ◌≢◌, ◌≤◌, List, length, map, true, false, Some, None};
+ghost use Rattle.std.specs.Prelude.{IfOk, IfErr, string_bytes};
+ghost use Rattle.std.specs.List.{prefix_len};
+ghost use Rattle.am_universe.specs.declared.kind.Kind.TheVariants as kinds;
+ghost use Rattle.am_labels.specs.Words.{has_escape, byte_of_escape};
+ghost use Rattle.am_questions.specs.Tokens as spec;
+ghost use Rattle.am_questions.specs.Words.{SpellsTokens, is_word_character, token_view, is_plain};
+ghost use Rattle.am_questions.specs.Words.{read_quoted, read_token};
+
+use am_labels::{Kind, brace_len};
+use std::alloc::Global;
+
+/// A token of a question.
+#[derive(Debug, Drop)]
+pub enum Token<'a> {
+    /// `(`
+    Open,
+    /// `)`
+    Close,
+    /// A word, as it stands.
+    Word(&'a str),
+    /// What a text in quotes stands for.
+    Quoted(String),
+    /// A list of matchers, with its braces.
+    Braces(&'a str),
+}
+
+/// The tokens of a text, however many. `QuestionSyntax` where it has none; `Memory`.
+pub fn read_tokens(alloc: Global, text: &str) -> Result<Vec<Token<'_>>, Kind>
+    ensures read { IfOk result (λ tokens. SpellsTokens text.now (map token_view tokens.items)) }
+    ensures refused { IfErr result (λ kind. kind ≢ kinds.Memory → (kind ≡ kinds.QuestionSyntax)
+        × ((ts : List spec.Token) → SpellsTokens text.now ts → ⊥)) }
+{
+    let mut tokens = Vec::new(alloc);
+    let mut rest = text.trim_ascii_start();
+    while !rest.is_empty() {
+        let (token, behind) = read_token(alloc, rest)?;
+        tokens.push(token)?;
+        rest = behind.trim_ascii_start();
+    }
+    Ok(tokens)
+}
+
+/// The first token of a text that begins with no whitespace, and what stands behind it.
+#[tactic(auto, unfolding(crate::specs::TokenReading::read_token))]
+fn read_token(alloc: Global, text: &str) -> Result<(Token<'_>, &str), Kind>
+    ensures read { IfOk result (λ x. read_token text.now ≡ Some (token_view x.0, x.1.now)) }
+    ensures refused { IfErr result (λ kind. kind ≢ kinds.Memory → (kind ≡ kinds.QuestionSyntax)
+        × (read_token text.now ≡ None)) }
+{
+    match text.as_bytes() {
+        [b'(', ..] => Ok((Token::Open, &text[1..])),
+        [b')', ..] => Ok((Token::Close, &text[1..])),
+        [b'"', ..] => {
+            let (value, behind) = read_quoted(alloc, &text[1..])?;
+            Ok((Token::Quoted(value), behind))
+        }
+        [b'{', ..] => match brace_len(text) {
+            Some(len) => Ok((Token::Braces(&text[..len]), &text[len..])),
+            None => Err(Kind::QuestionSyntax),
+        },
+        _ => {
+            let len = word_len(text.as_bytes());
+            Ok((Token::Word(&text[..len]), &text[len..]))
+        }
+    }
+}
+
+/// What the text behind an opening quote stands for, and what stands behind the closing one.
+fn read_quoted(alloc: Global, text: &str) -> Result<(String, &str), Kind>
+    ensures read { IfOk result (λ x. read_quoted text.now ≡ Some (string_bytes x.0, x.1.now)) }
+    ensures refused { IfErr result (λ kind. kind ≢ kinds.Memory → (kind ≡ kinds.QuestionSyntax)
+        × (read_quoted text.now ≡ None)) }
+{
+    let mut value = String::new(alloc);
+    let mut rest = text;
+    loop {
+        let len = plain_len(rest.as_bytes());
+        value.push_str(&rest[..len])?;
+        match &rest.as_bytes()[len..] {
+            [b'"', ..] => return Ok((value, &rest[len + 1..])),
+            [b'\\', escaped, ..] => value.push(escape_of(*escaped)?)?,
+            _ => return Err(Kind::QuestionSyntax),
+        }
+        rest = &rest[len + 2..];
+    }
+}
+
+/// How many bytes at the beginning of a text stand for themselves between quotes.
+fn plain_len(text: &[u8]) -> usize
+    ensures at_most { result ≤ length text.now }
+    ensures value { result ≡ prefix_len is_plain text.now }
+{
+    text.iter()
+        .take_while(|byte| !matches!(**byte, b'"' | b'\\'))
+        .count()
+}
+
+/// What stands for a byte behind a backslash.
+fn escape_of(byte: u8) -> Result<char, Kind>
+    ensures read { IfOk result (λ character. (has_escape byte ≡ true)
+        × (character ≡ byte_of_escape byte)) }
+    ensures refused { IfErr result (λ kind. (kind ≡ kinds.QuestionSyntax)
+        × (has_escape byte ≡ false)) }
+{
+    match byte {
+        b'"' => Ok('"'),
+        b'\\' => Ok('\\'),
+        b'n' => Ok('\n'),
+        _ => Err(Kind::QuestionSyntax),
+    }
+}
+
+/// How many bytes of a word a text begins with.
+fn word_len(text: &[u8]) -> usize
+    ensures at_most { result ≤ length text.now }
+    ensures value { result ≡ prefix_len is_word_character text.now }
+{
+    text.iter().take_while(|byte| is_word_byte(**byte)).count()
+}
+
+/// Whether a byte is part of a word: whitespace, parentheses, an opening brace and a quote are not.
+fn is_word_byte(byte: u8) -> bool
+    ensures { result ≡ is_word_character byte }
+{
+    !(byte.is_ascii_whitespace() || matches!(byte, b'(' | b')' | b'{' | b'"'))
+}

@@ -1,0 +1,140 @@
+-- A page that is being written: the lines of some answers are out, the others are left.
+use Rattle.std.proofs.Common.{◌≡◌, ◌≢◌, ℕ, zero, suc, ◌+◌, ◌-◌, ◌<◌, ◌≤◌, Bool, true, false, cond, nat_eq, nat_lt, List, [], ◌∷◌, ◌++◌, length, take, get_or, Option, Some, None, IfSome, refl, subst, sym, ap, ◌∙◌, append_assoc, append-nil, length-append, arith}
+use Rattle.std.specs.Prelude.{option_map}
+use Rattle.std.specs.Option.{option_eq}
+use Rattle.std.proofs.lemmas.Bool.{false≢true}
+use Rattle.std.specs.List.{flat_map}
+use Rattle.std.proofs.Math.Seq.{take-append-add, take-append_seam, get_or-append_seam}
+use Rattle.std.proofs.lemmas.List.{get_or_append_left}
+use Rattle.std.proofs.lemmas.Grind.{flat_map-append}
+use borrow.Author.Tests.{lt-ltb, le-ltb, eqb-true}
+use Rattle.am_search.specs.declared.trailer.Trailer.{Trailer}
+use Rattle.am_search.specs.declared.trailer.Trailer.TheVariants.{End, Next}
+use Rattle.am_search.specs.Page.{AnswerPage, page_of}
+use Rattle.am_search.specs.TrailerText.{trailer_text}
+
+-- ---- Which page it is.
+
+abbrev part_page : List (List ℕ) → ℕ → AnswerPage
+part_page xs n = record { choices = take n xs; trailer = Next (get_or xs (n - 1) []) }
+
+abbrev all_page : List (List ℕ) → AnswerPage
+all_page xs = record { choices = xs; trailer = End }
+
+page_of_part : (xs : List (List ℕ)) (n : ℕ) → n < length xs → page_of xs (Some n) ≡ part_page xs n
+page_of_part xs n h = ap (λ b. cond b (part_page xs n) (all_page xs)) (lt-ltb n (length xs) h)
+
+page_of_all : (xs : List (List ℕ)) (limit : Option ℕ) → IfSome limit (λ n. length xs ≤ n) → page_of xs limit ≡ all_page xs
+page_of_all xs None h = refl
+page_of_all xs (Some n) h = ap (λ b. cond b (part_page xs n) (all_page xs)) (le-ltb n (length xs) h)
+
+-- ---- How far it has come: `done` are written, the last of them is `last`, there is room for so many more under the limit.
+pub record IsSoFar (xs : List (List ℕ)) (limit : Option ℕ) (IsWritten : List (List ℕ) → Type 0) (left : List (List ℕ)) (room : Option ℕ) (last : List ℕ) : Type 0 where
+  pub done : List (List ℕ)
+  pub all : xs ≡ done ++ left
+  pub limit_is : limit ≡ option_map (λ r. length done + r) room
+  pub last_is : last ≡ get_or done (length done - 1) []
+  pub written : IsWritten done
+
+pub begun : (xs : List (List ℕ)) (limit : Option ℕ) (IsWritten : List (List ℕ) → Type 0) (last : List ℕ) → last ≡ [] → IsWritten [] → IsSoFar xs limit IsWritten xs limit last
+begun xs limit IsWritten last e w = record { done = []; all = refl; limit_is = by limit; last_is = e; written = w }
+  where
+    by : (o : Option ℕ) → o ≡ option_map (λ r. 0 + r) o
+    by None = refl
+    by (Some n) = ap Some (omega arith)
+
+module _ {xs : List (List ℕ)} {limit : Option ℕ} {IsWritten : List (List ℕ) → Type 0} {left : List (List ℕ)} {room : Option ℕ} {last : List ℕ} (so_far : IsSoFar xs limit IsWritten left room last) where
+  -- no answer is left
+  pub all_written : left ≡ [] → page_of xs limit ≡ record { choices = so_far.done; trailer = End }
+  all_written none =
+      let same : xs ≡ so_far.done = so_far.all ∙ ap (λ l. so_far.done ++ l) none ∙ append-nil so_far.done in
+      page_of_all xs limit (fits same limit room so_far.limit_is) ∙ ap all_page same
+    where
+      fits : xs ≡ so_far.done → (l r : Option ℕ) → l ≡ option_map (λ k. length so_far.done + k) r → IfSome l (λ n. length xs ≤ n)
+      fits same None r e = tt
+      fits same (Some n) None e = cc
+      fits same (Some n) (Some k) e =
+          let is : n ≡ length so_far.done + k = cc in
+          omega (arith, ap length same, is)
+
+  -- one more is left than there may be
+  pub full : (c : List ℕ) (rest : List (List ℕ)) → left ≡ c ∷ rest → room ≡ Some 0 → IfSome limit (λ n. 0 < n) → page_of xs limit ≡ record { choices = so_far.done; trailer = Next last }
+  full c rest found e some =
+      let done : List (List ℕ) = so_far.done in
+      let n : ℕ = length done in
+      let is : limit ≡ Some n = so_far.limit_is ∙ ap (option_map (λ r. n + r)) e ∙ ap Some (omega arith) in
+      let positive : 0 < n = subst (λ l. IfSome l (λ n. 0 < n)) is some in
+      let same : xs ≡ done ++ c ∷ rest = so_far.all ∙ ap (λ l. done ++ l) found in
+      ap (page_of xs) is ∙ page_of_part xs n (omega (arith, ap length same, length-append done (c ∷ rest)))
+      ∙ ap (λ l. part_page l n) same
+      ∙ ap (λ (l : List (List ℕ)). record { choices = l; trailer = Next (get_or (done ++ c ∷ rest) (n - 1) []) }) (take-append_seam done (c ∷ rest))
+      ∙ ap (λ (l : List ℕ). record { choices = done; trailer = Next l }) (get_or_append_left done (c ∷ rest) [] (n - 1) (omega (arith, positive)) ∙ sym so_far.last_is)
+
+  -- the next answer is written: the page has it behind the others
+  pub through : (c : List ℕ) (rest : List (List ℕ)) → left ≡ c ∷ rest → room ≢ Some 0 → (more : List (List ℕ)) × ((page_of xs limit).choices ≡ so_far.done ++ c ∷ more)
+  through c rest found some = by limit room refl so_far.limit_is some
+    where
+      same : xs ≡ so_far.done ++ c ∷ rest
+      same = so_far.all ∙ ap (λ l. so_far.done ++ l) found
+
+      by : (l r : Option ℕ) → limit ≡ l → l ≡ option_map (λ k. length so_far.done + k) r → r ≢ Some 0 → (more : List (List ℕ)) × ((page_of xs limit).choices ≡ so_far.done ++ c ∷ more)
+      by None r is e other = (rest, ap (λ l. (page_of xs l).choices) is ∙ same)
+      by (Some n) None is e other = cc
+      by (Some n) (Some zero) is e other = absurd (other refl)
+      by (Some n) (Some (suc k)) is e other = under (nat_lt n (length xs)) refl
+        where
+          under : (b : Bool) → nat_lt n (length xs) ≡ b → (more : List (List ℕ)) × ((page_of xs limit).choices ≡ so_far.done ++ c ∷ more)
+          under true h =
+              let count : n ≡ length so_far.done + suc k = cc in (
+                take k rest,
+                ap (λ l. (page_of xs l).choices) is ∙ ap (λ b. (cond b (part_page xs n) (all_page xs)).choices) h
+                    ∙ ap (λ m. take m xs) count ∙ ap (take (length so_far.done + suc k)) same
+                    ∙ take-append-add so_far.done (c ∷ rest) (suc k),
+              )
+          under false h = (rest, ap (λ l. (page_of xs l).choices) is ∙ ap (λ b. (cond b (part_page xs n) (all_page xs)).choices) h ∙ same)
+
+  pub one_more : {IsWrittenNow : List (List ℕ) → Type 0} (c : List ℕ) (rest : List (List ℕ)) (after : Option ℕ) → left ≡ c ∷ rest → room ≡ option_map (λ r. r + 1) after → IsWrittenNow (so_far.done ++ c ∷ []) → IsSoFar xs limit IsWrittenNow rest after c
+  one_more c rest after found less w = record {
+    done = so_far.done ++ c ∷ [];
+    all = so_far.all ∙ ap (λ l. so_far.done ++ l) found ∙ sym (append_assoc so_far.done (c ∷ []) rest);
+    limit_is = so_far.limit_is ∙ ap (option_map (λ r. length so_far.done + r)) less ∙ by after;
+    last_is = sym (ap (λ n. get_or (so_far.done ++ c ∷ []) n []) (omega (arith, length-append so_far.done (c ∷ []))) ∙ get_or-append_seam so_far.done c [] []);
+    written = w;
+  }
+    where
+      by : (o : Option ℕ) → option_map (λ r. length so_far.done + r) (option_map (λ r. r + 1) o) ≡ option_map (λ r. length (so_far.done ++ c ∷ []) + r) o
+      by None = refl
+      by (Some n) = ap Some (omega (arith, length-append so_far.done (c ∷ [])))
+
+-- ---- The tests of the loop.
+
+pub no_room : (room : Option ℕ) → true ≡ option_eq nat_eq room (Some 0) → room ≡ Some 0
+no_room None e = cc
+no_room (Some n) e = ap Some (eqb-true n 0 (sym e))
+
+pub some_room : (room : Option ℕ) → false ≡ option_eq nat_eq room (Some 0) → room ≢ Some 0
+some_room room e full = false≢true (e ∙ ap (λ o. option_eq nat_eq o (Some 0)) full)
+
+pub one_less : (room : Option ℕ) (n : ℕ) → room ≡ Some n → room ≢ Some 0 → 1 ≤ n
+one_less room zero is some = absurd (some is)
+one_less room (suc n) is some = omega arith
+
+pub less_by_one : (n : ℕ) → 1 ≤ n → Some n ≡ option_map (λ r. r + 1) (Some (n - 1))
+less_by_one n h = ap Some (omega arith)
+
+pub no_limit : (room : Option ℕ) → room ≡ None → room ≡ option_map (λ r. r + 1) room
+no_limit room none = none ∙ sym (ap (option_map (λ r. r + 1)) none)
+
+pub fewer : {X : Type 0} {xs ys : List X} {x : X} → xs ≡ x ∷ ys → suc (length ys) ≤ length xs
+fewer e = omega (arith, ap length e)
+
+-- ---- The lines.
+
+pub lines_more : (f : List ℕ → List ℕ) (done : List (List ℕ)) (c : List ℕ) → flat_map f done ++ f c ≡ flat_map f (done ++ c ∷ [])
+lines_more f done c = ap (λ t. flat_map f done ++ t) (sym (append-nil (f c))) ∙ sym (flat_map-append f done (c ∷ []))
+
+pub lines_through : (f : List ℕ → List ℕ) (done : List (List ℕ)) (c : List ℕ) (more : List (List ℕ)) → flat_map f done ++ (f c ++ flat_map f more) ≡ flat_map f (done ++ c ∷ more)
+lines_through f done c more = sym (flat_map-append f done (c ∷ more))
+
+pub trailer_as : (head : List ℕ) {a b : Trailer} → a ≡ b → head ++ trailer_text a ≡ head ++ trailer_text b
+trailer_as head e = ap (λ t. head ++ trailer_text t) e

@@ -1,0 +1,24 @@
+use Rattle.std.proofs.Common.{ap, sym}
+use Rattle.am_universe.proofs.Writing.{◌⟩◌, fails, writes_as}
+use Rattle.am_search.specs.TrailerText.{trailer_text}
+use Rattle.am_search.proofs.trailer_text.write_trailer.Goals as goal
+
+pub returns-in_err-put_all-in-Next : goal.returns-in_err-put_all-in-Next
+returns-in_err-put_all-in-Next g c = record {
+  written =
+      writes_as (ap trailer_text (sym c.in-Next.is)) (fails _ c.from_residual.ensures c.in_err-put_all-in-Next.ensures.written);
+}
+
+pub returns-in_err-write_token-in-Next : goal.returns-in_err-write_token-in-Next
+returns-in_err-write_token-in-Next g c = record {
+  written =
+      writes_as (ap trailer_text (sym c.in-Next.is))
+      (c.in_ok-put_all-in-Next.ensures.written.ok ⟩ fails _ c.from_residual-in_err-write_token-in-Next.ensures c.in_err-write_token-in-Next.ensures.written);
+}
+
+pub returns-in_ok-write_token-in-Next : goal.returns-in_ok-write_token-in-Next
+returns-in_ok-write_token-in-Next g c = record {
+  written =
+      writes_as (ap trailer_text (sym c.in-Next.is))
+      (c.in_ok-put_all-in-Next.ensures.written.ok ⟩ c.in_ok-write_token-in-Next.ensures.written.ok ⟩ c.put_all-in-Next-2.ensures.written);
+}

@@ -1,0 +1,22 @@
+ghost use Rattle.am_universe.specs.Words.{Writes};
+ghost use Rattle.am_search.specs.Words.{trailer_text};
+
+use crate::start::Start;
+use crate::token::write_token;
+use crate::trailer::Trailer;
+use am_universe::{Kind, Sink, put_all};
+
+/// Writes the line of a trailer. The only `Err` is `Kind::Write`, after a part of it from its
+/// front.
+pub fn write_trailer<W: Sink>(trailer: &Trailer, out: &mut W) -> Result<(), Kind>
+    ensures written { Writes W.taken W.failures out.old out.new (trailer_text trailer.now) result }
+{
+    match trailer {
+        Trailer::End => put_all(out, b"# end\n"),
+        Trailer::Next(choice) => {
+            put_all(out, b"# next ")?;
+            write_token(&Start::After(*choice), out)?;
+            put_all(out, b"\n")
+        }
+    }
+}

@@ -1,0 +1,131 @@
+ghost use Rattle.std.specs.Prelude.{◌≡◌, IfOk};
+ghost use Rattle.am_universe.specs.Words.{Writes, fault_text, has_no_place, place_part};
+ghost use Rattle.am_universe.specs.Words.{pointer_byte_text, pointer_part, status_of};
+
+use crate::{Fault, History, Kind, Out, Sink, put_all, put_str};
+use std::alloc::{AllocError, Global};
+use std::io::Write;
+
+/// Writes the line for a fault, as `amcover: universe: /labels/0/name: shape`.
+///
+/// The only `Err` is `Kind::Write`. No memory is taken.
+pub fn write_fault<W: Sink>(fault: &Fault, out: &mut W) -> Result<(), Kind>
+    ensures written { Writes W.taken W.failures out.old out.new (fault_text fault.now) result }
+{
+    put_all(out, b"amcover: ")?;
+    write_place_part(fault, out)?;
+    put_str(out, fault.kind.text())?;
+    put_all(out, b"\n")
+}
+
+/// Writes where a fault stands, and nothing for a fault of writing or of memory.
+fn write_place_part<W: Sink>(fault: &Fault, out: &mut W) -> Result<(), Kind>
+    ensures { Writes W.taken W.failures out.old out.new (place_part fault.now) result }
+{
+    if has_no_place(fault.kind) {
+        return Ok(());
+    }
+    put_str(out, fault.place.text())?;
+    put_all(out, b": ")?;
+    write_pointer(fault.pointer.as_str(), out)
+}
+
+/// Whether a fault stands at no part of the input.
+fn has_no_place(kind: Kind) -> bool
+    ensures { result ≡ has_no_place kind }
+{
+    matches!(kind, Kind::Write | Kind::Memory)
+}
+
+/// Writes a pointer and what separates it from the text of the kind, and nothing for the empty
+/// pointer.
+fn write_pointer<W: Sink>(pointer: &str, out: &mut W) -> Result<(), Kind>
+    ensures { Writes W.taken W.failures out.old out.new (pointer_part pointer.now) result }
+{
+    if pointer.is_empty() {
+        return Ok(());
+    }
+    for byte in pointer.as_bytes() {
+        write_pointer_byte(*byte, out)?;
+    }
+    put_all(out, b": ")
+}
+
+/// Writes a byte of a pointer, so that the pointer stays on one line.
+fn write_pointer_byte<W: Sink>(byte: u8, out: &mut W) -> Result<(), Kind>
+    ensures { Writes W.taken W.failures out.old out.new (pointer_byte_text byte) result }
+{
+    match byte {
+        b'\\' => put_all(out, b"\\\\"),
+        b'\n' => put_all(out, b"\\n"),
+        _ => put_all(out, &[byte]),
+    }
+}
+
+/// The exit status of the program after a fault: 4 where writing failed, 3 where memory ran out, 1
+/// where input was refused.
+pub fn status(fault: &Fault) -> u8
+    ensures status { result ≡ status_of fault.now.kind }
+{
+    match fault.kind {
+        Kind::Write => 4,
+        Kind::Memory => 3,
+        _ => 1,
+    }
+}
+
+/// Writes the line for a fault on `err`, in one write where there is memory for the line and `err`
+/// takes it whole. The answer is the exit status.
+pub fn report<E: Write>(alloc: Global, fault: &Fault, err: &mut E) -> u8
+    ensures status { result ≡ status_of fault.now.kind }
+{
+    let mut err = Out::new(err);
+    // Nothing can be said of a failure to say what failed.
+    let _ = match fault_line(alloc, fault) {
+        Ok(line) => put_all(&mut err, line.as_slice()),
+        Err(_) => write_fault(fault, &mut err),
+    };
+    status(fault)
+}
+
+/// The line for a fault, in memory. An `Err` only where memory ran out.
+fn fault_line(alloc: Global, fault: &Fault) -> Result<Vec<u8>, AllocError>
+    ensures { IfOk result (λ line. line.items ≡ fault_text fault.now) }
+{
+    let mut line = Line {
+        bytes: Vec::new(alloc),
+        refusals: History::new(),
+    };
+    match write_fault(fault, &mut line) {
+        Ok(()) => Ok(line.bytes),
+        Err(_) => Err(AllocError),
+    }
+}
+
+/// A sink in memory. A take fails only where memory ran out.
+///
+/// What an `Out` says of its writer speaks of the writer at its start, which a call over any sink
+/// does not say it keeps; here the bytes taken are those in memory.
+#[derive(Drop)]
+struct Line {
+    bytes: Vec<u8>,
+    refusals: History<Kind>,
+}
+
+impl Sink for Line {
+    ghost use Rattle.std.specs.Prelude.{length};
+
+    ghost taken = { λ line. line.bytes.items };
+
+    ghost failures = { λ line. length line.refusals.items };
+
+    fn take(&mut self, bytes: &[u8]) -> Result<usize, Kind> {
+        match self.bytes.extend_from_slice(bytes) {
+            Ok(()) => Ok(bytes.len()),
+            Err(_) => {
+                self.refusals = self.refusals.followed_by(&[Kind::Write]);
+                Err(Kind::Write)
+            }
+        }
+    }
+}
