@@ -1,0 +1,58 @@
+"""What the tools that run rt share: which processors and how much memory they may use, counted as
+rt counts them, and how they end at a signal.
+"""
+import os
+import re
+import signal
+import sys
+
+CGROUP = "/sys/fs/cgroup"
+
+
+def number_in(file, pattern=r"(\d+)"):
+    """Returns the number that the pattern finds in a file, or None."""
+    try:
+        with open(file, encoding="utf-8") as it:
+            found = re.search(pattern, it.read())
+    except OSError:
+        return None
+    return int(found[1]) if found else None
+
+
+def processors():
+    """Returns how many processors this process may use, under its control group's quota too."""
+    found = len(os.sched_getaffinity(0))
+    for quota, period in [
+        (f"{CGROUP}/cpu.max", (f"{CGROUP}/cpu.max", r" (\d+)")),
+        (f"{CGROUP}/cpu/cpu.cfs_quota_us", (f"{CGROUP}/cpu/cpu.cfs_period_us",)),
+    ]:
+        quota, period = number_in(quota, r"^(\d+)"), number_in(*period)
+        if quota and period:
+            found = min(found, max(quota // period, 1))
+    return found
+
+
+def free_memory():
+    """Returns the bytes that are free, under the control group's limit too, or None if unknown."""
+    free = number_in("/proc/meminfo", r"MemAvailable:\s+(\d+)")
+    found = [1024 * free] if free is not None else []
+    for limit, held, pattern in [
+        (f"{CGROUP}/memory.max", f"{CGROUP}/memory.stat", r"(?m)^anon (\d+)"),
+        (
+            f"{CGROUP}/memory/memory.limit_in_bytes",
+            f"{CGROUP}/memory/memory.stat",
+            r"(?m)^total_rss (\d+)",
+        ),
+    ]:
+        limit, held = number_in(limit), number_in(held, pattern)
+        if limit is not None and held is not None:
+            found.append(limit - held)
+    return min(found, default=None)
+
+
+def end_at_signals():
+    """Has a signal that asks for the end raise SystemExit. One that the caller has ignored, as
+    nohup does, stays ignored."""
+    for it in (signal.SIGHUP, signal.SIGINT, signal.SIGQUIT, signal.SIGTERM):
+        if signal.getsignal(it) is not signal.SIG_IGN:
+            signal.signal(it, lambda number, _: sys.exit(128 + number))
