@@ -24,7 +24,6 @@ pub use explaining::explain;
 pub use reporting::{dead, receivers};
 
 // The program's run.
-mod command_line;
 mod program;
 mod read_file;
 

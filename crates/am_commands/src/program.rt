@@ -1,8 +1,8 @@
 use crate::asking::ask;
-use crate::command_line::{Request, Subject, WorldPaths, parse_command_line};
 use crate::explaining::explain;
 use crate::read_file::read_file;
 use crate::reporting::{dead, receivers};
+use am_command_line::{Request, Subject, WorldPaths, parse_command_line};
 use am_labels::{Fault, Kind, Out, Place, Sink, fault_at, report};
 use am_search::Page;
 use clap::Error;
