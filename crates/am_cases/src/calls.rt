@@ -4,14 +4,13 @@ ghost use Rattle.std.specs.Prelude.{◌≡◌, Some, IfSome, length, slice_get};
 ghost use Rattle.am_universe.specs.Universe.{sizes};
 
 use crate::alerts::of_alerts;
-use crate::lines::{split_at_first, split_at_last, utf8};
 use crate::pages::of_ask;
-use crate::problem::Problem;
 use crate::reports::{Report, of_report};
 use crate::silences::{of_instant, of_silences};
 use crate::starts::{of_first, of_judge, of_token};
 use crate::trees::config_text;
 use crate::worlds::{of_explain, of_inhibited, of_pairs, of_silenced};
+use am_case_files::{Problem, split_at_first, split_at_last, utf8};
 use am_commands::{Files, status, write_fault};
 use am_eval::{ends, receivers_of};
 use am_files::{Config, Path, read_config, read_universe};

@@ -1,11 +1,9 @@
 //! Commands: a command line, and what it must write and answer.
 
-use crate::inserts::{Named, filled};
-use crate::lines::{Item, Line, number, split_at_first, utf8};
-use crate::problem::Problem;
 use crate::shelf::Shelf;
-use crate::words::words;
-use crate::writer::{Manner, Stop, Writer};
+use am_case_files::{
+    Item, Line, Manner, Named, Problem, Stop, Writer, filled, number, split_at_first, utf8, words,
+};
 use am_commands::run;
 use std::alloc::Global;
 use std::fs::OpenOptions;

@@ -7,14 +7,8 @@
 //! 3, where memory ran out.
 #![tactic(auto)]
 
-// What a file of cases is made of.
-mod inserts;
-mod lines;
-mod problem;
-mod words;
 // What cases are run over.
 mod shelf;
-mod writer;
 // What is run.
 mod alerts;
 mod calls;
@@ -25,13 +19,11 @@ mod script;
 mod silences;
 mod starts;
 mod tables;
-mod tally;
 mod trees;
 mod worlds;
 
-use crate::problem::Problem;
 use crate::script::{count_texts, run_file};
-use crate::tally::Tally;
+use am_case_files::{Problem, Tally};
 use std::alloc::Global;
 use std::process::ExitCode;
 use std::{env, fs};

@@ -2,9 +2,8 @@
 //! come to the one page without a limit.
 
 use crate::calls::{Over, fault_behind, on_one_line, told};
-use crate::lines::{split_at_last, utf8};
-use crate::problem::Problem;
 use crate::starts::token_of;
+use am_case_files::{Problem, split_at_last, utf8};
 use am_commands::{Page, Trailer, ask};
 use am_files::read_universe;
 use am_labels::{Choice, Fault, Kind, Out, Sink};

@@ -1,7 +1,7 @@
 //! Reports: what becomes of each route, or of each receiver, as a text.
 
 use crate::calls::{Over, fault_behind, on_one_line, told};
-use crate::problem::Problem;
+use am_case_files::Problem;
 use am_commands::{dead, receivers};
 use am_labels::{Fault, Kind, Out, Sink};
 use std::alloc::Global;

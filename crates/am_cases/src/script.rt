@@ -1,11 +1,8 @@
 //! A file of cases, item by item.
 
 use crate::commands::{Command, output, read_command};
-use crate::inserts::{Named, filled, text_named};
-use crate::lines::{Item, items, split_at_first, utf8};
-use crate::problem::Problem;
 use crate::tables::{Mode, Row, Table, mode_named, read_heading, run_table};
-use crate::tally::Tally;
+use am_case_files::{Item, Named, Problem, Tally, filled, items, split_at_first, text_named, utf8};
 use std::alloc::Global;
 use std::fs;
 

@@ -1,7 +1,7 @@
 //! The files that a command can read: those of the file of cases, and behind them those of the
 //! folder.
 
-use crate::inserts::{Named, text_named};
+use am_case_files::{Named, text_named};
 use std::alloc::{Allocator, Global};
 use std::fs::{File, Metadata, OpenFile, OpenOptions};
 use std::io;

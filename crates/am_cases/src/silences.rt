@@ -1,7 +1,7 @@
 //! Silences and instants: what the calls of the libraries give at a text, as a text.
 
 use crate::calls::{add_matchers, fault_behind, refused, told};
-use crate::problem::Problem;
+use am_case_files::Problem;
 use am_files::{Silence, Silences, parse_instant, read_silences};
 use std::alloc::Global;
 

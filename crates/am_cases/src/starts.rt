@@ -1,9 +1,8 @@
 //! The search: what it gives of tokens and judges, as a text.
 
 use crate::calls::{Over, fault_behind, told};
-use crate::lines::{split_at_last, utf8};
-use crate::problem::Problem;
 use crate::worlds::world_of;
+use am_case_files::{Problem, split_at_last, utf8};
 use am_eval::{Question, World};
 use am_files::read_universe;
 use am_labels::{Choice, Fault, Out, Place, Universe};

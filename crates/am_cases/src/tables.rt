@@ -1,14 +1,12 @@
 //! Tables: a call, and a line for each text that it is handed and what it gives there.
 
 use crate::calls::{Call, Over, call_named, given};
-use crate::inserts::{Named, filled};
-use crate::lines::{Line, split_at_first, split_at_last};
 use crate::pages::{Asked, all_lines, check_pages, count_lines, write_asked};
-use crate::problem::Problem;
 use crate::reports::{Report, write_report};
-use crate::tally::Tally;
 use crate::worlds::set_and_instant;
-use crate::writer::{Manner, Stop, Writer};
+use am_case_files::{
+    Line, Manner, Named, Problem, Stop, Tally, Writer, filled, split_at_first, split_at_last,
+};
 use am_commands::{explain, status};
 use am_labels::{Fault, Kind, Out, Place};
 use std::alloc::Global;

@@ -1,7 +1,7 @@
 //! A configuration, as a text of one line.
 
 use crate::calls::add_matchers;
-use crate::problem::Problem;
+use am_case_files::Problem;
 use am_files::{Config, Route, Rule};
 use am_labels::{Out, write_text};
 use std::alloc::{AllocError, Global};

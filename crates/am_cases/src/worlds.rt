@@ -1,8 +1,7 @@
 //! Worlds: what the calls of the libraries give in one, as a text.
 
 use crate::calls::{Over, fault_behind, on_one_line, refused, told};
-use crate::lines::{split_at_last, utf8};
-use crate::problem::Problem;
+use am_case_files::{Problem, split_at_last, utf8};
 use am_commands::{Files, explain};
 use am_eval::{Pair, World, inhibited_by, silenced_by};
 use am_files::{Alerts, Silences, parse_instant, read_alerts, read_config, read_silences};

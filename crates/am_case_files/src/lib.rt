@@ -1,0 +1,25 @@
+//! What a file of cases is made of, and what its cases came to.
+//!
+//! [`items`] cuts a file into what begins at the left and the indented lines below it; [`filled`]
+//! puts what is named or copied in the place of its inserts; [`words`] cuts a command line as a
+//! shell does. A [`Writer`] stops where it is told to. A [`Tally`] counts the cases of a file, and
+//! says of each wrong one which [`Problem`] it has. Nothing here knows `amcover`, so it is proved
+//! beside the crates that the program `am_cases` runs.
+#![tactic(auto)]
+
+// The text of a file.
+mod inserts;
+mod lines;
+mod shell_words;
+// What cases write to.
+mod writer;
+// What they came to.
+mod problem;
+mod tally;
+
+pub use inserts::{Named, filled, text_named};
+pub use lines::{Item, Line, items, number, split_at_first, split_at_last, utf8};
+pub use problem::Problem;
+pub use shell_words::words;
+pub use tally::Tally;
+pub use writer::{Manner, Stop, Writer};
