@@ -4,58 +4,41 @@ use clap::{Arg, ArgMatches, Command, Error};
 use std::alloc::{AllocError, Global};
 use std::num::NonZeroU64;
 
-/// What a command line asks for.
+/// A command line: what it asks for, and the paths of the files that it names.
+#[derive(Drop)]
+pub struct CommandLine<'a> {
+    pub request: Request<'a>,
+    pub files: InputFiles<'a, &'a str>,
+}
+
+/// What is asked for.
+#[derive(Clone, Copy)]
 pub enum Request<'a> {
     /// The label sets of a universe that satisfy a question.
     Ask {
-        universe: &'a str,
-        world: WorldPaths<'a>,
         question: &'a str,
         after: Option<&'a str>,
         limit: Option<NonZeroU64>,
     },
-    /// What a universe reaches: which routes, or which receivers.
-    Coverage {
-        subject: Subject,
-        universe: &'a str,
-        config: &'a str,
-    },
+    /// Which routes no label set of a universe ends at.
+    Dead,
+    /// Which receivers no label set of a universe goes to.
+    Receivers,
     /// Why a label set goes where it goes.
     Explain {
-        world: WorldPaths<'a>,
         set: &'a str,
     },
 }
 
-/// What coverage is asked about.
-#[derive(Clone, Copy)]
-pub enum Subject {
-    /// Each route: whether it is dead.
-    Routes,
-    /// Each receiver: whether it is unmatched.
-    Receivers,
-}
-
-/// The files that a world is made of, by their paths, and the time that is asked about, as far as
-/// they are given.
-#[derive(Clone, Copy)]
-pub struct WorldPaths<'a> {
-    pub config: Option<&'a str>,
-    pub silences: Option<&'a str>,
-    pub alerts: Option<&'a str>,
+/// The input files, and the time that is asked about, as far as they are given. `F` is what stands
+/// for a file: its path, or its bytes, once it is read.
+#[derive(Drop)]
+pub struct InputFiles<'a, F> {
+    pub universe: Option<F>,
+    pub config: Option<F>,
+    pub silences: Option<F>,
+    pub alerts: Option<F>,
     pub at: Option<&'a str>,
-}
-
-impl<'a> WorldPaths<'a> {
-    /// Those of a configuration alone.
-    pub fn of_config(config: &'a str) -> WorldPaths<'a> {
-        WorldPaths {
-            config: Some(config),
-            silences: None,
-            alerts: None,
-            at: None,
-        }
-    }
 }
 
 /// The most that `--limit` takes.
@@ -305,54 +288,52 @@ Exit status: 0 done, 1 refused input, 2 usage, 3 out of memory, 4 the output fai
 
 /// Reads a command line, its first word the program's name. An `Err` has the text to show: of a
 /// usage fault, of help or of the version.
-pub fn parse_command_line<'a>(alloc: Global, words: &'a [String]) -> Result<Request<'a>, Error> {
+pub fn parse_command_line<'a>(
+    alloc: Global,
+    words: &'a [String],
+) -> Result<CommandLine<'a>, Error> {
     let mut command = command(alloc)?;
     let matches = command.try_get_matches_from_mut(words)?;
     if let Some((name, matches)) = matches.subcommand()
         && let Some(request) = request_of(name, matches)
     {
-        return Ok(request);
+        return Ok(CommandLine {
+            request,
+            files: files_of(matches),
+        });
     }
     Err(command.error(ErrorKind::MissingSubcommand, "a command is missing")?)
 }
 
 /// What the command of this name asks for.
 fn request_of<'a>(name: &str, matches: &ArgMatches<'a>) -> Option<Request<'a>> {
-    let world = WorldPaths {
+    match name {
+        "ask" => {
+            let question = matches.get_str("question")?;
+            Some(Request::Ask {
+                question,
+                after: matches.get_str("after"),
+                limit: matches.get_one::<u64>("limit").and_then(NonZeroU64::new),
+            })
+        }
+        "dead" => Some(Request::Dead),
+        "receivers" => Some(Request::Receivers),
+        "explain" => {
+            let set = matches.get_str("set")?;
+            Some(Request::Explain { set })
+        }
+        _ => None,
+    }
+}
+
+/// The files that a command names, and the time, as far as it has such options.
+fn files_of<'a>(matches: &ArgMatches<'a>) -> InputFiles<'a, &'a str> {
+    InputFiles {
+        universe: matches.get_str("universe"),
         config: matches.get_str("config"),
         silences: matches.get_str("silences"),
         alerts: matches.get_str("alerts"),
         at: matches.get_str("at"),
-    };
-    if name == "explain" {
-        let set = matches.get_str("set")?;
-        return Some(Request::Explain { world, set });
-    }
-    let universe = matches.get_str("universe")?;
-    if let Some(subject) = subject_of(name) {
-        let config = matches.get_str("config")?;
-        return Some(Request::Coverage {
-            subject,
-            universe,
-            config,
-        });
-    }
-    let question = matches.get_str("question")?;
-    Some(Request::Ask {
-        universe,
-        world,
-        question,
-        after: matches.get_str("after"),
-        limit: matches.get_one::<u64>("limit").and_then(NonZeroU64::new),
-    })
-}
-
-/// What the command of this name asks coverage about, if it does.
-fn subject_of(name: &str) -> Option<Subject> {
-    match name {
-        "dead" => Some(Subject::Routes),
-        "receivers" => Some(Subject::Receivers),
-        _ => None,
     }
 }
 

@@ -1,10 +1,10 @@
 //! The command line of `amcover`: its commands and options, their help texts, and what a line asks
 //! for.
 //!
-//! [`parse_command_line`] reads the words of a command line as a [`Request`]. It stands on `clap`
-//! alone, so it is proved beside the crates that answer a request, and not behind them.
+//! [`parse_command_line`] reads the words of a command line as a [`CommandLine`]. It stands on
+//! `clap` alone, so it is proved beside the crates that answer a request, and not behind them.
 #![tactic(auto)]
 
 mod command_line;
 
-pub use command_line::{Request, Subject, WorldPaths, parse_command_line};
+pub use command_line::{CommandLine, InputFiles, Request, parse_command_line};

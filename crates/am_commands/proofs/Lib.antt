@@ -1,1 +1,3 @@
 pub mod AskedPages
+pub mod AskedAgain
+pub mod AcceptedReport

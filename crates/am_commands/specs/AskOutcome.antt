@@ -1,5 +1,6 @@
 -- What `ask` answers. (This project's own.)
-use Rattle.std.specs.Prelude.{◌≡◌, ℕ, List, ◌++◌, Option}
+use Rattle.std.specs.Prelude.{◌≡◌, ◌<◌, ℕ, List, [], ◌∷◌, ◌++◌, Option, IfSome, MatchOption}
+use Rattle.std.specs.Prelude.{option_map}
 use Rattle.am_universe.specs.Universe.{Label, sizes}
 use Rattle.am_eval.specs.World.{World}
 use Rattle.am_eval.specs.Question.{Question, is_answer}
@@ -7,10 +8,12 @@ use Rattle.am_eval.specs.QuestionView.{question_view}
 use Rattle.am_search.specs.declared.start.Start.{Start}
 use Rattle.am_search.specs.declared.trailer.Trailer.{Trailer}
 use Rattle.am_search.specs.Start.{answers_from}
-use Rattle.am_search.specs.Page.{AnswerPage, page_from, rest_after}
+use Rattle.am_search.specs.Page.{AnswerPage, page_from, rest_after, start_after}
 use Rattle.am_search.specs.PageText.{page_text}
+use Rattle.am_search.specs.Token.{token_text}
+use Rattle.am_search.specs.TrailerText.{trailer_text}
 use Rattle.am_questions.specs.declared.inputs.AcceptedInputs.{AcceptedInputs}
-use Rattle.am_questions.specs.Inputs.{Inputs, AcceptsInputs}
+use Rattle.am_questions.specs.Inputs.{Inputs, after_token, AcceptsInputs}
 
 -- The page of the answers to a question about a world, over a universe: from a start on, and under
 -- a limit, if there is one.
@@ -51,3 +54,34 @@ pub record AnswersInputsInPart (inputs : Inputs) (limit : Option ℕ)
   pub start : Start
   pub accepts : AcceptsInputs inputs universe world question start
   pub written : IsWritten (page_text universe (answer_page universe world question start limit))
+
+-- ---- Calls in a row.
+
+-- A call of `ask`: its limit, if it has one, the lines that it writes, and the trailer behind them.
+pub record Asked : Type 0 where
+  pub limit : Option ℕ
+  pub lines : List ℕ
+  pub trailer : Trailer
+
+-- The call is one that these inputs are handed to.
+abbrev pub IsAskedOf : Inputs → Asked → Type 0
+IsAskedOf inputs asked =
+    IfSome asked.limit (λ n. 0 < n)
+    × AnswersInputs inputs asked.limit asked.trailer
+    (λ text. text ≡ asked.lines ++ trailer_text asked.trailer)
+
+-- The token in the text of a trailer, if it has one.
+abbrev pub token_after : Trailer → Option (List ℕ)
+token_after trailer = option_map token_text (start_after trailer)
+
+-- Calls in a row, at least one: each under a limit of its own, the first with these inputs, each
+-- later one with the same inputs but the token of the trailer before it, and the last with `End`.
+-- Source: own choice.
+-- Example: a call that ends with `# next t1:0.1`, and one with `--after t1:0.1` that ends with
+-- `# end`.
+abbrev pub AreAskedInARow : Inputs → List Asked → Type 0
+AreAskedInARow inputs [] = ⊥
+AreAskedInARow inputs (asked ∷ more) =
+    IsAskedOf inputs asked
+    × MatchOption (token_after asked.trailer) (more ≡ [])
+    (λ token. AreAskedInARow (after_token inputs token) more)

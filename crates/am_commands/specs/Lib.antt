@@ -1,3 +1,4 @@
 pub mod Words
 pub mod AskOutcome
 pub mod Reports
+pub mod Done

@@ -7,7 +7,7 @@ ghost use Rattle.am_eval.specs.Words.{world_inputs_of, explain_stages, ExplainsS
 ghost use Rattle.am_eval.specs.Words.{IsFirstFaultOfCall};
 
 use am_eval::{Files, explanation_of, read_set, read_world, write_explanation};
-use am_labels::{Fault, Kind, Place, Sink};
+use am_labels::{Fault, Place, Sink};
 use std::alloc::Global;
 
 /// Writes why a label set goes where it goes: the set; the routes that handle it, with their
@@ -54,7 +54,7 @@ pub fn explain<W: Sink>(
     let set = read_set(alloc, set)?;
     let explanation = match explanation_of(alloc, &world, &set) {
         Ok(explanation) => explanation,
-        Err(_) => return Err(Fault::of(alloc, Kind::Memory, Place::Memory)),
+        Err(_) => return Err(Fault::memory(alloc)),
     };
     match write_explanation(world.config(), &set, &explanation, out) {
         Ok(()) => Ok(()),

@@ -1,8 +1,14 @@
+ghost use Rattle.std.specs.Prelude.{◌≡◌, ◌<◌, IfOk, IfSome, option_map, option_copied};
+ghost use Rattle.std.specs.Int.NonZero.{non_zero_u64_get};
+ghost use Rattle.am_labels.specs.Words.{Wrote};
+ghost use Rattle.am_eval.specs.Words.{world_inputs_of};
+ghost use Rattle.am_commands.specs.Words.{IsDone, universe_bytes, world_inputs, bytes_if_any};
+
 use crate::asking::ask;
 use crate::explaining::explain;
 use crate::read_file::read_file;
 use crate::reporting::{dead, receivers};
-use am_command_line::{Request, Subject, WorldPaths, parse_command_line};
+use am_command_line::{CommandLine, InputFiles, Request, parse_command_line};
 use am_labels::{Fault, Kind, Out, Place, Sink, fault_at, report};
 use am_search::Page;
 use clap::Error;
@@ -31,7 +37,7 @@ pub fn run<R: Files + AllocGlobal, W: Write + Drop, E: Write + Drop>(
     err: &mut E,
 ) -> u8 {
     let outcome = match parse_command_line(rt.alloc(), words) {
-        Ok(request) => run_request(rt, request, out),
+        Ok(line) => run_line(rt, &line, out),
         Err(error) => show_clap_message(rt.alloc(), &error, out, err),
     };
     match outcome {
@@ -44,101 +50,54 @@ pub fn run<R: Files + AllocGlobal, W: Write + Drop, E: Write + Drop>(
 /// text (UTF-8). The answer is the exit status.
 pub fn refuse_arguments<E: Write>(error: &io::Error, alloc: Global, err: &mut E) -> u8 {
     if error.kind() == io::ErrorKind::OutOfMemory {
-        return report(alloc, &Fault::of(alloc, Kind::Memory, Place::Memory), err);
+        return report(alloc, &Fault::memory(alloc), err);
     }
     let _ = writeln!(err, "error: the command line is not UTF-8");
     USAGE
 }
 
-/// A command, with what it is handed beside the files of its world.
-#[derive(Clone, Copy)]
-enum Call<'a> {
-    Ask {
-        universe: &'a [u8],
-        question: &'a str,
-        after: Option<&'a str>,
-        limit: Option<NonZeroU64>,
-    },
-    Coverage {
-        subject: Subject,
-        universe: &'a [u8],
-    },
-    Explain {
-        set: &'a str,
-    },
-}
-
-/// Reads the files that the request names, and does what it asks for.
-fn run_request<R: Files + AllocGlobal, W: Write + Drop>(
+/// Reads the files that a command line names, and does what it asks for.
+fn run_line<R: Files + AllocGlobal, W: Write + Drop>(
     rt: &R,
-    request: Request<'_>,
+    line: &CommandLine<'_>,
     out: &mut W,
 ) -> Result<u8, Fault> {
-    match request {
-        Request::Ask {
-            universe,
-            world,
-            question,
-            after,
-            limit,
-        } => {
-            let universe = read_input(rt, universe, Place::Universe)?;
-            let call = Call::Ask {
-                universe: universe.as_slice(),
-                question,
-                after,
-                limit,
-            };
-            call_over(rt, call, world, out)
-        }
-        Request::Coverage {
-            subject,
-            universe,
-            config,
-        } => {
-            let universe = read_input(rt, universe, Place::Universe)?;
-            let call = Call::Coverage {
-                subject,
-                universe: universe.as_slice(),
-            };
-            call_over(rt, call, WorldPaths::of_config(config), out)
-        }
-        Request::Explain { world, set } => call_over(rt, Call::Explain { set }, world, out),
-    }
+    let files = read_files(rt, &line.files)?;
+    call_buffered(rt.alloc(), line.request, &files, out)
 }
 
-/// Reads the files of a world, and calls the command over them.
-fn call_over<R: Files + AllocGlobal, W: Write + Drop>(
+/// The bytes of the files of these paths, which are read in the order in which commands look at
+/// them.
+fn read_files<'a, R: Files + AllocGlobal>(
     rt: &R,
-    call: Call<'_>,
-    world: WorldPaths<'_>,
-    out: &mut W,
-) -> Result<u8, Fault> {
-    let config = read_input_if_any(rt, world.config, Place::Config)?;
-    let silences = read_input_if_any(rt, world.silences, Place::Silences)?;
-    let alerts = read_input_if_any(rt, world.alerts, Place::Alerts)?;
-    let files = am_eval::Files {
-        config: config.as_ref().map(|bytes| bytes.as_slice()),
-        silences: silences.as_ref().map(|bytes| bytes.as_slice()),
-        alerts: alerts.as_ref().map(|bytes| bytes.as_slice()),
-        at: world.at,
-    };
-    call_buffered(rt.alloc(), call, &files, out)
+    paths: &InputFiles<'a, &str>,
+) -> Result<InputFiles<'a, Vec<u8>>, Fault> {
+    let universe = read_input_if_any(rt, paths.universe, Place::Universe)?;
+    let config = read_input_if_any(rt, paths.config, Place::Config)?;
+    let silences = read_input_if_any(rt, paths.silences, Place::Silences)?;
+    let alerts = read_input_if_any(rt, paths.alerts, Place::Alerts)?;
+    Ok(InputFiles {
+        universe,
+        config,
+        silences,
+        alerts,
+        at: paths.at,
+    })
 }
 
 /// Calls the command over a buffer of the output, which is flushed at the end.
 fn call_buffered<W: Write + Drop>(
     alloc: Global,
-    call: Call<'_>,
-    files: &am_eval::Files<'_>,
+    request: Request<'_>,
+    files: &InputFiles<'_, Vec<u8>>,
     out: &mut W,
 ) -> Result<u8, Fault> {
     let buffered = match BufWriter::with_capacity(alloc, BUFFER, out) {
         Ok(buffered) => buffered,
-        Err(_) => return Err(Fault::of(alloc, Kind::Memory, Place::Memory)),
+        Err(_) => return Err(Fault::memory(alloc)),
     };
     let mut sink = Out::new(buffered);
-    let outcome = make_call(alloc, call, files, &mut sink);
+    let outcome = make_call(alloc, request, files, &mut sink);
     let mut buffered = sink.into_inner();
     let flushed = match &outcome {
         Ok(()) => buffered.flush().is_ok(),
@@ -154,31 +113,77 @@ fn call_buffered<W: Write + Drop>(
     }
 }
 
+/// Makes the call that does what is asked for, over the bytes of the files.
 fn make_call<W: Sink>(
     alloc: Global,
-    call: Call<'_>,
-    files: &am_eval::Files<'_>,
+    request: Request<'_>,
+    files: &InputFiles<'_, Vec<u8>>,
     out: &mut W,
-) -> Result<(), Fault> {
-    match call {
-        Call::Ask {
-            universe,
+) -> Result<(), Fault>
+    ensures done { IfOk result (λ _. IsDone request.entry files.now
+        (Wrote W.taken W.failures out.old out.new)) }
+{
+    let universe = universe_of(files);
+    let world = world_files(files);
+    match request {
+        Request::Ask {
             question,
             after,
             limit,
         } => {
             let page = Page {
                 after,
-                limit: limit.map(|limit| limit.get()),
+                limit: limit_of(limit),
             };
-            ask(alloc, universe, files, question, &page, out)?;
+            ask(alloc, universe, &world, question, &page, out)?;
             Ok(())
         }
-        Call::Coverage { subject, universe } => match subject {
-            Subject::Routes => dead(alloc, universe, files.config(), out),
-            Subject::Receivers => receivers(alloc, universe, files.config(), out),
-        },
-        Call::Explain { set } => explain(alloc, files, set, out),
+        Request::Dead => dead(alloc, universe, world.config(), out),
+        Request::Receivers => receivers(alloc, universe, world.config(), out),
+        Request::Explain { set } => explain(alloc, &world, set, out),
+    }
+}
+
+/// The bytes of the universe file. The command line has one for each command that looks at it.
+fn universe_of<'a>(files: &'a InputFiles<'_, Vec<u8>>) -> &'a [u8]
+    ensures { result.now ≡ universe_bytes files.now }
+{
+    match &files.universe {
+        Some(bytes) => bytes.as_slice(),
+        None => &[],
+    }
+}
+
+/// The files of a world, as a call takes them.
+fn world_files<'a>(files: &'a InputFiles<'_, Vec<u8>>) -> am_eval::Files<'a>
+    ensures { world_inputs_of result ≡ world_inputs files.now }
+{
+    am_eval::Files {
+        config: bytes_of(&files.config),
+        silences: bytes_of(&files.silences),
+        alerts: bytes_of(&files.alerts),
+        at: files.at,
+    }
+}
+
+/// The bytes of a file that may be left out.
+fn bytes_of(file: &Option<Vec<u8>>) -> Option<&[u8]>
+    ensures { option_copied result ≡ bytes_if_any file.now }
+{
+    match file {
+        Some(bytes) => Some(bytes.as_slice()),
+        None => None,
+    }
+}
+
+/// The most lines of a page, if there is a limit.
+fn limit_of(limit: Option<NonZeroU64>) -> Option<u64>
+    ensures limit { result ≡ option_map non_zero_u64_get limit }
+    ensures some { IfSome result (λ n. 0 < n) }
+{
+    match limit {
+        Some(limit) => Some(limit.get()),
+        None => None,
     }
 }
 
@@ -212,7 +217,7 @@ fn show_clap_message<W: Write, E: Write>(
     err: &mut E,
 ) -> Result<u8, Fault> {
     if error.kind() == ErrorKind::OutOfMemory {
-        return Err(Fault::of(alloc, Kind::Memory, Place::Memory));
+        return Err(Fault::memory(alloc));
     }
     if error.use_stderr() {
         let _ = write!(err, "{error}");

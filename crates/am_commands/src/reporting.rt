@@ -4,13 +4,13 @@ ghost use Rattle.am_universe.specs.declared.place.Place.TheVariants as places;
 ghost use Rattle.am_labels.specs.Words.{Wrote, WroteInPart};
 ghost use Rattle.am_json.specs.Words.{refusal_of};
 ghost use Rattle.am_commands.specs.Words.{report_stages, AcceptsReport, ReportsFiles};
-ghost use Rattle.am_commands.specs.Words.{routes_report, receivers_report};
+ghost use Rattle.am_coverage.specs.Words.{IsRoutesReport, IsReceiversReport};
 ghost use Rattle.am_eval.specs.Words.{IsFirstFaultOfCall};
 
 use am_coverage::{receivers_covered, routes_covered, write_receivers, write_routes};
 use am_eval::World;
 use am_files::{Alerts, Silences, read_config, read_universe};
-use am_labels::{Fault, Kind, Place, Sink, Universe};
+use am_labels::{Fault, Place, Sink, Universe};
 use std::alloc::Global;
 
 /// Writes a line for each route of a configuration, in preorder, and then `# end`: its path, and
@@ -30,8 +30,8 @@ pub fn dead<W: Sink>(
     config: &[u8],
     out: &mut W,
 ) -> Result<(), Fault>
-    // Each route has its line, and is named dead exactly where no label set ends there.
-    ensures reported { IfOk result (λ _. ReportsFiles universe.now config.now routes_report
+    // Each route has its line, which names it dead exactly where no label set ends there.
+    ensures reported { IfOk result (λ _. ReportsFiles universe.now config.now IsRoutesReport
         (Wrote W.taken W.failures out.old out.new)) }
     ensures first { IfErr result (λ fault. fault.kind ≢ kinds.Write → fault.kind ≢ kinds.Memory
         → IsFirstFaultOfCall (report_stages universe.now config.now)
@@ -40,14 +40,14 @@ pub fn dead<W: Sink>(
         → (fault.place ≡ places.Memory) × (string_bytes fault.pointer ≡ [])) }
     ensures write { IfErr result (λ fault. fault.kind ≡ kinds.Write
         → (fault.place ≡ places.Output) × (string_bytes fault.pointer ≡ [])
-        × ReportsFiles universe.now config.now routes_report
+        × ReportsFiles universe.now config.now IsRoutesReport
         (WroteInPart W.taken W.failures out.old out.new)) }
     ensures untouched { IfErr result (λ fault. fault.kind ≢ kinds.Write → out.new ≡ out.old) }
 {
     let accepted = read_report_inputs(alloc, universe, config)?;
     let routes = match routes_covered(alloc, &accepted.universe, &accepted.world) {
         Ok(routes) => routes,
-        Err(_) => return Err(Fault::of(alloc, Kind::Memory, Place::Memory)),
+        Err(_) => return Err(Fault::memory(alloc)),
     };
     match write_routes(&accepted.universe, routes.as_slice(), out) {
         Ok(()) => Ok(()),
@@ -64,8 +64,8 @@ pub fn receivers<W: Sink>(
     config: &[u8],
     out: &mut W,
 ) -> Result<(), Fault>
-    // Each receiver has its line, and is named unmatched exactly where no label set goes to it.
-    ensures reported { IfOk result (λ _. ReportsFiles universe.now config.now receivers_report
+    // Each receiver has its line, which names it unmatched exactly where no label set goes to it.
+    ensures reported { IfOk result (λ _. ReportsFiles universe.now config.now IsReceiversReport
         (Wrote W.taken W.failures out.old out.new)) }
     ensures first { IfErr result (λ fault. fault.kind ≢ kinds.Write → fault.kind ≢ kinds.Memory
         → IsFirstFaultOfCall (report_stages universe.now config.now)
@@ -74,14 +74,14 @@ pub fn receivers<W: Sink>(
         → (fault.place ≡ places.Memory) × (string_bytes fault.pointer ≡ [])) }
     ensures write { IfErr result (λ fault. fault.kind ≡ kinds.Write
         → (fault.place ≡ places.Output) × (string_bytes fault.pointer ≡ [])
-        × ReportsFiles universe.now config.now receivers_report
+        × ReportsFiles universe.now config.now IsReceiversReport
         (WroteInPart W.taken W.failures out.old out.new)) }
     ensures untouched { IfErr result (λ fault. fault.kind ≢ kinds.Write → out.new ≡ out.old) }
 {
     let accepted = read_report_inputs(alloc, universe, config)?;
     let found = match receivers_covered(alloc, &accepted.universe, &accepted.world) {
         Ok(found) => found,
-        Err(_) => return Err(Fault::of(alloc, Kind::Memory, Place::Memory)),
+        Err(_) => return Err(Fault::memory(alloc)),
     };
     let config = accepted.world.config();
     match write_receivers(&accepted.universe, config, found.as_slice(), out) {

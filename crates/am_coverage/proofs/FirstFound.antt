@@ -89,3 +89,25 @@ finds_none ns test none = by (find test (choices ns)) refl
     by None e = refl
     by (Some choice) e =
         let r = found_whole ns test choice e in absurd (none choice r.0 r.1)
+
+-- of two whole choices of which none comes before the other, the one is the other
+same_in : (xs : List (List ℕ)) (x y : List ℕ) → Ascends xs → IsIn xs x → IsIn xs y
+    → comes_before x y ≡ false → comes_before y x ≡ false → x ≡ y
+same_in [] x y s here there le ge = absurd here
+same_in (z ∷ zs) x y s (inl first) (inl also) le ge = sym first ∙ also
+same_in (z ∷ zs) x y s (inl first) (inr later) le ge =
+    let before : comes_before x y ≡ true =
+    ap (λ c. comes_before c y) (sym first) ∙ above_first z zs y s later in
+    let both : true ≡ false = sym before ∙ le in cc
+same_in (z ∷ zs) x y s (inr later) (inl first) le ge =
+    let before : comes_before y x ≡ true =
+    ap (λ c. comes_before c x) (sym first) ∙ above_first z zs x s later in
+    let both : true ≡ false = sym before ∙ ge in cc
+same_in (z ∷ zs) x y s (inr here) (inr there) le ge =
+    same_in zs x y (ascends_rest z zs s) here there le ge
+
+pub same_whole : (ns : List ℕ) (choice other : List ℕ) → IsWhole ns choice → IsWhole ns other
+    → comes_before choice other ≡ false → comes_before other choice ≡ false → choice ≡ other
+same_whole ns choice other whole also le ge =
+    same_in (choices ns) choice other (choices_sorted ns) (in_choices ns choice whole)
+    (in_choices ns other also) le ge

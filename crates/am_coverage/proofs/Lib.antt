@@ -7,3 +7,4 @@ pub mod QuestionLaws
 pub mod ReportLines
 pub mod FirstAlike
 pub mod Gathered
+pub mod ReportFacts

@@ -12,9 +12,9 @@ use Rattle.am_eval.specs.Routing.{ends, receivers}
 use Rattle.am_eval.specs.Question.{Question, Ends, Enters, Receiver, satisfies, answers}
 use Rattle.am_eval.proofs.AnswerLaws.{answers_exact}
 use Rattle.am_coverage.specs.Coverage.{IsDead, IsNeverEntered, IsUnmatched}
-use Rattle.am_coverage.proofs.RouteLaws.{end_from_test, test_from_end, entry_from_test}
-use Rattle.am_coverage.proofs.RouteLaws.{test_from_entry}
-use Rattle.am_coverage.proofs.ReceiverLaws.{receipt_from_test, test_from_receipt}
+use Rattle.am_eval.proofs.SimpleParts.{end_from_test, test_from_end, receipt_from_test}
+use Rattle.am_eval.proofs.SimpleParts.{test_from_receipt}
+use Rattle.am_coverage.proofs.RouteLaws.{entry_from_test, test_from_entry}
 
 nothing_in : {X : Type 0} (xs : List X) → ((x : X) → IsIn xs x → ⊥) → xs ≡ []
 nothing_in [] none = refl

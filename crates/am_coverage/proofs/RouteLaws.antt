@@ -14,6 +14,7 @@ use Rattle.am_files.specs.ConfigFile.{Configuration}
 use Rattle.am_files.specs.Path.{leads_through}
 use Rattle.am_eval.specs.Routing.{ends}
 use Rattle.am_eval.proofs.Members.{any_in, in_any}
+use Rattle.am_eval.proofs.SimpleParts.{end_from_test, test_from_end}
 use Rattle.am_search.specs.Start.{comes_before}
 use Rattle.am_coverage.specs.declared.coverage.RouteCoverage.TheVariants as route_is
 use Rattle.am_coverage.specs.Coverage.{IsDead, IsNeverEntered, first_end}
@@ -22,19 +23,6 @@ use Rattle.am_coverage.proofs.FirstFound.{found_whole, finds_whole, first_whole,
 use Rattle.am_coverage.proofs.FirstFound.{finds_none}
 
 -- ---- The tests are what they stand for.
-
-pub end_from_test : (path : List ℕ) (all : List (List ℕ))
-    → IsTrue (list_any (λ end. same_text end path) all) → Contains all path
-end_from_test path all h =
-    let r = any_in (λ end. same_text end path) all h in
-    Contains-from_IsIn all path
-    (subst (λ (x : List ℕ). IsIn all x) ((bytes_decides r.0 path).0 r.2) r.1)
-
-pub test_from_end : (path : List ℕ) (all : List (List ℕ)) → Contains all path
-    → IsTrue (list_any (λ end. same_text end path) all)
-test_from_end path all h =
-    in_any (λ end. same_text end path) all path (IsIn-from_Contains all path h)
-    ((bytes_decides path path).1 refl)
 
 pub entry_from_test : (path : List ℕ) (all : List (List ℕ))
     → IsTrue (list_any (leads_through path) all) → (end : List ℕ) × Contains all end × IsTrue (leads_through path end)
@@ -105,7 +93,7 @@ module _ (u : List Label) (c : Configuration) (path : List ℕ) where
       (test_from_entry path end (ends (label_set_of u choice) c) h through)
 
   -- where none ends at the route or below it, none ends there
-  dead_from_never : IsNeverEntered u c path → IsDead u c path
+  pub dead_from_never : IsNeverEntered u c path → IsDead u c path
   dead_from_never never choice whole h = never choice path whole h (through_itself path)
 
   pub live_ends : (choice : List ℕ) → route_coverage u c path ≡ route_is.Live choice

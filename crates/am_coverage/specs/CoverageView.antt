@@ -13,11 +13,11 @@ abbrev pub found_view : RouteFound → List ℕ × RouteCoverage
 found_view found = (found.path, found.coverage)
 
 -- The choice that shows a live route is whole; and that of a live receiver.
-abbrev pub IsShown : List ℕ → RouteCoverage → Type 0
-IsShown sizes (route_is.Live choice) = IsWhole sizes choice
-IsShown sizes route_is.Entered = ⊤
-IsShown sizes route_is.NeverEntered = ⊤
+abbrev pub IsShownRoute : List ℕ → RouteCoverage → Type 0
+IsShownRoute sizes (route_is.Live choice) = IsWhole sizes choice
+IsShownRoute sizes route_is.Entered = ⊤
+IsShownRoute sizes route_is.NeverEntered = ⊤
 
-abbrev pub IsReached : List ℕ → ReceiverCoverage → Type 0
-IsReached sizes (receiver_is.Live choice) = IsWhole sizes choice
-IsReached sizes receiver_is.Unmatched = ⊤
+abbrev pub IsShownReceiver : List ℕ → ReceiverCoverage → Type 0
+IsShownReceiver sizes (receiver_is.Live choice) = IsWhole sizes choice
+IsShownReceiver sizes receiver_is.Unmatched = ⊤

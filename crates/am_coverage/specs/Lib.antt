@@ -2,3 +2,4 @@ pub mod Words
 pub mod Coverage
 pub mod CoverageView
 pub mod WrittenCoverage
+pub mod Report

@@ -1,10 +1,11 @@
 //! Facts about the definitions alone: each is the contract of a function with an empty body.
-ghost use Rattle.std.specs.Prelude.{◌≡◌, ◌≢◌, ◌↔◌, ℕ, List, [], Some, None, Contains, false};
+ghost use Rattle.std.specs.Prelude.{◌≡◌, ◌≢◌, ◌↔◌, ℕ, List, [], ◌++◌, Some, None, Contains};
+ghost use Rattle.std.specs.Prelude.{false, codes, slice_get};
 ghost use Rattle.std.specs.Ordering.{nat_cmp};
 ghost use Rattle.std.specs.Cmp.Lexicographic.{slice_cmp};
 ghost use Rattle.std.specs.List.Sorted.{IsStrictlySortedBy};
-ghost use Rattle.am_labels.specs.Words.{Label, sizes, IsWhole, label_set_of};
-ghost use Rattle.am_files.specs.Words.{Configuration, RouteTree, route_at, receiver_of};
+ghost use Rattle.am_labels.specs.Words.{Label, sizes, IsWhole, label_set_of, quoted_text};
+ghost use Rattle.am_files.specs.Words.{Configuration, RouteTree, route_at, receiver_of, path_text};
 ghost use Rattle.am_eval.specs.Tree.{Part};
 ghost use Rattle.am_eval.specs.Question.{Ends, Enters, Receiver};
 ghost use Rattle.am_eval.specs.Words.{ends, receivers, World, answers};
@@ -13,6 +14,8 @@ ghost use Rattle.am_coverage.specs.declared.coverage.RouteCoverage.TheVariants a
 ghost use Rattle.am_coverage.specs.declared.coverage.ReceiverCoverage.TheVariants as receiver_is;
 ghost use Rattle.am_coverage.specs.Words.{IsDead, IsNeverEntered, IsUnmatched, paths_of};
 ghost use Rattle.am_coverage.specs.Words.{route_coverage, receiver_coverage};
+ghost use Rattle.am_coverage.specs.Words.{IsRouteLine, IsReceiverLine};
+ghost use Rattle.am_coverage.specs.Words.{IsRoutesReport, IsReceiversReport};
 
 /// A route is told as live exactly where some label set of the universe ends there: with the first
 /// choice whose label set does.
@@ -87,4 +90,31 @@ pub fn each_route_is_reported_once()
         → Contains (paths_of c) path ↔ (route_at c.root path ≢ None) }
     ensures ascending { (c : Configuration)
         → IsStrictlySortedBy (slice_cmp nat_cmp) (paths_of c) }
+{}
+
+/// The line of a route says `dead` exactly where no label set of the universe ends there, and
+/// `dead never-entered` exactly where none ends there or below it.
+pub fn a_line_says_dead_exactly_where_the_route_is()
+    ensures dead { (u : List Label) (c : Configuration) (path line : List ℕ)
+        → IsRouteLine u c path line → IsDead u c path
+        ↔ ((rest : List ℕ) × (line ≡ path_text path ++ (codes " dead " ++ rest))) }
+    ensures never_entered { (u : List Label) (c : Configuration) (path line : List ℕ)
+        → IsRouteLine u c path line → IsNeverEntered u c path
+        ↔ (line ≡ path_text path ++ codes " dead never-entered\n") }
+{}
+
+/// The line of a receiver says `unmatched`, behind the name of that receiver, exactly where no
+/// label set of the universe goes to it.
+pub fn a_line_says_unmatched_exactly_where_the_receiver_is()
+    ensures unmatched { (u : List Label) (c : Configuration) (receiver : ℕ) (name line : List ℕ)
+        → slice_get c.receivers receiver ≡ Some name → IsReceiverLine u c receiver line
+        → IsUnmatched u c receiver ↔ (line ≡ quoted_text name ++ codes " unmatched\n") }
+{}
+
+/// A configuration has one report of its routes over a universe, and one of its receivers.
+pub fn a_report_is_one_text()
+    ensures routes { (u : List Label) (c : Configuration) (report other : List ℕ)
+        → IsRoutesReport u c report → IsRoutesReport u c other → report ≡ other }
+    ensures receivers { (u : List Label) (c : Configuration) (report other : List ℕ)
+        → IsReceiversReport u c report → IsReceiversReport u c other → report ≡ other }
 {}

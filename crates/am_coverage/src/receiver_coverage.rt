@@ -5,7 +5,7 @@ ghost use Rattle.std.specs.List.{AllByRecursion, range_with_len};
 ghost use Rattle.am_labels.specs.Words.{Label, sizes};
 ghost use Rattle.am_eval.specs.Words.{World};
 ghost use Rattle.am_whole.specs.Words.{whole_sizes, KnowsWorld};
-ghost use Rattle.am_coverage.specs.Words.{receiver_coverage, IsReached};
+ghost use Rattle.am_coverage.specs.Words.{receiver_coverage, IsShownReceiver};
 
 use crate::coverage::ReceiverCoverage;
 use crate::first_answers::first_answer;
@@ -28,7 +28,7 @@ pub fn receivers_covered(
         ≡ map (receiver_coverage universe.now world.now.config)
         (range_with_len 0 (length world.now.config.receivers))) }
     ensures shown { IfOk result (λ found.
-        AllByRecursion (IsReached (sizes universe.now)) found.items) }
+        AllByRecursion (IsShownReceiver (sizes universe.now)) found.items) }
 {
     let any = Question::Any;
     let tables = Whole::new(alloc, universe, world, &any)?;
@@ -48,7 +48,7 @@ fn coverage_of(
 ) -> Result<ReceiverCoverage, AllocError>
     ensures coverage { IfOk result (λ coverage. (u : List Label) (w : World)
         → KnowsWorld tables.now u w → coverage ≡ receiver_coverage u w.config receiver) }
-    ensures shown { IfOk result (IsReached (whole_sizes tables.now)) }
+    ensures shown { IfOk result (IsShownReceiver (whole_sizes tables.now)) }
 {
     let question = Question::receiver(receiver);
     Ok(match first_answer(alloc, tables, &question)? {

@@ -4,7 +4,8 @@ ghost use Rattle.std.specs.Prelude.{◌≡◌, ◌++◌, length, map, codes};
 ghost use Rattle.std.specs.List.{AllByRecursion};
 ghost use Rattle.am_labels.specs.Words.{sizes, IsWhole, Writes};
 ghost use Rattle.am_files.specs.Words.{config_view};
-ghost use Rattle.am_coverage.specs.Words.{found_view, IsShown, IsReached, route_line, routes_text};
+ghost use Rattle.am_coverage.specs.Words.{found_view, IsShownRoute, IsShownReceiver};
+ghost use Rattle.am_coverage.specs.Words.{route_line, routes_text};
 ghost use Rattle.am_coverage.specs.Words.{receiver_line, receivers_text, live_text};
 
 use crate::coverage::{ReceiverCoverage, RouteCoverage};
@@ -19,7 +20,7 @@ pub fn write_routes<W: Sink>(
     routes: &[RouteFound],
     out: &mut W,
 ) -> Result<(), Kind>
-    requires shown { AllByRecursion (λ route. IsShown (sizes universe.now) route.coverage)
+    requires shown { AllByRecursion (λ route. IsShownRoute (sizes universe.now) route.coverage)
         routes.now }
     ensures written { Writes W.taken W.failures out.old out.new
         (routes_text universe.now (map found_view routes.now)) result }
@@ -31,7 +32,7 @@ pub fn write_routes<W: Sink>(
 }
 
 fn write_route<W: Sink>(universe: &Universe, route: &RouteFound, out: &mut W) -> Result<(), Kind>
-    requires { IsShown (sizes universe.now) route.now.coverage }
+    requires { IsShownRoute (sizes universe.now) route.now.coverage }
     ensures { Writes W.taken W.failures out.old out.new
         (route_line universe.now (found_view route.now)) result }
 {
@@ -53,7 +54,7 @@ pub fn write_receivers<W: Sink>(
     out: &mut W,
 ) -> Result<(), Kind>
     requires each { length receivers.now ≡ length (config_view config.now).receivers }
-    requires reached { AllByRecursion (IsReached (sizes universe.now)) receivers.now }
+    requires reached { AllByRecursion (IsShownReceiver (sizes universe.now)) receivers.now }
     ensures written { Writes W.taken W.failures out.old out.new
         (receivers_text universe.now (config_view config.now).receivers receivers.now) result }
 {
@@ -69,7 +70,7 @@ fn write_receiver<W: Sink>(
     coverage: &ReceiverCoverage,
     out: &mut W,
 ) -> Result<(), Kind>
-    requires { IsReached (sizes universe.now) coverage.now }
+    requires { IsShownReceiver (sizes universe.now) coverage.now }
     ensures { Writes W.taken W.failures out.old out.new
         (receiver_line universe.now (name.now, coverage.now)) result }
 {

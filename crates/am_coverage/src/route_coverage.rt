@@ -6,7 +6,7 @@ ghost use Rattle.am_labels.specs.Words.{Label, sizes};
 ghost use Rattle.am_eval.specs.Words.{World};
 ghost use Rattle.am_whole.specs.Words.{whole_sizes, KnowsWorld};
 ghost use Rattle.am_coverage.specs.Coverage.{first_entry, dead_by};
-ghost use Rattle.am_coverage.specs.Words.{route_coverage, paths_of, found_view, IsShown};
+ghost use Rattle.am_coverage.specs.Words.{route_coverage, paths_of, found_view, IsShownRoute};
 
 use crate::coverage::RouteCoverage;
 use crate::first_answers::first_answer;
@@ -40,7 +40,7 @@ pub fn routes_covered(
         ≡ map (λ path. (path, route_coverage universe.now world.now.config path))
         (paths_of world.now.config)) }
     ensures shown { IfOk result (λ found.
-        AllByRecursion (λ route. IsShown (sizes universe.now) route.coverage) found.items) }
+        AllByRecursion (λ route. IsShownRoute (sizes universe.now) route.coverage) found.items) }
 {
     let any = Question::Any;
     let tables = Whole::new(alloc, universe, world, &any)?;
@@ -59,7 +59,7 @@ pub fn routes_covered(
 fn coverage_of(alloc: Global, tables: &Whole<'_>, path: Path) -> Result<RouteCoverage, AllocError>
     ensures coverage { IfOk result (λ coverage. (u : List Label) (w : World)
         → KnowsWorld tables.now u w → coverage ≡ route_coverage u w.config path) }
-    ensures shown { IfOk result (IsShown (whole_sizes tables.now)) }
+    ensures shown { IfOk result (IsShownRoute (whole_sizes tables.now)) }
 {
     let ends = Question::ends(path);
     match first_answer(alloc, tables, &ends)? {
@@ -76,7 +76,7 @@ fn coverage_of_dead(
 ) -> Result<RouteCoverage, AllocError>
     ensures coverage { IfOk result (λ coverage. (u : List Label) (w : World)
         → KnowsWorld tables.now u w → coverage ≡ dead_by (first_entry u w.config path)) }
-    ensures shown { IfOk result (IsShown (whole_sizes tables.now)) }
+    ensures shown { IfOk result (IsShownRoute (whole_sizes tables.now)) }
 {
     let enters = Question::enters(path);
     Ok(match first_answer(alloc, tables, &enters)? {

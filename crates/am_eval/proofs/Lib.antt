@@ -15,3 +15,7 @@ pub mod FlatEnds
 pub mod AbsentParts
 pub mod FirstFaults
 pub mod WrittenItems
+pub mod SimpleParts
+pub mod SiblingLaws
+pub mod SetRefusals
+pub mod AcceptedInputs

@@ -238,14 +238,14 @@ steady u w from to question later each =
 
 -- ---- What it is to be silenced.
 
-each_holds : (s : LabelMap) (ms : List Condition) → IsTrue (all_hold s ms)
+pub each_holds : (s : LabelMap) (ms : List Condition) → IsTrue (all_hold s ms)
     → AllByRecursion (λ m. IsTrue (condition_holds s m)) ms
 each_holds s [] h = tt
 each_holds s (m ∷ ms) h =
     let parts = and_parts (condition_holds s m) (all_hold s ms) h in
     (parts.0, each_holds s ms parts.1)
 
-all_of_each : (s : LabelMap) (ms : List Condition)
+pub all_of_each : (s : LabelMap) (ms : List Condition)
     → AllByRecursion (λ m. IsTrue (condition_holds s m)) ms → IsTrue (all_hold s ms)
 all_of_each s [] h = refl
 all_of_each s (m ∷ ms) h = rw (h.0, all_of_each s ms h.1) refl

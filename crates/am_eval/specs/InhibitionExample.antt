@@ -4,7 +4,8 @@ use Rattle.std.specs.FinMap.{from_entries}
 use Rattle.am_universe.specs.LabelSet.{LabelMap}
 use Rattle.am_labels.specs.Matcher.{Condition}
 use Rattle.am_labels.specs.declared.op.Op.TheVariants.{Equal, NotEqual}
-use Rattle.am_eval.specs.RoutingExamples.{worked}
+use Rattle.am_files.specs.ConfigFile.{Rule}
+use Rattle.am_eval.specs.RoutingExamples.{worked, severity_critical}
 use Rattle.am_eval.specs.World.{World}
 
 -- The firing alert `{severity="critical",team="db"}`.
@@ -20,16 +21,27 @@ severity_warning = record { name = codes "severity"; op = Equal; value = codes "
 abbrev pub severity_any : Condition
 severity_any = record { name = codes "severity"; op = NotEqual; value = [] }
 
--- The world of that alert and one rule, whose sides have a matcher each, and whose `equal` has one
--- label.
-abbrev pub inhibiting_world : Condition → Condition → List ℕ → World
-inhibiting_world source target label = record {
-  config = record {
-    receivers = worked.receivers;
-    root = worked.root;
-    rules = record { source = source ∷ []; target = target ∷ []; equal = label ∷ [] } ∷ [];
-  };
+-- A rule whose sides have a matcher each, and whose `equal` has one label.
+abbrev pub example_rule : Condition → Condition → List ℕ → Rule
+example_rule source target label =
+    record { source = source ∷ []; target = target ∷ []; equal = label ∷ [] }
+
+-- The world of that alert and these rules; and the world of the alert and one rule.
+abbrev pub world_of_rules : List Rule → World
+world_of_rules rules = record {
+  config = record { receivers = worked.receivers; root = worked.root; rules = rules };
   silences = [];
   alerts = team_db_critical ∷ [];
   instant = None;
 }
+
+abbrev pub inhibiting_world : Condition → Condition → List ℕ → World
+inhibiting_world source target label = world_of_rules (example_rule source target label ∷ [])
+
+-- The world of the alert and two rules for the same team: from `warning` to `critical`, and from
+-- `critical` to `warning`.
+abbrev pub two_rules_world : World
+two_rules_world =
+    world_of_rules
+    (example_rule severity_warning severity_critical (codes "team")
+    ∷ example_rule severity_critical severity_warning (codes "team") ∷ [])

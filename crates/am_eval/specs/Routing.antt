@@ -61,6 +61,26 @@ abbrev mutual
 abbrev pub ends : LabelMap → Configuration → List (List ℕ)
 ends s c = ends_at s c.root
 
+-- The same, said of one path and without a list of what is tried: the alert matches each route on
+-- the way, none of the siblings before them both matches it and lacks `continue`, and it matches no
+-- child of the last. The law `an_alert_ends_where_nothing_stops_it` says that the alert ends there
+-- exactly then.
+-- Source: Alertmanager configuration reference 0.25, "<route>".
+-- Example: an alert ends at `/` exactly where it matches the top-level route and none of its
+-- children.
+abbrev pub is_last : LabelMap → RouteTree → Bool
+is_last s t = all_hold s (matchers_of t) && not (continues_of t)
+
+abbrev pub EndsThere : LabelMap → RouteTree → List ℕ → Type 0
+EndsThere s t [] =
+    IsTrue (all_hold s (matchers_of t))
+    × AllByRecursion (λ child. IsFalse (all_hold s (matchers_of child))) (list_of (children_of t))
+EndsThere s t (p ∷ path) =
+    IsTrue (all_hold s (matchers_of t))
+    × (child : RouteTree) × (slice_get (list_of (children_of t)) p ≡ Some child)
+    × AllByRecursion (λ earlier. IsFalse (is_last s earlier)) (take p (list_of (children_of t)))
+    × EndsThere s child path
+
 -- The receivers of an alert, by their positions: that of each end, in order. Where two ends have
 -- the same, it stands twice.
 -- Source: Alertmanager configuration reference 0.25, "<route>": `receiver`.
@@ -76,20 +96,3 @@ receivers s c = filter_map (receiver_at c) (ends s c)
 abbrev pub MatchesAt : LabelMap → Configuration → List ℕ → Type 0
 MatchesAt s c path =
     (t : RouteTree) × (route_at c.root path ≡ Some t) × IsTrue (all_hold s (matchers_of t))
-
--- No sibling is tried behind the route: the alert matches it, and it lacks `continue`.
-abbrev pub is_last : LabelMap → RouteTree → Bool
-is_last s t = all_hold s (matchers_of t) && not (continues_of t)
-
--- That an alert ends at a path, said without a list of what is tried: it matches each route on the
--- way, none of the siblings before them both matches it and lacks `continue`, and it matches no
--- child of the last.
-abbrev pub EndsThere : LabelMap → RouteTree → List ℕ → Type 0
-EndsThere s t [] =
-    IsTrue (all_hold s (matchers_of t))
-    × AllByRecursion (λ child. IsFalse (all_hold s (matchers_of child))) (list_of (children_of t))
-EndsThere s t (p ∷ path) =
-    IsTrue (all_hold s (matchers_of t))
-    × (child : RouteTree) × (slice_get (list_of (children_of t)) p ≡ Some child)
-    × AllByRecursion (λ earlier. IsFalse (is_last s earlier)) (take p (list_of (children_of t)))
-    × EndsThere s child path

@@ -9,7 +9,8 @@ pub use Rattle.am_eval.specs.SilencingExample.{silenced_world}
 pub use Rattle.am_eval.specs.Pairs.{pairs_of, pairs_of_rule}
 pub use Rattle.am_eval.specs.Inhibition.{have_equal, is_two_sided, inhibits, is_inhibited}
 pub use Rattle.am_eval.specs.Inhibition.{inhibitors, pair_inhibits}
-pub use Rattle.am_eval.specs.InhibitionExample.{inhibiting_world, severity_warning, severity_any}
+pub use Rattle.am_eval.specs.InhibitionExample.{inhibiting_world, two_rules_world}
+pub use Rattle.am_eval.specs.InhibitionExample.{severity_warning, severity_any}
 pub use Rattle.am_eval.specs.Question.{Question, holds_of, satisfies, is_answer, answers}
 pub use Rattle.am_eval.specs.QuestionView.{question_view}
 pub use Rattle.am_eval.specs.Tree.{Tree}

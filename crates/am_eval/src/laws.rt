@@ -1,20 +1,25 @@
 //! What holds of the definitions by themselves: each fact is the contract of a function with an
 //! empty body.
-ghost use Rattle.std.specs.Prelude.{◌≡◌, ◌≢◌, ◌↔◌, ◌++◌, ◌∷◌, ℕ, List, [], length, Contains};
+ghost use Rattle.std.specs.Prelude.{◌≡◌, ◌≢◌, ◌↔◌, ◌⊎◌, ◌++◌, ◌∷◌, ℕ, List, [], length, take};
 ghost use Rattle.std.specs.Prelude.{IsTrue, IsFalse, Some, None, ◌≤◌, ℤ, pos, ◌≤ℤ◌, ◌<ℤ◌};
-ghost use Rattle.std.specs.Prelude.{slice_get, true, false, codes, map};
+ghost use Rattle.std.specs.Prelude.{slice_get, true, false, codes, map, Contains};
 ghost use Rattle.std.specs.Ordering.{nat_cmp};
 ghost use Rattle.std.specs.Cmp.Lexicographic.{slice_cmp};
 ghost use Rattle.std.specs.List.{AllByRecursion, filter};
 ghost use Rattle.std.specs.List.Sorted.{IsStrictlySortedBy};
 ghost use Rattle.am_labels.specs.Words.{Label, sizes, IsWhole, LabelMap, label_set_of, all_hold};
-ghost use Rattle.am_labels.specs.Words.{condition_holds, value_of};
+ghost use Rattle.am_universe.specs.declared.kind.Kind.{Kind};
+ghost use Rattle.am_universe.specs.declared.kind.Kind.TheVariants as kinds;
+ghost use Rattle.am_universe.specs.declared.place.Place.{Place};
+ghost use Rattle.am_labels.specs.Words.{Condition, condition_holds, value_of, SpellsSet};
+ghost use Rattle.am_labels.specs.Words.{SetTextRefusedFor};
+ghost use Rattle.am_json.specs.Words.{Refusal};
 ghost use Rattle.am_files.specs.Words.{RouteTree, Configuration, IsConfig, matchers_of, route_at};
-ghost use Rattle.am_files.specs.Words.{children_of, list_of};
+ghost use Rattle.am_files.specs.Words.{children_of, continues_of, receiver_of, list_of};
 ghost use Rattle.am_eval.specs.declared.limits.TheConstants.{MAX_PAIRS};
 ghost use Rattle.am_eval.specs.declared.pair.Pair.{Pair};
 ghost use Rattle.am_eval.specs.Tree.{Not, And, Or};
-ghost use Rattle.am_eval.specs.Question.{Any, Silenced, Receiver, Ends, Enters};
+ghost use Rattle.am_eval.specs.Question.{Any, Silenced, Inhibited, Receiver, Ends, Enters, Braces};
 ghost use Rattle.am_eval.specs.Words.{ends, receivers, ends_at, MatchesAt, EndsThere, worked, Has};
 ghost use Rattle.am_records.specs.SilencesFile.{Silence};
 ghost use Rattle.am_eval.specs.Words.{World, is_active, hides, is_silenced, silencers};
@@ -22,8 +27,11 @@ ghost use Rattle.am_eval.specs.Words.{at_instant, IsSteady, silenced_world};
 ghost use Rattle.am_files.specs.ConfigFile.{Rule};
 ghost use Rattle.am_eval.specs.Words.{is_two_sided, inhibits, is_inhibited, inhibitors, pairs_of};
 ghost use Rattle.am_eval.specs.Words.{pair_inhibits, inhibiting_world, severity_critical};
+ghost use Rattle.am_eval.specs.Words.{two_rules_world, inhibited_line};
 ghost use Rattle.am_eval.specs.Words.{severity_warning, severity_any};
 ghost use Rattle.am_eval.specs.Words.{Question, holds_of, satisfies, answers};
+ghost use Rattle.am_eval.specs.Words.{WorldInputs, AcceptsWorld, IsFirstFaultOfCall};
+ghost use Rattle.am_eval.specs.Words.{explain_stages};
 ghost use Rattle.am_eval.specs.Words.{Tree};
 
 /// An alert ends somewhere, since the top-level route matches every label set. Each end is the
@@ -55,6 +63,19 @@ pub fn an_alert_ends_where_nothing_stops_it()
         → IsStrictlySortedBy (slice_cmp nat_cmp) (ends_at s t) }
 {}
 
+/// Below a route that matches, a child is tried exactly where each sibling before it that matches
+/// has `continue`: the ends below the child are then ends of the route.
+pub fn a_child_is_tried_where_each_match_before_it_continues()
+    ensures exactly { (s : LabelMap) (t : RouteTree) (position : ℕ) (path : List ℕ)
+        → (Contains (ends_at s t) (position ∷ path)
+        ↔ (IsTrue (all_hold s (matchers_of t)) × (child : RouteTree)
+        × (slice_get (list_of (children_of t)) position ≡ Some child)
+        × AllByRecursion
+        (λ earlier. IsTrue (all_hold s (matchers_of earlier)) → IsTrue (continues_of earlier))
+        (take position (list_of (children_of t)))
+        × Contains (ends_at s child) path)) }
+{}
+
 /// An example: where a label set with neither label ends, one of the team `db` alone, one of the
 /// severity `critical` alone, and one with both, behind whose first end a sibling is tried.
 pub fn an_example_of_routing()
@@ -66,6 +87,44 @@ pub fn an_example_of_routing()
         → (ends s worked ≡ (1 ∷ []) ∷ []) × (receivers s worked ≡ 3 ∷ []) }
     ensures both { (s : LabelMap) → Has s (codes "db") (codes "critical")
         → (ends s worked ≡ (0 ∷ 0 ∷ []) ∷ (1 ∷ []) ∷ []) × (receivers s worked ≡ 2 ∷ 3 ∷ []) }
+{}
+
+/// `not` is true where its question is not, `and` where both are, `or` where one is or both are.
+pub fn a_joined_question_is_true_as_its_parts_are()
+    ensures not { (w : World) (s : LabelMap) (q : Question)
+        → IsTrue (satisfies w (Not q) s) ↔ (IsTrue (satisfies w q s) → ⊥) }
+    ensures and { (w : World) (s : LabelMap) (q r : Question) → IsTrue (satisfies w (And q r) s)
+        ↔ (IsTrue (satisfies w q s) × IsTrue (satisfies w r s)) }
+    ensures or { (w : World) (s : LabelMap) (q r : Question) → IsTrue (satisfies w (Or q r) s)
+        ↔ (IsTrue (satisfies w q s) ⊎ IsTrue (satisfies w r s)) }
+{}
+
+/// A simple part is true of an alert: a receiver, where the alert ends at a route that has it; a
+/// path of `ends`, where the alert ends there; `inhibited`, where by some rule some firing alert
+/// inhibits it; matchers in braces, where each of them matches it.
+pub fn a_simple_part_is_true_as_it_says()
+    ensures receiver { (w : World) (s : LabelMap) (receiver : ℕ)
+        → IsTrue (holds_of w (Receiver receiver) s)
+        ↔ ((path : List ℕ) × (t : RouteTree) × Contains (ends s w.config) path
+        × (route_at w.config.root path ≡ Some t) × (receiver_of t ≡ receiver)) }
+    ensures ends { (w : World) (s : LabelMap) (path : List ℕ)
+        → IsTrue (holds_of w (Ends path) s) ↔ Contains (ends s w.config) path }
+    ensures inhibited { (w : World) (s : LabelMap) → IsTrue (holds_of w Inhibited s)
+        ↔ ((rule : Rule) × (firing : LabelMap) × Contains w.config.rules rule
+        × Contains w.alerts firing × IsTrue (inhibits rule firing s)) }
+    ensures braces { (w : World) (s : LabelMap) (matchers : List Condition)
+        → IsTrue (holds_of w (Braces matchers) s)
+        ↔ AllByRecursion (λ m. IsTrue (condition_holds s m)) matchers }
+{}
+
+/// An example: an alert that ends below `/0` enters it, and does not end there.
+pub fn an_example_of_ends_and_enters()
+    ensures entered { (w : World) (s : LabelMap) → w.config ≡ worked
+        → Has s (codes "db") (codes "critical") → IsTrue (holds_of w (Enters (0 ∷ [])) s) }
+    ensures not_ended { (w : World) (s : LabelMap) → w.config ≡ worked
+        → Has s (codes "db") (codes "critical") → IsFalse (holds_of w (Ends (0 ∷ [])) s) }
+    ensures below { (w : World) (s : LabelMap) → w.config ≡ worked
+        → Has s (codes "db") (codes "critical") → IsTrue (holds_of w (Ends (0 ∷ 0 ∷ [])) s) }
 {}
 
 /// A receiver or a route that the configuration does not have makes its part of a question false.
@@ -207,7 +266,9 @@ pub fn without_alerts_or_rules_nothing_is_inhibited()
 
 /// An example, while a critical alert of the team `db` fires: what is inhibited by a rule from
 /// `critical` to `warning` for the same team, and for the same region, which neither alert has; by
-/// one from any severity to any; and by one from any severity to `warning`.
+/// one from any severity to any; and by one from any severity to `warning`. And which rule of two,
+/// and which alert, by their positions, inhibit a warning of the team, and the line that says so:
+/// the rule comes first.
 pub fn an_example_of_inhibition()
     ensures same_team { (s : LabelMap) → Has s (codes "db") (codes "warning")
         → is_inhibited (inhibiting_world severity_critical severity_warning (codes "team")) s
@@ -223,6 +284,9 @@ pub fn an_example_of_inhibition()
         → is_inhibited (inhibiting_world severity_any severity_any (codes "team")) s ≡ false }
     ensures one_sided { (s : LabelMap) → Has s (codes "db") (codes "warning")
         → is_inhibited (inhibiting_world severity_any severity_warning (codes "team")) s ≡ true }
+    ensures which { (s : LabelMap) → Has s (codes "db") (codes "warning")
+        → inhibitors two_rules_world s ≡ (1, 0) ∷ [] }
+    ensures told { inhibited_line (1, 0) ≡ codes "inhibited 1 0\n" }
 {}
 
 /// A choice is among the answers exactly where it is whole and its label set satisfies the
@@ -238,6 +302,25 @@ pub fn answers_are_the_whole_choices_that_satisfy()
 pub fn answers_ascend()
     ensures ascending { (u : List Label) (w : World) (question : Question)
         → IsStrictlySortedBy (slice_cmp nat_cmp) (answers u w question) }
+{}
+
+/// A text that is that of a label set is not refused as one, and a text is refused with one kind,
+/// but for the patterns that the engine may refuse.
+pub fn a_set_is_read_or_refused()
+    ensures accepted { (text : List ℕ) (set : LabelMap) (kind : Kind) → SpellsSet text set
+        → SetTextRefusedFor text kind → ⊥ }
+    ensures one { (text : List ℕ) (kind other : Kind) → SetTextRefusedFor text kind
+        → SetTextRefusedFor text other → kind ≢ kinds.Pattern → other ≢ kinds.Pattern
+        → kind ≡ other }
+{}
+
+/// Where the inputs of `explain` are accepted, they have no first fault, but for a pattern, which
+/// the engine may refuse.
+pub fn an_accepted_set_has_no_fault()
+    ensures pattern { (inputs : WorldInputs) (text : List ℕ) (w : World) (s : LabelMap)
+        (place : Place) (refusal : Refusal) → AcceptsWorld inputs w → SpellsSet text s
+        → IsFirstFaultOfCall (explain_stages inputs text) place refusal
+        → refusal.kind ≡ kinds.Pattern }
 {}
 
 /// The limit of worlds.

@@ -8,3 +8,7 @@ pub mod PartLemmas
 pub mod RouteNames
 pub mod TreeSeen
 pub mod OneMeaning
+pub mod OneInputs
+pub mod QuestionRefusals
+pub mod AcceptedAsk
+pub mod PartsInOrder

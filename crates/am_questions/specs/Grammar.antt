@@ -60,3 +60,13 @@ mutual
     inhibited : IsSimple (Word (codes "inhibited") ∷ []) (Part WrittenInhibited)
     any : IsSimple (Word (codes "any") ∷ []) (Part WrittenAny)
     braces : (list : List ℕ) → IsSimple (BraceList list ∷ []) (Part (WrittenBraces list))
+
+-- Simple parts stand in tokens in this order: the tokens of each stand behind those of the one
+-- before it.
+-- Source: own choice.
+-- Example: in `not (receiver ops or any)` stand `receiver ops` and then `any`.
+pub data StandInOrder : List Written → List Token → Type 0 where
+  no_part : (tokens : List Token) → StandInOrder [] tokens
+  part_before : (before tokens after : List Token) (part : Written) (parts : List Written)
+      → IsSimple tokens (Part part) → StandInOrder parts after
+      → StandInOrder (part ∷ parts) (before ++ (tokens ++ after))

@@ -4,7 +4,7 @@ pub use Rattle.am_questions.specs.TokenView.{token_view}
 pub use Rattle.am_questions.specs.TokenReading.{is_plain}
 unfoldable pub use Rattle.am_questions.specs.TokenReading.{read_quoted, read_token}
 pub use Rattle.am_questions.specs.TreeView.{tree_view, written_view}
-pub use Rattle.am_questions.specs.Grammar.{Written, IsQuestion}
+pub use Rattle.am_questions.specs.Grammar.{Written, IsQuestion, StandInOrder}
 pub use Rattle.am_questions.specs.GrammarReading.{behind, behind_open, behind_close, is_word}
 pub use Rattle.am_questions.specs.GrammarReading.{name_of}
 pub use Rattle.am_questions.specs.GrammarReading.{IsPathText, Refuses}

@@ -1,12 +1,20 @@
 //! What holds of the definitions by themselves: each fact is the contract of a function with an
 //! empty body.
-ghost use Rattle.std.specs.Prelude.{◌≡◌, ◌∷◌, ℕ, List, []};
+ghost use Rattle.std.specs.Prelude.{◌≡◌, ◌≢◌, ◌∷◌, ℕ, List, []};
 ghost use Rattle.am_files.specs.Words.{Configuration};
 ghost use Rattle.am_eval.specs.Tree.{Tree, Not, And, Or};
-ghost use Rattle.am_eval.specs.Words.{Question};
+ghost use Rattle.am_universe.specs.declared.kind.Kind.{Kind};
+ghost use Rattle.am_universe.specs.declared.kind.Kind.TheVariants as kinds;
+ghost use Rattle.am_universe.specs.declared.place.Place.{Place};
+ghost use Rattle.am_universe.specs.Words.{Label};
+ghost use Rattle.am_json.specs.Words.{Refusal};
+ghost use Rattle.am_search.specs.declared.start.Start.{Start};
+ghost use Rattle.am_eval.specs.Words.{Question, World, IsFirstFaultOfCall};
 ghost use Rattle.am_questions.specs.declared.limits.TheConstants.{MAX_TOKENS};
-ghost use Rattle.am_questions.specs.Words.{Token, SpellsTokens, Written, IsQuestion};
-ghost use Rattle.am_questions.specs.Words.{ReadsQuestion};
+ghost use Rattle.am_questions.specs.Words.{Token, SpellsTokens, Written, IsQuestion, parts_of};
+ghost use Rattle.am_questions.specs.Words.{StandInOrder};
+ghost use Rattle.am_questions.specs.Words.{ReadsQuestion, QuestionRefusedFor};
+ghost use Rattle.am_questions.specs.Words.{Inputs, AcceptsInputs, ask_stages};
 ghost use Rattle.am_questions.specs.Words.{any_word, not_word, and_word, or_word, any_tree};
 
 /// A text has at most one list of tokens.
@@ -19,6 +27,13 @@ pub fn one_list_of_tokens_a_text()
 pub fn one_tree_a_list_of_tokens()
     ensures one { (tokens : List Token) (tree other : Tree Written) → IsQuestion tokens tree
         → IsQuestion tokens other → tree ≡ other }
+{}
+
+/// The simple parts of a question, from left to right, which is the order in which they are looked
+/// at, stand in the order of their tokens.
+pub fn parts_stand_in_the_order_of_their_tokens()
+    ensures order { (tokens : List Token) (tree : Tree Written) → IsQuestion tokens tree
+        → StandInOrder (parts_of tree) tokens }
 {}
 
 /// Four questions made of `any`: `or` and `and` join to the left, `and` binds more tightly than
@@ -39,6 +54,33 @@ pub fn joins_to_the_left()
 pub fn one_question_a_text()
     ensures one { (c : Configuration) (text : List ℕ) (p q : Question)
         → ReadsQuestion c text p → ReadsQuestion c text q → p ≡ q }
+{}
+
+/// The inputs of a call, where they are accepted, mean one thing: they fix the universe, the world,
+/// the question and the start.
+pub fn accepted_inputs_mean_one_thing()
+    ensures one { (inputs : Inputs) (u v : List Label) (w x : World) (q r : Question)
+        (start other : Start) → AcceptsInputs inputs u w q start → AcceptsInputs inputs v x r other
+        → (u ≡ v) × (w ≡ x) × (q ≡ r) × (start ≡ other) }
+{}
+
+/// A text that is read as a question about a configuration is refused at most for a pattern, which
+/// the engine may refuse; and it is refused with one kind, but for that.
+pub fn a_question_is_read_or_refused()
+    ensures accepted { (c : Configuration) (text : List ℕ) (q : Question) (kind : Kind)
+        → ReadsQuestion c text q → QuestionRefusedFor c text kind → kind ≡ kinds.Pattern }
+    ensures one { (c : Configuration) (text : List ℕ) (kind other : Kind)
+        → QuestionRefusedFor c text kind → QuestionRefusedFor c text other
+        → kind ≢ kinds.Pattern → other ≢ kinds.Pattern → kind ≡ other }
+{}
+
+/// Where the inputs of a question are accepted, they have no first fault, but for a pattern, which
+/// the engine may refuse.
+pub fn accepted_inputs_have_no_fault()
+    ensures pattern { (inputs : Inputs) (u : List Label) (w : World) (q : Question) (start : Start)
+        (place : Place) (refusal : Refusal) → AcceptsInputs inputs u w q start
+        → IsFirstFaultOfCall (ask_stages inputs) place refusal
+        → refusal.kind ≡ kinds.Pattern }
 {}
 
 /// The limit of questions.

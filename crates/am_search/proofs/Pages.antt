@@ -1,5 +1,5 @@
 -- The choices from a start on, and the pages of the answers among them.
-use Rattle.std.proofs.Common.{◌≡◌, ◌↔◌, ℕ, zero, suc, ◌+◌, ◌-◌, ◌<◌, ◌≤◌, Bool, true, false, not, cond, List, [], ◌∷◌, ◌++◌, length, take, drop, get_or, slice_get, nat_lt, Contains, Option, Some, None, IfSome, MatchOption, ap, sym, subst, ◌∙◌, refl, inl, inr, arith, append-nil}
+use Rattle.std.proofs.Common.{◌≡◌, ◌↔◌, ℕ, zero, suc, ◌+◌, ◌-◌, ◌<◌, ◌≤◌, Bool, true, false, not, cond, List, [], ◌∷◌, ◌++◌, length, take, drop, get_or, slice_get, nat_lt, Contains, Option, Some, None, IfSome, MatchOption, codes, ap, sym, subst, ◌∙◌, refl, inl, inr, arith, append-nil}
 use Rattle.std.specs.Prelude.{IsTrue}
 use Rattle.std.specs.List.{filter, find, AllByRecursion}
 use Rattle.std.specs.List.Sorted.{IsStrictlySortedBy}
@@ -19,6 +19,8 @@ use Rattle.am_search.specs.declared.trailer.Trailer.TheVariants.{End, Next}
 use Rattle.am_search.specs.Judge.{AreSizes}
 use Rattle.am_search.specs.Start.{comes_before, IsStart, first_of_start, at_or_after, choices_from, answers_from}
 use Rattle.am_search.specs.Page.{AnswerPage, page_of, page_from, rest_after, IsPage, IsChain, start_after, all_choices_of}
+use Rattle.am_search.specs.Token.{token_text}
+use Rattle.am_search.specs.TrailerText.{trailer_text}
 use Rattle.am_search.proofs.ChoiceOrder.{Ascends, before_trans, not_back, filter_step, filter_all, filter_same, in_filter, from_found, after_taken, up_to_taken, taken_last}
 use Rattle.am_search.proofs.Odometer.{filled, first_completion_is, positive}
 use Rattle.am_search.proofs.Walks.{first_is_whole, one_more}
@@ -242,17 +244,52 @@ to_the_end ns truth start page h e = elim (page_kind ns truth start page h) [
   | whole w ↦ w.choices
 ]
 
-pub within_limit : (ns : List ℕ) (truth : List ℕ → Bool) (start : Start) (n : ℕ) → length (page_from ns truth start (Some n)).choices ≤ n
+-- the page under a limit, by whether there is more than that
+abbrev page_if : List (List ℕ) → ℕ → Bool → AnswerPage
+page_if xs n b =
+    cond b (record { choices = take n xs; trailer = Next (get_or xs (n - 1) []) })
+    (record { choices = xs; trailer = End })
+
+pub within_limit : (ns : List ℕ) (truth : List ℕ → Bool) (start : Start) (n : ℕ)
+    → length (page_from ns truth start (Some n)).choices ≤ n
 within_limit ns truth start n = by (nat_lt n (length xs)) refl
   where
     xs : List (List ℕ)
     xs = answers_from ns truth start
 
-    by : (b : Bool) → nat_lt n (length xs) ≡ b → length (page_of xs (Some n)).choices ≤ n
-    by true e = subst (λ (p : AnswerPage). length p.choices ≤ n) (sym (ap (λ b. cond b (record { choices = take n xs; trailer = Next (get_or xs (n - 1) []) }) (record { choices = xs; trailer = End })) e))
-        (omega (arith, Rattle.std.proofs.Common.length-take n xs))
-    by false e = subst (λ (p : AnswerPage). length p.choices ≤ n) (sym (ap (λ b. cond b (record { choices = take n xs; trailer = Next (get_or xs (n - 1) []) }) (record { choices = xs; trailer = End })) e))
-        (grind (arith, nat_tests, e))
+    by : (b : Bool) → nat_lt n (length xs) ≡ b → length (page_if xs n b).choices ≤ n
+    by true e = omega (arith, Rattle.std.proofs.Common.length-take n xs)
+    by false e = let few : length xs ≤ n = grind (arith, nat_tests, e) in few
+
+-- a page that leaves something has as many choices as its limit
+pub limit_reached : (ns c : List ℕ) (truth : List ℕ → Bool) (start : Start) (n : ℕ)
+    → (page_from ns truth start (Some n)).trailer ≡ Next c
+    → length (page_from ns truth start (Some n)).choices ≡ n
+limit_reached ns c truth start n = by (nat_lt n (length xs)) refl
+  where
+    xs : List (List ℕ)
+    xs = answers_from ns truth start
+
+    by : (b : Bool) → nat_lt n (length xs) ≡ b → (page_if xs n b).trailer ≡ Next c
+        → length (page_if xs n b).choices ≡ n
+    by true e ends =
+        let more : n < length xs = grind (arith, nat_tests, e) in
+        omega (arith, Rattle.std.proofs.Common.length-take n xs, more)
+    by false e ends = absurd (cc)
+
+-- ---- Trailers.
+
+pub trailer_token : (trailer : Trailer) (start : Start) → start_after trailer ≡ Some start
+    → trailer_text trailer ≡ codes "# next " ++ (token_text start ++ codes "\n")
+trailer_token End start e = absurd (cc)
+trailer_token (Next c) start e =
+    let same : After c ≡ start = cc in
+    ap (λ s. codes "# next " ++ (token_text s ++ codes "\n")) same
+
+pub trailer_end : (trailer : Trailer) → start_after trailer ≡ None
+    → trailer_text trailer ≡ codes "# end\n"
+trailer_end End e = refl
+trailer_end (Next c) e = absurd (cc)
 
 -- ---- Pages in a row.
 

@@ -1,6 +1,6 @@
 //! Facts about the definitions alone: each is the contract of a function with an empty body.
 ghost use Rattle.std.specs.Prelude.{◌≡◌, ◌↔◌, ◌<◌, ◌≤◌, ℕ, List, [], ◌∷◌, ◌++◌, length, Bool, not};
-ghost use Rattle.std.specs.Prelude.{Some, None, IsTrue, Contains};
+ghost use Rattle.std.specs.Prelude.{Some, None, IsTrue, Contains, codes};
 ghost use Rattle.std.specs.Ordering.{nat_cmp};
 ghost use Rattle.std.specs.Cmp.Lexicographic.{slice_cmp};
 ghost use Rattle.std.specs.List.{filter};
@@ -8,10 +8,12 @@ ghost use Rattle.std.specs.List.Sorted.{IsStrictlySortedBy};
 ghost use Rattle.am_universe.specs.Words.{Label, IsUniverse, sizes, admits, choices, IsWhole};
 ghost use Rattle.am_search.specs.declared.start.Start.{Start};
 ghost use Rattle.am_search.specs.declared.start.Start.TheVariants.{At, After};
+ghost use Rattle.am_search.specs.declared.trailer.Trailer.{Trailer};
 ghost use Rattle.am_search.specs.declared.trailer.Trailer.TheVariants.{End, Next};
 ghost use Rattle.am_search.specs.Words.{AreSizes, comes_before, IsStart, first_of_start};
 ghost use Rattle.am_search.specs.Words.{choices_from, answers_from, AnswerPage, page_from};
 ghost use Rattle.am_search.specs.Words.{rest_after, IsPage, IsChain, all_choices_of, token_text};
+ghost use Rattle.am_search.specs.Words.{start_after, trailer_text};
 
 /// The sizes of a universe are such as a judge may have.
 pub fn sizes_of_a_universe()
@@ -66,10 +68,22 @@ pub fn answers_ascend()
         → IsStrictlySortedBy (slice_cmp nat_cmp) (answers_from ns truth start) }
 {}
 
-/// A page has no more choices than its limit.
+/// A page has no more choices than its limit, and exactly so many where it leaves answers.
 pub fn a_page_keeps_its_limit()
     ensures within { (ns : List ℕ) (truth : List ℕ → Bool) (start : Start) (n : ℕ)
         → length (page_from ns truth start (Some n)).choices ≤ n }
+    ensures full { (ns c : List ℕ) (truth : List ℕ → Bool) (start : Start) (n : ℕ)
+        → (page_from ns truth start (Some n)).trailer ≡ Next c
+        → length (page_from ns truth start (Some n)).choices ≡ n }
+{}
+
+/// Where a trailer leaves answers, its text has the token of the start at which they begin; and
+/// where it leaves none, it is `# end`.
+pub fn a_trailer_has_the_token_of_its_start()
+    ensures next { (trailer : Trailer) (start : Start) → start_after trailer ≡ Some start
+        → trailer_text trailer ≡ codes "# next " ++ (token_text start ++ codes "\n") }
+    ensures end { (trailer : Trailer) → start_after trailer ≡ None
+        → trailer_text trailer ≡ codes "# end\n" }
 {}
 
 /// A page has the answers from its start on up to the choice of its trailer, that one included, or

@@ -13,7 +13,7 @@ use Rattle.am_whole.specs.declared.route_rows.RouteRows.TheViews.{out-RouteRows}
 use Rattle.am_whole.specs.declared.route_rows.RouteRows.TheFolds.{fold_out-RouteRows}
 use Rattle.am_whole.specs.RowsView.{rows_hold_at}
 use Rattle.am_whole.specs.Wanted.{wants}
-use Rattle.am_whole.specs.RouteOutcome.{RouteOutcome, ends_from, or_itself, route_step, route_by_rows}
+use Rattle.am_whole.specs.RouteOutcome.{RouteOutcome, ends_from, or_own_receiver, route_step, route_by_rows}
 
 abbrev End : Type 0
 End = List ℕ × ℕ
@@ -29,11 +29,11 @@ continues_of_rows : (c : List ℕ) (r : RouteRows)
 continues_of_rows c r = ap (λ outcome. outcome.continues) (fold_out-RouteRows RouteOutcome (route_step c) r)
 
 pub ends_of_rows : (c : List ℕ) (r : RouteRows)
-    → (route_by_rows c r).ends
+    → (route_by_rows c r).receipts
     ≡ cond (rows_hold_at (out-RouteRows r).rows c)
-    (or_itself (out-RouteRows r).receiver
+    (or_own_receiver (out-RouteRows r).receiver
     (ends_from 0 (map (route_by_rows c) (out-RouteRows r).routes.items))) []
-ends_of_rows c r = ap (λ outcome. outcome.ends) (fold_out-RouteRows RouteOutcome (route_step c) r)
+ends_of_rows c r = ap (λ outcome. outcome.receipts) (fold_out-RouteRows RouteOutcome (route_step c) r)
 
 -- ---- Lists of ends.
 
@@ -59,7 +59,7 @@ any_below wanted below i (end ∷ ends) same =
 
 -- whether one is wanted, where the route itself is an end if there is no other, or is none
 abbrev pub any_wanted : Wanted → Bool → ℕ → List End → Bool
-any_wanted wanted true receiver ends = list_any (wants wanted) (or_itself receiver ends)
+any_wanted wanted true receiver ends = list_any (wants wanted) (or_own_receiver receiver ends)
 any_wanted wanted false receiver ends = list_any (wants wanted) ends
 
 some_end : (wanted : Wanted) (is_end : Bool) (receiver : ℕ) (end : End) (ends : List End)
@@ -80,8 +80,8 @@ with_first wanted below is_end receiver i end ends rest same =
 -- a child that matches has an end
 with_some : (wanted below : Wanted) (is_end : Bool) (receiver i own : ℕ) (ends rest : List End)
     → ((path : List ℕ) (r : ℕ) → wants below (path, r) ≡ wants wanted (i ∷ path, r))
-    → any_wanted wanted is_end receiver (map (λ e. (i ∷ e.0, e.1)) (or_itself own ends) ++ rest)
-    ≡ (list_any (wants below) (or_itself own ends) || list_any (wants wanted) rest)
+    → any_wanted wanted is_end receiver (map (λ e. (i ∷ e.0, e.1)) (or_own_receiver own ends) ++ rest)
+    ≡ (list_any (wants below) (or_own_receiver own ends) || list_any (wants wanted) rest)
 with_some wanted below is_end receiver i own [] rest same =
     with_first wanted below is_end receiver i ([], own) [] rest same
 with_some wanted below is_end receiver i own (end ∷ ends) rest same =
@@ -114,7 +114,7 @@ module _ (c : List ℕ) (wanted : Wanted) (is_end : Bool) (receiver : ℕ) (rows
   pub with_child : (below : Wanted) → rows_hold_at (out-RouteRows child).rows c ≡ true
       → ((path : List ℕ) (r : ℕ) → wants below (path, r) ≡ wants wanted (i ∷ path, r))
       → any_left c wanted is_end receiver rows i
-      ≡ (list_any (wants below) (route_by_rows c child).ends
+      ≡ (list_any (wants below) (route_by_rows c child).receipts
       || list_any (wants wanted) (cond (not (out-RouteRows child).continues) []
       (ends_from (i + 1) (map (route_by_rows c) (drop (i + 1) rows)))))
   with_child below matched same =

@@ -14,7 +14,7 @@ use Rattle.am_files.specs.RouteView.{route_view}
 use Rattle.am_files.specs.Path.{list_of}
 use Rattle.am_eval.specs.Routing as routing
 use Rattle.am_eval.specs.Routing.{ends_at, children_seen, ends_tried, tried, is_last}
-use Rattle.am_whole.specs.RouteOutcome.{RouteOutcome, receiver_below, route_outcome, ends_from, or_itself}
+use Rattle.am_whole.specs.RouteOutcome.{RouteOutcome, receiver_below, route_outcome, ends_from, or_own_receiver}
 
 abbrev End : Type 0
 End = List ℕ × ℕ
@@ -64,21 +64,21 @@ ends_of_children s t i (next_route u ts) are =
     ∙ sym (map-append (with_receiver t) paths (flat_map (λ c. c.ends) (cond last [] cs)))
 
 with_itself : (t : RouteTree) (paths : List (List ℕ))
-    → or_itself (receiver_of t) (map (with_receiver t) paths)
+    → or_own_receiver (receiver_of t) (map (with_receiver t) paths)
     ≡ map (with_receiver t) (routing.or_itself paths)
 with_itself t [] = refl
 with_itself t (path ∷ paths) = refl
 
 if_matches : (t : RouteTree) (matches : Bool) (ends : List End) (paths : List (List ℕ))
     → ends ≡ map (with_receiver t) paths
-    → cond matches (or_itself (receiver_of t) ends) []
+    → cond matches (or_own_receiver (receiver_of t) ends) []
     ≡ map (with_receiver t) (cond matches (routing.or_itself paths) [])
-if_matches t true ends paths is = ap (or_itself (receiver_of t)) is ∙ with_itself t paths
+if_matches t true ends paths is = ap (or_own_receiver (receiver_of t)) is ∙ with_itself t paths
 if_matches t false ends paths is = refl
 
 ends_of_route : (s : LabelMap) (t : RouteTree)
     → cond (all_hold s (matchers_of t))
-    (or_itself (receiver_of t) (ends_from 0 (map (route_outcome s) (list_of (children_of t))))) []
+    (or_own_receiver (receiver_of t) (ends_from 0 (map (route_outcome s) (list_of (children_of t))))) []
     ≡ map (with_receiver t) (ends_at s t)
 ends_of_route s (route settings children) =
     if_matches (route settings children) (all_hold s settings.matchers)
@@ -94,14 +94,14 @@ pub outcome_of_route : (s : LabelMap) (t : RouteTree) (matches continues : Bool)
     → record {
       matches = matches;
       continues = continues;
-      ends = cond matches (or_itself receiver (ends_from 0 children)) [];
+      receipts = cond matches (or_own_receiver receiver (ends_from 0 children)) [];
     }
     ≡ route_outcome s t
 outcome_of_route s t matches continues receiver children m k r is =
     rw (m, k, r, is) (ap (λ ends. record {
       matches = all_hold s (matchers_of t);
       continues = continues_of t;
-      ends = ends;
+      receipts = ends;
     }) (ends_of_route s t))
 
 -- the outcomes of the children of a route, one by one

@@ -13,7 +13,7 @@ use Rattle.am_eval.specs.Inhibition.{have_equal, inhibits}
 use Rattle.am_whole.specs.declared.inhibition_rows.RuleRows.{RuleRows}
 use Rattle.am_whole.specs.declared.inhibition_rows.PairRows.{PairRows}
 use Rattle.am_whole.specs.RowsView.{rows_hold_at}
-use Rattle.am_whole.specs.InhibitionByRows.{pair_inhibits_at, rule_inhibits_at}
+use Rattle.am_whole.specs.InhibitionByRows.{pair_inhibits_by_rows, rule_inhibits_at}
 use Rattle.am_whole.specs.InhibitionByRows.{DecidesRule, DecideRules}
 use Rattle.am_whole.proofs.ListSteps.{one_more, related_more}
 
@@ -65,7 +65,7 @@ pub pair_truth : (u : List Label) (rows : List RuleRows) (rules : List Rule) (pa
     → slice_get rules pair.rule ≡ Some rule → IsTrue (all_hold a rule.source)
     → pair.both ≡ all_hold a rule.target
     → rows_hold_at pair.equal c ≡ have_equal rule.equal a (label_set_of u c)
-    → pair_inhibits_at rows c pair ≡ inhibits rule a (label_set_of u c)
+    → pair_inhibits_by_rows rows c pair ≡ inhibits rule a (label_set_of u c)
 pair_truth u rows rules pair rule a c decide whole at_rule fires both equal =
     let s = label_set_of u c in
     elim ((slice_get_cases rows pair.rule).1) [

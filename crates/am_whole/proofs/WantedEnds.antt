@@ -58,7 +58,7 @@ any_receiver s c receiver =
 
 -- an end is wanted
 at_end : (c : List ℕ) (outcome : WorldOutcome) (wanted : Wanted)
-    → question_at c outcome (rows.HasEnd wanted) ≡ list_any (wants wanted) outcome.ends
+    → question_at c outcome (rows.HasEnd wanted) ≡ list_any (wants wanted) outcome.receipts
 at_end c outcome wanted =
     ap (question_at c outcome) (sym (rows.rolls-HasEnd wanted))
     ∙ fold-roll-QuestionRows Bool (truth_step c outcome) (QuestionRows-F.HasEnd wanted)

@@ -19,12 +19,12 @@ rule_inhibits_at None both c = false
 rule_inhibits_at (Some rule) both c =
     rows_hold_at rule.target c && not (both && rows_hold_at rule.source c)
 
-abbrev pub pair_inhibits_at : List RuleRows → List ℕ → PairRows → Bool
-pair_inhibits_at rules c pair =
+abbrev pub pair_inhibits_by_rows : List RuleRows → List ℕ → PairRows → Bool
+pair_inhibits_by_rows rules c pair =
     rows_hold_at pair.equal c && rule_inhibits_at (slice_get rules pair.rule) pair.both c
 
 abbrev pub inhibited_at : InhibitionRows → List ℕ → Bool
-inhibited_at rows c = list_any (pair_inhibits_at rows.rules.items c) rows.pairs.items
+inhibited_at rows c = list_any (pair_inhibits_by_rows rows.rules.items c) rows.pairs.items
 
 -- The rows are those of both sides of rules, in order.
 pub record DecidesRule (u : List Label) (rows : RuleRows) (rule : Rule) : Type 0 where

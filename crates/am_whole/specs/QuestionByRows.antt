@@ -12,7 +12,7 @@ abbrev pub truth_step : List ℕ → WorldOutcome → QuestionRows-F Bool → Bo
 truth_step c outcome QuestionRows-F.Any = true
 truth_step c outcome QuestionRows-F.Silenced = outcome.silenced
 truth_step c outcome QuestionRows-F.Inhibited = outcome.inhibited
-truth_step c outcome (QuestionRows-F.HasEnd wanted) = list_any (wants wanted) outcome.ends
+truth_step c outcome (QuestionRows-F.HasEnd wanted) = list_any (wants wanted) outcome.receipts
 truth_step c outcome (QuestionRows-F.Braces rows) = rows_hold_at rows c
 truth_step c outcome (QuestionRows-F.Not q) = not q.value
 truth_step c outcome (QuestionRows-F.And q r) = q.value && r.value

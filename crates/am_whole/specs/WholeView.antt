@@ -1,8 +1,9 @@
--- What a clause reads of `Whole`: the sizes of its labels, and which choices are true.
-use Rattle.std.specs.Prelude.{◌≡◌, ℕ, ◌≤◌, List, [], ◌∷◌, length, Bool, true, false, nat_lt}
+-- What a clause reads of `Whole`: its universe, the sizes of its labels, the outcome of a choice,
+-- and which choices are true.
+use Rattle.std.specs.Prelude.{◌≡◌, ℕ, ◌≤◌, ◌<◌, List, [], ◌∷◌, length, Bool, true, false, nat_lt}
 use Rattle.std.specs.Prelude.{if◌then◌else◌, IsTrue}
 use Rattle.std.specs.List.{AllByRecursion}
-use Rattle.std.proofs.Common.{sym, subst, refl, arith}
+use Rattle.std.proofs.Common.{sym, ap, subst, refl, arith}
 use Rattle.std.proofs.lemmas.Bool.{and_parts}
 use Rattle.std.proofs.lemmas.Bool.Decides.{nat_tests}
 use Rattle.am_universe.specs.Universe.{Label, sizes}
@@ -20,24 +21,31 @@ use Rattle.am_whole.specs.declared.whole.Whole.{Whole}
 use Rattle.am_whole.specs.WorldOutcome.{WorldOutcome, world_outcome, world_by_rows}
 use Rattle.am_whole.specs.QuestionByRows.{question_at}
 
--- How many values each label has, and which choices are true.
+-- The universe of a judge, and how many values each of its labels has.
+abbrev pub whole_universe : Whole → List Label
+whole_universe whole = whole.universe.now
+
 abbrev pub whole_sizes : Whole → List ℕ
-whole_sizes whole = sizes whole.universe.now
+whole_sizes whole = sizes (whole_universe whole)
 
 -- The outcome of a choice by the rows of a judge.
 abbrev pub world_by_tables : List ℕ → Tables → WorldOutcome
 world_by_tables c (Own rows) = world_by_rows c rows
 world_by_tables c (Shared rows) = world_by_rows c rows.now
 
-abbrev pub whole_truth : Whole → List ℕ → Bool
-whole_truth whole c = question_at c (world_by_tables c whole.world) whole.question
+-- The outcome of a choice in the world of a judge, and whether it makes its question true.
+abbrev pub whole_outcome : Whole → List ℕ → WorldOutcome
+whole_outcome whole c = world_by_tables c whole.world
 
--- A judge knows a world, over a universe: the universe is its own, and by its rows each whole
--- choice has the outcome that its label set has in the world.
+abbrev pub whole_truth : Whole → List ℕ → Bool
+whole_truth whole c = question_at c (whole_outcome whole c) whole.question
+
+-- A judge knows a world, over a universe: the universe is its own, and each whole choice has the
+-- outcome that its label set has in the world.
 pub record KnowsWorld (whole : Whole) (u : List Label) (w : World) : Type 0 where
-  pub universe : whole.universe.now ≡ u
+  pub universe : whole_universe whole ≡ u
   pub outcome : (c : List ℕ) → IsWhole (sizes u) c
-      → world_by_tables c whole.world ≡ world_outcome w (label_set_of u c)
+      → whole_outcome whole c ≡ world_outcome w (label_set_of u c)
 
 -- The verdict where nothing is known of a prefix that is not whole.
 abbrev pub verdict_when_whole : List ℕ → (List ℕ → Bool) → List ℕ → Verdict
@@ -111,3 +119,10 @@ is_judge_when_whole sizes truth h =
 pub whole_is_judge : (whole : Whole)
     → IsJudge (whole_sizes whole) (whole_truth whole) (whole_verdict whole)
 whole_is_judge whole = is_judge_when_whole (whole_sizes whole) (whole_truth whole) whole.are_sizes
+
+-- It is open at a prefix that is not whole.
+pub open_when_short : (sizes prefix : List ℕ) (holds : Bool) → length prefix < length sizes
+    → (if nat_lt (length prefix) (length sizes) then Open else if holds then Yes else No) ≡ Open
+open_when_short sizes prefix holds fewer =
+    let short : nat_lt (length prefix) (length sizes) ≡ true = grind (arith, nat_tests) in
+    ap (λ b. if b then Open else if holds then Yes else No) short

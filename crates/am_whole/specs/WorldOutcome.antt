@@ -10,19 +10,19 @@ use Rattle.am_whole.specs.RowsView.{rows_hold_at}
 use Rattle.am_whole.specs.RouteOutcome.{route_outcome, route_by_rows}
 use Rattle.am_whole.specs.InhibitionByRows.{inhibited_at}
 
--- Whether it is silenced, whether it is inhibited, and its ends, each with the position of its
--- receiver.
+-- Whether it is silenced, whether it is inhibited, and its receipts: its ends, each with the
+-- position of its receiver.
 pub record WorldOutcome : Type 0 where
   pub silenced : Bool
   pub inhibited : Bool
-  pub ends : List (List ℕ × ℕ)
+  pub receipts : List (List ℕ × ℕ)
 
 -- Of a label set.
 abbrev pub world_outcome : World → LabelMap → WorldOutcome
 world_outcome w s = record {
   silenced = is_silenced w s;
   inhibited = is_inhibited w s;
-  ends = (route_outcome s w.config.root).ends;
+  receipts = (route_outcome s w.config.root).receipts;
 }
 
 -- By rows.
@@ -30,5 +30,5 @@ abbrev pub world_by_rows : List ℕ → WorldRows → WorldOutcome
 world_by_rows c rows = record {
   silenced = list_any (λ silence. rows_hold_at silence c) rows.silences.items;
   inhibited = inhibited_at rows.inhibition c;
-  ends = (route_by_rows c rows.route).ends;
+  receipts = (route_by_rows c rows.route).receipts;
 }

@@ -3,7 +3,7 @@
 ghost use Rattle.std.specs.Prelude.{◌≡◌, ℕ, List, Contains, IfOk, slice_get};
 ghost use Rattle.am_labels.specs.Words.{sizes, IsWhole, label_set_of};
 ghost use Rattle.am_eval.specs.Words.{is_inhibited, pairs_of, pair_inhibits};
-ghost use Rattle.am_whole.specs.Words.{inhibited_at, pair_inhibits_at, DecideRules};
+ghost use Rattle.am_whole.specs.Words.{inhibited_at, pair_inhibits_by_rows, DecideRules};
 
 use crate::rows::Rows;
 use am_eval::{Pair, World};
@@ -58,13 +58,13 @@ impl InhibitionRows {
     {
         self.pairs
             .iter()
-            .any(|pair| pair_inhibits(&self.rules, pair, choice))
+            .any(|pair| pair_inhibits_by_rows(&self.rules, pair, choice))
     }
 }
 
 /// Whether the alert of a pair inhibits the label set of a whole choice, by the rule of the pair.
-fn pair_inhibits(rules: &[RuleRows], pair: &PairRows, choice: &Choice) -> bool
-    ensures { result ≡ pair_inhibits_at rules.now choice.now pair.now }
+fn pair_inhibits_by_rows(rules: &[RuleRows], pair: &PairRows, choice: &Choice) -> bool
+    ensures { result ≡ pair_inhibits_by_rows rules.now choice.now pair.now }
 {
     let Some(rule) = rules.get(pair.rule) else {
         return false;
@@ -102,7 +102,7 @@ fn rows_of_pair(
     requires { Contains (pairs_of world.now.config.rules world.now.alerts) pair }
     ensures truth { IfOk result (λ rows. (rules : List RuleRows) (c : List ℕ)
         → DecideRules universe.now rules world.now.config.rules → IsWhole (sizes universe.now) c
-        → pair_inhibits_at rules c rows
+        → pair_inhibits_by_rows rules c rows
         ≡ pair_inhibits world.now (label_set_of universe.now c) pair) }
 {
     let rule = &world.config().rules()[pair.rule];

@@ -44,7 +44,7 @@ impl RouteRows {
     /// wanted.
     pub fn has_end(&self, wanted: Wanted<'_>, choice: &Choice) -> bool
         ensures end { result
-            ≡ list_any (wants wanted.entry) (route_by_rows choice.now self.now).ends }
+            ≡ list_any (wants wanted.entry) (route_by_rows choice.now self.now).receipts }
     {
         self.rows.hold_at(choice) && self.has_end_below(wanted, choice)
     }
@@ -52,7 +52,8 @@ impl RouteRows {
     /// The same, where the route's own rows hold.
     fn has_end_below(&self, wanted: Wanted<'_>, choice: &Choice) -> bool
         requires { IsTrue (route_by_rows choice.now self.now).matches }
-        ensures { result ≡ list_any (wants wanted.entry) (route_by_rows choice.now self.now).ends }
+        ensures { result
+            ≡ list_any (wants wanted.entry) (route_by_rows choice.now self.now).receipts }
     {
         if let Wanted::Nothing = wanted {
             return false;

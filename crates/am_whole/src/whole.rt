@@ -1,6 +1,6 @@
 //! The judge that looks at whole choices.
 
-ghost use Rattle.std.specs.Prelude.{◌≡◌, ℕ, List, IfOk};
+ghost use Rattle.std.specs.Prelude.{◌≡◌, ◌<◌, ℕ, List, length, IfOk};
 ghost use Rattle.am_labels.specs.Words.{Label, sizes, IsWhole};
 ghost use Rattle.am_eval.specs.Words.{World, is_answer, question_view};
 ghost use Rattle.am_whole.specs.WorldOutcome.{world_by_rows};
@@ -34,7 +34,8 @@ pub struct Whole<'a> {
 }
 
 impl<'a> Whole<'a> {
-    ghost use Rattle.am_whole.specs.WholeView.{whole_sizes, whole_truth, KnowsWorld};
+    ghost use Rattle.am_search.specs.declared.verdict.Verdict.TheVariants as verdicts;
+    ghost use Rattle.am_whole.specs.WholeView.{whole_sizes, whole_truth, whole_verdict, KnowsWorld};
 
     /// The judge of a question about a world, over the choices of a universe. An `Err` only where
     /// memory was refused.
@@ -49,6 +50,9 @@ impl<'a> Whole<'a> {
             → whole_truth whole c
             ≡ is_answer universe.now world.now (question_view question.now) c) }
         ensures world { IfOk result (λ whole. KnowsWorld whole universe.now world.now) }
+        ensures open { IfOk result (λ whole. (prefix : List ℕ)
+            → length prefix < length (sizes universe.now)
+            → whole_verdict whole prefix ≡ verdicts.Open) }
     {
         // What `len` promises tells the proof that the sizes are such as a judge may have.
         prove!(universe.len() <= MAX_LABELS);

@@ -39,7 +39,7 @@ impl WorldRows {
     /// Whether the label set of a whole choice has an end that is wanted.
     pub fn has_end(&self, wanted: Wanted<'_>, choice: &Choice) -> bool
         ensures end { result ≡ list_any (wants wanted.entry)
-            (world_by_rows choice.now self.now).ends }
+            (world_by_rows choice.now self.now).receipts }
     {
         self.route.has_end(wanted, choice)
     }

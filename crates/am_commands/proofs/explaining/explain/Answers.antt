@@ -68,8 +68,8 @@ returns-clause-write g c = λ written.
     let text = text_of_found c.in_ok-world.world c.in_ok-set.set (config_view c.config.result.now)
     _ _ _ c.config.ensures.config c.in-Ok.ensures.ends c.in-Ok.ensures.silencers
     c.in-Ok.ensures.inhibitors in (
-      c.of-in-Err-write_explanation.ensures.place,
-      c.of-in-Err-write_explanation.ensures.pointer,
+      c.of.ensures.place,
+      c.of.ensures.pointer,
       record {
         world = c.in_ok-world.world;
         set = c.in_ok-set.set;

@@ -4,7 +4,7 @@ use Rattle.std.proofs.lemmas.List.FromFn.{map-range_with_len_more}
 use Rattle.am_universe.specs.Universe.{sizes}
 use Rattle.am_universe.proofs.DistinctLists.{all_push}
 use Rattle.am_coverage.specs.Coverage.{receiver_coverage}
-use Rattle.am_coverage.specs.CoverageView.{IsReached}
+use Rattle.am_coverage.specs.CoverageView.{IsShownReceiver}
 use Rattle.am_coverage.proofs.receiver_coverage.receivers_covered.Goals as goal
 
 pub loop-receiver-preserved : goal.loop-receiver-preserved
@@ -14,13 +14,13 @@ loop-receiver-preserved c =
     let i = c.loop-receiver.receiver in
     let coverage = c.in_ok-coverage_of.field-0 in
     let is = c.in_ok-coverage_of.ensures.coverage u w c.in_ok-tables.ensures.world in
-    let reached : IsReached (sizes u) coverage =
-    subst (λ sizes. IsReached sizes coverage) c.in_ok-tables.ensures.sizes
+    let reached : IsShownReceiver (sizes u) coverage =
+    subst (λ sizes. IsShownReceiver sizes coverage) c.in_ok-tables.ensures.sizes
     c.in_ok-coverage_of.ensures.shown in
     record {
       receivers = c.in_ok-push.ensures.items
           ∙ ap (λ found. found ++ coverage ∷ []) c.loop-receiver.invariant.receivers
           ∙ rw (map-range_with_len_more (receiver_coverage u w.config) 0 i i (zero-add i), is) refl;
-      shown = subst (AllByRecursion (IsReached (sizes u))) (sym c.in_ok-push.ensures.items)
+      shown = subst (AllByRecursion (IsShownReceiver (sizes u))) (sym c.in_ok-push.ensures.items)
           (all_push _ c.loop-receiver.found.items coverage c.loop-receiver.invariant.shown reached);
     }

@@ -3,7 +3,7 @@ use Rattle.std.specs.List.{AllByRecursion}
 use Rattle.am_universe.specs.Universe.{sizes}
 use Rattle.am_universe.proofs.DistinctLists.{all_push}
 use Rattle.am_coverage.specs.Coverage.{route_coverage}
-use Rattle.am_coverage.specs.CoverageView.{found_view, IsShown}
+use Rattle.am_coverage.specs.CoverageView.{found_view, IsShownRoute}
 use Rattle.am_coverage.specs.declared.route_coverage.RouteFound.{RouteFound}
 use Rattle.am_coverage.proofs.Gathered.{one_more_made}
 use Rattle.am_coverage.proofs.route_coverage.routes_covered.Goals as goal
@@ -15,8 +15,8 @@ loop-path-preserved c =
     let path = c.path-item.result in
     let found : RouteFound = record { path = path; coverage = c.in_ok-coverage_of.field-0 } in
     let is = c.in_ok-coverage_of.ensures.coverage u w c.in_ok-tables.ensures.world in
-    let shown : IsShown (sizes u) found.coverage =
-    subst (λ sizes. IsShown sizes found.coverage) c.in_ok-tables.ensures.sizes
+    let shown : IsShownRoute (sizes u) found.coverage =
+    subst (λ sizes. IsShownRoute sizes found.coverage) c.in_ok-tables.ensures.sizes
     c.in_ok-coverage_of.ensures.shown in
     record {
       routes = ap (map found_view) c.in_ok-push.ensures.items
@@ -24,7 +24,7 @@ loop-path-preserved c =
           c.deref-path-items.result.now c.loop-path.path-index path c.loop-path.found.items found
           c.loop-path-test.true c.path-item.is c.loop-path.invariant.routes
           (ap (λ coverage. (path, coverage)) is);
-      shown = subst (AllByRecursion (λ route. IsShown (sizes u) route.coverage))
+      shown = subst (AllByRecursion (λ route. IsShownRoute (sizes u) route.coverage))
           (sym c.in_ok-push.ensures.items)
           (all_push _ c.loop-path.found.items found c.loop-path.invariant.shown shown);
     }

@@ -2,7 +2,7 @@ use Rattle.std.proofs.Common.{◌≡◌, map, take}
 use Rattle.std.specs.List.{AllByRecursion}
 use Rattle.am_universe.specs.Universe.{sizes}
 use Rattle.am_coverage.specs.Coverage.{route_coverage}
-use Rattle.am_coverage.specs.CoverageView.{found_view, IsShown}
+use Rattle.am_coverage.specs.CoverageView.{found_view, IsShownRoute}
 use Rattle.am_coverage.proofs.route_coverage.routes_covered.Given as goal
 
 -- of each route so far it is found what becomes of it
@@ -11,5 +11,5 @@ invariant-loop-path l = record {
   routes : map found_view l.found.items
       ≡ map (λ path. (path, route_coverage l.universe l.world.config path))
       (take l.path-index l.path-items);
-  shown : AllByRecursion (λ route. IsShown (sizes l.universe) route.coverage) l.found.items;
+  shown : AllByRecursion (λ route. IsShownRoute (sizes l.universe) route.coverage) l.found.items;
 }

@@ -1,4 +1,5 @@
-use Rattle.std.proofs.Common.{refl}
+use Rattle.std.proofs.Common.{refl, arith}
+use Rattle.std.proofs.lemmas.Fmt.{decimal_digit}
 use Rattle.am_eval.proofs.InhibitionExample.{firing_severity, firing_team, firing_region}
 use Rattle.am_eval.proofs.laws.an_example_of_inhibition.Goals as goal
 
@@ -9,4 +10,6 @@ returns c = record {
   no_region = λ s has region. rw (has.1, region, firing_severity, firing_region) refl;
   two_sided = λ s has. rw (has.0, has.1, firing_severity, firing_team) refl;
   one_sided = λ s has. rw (has.0, has.1, firing_severity, firing_team) refl;
+  which = λ s has. rw (has.0, has.1, firing_severity, firing_team) refl;
+  told = rw (decimal_digit 1 (omega arith), decimal_digit 0 (omega arith)) refl;
 }

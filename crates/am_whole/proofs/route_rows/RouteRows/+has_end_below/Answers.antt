@@ -9,7 +9,7 @@ use Rattle.am_whole.proofs.route_rows.RouteRows.+has_end_below.Goals as goal
 
 pub returns-in-Nothing : goal.returns-in-Nothing
 returns-in-Nothing t c =
-    rw c.in-Nothing.is (sym (nothing_wanted (route_by_rows c.args.choice.now c.args.self.now).ends))
+    rw c.in-Nothing.is (sym (nothing_wanted (route_by_rows c.args.choice.now c.args.self.now).receipts))
 
 pub loop-position-init : goal.loop-position-init
 loop-position-init t c =

@@ -1,0 +1,164 @@
+-- Inputs that are accepted have no first fault, but for the patterns that the engine may refuse.
+use Rattle.std.proofs.Common.{◌≡◌, ◌<◌, ◌≤◌, ℕ, List, [], ◌∷◌, ◌++◌, length, Option, None, Some}
+use Rattle.std.proofs.Common.{Result, Ok, Err, refl, sym, ap, subst, ◌∙◌, ◌⊎◌, inl, inr, arith}
+use Rattle.am_universe.specs.declared.kind.Kind.TheVariants as kinds
+use Rattle.am_universe.specs.declared.place.Place.{Place}
+use Rattle.am_universe.specs.Universe.{Label}
+use Rattle.am_universe.specs.LabelSet.{LabelMap}
+use Rattle.am_labels.specs.ParsedLabelSet.{SpellsSet}
+use Rattle.am_json.specs.Json.{json_of}
+use Rattle.am_json.specs.Pointer.{Refusal}
+use Rattle.am_json.proofs.Readings.{says_one}
+use Rattle.am_records.specs.UniverseFile.{FileSaysUniverse, read_universe_file}
+use Rattle.am_records.specs.UniverseFaults.{IsFirstFaultOfUniverseFile}
+use Rattle.am_records.specs.SilencesFile.{Silence, FileSaysSilences}
+use Rattle.am_records.specs.SilencesReading.{read_silences_file}
+use Rattle.am_records.specs.SilencesFaults.{SilencesFileRefusedFor, IsMetPatternOfSilences}
+use Rattle.am_records.specs.AlertsReading.{read_alerts_file}
+use Rattle.am_records.proofs.UniverseSays as universe_file
+use Rattle.am_records.proofs.UniverseFaultLemmas.{universe_file_first}
+use Rattle.am_records.proofs.SilencesSays.{silences_file_decides}
+use Rattle.am_records.proofs.SilencesFaultLemmas.{silences_file_first}
+use Rattle.am_records.proofs.AlertsSays.{alerts_file_decides}
+use Rattle.am_records.proofs.AlertsFaultLemmas.{alerts_file_first}
+use Rattle.am_files.specs.ConfigFile.{Configuration, FileSaysConfig}
+use Rattle.am_files.specs.ConfigReading.{read_config_file}
+use Rattle.am_files.specs.ConfigFaults.{ConfigFileRefusedFor, IsMetPatternOfConfig}
+use Rattle.am_files.proofs.ConfigSays as config_file
+use Rattle.am_files.proofs.ConfigFaultLemmas.{config_file_first}
+use Rattle.am_eval.specs.declared.limits.TheConstants.{MAX_PAIRS}
+use Rattle.am_eval.specs.World.{World}
+use Rattle.am_eval.specs.Pairs.{pairs_of}
+use Rattle.am_eval.specs.Files.{config_of, SaysSilencesIfAny, SaysAlertsIfAny}
+use Rattle.am_eval.specs.AskedInstant.{instant_fault}
+use Rattle.am_eval.specs.Faults.{Stage, IsFirstFaultOfCall, SilencesRefusedFor, AlertsRefusedFor}
+use Rattle.am_eval.specs.Faults.{InstantRefusedFor, PairsRefusedFor, config_stage, silences_stage}
+use Rattle.am_eval.specs.Faults.{alerts_stage, instant_stage, pairs_stage, set_stage}
+use Rattle.am_eval.specs.WorldInputs.{WorldInputs, AcceptsWorld, world_stages}
+use Rattle.am_eval.specs.Explanation.{explain_stages}
+use Rattle.am_eval.proofs.SetRefusals.{set_accepted}
+
+-- ---- Files.
+
+-- what is read as something is not read as a refusal
+not_both : {A : Type 0} (reading : Result A Refusal) (x : A) (r : Refusal) → reading ≡ Ok x
+    → reading ≡ Err r → ⊥
+not_both reading x r read refused = let both : Ok x ≡ Err r = sym read ∙ refused in absurd (cc)
+
+cases_option : {X : Type 0} (o : Option X) → (o ≡ None) ⊎ ((x : X) × (o ≡ Some x))
+cases_option None = inl refl
+cases_option (Some x) = inr (x, refl)
+
+pub universe_accepted : (bytes : List ℕ) (u : List Label) (r : Refusal) → FileSaysUniverse bytes u
+    → IsFirstFaultOfUniverseFile bytes r → ⊥
+universe_accepted bytes u r said first =
+    not_both (read_universe_file bytes).result u r ((universe_file.file_decides bytes).reads u said)
+    ((universe_file_first bytes r).1 first)
+
+pub config_accepted : (bytes : List ℕ) (c : Configuration) (r : Refusal) → FileSaysConfig bytes c
+    → ConfigFileRefusedFor bytes r → r.kind ≡ kinds.Pattern
+config_accepted bytes c r said (inl first) =
+    absurd (not_both (read_config_file bytes).result c r
+    ((config_file.file_decides bytes).reads c said) ((config_file_first bytes r).1 first))
+config_accepted bytes c r said (inr met) =
+    elim (cases_option (json_of bytes)) [
+      | inl none ↦ absurd (rw none at met.1)
+      | inr value ↦
+          let pattern : IsMetPatternOfConfig value.0 r = rw value.1 at met.1 in pattern.stands.1
+    ]
+
+silences_accepted : (file : Option (List ℕ)) (silences : List Silence) (r : Refusal)
+    → SaysSilencesIfAny file silences → SilencesRefusedFor file r → r.kind ≡ kinds.Pattern
+silences_accepted None silences r said refused = absurd refused
+silences_accepted (Some bytes) silences r said (inl first) =
+    absurd (not_both (read_silences_file bytes).result silences r
+    ((silences_file_decides bytes).reads silences said) ((silences_file_first bytes r).1 first))
+silences_accepted (Some bytes) silences r said (inr met) =
+    elim (cases_option (json_of bytes)) [
+      | inl none ↦ absurd (rw none at met.1)
+      | inr value ↦
+          let pattern : IsMetPatternOfSilences value.0 r = rw value.1 at met.1 in pattern.stands.1
+    ]
+
+alerts_accepted : (file : Option (List ℕ)) (alerts : List LabelMap) (r : Refusal)
+    → SaysAlertsIfAny file alerts → AlertsRefusedFor file r → ⊥
+alerts_accepted None alerts r said refused = refused
+alerts_accepted (Some bytes) alerts r said first =
+    not_both (read_alerts_file bytes).result alerts r ((alerts_file_decides bytes).reads alerts said)
+    ((alerts_file_first bytes r).1 first)
+
+-- a file says one configuration, and one list of alerts
+pub one_configuration : (bytes : List ℕ) (c d : Configuration) → FileSaysConfig bytes c
+    → FileSaysConfig bytes d → c ≡ d
+one_configuration bytes c d = says_one (config_file.file_decides bytes) c d
+
+pub alerts_once : (file : Option (List ℕ)) (alerts others : List LabelMap)
+    → SaysAlertsIfAny file alerts → SaysAlertsIfAny file others → alerts ≡ others
+alerts_once None alerts others said again = said ∙ sym again
+alerts_once (Some bytes) alerts others said again =
+    says_one (alerts_file_decides bytes) alerts others said again
+
+-- ---- Worlds.
+
+instant_accepted : (silences at : Option (List ℕ)) (r : Refusal)
+    → instant_fault silences at ≡ None → InstantRefusedFor silences at r → ⊥
+instant_accepted silences at r accepted refused =
+    let both : Some r.kind ≡ None = sym refused.0 ∙ accepted in absurd (cc)
+
+pairs_accepted : (inputs : WorldInputs) (w : World) (r : Refusal) → AcceptsWorld inputs w
+    → PairsRefusedFor (config_of inputs.config) inputs.alerts r → ⊥
+pairs_accepted inputs w r accepts refused =
+    let config : refused.configuration ≡ w.config =
+    one_configuration (config_of inputs.config) refused.configuration w.config refused.says_config
+    accepts.says_config in
+    let alerts : refused.alerts ≡ w.alerts =
+    alerts_once inputs.alerts refused.alerts w.alerts refused.says_alerts accepts.says_alerts in
+    let same : pairs_of refused.configuration.rules refused.alerts
+    ≡ pairs_of w.config.rules w.alerts = λ k. pairs_of (config k).rules (alerts k) in
+    omega (arith, ap length same, refused.many, accepts.few_pairs)
+
+-- what the first fault of some stages is: one of the first stage, or one of those behind it
+pub by_stage : (P : Type 0) (stage : Stage) (later : List Stage) (place : Place) (r : Refusal)
+    → (stage.refuses r → P) → (IsFirstFaultOfCall later place r → P)
+    → IsFirstFaultOfCall (stage ∷ later) place r → P
+by_stage P stage later place r here behind (inl refused) = here refused.1
+by_stage P stage later place r here behind (inr first) = behind first.1
+
+-- the first fault behind a world that is accepted is that of the later stages, or `pattern`
+pub world_accepted : (P : Type 0) (inputs : WorldInputs) (w : World) (later : List Stage)
+    (place : Place) (r : Refusal) → AcceptsWorld inputs w → (r.kind ≡ kinds.Pattern → P)
+    → (IsFirstFaultOfCall later place r → P)
+    → IsFirstFaultOfCall (world_stages inputs ++ later) place r → P
+world_accepted P inputs w later place r accepts pattern behind =
+    let config = config_of inputs.config in
+    let pairs = by_stage P (pairs_stage config inputs.alerts) later place r
+    (λ refused. absurd (pairs_accepted inputs w r accepts refused)) behind in
+    let instant = by_stage P (instant_stage inputs.silences inputs.at)
+    (pairs_stage config inputs.alerts ∷ later) place r
+    (λ refused. absurd (instant_accepted inputs.silences inputs.at r accepts.has_instant refused))
+    pairs in
+    let alerts = by_stage P (alerts_stage inputs.alerts)
+    (instant_stage inputs.silences inputs.at ∷ pairs_stage config inputs.alerts ∷ later) place r
+    (λ refused. absurd (alerts_accepted inputs.alerts w.alerts r accepts.says_alerts refused))
+    instant in
+    let silences = by_stage P (silences_stage inputs.silences)
+    (alerts_stage inputs.alerts ∷ instant_stage inputs.silences inputs.at
+    ∷ pairs_stage config inputs.alerts ∷ later) place r
+    (λ refused. pattern (silences_accepted inputs.silences w.silences r accepts.says_silences
+    refused))
+    alerts in
+    by_stage P (config_stage config)
+    (silences_stage inputs.silences ∷ alerts_stage inputs.alerts
+    ∷ instant_stage inputs.silences inputs.at ∷ pairs_stage config inputs.alerts ∷ later) place r
+    (λ refused. pattern (config_accepted config w.config r accepts.says_config refused))
+    silences
+
+-- nothing is the first fault of no stage
+pub explained_accepted : (inputs : WorldInputs) (text : List ℕ) (w : World) (s : LabelMap)
+    (place : Place) (r : Refusal) → AcceptsWorld inputs w → SpellsSet text s
+    → IsFirstFaultOfCall (explain_stages inputs text) place r → r.kind ≡ kinds.Pattern
+explained_accepted inputs text w s place r accepts spelled =
+    world_accepted (r.kind ≡ kinds.Pattern) inputs w (set_stage text ∷ []) place r accepts
+    (λ pattern. pattern)
+    (by_stage (r.kind ≡ kinds.Pattern) (set_stage text) [] place r
+    (λ refused. absurd (set_accepted text s r.kind spelled refused.0)) (λ none. absurd none))

@@ -1,0 +1,172 @@
+-- A matcher text, and the text of a label set, is read or refused, never both, and refused with one
+-- kind; but for the patterns that the engine may refuse.
+use Rattle.std.proofs.Common.{◌≡◌, ◌≢◌, ◌<◌, ◌≤◌, ℕ, List, [], ◌∷◌, ◌++◌, length, Bool, true, false}
+use Rattle.std.proofs.Common.{refl, sym, ap, subst, ◌∙◌, ◌⊎◌, inl, inr, arith}
+use Rattle.std.specs.Prelude.{IsTrue, not, ◌&&◌, ◌||◌, if◌then◌else◌}
+use Rattle.std.proofs.lemmas.Bool.{and_parts, false≢true, cases_Bool}
+use Rattle.am_universe.specs.declared.kind.Kind.{Kind}
+use Rattle.am_universe.specs.declared.kind.Kind.TheVariants as kinds
+use Rattle.am_universe.specs.LabelSet.{LabelMap}
+use Rattle.am_labels.specs.declared.limits.TheConstants.{MAX_MATCHERS}
+use Rattle.am_labels.specs.declared.op.Op.{Op}
+use Rattle.am_labels.specs.declared.op.Op.TheVariants.{Equal, NotEqual, Matches, NotMatches}
+use Rattle.am_labels.specs.Pattern.{is_pattern}
+use Rattle.am_labels.specs.PatternCut.{in_profile}
+use Rattle.am_labels.specs.Matcher.{Condition, takes_pattern}
+use Rattle.am_labels.specs.MatcherText.{Spells}
+use Rattle.am_labels.specs.MatcherRefusals.{has_valid_pattern, have_valid_patterns}
+use Rattle.am_labels.specs.MatcherRefusals.{pattern_refusal, ValueRefusedFor, PatternsRefusedFor}
+use Rattle.am_labels.specs.MatcherRefusals.{ListRefusedFor, TextRefusedFor}
+use Rattle.am_labels.specs.ParsedLabelSet.{is_equality, are_equalities, repeats_name, SpellsSet}
+use Rattle.am_labels.specs.ParsedLabelSet.{SetRefusedFor, SetTextRefusedFor}
+use Rattle.am_labels.proofs.MatcherTextWhole.{one_list}
+
+-- ---- Patterns.
+
+-- a refused pattern is refused as `pattern` or as `pattern-profile`
+refusal_is : (inside : Bool) (kind : Kind)
+    → kind ≡ (if inside then kinds.Pattern else kinds.PatternProfile) → kind ≢ kinds.Pattern
+    → kind ≡ kinds.PatternProfile
+refusal_is true kind e other = absurd (other e)
+refusal_is false kind e other = e
+
+-- a valid pattern is refused by the engine alone
+valid_is_inside : (takes inside reads : Bool) → takes ≡ true
+    → (not takes || inside && reads) ≡ true → inside ≡ true
+valid_is_inside true true reads e valid = refl
+valid_is_inside true false reads e valid = absurd (cc)
+valid_is_inside false inside reads e valid = absurd (cc)
+
+valid_value : (m : Condition) (kind : Kind) → has_valid_pattern m ≡ true → ValueRefusedFor m kind
+    → kind ≡ kinds.Pattern
+valid_value m kind valid refused =
+    let inside : in_profile m.value ≡ true = valid_is_inside (takes_pattern m.op)
+    (in_profile m.value) (is_pattern m.value) refused.pattern valid in
+    refused.kind_is ∙ ap (λ b. if b then kinds.Pattern else kinds.PatternProfile) inside
+
+valid_at : (before : List Condition) (m : Condition) (after : List Condition)
+    → have_valid_patterns (before ++ m ∷ after) ≡ true → has_valid_pattern m ≡ true
+valid_at [] m after valid = (and_parts (has_valid_pattern m) (have_valid_patterns after) valid).0
+valid_at (x ∷ before) m after valid =
+    valid_at before m after
+    (and_parts (has_valid_pattern x) (have_valid_patterns (before ++ m ∷ after)) valid).1
+
+valid_list : (ms : List Condition) (kind : Kind) → have_valid_patterns ms ≡ true
+    → PatternsRefusedFor ms kind → kind ≡ kinds.Pattern
+valid_list ms kind valid refused =
+    valid_value refused.refused kind
+    (valid_at refused.before refused.refused refused.after
+    (subst (λ (l : List Condition). have_valid_patterns l ≡ true) refused.parts valid))
+    refused.value
+
+profile_kind : (ms : List Condition) (kind : Kind) → PatternsRefusedFor ms kind
+    → kind ≢ kinds.Pattern → kind ≡ kinds.PatternProfile
+profile_kind ms kind refused other =
+    refusal_is (in_profile refused.refused.value) kind refused.value.kind_is other
+
+-- ---- Lists, and their texts.
+
+list_within : (ms : List Condition) (kind : Kind) → length ms ≤ MAX_MATCHERS
+    → have_valid_patterns ms ≡ true → ListRefusedFor ms kind → kind ≡ kinds.Pattern
+list_within ms kind few valid (inl many) = absurd (omega (arith, few, many.0))
+list_within ms kind few valid (inr patterns) = valid_list ms kind valid patterns.1
+
+-- a text that is read is refused at most for a pattern
+pub text_accepted : (text : List ℕ) (ms : List Condition) (kind : Kind) → Spells text ms
+    → length ms ≤ MAX_MATCHERS → IsTrue (have_valid_patterns ms) → TextRefusedFor text kind
+    → kind ≡ kinds.Pattern
+text_accepted text ms kind spelled few valid (inl none) = absurd (none.1 ms spelled)
+text_accepted text ms kind spelled few valid (inr list) =
+    list_within ms kind few valid
+    (subst (λ (l : List Condition). ListRefusedFor l kind)
+    (one_list text list.list ms list.spelled spelled) list.refused)
+
+list_kind : (ms : List Condition) (kind other : Kind) → ListRefusedFor ms kind
+    → ListRefusedFor ms other → kind ≢ kinds.Pattern → other ≢ kinds.Pattern → kind ≡ other
+list_kind ms kind other (inl many) (inl more) h k = many.1 ∙ sym more.1
+list_kind ms kind other (inl many) (inr patterns) h k = absurd (omega (arith, many.0, patterns.0))
+list_kind ms kind other (inr patterns) (inl many) h k = absurd (omega (arith, many.0, patterns.0))
+list_kind ms kind other (inr patterns) (inr again) h k =
+    profile_kind ms kind patterns.1 h ∙ sym (profile_kind ms other again.1 k)
+
+-- a text is refused with one kind
+pub text_kind : (text : List ℕ) (kind other : Kind) → TextRefusedFor text kind
+    → TextRefusedFor text other → kind ≢ kinds.Pattern → other ≢ kinds.Pattern → kind ≡ other
+text_kind text kind other (inl none) (inl nothing) h k = none.0 ∙ sym nothing.0
+text_kind text kind other (inl none) (inr list) h k = absurd (none.1 list.list list.spelled)
+text_kind text kind other (inr list) (inl none) h k = absurd (none.1 list.list list.spelled)
+text_kind text kind other (inr list) (inr again) h k =
+    list_kind again.list kind other
+    (subst (λ (l : List Condition). ListRefusedFor l kind)
+    (one_list text list.list again.list list.spelled again.spelled) list.refused)
+    again.refused h k
+
+-- ---- Label sets.
+
+-- an equality has no pattern
+equality_is_valid : (op : Op) → is_equality op ≡ true → takes_pattern op ≡ false
+equality_is_valid Equal e = refl
+equality_is_valid NotEqual e = absurd (cc)
+equality_is_valid Matches e = absurd (cc)
+equality_is_valid NotMatches e = absurd (cc)
+
+equality_at : (before : List Condition) (m : Condition) (after : List Condition)
+    → are_equalities (before ++ m ∷ after) ≡ true → is_equality m.op ≡ true
+equality_at [] m after e = (and_parts (is_equality m.op) (are_equalities after) e).0
+equality_at (x ∷ before) m after e =
+    equality_at before m after
+    (and_parts (is_equality x.op) (are_equalities (before ++ m ∷ after)) e).1
+
+no_patterns : (ms : List Condition) (kind : Kind) → are_equalities ms ≡ true
+    → PatternsRefusedFor ms kind → ⊥
+no_patterns ms kind e refused =
+    let none = equality_is_valid refused.refused.op
+    (equality_at refused.before refused.refused refused.after
+    (subst (λ (l : List Condition). are_equalities l ≡ true) refused.parts e)) in
+    false≢true (sym none ∙ refused.value.pattern)
+
+equalities_refused : (ms : List Condition) (kind : Kind) → length ms ≤ MAX_MATCHERS
+    → are_equalities ms ≡ true → ListRefusedFor ms kind → ⊥
+equalities_refused ms kind few e (inl many) = absurd (omega (arith, few, many.0))
+equalities_refused ms kind few e (inr patterns) = no_patterns ms kind e patterns.1
+
+set_list_refused : (ms : List Condition) (kind : Kind) → are_equalities ms ≡ true
+    → repeats_name ms ≡ false → SetRefusedFor ms kind → ⊥
+set_list_refused ms kind e distinct (inl other) = false≢true (sym other.0 ∙ e)
+set_list_refused ms kind e distinct (inr twice) = false≢true (sym distinct ∙ twice.1)
+
+-- the text of a label set is not refused
+pub set_accepted : (text : List ℕ) (set : LabelMap) (kind : Kind) → SpellsSet text set
+    → SetTextRefusedFor text kind → ⊥
+set_accepted text set kind set_text (inl (inl none)) = none.1 set_text.list set_text.spelled
+set_accepted text set kind set_text (inl (inr list)) =
+    equalities_refused set_text.list kind set_text.at_most set_text.equalities
+    (subst (λ (l : List Condition). ListRefusedFor l kind)
+    (one_list text list.list set_text.list list.spelled set_text.spelled) list.refused)
+set_accepted text set kind set_text (inr gives) =
+    set_list_refused set_text.list kind set_text.equalities set_text.distinct
+    (subst (λ (l : List Condition). SetRefusedFor l kind)
+    (one_list text gives.list set_text.list gives.spelled set_text.spelled) gives.refused)
+
+set_list_kind : (ms : List Condition) (kind other : Kind) → SetRefusedFor ms kind
+    → SetRefusedFor ms other → kind ≡ other
+set_list_kind ms kind other (inl one) (inl also) = one.1 ∙ sym also.1
+set_list_kind ms kind other (inl one) (inr twice) = absurd (false≢true (sym one.0 ∙ twice.0))
+set_list_kind ms kind other (inr twice) (inl one) = absurd (false≢true (sym one.0 ∙ twice.0))
+set_list_kind ms kind other (inr twice) (inr also) = twice.2 ∙ sym also.2
+
+-- and is refused with one kind
+pub set_kind : (text : List ℕ) (kind other : Kind) → SetTextRefusedFor text kind
+    → SetTextRefusedFor text other → kind ≢ kinds.Pattern → other ≢ kinds.Pattern → kind ≡ other
+set_kind text kind other (inl refused) (inl again) h k = text_kind text kind other refused again h k
+set_kind text kind other (inl refused) (inr gives) h k =
+    absurd (h (text_accepted text gives.list kind gives.spelled gives.at_most gives.valid_patterns
+    refused))
+set_kind text kind other (inr gives) (inl refused) h k =
+    absurd (k (text_accepted text gives.list other gives.spelled gives.at_most gives.valid_patterns
+    refused))
+set_kind text kind other (inr gives) (inr also) h k =
+    set_list_kind also.list kind other
+    (subst (λ (l : List Condition). SetRefusedFor l kind)
+    (one_list text gives.list also.list gives.spelled also.spelled) gives.refused)
+    also.refused

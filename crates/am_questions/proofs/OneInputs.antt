@@ -1,0 +1,68 @@
+-- The inputs of a call, where they are accepted, are so as one universe, one world, one question
+-- and one start.
+use Rattle.std.proofs.Common.{◌≡◌, ℕ, List, Option, Some, None, sym, subst, ◌∙◌}
+use Rattle.am_universe.specs.Universe.{Label, IsUniverse, sizes}
+use Rattle.am_json.proofs.Readings.{says_one}
+use Rattle.am_records.specs.UniverseFile.{FileSaysUniverse}
+use Rattle.am_records.specs.SilencesFile.{Silence}
+use Rattle.am_records.proofs.UniverseSays as universe_file
+use Rattle.am_records.proofs.SilencesSays.{silences_file_decides}
+use Rattle.am_eval.specs.World.{World}
+use Rattle.am_eval.specs.Files.{config_of, SaysSilencesIfAny}
+use Rattle.am_eval.specs.WorldInputs.{WorldInputs, AcceptsWorld}
+use Rattle.am_eval.specs.Question.{Question}
+use Rattle.am_eval.proofs.AcceptedInputs.{one_configuration, alerts_once}
+use Rattle.am_search.specs.declared.start.Start.{Start}
+use Rattle.am_search.proofs.TokenTexts.{sizes_of_universe, same_start}
+use Rattle.am_questions.specs.QuestionText.{ReadsQuestion}
+use Rattle.am_questions.specs.AskedStart.{AsksStart}
+use Rattle.am_questions.specs.Inputs.{Inputs, AcceptsInputs}
+use Rattle.am_questions.proofs.OneMeaning.{one_question}
+
+one_universe : (bytes : List ℕ) (u v : List Label) → FileSaysUniverse bytes u
+    → FileSaysUniverse bytes v → u ≡ v
+one_universe bytes u v = says_one (universe_file.file_decides bytes) u v
+
+silences_once : (file : Option (List ℕ)) (silences others : List Silence)
+    → SaysSilencesIfAny file silences → SaysSilencesIfAny file others → silences ≡ others
+silences_once None silences others said again = said ∙ sym again
+silences_once (Some bytes) silences others said again =
+    says_one (silences_file_decides bytes) silences others said again
+
+pub one_world : (inputs : WorldInputs) (w x : World) → AcceptsWorld inputs w
+    → AcceptsWorld inputs x → w ≡ x
+one_world inputs w x said again =
+    let config : w.config ≡ x.config = one_configuration (config_of inputs.config) w.config x.config
+    said.says_config again.says_config in
+    let silences : w.silences ≡ x.silences = silences_once inputs.silences w.silences x.silences
+    said.says_silences again.says_silences in
+    let alerts : w.alerts ≡ x.alerts = alerts_once inputs.alerts w.alerts x.alerts said.says_alerts
+    again.says_alerts in
+    let instant : w.instant ≡ x.instant = said.asks_instant ∙ sym again.asks_instant in
+    λ k. record {
+      config = config k;
+      silences = silences k;
+      alerts = alerts k;
+      instant = instant k;
+    }
+
+one_start : (u : List Label) (after : Option (List ℕ)) (start other : Start) → IsUniverse u
+    → AsksStart u after start → AsksStart u after other → start ≡ other
+one_start u None start other is asks also = asks ∙ sym also
+one_start u (Some token) start other is asks also =
+    same_start (sizes u) start other (sizes_of_universe u is) asks.0 also.0 (asks.1 ∙ sym also.1)
+
+pub one_meaning_of_inputs : (inputs : Inputs) (u v : List Label) (w x : World) (q r : Question)
+    (start other : Start) → AcceptsInputs inputs u w q start → AcceptsInputs inputs v x r other
+    → (u ≡ v) × (w ≡ x) × (q ≡ r) × (start ≡ other)
+one_meaning_of_inputs inputs u v w x q r start other said again =
+    let universe : u ≡ v =
+    one_universe inputs.universe u v said.says_universe again.says_universe in
+    let world : w ≡ x = one_world inputs.world w x said.accepts_world again.accepts_world in
+    let question : q ≡ r = one_question x.config inputs.question q r
+    (subst (λ (y : World). ReadsQuestion y.config inputs.question q) world said.reads)
+    again.reads in
+    let starts : start ≡ other = one_start v inputs.after start other again.says_universe.3.is_universe
+    (subst (λ (y : List Label). AsksStart y inputs.after start) universe said.starts)
+    again.starts in
+    (universe, world, question, starts)

@@ -1,0 +1,77 @@
+-- The parts of a tree stand in its tokens in their order.
+use Rattle.std.proofs.Common.{◌≡◌, ℕ, List, [], ◌∷◌, ◌++◌, refl, sym, ap, subst, ◌∙◌}
+use Rattle.std.proofs.Common.{append_assoc, append-nil}
+use Rattle.am_eval.specs.Tree.{Tree, Part, Not, And, Or}
+use Rattle.am_questions.specs.Tokens.{Token, Open, Close}
+use Rattle.am_questions.specs.Grammar.{Written, IsQuestion, IsBoth, IsOne, IsSimple, StandInOrder}
+use Rattle.am_questions.specs.Grammar.{no_part, part_before}
+use Rattle.am_questions.specs.Grammar as g
+use Rattle.am_questions.specs.QuestionText.{parts_of}
+
+-- parts stand behind further tokens too
+behind_more : (parts : List Written) (more tokens : List Token) → StandInOrder parts tokens
+    → StandInOrder parts (more ++ tokens)
+behind_more parts more tokens (no_part _) = no_part (more ++ tokens)
+behind_more parts more tokens (part_before before own after part later is rest) =
+    subst (StandInOrder (part ∷ later)) (append_assoc more before (own ++ after))
+    (part_before (more ++ before) own after part later is rest)
+
+-- parts of the front stand before those of the rest
+one_behind_other : (parts others : List Written) (tokens more : List Token)
+    → StandInOrder parts tokens → StandInOrder others more
+    → StandInOrder (parts ++ others) (tokens ++ more)
+one_behind_other parts others tokens more (no_part _) other =
+    behind_more others tokens more other
+one_behind_other parts others tokens more (part_before before own after part later is rest) other =
+    subst (StandInOrder (part ∷ (later ++ others)))
+    (ap (λ l. before ++ l) (sym (append_assoc own after more))
+    ∙ sym (append_assoc before (own ++ after) more))
+    (part_before before own (after ++ more) part (later ++ others) is
+    (one_behind_other later others after more rest other))
+
+-- the tokens of a single part
+alone : (tokens : List Token) (part : Written) → IsSimple tokens (Part part)
+    → StandInOrder (part ∷ []) tokens
+alone tokens part is =
+    subst (StandInOrder (part ∷ [])) (append-nil tokens)
+    (part_before [] tokens [] part [] is (no_part []))
+
+mutual
+  of_question : {tokens : List Token} {tree : Tree Written} → IsQuestion tokens tree
+      → StandInOrder (parts_of tree) tokens
+  of_question (g.both tokens tree is) = of_both is
+  of_question (g.joined_by_or tokens more tree other left right) =
+      one_behind_other (parts_of tree) (parts_of other) tokens _ (of_question left)
+      (behind_more (parts_of other) (_ ∷ []) more (of_both right))
+
+  of_both : {tokens : List Token} {tree : Tree Written} → IsBoth tokens tree
+      → StandInOrder (parts_of tree) tokens
+  of_both (g.one tokens tree is) = of_one is
+  of_both (g.joined_by_and tokens more tree other left right) =
+      one_behind_other (parts_of tree) (parts_of other) tokens _ (of_both left)
+      (behind_more (parts_of other) (_ ∷ []) more (of_one right))
+
+  of_one : {tokens : List Token} {tree : Tree Written} → IsOne tokens tree
+      → StandInOrder (parts_of tree) tokens
+  of_one (g.negated tokens tree is) = behind_more (parts_of tree) (_ ∷ []) tokens (of_one is)
+  of_one (g.simple tokens tree is) = of_simple is
+
+  of_simple : {tokens : List Token} {tree : Tree Written} → IsSimple tokens tree
+      → StandInOrder (parts_of tree) tokens
+  of_simple (g.in_parentheses tokens tree is) =
+      behind_more (parts_of tree) (Open ∷ []) (tokens ++ (Close ∷ []))
+      (subst (λ (parts : List Written). StandInOrder parts (tokens ++ (Close ∷ [])))
+      (append-nil (parts_of tree))
+      (one_behind_other (parts_of tree) [] tokens (Close ∷ []) (of_question is)
+      (no_part (Close ∷ []))))
+  of_simple (g.receiver token name is) = alone _ _ (g.receiver token name is)
+  of_simple (g.ends path) = alone _ _ (g.ends path)
+  of_simple (g.enters path) = alone _ _ (g.enters path)
+  of_simple g.silenced = alone _ _ g.silenced
+  of_simple g.inhibited = alone _ _ g.inhibited
+  of_simple g.any = alone _ _ g.any
+  of_simple (g.braces list) = alone _ _ (g.braces list)
+
+pub parts_in_order : (tokens : List Token) (tree : Tree Written) → IsQuestion tokens tree
+    → StandInOrder (parts_of tree) tokens
+parts_in_order tokens tree is = of_question is

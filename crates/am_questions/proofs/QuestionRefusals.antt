@@ -1,0 +1,165 @@
+-- The text of a question is read or refused, never both, and refused with one kind; but for the
+-- patterns that the engine may refuse.
+use Rattle.std.proofs.Common.{◌≡◌, ◌≢◌, ◌<◌, ◌≤◌, ℕ, List, [], ◌∷◌, ◌++◌, length, Option, None, Some}
+use Rattle.std.proofs.Common.{refl, sym, ap, subst, ◌∙◌, ◌⊎◌, inl, inr, arith}
+use Rattle.std.specs.List.{AllByRecursion}
+use Rattle.am_universe.specs.declared.kind.Kind.{Kind}
+use Rattle.am_universe.specs.declared.kind.Kind.TheVariants as kinds
+use Rattle.am_files.specs.ConfigFile.{Configuration}
+use Rattle.am_eval.specs.Tree.{Tree, Part, Not, And, Or}
+use Rattle.am_eval.specs.Question.{Question}
+use Rattle.am_eval.proofs.SetRefusals.{text_accepted, text_kind}
+use Rattle.am_questions.specs.declared.limits.TheConstants.{MAX_TOKENS}
+use Rattle.am_questions.specs.Tokens.{Token}
+use Rattle.am_questions.specs.Grammar.{Written, WrittenAny, WrittenSilenced, WrittenInhibited}
+use Rattle.am_questions.specs.Grammar.{WrittenReceiver, WrittenEnds, WrittenEnters, WrittenBraces}
+use Rattle.am_questions.specs.Grammar.{IsQuestion}
+use Rattle.am_questions.specs.QuestionText.{Means, TreeMeans, ReadsQuestion, parts_of}
+use Rattle.am_questions.specs.QuestionText.{receiver_named, PartRefusedFor, IsMeant, PartsRefusedFor}
+use Rattle.am_questions.specs.QuestionText.{TokensRefusedFor, QuestionRefusedFor}
+use Rattle.am_questions.proofs.TokenTexts.{one_list}
+use Rattle.am_questions.proofs.Takes.{one_tree}
+
+-- ---- Parts.
+
+-- a part that means something is refused at most for a pattern
+part_meant : (c : Configuration) (w : Written) (kind : Kind) → IsMeant c w → PartRefusedFor c w kind
+    → kind ≡ kinds.Pattern
+part_meant c WrittenAny kind meant refused = absurd refused
+part_meant c WrittenSilenced kind meant refused = absurd refused
+part_meant c WrittenInhibited kind meant refused = absurd refused
+part_meant c (WrittenReceiver name) kind meant refused =
+    let there = meant.1.1 in
+    let both : Some meant.1.0 ≡ None = sym there ∙ refused.1 in absurd (cc)
+part_meant c (WrittenEnds text) kind meant refused = absurd (refused.1 meant.1.0 meant.1.1)
+part_meant c (WrittenEnters text) kind meant refused = absurd (refused.1 meant.1.0 meant.1.1)
+part_meant c (WrittenBraces text) kind meant refused =
+    text_accepted text meant.1.0 kind meant.1.1 meant.1.2 meant.1.3 refused
+
+part_kind : (c : Configuration) (w : Written) (kind other : Kind) → PartRefusedFor c w kind
+    → PartRefusedFor c w other → kind ≢ kinds.Pattern → other ≢ kinds.Pattern → kind ≡ other
+part_kind c WrittenAny kind other refused again h k = absurd refused
+part_kind c WrittenSilenced kind other refused again h k = absurd refused
+part_kind c WrittenInhibited kind other refused again h k = absurd refused
+part_kind c (WrittenReceiver name) kind other refused again h k = refused.0 ∙ sym again.0
+part_kind c (WrittenEnds text) kind other refused again h k = refused.0 ∙ sym again.0
+part_kind c (WrittenEnters text) kind other refused again h k = refused.0 ∙ sym again.0
+part_kind c (WrittenBraces text) kind other refused again h k =
+    text_kind text kind other refused again h k
+
+-- ---- Lists of parts.
+
+all_joined : {X : Type 0} (P : X → Type 0) (xs ys : List X) → AllByRecursion P xs
+    → AllByRecursion P ys → AllByRecursion P (xs ++ ys)
+all_joined P [] ys h k = k
+all_joined P (x ∷ xs) ys h k = (h.0, all_joined P xs ys h.1 k)
+
+-- each part of a tree that means a question means something
+parts_meant : (c : Configuration) (tree : Tree Written) (q : Question) → TreeMeans c tree q
+    → AllByRecursion (IsMeant c) (parts_of tree)
+parts_meant c (Part w) q h = ((h.0, h.1), tt)
+parts_meant c (Not t) q h = parts_meant c t h.0 h.1
+parts_meant c (And t u) q h =
+    all_joined (IsMeant c) (parts_of t) (parts_of u) (parts_meant c t h.0 h.2)
+    (parts_meant c u h.1 h.3)
+parts_meant c (Or t u) q h =
+    all_joined (IsMeant c) (parts_of t) (parts_of u) (parts_meant c t h.0 h.2)
+    (parts_meant c u h.1 h.3)
+
+all_behind : {X : Type 0} (P : X → Type 0) (before : List X) (x : X) (after : List X)
+    → AllByRecursion P (before ++ (x ∷ after)) → P x
+all_behind P [] x after h = h.0
+all_behind P (y ∷ before) x after h = all_behind P before x after h.1
+
+parts_accepted : (c : Configuration) (parts : List Written) (kind : Kind)
+    → AllByRecursion (IsMeant c) parts → PartsRefusedFor c parts kind → kind ≡ kinds.Pattern
+parts_accepted c parts kind meant refused =
+    part_meant c refused.part kind
+    (all_behind (IsMeant c) refused.before refused.part refused.after
+    (subst (AllByRecursion (IsMeant c)) refused.among meant))
+    refused.refused
+
+-- where one list is cut in two ways, each behind some with a property, the cuts are the same, or
+-- the first item behind one of them has it
+same_cut : {X : Type 0} (P : X → Type 0) (before others : List X) (x y : X) (after behind : List X)
+    → before ++ (x ∷ after) ≡ others ++ (y ∷ behind) → AllByRecursion P before
+    → AllByRecursion P others → (x ≡ y) ⊎ (P x ⊎ P y)
+same_cut P [] [] x y after behind e h k = inl (cc)
+same_cut P [] (z ∷ others) x y after behind e h k =
+    let same : z ≡ x = cc in inr (inl (subst P same k.0))
+same_cut P (z ∷ before) [] x y after behind e h k =
+    let same : z ≡ y = cc in inr (inr (subst P same h.0))
+same_cut P (z ∷ before) (w ∷ others) x y after behind e h k =
+    same_cut P before others x y after behind (cc) h.1 k.1
+
+parts_kind : (c : Configuration) (parts : List Written) (kind other : Kind)
+    → PartsRefusedFor c parts kind → PartsRefusedFor c parts other → kind ≢ kinds.Pattern
+    → other ≢ kinds.Pattern → kind ≡ other
+parts_kind c parts kind other refused again h k =
+    elim (same_cut (IsMeant c) refused.before again.before refused.part again.part refused.after
+    again.after (sym refused.among ∙ again.among) refused.meant again.meant) [
+      | inl same ↦
+          part_kind c again.part kind other
+          (subst (λ (w : Written). PartRefusedFor c w kind) same refused.refused) again.refused h k
+      | inr (inl meant) ↦ absurd (h (part_meant c refused.part kind meant refused.refused))
+      | inr (inr meant) ↦ absurd (k (part_meant c again.part other meant again.refused))
+    ]
+
+-- ---- Tokens, and texts.
+
+tokens_accepted : (c : Configuration) (tokens : List Token) (tree : Tree Written) (q : Question)
+    (kind : Kind) → length tokens ≤ MAX_TOKENS → IsQuestion tokens tree → TreeMeans c tree q
+    → TokensRefusedFor c tokens kind → kind ≡ kinds.Pattern
+tokens_accepted c tokens tree q kind few is_tree meant (inl many) =
+    absurd (omega (arith, few, many.1))
+tokens_accepted c tokens tree q kind few is_tree meant (inr (inl none)) =
+    absurd (none.2 tree is_tree)
+tokens_accepted c tokens tree q kind few is_tree meant (inr (inr parts)) =
+    parts_accepted c (parts_of tree) kind (parts_meant c tree q meant)
+    (subst (λ (t : Tree Written). PartsRefusedFor c (parts_of t) kind)
+    (one_tree tokens parts.1 tree parts.2 is_tree) parts.3)
+
+-- a text that is read is refused at most for a pattern
+pub question_accepted : (c : Configuration) (text : List ℕ) (q : Question) (kind : Kind)
+    → ReadsQuestion c text q → QuestionRefusedFor c text kind → kind ≡ kinds.Pattern
+question_accepted c text q kind read (inl none) = absurd (none.1 read.tokens read.spelled)
+question_accepted c text q kind read (inr refused) =
+    tokens_accepted c read.tokens read.tree q kind read.within_limit read.is_tree read.meant
+    (subst (λ (ts : List Token). TokensRefusedFor c ts kind)
+    (one_list text refused.0 read.tokens refused.1 read.spelled) refused.2)
+
+tokens_kind : (c : Configuration) (tokens : List Token) (kind other : Kind)
+    → TokensRefusedFor c tokens kind → TokensRefusedFor c tokens other → kind ≢ kinds.Pattern
+    → other ≢ kinds.Pattern → kind ≡ other
+tokens_kind c tokens kind other (inl many) (inl more) h k = many.0 ∙ sym more.0
+tokens_kind c tokens kind other (inl many) (inr (inl none)) h k =
+    absurd (omega (arith, many.1, none.1))
+tokens_kind c tokens kind other (inl many) (inr (inr parts)) h k =
+    absurd (omega (arith, many.1, parts.0))
+tokens_kind c tokens kind other (inr (inl none)) (inl many) h k =
+    absurd (omega (arith, many.1, none.1))
+tokens_kind c tokens kind other (inr (inl none)) (inr (inl nothing)) h k = none.0 ∙ sym nothing.0
+tokens_kind c tokens kind other (inr (inl none)) (inr (inr parts)) h k =
+    absurd (none.2 parts.1 parts.2)
+tokens_kind c tokens kind other (inr (inr parts)) (inl many) h k =
+    absurd (omega (arith, many.1, parts.0))
+tokens_kind c tokens kind other (inr (inr parts)) (inr (inl none)) h k =
+    absurd (none.2 parts.1 parts.2)
+tokens_kind c tokens kind other (inr (inr parts)) (inr (inr again)) h k =
+    parts_kind c (parts_of again.1) kind other
+    (subst (λ (t : Tree Written). PartsRefusedFor c (parts_of t) kind)
+    (one_tree tokens parts.1 again.1 parts.2 again.2) parts.3)
+    again.3 h k
+
+-- and is refused with one kind
+pub question_kind : (c : Configuration) (text : List ℕ) (kind other : Kind)
+    → QuestionRefusedFor c text kind → QuestionRefusedFor c text other → kind ≢ kinds.Pattern
+    → other ≢ kinds.Pattern → kind ≡ other
+question_kind c text kind other (inl none) (inl nothing) h k = none.0 ∙ sym nothing.0
+question_kind c text kind other (inl none) (inr refused) h k = absurd (none.1 refused.0 refused.1)
+question_kind c text kind other (inr refused) (inl none) h k = absurd (none.1 refused.0 refused.1)
+question_kind c text kind other (inr refused) (inr again) h k =
+    tokens_kind c again.0 kind other
+    (subst (λ (ts : List Token). TokensRefusedFor c ts kind)
+    (one_list text refused.0 again.0 refused.1 again.1) refused.2)
+    again.2 h k
