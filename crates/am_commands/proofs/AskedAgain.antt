@@ -61,7 +61,7 @@ page_lines inputs asked h =
     answer_page h.1.universe h.1.world h.1.question h.1.start asked.limit in
     sym (append_cancel_right (lines_text h.1.universe page.choices) asked.lines
     (trailer_text asked.trailer)
-    (ap (λ t. lines_text h.1.universe page.choices ++ trailer_text t) h.1.ends ∙ h.1.written))
+    (ap (λ t. lines_text h.1.universe page.choices ++ trailer_text t) h.1.trailer_is ∙ h.1.written))
 
 -- the lines of a call, and those of what its trailer leaves, are all from its start on
 lines_and_rest : (inputs : Inputs) (asked : Asked) (h : IsAskedOf inputs asked)
@@ -83,7 +83,7 @@ pub lines_of_row : (inputs : Inputs) (row : List Asked) (u : List Label) (w : Wo
 lines_of_row inputs [] u w q start h accepts = absurd h
 lines_of_row inputs (asked ∷ more) u w q start h accepts =
     ap (λ text. asked.lines ++ text)
-    (by asked.trailer h.0.1.ends h.1 (λ c next k. lines_of_row
+    (by asked.trailer h.0.1.trailer_is h.1 (λ c next k. lines_of_row
     (after_token inputs (token_text (After c))) more h.0.1.universe h.0.1.world h.0.1.question
     (After c) k
     (goes_on inputs h.0.1.universe h.0.1.world h.0.1.question h.0.1.start asked.limit c
@@ -126,7 +126,7 @@ pub again_ends : (inputs : Inputs) (first second : Asked) (c : List ℕ) → IsA
     → first.trailer ≡ Next c → IsAskedOf (after_token inputs (token_text (After c))) second
     → second.limit ≡ None → second.trailer ≡ End
 again_ends inputs first second c asked next again none =
-    again.1.ends
+    again.1.trailer_is
     ∙ ap (λ limit. (answer_page again.1.universe again.1.world again.1.question again.1.start
     limit).trailer)
     none
@@ -146,4 +146,4 @@ again_writes inputs first second c asked next again none =
     again.1.world asked.1.world again.1.question asked.1.question again.1.start (After c)
     again.1.accepts
     (goes_on inputs asked.1.universe asked.1.world asked.1.question asked.1.start first.limit c
-    asked.1.accepts asked.0 (sym asked.1.ends ∙ next))
+    asked.1.accepts asked.0 (sym asked.1.trailer_is ∙ next))

@@ -12,6 +12,10 @@ use Rattle.am_questions.specs.AskedStart.{AsksStart}
 use Rattle.am_search.specs.Page.{AnswerPage, page_of, page_from, rest_after, IsPage, IsChain, all_choices_of}
 use Rattle.am_search.proofs.Pages.{same_answers, page_rest, chain_joined}
 use Rattle.am_search.specs.PageText.{lines_text}
+use Rattle.am_search.specs.TrailerText.{trailer_text}
+use Rattle.am_universe.specs.Sink.{Wrote}
+use Rattle.am_questions.specs.Inputs.{Inputs}
+use Rattle.am_commands.specs.AskOutcome.{AnswersInputs, IsAskedOf, answer_page}
 
 -- the page of the answers of a judge whose truth at whole choices is that of the answers
 pub page_of_judge : (u : List Label) (ns : List ℕ) (truth answer : List ℕ → Bool) (start : Start) (left : List (List ℕ)) (limit : Option ℕ)
@@ -52,3 +56,38 @@ if_both (Err e) P Q R f p q = tt
 pub if_failed : {T E : Type 0} (result : Result T E) (P Q : E → Type 0) → ((e : E) → P e → Q e) → IfErr result P → IfErr result Q
 if_failed (Ok x) P Q f p = tt
 if_failed (Err e) P Q f p = f e p
+
+pub if_ok : {T E : Type 0} (result : Result T E) (P Q : T → Type 0) → ((x : T) → P x → Q x)
+    → IfOk result P → IfOk result Q
+if_ok (Ok x) P Q f p = f x p
+if_ok (Err e) P Q f p = tt
+
+-- a page that a sink took is a call of which the laws speak
+pub asked_from : {S : Type 0} (taken : S → List ℕ) (failures : S → ℕ) (before after : S)
+    (inputs : Inputs) (limit : Option ℕ) (trailer : Trailer) → IfSome limit (λ n. 0 < n)
+    → AnswersInputs inputs limit trailer (Wrote taken failures before after)
+    → (lines : List ℕ)
+    × IsAskedOf inputs (record { limit = limit; lines = lines; trailer = trailer })
+    × (taken after ≡ taken before ++ (lines ++ trailer_text trailer))
+asked_from taken failures before after inputs limit trailer some answered =
+    let page : AnswerPage =
+    answer_page answered.universe answered.world answered.question answered.start limit in
+    let lines : List ℕ = lines_text answered.universe page.choices in
+    let same : lines ++ trailer_text page.trailer ≡ lines ++ trailer_text trailer =
+    ap (λ t. lines ++ trailer_text t) (sym answered.trailer_is) in (
+      lines,
+      (
+        some,
+        record {
+          universe = answered.universe;
+          world = answered.world;
+          question = answered.question;
+          start = answered.start;
+          accepts = answered.accepts;
+          written = same;
+          trailer_is = answered.trailer_is;
+          rest = answered.rest;
+        },
+      ),
+      answered.written.all ∙ ap (λ text. taken before ++ text) same,
+    )

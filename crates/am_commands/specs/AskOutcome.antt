@@ -40,7 +40,7 @@ pub record AnswersInputs (inputs : Inputs) (limit : Option ℕ) (trailer : Trail
   pub start : Start
   pub accepts : AcceptsInputs inputs universe world question start
   pub written : IsWritten (page_text universe (answer_page universe world question start limit))
-  pub ends : trailer ≡ (answer_page universe world question start limit).trailer
+  pub trailer_is : trailer ≡ (answer_page universe world question start limit).trailer
   pub rest : answers_from (sizes universe) (is_answer universe world question) start
       ≡ (answer_page universe world question start limit).choices
       ++ rest_after (sizes universe) (is_answer universe world question) trailer
@@ -57,13 +57,14 @@ pub record AnswersInputsInPart (inputs : Inputs) (limit : Option ℕ)
 
 -- ---- Calls in a row.
 
--- A call of `ask`: its limit, if it has one, the lines that it writes, and the trailer behind them.
+-- A call of `ask` that is done: its limit, if it had one, the lines that it wrote, and the trailer
+-- behind them.
 pub record Asked : Type 0 where
   pub limit : Option ℕ
   pub lines : List ℕ
   pub trailer : Trailer
 
--- The call is one that these inputs are handed to.
+-- The call had these inputs, which are accepted, and wrote the page of their answers.
 abbrev pub IsAskedOf : Inputs → Asked → Type 0
 IsAskedOf inputs asked =
     IfSome asked.limit (λ n. 0 < n)

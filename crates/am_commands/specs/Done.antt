@@ -8,13 +8,16 @@ use Rattle.am_command_line.specs.declared.command_line.Request.TheVariants as re
 use Rattle.am_search.specs.declared.trailer.Trailer.{Trailer}
 use Rattle.am_eval.specs.Files.{config_of}
 use Rattle.am_eval.specs.WorldInputs.{WorldInputs}
-use Rattle.am_eval.specs.Explanation.{ExplainsSet}
+use Rattle.am_eval.specs.Explanation.{ExplainsSet, explain_stages}
+use Rattle.am_eval.specs.Faults.{Stage}
+use Rattle.am_questions.specs.Inputs.{Inputs, ask_stages}
 use Rattle.am_coverage.specs.Report.{IsRoutesReport, IsReceiversReport}
-use Rattle.am_commands.specs.AskOutcome.{AnswersInputs}
-use Rattle.am_commands.specs.Reports.{ReportsFiles}
+use Rattle.am_commands.specs.AskOutcome.{AnswersInputs, AnswersInputsInPart}
+use Rattle.am_commands.specs.Reports.{ReportsFiles, report_stages}
 
--- The bytes of a file that may be left out; those of the universe file; those of the configuration
--- file, or of what stands in for it; and what a world is made of.
+-- The bytes of a file that may be left out; those of the universe file, of which there are none
+-- without one; those of the configuration file, or of what stands in for it; and what a world is
+-- made of.
 abbrev pub bytes_if_any : Option (Vec ℕ) → Option (List ℕ)
 bytes_if_any file = option_map (λ bytes. bytes.items) file
 
@@ -32,19 +35,23 @@ world_inputs files = record {
   at = option_copied files.at;
 }
 
--- What is asked for is done, and this holds of what is written: for `ask` a page of the answers to
--- that question, which ends with some trailer; for `dead` the report of routes; for `receivers`
--- that of receivers; for `explain` the explanation of that set.
+-- The inputs of `ask`: the files, the question and the token.
+abbrev pub ask_inputs : InputFiles (Vec ℕ) → List ℕ → Option (List ℕ) → Inputs
+ask_inputs files question after = record {
+  universe = universe_bytes files;
+  world = world_inputs files;
+  question = question;
+  after = after;
+}
+
+-- What is asked for is done, and this holds of what is written: for `ask` the page of the answers
+-- to that question, from that token on and under that limit, which ends with some trailer; for
+-- `dead` the report of routes; for `receivers` that of receivers; for `explain` the explanation of
+-- that set. And of this a part is written.
 abbrev pub IsDone : Request → InputFiles (Vec ℕ) → (List ℕ → Type 0) → Type 0
 IsDone (requests.Ask question after limit) files IsWritten =
     (trailer : Trailer)
-    × AnswersInputs
-    (record {
-      universe = universe_bytes files;
-      world = world_inputs files;
-      question = question.now;
-      after = option_copied after;
-    })
+    × AnswersInputs (ask_inputs files question.now (option_copied after))
     (option_map non_zero_u64_get limit) trailer IsWritten
 IsDone requests.Dead files IsWritten =
     ReportsFiles (universe_bytes files) (config_bytes files) IsRoutesReport IsWritten
@@ -52,3 +59,21 @@ IsDone requests.Receivers files IsWritten =
     ReportsFiles (universe_bytes files) (config_bytes files) IsReceiversReport IsWritten
 IsDone (requests.Explain set) files IsWritten =
     ExplainsSet (world_inputs files) set.now IsWritten
+
+abbrev pub IsDoneInPart : Request → InputFiles (Vec ℕ) → (List ℕ → Type 0) → Type 0
+IsDoneInPart (requests.Ask question after limit) files IsWritten =
+    AnswersInputsInPart (ask_inputs files question.now (option_copied after))
+    (option_map non_zero_u64_get limit) IsWritten
+IsDoneInPart requests.Dead files IsWritten = IsDone requests.Dead files IsWritten
+IsDoneInPart requests.Receivers files IsWritten = IsDone requests.Receivers files IsWritten
+IsDoneInPart (requests.Explain set) files IsWritten =
+    ExplainsSet (world_inputs files) set.now IsWritten
+
+-- The stages of what is asked for.
+abbrev pub request_stages : Request → InputFiles (Vec ℕ) → List Stage
+request_stages (requests.Ask question after limit) files =
+    ask_stages (ask_inputs files question.now (option_copied after))
+request_stages requests.Dead files = report_stages (universe_bytes files) (config_bytes files)
+request_stages requests.Receivers files =
+    report_stages (universe_bytes files) (config_bytes files)
+request_stages (requests.Explain set) files = explain_stages (world_inputs files) set.now

@@ -2,4 +2,5 @@
 pub use Rattle.am_commands.specs.AskOutcome.{AnswersInputs, AnswersInputsInPart}
 pub use Rattle.am_commands.specs.AskOutcome.{page_of_inputs, Asked, IsAskedOf, AreAskedInARow}
 pub use Rattle.am_commands.specs.Reports.{AcceptsReport, ReportsFiles, report_stages}
-pub use Rattle.am_commands.specs.Done.{bytes_if_any, universe_bytes, world_inputs, IsDone}
+pub use Rattle.am_commands.specs.Done.{bytes_if_any, universe_bytes, world_inputs}
+pub use Rattle.am_commands.specs.Done.{IsDone, IsDoneInPart, request_stages}

@@ -1,12 +1,14 @@
-ghost use Rattle.std.specs.Prelude.{◌≡◌, ◌≢◌, ◌<◌, [], IfOk, IfErr, IfSome, string_bytes};
+ghost use Rattle.std.specs.Prelude.{◌≡◌, ◌≢◌, ◌<◌, ◌++◌, ℕ, List, [], IfOk, IfErr, IfSome};
+ghost use Rattle.std.specs.Prelude.{string_bytes};
 ghost use Rattle.am_universe.specs.declared.kind.Kind.TheVariants as kinds;
 ghost use Rattle.am_universe.specs.declared.place.Place.TheVariants as places;
 ghost use Rattle.am_labels.specs.Words.{sizes, Wrote, WroteInPart};
 ghost use Rattle.am_json.specs.Words.{refusal_of};
 ghost use Rattle.am_questions.specs.Words.{inputs_of, ask_stages};
 ghost use Rattle.am_eval.specs.Words.{IsFirstFaultOfCall};
-ghost use Rattle.am_search.specs.Words.{IsStart, page_text};
+ghost use Rattle.am_search.specs.Words.{IsStart, page_text, trailer_text};
 ghost use Rattle.am_commands.specs.Words.{AnswersInputs, AnswersInputsInPart, page_of_inputs};
+ghost use Rattle.am_commands.specs.Words.{IsAskedOf};
 
 use am_eval::Files;
 use am_labels::{Fault, Kind, Place, Sink};
@@ -53,6 +55,12 @@ pub fn ask<W: Sink>(
     ensures answered { IfOk result (λ trailer. AnswersInputs
         (inputs_of universe.now files.now question.now page.now) page.now.limit trailer
         (Wrote W.taken W.failures out.old out.new)) }
+
+    // What laws say of calls in a row is said of this one.
+    ensures asked { IfOk result (λ trailer. (lines : List ℕ) × IsAskedOf
+        (inputs_of universe.now files.now question.now page.now)
+        (record { limit = page.now.limit; lines = lines; trailer = trailer })
+        × (W.taken out.new ≡ W.taken out.old ++ (lines ++ trailer_text trailer))) }
 
     // No other fault of the inputs comes before the one that is answered, and the pointer is that
     // of the part at fault.

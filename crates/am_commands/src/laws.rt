@@ -46,9 +46,10 @@ pub fn pages_in_a_row_have_the_lines_of_one_page()
         ≡ lines_text u (page_from (sizes u) (is_answer u w q) start None).choices }
 {}
 
-/// Where `ask` ends with `# next`, the same inputs with that token and without a limit end with
-/// `# end`, and what is written then is exactly the lines of the rest: of the answers that the
-/// first call left.
+/// Where a call of `ask` ends with `# next`, the same inputs with that token are accepted, as
+/// [`a_page_goes_on_at_its_token`] says. Where the call with them and without a limit is done, it
+/// ends with `# end`, and its lines are those of exactly the rest: of the answers that the first
+/// call left.
 pub fn starting_again_writes_exactly_the_rest()
     ensures ends { (inputs : Inputs) (first second : Asked) (c : List ℕ)
         → IsAskedOf inputs first → first.trailer ≡ Next c
@@ -61,8 +62,9 @@ pub fn starting_again_writes_exactly_the_rest()
         (is_answer asked.1.universe asked.1.world asked.1.question) (Next c)) }
 {}
 
-/// Calls of `ask` in a row, each with the token of the trailer before it, and the last with
-/// `# end`: their lines, joined, are those of the one call without a limit, whatever their limits.
+/// Calls of `ask` in a row, whatever their limits, each with the token of the trailer before it,
+/// and the last with `# end`: their lines, joined, are those of the call with the first inputs and
+/// without a limit.
 pub fn pages_asked_in_a_row_are_one_page()
     ensures joined { (inputs : Inputs) (row : List Asked) (whole : Asked)
         → AreAskedInARow inputs row → IsAskedOf inputs whole → whole.limit ≡ None

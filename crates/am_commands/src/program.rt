@@ -1,8 +1,11 @@
-ghost use Rattle.std.specs.Prelude.{◌≡◌, ◌<◌, IfOk, IfSome, option_map, option_copied};
+ghost use Rattle.std.specs.Prelude.{◌≡◌, ◌≢◌, ◌<◌, IfOk, IfErr, IfSome, option_map, option_copied};
 ghost use Rattle.std.specs.Int.NonZero.{non_zero_u64_get};
-ghost use Rattle.am_labels.specs.Words.{Wrote};
-ghost use Rattle.am_eval.specs.Words.{world_inputs_of};
-ghost use Rattle.am_commands.specs.Words.{IsDone, universe_bytes, world_inputs, bytes_if_any};
+ghost use Rattle.am_universe.specs.declared.kind.Kind.TheVariants as kinds;
+ghost use Rattle.am_labels.specs.Words.{Wrote, WroteInPart};
+ghost use Rattle.am_json.specs.Words.{refusal_of};
+ghost use Rattle.am_eval.specs.Words.{world_inputs_of, IsFirstFaultOfCall};
+ghost use Rattle.am_commands.specs.Words.{IsDone, IsDoneInPart, request_stages};
+ghost use Rattle.am_commands.specs.Words.{universe_bytes, world_inputs, bytes_if_any};
 
 use crate::asking::ask;
 use crate::explaining::explain;
@@ -122,6 +125,13 @@ fn make_call<W: Sink>(
 ) -> Result<(), Fault>
     ensures done { IfOk result (λ _. IsDone request.entry files.now
         (Wrote W.taken W.failures out.old out.new)) }
+    ensures first { IfErr result (λ fault. fault.kind ≢ kinds.Write → fault.kind ≢ kinds.Memory
+        → IsFirstFaultOfCall (request_stages request.entry files.now)
+        fault.place (refusal_of fault)) }
+    ensures write { IfErr result (λ fault. fault.kind ≡ kinds.Write
+        → IsDoneInPart request.entry files.now
+        (WroteInPart W.taken W.failures out.old out.new)) }
+    ensures untouched { IfErr result (λ fault. fault.kind ≢ kinds.Write → out.new ≡ out.old) }
 {
     let universe = universe_of(files);
     let world = world_files(files);
@@ -135,8 +145,10 @@ fn make_call<W: Sink>(
                 after,
                 limit: limit_of(limit),
             };
-            ask(alloc, universe, &world, question, &page, out)?;
-            Ok(())
+            match ask(alloc, universe, &world, question, &page, out) {
+                Ok(_) => Ok(()),
+                Err(fault) => Err(fault),
+            }
         }
         Request::Dead => dead(alloc, universe, world.config(), out),
         Request::Receivers => receivers(alloc, universe, world.config(), out),
@@ -144,7 +156,8 @@ fn make_call<W: Sink>(
     }
 }
 
-/// The bytes of the universe file. The command line has one for each command that looks at it.
+/// The bytes of the universe file. The command line requires one where it is looked at; without
+/// one there are no bytes.
 fn universe_of<'a>(files: &'a InputFiles<'_, Vec<u8>>) -> &'a [u8]
     ensures { result.now ≡ universe_bytes files.now }
 {

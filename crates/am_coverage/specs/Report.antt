@@ -28,8 +28,8 @@ EndsAt u c path choice = Contains (ends (label_set_of u choice) c) path
 abbrev pub GoesTo : List Label → Configuration → ℕ → List ℕ → Type 0
 GoesTo u c receiver choice = Contains (receivers (label_set_of u choice) c) receiver
 
--- The line of a route says what is so over all label sets: it is live, with the first one that ends
--- there; or it is dead, and entered or not.
+-- The line of a route says what is so over all label sets: the route is live, with the first one
+-- that ends there; or it is dead, and entered, where some ends below it, or never entered.
 -- Source: own choice.
 -- Example: `/ live {team="web"}`, `/0 dead entered` and `/1 dead never-entered` are three lines.
 pub data IsRouteLine (u : List Label) (c : Configuration) (path line : List ℕ) : Type 0 where
@@ -41,8 +41,8 @@ pub data IsRouteLine (u : List Label) (c : Configuration) (path line : List ℕ)
   never_entered_route : IsNeverEntered u c path
       → line ≡ path_text path ++ codes " dead never-entered\n" → IsRouteLine u c path line
 
--- The line of a receiver says what is so over all label sets: it is live, with the first one that
--- goes to it; or it is unmatched.
+-- The line of a receiver says what is so over all label sets: the receiver is live, with the first
+-- one that goes to it; or it is unmatched.
 -- Source: own choice.
 -- Example: `"dba" live {team="db"}` and `"idle" unmatched` are two lines.
 pub data IsReceiverLine (u : List Label) (c : Configuration) (receiver : ℕ) (line : List ℕ) :

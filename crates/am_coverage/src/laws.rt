@@ -111,7 +111,8 @@ pub fn a_line_says_unmatched_exactly_where_the_receiver_is()
         → IsUnmatched u c receiver ↔ (line ≡ quoted_text name ++ codes " unmatched\n") }
 {}
 
-/// A configuration has one report of its routes over a universe, and one of its receivers.
+/// A configuration has at most one report of its routes over a universe, and at most one of its
+/// receivers.
 pub fn a_report_is_one_text()
     ensures routes { (u : List Label) (c : Configuration) (report other : List ℕ)
         → IsRoutesReport u c report → IsRoutesReport u c other → report ≡ other }

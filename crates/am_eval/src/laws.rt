@@ -64,7 +64,7 @@ pub fn an_alert_ends_where_nothing_stops_it()
 {}
 
 /// Below a route that matches, a child is tried exactly where each sibling before it that matches
-/// has `continue`: the ends below the child are then ends of the route.
+/// has `continue`: the ends at the child and below it are then ends of the route.
 pub fn a_child_is_tried_where_each_match_before_it_continues()
     ensures exactly { (s : LabelMap) (t : RouteTree) (position : ℕ) (path : List ℕ)
         → (Contains (ends_at s t) (position ∷ path)
@@ -89,7 +89,8 @@ pub fn an_example_of_routing()
         → (ends s worked ≡ (0 ∷ 0 ∷ []) ∷ (1 ∷ []) ∷ []) × (receivers s worked ≡ 2 ∷ 3 ∷ []) }
 {}
 
-/// `not` is true where its question is not, `and` where both are, `or` where one is or both are.
+/// `not` is true exactly where its question is not, `and` where both are, and `or` where one is or
+/// both are.
 pub fn a_joined_question_is_true_as_its_parts_are()
     ensures not { (w : World) (s : LabelMap) (q : Question)
         → IsTrue (satisfies w (Not q) s) ↔ (IsTrue (satisfies w q s) → ⊥) }
@@ -99,9 +100,10 @@ pub fn a_joined_question_is_true_as_its_parts_are()
         ↔ (IsTrue (satisfies w q s) ⊎ IsTrue (satisfies w r s)) }
 {}
 
-/// A simple part is true of an alert: a receiver, where the alert ends at a route that has it; a
-/// path of `ends`, where the alert ends there; `inhibited`, where by some rule some firing alert
-/// inhibits it; matchers in braces, where each of them matches it.
+/// A simple part is true of an alert exactly as it says: a receiver, where the alert ends at a
+/// route that has it; a path of `ends`, where the alert ends there; `inhibited`, where by some rule
+/// some firing alert inhibits it; matchers in braces, where each of them matches it. `any`,
+/// `silenced` and `enters` have laws of their own.
 pub fn a_simple_part_is_true_as_it_says()
     ensures receiver { (w : World) (s : LabelMap) (receiver : ℕ)
         → IsTrue (holds_of w (Receiver receiver) s)
@@ -304,9 +306,9 @@ pub fn answers_ascend()
         → IsStrictlySortedBy (slice_cmp nat_cmp) (answers u w question) }
 {}
 
-/// A text that is that of a label set is not refused as one, and a text is refused with one kind,
-/// but for the patterns that the engine may refuse.
-pub fn a_set_is_read_or_refused()
+/// A text that is that of a label set is not refused as one. A text that is refused is refused with
+/// one kind, but for the patterns that the engine may refuse.
+pub fn a_set_is_not_read_and_refused()
     ensures accepted { (text : List ℕ) (set : LabelMap) (kind : Kind) → SpellsSet text set
         → SetTextRefusedFor text kind → ⊥ }
     ensures one { (text : List ℕ) (kind other : Kind) → SetTextRefusedFor text kind
@@ -316,7 +318,7 @@ pub fn a_set_is_read_or_refused()
 
 /// Where the inputs of `explain` are accepted, they have no first fault, but for a pattern, which
 /// the engine may refuse.
-pub fn an_accepted_set_has_no_fault()
+pub fn accepted_inputs_of_explain_have_no_fault()
     ensures pattern { (inputs : WorldInputs) (text : List ℕ) (w : World) (s : LabelMap)
         (place : Place) (refusal : Refusal) → AcceptsWorld inputs w → SpellsSet text s
         → IsFirstFaultOfCall (explain_stages inputs text) place refusal

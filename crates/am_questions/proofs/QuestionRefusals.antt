@@ -49,7 +49,7 @@ part_kind c (WrittenBraces text) kind other refused again h k =
 
 -- ---- Lists of parts.
 
-all_joined : {X : Type 0} (P : X → Type 0) (xs ys : List X) → AllByRecursion P xs
+pub all_joined : {X : Type 0} (P : X → Type 0) (xs ys : List X) → AllByRecursion P xs
     → AllByRecursion P ys → AllByRecursion P (xs ++ ys)
 all_joined P [] ys h k = k
 all_joined P (x ∷ xs) ys h k = (h.0, all_joined P xs ys h.1 k)

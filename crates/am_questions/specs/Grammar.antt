@@ -1,5 +1,6 @@
 -- The grammar of questions: which tokens are which tree. (This project's own.)
-use Rattle.std.specs.Prelude.{ℕ, List, [], ◌∷◌, ◌++◌, codes}
+use Rattle.std.specs.Prelude.{◌≡◌, ◌⊎◌, ℕ, List, [], ◌∷◌, ◌++◌, ⊤, codes}
+use Rattle.std.specs.List.{AllByRecursion}
 use Rattle.am_files.specs.Path.{path_text}
 use Rattle.am_eval.specs.Tree.{Tree, Part, Not, And, Or}
 use Rattle.am_questions.specs.Tokens.{Token, Open, Close, Word, Quoted, BraceList}
@@ -61,12 +62,19 @@ mutual
     any : IsSimple (Word (codes "any") ∷ []) (Part WrittenAny)
     braces : (list : List ℕ) → IsSimple (BraceList list ∷ []) (Part (WrittenBraces list))
 
--- Simple parts stand in tokens in this order: the tokens of each stand behind those of the one
--- before it.
+-- A word or a parenthesis that joins the parts of a question.
+abbrev pub IsJoint : Token → Type 0
+IsJoint Open = ⊤
+IsJoint Close = ⊤
+IsJoint (Word word) = (word ≡ codes "not") ⊎ (word ≡ codes "and") ⊎ (word ≡ codes "or")
+IsJoint (Quoted name) = ⊥
+IsJoint (BraceList list) = ⊥
+
+-- The tokens are those of these simple parts, in this order, and what joins them.
 -- Source: own choice.
--- Example: in `not (receiver ops or any)` stand `receiver ops` and then `any`.
+-- Example: `not (receiver ops or any)` has the tokens of `receiver ops` and then those of `any`.
 pub data StandInOrder : List Written → List Token → Type 0 where
-  no_part : (tokens : List Token) → StandInOrder [] tokens
-  part_before : (before tokens after : List Token) (part : Written) (parts : List Written)
-      → IsSimple tokens (Part part) → StandInOrder parts after
-      → StandInOrder (part ∷ parts) (before ++ (tokens ++ after))
+  no_part : (joints : List Token) → AllByRecursion IsJoint joints → StandInOrder [] joints
+  part_before : (joints tokens after : List Token) (part : Written) (parts : List Written)
+      → AllByRecursion IsJoint joints → IsSimple tokens (Part part) → StandInOrder parts after
+      → StandInOrder (part ∷ parts) (joints ++ (tokens ++ after))

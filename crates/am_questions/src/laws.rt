@@ -30,7 +30,8 @@ pub fn one_tree_a_list_of_tokens()
 {}
 
 /// The simple parts of a question, from left to right, which is the order in which they are looked
-/// at, stand in the order of their tokens.
+/// at, stand in its tokens in that order, and between them stand the words and parentheses that
+/// join them, and nothing else.
 pub fn parts_stand_in_the_order_of_their_tokens()
     ensures order { (tokens : List Token) (tree : Tree Written) → IsQuestion tokens tree
         → StandInOrder (parts_of tree) tokens }
@@ -65,8 +66,8 @@ pub fn accepted_inputs_mean_one_thing()
 {}
 
 /// A text that is read as a question about a configuration is refused at most for a pattern, which
-/// the engine may refuse; and it is refused with one kind, but for that.
-pub fn a_question_is_read_or_refused()
+/// the engine may refuse. A text that is refused is refused with one kind, but for that.
+pub fn a_question_is_not_read_and_refused()
     ensures accepted { (c : Configuration) (text : List ℕ) (q : Question) (kind : Kind)
         → ReadsQuestion c text q → QuestionRefusedFor c text kind → kind ≡ kinds.Pattern }
     ensures one { (c : Configuration) (text : List ℕ) (kind other : Kind)

@@ -77,8 +77,8 @@ pub fn a_page_keeps_its_limit()
         → length (page_from ns truth start (Some n)).choices ≡ n }
 {}
 
-/// Where a trailer leaves answers, its text has the token of the start at which they begin; and
-/// where it leaves none, it is `# end`.
+/// The text of a trailer behind which a page begins is `# next` and the token of the start of that
+/// page; that of a trailer behind which none does is `# end`.
 pub fn a_trailer_has_the_token_of_its_start()
     ensures next { (trailer : Trailer) (start : Start) → start_after trailer ≡ Some start
         → trailer_text trailer ≡ codes "# next " ++ (token_text start ++ codes "\n") }

@@ -1,7 +1,7 @@
 -- What was read is accepted, and what is written is the page of its answers.
 use Rattle.am_eval.specs.Question.{is_answer}
 use Rattle.am_eval.specs.QuestionView.{question_view}
-use Rattle.am_commands.proofs.AskedPages.{rest_of_page, asked_is_start, if_both, if_failed}
+use Rattle.am_commands.proofs.AskedPages.{rest_of_page, asked_is_start, if_both, if_failed, if_ok, asked_from}
 use Rattle.am_commands.proofs.asking.ask.Goals as goal
 
 pub write_answers-requires : goal.write_answers-requires
@@ -24,10 +24,17 @@ returns-clause-answered g c =
       start = read.start;
       accepts = c.in_ok-accepted.ensures.accepts;
       written = written;
-      ends = ends;
+      trailer_is = ends;
       rest = rest_of_page read.universe answer read.start c.args.page.now.limit trailer c.requires.limit ends;
     })
     c.write_answers.ensures.trailer c.write_answers.ensures.written
+
+pub returns-clause-asked : goal.returns-clause-asked
+returns-clause-asked g c =
+    if_ok _ _ _
+    (λ trailer answered. asked_from g.W.Sink.taken g.W.Sink.failures _ _ _
+    c.args.page.now.limit trailer c.requires.limit answered)
+    (returns-clause-answered g c)
 
 pub returns-clause-write : goal.returns-clause-write
 returns-clause-write g c =

@@ -1,0 +1,56 @@
+-- The first fault of a call over the bytes of files is that of the request.
+use Rattle.std.proofs.Common.{◌≢◌, ℕ, List, sym, subst, option_copied}
+use Rattle.am_universe.specs.declared.fault.Fault.{Fault}
+use Rattle.am_universe.specs.declared.kind.Kind.TheVariants as kinds
+use Rattle.am_json.specs.Reading.{refusal_of}
+use Rattle.am_command_line.specs.declared.command_line.Request.{Request}
+use Rattle.am_eval.specs.Faults.{IsFirstFaultOfCall}
+use Rattle.am_eval.specs.WorldInputs.{WorldInputs, world_inputs_of}
+use Rattle.am_eval.specs.Explanation.{explain_stages}
+use Rattle.am_questions.specs.Inputs.{ask_stages}
+use Rattle.am_commands.specs.Done.{request_stages, world_inputs}
+use Rattle.am_commands.proofs.AskedPages.{if_failed}
+use Rattle.am_commands.proofs.program.make_call.Goals as goal
+
+pub returns-in-Err-clause-first : goal.returns-in-Err-clause-first
+returns-in-Err-clause-first g c = λ written remembered.
+    let fault = c.in-Err.fault in
+    subst
+    (λ (request : Request). IsFirstFaultOfCall (request_stages request c.args.files.now) fault.place
+    (refusal_of fault))
+    (sym c.in-Ask.is)
+    (subst
+    (λ (universe : List ℕ). IsFirstFaultOfCall (ask_stages (record {
+      universe = universe;
+      world = world_inputs c.args.files.now;
+      question = c.in-Ask.question.now;
+      after = option_copied c.in-Ask.after;
+    })) fault.place (refusal_of fault))
+    c.universe_of-universe.ensures
+    (subst
+    (λ (world : WorldInputs). IsFirstFaultOfCall (ask_stages (record {
+      universe = c.universe_of-universe.result.now;
+      world = world;
+      question = c.in-Ask.question.now;
+      after = option_copied c.in-Ask.after;
+    })) fault.place (refusal_of fault))
+    c.world_files-world.ensures (c.in-Err.ensures.first written remembered)))
+
+pub returns-in-Explain-clause-first : goal.returns-in-Explain-clause-first
+returns-in-Explain-clause-first g c =
+    if_failed c.explain.result
+    (λ (fault : Fault). fault.kind ≢ kinds.Write → fault.kind ≢ kinds.Memory
+    → IsFirstFaultOfCall (explain_stages (world_inputs_of c.world_files-world.result)
+    c.in-Explain.set.now) fault.place (refusal_of fault))
+    (λ (fault : Fault). fault.kind ≢ kinds.Write → fault.kind ≢ kinds.Memory
+    → IsFirstFaultOfCall (request_stages c.args.request c.args.files.now) fault.place
+    (refusal_of fault))
+    (λ fault told written remembered. subst
+    (λ (request : Request). IsFirstFaultOfCall (request_stages request c.args.files.now) fault.place
+    (refusal_of fault))
+    (sym c.in-Explain.is)
+    (subst
+    (λ (world : WorldInputs). IsFirstFaultOfCall (explain_stages world c.in-Explain.set.now)
+    fault.place (refusal_of fault))
+    c.world_files-world.ensures (told written remembered)))
+    c.explain.ensures.first
