@@ -17,22 +17,22 @@ abbrev pub behind : ℕ → ℕ → List (List ℕ) → List (List ℕ)
 behind first n cs = flat_map (λ p. map (λ c. p ∷ c) cs) (range_with_len first n)
 
 -- a choice that begins with one of n positions from `first`, and goes on with one of these
-record BeginsWithin (first n : ℕ) (cs : List (List ℕ)) (c : List ℕ) : Type 0 where
-  position : ℕ
-  rest : List ℕ
-  low : first ≤ position
-  high : position < first + n
-  others : IsIn cs rest
-  same : position ∷ rest ≡ c
+pub record BeginsWithin (first n : ℕ) (cs : List (List ℕ)) (c : List ℕ) : Type 0 where
+  pub position : ℕ
+  pub rest : List ℕ
+  pub low : first ≤ position
+  pub high : position < first + n
+  pub others : IsIn cs rest
+  pub same : position ∷ rest ≡ c
 
-from_behind : (first n : ℕ) (cs : List (List ℕ)) (c : List ℕ) → IsIn (behind first n cs) c → BeginsWithin first n cs c
+pub from_behind : (first n : ℕ) (cs : List (List ℕ)) (c : List ℕ) → IsIn (behind first n cs) c → BeginsWithin first n cs c
 from_behind first zero cs c h = absurd h
 from_behind first (suc n) cs c h = elim (IsIn-split (map (λ c. first ∷ c) cs) (behind (first + 1) n cs) c h) [
   | inl a ↦ let r = IsIn-unmap (λ c. first ∷ c) cs c a in record { position = first; rest = r.0; low = omega arith; high = omega arith; others = r.1; same = r.2 }
   | inr b ↦ let r = from_behind (first + 1) n cs c b in record { position = r.position; rest = r.rest; low = omega (arith, r.low); high = omega (arith, r.high); others = r.others; same = r.same }
 ]
 
-into_behind : (first n : ℕ) (cs : List (List ℕ)) (p : ℕ) (c : List ℕ) → first ≤ p → p < first + n → IsIn cs c → IsIn (behind first n cs) (p ∷ c)
+pub into_behind : (first n : ℕ) (cs : List (List ℕ)) (p : ℕ) (c : List ℕ) → first ≤ p → p < first + n → IsIn cs c → IsIn (behind first n cs) (p ∷ c)
 into_behind first zero cs p c low high i = absurd (omega arith)
 into_behind first (suc n) cs p c low high i = elim (eq-or-lt_of_le low) [
   | inl e ↦ IsIn-left (map (λ c. first ∷ c) cs) (behind (first + 1) n cs) (p ∷ c) (subst (λ q. IsIn (map (λ c. first ∷ c) cs) (q ∷ c)) e (IsIn-map (λ c. first ∷ c) cs c i))
@@ -68,7 +68,7 @@ same_first p a b = ap (λ r. ordering_then r (slice_cmp nat_cmp a b)) (sym (nat_
 pub less_first : (p q : ℕ) (a b : List ℕ) → p < q → slice_cmp nat_cmp (p ∷ a) (q ∷ b) ≡ Less
 less_first p q a b h = ap (λ r. ordering_then r (slice_cmp nat_cmp a b)) (sym (nat_cmp_is p q Less h))
 
-behind_sorted : (first n : ℕ) (cs : List (List ℕ)) → IsStrictlySortedBy (slice_cmp nat_cmp) cs → IsStrictlySortedBy (slice_cmp nat_cmp) (behind first n cs)
+pub behind_sorted : (first n : ℕ) (cs : List (List ℕ)) → IsStrictlySortedBy (slice_cmp nat_cmp) cs → IsStrictlySortedBy (slice_cmp nat_cmp) (behind first n cs)
 unfolding IsStrictlySortedBy
 behind_sorted first zero cs s = tt
 behind_sorted first (suc n) cs s = IsStrictlySortedBy-append (slice_cmp nat_cmp) (map (λ c. first ∷ c) cs) (behind (first + 1) n cs)

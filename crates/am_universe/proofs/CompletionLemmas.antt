@@ -36,7 +36,7 @@ map_of_cond : {X Y : Type 0} (f : X → Y) (b : Bool) (x : X) (xs : List X) → 
 map_of_cond f true x xs = refl
 map_of_cond f false x xs = refl
 
-filter_of_map : {X Y : Type 0} (f : X → Y) (test : Y → Bool) (xs : List X) → filter test (map f xs) ≡ map f (filter (λ x. test (f x)) xs)
+pub filter_of_map : {X Y : Type 0} (f : X → Y) (test : Y → Bool) (xs : List X) → filter test (map f xs) ≡ map f (filter (λ x. test (f x)) xs)
 filter_of_map f test [] = refl
 filter_of_map f test (x ∷ xs) = ap (λ l. cond (test (f x)) (f x ∷ l) l) (filter_of_map f test xs) ∙ map_of_cond f (test (f x)) x (filter (λ x. test (f x)) xs)
 
@@ -58,7 +58,7 @@ at_none p first (suc count) prefix cs h =
     filter-append (λ c. starts_with nat_eq c (p ∷ prefix)) (map (λ c. first ∷ c) cs) (behind (first + 1) count cs)
     ∙ rw (at_other p first prefix cs (λ e. omega (arith, h, e)), at_none p (first + 1) count prefix cs (omega arith)) refl
 
-at_its_own : (p first count : ℕ) (prefix : List ℕ) (cs : List (List ℕ)) → first ≤ p → p < first + count → beginning (p ∷ prefix) (behind first count cs) ≡ map (λ c. p ∷ c) (beginning prefix cs)
+pub at_its_own : (p first count : ℕ) (prefix : List ℕ) (cs : List (List ℕ)) → first ≤ p → p < first + count → beginning (p ∷ prefix) (behind first count cs) ≡ map (λ c. p ∷ c) (beginning prefix cs)
 at_its_own p first zero prefix cs low high = absurd (omega arith)
 at_its_own p first (suc count) prefix cs low high =
     filter-append (λ c. starts_with nat_eq c (p ∷ prefix)) (map (λ c. first ∷ c) cs) (behind (first + 1) count cs)
@@ -88,7 +88,7 @@ below_whole (size ∷ sizes) (p ∷ c) e = ap (map (λ d. p ∷ d)) (below_whole
 pub completions_of_whole : (sizes c : List ℕ) → IsWhole sizes c → completions sizes c ≡ c ∷ []
 completions_of_whole sizes c w = completions_are_below sizes c w.0 ∙ below_whole sizes c w.1
 
-map_of_flat_map : {X : Type 0} (p : ℕ) (f : X → List (List ℕ)) (xs : List X) → map (λ c. p ∷ c) (flat_map f xs) ≡ flat_map (λ x. map (λ c. p ∷ c) (f x)) xs
+pub map_of_flat_map : {X : Type 0} (p : ℕ) (f : X → List (List ℕ)) (xs : List X) → map (λ c. p ∷ c) (flat_map f xs) ≡ flat_map (λ x. map (λ c. p ∷ c) (f x)) xs
 map_of_flat_map p f [] = refl
 map_of_flat_map p f (x ∷ xs) = map-append (λ c. p ∷ c) (f x) (flat_map f xs) ∙ ap (λ t. map (λ c. p ∷ c) (f x) ++ t) (map_of_flat_map p f xs)
 

@@ -17,3 +17,4 @@ pub mod LabelValueLemmas
 pub mod SetTextLemmas
 pub mod MapTextLemmas
 pub mod LineLemmas
+pub mod LineTableLemmas

@@ -30,7 +30,7 @@ pub joined-cons : (p : List ℕ × List ℕ) (ps : Pairs) → joined (p ∷ ps) 
 joined-cons p [] = sym (append-nil (pair_text p))
 joined-cons p (q ∷ ps) = ap (λ t. pair_text p ++ (44 ∷ t)) (joined-cons q ps)
 
-following-append : (ps qs : Pairs) → following (ps ++ qs) ≡ following ps ++ following qs
+pub following-append : (ps qs : Pairs) → following (ps ++ qs) ≡ following ps ++ following qs
 following-append [] qs = refl
 following-append (p ∷ ps) qs = ap (λ t. 44 ∷ (pair_text p ++ t)) (following-append ps qs) ∙ ap (λ t. 44 ∷ t) (sym (append_assoc (pair_text p) (following ps) (following qs)))
 

@@ -13,4 +13,5 @@ pub mod Completions
 pub mod LabelSet
 pub mod LabelSetView
 pub mod WrittenLabelSet
+pub mod LineTable
 pub mod FaultText

@@ -2,7 +2,8 @@ ghost use Rattle.std.specs.Prelude.{◌≡◌, IfOk};
 ghost use Rattle.am_universe.specs.Words.{Writes, fault_text, has_no_place, place_part};
 ghost use Rattle.am_universe.specs.Words.{pointer_byte_text, pointer_part, status_of};
 
-use crate::{Fault, History, Kind, Out, Sink, put_all, put_str};
+use crate::memory_sink::MemorySink;
+use crate::{Fault, Kind, Out, Sink, put_all, put_str};
 use std::alloc::{AllocError, Global};
 use std::io::Write;
 
@@ -92,40 +93,9 @@ pub fn report<E: Write>(alloc: Global, fault: &Fault, err: &mut E) -> u8
 fn fault_line(alloc: Global, fault: &Fault) -> Result<Vec<u8>, AllocError>
     ensures { IfOk result (λ line. line.items ≡ fault_text fault.now) }
 {
-    let mut line = Line {
-        bytes: Vec::new(alloc),
-        refusals: History::new(),
-    };
+    let mut line = MemorySink::new(alloc);
     match write_fault(fault, &mut line) {
         Ok(()) => Ok(line.bytes),
         Err(_) => Err(AllocError),
-    }
-}
-
-/// A sink in memory. A take fails only where memory ran out.
-///
-/// What an `Out` says of its writer speaks of the writer at its start, which a call over any sink
-/// does not say it keeps; here the bytes taken are those in memory.
-#[derive(Drop)]
-struct Line {
-    bytes: Vec<u8>,
-    refusals: History<Kind>,
-}
-
-impl Sink for Line {
-    ghost use Rattle.std.specs.Prelude.{length};
-
-    ghost taken = { λ line. line.bytes.items };
-
-    ghost failures = { λ line. length line.refusals.items };
-
-    fn take(&mut self, bytes: &[u8]) -> Result<usize, Kind> {
-        match self.bytes.extend_from_slice(bytes) {
-            Ok(()) => Ok(bytes.len()),
-            Err(_) => {
-                self.refusals = self.refusals.followed_by(&[Kind::Write]);
-                Err(Kind::Write)
-            }
-        }
     }
 }

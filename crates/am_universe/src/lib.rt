@@ -22,6 +22,7 @@ pub use place::Place;
 
 // Where bytes go, and what has gone there so far.
 mod history;
+mod memory_sink;
 mod out;
 mod sink;
 
@@ -47,6 +48,11 @@ pub use label_set::{LabelSet, set_of};
 mod write;
 
 pub use write::{put_all, put_str, write_map, write_set, write_text};
+
+// The lines of a universe, from a table of their pieces.
+mod line_table;
+
+pub use line_table::LineTable;
 
 // The line for a fault, and the exit status.
 mod fault_text;

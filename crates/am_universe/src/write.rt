@@ -97,7 +97,12 @@ pub fn write_map<W: Sink>(set: &LabelSet, out: &mut W) -> Result<(), Kind>
 }
 
 /// Writes what separates a label from those before it, its name and its value.
-fn write_pair<W: Sink>(out: &mut W, separator: &[u8], name: &str, value: &str) -> Result<(), Kind>
+pub fn write_pair<W: Sink>(
+    out: &mut W,
+    separator: &[u8],
+    name: &str,
+    value: &str,
+) -> Result<(), Kind>
     ensures { Writes W.taken W.failures out.old out.new
         (separator.now ++ pair_text (name.now, value.now)) result }
 {

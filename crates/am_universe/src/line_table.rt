@@ -1,0 +1,142 @@
+ghost use Rattle.std.specs.Prelude.{◌≡◌, ◌<◌, ◌≤◌, ◌+◌, ◌∷◌, ◌++◌, ℕ, length, drop, slice_get};
+ghost use Rattle.std.specs.Prelude.{IfOk, Some, option_map, vec_len, vec_capacity};
+ghost use Rattle.std.specs.List.{AllByRecursion};
+ghost use Rattle.am_universe.specs.Bytes.{left_brace};
+ghost use Rattle.am_universe.specs.Words.{sizes, IsWhole, line, Writes};
+ghost use Rattle.am_universe.specs.LineTable.{piece_text, label_pieces, texts_of_pieces};
+
+use crate::memory_sink::MemorySink;
+use crate::write::write_pair;
+use crate::{Choice, Kind, Sink, Universe, put_all};
+use std::alloc::{AllocError, Global};
+use std::marker::Model;
+use std::snapshot::Snapshot;
+
+/// The lines of a universe's choices, in pieces: each label with each of its values, written once,
+/// so that a line is a few copies.
+///
+/// To contracts a table is the universe that it was made from.
+#[derive(Drop)]
+pub struct LineTable {
+    universe: Snapshot<Universe>,
+    labels: Vec<Vec<Vec<u8>>>,
+    // A line is put together here, where there is room for the longest, and goes out at once.
+    line: Vec<u8>,
+}
+
+impl Model for LineTable {
+    ghost use Rattle.std.specs.Prelude.{List};
+    ghost use Rattle.am_universe.specs.Universe as spec;
+    ghost use Rattle.am_universe.specs.LineTable.{IsLineTable};
+
+    ghost Value = { List spec.Label };
+
+    ghost view = { λ t. t.universe.value };
+
+    ghost invariant = { λ t. IsLineTable t.universe.value t.labels.items t.line };
+}
+
+impl LineTable {
+    /// The table of a universe. An `Err` only where memory was refused.
+    pub fn of(alloc: Global, universe: &Universe) -> Result<LineTable, AllocError>
+        ensures universe { IfOk result (λ table. table ≡ universe.now) }
+    {
+        let mut labels = Vec::with_capacity(alloc, universe.len())?;
+        // Of both braces and the line feed, and then of the longest piece of each label.
+        let mut room: usize = 3;
+        for i in 0..universe.len() {
+            let pieces = pieces_of_label(alloc, universe, i)?;
+            let Some(more) = room.checked_add(longest(pieces.as_slice())) else {
+                return Err(AllocError);
+            };
+            room = more;
+            labels.push(pieces)?;
+        }
+        Ok(LineTable {
+            universe: Snapshot::of(universe),
+            labels,
+            line: Vec::with_capacity(alloc, room)?,
+        })
+    }
+
+    /// Writes the line of a whole choice: its set, as `write_set` writes it, and a line feed. The
+    /// only `Err` is `Kind::Write`, after a part of that from its front. No memory is taken, and no
+    /// text is searched for what to escape.
+    pub fn write_line<W: Sink>(&mut self, choice: &Choice, out: &mut W) -> Result<(), Kind>
+        requires { IsWhole (sizes self.old) choice.now }
+        ensures written { Writes W.taken W.failures out.old out.new
+            (line self.old choice.now) result }
+        ensures same { self.new ≡ self.old }
+    {
+        self.line.clear();
+        for i in 0..self.labels.len() {
+            let piece = self.labels[i][usize::from(choice.get(i))].as_slice();
+            add_within_room(&mut self.line, piece);
+        }
+        open_brace(&mut self.line);
+        add_within_room(&mut self.line, b"}\n");
+        put_all(out, self.line.as_slice())
+    }
+}
+
+/// Adds bytes for which there is room, so that no memory is taken.
+fn add_within_room(line: &mut Vec<u8>, bytes: &[u8])
+    requires { vec_len line.old + length bytes.now ≤ vec_capacity line.old }
+    ensures items { line.new.items ≡ line.old.items ++ bytes.now }
+    ensures capacity { vec_capacity line.old ≤ vec_capacity line.new }
+{
+    let _ = line.extend_from_slice(bytes);
+}
+
+/// Begins a line with a brace, in the place of the comma of its first piece, if it has a piece.
+fn open_brace(line: &mut Vec<u8>)
+    requires { 0 < vec_capacity line.old }
+    ensures items { line.new.items ≡ left_brace ∷ drop 1 line.old.items }
+    ensures capacity { vec_capacity line.old ≤ vec_capacity line.new }
+{
+    if line.is_empty() {
+        add_within_room(line, b"{");
+    } else {
+        line[0] = b'{';
+    }
+}
+
+/// At least the length of each of the pieces.
+fn longest(pieces: &[Vec<u8>]) -> usize
+    ensures { AllByRecursion (λ piece. vec_len piece ≤ result) pieces.now }
+{
+    let mut most = 0;
+    for piece in pieces {
+        most = most.max(piece.len());
+    }
+    most
+}
+
+/// The pieces of the label at `i`, one for each of its values.
+fn pieces_of_label(alloc: Global, universe: &Universe, i: usize) -> Result<Vec<Vec<u8>>, AllocError>
+    requires { i < length universe.now }
+    ensures { IfOk result (λ pieces.
+        Some (texts_of_pieces pieces) ≡ option_map label_pieces (slice_get universe.now i)) }
+{
+    let size = universe.size(i);
+    let mut pieces = Vec::with_capacity(alloc, size)?;
+    for j in 0..size {
+        pieces.push(piece_of(alloc, universe.name(i), universe.value(i, j))?)?;
+    }
+    Ok(pieces)
+}
+
+/// A label with a value, as it stands behind other labels; nothing for absence.
+fn piece_of(alloc: Global, name: &str, value: Option<&str>) -> Result<Vec<u8>, AllocError>
+    ensures { IfOk result (λ piece.
+        piece.items ≡ piece_text name.now (option_map (λ t. t.now) value.entry)) }
+{
+    let mut piece = MemorySink::new(alloc);
+    let Some(value) = value else {
+        return Ok(piece.bytes);
+    };
+    match write_pair(&mut piece, b",", name, value) {
+        Ok(()) => Ok(piece.bytes),
+        Err(_) => Err(AllocError),
+    }
+}
