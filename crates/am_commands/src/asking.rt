@@ -11,7 +11,7 @@ ghost use Rattle.am_commands.specs.Words.{AnswersInputs, AnswersInputsInPart, pa
 ghost use Rattle.am_commands.specs.Words.{IsAskedOf};
 
 use am_eval::Files;
-use am_labels::{Fault, Kind, Place, Sink};
+use am_labels::{Fault, Kind, LineTable, Place, Sink};
 use am_questions::{AcceptedInputs, read_inputs};
 use am_search::{Answers, Page, Trailer, write_page};
 use am_whole::Whole;
@@ -113,8 +113,11 @@ fn write_answers<W: Sink>(
         Ok(judge) => judge,
         Err(_) => return Err(Fault::memory(alloc)),
     };
+    let Ok(mut table) = LineTable::of(alloc, &accepted.universe) else {
+        return Err(Fault::memory(alloc));
+    };
     let mut answers = Answers::from(&judge, accepted.start);
-    match write_page(&accepted.universe, &mut answers, limit, out) {
+    match write_page(&mut table, &mut answers, limit, out) {
         Ok(trailer) => Ok(trailer),
         Err(kind) => Err(Fault::of(alloc, kind, Place::Output)),
     }

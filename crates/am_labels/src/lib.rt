@@ -13,8 +13,8 @@ pub mod limits;
 
 // The layer below: universes, label sets, sinks and refusals.
 pub use am_universe::{
-    Choice, Fault, History, Kind, LabelFault, LabelPart, LabelSet, Out, Place, Position, Sink,
-    Universe, fault_at, put_all, put_str, report, set_of, status, write_fault, write_map,
+    Choice, Fault, History, Kind, LabelFault, LabelPart, LabelSet, LineTable, Out, Place, Position,
+    Sink, Universe, fault_at, put_all, put_str, report, set_of, status, write_fault, write_map,
     write_set, write_text,
 };
 

@@ -1,6 +1,7 @@
 use Rattle.std.proofs.Common.{◌≡◌, ◌≢◌, Some, ap, refl, sym, subst, ◌∙◌}
 use Rattle.std.proofs.lemmas.Result.{IfOk-from_err}
 use Rattle.std.specs.List.{flat_map}
+use Rattle.am_universe.specs.Universe.{sizes}
 use Rattle.am_universe.specs.Choice.{IsWhole}
 use Rattle.am_universe.specs.WrittenLabelSet.{line}
 use Rattle.am_universe.proofs.Writing.{◌⟩◌, ends, fails, wrote_then, wrote_as, wrote_nothing, writes_as}
@@ -8,7 +9,7 @@ use Rattle.am_search.proofs.PageLines.{begun, all_written, full, through, one_mo
 use Rattle.am_search.proofs.page_text.write_lines.Goals as goal
 
 pub loop-choice-init : goal.loop-choice-init
-loop-choice-init g c = (begun _ _ _ _ c.empty-last.ensures.no_position wrote_nothing, refl)
+loop-choice-init g c = (begun _ _ _ _ c.empty-last.ensures.no_position wrote_nothing, refl, refl)
 
 pub returns-then-eq-clause-trailer : goal.returns-then-eq-clause-trailer
 returns-then-eq-clause-trailer g c =
@@ -19,22 +20,22 @@ pub returns-then-eq-clause-written : goal.returns-then-eq-clause-written
 returns-then-eq-clause-written g c =
     let none : c.loop-choice.room ≡ Some 0 = no_room _ c.if-eq.ensures in
     let page = full c.loop-choice.invariant.0 _ _ c.in-Some.ensures.first none c.requires.limit in
-    ends _ (wrote_as (ap (λ p. flat_map (line c.args.universe.now) p.choices) (sym page)) c.loop-choice.invariant.0.written)
+    ends _ (wrote_as (ap (λ p. flat_map (line c.args.table.now) p.choices) (sym page)) c.loop-choice.invariant.0.written)
 
 pub write_line-requires : goal.write_line-requires
 write_line-requires g c =
-    subst (λ ns. IsWhole ns c.in-Some.choice) (ap g.J.Judge.sizes c.loop-choice.invariant.1 ∙ c.requires.sizes) c.in-Some.ensures.whole
+    subst (λ ns. IsWhole ns c.in-Some.choice) (ap g.J.Judge.sizes c.loop-choice.invariant.1 ∙ c.requires.sizes ∙ ap sizes (sym c.loop-choice.invariant.2)) c.in-Some.ensures.whole
 
 pub returns-in_err-write_line-clause-trailer : goal.returns-in_err-write_line-clause-trailer
 returns-in_err-write_line-clause-trailer g c = IfOk-from_err _ _ c.from_residual.ensures.0
 
 pub returns-in_err-write_line-clause-written : goal.returns-in_err-write_line-clause-written
 returns-in_err-write_line-clause-written g c =
-    let f = line c.args.universe.now in
+    let f = line c.args.table.now in
     let some : c.loop-choice.room ≢ Some 0 = some_room _ c.if-eq.ensures in
     let page = through c.loop-choice.invariant.0 _ _ c.in-Some.ensures.first some in
     writes_as (lines_through f c.loop-choice.invariant.0.done c.in-Some.choice page.0 ∙ ap (flat_map f) (sym page.1))
-    (c.loop-choice.invariant.0.written ⟩ fails _ c.from_residual.ensures c.in_err-write_line.ensures)
+    (c.loop-choice.invariant.0.written ⟩ fails _ c.from_residual.ensures (writes_as (ap (λ u. line u c.in-Some.choice) c.loop-choice.invariant.2) c.in_err-write_line.ensures.written))
 
 pub overflow_sub-room : goal.overflow_sub-room
 overflow_sub-room g c = one_less _ _ c.in-Some-room.is (some_room _ c.if-eq.ensures)
@@ -46,9 +47,9 @@ pub loop-choice-preserved-in-Some-room-whole : goal.loop-choice-preserved-in-Som
 loop-choice-preserved-in-Some-room-whole g c =
     let so_far = c.loop-choice.invariant.0 in
     let less = less_by_one _ (one_less _ _ c.in-Some-room.is (some_room _ c.if-eq.ensures)) in
-    let written = wrote_as (lines_more (line c.args.universe.now) so_far.done c.in-Some.choice) (wrote_then so_far.written c.in_ok-write_line.ensures.ok) in
+    let written = wrote_as (lines_more (line c.args.table.now) so_far.done c.in-Some.choice) (wrote_then so_far.written (wrote_as (ap (λ u. line u c.in-Some.choice) c.loop-choice.invariant.2) c.in_ok-write_line.ensures.written.ok)) in
     let more = one_more so_far _ _ _ c.in-Some.ensures.first (c.in-Some-room.is ∙ less) written in
-    (more, c.in-Some.ensures.judge ∙ c.loop-choice.invariant.1)
+    (more, c.in-Some.ensures.judge ∙ c.loop-choice.invariant.1, c.in_ok-write_line.ensures.same ∙ c.loop-choice.invariant.2)
 
 pub loop-choice-smaller : goal.loop-choice-smaller
 loop-choice-smaller g c = fewer c.in-Some.ensures.first
@@ -56,9 +57,9 @@ loop-choice-smaller g c = fewer c.in-Some.ensures.first
 pub loop-choice-preserved-whole : goal.loop-choice-preserved-whole
 loop-choice-preserved-whole g c =
     let so_far = c.loop-choice.invariant.0 in
-    let written = wrote_as (lines_more (line c.args.universe.now) so_far.done c.in-Some.choice) (wrote_then so_far.written c.in_ok-write_line.ensures.ok) in
+    let written = wrote_as (lines_more (line c.args.table.now) so_far.done c.in-Some.choice) (wrote_then so_far.written (wrote_as (ap (λ u. line u c.in-Some.choice) c.loop-choice.invariant.2) c.in_ok-write_line.ensures.written.ok)) in
     let more = one_more so_far _ _ _ c.in-Some.ensures.first (no_limit _ c.in_default-room.is) written in
-    (more, c.in-Some.ensures.judge ∙ c.loop-choice.invariant.1)
+    (more, c.in-Some.ensures.judge ∙ c.loop-choice.invariant.1, c.in_ok-write_line.ensures.same ∙ c.loop-choice.invariant.2)
 
 pub returns-clause-trailer : goal.returns-clause-trailer
 returns-clause-trailer g c = sym (ap (λ p. p.trailer) (all_written c.loop-choice.invariant.0 c.in_default.ensures.first.0))
@@ -66,4 +67,4 @@ returns-clause-trailer g c = sym (ap (λ p. p.trailer) (all_written c.loop-choic
 pub returns-clause-written : goal.returns-clause-written
 returns-clause-written g c =
     let page = all_written c.loop-choice.invariant.0 c.in_default.ensures.first.0 in
-    ends _ (wrote_as (ap (λ p. flat_map (line c.args.universe.now) p.choices) (sym page)) c.loop-choice.invariant.0.written)
+    ends _ (wrote_as (ap (λ p. flat_map (line c.args.table.now) p.choices) (sym page)) c.loop-choice.invariant.0.written)

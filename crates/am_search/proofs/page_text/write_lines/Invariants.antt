@@ -8,9 +8,10 @@ use Rattle.am_search.proofs.page_text.write_lines.Given as goal
 abbrev pub invariant-loop-choice : goal.invariant-loop-choice
 invariant-loop-choice g l =
     IsSoFar (answers_left l.fn.answers) l.fn.limit
-    (λ done. Wrote g.W.Sink.taken g.W.Sink.failures l.fn.out l.out (lines_text l.universe done))
+    (λ done. Wrote g.W.Sink.taken g.W.Sink.failures l.fn.out l.out (lines_text l.fn.table done))
     (answers_left l.answers) l.room l.last
     × (answers_judge l.answers ≡ answers_judge l.fn.answers)
+    × (l.table ≡ l.fn.table)
 
 abbrev pub decreases-loop-choice : goal.decreases-loop-choice
 decreases-loop-choice g l = length (answers_left l.answers)
