@@ -65,6 +65,16 @@ in_filter test (x ∷ xs) y h = elim (in_cond test x y (filter test xs) (test x)
   | inr i ↦ let r = in_filter test xs y i in (inr r.0, r.1)
 ]
 
+-- and what it does keep
+pub into_filter : {X : Type 0} (test : X → Bool) (xs : List X) (x : X) → IsIn xs x → test x ≡ true → IsIn (filter test xs) x
+into_filter test [] x i h = absurd i
+into_filter test (y ∷ xs) x (inl e) h = subst (λ l. IsIn l x) (sym (filter_step test y xs true (ap test e ∙ h))) (inl e)
+into_filter test (y ∷ xs) x (inr i) h = by (test y) (into_filter test xs x i h)
+  where
+    by : (b : Bool) → IsIn (filter test xs) x → IsIn (cond b (y ∷ filter test xs) (filter test xs)) x
+    by true j = inr j
+    by false j = j
+
 -- the first that passes is one of them
 found_cond : (test : List ℕ → Bool) (x : List ℕ) (xs : List (List ℕ)) (b : Bool) → IfSome (find test xs) (λ f. IsIn xs f) → IfSome (cond b (Some x) (find test xs)) (λ f. IsIn (x ∷ xs) f)
 found_cond test x xs true h = inl refl

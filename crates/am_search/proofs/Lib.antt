@@ -1,6 +1,12 @@
 pub mod ChoiceOrder
+pub mod PrefixOrder
+pub mod NextPrefix
 pub mod Odometer
 pub mod Walks
+pub mod VisitedPrefixes
+pub mod VisitsGive
+pub mod VisitSteps
+pub mod WalkSteps
 pub mod Positions
 pub mod TokenTexts
 pub mod Pages

@@ -15,6 +15,7 @@ use Rattle.am_universe.specs.Completions.{completions}
 use Rattle.am_universe.proofs.ChoiceLemmas.{behind, same_first, less_first}
 use Rattle.am_universe.proofs.CompletionLemmas.{below, completions_are_below}
 use Rattle.am_search.specs.Start.{comes_before}
+use Rattle.am_search.specs.NextPrefix.{next_beside}
 use Rattle.am_search.proofs.ChoiceOrder.{not_itself, not_back}
 
 -- ---- A prefix and the position 0 of each label left.
@@ -68,24 +69,18 @@ first_completion_is sizes prefix some a = ap (λ cs. slice_get cs 0) (completion
 
 -- ---- The next prefix, not longer, that does not begin with a prefix: the last position that can be greater is.
 
-abbrev pub advanced : List ℕ → List ℕ → Option (List ℕ)
-advanced sizes [] = None
-advanced [] (p ∷ prefix) = None
-advanced (size ∷ sizes) (p ∷ prefix) =
-    option_or (option_map (λ c. p ∷ c) (advanced sizes prefix)) (cond (nat_lt (p + 1) size) (Some ((p + 1) ∷ [])) None)
-
-advanced_by : (b : Bool) (r : ℕ) (more : List ℕ) (less : Option (List ℕ)) (other : Option (List ℕ))
+beside_by : (b : Bool) (r : ℕ) (more : List ℕ) (less : Option (List ℕ)) (other : Option (List ℕ))
     → option_or (option_map (λ c. r ∷ c) (cond b (Some more) less)) other ≡ cond b (Some (r ∷ more)) (option_or (option_map (λ c. r ∷ c) less) other)
-advanced_by true r more less other = refl
-advanced_by false r more less other = refl
+beside_by true r more less other = refl
+beside_by false r more less other = refl
 
-pub advanced_last : (sizes prefix : List ℕ) (p : ℕ) → length prefix < length sizes
-    → advanced sizes (prefix ++ p ∷ []) ≡ cond (nat_lt (p + 1) (slice_index sizes (length prefix))) (Some (prefix ++ (p + 1) ∷ [])) (advanced sizes prefix)
-advanced_last [] prefix p h = absurd (omega arith)
-advanced_last (size ∷ sizes) [] p h = refl
-advanced_last (size ∷ sizes) (q ∷ prefix) p h =
-    ap (λ o. option_or (option_map (λ c. q ∷ c) o) (cond (nat_lt (q + 1) size) (Some ((q + 1) ∷ [])) None)) (advanced_last sizes prefix p (omega arith))
-    ∙ advanced_by (nat_lt (p + 1) (slice_index sizes (length prefix))) q (prefix ++ (p + 1) ∷ []) (advanced sizes prefix) _
+pub beside_last : (sizes prefix : List ℕ) (p : ℕ) → length prefix < length sizes
+    → next_beside sizes (prefix ++ p ∷ []) ≡ cond (nat_lt (p + 1) (slice_index sizes (length prefix))) (Some (prefix ++ (p + 1) ∷ [])) (next_beside sizes prefix)
+beside_last [] prefix p h = absurd (omega arith)
+beside_last (size ∷ sizes) [] p h = refl
+beside_last (size ∷ sizes) (q ∷ prefix) p h =
+    ap (λ o. option_or (option_map (λ c. q ∷ c) o) (cond (nat_lt (q + 1) size) (Some ((q + 1) ∷ [])) None)) (beside_last sizes prefix p (omega arith))
+    ∙ beside_by (nat_lt (p + 1) (slice_index sizes (length prefix))) q (prefix ++ (p + 1) ∷ []) (next_beside sizes prefix) _
 
 -- ---- The first choice after a whole one.
 
@@ -150,7 +145,7 @@ mapped_or f g h None true x same = refl
 mapped_or f g h None false x same = refl
 mapped_or f g h (Some t) b x same = ap Some (sym (same t))
 
-pub next_choice_is : (sizes c : List ℕ) → ArePositive sizes → IsWhole sizes c → find (comes_before c) (choices sizes) ≡ option_map (filled sizes) (advanced sizes c)
+pub next_choice_is : (sizes c : List ℕ) → ArePositive sizes → IsWhole sizes c → find (comes_before c) (choices sizes) ≡ option_map (filled sizes) (next_beside sizes c)
 next_choice_is [] [] some w = ap (λ b. cond b (Some []) None) (not_itself [])
 next_choice_is [] (p ∷ c) some w = absurd (omega (arith, w.1))
 next_choice_is (size ∷ sizes) [] some w = absurd (omega (arith, w.1))
@@ -161,7 +156,7 @@ next_choice_is (size ∷ sizes) (p ∷ c) some w =
     found_behind p 0 size c (choices sizes) (filled sizes []) rest.others (omega arith) high rest.is
     ∙ ap (λ m. option_or (option_map (λ t. p ∷ t) (find (comes_before c) (choices sizes))) (cond (nat_lt (p + 1) m) (Some ((p + 1) ∷ filled sizes [])) None)) (omega arith)
     ∙ ap (λ o. option_or (option_map (λ t. p ∷ t) o) (cond (nat_lt (p + 1) size) (Some ((p + 1) ∷ filled sizes [])) None)) (next_choice_is sizes c some.1 (parts.1, omega (arith, w.1)))
-    ∙ mapped_or (filled sizes) (λ t. p ∷ t) (filled (size ∷ sizes)) (advanced sizes c) (nat_lt (p + 1) size) ((p + 1) ∷ []) (λ t. refl)
+    ∙ mapped_or (filled sizes) (λ t. p ∷ t) (filled (size ∷ sizes)) (next_beside sizes c) (nat_lt (p + 1) size) ((p + 1) ∷ []) (λ t. refl)
 
 -- ---- Position by position.
 
@@ -207,17 +202,10 @@ popped ns before prefix p a same = admitted_with ns prefix p (subst (λ c. admit
 pub size_at : (ns : List ℕ) (n i size : ℕ) → i ≡ n → slice_get ns i ≡ Some size → slice_index ns n ≡ size
 size_at ns n i size same is = get_or_from_slice_get ns n size 0 (subst (λ k. slice_get ns k ≡ Some size) same is)
 
-pub nothing_greater : (sizes prefix : List ℕ) (p : ℕ) → length prefix < length sizes → slice_index sizes (length prefix) ≤ p + 1 → advanced sizes (prefix ++ p ∷ []) ≡ advanced sizes prefix
+pub nothing_greater : (sizes prefix : List ℕ) (p : ℕ) → length prefix < length sizes → slice_index sizes (length prefix) ≤ p + 1 → next_beside sizes (prefix ++ p ∷ []) ≡ next_beside sizes prefix
 nothing_greater sizes prefix p h k =
-    advanced_last sizes prefix p h ∙ ap (λ b. cond b (Some (prefix ++ (p + 1) ∷ [])) (advanced sizes prefix)) (le-ltb (p + 1) (slice_index sizes (length prefix)) k)
+    beside_last sizes prefix p h ∙ ap (λ b. cond b (Some (prefix ++ (p + 1) ∷ [])) (next_beside sizes prefix)) (le-ltb (p + 1) (slice_index sizes (length prefix)) k)
 
-pub next_found : (sizes c prefix : List ℕ) (p : ℕ) (d : List ℕ) → ArePositive sizes → IsWhole sizes c → advanced sizes (prefix ++ p ∷ []) ≡ advanced sizes c
-    → length prefix < length sizes → p + 1 < slice_index sizes (length prefix) → admits sizes (prefix ++ (p + 1) ∷ []) ≡ true
-    → slice_get (completions sizes (prefix ++ (p + 1) ∷ [])) 0 ≡ Some d → Some d ≡ find (comes_before c) (choices sizes)
-next_found sizes c prefix p d some w same h k a first =
-    sym first ∙ first_completion_is sizes (prefix ++ (p + 1) ∷ []) some a
-    ∙ sym (ap (λ b. option_map (filled sizes) (cond b (Some (prefix ++ (p + 1) ∷ [])) (advanced sizes prefix))) (lt-ltb (p + 1) (slice_index sizes (length prefix)) k))
-    ∙ ap (option_map (filled sizes)) (sym (advanced_last sizes prefix p h) ∙ same) ∙ sym (next_choice_is sizes c some w)
-
-pub next_none : (sizes c : List ℕ) → ArePositive sizes → IsWhole sizes c → advanced sizes [] ≡ advanced sizes c → None ≡ find (comes_before c) (choices sizes)
-next_none sizes c some w same = ap (option_map (filled sizes)) same ∙ sym (next_choice_is sizes c some w)
+pub beside_found : (sizes prefix : List ℕ) (p : ℕ) → length prefix < length sizes → p + 1 < slice_index sizes (length prefix) → next_beside sizes (prefix ++ p ∷ []) ≡ Some (prefix ++ (p + 1) ∷ [])
+beside_found sizes prefix p h k =
+    beside_last sizes prefix p h ∙ ap (λ b. cond b (Some (prefix ++ (p + 1) ∷ [])) (next_beside sizes prefix)) (lt-ltb (p + 1) (slice_index sizes (length prefix)) k)

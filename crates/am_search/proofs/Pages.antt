@@ -21,7 +21,7 @@ use Rattle.am_search.specs.Start.{comes_before, IsStart, first_of_start, at_or_a
 use Rattle.am_search.specs.Page.{AnswerPage, page_of, page_from, rest_after, IsPage, IsChain, start_after, all_choices_of}
 use Rattle.am_search.specs.Token.{token_text}
 use Rattle.am_search.specs.TrailerText.{trailer_text}
-use Rattle.am_search.proofs.ChoiceOrder.{Ascends, before_trans, not_back, filter_step, filter_all, filter_same, in_filter, from_found, after_taken, up_to_taken, taken_last}
+use Rattle.am_search.proofs.ChoiceOrder.{Ascends, before_trans, not_back, filter_all, filter_same, in_filter, into_filter, from_found, after_taken, up_to_taken, taken_last}
 use Rattle.am_search.proofs.Odometer.{filled, first_completion_is, positive}
 use Rattle.am_search.proofs.Walks.{first_is_whole, one_more}
 
@@ -72,16 +72,6 @@ pub choices_after : (ns c : List ℕ) → choices_from ns (After c) ≡ filter (
 choices_after ns c = from_found (choices ns) c (choices_sorted ns)
 
 -- ---- The answers.
-
-into_filter : (test : List ℕ → Bool) (cs : List (List ℕ)) (c : List ℕ) → IsIn cs c → test c ≡ true → IsIn (filter test cs) c
-into_filter test [] c i h = absurd i
-into_filter test (d ∷ cs) c (inl e) h =
-    subst (λ l. IsIn l c) (sym (filter_step test d cs true (ap test e ∙ h))) (inl e)
-into_filter test (d ∷ cs) c (inr i) h = by (test d) (into_filter test cs c i h)
-  where
-    by : (b : Bool) → IsIn (filter test cs) c → IsIn (cond b (d ∷ filter test cs) (filter test cs)) c
-    by true j = inr j
-    by false j = j
 
 pub answers_exactly : (ns c : List ℕ) (truth : List ℕ → Bool) (start : Start)
     → (Contains (answers_from ns truth start) c ↔ (Contains (choices_from ns start) c × IsTrue (truth c)))

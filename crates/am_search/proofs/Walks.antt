@@ -1,18 +1,15 @@
--- The answers that are left at a choice, and what a judge says of it.
-use Rattle.std.proofs.Common.{◌≡◌, ◌≢◌, ℕ, ◌<◌, true, false, cond, Bool, List, [], ◌∷◌, length, Option, Some, None, IfSome, MatchOption, slice_get, ap, sym, subst, ◌∙◌, refl, inl, arith}
-use Rattle.std.specs.Prelude.{⊤, IsTrue}
-use Rattle.std.specs.List.{filter, find, AllByRecursion}
+-- Where a start begins, and the first answer.
+use Rattle.std.proofs.Common.{◌≡◌, ℕ, true, false, cond, Bool, List, [], ◌∷◌, length, Option, Some, None, IfSome, MatchOption, slice_get, ap, sym, subst, ◌∙◌, refl, inl, arith}
+use Rattle.std.specs.Prelude.{⊤}
+use Rattle.std.specs.List.{filter, find}
 use Rattle.std.specs.Iterator.{YieldsFirst, MakesProgress, item_count}
 use Rattle.am_universe.specs.Choice.{choices, IsWhole}
 use Rattle.am_universe.specs.Completions.{completions}
 use Rattle.am_universe.proofs.ListLemmas.{IsIn, IsIn-from_Contains}
 use Rattle.am_universe.proofs.ChoiceLemmas.{choices_whole, choices_sorted, whole_from_in}
-use Rattle.am_universe.proofs.CompletionLemmas.{completions_are_below, completions_of_whole}
-use Rattle.am_search.specs.declared.verdict.Verdict.{Verdict}
-use Rattle.am_search.specs.declared.verdict.Verdict.TheVariants.{Yes, No, Open}
+use Rattle.am_universe.proofs.CompletionLemmas.{completions_are_below}
 use Rattle.am_search.specs.declared.start.Start.{Start}
 use Rattle.am_search.specs.declared.start.Start.TheVariants.{At, After}
-use Rattle.am_search.specs.Judge.{IsJudge}
 use Rattle.am_search.specs.Start.{comes_before, first_of_start, at_or_after, choices_from}
 use Rattle.am_search.proofs.ChoiceOrder.{found_in, in_filter, filter_step, from_first, member_then_rest}
 
@@ -30,38 +27,13 @@ pub first_is_whole : (ns : List ℕ) (start : Start) (c : List ℕ) → first_of
 first_is_whole ns (At prefix) c e = whole_from_in ns c (in_filter _ (choices ns) c (got_in (completions ns prefix) c e)).0
 first_is_whole ns (After d) c e = whole_from_in ns c (found (find (comes_before d) (choices ns)) (choices ns) c (found_in (comes_before d) (choices ns)) e)
 
--- ---- One choice, and then those that are left behind it.
+-- ---- One choice, and then those behind it.
 
 pub in_choices : (ns c : List ℕ) → IsWhole ns c → IsIn (choices ns) c
 in_choices ns c w = IsIn-from_Contains (choices ns) c ((choices_whole ns c).1 w)
 
 pub one_more : (ns c : List ℕ) → IsWhole ns c → at_or_after (Some c) (choices ns) ≡ c ∷ choices_from ns (After c)
 one_more ns c w = member_then_rest (choices ns) c (choices_sorted ns) (in_choices ns c w)
-
-pub left_at_true : (ns : List ℕ) (truth : List ℕ → Bool) (c : List ℕ) → IsWhole ns c → truth c ≡ true
-    → filter truth (at_or_after (Some c) (choices ns)) ≡ c ∷ filter truth (choices_from ns (After c))
-left_at_true ns truth c w h = ap (filter truth) (one_more ns c w) ∙ filter_step truth c (choices_from ns (After c)) true h
-
-pub left_at_false : (ns : List ℕ) (truth : List ℕ → Bool) (c : List ℕ) → IsWhole ns c → truth c ≡ false
-    → filter truth (at_or_after (Some c) (choices ns)) ≡ filter truth (choices_from ns (After c))
-left_at_false ns truth c w h = ap (filter truth) (one_more ns c w) ∙ filter_step truth c (choices_from ns (After c)) false h
-
-pub fewer_left : (ns c : List ℕ) → IsWhole ns c → length (choices_from ns (After c)) < length (at_or_after (Some c) (choices ns))
-fewer_left ns c w = omega (arith, ap length (one_more ns c w))
-
--- ---- What a verdict at a whole choice says of it.
-
-module _ (ns : List ℕ) (truth : List ℕ → Bool) (verdict : List ℕ → Verdict) (law : IsJudge ns truth verdict) where
-  pub true_at : (c : List ℕ) → IsWhole ns c → verdict c ≡ Yes → truth c ≡ true
-  true_at c w h = (subst (AllByRecursion (λ d. IsTrue (truth d))) (completions_of_whole ns c w) (law.yes c w.0 h)).0
-
-  pub false_at : (c : List ℕ) → IsWhole ns c → verdict c ≢ Yes → truth c ≡ false
-  false_at c w other = by (verdict c) refl
-    where
-      by : (v : Verdict) → verdict c ≡ v → truth c ≡ false
-      by Yes e = absurd (other e)
-      by No e = (subst (AllByRecursion (λ d. truth d ≡ false)) (completions_of_whole ns c w) (law.no c w.0 e)).0
-      by Open e = absurd (law.whole c w e)
 
 -- ---- What `next` says.
 

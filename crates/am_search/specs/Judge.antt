@@ -1,10 +1,26 @@
 -- Judges: what a search asks whether the completions of a prefix are true.
-use Rattle.std.specs.Prelude.{◌≡◌, ◌≢◌, ℕ, ◌<◌, ◌≤◌, List, length, Bool, false, IsTrue}
+use Rattle.std.specs.Prelude.{◌≡◌, ◌≢◌, ℕ, ◌<◌, ◌≤◌, List, length, Bool, true, false, IsTrue}
 use Rattle.std.specs.List.{AllByRecursion}
 use Rattle.am_universe.specs.declared.limits.TheConstants.{MAX_LABELS, MAX_VALUES}
 use Rattle.am_universe.specs.Words.{admits, IsWhole, completions}
 use Rattle.am_search.specs.declared.verdict.Verdict.{Verdict}
 use Rattle.am_search.specs.declared.verdict.Verdict.TheVariants.{Yes, No, Open}
+
+-- A verdict is `Yes`; it is `No`; and it is `Open`, as tests.
+abbrev pub is_yes : Verdict → Bool
+is_yes Yes = true
+is_yes No = false
+is_yes Open = false
+
+abbrev pub is_no : Verdict → Bool
+is_no Yes = false
+is_no No = true
+is_no Open = false
+
+abbrev pub is_open : Verdict → Bool
+is_open Yes = false
+is_open No = false
+is_open Open = true
 
 -- How many values each label has: at most `MAX_LABELS` labels, each with 1 to `MAX_VALUES`.
 pub record AreSizes (sizes : List ℕ) : Type 0 where

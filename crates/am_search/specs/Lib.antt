@@ -3,6 +3,10 @@ pub mod Judge
 pub mod Start
 pub mod Page
 pub mod Token
+pub mod Visits
+pub mod VisitsExample
+pub mod NextPrefix
+pub mod Walk
 pub mod AnswersView
 pub mod TrailerText
 pub mod PageText

@@ -1,14 +1,20 @@
-ghost use Rattle.std.specs.Prelude.{◌≡◌, Some, None, IfSome, MatchOption};
+ghost use Rattle.std.specs.Prelude.{◌≡◌, ◌<◌, ◌≤◌, ◌∷◌, [], ◌++◌, Some, None, length, IsTrue};
+ghost use Rattle.std.specs.Prelude.{IfSome, IfNone, MatchOption, MatchBool, slice_get};
 ghost use Rattle.std.specs.Iterator.{YieldsFirst};
-ghost use Rattle.std.specs.List.{find};
-ghost use Rattle.std.specs.Option.{ForSome};
-ghost use Rattle.am_universe.specs.Words.{IsWhole, choices};
+ghost use Rattle.std.specs.List.{find, starts_with};
+ghost use Rattle.am_universe.specs.Words.{admits, IsWhole, choices, completions};
 ghost use Rattle.am_search.specs.declared.start.Start.TheVariants.{At, After};
+ghost use Rattle.am_search.specs.declared.stage.Stage.TheVariants.{Judging, Giving, Done};
 ghost use Rattle.am_search.specs.declared.answers.State.TheVariants.{Running, Ended};
 ghost use Rattle.am_search.specs.Start.{IsStart, first_of_start, answers_from};
+ghost use Rattle.am_search.specs.NextPrefix.{next_beside};
+ghost use Rattle.am_search.specs.Walk.{IsWalk, first_position};
+ghost use Rattle.std.proofs.Props.{props};
 
+use crate::judged::Judged;
+use crate::stage::Stage;
 use crate::{Judge, Start, Verdict};
-use am_universe::Choice;
+use am_universe::{Choice, History, Position};
 
 /// How far answers have come.
 #[derive(Clone, Copy, Debug, PartialEq, Eq)]
@@ -19,19 +25,31 @@ pub enum State {
     Ended,
 }
 
-/// The true choices of a judge from a start on, in declared order, each once. No memory is taken.
+/// The true choices of a judge from a start on, in declared order, each once.
+///
+/// Prefixes are judged, and not whole choices one by one: what is below a `No` is left out, and
+/// what is below a `Yes` is given with no further judgement. No memory is taken.
 #[derive(Drop)]
 pub struct Answers<'a, J: Judge> {
     judge: &'a J,
-    // The first choice that has not been looked at, if one is left.
-    next: Option<Choice>,
+    start: Start,
     state: State,
-    ghost whole: { ForSome next (IsWhole (J.sizes judge.now)) },
-    ghost ended: { state ≡ Ended → next ≡ None },
+    stage: Stage,
+    // The prefix that is judged next, or the choice that is given next.
+    current: Choice,
+    // The choice at which the start begins, as long as that begins with the prefix.
+    along: Option<Choice>,
+    judged: Judged,
+    given: History<Choice>,
+    ghost walk: { IsWalk (J.sizes judge.now) (J.verdict judge.now) start stage current along
+        judged given.items } by { Prim.hlevel props },
+    ghost ended: { state ≡ Ended → stage ≡ Done },
 }
 
 impl<'a, J: Judge> Answers<'a, J> {
     ghost use Rattle.am_search.specs.AnswersView.{answers_left, answers_judge, answers_state};
+    ghost use Rattle.am_search.specs.AnswersView.{answers_start, answers_judged, answers_given};
+    ghost use Rattle.am_search.specs.Visits.{IsPartOfSearch, IsWholeSearch};
 
     /// The answers from a start on, which is one over the sizes of the judge.
     pub fn from(judge: &'a J, start: Start) -> Answers<'a, J>
@@ -40,19 +58,90 @@ impl<'a, J: Judge> Answers<'a, J> {
             ≡ answers_from (J.sizes judge.now) (J.truth judge.now) start }
         ensures judge { answers_judge result ≡ judge.now }
         ensures state { answers_state result ≡ Running }
+        ensures start { answers_start result ≡ start }
+        ensures judged { answers_judged result ≡ [] }
+        ensures given { answers_given result ≡ [] }
     {
+        let along = first_choice(judge, &start);
+        let stage = first_stage(&along);
         Answers {
             judge,
-            next: first_choice(judge, start),
+            start,
             state: State::Running,
+            stage,
+            current: Choice::empty(),
+            along,
+            judged: Judged::none(),
+            given: History::new(),
         }
     }
 
     /// `Running` until `next` first answers `None`, and `Ended` from then on.
     pub fn state(&self) -> State
         ensures state { result ≡ answers_state self.now }
+        ensures ended { result ≡ Ended → IsWholeSearch (J.sizes (answers_judge self.now))
+            (J.verdict (answers_judge self.now)) (answers_start self.now) None
+            (answers_judged self.now) (answers_given self.now) }
+        ensures judged { IsPartOfSearch (J.sizes (answers_judge self.now))
+            (J.verdict (answers_judge self.now)) (answers_start self.now) None
+            (answers_judged self.now) (answers_given self.now) }
     {
         self.state
+    }
+
+    /// Judges the prefix at which the search stands, and goes on to where it stands then. Nothing
+    /// else asks the judge.
+    fn judge_next(&mut self)
+        requires { self.old.stage ≡ Judging }
+        ensures judged { answers_judged self.new
+            ≡ answers_judged self.old ++ self.old.current ∷ [] }
+        ensures given { answers_given self.new ≡ answers_given self.old }
+        ensures judge { answers_judge self.new ≡ answers_judge self.old }
+        ensures start { answers_start self.new ≡ answers_start self.old }
+        ensures state { answers_state self.new ≡ answers_state self.old }
+    {
+        let verdict = self.judge.judge(&self.current);
+        self.judged.tick(&self.current);
+        match verdict {
+            Verdict::Open => {
+                let position = position_along(&self.along, self.current.len());
+                self.current.push(position);
+            }
+            Verdict::Yes => {
+                self.stage = Stage::Giving(self.current.len());
+                complete_along(self.judge, &self.along, &mut self.current);
+            }
+            Verdict::No => {
+                self.along = None;
+                if !go_beside(self.judge, &mut self.current) {
+                    self.stage = Stage::Done;
+                }
+            }
+        }
+    }
+
+    /// Gives the choice at which the search stands, and goes on to the next. Its first `depth`
+    /// positions were judged `Yes`.
+    fn give_next(&mut self, depth: usize) -> Choice
+        requires { self.old.stage ≡ Giving depth }
+        ensures choice { result ≡ self.old.current }
+        ensures given { answers_given self.new ≡ answers_given self.old ++ result ∷ [] }
+        ensures judged { answers_judged self.new ≡ answers_judged self.old }
+        ensures judge { answers_judge self.new ≡ answers_judge self.old }
+        ensures start { answers_start self.new ≡ answers_start self.old }
+        ensures state { answers_state self.new ≡ answers_state self.old }
+    {
+        let choice = self.current;
+        self.given = self.given.followed_by(&[choice]);
+        self.along = None;
+        if !go_beside(self.judge, &mut self.current) {
+            self.stage = Stage::Done;
+        } else if self.current.len() > depth {
+            complete(self.judge, &mut self.current);
+        } else {
+            self.stage = Stage::Judging;
+        }
+        choice
     }
 }
 
@@ -60,6 +149,8 @@ impl<'a, J: Judge> Iterator for Answers<'a, J> {
     ghost use Rattle.std.specs.Prelude.{⊤};
     ghost use Rattle.std.specs.Iterator.{item_count, MakesProgress};
     ghost use Rattle.am_search.specs.AnswersView.{answers_left, answers_judge, answers_state};
+    ghost use Rattle.am_search.specs.AnswersView.{answers_start, answers_judged, answers_given};
+    ghost use Rattle.am_search.specs.Visits.{IsPartOfSearch, IsWholeSearch, BeginsWithLast};
 
     type Item = Choice;
 
@@ -75,19 +166,31 @@ impl<'a, J: Judge> Iterator for Answers<'a, J> {
         ensures judge { answers_judge self.new ≡ answers_judge self.old }
         ensures state { MatchOption result (answers_state self.new ≡ Ended)
             (λ _. answers_state self.new ≡ Running) }
+        ensures start { answers_start self.new ≡ answers_start self.old }
+        ensures given { MatchOption result (answers_given self.new ≡ answers_given self.old)
+            (λ c. answers_given self.new ≡ answers_given self.old ++ c ∷ []) }
+        ensures last { IfSome result (BeginsWithLast (answers_judged self.new)) }
+        ensures never_fewer { length (answers_judged self.old) ≤ length (answers_judged self.new) }
+        ensures judged { IsPartOfSearch (J.sizes (answers_judge self.new))
+            (J.verdict (answers_judge self.new)) (answers_start self.new) None
+            (answers_judged self.new) (answers_given self.new) }
+        ensures ended { IfNone result (IsWholeSearch (J.sizes (answers_judge self.new))
+            (J.verdict (answers_judge self.new)) (answers_start self.new) None
+            (answers_judged self.new) (answers_given self.new)) }
     {
-        while let Some(choice) = self.next {
-            self.next = choice_after(self.judge, choice);
-            if self.judge.judge(&choice) == Verdict::Yes {
-                return Some(choice);
-            }
+        while self.stage == Stage::Judging {
+            self.judge_next();
+        }
+        if let Stage::Giving(depth) = self.stage {
+            return Some(self.give_next(depth));
         }
         self.state = State::Ended;
         None
     }
 }
 
-/// The first true choice, if there is one. No memory is taken.
+/// The first true choice, if there is one. Nothing is judged past it: the choice begins with the
+/// prefix that is judged last. No memory is taken.
 pub fn first<J: Judge>(judge: &J) -> Option<Choice>
     ensures whole { IfSome result (IsWhole (J.sizes judge.now)) }
     ensures first { result ≡ find (J.truth judge.now) (choices (J.sizes judge.now)) }
@@ -96,40 +199,92 @@ pub fn first<J: Judge>(judge: &J) -> Option<Choice>
     answers.next()
 }
 
+/// The first stage of a search. Nothing is left where its start begins at no choice.
+fn first_stage(first: &Option<Choice>) -> Stage
+    ensures { MatchOption first.now (result ≡ Done) (λ _. result ≡ Judging) }
+{
+    match first {
+        Some(_) => Stage::Judging,
+        None => Stage::Done,
+    }
+}
+
 /// The choice at which a start begins, if there is one.
-fn first_choice<J: Judge>(judge: &J, start: Start) -> Option<Choice>
-    requires { IsStart (J.sizes judge.now) start }
-    ensures { result ≡ first_of_start (J.sizes judge.now) start }
+fn first_choice<J: Judge>(judge: &J, start: &Start) -> Option<Choice>
+    requires { IsStart (J.sizes judge.now) start.now }
+    ensures { result ≡ first_of_start (J.sizes judge.now) start.now }
 {
     match start {
-        Start::At(prefix) => Some(first_completion(judge, prefix)),
+        Start::At(prefix) => {
+            let mut choice = *prefix;
+            complete(judge, &mut choice);
+            Some(choice)
+        }
         Start::After(choice) => choice_after(judge, choice),
     }
 }
 
-/// The first completion of a prefix.
-fn first_completion<J: Judge>(judge: &J, prefix: Choice) -> Choice
-    requires { IsStart (J.sizes judge.now) (At prefix) }
-    ensures { first_of_start (J.sizes judge.now) (At prefix) ≡ Some result }
+/// The choice that follows a whole one in declared order, if there is one.
+fn choice_after<J: Judge>(judge: &J, choice: &Choice) -> Option<Choice>
+    requires { IsStart (J.sizes judge.now) (After choice.now) }
+    ensures { result ≡ first_of_start (J.sizes judge.now) (After choice.now) }
 {
-    let mut choice = prefix;
-    while choice.len() < judge.labels() {
-        choice.push(0);
+    let mut next = *choice;
+    if go_beside(judge, &mut next) {
+        complete(judge, &mut next);
+        Some(next)
+    } else {
+        None
     }
-    choice
 }
 
-/// The choice that follows a whole one in declared order, if there is one.
-fn choice_after<J: Judge>(judge: &J, choice: Choice) -> Option<Choice>
-    requires { IsStart (J.sizes judge.now) (After choice) }
-    ensures { result ≡ first_of_start (J.sizes judge.now) (After choice) }
+/// The position below a prefix of `i` positions to which the search goes first: that of the choice
+/// along which the prefix lies, and else 0.
+fn position_along(along: &Option<Choice>, i: usize) -> Position
+    requires { IfSome along.now (λ first. i < length first) }
+    ensures { result ≡ first_position along.now i }
 {
-    let mut prefix = choice;
+    match along {
+        Some(first) => first.get(i),
+        None => 0,
+    }
+}
+
+/// Goes from a prefix to the choice along which it lies, and else to its first completion.
+fn complete_along<J: Judge>(judge: &J, along: &Option<Choice>, prefix: &mut Choice)
+    requires { IsTrue (admits (J.sizes judge.now) prefix.old) }
+    ensures { MatchOption along.now
+        (slice_get (completions (J.sizes judge.now) prefix.old) 0 ≡ Some prefix.new)
+        (λ first. prefix.new ≡ first) }
+{
+    match along {
+        Some(first) => *prefix = *first,
+        None => complete(judge, prefix),
+    }
+}
+
+/// Goes from a prefix to its first completion.
+fn complete<J: Judge>(judge: &J, prefix: &mut Choice)
+    requires { IsTrue (admits (J.sizes judge.now) prefix.old) }
+    ensures { slice_get (completions (J.sizes judge.now) prefix.old) 0 ≡ Some prefix.new }
+{
+    while prefix.len() < judge.labels() {
+        prefix.push(0);
+    }
+}
+
+/// Goes from a prefix to the first that comes after it and after all that begin with it. Where
+/// there is none the answer is `false`, and the prefix is empty.
+fn go_beside<J: Judge>(judge: &J, prefix: &mut Choice) -> bool
+    requires { IsTrue (admits (J.sizes judge.now) prefix.old) }
+    ensures { MatchBool result (next_beside (J.sizes judge.now) prefix.old ≡ Some prefix.new)
+        (next_beside (J.sizes judge.now) prefix.old ≡ None) }
+{
     while let Some(position) = prefix.pop() {
         if usize::from(position) + 1 < judge.size(prefix.len()) {
             prefix.push(position + 1);
-            return Some(first_completion(judge, prefix));
+            return true;
         }
     }
-    None
+    false
 }

@@ -14,6 +14,9 @@ ghost use Rattle.am_search.specs.Words.{AreSizes, comes_before, IsStart, first_o
 ghost use Rattle.am_search.specs.Words.{choices_from, answers_from, AnswerPage, page_from};
 ghost use Rattle.am_search.specs.Words.{rest_after, IsPage, IsChain, all_choices_of, token_text};
 ghost use Rattle.am_search.specs.Words.{start_after, trailer_text};
+ghost use Rattle.am_search.specs.Words.{IsJudge, all_prefixes, visited, given_under};
+ghost use Rattle.am_search.specs.VisitsExample.{example_verdict};
+ghost use Rattle.am_search.specs.declared.verdict.Verdict.{Verdict};
 
 /// The sizes of a universe are such as a judge may have.
 pub fn sizes_of_a_universe()
@@ -120,4 +123,39 @@ pub fn pages_in_a_row_are_the_answers()
 pub fn one_start_a_token()
     ensures same_start { (ns : List ℕ) (s t : Start) → AreSizes ns → IsStart ns s → IsStart ns t
         → token_text s ≡ token_text t → s ≡ t }
+{}
+
+/// All prefixes are those that the sizes admit.
+pub fn prefixes_are_those_admitted()
+    ensures exactly { (ns prefix : List ℕ)
+        → Contains (all_prefixes ns) prefix ↔ IsTrue (admits ns prefix) }
+{}
+
+/// The prefixes that are judged come in the order of a dictionary, a prefix before those that begin
+/// with it, so none is judged twice.
+pub fn judged_prefixes_ascend()
+    ensures ascending { (ns : List ℕ) (verdict : List ℕ → Verdict) (start : Start)
+        → IsStrictlySortedBy (slice_cmp nat_cmp) (visited ns verdict start) }
+{}
+
+/// The prefixes that are judged give exactly the answers from the start on: the true choices among
+/// those from there on, in order, each once.
+pub fn judged_prefixes_give_the_answers()
+    ensures exactly { (ns : List ℕ) (truth : List ℕ → Bool) (verdict : List ℕ → Verdict)
+        (start : Start) → IsJudge ns truth verdict
+        → given_under ns verdict start None ≡ answers_from ns truth start }
+{}
+
+/// What is visited and given in an example, over the sizes 3 and 2.
+pub fn an_example_of_a_search()
+    ensures from_the_first { visited (3 ∷ 2 ∷ []) example_verdict (At [])
+        ≡ [] ∷ (0 ∷ []) ∷ (0 ∷ 0 ∷ []) ∷ (0 ∷ 1 ∷ []) ∷ (1 ∷ []) ∷ (2 ∷ []) ∷ [] }
+    ensures after_a_choice { visited (3 ∷ 2 ∷ []) example_verdict (After (0 ∷ 1 ∷ []))
+        ≡ [] ∷ (1 ∷ []) ∷ (2 ∷ []) ∷ [] }
+    ensures after_the_last { visited (3 ∷ 2 ∷ []) example_verdict (After (2 ∷ 1 ∷ [])) ≡ [] }
+    ensures given { given_under (3 ∷ 2 ∷ []) example_verdict (At []) None
+        ≡ (0 ∷ 1 ∷ []) ∷ [] }
+    ensures enough { given_under (3 ∷ 2 ∷ []) example_verdict (At []) (Some 6)
+        ≡ (0 ∷ 1 ∷ []) ∷ [] }
+    ensures too_few { given_under (3 ∷ 2 ∷ []) example_verdict (At []) (Some 3) ≡ [] }
 {}

@@ -20,8 +20,10 @@ mod trailer;
 pub use start::Start;
 pub use trailer::Trailer;
 
-// The answers from a start on.
+// The answers from a start on, and what has been judged on the way.
 mod answers;
+mod judged;
+mod stage;
 
 pub use answers::{Answers, State, first};
 

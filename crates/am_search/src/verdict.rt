@@ -5,6 +5,6 @@ pub enum Verdict {
     Yes,
     /// No completion is true.
     No,
-    /// Completions have to be looked at.
+    /// Neither is known.
     Open,
 }

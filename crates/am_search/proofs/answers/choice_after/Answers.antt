@@ -1,64 +1,23 @@
-use Rattle.std.proofs.Common.{◌+◌, ◌<◌, length, slice_index, sym, ap, refl, ◌∙◌, arith}
-use Rattle.am_universe.proofs.CompletionLemmas.{admits_next}
-use Rattle.am_search.proofs.Odometer.{advanced, popped, size_at, limited_at, positive, next_found, next_none, nothing_greater}
+use Rattle.std.proofs.Common.{ap, sym, ◌∙◌}
+use Rattle.std.specs.Prelude.{option_map}
+use Rattle.am_search.proofs.Odometer.{filled, next_choice_is, positive, first_completion_is}
+use Rattle.am_search.proofs.NextPrefix.{beside_is}
 use Rattle.am_search.proofs.answers.choice_after.Goals as goal
 
-pub loop-position-init : goal.loop-position-init
-loop-position-init g c = record { admitted = c.requires.0; same = refl }
+pub complete-requires : goal.complete-requires
+complete-requires g c =
+    (beside_is (g.J.Judge.sizes c.args.judge.now) c.args.choice.now c.go_beside.new.prefix c.requires.0 c.if-go_beside.ensures).admitted
 
-pub size-requires : goal.size-requires
-size-requires g c =
+pub returns-then-go_beside : goal.returns-then-go_beside
+returns-then-go_beside g c =
     let ns = g.J.Judge.sizes c.args.judge.now in
-    let with_last = popped ns _ c.pop.new.self c.in-Some.position c.loop-position.invariant.admitted c.in-Some.ensures.last in
-    omega (arith, with_last.label)
+    let some = positive ns (g.met.J.Judge.laws c.args.judge.now).limits.values in
+    let admitted = (beside_is ns c.args.choice.now c.go_beside.new.prefix c.requires.0 c.if-go_beside.ensures).admitted in
+    sym (next_choice_is ns c.args.choice.now some c.requires ∙ ap (option_map (filled ns)) c.if-go_beside.ensures
+    ∙ sym (first_completion_is ns c.go_beside.new.prefix some admitted) ∙ c.complete.ensures)
 
-pub overflow_add-position : goal.overflow_add-position
-overflow_add-position g c =
+pub returns-else-go_beside : goal.returns-else-go_beside
+returns-else-go_beside g c =
     let ns = g.J.Judge.sizes c.args.judge.now in
-    let limits = (g.met.J.Judge.laws c.args.judge.now).limits in
-    let with_last = popped ns _ c.pop.new.self c.in-Some.position c.loop-position.invariant.admitted c.in-Some.ensures.last in
-    omega (arith, with_last.below, limited_at ns (length c.pop.new.self) limits.values with_last.label)
-
-pub push-requires : goal.push-requires
-push-requires g c =
-    let ns = g.J.Judge.sizes c.args.judge.now in
-    let limits = (g.met.J.Judge.laws c.args.judge.now).limits in
-    let with_last = popped ns _ c.pop.new.self c.in-Some.position c.loop-position.invariant.admitted c.in-Some.ensures.last in
-    omega (arith, with_last.label, limits.labels)
-
-pub first_completion-requires : goal.first_completion-requires
-first_completion-requires g c =
-    let ns = g.J.Judge.sizes c.args.judge.now in
-    let with_last = popped ns _ c.pop.new.self c.in-Some.position c.loop-position.invariant.admitted c.in-Some.ensures.last in
-    let size = size_at ns _ _ c.size.result c.len.ensures.len c.size.ensures.size in
-    rw c.push.ensures.added (admits_next ns c.pop.new.self (c.in-Some.position + 1) with_last.front with_last.label (omega (arith, size)))
-
-pub returns-then-from-size : goal.returns-then-from-size
-returns-then-from-size g c =
-    let ns = g.J.Judge.sizes c.args.judge.now in
-    let limits = (g.met.J.Judge.laws c.args.judge.now).limits in
-    let with_last = popped ns _ c.pop.new.self c.in-Some.position c.loop-position.invariant.admitted c.in-Some.ensures.last in
-    let size = size_at ns _ _ c.size.result c.len.ensures.len c.size.ensures.size in
-    let below : c.in-Some.position + 1 < slice_index ns (length c.pop.new.self) = omega (arith, size) in
-    next_found ns c.args.choice c.pop.new.self c.in-Some.position c.first_completion.result (positive ns limits.values) c.requires
-    (ap (advanced ns) (sym c.in-Some.ensures.last) ∙ c.loop-position.invariant.same)
-    with_last.label below (admits_next ns c.pop.new.self (c.in-Some.position + 1) with_last.front with_last.label below)
-    (rw c.push.ensures.added at c.first_completion.ensures)
-
-pub loop-position-preserved : goal.loop-position-preserved
-loop-position-preserved g c =
-    let ns = g.J.Judge.sizes c.args.judge.now in
-    let with_last = popped ns _ c.pop.new.self c.in-Some.position c.loop-position.invariant.admitted c.in-Some.ensures.last in
-    let size = size_at ns _ _ c.size.result c.len.ensures.len c.size.ensures.size in
-    record {
-      admitted = with_last.front;
-      same = sym (nothing_greater ns c.pop.new.self c.in-Some.position with_last.label (omega (arith, size)))
-          ∙ (ap (advanced ns) (sym c.in-Some.ensures.last) ∙ c.loop-position.invariant.same);
-    }
-
-pub returns : goal.returns
-returns g c =
-    let ns = g.J.Judge.sizes c.args.judge.now in
-    let limits = (g.met.J.Judge.laws c.args.judge.now).limits in
-    next_none ns c.args.choice (positive ns limits.values) c.requires
-    (ap (advanced ns) (sym c.in_default.ensures.none.0) ∙ c.loop-position.invariant.same)
+    let some = positive ns (g.met.J.Judge.laws c.args.judge.now).limits.values in
+    sym (next_choice_is ns c.args.choice.now some c.requires ∙ ap (option_map (filled ns)) c.if-go_beside.ensures)

@@ -1,62 +1,37 @@
-use Rattle.std.proofs.Common.{◌≡◌, ◌≢◌, ◌∷◌, true, false, subst, sym, ap, ◌∙◌, rules}
-use Rattle.std.specs.List.{filter}
-use Rattle.am_universe.specs.Choice.{choices, IsWhole}
-use Rattle.am_search.specs.declared.verdict.Verdict.TheVariants.{Yes}
-use Rattle.am_search.specs.declared.start.Start.TheVariants.{After}
-use Rattle.am_search.specs.Start.{at_or_after}
+use Rattle.std.proofs.Common.{◌≡◌, ◌++◌, ◌∷◌, [], ℕ, List, length, drop, ap, sym, subst, ◌∙◌, None}
+use Rattle.am_universe.specs.Words.{IsWhole}
+use Rattle.am_search.specs.Visits.{given_under, BeginsWithLast}
 use Rattle.am_search.specs.AnswersView.{answers_left}
-use Rattle.am_search.proofs.Walks.{first_is_whole, left_at_true, left_at_false, fewer_left, true_at, false_at, progress}
+use Rattle.am_search.proofs.Walks.{progress}
+use Rattle.am_search.proofs.WalkSteps.{given_front, left_one, part_of_search, begins_with_last}
 use Rattle.am_search.proofs.answers.AnswersIterator.next.Goals as goal
 
-pub invariant_of-self : goal.invariant_of-self
-invariant_of-self g c =
-    let ns = g.J.Judge.sizes c.loop-self.self.judge.now in
-    record {
-      whole = λ x e. first_is_whole ns (After c.in-Some.choice) x (sym c.choice_after-self.ensures ∙ e);
-      ended = λ e. let none = c.loop-self.self.ended e in cc;
-    }
+pub returns-in-Giving-clause-first : goal.returns-in-Giving-clause-first
+returns-in-Giving-clause-first g c =
+    let old = c.args.self.now in
+    let new = c.give_next.new.self in
+    let ns = g.J.Judge.sizes new.judge.now in
+    let v = g.J.Judge.verdict new.judge.now in
+    let front = given_front ns v new.start new.stage new.current new.along new.judged new.given.items new.walk in
+    let all : List (List ℕ) = given_under ns v new.start None in
+    let now_given : new.given.items ≡ old.given.items ++ c.give_next.result ∷ [] = c.give_next.ensures.given ∙ ap (λ l. l ++ c.give_next.result ∷ []) c.loop-self.invariant.given in
+    ap (λ j. drop (length old.given.items) (given_under (g.J.Judge.sizes j) (g.J.Judge.verdict j) old.start None)) (sym (c.give_next.ensures.judge ∙ c.loop-self.invariant.judge))
+    ∙ ap (λ s. drop (length old.given.items) (given_under ns v s None)) (sym (c.give_next.ensures.start ∙ c.loop-self.invariant.start))
+    ∙ left_one old.given.items front.of_all.0 all c.give_next.result (ap (λ l. l ++ front.of_all.0) (sym now_given) ∙ front.of_all.1)
+    ∙ ap (λ l. c.give_next.result ∷ drop (length l) all) (sym now_given)
 
-pub returns-then-eq-clause-first : goal.returns-then-eq-clause-first
-returns-then-eq-clause-first g c =
-    let judge = c.loop-self.self.judge.now in
-    let ns = g.J.Judge.sizes judge in
-    let truth = g.J.Judge.truth judge in
-    let w : IsWhole ns c.in-Some.choice = c.loop-self.self.whole c.in-Some.choice c.in-Some.is in
-    let yes : c.judge.result ≡ Yes = search rules in
-    let here : truth c.in-Some.choice ≡ true = true_at ns truth (g.J.Judge.verdict judge) (g.met.J.Judge.laws judge) c.in-Some.choice w (sym c.judge.ensures.verdict ∙ yes) in
-    sym c.loop-self.invariant.left
-    ∙ ap (λ o. filter truth (at_or_after o (choices ns))) c.in-Some.is
-    ∙ left_at_true ns truth c.in-Some.choice w here
-    ∙ ap (λ o. c.in-Some.choice ∷ filter truth (at_or_after o (choices ns))) (sym c.choice_after-self.ensures)
+pub returns-in-Giving-clause-fewer : goal.returns-in-Giving-clause-fewer
+returns-in-Giving-clause-fewer g c = progress answers_left _ _ _ (returns-in-Giving-clause-first g c)
 
-pub returns-then-eq-clause-fewer : goal.returns-then-eq-clause-fewer
-returns-then-eq-clause-fewer g c = progress answers_left _ _ _ (returns-then-eq-clause-first g c)
+pub returns-in-Giving-clause-whole : goal.returns-in-Giving-clause-whole
+returns-in-Giving-clause-whole g c =
+    subst (λ judge. IsWhole (g.J.Judge.sizes judge) c.give_next.result) c.loop-self.invariant.judge
+    (subst (IsWhole (g.J.Judge.sizes c.loop-self.self.judge.now)) (sym c.give_next.ensures.choice) (c.loop-self.self.walk.giving c.in-Giving.depth c.in-Giving.is).whole)
 
-pub loop-self-smaller : goal.loop-self-smaller
-loop-self-smaller g c =
-    let judge = c.loop-self.self.judge.now in
-    let ns = g.J.Judge.sizes judge in
-    let w : IsWhole ns c.in-Some.choice = c.loop-self.self.whole c.in-Some.choice c.in-Some.is in
-    rw (c.choice_after-self.ensures, c.in-Some.is) (fewer_left ns c.in-Some.choice w)
+pub returns-in-Giving-clause-judged : goal.returns-in-Giving-clause-judged
+returns-in-Giving-clause-judged g c = part_of_search c.give_next.new.self.walk
 
-pub loop-self-preserved : goal.loop-self-preserved
-loop-self-preserved g c =
-    let judge = c.loop-self.self.judge.now in
-    let ns = g.J.Judge.sizes judge in
-    let truth = g.J.Judge.truth judge in
-    let w : IsWhole ns c.in-Some.choice = c.loop-self.self.whole c.in-Some.choice c.in-Some.is in
-    let other : c.judge.result ≢ Yes = λ yes. search rules in
-    let here : truth c.in-Some.choice ≡ false = false_at ns truth (g.J.Judge.verdict judge) (g.met.J.Judge.laws judge) c.in-Some.choice w (λ yes. other (c.judge.ensures.verdict ∙ yes)) in
-    record {
-      left = ap (λ o. filter truth (at_or_after o (choices ns))) c.choice_after-self.ensures
-          ∙ sym (left_at_false ns truth c.in-Some.choice w here)
-          ∙ sym (ap (λ o. filter truth (at_or_after o (choices ns))) c.in-Some.is)
-          ∙ c.loop-self.invariant.left;
-      judge = c.loop-self.invariant.judge;
-      state = c.loop-self.invariant.state;
-    }
-
-pub returns-then-eq-clause-whole : goal.returns-then-eq-clause-whole
-returns-then-eq-clause-whole g c =
-    subst (λ judge. IsWhole (g.J.Judge.sizes judge) c.in-Some.choice) c.loop-self.invariant.judge
-    (c.loop-self.self.whole c.in-Some.choice c.in-Some.is)
+pub returns-in-Giving-clause-last : goal.returns-in-Giving-clause-last
+returns-in-Giving-clause-last g c =
+    subst (BeginsWithLast c.give_next.new.self.judged) (sym c.give_next.ensures.choice)
+    (subst (λ j. BeginsWithLast j c.loop-self.self.current) (sym c.give_next.ensures.judged) (begins_with_last c.in-Giving.depth c.loop-self.self.walk c.in-Giving.is))

@@ -1,13 +1,13 @@
 use Rattle.std.proofs.Common.{◌≡◌, true, length}
 use Rattle.am_universe.specs.Choice.{admits}
-use Rattle.am_search.proofs.Odometer.{advanced}
-use Rattle.am_search.proofs.answers.choice_after.Given as goal
+use Rattle.am_search.specs.NextPrefix.{next_beside}
+use Rattle.am_search.proofs.answers.go_beside.Given as goal
 
--- what follows the prefix follows the choice
+-- what comes beside the front comes beside the whole prefix
 abbrev pub invariant-loop-position : goal.invariant-loop-position
 invariant-loop-position g l = record {
   admitted : admits (g.J.Judge.sizes l.judge) l.prefix ≡ true;
-  same : advanced (g.J.Judge.sizes l.judge) l.prefix ≡ advanced (g.J.Judge.sizes l.judge) l.fn.choice;
+  same : next_beside (g.J.Judge.sizes l.judge) l.prefix ≡ next_beside (g.J.Judge.sizes l.judge) l.fn.prefix;
 }
 
 abbrev pub decreases-loop-position : goal.decreases-loop-position

@@ -1,0 +1,179 @@
+-- The prefix beside another: which it is among all that are admitted.
+use Rattle.std.proofs.Common.{◌≡◌, ◌⊎◌, ℕ, zero, suc, ◌+◌, ◌<◌, ◌≤◌, Bool, true, false, cond, nat_eq, nat_lt, List, [], ◌∷◌, length, take, Option, Some, None, ap, sym, subst, ◌∙◌, refl, inl, inr, arith}
+use Rattle.std.specs.Prelude.{option_map}
+use Rattle.std.specs.Option.{option_or}
+use Rattle.std.specs.List.{starts_with, list_all}
+use Rattle.std.proofs.lemmas.Bool.{false≢true, and_parts, and_from, cases_Bool}
+use borrow.Author.Tests.{lt-ltb, le-ltb}
+use Rattle.std.proofs.lemmas.Bool.Decides.{nat_tests}
+use Rattle.am_universe.specs.Choice.{admits}
+use Rattle.am_search.specs.Start.{comes_before}
+use Rattle.am_search.specs.Visits.{proper_fronts}
+use Rattle.am_search.specs.NextPrefix.{next_beside}
+use Rattle.am_search.proofs.ChoiceOrder.{not_back}
+use Rattle.am_search.proofs.PrefixOrder.{before_nothing, before_less, before_same, before_parts, begins_same, begins_other, fronts_parts, fronts_from}
+
+-- ---- By cases on what comes beside the rest.
+
+-- either the rest goes on, or the position does and nothing follows it
+pub record IsRestBeside (sizes prefix : List ℕ) (p : ℕ) (next : List ℕ) : Type 0 where
+  pub rest : List ℕ
+  pub beside : next_beside sizes prefix ≡ Some rest
+  pub is : next ≡ p ∷ rest
+
+pub record IsFirstBeside (size : ℕ) (sizes prefix : List ℕ) (p : ℕ) (next : List ℕ) : Type 0 where
+  pub none : next_beside sizes prefix ≡ None
+  pub below : p + 1 < size
+  pub is : next ≡ (p + 1) ∷ []
+
+by_less : (size p : ℕ) (next : List ℕ) (b : Bool) → nat_lt (p + 1) size ≡ b → cond b (Some ((p + 1) ∷ [])) None ≡ Some next → (p + 1 < size) × (next ≡ (p + 1) ∷ [])
+by_less size p next true less e = (grind (arith, nat_tests, less), cc)
+by_less size p next false less e = cc
+
+pub beside_parts : (size : ℕ) (sizes prefix : List ℕ) (p : ℕ) (next : List ℕ) → next_beside (size ∷ sizes) (p ∷ prefix) ≡ Some next
+    → IsRestBeside sizes prefix p next ⊎ IsFirstBeside size sizes prefix p next
+beside_parts size sizes prefix p next e = by (next_beside sizes prefix) refl e
+  where
+    by : (o : Option (List ℕ)) → next_beside sizes prefix ≡ o → option_or (option_map (λ c. p ∷ c) o) (cond (nat_lt (p + 1) size) (Some ((p + 1) ∷ [])) None) ≡ Some next
+        → IsRestBeside sizes prefix p next ⊎ IsFirstBeside size sizes prefix p next
+    by (Some rest) o h = inl (record { rest = rest; beside = o; is = cc })
+    by None o h = let parts = by_less size p next (nat_lt (p + 1) size) refl h in inr (record { none = o; below = parts.0; is = parts.1 })
+
+none_parts : (size : ℕ) (sizes prefix : List ℕ) (p : ℕ) → next_beside (size ∷ sizes) (p ∷ prefix) ≡ None → (next_beside sizes prefix ≡ None) × (size ≤ p + 1)
+none_parts size sizes prefix p e = by (next_beside sizes prefix) refl e
+  where
+    least : (b : Bool) → nat_lt (p + 1) size ≡ b → cond b (Some ((p + 1) ∷ [])) None ≡ None → size ≤ p + 1
+    least true less h = cc
+    least false less h = grind (arith, nat_tests, less)
+
+    by : (o : Option (List ℕ)) → next_beside sizes prefix ≡ o → option_or (option_map (λ c. p ∷ c) o) (cond (nat_lt (p + 1) size) (Some ((p + 1) ∷ [])) None) ≡ None
+        → (next_beside sizes prefix ≡ None) × (size ≤ p + 1)
+    by (Some rest) o h = cc
+    by None o h = (o, least (nat_lt (p + 1) size) refl h)
+
+-- ---- Where nothing comes beside a prefix.
+
+pub none_beside : (sizes prefix x : List ℕ) → next_beside sizes prefix ≡ None → admits sizes prefix ≡ true → admits sizes x ≡ true → comes_before prefix x ≡ true → starts_with nat_eq x prefix ≡ true
+none_beside sizes [] x e a b less = refl
+none_beside [] (p ∷ prefix) x e a b less = cc
+none_beside (size ∷ sizes) (p ∷ prefix) [] e a b less = absurd (false≢true less)
+none_beside (size ∷ sizes) (p ∷ prefix) (q ∷ x) e a b less =
+    let parts = none_parts size sizes prefix p e in
+    let here = and_parts (nat_lt p size) (admits sizes prefix) a in
+    let there = and_parts (nat_lt q size) (admits sizes x) b in
+    let below : q < size = grind (arith, nat_tests, there.0) in
+    elim (before_parts p q prefix x less) [
+      | inl l ↦ absurd (omega (arith, l, below, parts.1))
+      | inr same ↦
+          ap (λ r. starts_with nat_eq (r ∷ x) (p ∷ prefix)) (sym same.0) ∙ begins_same p x prefix
+          ∙ none_beside sizes prefix x parts.0 here.1 there.1 same.1
+    ]
+
+-- ---- What comes beside a prefix.
+
+pub record IsBeside (sizes prefix next : List ℕ) : Type 0 where
+  pub admitted : admits sizes next ≡ true
+  pub after : comes_before prefix next ≡ true
+  pub apart : starts_with nat_eq next prefix ≡ false
+  -- nothing else that comes after the prefix and does not begin with it comes before this one
+  pub least : (x : List ℕ) → admits sizes x ≡ true → comes_before prefix x ≡ true → starts_with nat_eq x prefix ≡ false → comes_before x next ≡ false
+  -- its proper fronts are some of the prefix's
+  pub fronts : (test : List ℕ → Bool) → list_all test (proper_fronts prefix) ≡ true → list_all test (proper_fronts next) ≡ true
+
+behind_rest : (size : ℕ) (sizes prefix rest : List ℕ) (p : ℕ) → nat_lt p size ≡ true → IsBeside sizes prefix rest → IsBeside (size ∷ sizes) (p ∷ prefix) (p ∷ rest)
+behind_rest size sizes prefix rest p below h = record {
+  admitted = and_from (nat_lt p size) (admits sizes rest) below h.admitted;
+  after = before_same p prefix rest ∙ h.after;
+  apart = begins_same p rest prefix ∙ h.apart;
+  least = least;
+  fronts = λ test all. let parts = fronts_parts test p prefix all in fronts_from test p rest parts.0 (h.fronts (λ front. test (p ∷ front)) parts.1);
+}
+  where
+    least : (x : List ℕ) → admits (size ∷ sizes) x ≡ true → comes_before (p ∷ prefix) x ≡ true → starts_with nat_eq x (p ∷ prefix) ≡ false → comes_before x (p ∷ rest) ≡ false
+    least [] a less other = absurd (false≢true less)
+    least (q ∷ x) a less other = elim (before_parts p q prefix x less) [
+      | inl l ↦ not_back (p ∷ rest) (q ∷ x) (before_less p q rest x l)
+      | inr same ↦
+          ap (λ r. comes_before (q ∷ x) (r ∷ rest)) same.0 ∙ before_same q x rest
+          ∙ h.least x (and_parts (nat_lt q size) (admits sizes x) a).1 same.1
+          (sym (begins_same p x prefix) ∙ ap (λ r. starts_with nat_eq (r ∷ x) (p ∷ prefix)) same.0 ∙ other)
+    ]
+
+behind_last : (size : ℕ) (sizes prefix : List ℕ) (p : ℕ) → admits sizes prefix ≡ true → next_beside sizes prefix ≡ None → p + 1 < size → IsBeside (size ∷ sizes) (p ∷ prefix) ((p + 1) ∷ [])
+behind_last size sizes prefix p a none below = record {
+  admitted = and_from (nat_lt (p + 1) size) true (lt-ltb (p + 1) size below) refl;
+  after = before_less p (p + 1) prefix [] (omega arith);
+  apart = begins_other (p + 1) p [] prefix (λ e. omega (arith, e));
+  least = least;
+  fronts = λ test all. fronts_from test (p + 1) [] (fronts_parts test p prefix all).0 refl;
+}
+  where
+    least : (x : List ℕ) → admits (size ∷ sizes) x ≡ true → comes_before (p ∷ prefix) x ≡ true → starts_with nat_eq x (p ∷ prefix) ≡ false → comes_before x ((p + 1) ∷ []) ≡ false
+    least [] b less other = absurd (false≢true less)
+    least (q ∷ x) b less other = elim (before_parts p q prefix x less) [
+      | inl l ↦ not_less q x l
+      | inr same ↦
+          let begins = none_beside sizes prefix x none a (and_parts (nat_lt q size) (admits sizes x) b).1 same.1 in
+          absurd (false≢true (sym other ∙ ap (λ r. starts_with nat_eq (r ∷ x) (p ∷ prefix)) (sym same.0) ∙ begins_same p x prefix ∙ begins))
+    ]
+      where
+        not_less : (q : ℕ) (x : List ℕ) → p < q → comes_before (q ∷ x) ((p + 1) ∷ []) ≡ false
+        not_less q x l = elim (cases_Bool (comes_before (q ∷ x) ((p + 1) ∷ []))) [
+          | inl less ↦ elim (before_parts q (p + 1) x [] less) [
+            | inl k ↦ absurd (omega (arith, l, k))
+            | inr same ↦ absurd (false≢true (sym (before_nothing x) ∙ same.1))
+          ]
+          | inr e ↦ e
+        ]
+
+pub beside_is : (sizes prefix next : List ℕ) → admits sizes prefix ≡ true → next_beside sizes prefix ≡ Some next → IsBeside sizes prefix next
+beside_is sizes [] next a e = cc
+beside_is [] (p ∷ prefix) next a e = cc
+beside_is (size ∷ sizes) (p ∷ prefix) next a e =
+    let here = and_parts (nat_lt p size) (admits sizes prefix) a in
+    elim (beside_parts size sizes prefix p next e) [
+      | inl h ↦ subst (IsBeside (size ∷ sizes) (p ∷ prefix)) (sym h.is) (behind_rest size sizes prefix h.rest p here.0 (beside_is sizes prefix h.rest here.1 h.beside))
+      | inr h ↦ subst (IsBeside (size ∷ sizes) (p ∷ prefix)) (sym h.is) (behind_last size sizes prefix p here.1 h.none h.below)
+    ]
+
+-- ---- What comes beside a choice, and beside the positions at its front.
+
+pub none_of_front : (sizes c : List ℕ) (n : ℕ) → next_beside sizes c ≡ None → next_beside sizes (take n c) ≡ None
+none_of_front sizes c zero e = refl
+none_of_front sizes [] (suc n) e = refl
+none_of_front [] (p ∷ c) (suc n) e = refl
+none_of_front (size ∷ sizes) (p ∷ c) (suc n) e =
+    let parts = none_parts size sizes c p e in
+    ap (λ o. option_or (option_map (λ r. p ∷ r) o) (cond (nat_lt (p + 1) size) (Some ((p + 1) ∷ [])) None)) (none_of_front sizes c n parts.0)
+    ∙ ap (λ b. cond b (Some ((p + 1) ∷ [])) None) (le-ltb (p + 1) size parts.1)
+
+-- where it is no longer than these, it is the same
+pub beside_front : (sizes c next : List ℕ) (n : ℕ) → next_beside sizes c ≡ Some next → length next ≤ n → next_beside sizes (take n c) ≡ Some next
+beside_front sizes [] next n e h = cc
+beside_front [] (p ∷ c) next n e h = cc
+beside_front (size ∷ sizes) (p ∷ c) next zero e h = elim (beside_parts size sizes c p next e) [
+  | inl r ↦ absurd (omega (arith, h, ap length r.is))
+  | inr r ↦ absurd (omega (arith, h, ap length r.is))
+]
+beside_front (size ∷ sizes) (p ∷ c) next (suc n) e h = elim (beside_parts size sizes c p next e) [
+  | inl r ↦
+      ap (λ o. option_or (option_map (λ t. p ∷ t) o) (cond (nat_lt (p + 1) size) (Some ((p + 1) ∷ [])) None))
+      (beside_front sizes c r.rest n r.beside (omega (arith, h, ap length r.is)))
+      ∙ ap Some (sym r.is)
+  | inr r ↦
+      ap (λ o. option_or (option_map (λ t. p ∷ t) o) (cond (nat_lt (p + 1) size) (Some ((p + 1) ∷ [])) None)) (none_of_front sizes c n r.none)
+      ∙ ap (λ b. cond b (Some ((p + 1) ∷ [])) None) (lt-ltb (p + 1) size r.below)
+      ∙ ap Some (sym r.is)
+]
+
+-- where it is longer, it begins with these
+pub beside_begins : (sizes c next : List ℕ) (n : ℕ) → next_beside sizes c ≡ Some next → n < length next → starts_with nat_eq next (take n c) ≡ true
+beside_begins sizes c next zero e h = refl
+beside_begins sizes [] next (suc n) e h = cc
+beside_begins [] (p ∷ c) next (suc n) e h = cc
+beside_begins (size ∷ sizes) (p ∷ c) next (suc n) e h = elim (beside_parts size sizes c p next e) [
+  | inl r ↦
+      ap (λ l. starts_with nat_eq l (p ∷ take n c)) r.is ∙ begins_same p r.rest (take n c)
+      ∙ beside_begins sizes c r.rest n r.beside (omega (arith, h, ap length r.is))
+  | inr r ↦ absurd (omega (arith, h, ap length r.is))
+]

@@ -1,0 +1,463 @@
+-- Where the search stands after it has judged a prefix, and after it has given a choice.
+use Rattle.std.proofs.Common.{◌≡◌, ◌⊎◌, ℕ, suc, ◌-◌, ◌<◌, ◌≤◌, Bool, true, false, not, cond, nat_eq, List, [], ◌∷◌, ◌++◌, length, map, nat_lt, take, drop, slice_get, get_or, slice_index, Option, Some, None, IfSome, MatchOption, ap, sym, subst, ◌∙◌, refl, inl, inr, arith, append-nil, append_assoc, length-append}
+use Rattle.std.specs.Prelude.{option_map}
+use Rattle.std.specs.List.{filter, find, flat_map, range_with_len, starts_with}
+use Rattle.std.proofs.lemmas.Bool.{false≢true, cases_Bool, cases_lt}
+use Rattle.std.proofs.lemmas.List.{length-take-le, drop_at, drop_all, take_all, take-append-drop}
+use Rattle.std.proofs.lemmas.List.Kept.{IsStrictlySortedBy-filter}
+use Rattle.std.proofs.lemmas.Grind.{flat_map-append}
+use Rattle.std.specs.Ordering.{nat_cmp}
+use Rattle.std.specs.Cmp.Lexicographic.{slice_cmp}
+use Rattle.am_universe.specs.Choice.{choices, admits, IsWhole}
+use Rattle.am_universe.specs.Completions.{completions}
+use Rattle.am_universe.proofs.ListLemmas.{IsIn}
+use Rattle.am_universe.proofs.ChoiceLemmas.{choices_sorted, whole_from_in}
+use Rattle.am_search.specs.declared.start.Start.{Start}
+use Rattle.am_search.specs.declared.stage.Stage.{Stage}
+use Rattle.am_search.specs.declared.stage.Stage.TheVariants.{Judging, Giving, Done}
+use Rattle.am_search.specs.declared.verdict.Verdict.{Verdict}
+use Rattle.am_search.specs.declared.verdict.Verdict.TheVariants.{Yes, No, Open}
+use Rattle.am_search.specs.Judge.{IsJudge, is_open, is_yes}
+use Rattle.am_search.specs.Start.{comes_before, first_of_start, at_or_after}
+use Rattle.am_search.specs.Visits.{all_prefixes, is_visited, completions_from, visited, given_at, given_by, given_under, IsPartOfSearch, IsWholeSearch, BeginsWithLast}
+use Rattle.am_search.specs.NextPrefix.{next_beside}
+use Rattle.am_search.specs.Walk.{if_begins, first_position, IsJudging, IsGiving, IsDone, IsWalk}
+use Rattle.am_search.proofs.ChoiceOrder.{Ascends, not_itself, not_back, in_filter, filter_all, filter_step, from_first, member_then_rest}
+use Rattle.am_search.proofs.Odometer.{ArePositive, admits_at_most, filled, first_completion_is, next_choice_is}
+use Rattle.am_search.proofs.PrefixOrder.{begins_same, begins_parts, before_begins, before_beside, begins_front, begins_taken, taken_is, begins_length, begins_whole, begins_behind}
+use Rattle.am_search.proofs.NextPrefix.{IsBeside, beside_is, none_beside, none_of_front, beside_front, beside_begins}
+use Rattle.am_search.proofs.VisitedPrefixes.{none_visited, in_completions, reached}
+use Rattle.am_search.proofs.VisitSteps.{got_at, taken_pushed, past_length, begins_next, judged_is, open_along, open_behind, closed_next, closed_none}
+use Rattle.am_search.proofs.Walks.{first_is_whole}
+
+-- ---- Where completions begin.
+
+pub completions_ascend : (sizes prefix : List ℕ) → Ascends (completions sizes prefix)
+completions_ascend sizes prefix = IsStrictlySortedBy-filter (slice_cmp nat_cmp) (λ c. starts_with nat_eq c prefix) (choices sizes) (choices_sorted sizes)
+
+at_first : (cs : List (List ℕ)) (c : List ℕ) → Ascends cs → slice_get cs 0 ≡ Some c → at_or_after (Some c) cs ≡ cs
+at_first [] c s e = cc
+at_first (d ∷ cs) c s e = let same : d ≡ c = cc in ap (λ x. at_or_after (Some x) (d ∷ cs)) (sym same) ∙ from_first d cs s
+
+completion_begins : (sizes prefix c : List ℕ) → IsIn (completions sizes prefix) c → IsWhole sizes c × (starts_with nat_eq c prefix ≡ true)
+completion_begins sizes prefix c i =
+    let r = in_filter (λ d. starts_with nat_eq d prefix) (choices sizes) c i in
+    (whole_from_in sizes c r.0, r.1)
+
+-- where a choice comes before a prefix, all its completions are from the choice on
+all_from : (sizes prefix f c : List ℕ) → comes_before f prefix ≡ true → slice_get (completions sizes prefix) 0 ≡ Some c
+    → at_or_after (Some c) (completions sizes prefix) ≡ at_or_after (Some f) (completions sizes prefix)
+all_from sizes prefix f c less e =
+    at_first (completions sizes prefix) c (completions_ascend sizes prefix) e
+    ∙ sym (filter_all (λ d. not (comes_before d f)) (completions sizes prefix)
+    (λ d i. ap not (not_back f d (before_begins f prefix d less (completion_begins sizes prefix d i).1))))
+
+-- ---- Where the start begins.
+
+pub record HasBegun (sizes : List ℕ) (start : Start) : Type 0 where
+  pub first : List ℕ
+  pub begins : first_of_start sizes start ≡ Some first
+  pub whole : IsWhole sizes first
+
+pub begun_at : (sizes : List ℕ) (verdict : List ℕ → Verdict) (start : Start) (k : ℕ) (p : List ℕ) → slice_get (visited sizes verdict start) k ≡ Some p → HasBegun sizes start
+begun_at sizes verdict start k p e = by (first_of_start sizes start) refl
+  where
+    by : (o : Option (List ℕ)) → first_of_start sizes start ≡ o → HasBegun sizes start
+    by None begins = absurd (subst (λ xs. IsIn xs p) (none_visited sizes verdict start begins) (got_at (visited sizes verdict start) k p e))
+    by (Some f) begins = record { first = f; begins = begins; whole = first_is_whole sizes start f begins }
+
+along_true : (prefix f : List ℕ) → starts_with nat_eq f prefix ≡ true → if_begins prefix (Some f) ≡ Some f
+along_true prefix f b = ap (λ x. cond x (Some f) None) b
+
+along_false : (prefix f : List ℕ) → starts_with nat_eq f prefix ≡ false → if_begins prefix (Some f) ≡ None
+along_false prefix f b = ap (λ x. cond x (Some f) None) b
+
+-- what comes after the choice does not lie along it
+behind_false : (prefix f : List ℕ) → comes_before f prefix ≡ true → starts_with nat_eq f prefix ≡ false
+behind_false prefix f less = elim (cases_Bool (starts_with nat_eq f prefix)) [
+  | inl b ↦ absurd (false≢true (sym (begins_behind prefix f b) ∙ less))
+  | inr e ↦ e
+]
+
+not_open : (v : Verdict) → v ≡ Yes → is_open v ≡ false
+not_open v e = ap is_open e
+
+-- ---- The stages.
+
+module _ {sizes : List ℕ} {verdict : List ℕ → Verdict} {start : Start} where
+  pub at_judging : {current : List ℕ} {along : Option (List ℕ)} {judged given : List (List ℕ)} → judged ≡ take (length judged) (visited sizes verdict start)
+      → IsJudging sizes verdict start current along judged given → IsWalk sizes verdict start Judging current along judged given
+  at_judging front h = record { front = front; judging = λ e. h; giving = λ d e. cc; done = λ e. cc }
+
+  pub at_giving : {current : List ℕ} {along : Option (List ℕ)} {judged given : List (List ℕ)} (depth : ℕ) → judged ≡ take (length judged) (visited sizes verdict start)
+      → IsGiving sizes verdict start depth current judged given → IsWalk sizes verdict start (Giving depth) current along judged given
+  at_giving {current} {along} {judged} {given} depth front h = record { front = front; judging = λ e. cc; giving = λ d e. let same : depth ≡ d = cc in subst (λ n. IsGiving sizes verdict start n current judged given) same h; done = λ e. cc }
+
+  pub at_done : {current : List ℕ} {along : Option (List ℕ)} {judged given : List (List ℕ)} → judged ≡ take (length judged) (visited sizes verdict start)
+      → IsDone sizes verdict start judged given → IsWalk sizes verdict start Done current along judged given
+  at_done front h = record { front = front; judging = λ e. cc; giving = λ d e. cc; done = λ e. h }
+
+-- ---- After a judgement.
+
+module _ (sizes : List ℕ) (verdict : List ℕ → Verdict) (start : Start) (some : ArePositive sizes) (p : List ℕ) (along : Option (List ℕ)) (judged given : List (List ℕ))
+    (front : judged ≡ take (length judged) (visited sizes verdict start)) (here : IsJudging sizes verdict start p along judged given) where
+  longer : suc (length judged) ≡ length (judged ++ p ∷ [])
+  longer = omega (arith, length-append judged (p ∷ []))
+
+  pub front_more : judged ++ p ∷ [] ≡ take (length (judged ++ p ∷ [])) (visited sizes verdict start)
+  front_more =
+      ap (λ l. l ++ p ∷ []) front ∙ taken_pushed (visited sizes verdict start) (length judged) p here.next
+      ∙ ap (λ n. take n (visited sizes verdict start)) longer
+
+  given_more : given_by sizes verdict start (judged ++ p ∷ []) ≡ given_by sizes verdict start judged ++ given_at sizes verdict start p
+  given_more =
+      flat_map-append (given_at sizes verdict start) judged (p ∷ [])
+      ∙ ap (λ l. given_by sizes verdict start judged ++ l) (append-nil (given_at sizes verdict start p))
+
+  given_none : is_yes (verdict p) ≡ false → given ≡ given_by sizes verdict start (judged ++ p ∷ [])
+  given_none e =
+      here.given_all ∙ sym (append-nil (given_by sizes verdict start judged))
+      ∙ ap (λ b. given_by sizes verdict start judged ++ cond b (completions_from sizes start p) []) (sym e) ∙ sym given_more
+
+  begun : HasBegun sizes start
+  begun = begun_at sizes verdict start (length judged) p here.next
+
+  pub judged_admits : admits sizes p ≡ true
+  judged_admits = (judged_is sizes verdict start begun.first begun.begins begun.whole some (length judged) p here.next).admitted
+
+  -- the choice along which the prefix lies
+  pub along_some : (f : List ℕ) → along ≡ Some f → (first_of_start sizes start ≡ Some f) × IsWhole sizes f × (starts_with nat_eq f p ≡ true)
+  along_some f e = by (cases_Bool (starts_with nat_eq begun.first p))
+    where
+      by : ((starts_with nat_eq begun.first p ≡ true) ⊎ (starts_with nat_eq begun.first p ≡ false)) → (first_of_start sizes start ≡ Some f) × IsWhole sizes f × (starts_with nat_eq f p ≡ true)
+      by (inl b) =
+          let all : Some begun.first ≡ Some f = sym (along_true p begun.first b) ∙ ap (if_begins p) (sym begun.begins) ∙ sym here.along_is ∙ e in
+          let same : begun.first ≡ f = cc in
+          (begun.begins ∙ ap Some same, subst (IsWhole sizes) same begun.whole, subst (λ x. starts_with nat_eq x p ≡ true) same b)
+      by (inr b) =
+          let none : None ≡ Some f = sym (along_false p begun.first b) ∙ ap (if_begins p) (sym begun.begins) ∙ sym here.along_is ∙ e in
+          cc
+
+  along_none : along ≡ None → starts_with nat_eq begun.first p ≡ false
+  along_none e = by (cases_Bool (starts_with nat_eq begun.first p))
+    where
+      by : ((starts_with nat_eq begun.first p ≡ true) ⊎ (starts_with nat_eq begun.first p ≡ false)) → starts_with nat_eq begun.first p ≡ false
+      by (inl b) = let none : Some begun.first ≡ None = sym (along_true p begun.first b) ∙ ap (if_begins p) (sym begun.begins) ∙ sym here.along_is ∙ e in cc
+      by (inr b) = b
+
+  less_none : along ≡ None → comes_before begun.first p ≡ true
+  less_none e = elim (judged_is sizes verdict start begun.first begun.begins begun.whole some (length judged) p here.next).reaches_to [
+    | inl b ↦ absurd (false≢true (sym (along_none e) ∙ b))
+    | inr l ↦ l
+  ]
+
+  -- an open prefix
+  pub after_open : verdict p ≡ Open → length p < length sizes → (o : Option (List ℕ)) → along ≡ o → IsWalk sizes verdict start Judging (p ++ first_position o (length p) ∷ []) along (judged ++ p ∷ []) given
+  after_open e room None none =
+      let b = along_none none in
+      let next = open_behind sizes verdict start begun.first begun.begins begun.whole some (length judged) p here.next e room b in
+      at_judging front_more (record {
+        next = ap (slice_get (visited sizes verdict start)) (sym longer) ∙ next;
+        along_is = none ∙ sym (along_false (p ++ 0 ∷ []) begun.first (still b (cases_Bool (starts_with nat_eq begun.first (p ++ 0 ∷ []))))) ∙ ap (if_begins (p ++ 0 ∷ [])) (sym begun.begins);
+        given_all = given_none (ap is_yes e);
+      })
+    where
+      still : starts_with nat_eq begun.first p ≡ false → ((starts_with nat_eq begun.first (p ++ 0 ∷ []) ≡ true) ⊎ (starts_with nat_eq begun.first (p ++ 0 ∷ []) ≡ false)) → starts_with nat_eq begun.first (p ++ 0 ∷ []) ≡ false
+      still b (inl h) = absurd (false≢true (sym b ∙ begins_front p begun.first 0 h))
+      still b (inr h) = h
+  after_open e room (Some f) is =
+      let parts = along_some f is in
+      let q : ℕ = slice_index f (length p) in
+      let next = open_along sizes verdict start f parts.0 parts.1 some (length judged) p here.next e room parts.2 in
+      at_judging front_more (record {
+        next = ap (slice_get (visited sizes verdict start)) (sym longer) ∙ next;
+        along_is = is ∙ sym (along_true (p ++ q ∷ []) f (begins_next p f parts.2 (omega (arith, parts.1.1, room)))) ∙ ap (if_begins (p ++ q ∷ [])) (sym parts.0);
+        given_all = given_none (ap is_yes e);
+      })
+
+  -- a certain one
+  last_judged : slice_get (visited sizes verdict start) (length (judged ++ p ∷ []) - 1) ≡ Some p
+  last_judged =
+      let same : length (judged ++ p ∷ []) - 1 ≡ length judged = omega (arith, longer) in
+      ap (slice_get (visited sizes verdict start)) same ∙ here.next
+
+  pub after_yes : verdict p ≡ Yes → (f c : List ℕ) → first_of_start sizes start ≡ Some f → IsWhole sizes c → starts_with nat_eq c p ≡ true
+      → at_or_after (Some c) (completions sizes p) ≡ at_or_after (Some f) (completions sizes p)
+      → IsGiving sizes verdict start (length p) c (judged ++ p ∷ []) given
+  after_yes e f c begins w b same =
+      let front_is : take (length p) c ≡ p = taken_is p c b in
+      record {
+        some = omega (arith, longer);
+        last = last_judged ∙ ap Some (sym front_is);
+        yes = ap verdict front_is ∙ e;
+        whole = w;
+        depth_is = begins_length p c b;
+        given_next = ap (λ x. given ++ at_or_after (Some c) (completions sizes x)) front_is
+            ∙ ap (λ l. l ++ at_or_after (Some c) (completions sizes p)) here.given_all
+            ∙ ap (λ l. given_by sizes verdict start judged ++ l) (same ∙ ap (λ o. at_or_after o (completions sizes p)) (sym begins))
+            ∙ ap (λ v. given_by sizes verdict start judged ++ cond (is_yes v) (completions_from sizes start p) []) (sym e)
+            ∙ sym given_more;
+      }
+
+  pub after_yes_along : verdict p ≡ Yes → (f : List ℕ) → along ≡ Some f → IsGiving sizes verdict start (length p) f (judged ++ p ∷ []) given
+  after_yes_along e f is = let parts = along_some f is in after_yes e f f parts.0 parts.1 parts.2 refl
+
+  pub after_yes_behind : verdict p ≡ Yes → along ≡ None → (c : List ℕ) → slice_get (completions sizes p) 0 ≡ Some c → IsGiving sizes verdict start (length p) c (judged ++ p ∷ []) given
+  after_yes_behind e none c first =
+      let member = completion_begins sizes p c (got_at (completions sizes p) 0 c first) in
+      after_yes e begun.first c begun.begins member.0 member.1 (all_from sizes p begun.first c (less_none none) first)
+
+  pub after_yes_at : verdict p ≡ Yes → (o : Option (List ℕ)) → along ≡ o → (c : List ℕ) → MatchOption o (slice_get (completions sizes p) 0 ≡ Some c) (λ f. c ≡ f)
+      → IsGiving sizes verdict start (length p) c (judged ++ p ∷ []) given
+  after_yes_at e None none c h = after_yes_behind e none c h
+  after_yes_at e (Some f) is c h = subst (λ x. IsGiving sizes verdict start (length p) x (judged ++ p ∷ []) given) (sym h) (after_yes_along e f is)
+
+  -- a refuted one
+  pub after_no : verdict p ≡ No → (next : List ℕ) → next_beside sizes p ≡ Some next → IsWalk sizes verdict start Judging next None (judged ++ p ∷ []) given
+  after_no e next beside =
+      let r = closed_next sizes verdict start begun.first begun.begins begun.whole some (length judged) p here.next (ap is_open e) next beside in
+      at_judging front_more (record {
+        next = ap (slice_get (visited sizes verdict start)) (sym longer) ∙ r.0;
+        along_is = sym (along_false next begun.first (behind_false next begun.first r.1)) ∙ ap (if_begins next) (sym begun.begins);
+        given_all = given_none (ap is_yes e);
+      })
+
+  pub after_no_last : verdict p ≡ No → next_beside sizes p ≡ None → {current : List ℕ} {other : Option (List ℕ)} → IsWalk sizes verdict start Done current other (judged ++ p ∷ []) given
+  after_no_last e beside =
+      let none = closed_none sizes verdict start begun.first begun.begins begun.whole some (length judged) p here.next (ap is_open e) beside in
+      at_done front_more (record {
+        all = omega (arith, past_length (visited sizes verdict start) (suc (length judged)) none, longer);
+        given_all = given_none (ap is_yes e);
+      })
+
+-- ---- After a choice was given.
+
+-- the first that passes, among some of a list
+found_kept : (test keep : List ℕ → Bool) (xs : List (List ℕ)) (d : List ℕ) → find test xs ≡ Some d → keep d ≡ true → find test (filter keep xs) ≡ Some d
+found_kept test keep [] d e k = cc
+found_kept test keep (x ∷ xs) d e k = by (test x) (keep x) refl refl e (λ h. found_kept test keep xs d h k)
+  where
+    by : (a b : Bool) → test x ≡ a → keep x ≡ b → cond a (Some x) (find test xs) ≡ Some d → (find test xs ≡ Some d → find test (filter keep xs) ≡ Some d)
+        → find test (cond b (x ∷ filter keep xs) (filter keep xs)) ≡ Some d
+    by true true s t h rest = ap (λ b. cond b (Some x) (find test (filter keep xs))) s ∙ h
+    by true false s t h rest = let same : x ≡ d = cc in absurd (false≢true (sym t ∙ ap keep same ∙ k))
+    by false true s t h rest = ap (λ b. cond b (Some x) (find test (filter keep xs))) s ∙ rest h
+    by false false s t h rest = rest h
+
+found_none : (test : List ℕ → Bool) (xs : List (List ℕ)) → ((x : List ℕ) → IsIn xs x → test x ≡ false) → find test xs ≡ None
+found_none test [] none = refl
+found_none test (x ∷ xs) none = ap (λ b. cond b (Some x) (find test xs)) (none x (inl refl)) ∙ found_none test xs (λ y i. none y (inr i))
+
+module _ (sizes : List ℕ) (verdict : List ℕ → Verdict) (start : Start) (some : ArePositive sizes) (depth : ℕ) (c : List ℕ) (judged given : List (List ℕ))
+    (front : judged ≡ take (length judged) (visited sizes verdict start)) (here : IsGiving sizes verdict start depth c judged given) where
+  begun_giving : HasBegun sizes start
+  begun_giving = begun_at sizes verdict start (length judged - 1) (take depth c) here.last
+
+  -- the completions from the choice on are the choice and those from the next on
+  given_one : (given ++ c ∷ []) ++ at_or_after (find (comes_before c) (completions sizes (take depth c))) (completions sizes (take depth c)) ≡ given_by sizes verdict start judged
+  given_one =
+      append_assoc given (c ∷ []) (at_or_after (find (comes_before c) (completions sizes (take depth c))) (completions sizes (take depth c)))
+      ∙ ap (λ l. given ++ l) (sym (member_then_rest (completions sizes (take depth c)) c (completions_ascend sizes (take depth c)) (in_completions sizes (take depth c) c here.whole (begins_taken depth c))))
+      ∙ here.given_next
+
+  -- the next choice has the same front
+  pub given_longer : (next d : List ℕ) → next_beside sizes c ≡ Some next → depth < length next → slice_get (completions sizes next) 0 ≡ Some d → IsGiving sizes verdict start depth d judged (given ++ c ∷ [])
+  given_longer next d e long first =
+      let beside = beside_is sizes c next here.whole.0 e in
+      let is : filled sizes next ≡ d = (let both : Some (filled sizes next) ≡ Some d = sym (first_completion_is sizes next some beside.admitted) ∙ first in cc) in
+      let member = completion_begins sizes next d (got_at (completions sizes next) 0 d first) in
+      let next_begins : starts_with nat_eq next (take depth c) ≡ true = beside_begins sizes c next depth e long in
+      let d_begins : starts_with nat_eq d (take depth c) ≡ true = begins_through (take depth c) next d next_begins member.1 in
+      let length_is : length (take depth c) ≡ depth = length-take-le depth c here.depth_is in
+      let same : take depth d ≡ take depth c = ap (λ n. take n d) (sym length_is) ∙ taken_is (take depth c) d d_begins in
+      let found : find (comes_before c) (completions sizes (take depth c)) ≡ Some d =
+      found_kept (comes_before c) (λ x. starts_with nat_eq x (take depth c)) (choices sizes) d
+      (next_choice_is sizes c some here.whole ∙ ap (option_map (filled sizes)) e ∙ ap Some is) d_begins in
+      record {
+        some = here.some;
+        last = here.last ∙ ap Some (sym same);
+        yes = ap verdict same ∙ here.yes;
+        whole = member.0;
+        depth_is = omega (arith, begins_length (take depth c) d d_begins, length_is);
+        given_next = ap (λ x. (given ++ c ∷ []) ++ at_or_after (Some d) (completions sizes x)) same
+            ∙ ap (λ o. (given ++ c ∷ []) ++ at_or_after o (completions sizes (take depth c))) (sym found) ∙ given_one;
+      }
+    where
+      begins_through : (a b x : List ℕ) → starts_with nat_eq b a ≡ true → starts_with nat_eq x b ≡ true → starts_with nat_eq x a ≡ true
+      begins_through [] b x h k = refl
+      begins_through (p ∷ a) [] x h k = absurd (false≢true h)
+      begins_through (p ∷ a) (q ∷ b) [] h k = absurd (false≢true k)
+      begins_through (p ∷ a) (q ∷ b) (r ∷ x) h k =
+          let ab = begins_parts q p b a h in
+          let bx = begins_parts r q x b k in
+          ap (λ t. starts_with nat_eq (t ∷ x) (p ∷ a)) (bx.0 ∙ ab.0) ∙ begins_same p x a ∙ begins_through a b x ab.1 bx.1
+
+  -- a later completion of the front is not the choice itself
+  other_choice : (x : List ℕ) → IsWhole sizes x → comes_before c x ≡ true → starts_with nat_eq x c ≡ false
+  other_choice x w less = elim (cases_Bool (starts_with nat_eq x c)) [
+    | inl b ↦
+        let same : x ≡ c = begins_whole x c (omega (arith, w.1, here.whole.1)) b in
+        absurd (false≢true (sym (not_itself c) ∙ ap (comes_before c) (sym same) ∙ less))
+    | inr e ↦ e
+  ]
+
+  given_all_of : find (comes_before c) (completions sizes (take depth c)) ≡ None → given ++ c ∷ [] ≡ given_by sizes verdict start judged
+  given_all_of none = sym (append-nil (given ++ c ∷ [])) ∙ ap (λ o. (given ++ c ∷ []) ++ at_or_after o (completions sizes (take depth c))) (sym none) ∙ given_one
+
+  upcoming : suc (length judged - 1) ≡ length judged
+  upcoming = omega (arith, here.some)
+
+  -- no other completion of the front is left, and a prefix is
+  pub given_last : (next : List ℕ) → next_beside sizes c ≡ Some next → length next ≤ depth → IsWalk sizes verdict start Judging next None judged (given ++ c ∷ [])
+  given_last next e short =
+      let y : List ℕ = take depth c in
+      let from_front : next_beside sizes y ≡ Some next = beside_front sizes c next depth e short in
+      let r = closed_next sizes verdict start begun_giving.first begun_giving.begins begun_giving.whole some (length judged - 1) y here.last (ap is_open here.yes) next from_front in
+      let y_admits = (judged_is sizes verdict start begun_giving.first begun_giving.begins begun_giving.whole some (length judged - 1) y here.last).admitted in
+      let beside = beside_is sizes c next here.whole.0 e in
+      let beside_y = beside_is sizes y next y_admits from_front in
+      let none : find (comes_before c) (completions sizes y) ≡ None = found_none (comes_before c) (completions sizes y) (λ x i. none_of beside beside_y x i (cases_Bool (comes_before c x))) in
+      at_judging front (record {
+        next = ap (slice_get (visited sizes verdict start)) (sym upcoming) ∙ r.0;
+        along_is = sym (along_false next begun_giving.first (behind_false next begun_giving.first r.1)) ∙ ap (if_begins next) (sym begun_giving.begins);
+        given_all = given_all_of none;
+      })
+    where
+      none_of : IsBeside sizes c next → IsBeside sizes (take depth c) next → (x : List ℕ) → IsIn (completions sizes (take depth c)) x
+          → ((comes_before c x ≡ true) ⊎ (comes_before c x ≡ false)) → comes_before c x ≡ false
+      none_of beside beside_y x i (inr e) = e
+      none_of beside beside_y x i (inl less) =
+          let member = completion_begins sizes (take depth c) x i in
+          let late : comes_before x next ≡ false = beside.least x member.0.0 less (other_choice x member.0 less) in
+          absurd (false≢true (sym late ∙ before_beside (take depth c) next x beside_y.after beside_y.apart member.1))
+
+  -- nothing is left
+  pub given_end : next_beside sizes c ≡ None → {current : List ℕ} {other : Option (List ℕ)} → IsWalk sizes verdict start Done current other judged (given ++ c ∷ [])
+  given_end e =
+      let y : List ℕ = take depth c in
+      let after = closed_none sizes verdict start begun_giving.first begun_giving.begins begun_giving.whole some (length judged - 1) y here.last (ap is_open here.yes) (none_of_front sizes c depth e) in
+      let none : find (comes_before c) (completions sizes y) ≡ None = found_none (comes_before c) (completions sizes y) (λ x i. none_of x i (cases_Bool (comes_before c x))) in
+      at_done front (record {
+        all = omega (arith, past_length (visited sizes verdict start) (suc (length judged - 1)) after, upcoming);
+        given_all = given_all_of none;
+      })
+    where
+      none_of : (x : List ℕ) → IsIn (completions sizes (take depth c)) x → ((comes_before c x ≡ true) ⊎ (comes_before c x ≡ false)) → comes_before c x ≡ false
+      none_of x i (inr l) = l
+      none_of x i (inl less) =
+          let member = completion_begins sizes (take depth c) x i in
+          absurd (false≢true (sym (other_choice x member.0 less) ∙ none_beside sizes c x e here.whole.0 member.0.0 less))
+
+-- ---- The same current under other names.
+
+pub walk_at : {sizes : List ℕ} {verdict : List ℕ → Verdict} {start : Start} {along : Option (List ℕ)} {given given' : List (List ℕ)} (stage stage' : Stage) (current current' : List ℕ) (judged judged' : List (List ℕ))
+    → stage ≡ stage' → current ≡ current' → judged ≡ judged' → given ≡ given' → IsWalk sizes verdict start stage current along judged given → IsWalk sizes verdict start stage' current' along judged' given'
+walk_at {sizes} {verdict} {start} {along} {given} {given'} stage stage' current current' judged judged' s p j t h =
+    subst (λ x. IsWalk sizes verdict start x current' along judged' given') s
+    (subst (λ x. IsWalk sizes verdict start stage x along judged' given') p
+    (subst (λ x. IsWalk sizes verdict start stage current along x given') j
+    (subst (λ x. IsWalk sizes verdict start stage current along judged x) t h)))
+
+-- ---- An open prefix is shorter than a choice.
+
+pub open_room : (sizes : List ℕ) (truth : List ℕ → Bool) (verdict : List ℕ → Verdict) → IsJudge sizes truth verdict → (p : List ℕ) → admits sizes p ≡ true → verdict p ≡ Open → length p < length sizes
+open_room sizes truth verdict law p a e = elim (cases_lt (length p) (length sizes)) [
+  | inl l ↦ l
+  | inr h ↦ absurd (law.whole p (a, omega (arith, h, admits_at_most sizes p a)) e)
+]
+
+pub along_longer : (o : Option (List ℕ)) (n m : ℕ) → n ≡ m → ((f : List ℕ) → o ≡ Some f → m < length f) → IfSome o (λ f. n < length f)
+along_longer None n m e h = tt
+along_longer (Some f) n m e h = omega (arith, h f refl)
+
+-- ---- What is left to give.
+
+-- the choices that were given are the first of those that are given in all
+pub record IsGivenFront (sizes : List ℕ) (verdict : List ℕ → Verdict) (start : Start) (judged given : List (List ℕ)) : Type 0 where
+  pub of_judged : (rest : List (List ℕ)) × (given ++ rest ≡ given_by sizes verdict start judged)
+  pub of_all : (rest : List (List ℕ)) × (given ++ rest ≡ given_under sizes verdict start None)
+
+given_of_judged : (sizes : List ℕ) (verdict : List ℕ → Verdict) (start : Start) (stage : Stage) (current : List ℕ) (along : Option (List ℕ)) (judged given : List (List ℕ))
+    → IsWalk sizes verdict start stage current along judged given → (rest : List (List ℕ)) × (given ++ rest ≡ given_by sizes verdict start judged)
+given_of_judged sizes verdict start Judging current along judged given h = ([], append-nil given ∙ (h.judging refl).given_all)
+given_of_judged sizes verdict start (Giving depth) current along judged given h = (at_or_after (Some current) (completions sizes (take depth current)), (h.giving depth refl).given_next)
+given_of_judged sizes verdict start Done current along judged given h = ([], append-nil given ∙ (h.done refl).given_all)
+
+pub given_front : (sizes : List ℕ) (verdict : List ℕ → Verdict) (start : Start) (stage : Stage) (current : List ℕ) (along : Option (List ℕ)) (judged given : List (List ℕ))
+    → IsWalk sizes verdict start stage current along judged given → IsGivenFront sizes verdict start judged given
+given_front sizes verdict start stage current along judged given h =
+    let some = given_of_judged sizes verdict start stage current along judged given h in
+    let all : List (List ℕ) = visited sizes verdict start in
+    let later : List (List ℕ) = given_by sizes verdict start (drop (length judged) all) in
+    record {
+      of_judged = some;
+      of_all = (
+        some.0 ++ later,
+        sym (append_assoc given some.0 later) ∙ ap (λ l. l ++ later) some.1
+            ∙ ap (λ l. given_by sizes verdict start l ++ later) h.front
+            ∙ sym (flat_map-append (given_at sizes verdict start) (take (length judged) all) (drop (length judged) all))
+            ∙ ap (given_by sizes verdict start) (take-append-drop (length judged) all),
+      );
+    }
+
+pub left_one : (given rest all : List (List ℕ)) (c : List ℕ) → (given ++ c ∷ []) ++ rest ≡ all → drop (length given) all ≡ c ∷ drop (length (given ++ c ∷ [])) all
+left_one given rest all c e =
+    let more : given ++ (c ∷ rest) ≡ all = sym (append_assoc given (c ∷ []) rest) ∙ e in
+    ap (drop (length given)) (sym more) ∙ drop_at given (c ∷ rest) (length given) refl
+    ∙ ap (λ l. c ∷ l) (sym (ap (drop (length (given ++ c ∷ []))) (sym e) ∙ drop_at (given ++ c ∷ []) rest (length (given ++ c ∷ [])) refl))
+
+pub part_of_search : {sizes : List ℕ} {verdict : List ℕ → Verdict} {start : Start} {stage : Stage} {current : List ℕ} {along : Option (List ℕ)} {judged given : List (List ℕ)}
+    → IsWalk sizes verdict start stage current along judged given → IsPartOfSearch sizes verdict start None judged given
+part_of_search {sizes} {verdict} {start} {stage} {current} {along} {judged} {given} h =
+    record { judged_first = h.front; given_first = (given_front sizes verdict start stage current along judged given h).of_judged }
+
+pub whole_search : {sizes : List ℕ} {verdict : List ℕ → Verdict} {start : Start} {stage : Stage} {current : List ℕ} {along : Option (List ℕ)} {judged given : List (List ℕ)}
+    → IsWalk sizes verdict start stage current along judged given → stage ≡ Done → IsWholeSearch sizes verdict start None judged given
+whole_search {sizes} {verdict} {start} {stage} {current} {along} {judged} {given} h e =
+    let past = h.done e in
+    let same : judged ≡ visited sizes verdict start = h.front ∙ take_all (length judged) (visited sizes verdict start) past.all in
+    record { judged_all = same; given_all = past.given_all ∙ ap (given_by sizes verdict start) same }
+
+pub begins_with_last : {sizes : List ℕ} {verdict : List ℕ → Verdict} {start : Start} {stage : Stage} {current : List ℕ} {along : Option (List ℕ)} {judged given : List (List ℕ)} (depth : ℕ)
+    → IsWalk sizes verdict start stage current along judged given → stage ≡ Giving depth → BeginsWithLast judged current
+begins_with_last {sizes} {verdict} {start} {stage} {current} {along} {judged} {given} depth h e =
+    let w = h.giving depth e in
+    let all : List (List ℕ) = visited sizes verdict start in
+    let i : ℕ = length judged - 1 in
+    let x : List ℕ = take depth current in
+    let below : i < length judged = omega (arith, w.some) in
+    let here : get_or all i x ≡ x = Rattle.std.proofs.lemmas.Option.get_or_from_slice_get all i x x w.last in
+    record { depth = depth; last = Rattle.std.proofs.lemmas.Option.slice_get_read judged (length judged) i x refl below (sym (ap (λ l. get_or l i x) h.front ∙ Rattle.std.proofs.lemmas.List.get_or-take (length judged) all i x below ∙ here)) }
+
+pub none_left : (given all : List (List ℕ)) → given ≡ all → drop (length given) all ≡ []
+none_left given all e = drop_all (length given) all (omega (arith, ap length e))
+
+-- ---- Where the search begins.
+
+first_visited : (sizes : List ℕ) (verdict : List ℕ → Verdict) (start : Start) (f : List ℕ) → ArePositive sizes → first_of_start sizes start ≡ Some f → IsWhole sizes f → slice_get (visited sizes verdict start) 0 ≡ Some []
+first_visited sizes verdict start f some begins w = by sizes refl
+  where
+    judged : is_visited sizes verdict start [] ≡ true
+    judged = subst (λ o. nat_lt 0 (length (at_or_after o (completions sizes []))) ≡ true) (sym begins) (reached sizes f [] some w refl (inl refl))
+
+    by : (ns : List ℕ) → sizes ≡ ns → slice_get (filter (is_visited sizes verdict start) (all_prefixes ns)) 0 ≡ Some []
+    by [] e = ap (λ xs. slice_get xs 0) (filter_step (is_visited sizes verdict start) [] [] true judged)
+    by (n ∷ ns) e = ap (λ xs. slice_get xs 0) (filter_step (is_visited sizes verdict start) [] (flat_map (λ p. map (λ prefix. p ∷ prefix) (all_prefixes ns)) (range_with_len 0 n)) true judged)
+
+begins_at : (sizes : List ℕ) (verdict : List ℕ → Verdict) (start : Start) → ArePositive sizes → (o : Option (List ℕ)) (stage : Stage) → first_of_start sizes start ≡ o → MatchOption o (stage ≡ Done) (λ f. stage ≡ Judging) → IsWalk sizes verdict start stage [] o [] []
+begins_at sizes verdict start some None stage begins is =
+    walk_at Done stage [] [] [] [] (sym is) refl refl refl (at_done refl (record { all = omega (arith, ap length (none_visited sizes verdict start begins)); given_all = refl }))
+begins_at sizes verdict start some (Some f) stage begins is =
+    walk_at Judging stage [] [] [] [] (sym is) refl refl refl (at_judging refl (record {
+      next = first_visited sizes verdict start f some begins (first_is_whole sizes start f begins);
+      along_is = ap (if_begins []) (sym begins);
+      given_all = refl;
+    }))
+
+pub walk_begins : (sizes : List ℕ) (verdict : List ℕ → Verdict) (start : Start) → ArePositive sizes → (o : Option (List ℕ)) (stage : Stage) (current : List ℕ) (judged given : List (List ℕ))
+    → first_of_start sizes start ≡ o → MatchOption o (stage ≡ Done) (λ f. stage ≡ Judging) → current ≡ [] → judged ≡ [] → given ≡ [] → IsWalk sizes verdict start stage current o judged given
+walk_begins sizes verdict start some o stage current judged given begins is p j t =
+    walk_at stage stage [] current [] judged refl (sym p) (sym j) (sym t) (begins_at sizes verdict start some o stage begins is)
+
+pub nothing_given : (given all : List (List ℕ)) → given ≡ [] → drop (length given) all ≡ all
+nothing_given given all e = ap (λ l. drop (length l) all) e

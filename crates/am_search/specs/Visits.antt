@@ -1,0 +1,99 @@
+-- Which prefixes a search judges from a start on, and which choices these give. The search goes on
+-- below a prefix where the verdict is `Open`; it leaves out what is below a `No`, and gives what is
+-- below a `Yes` without judging there.
+use Rattle.std.specs.Prelude.{◌≡◌, ℕ, ◌-◌, List, [], ◌∷◌, ◌++◌, length, map, take, nat_lt}
+use Rattle.std.specs.Prelude.{Bool, ◌&&◌, if◌then◌else◌, Option, Some, None, slice_get}
+use Rattle.std.specs.List.{filter, flat_map, list_all, range_with_len}
+use Rattle.am_universe.specs.Words.{completions}
+use Rattle.am_search.specs.declared.start.Start.{Start}
+use Rattle.am_search.specs.declared.verdict.Verdict.{Verdict}
+use Rattle.am_search.specs.Judge.{is_yes, is_open}
+use Rattle.am_search.specs.Start.{first_of_start, at_or_after}
+
+-- All prefixes of the choices over labels of these sizes, the empty one and whole choices included,
+-- in preorder: a prefix before those that extend it, and otherwise as in a dictionary. No code
+-- forms this list.
+-- Source: own choice.
+-- Example: for the sizes 2 and 1 they are the empty prefix, 0, 0 0, 1 and 1 0.
+abbrev pub all_prefixes : List ℕ → List (List ℕ)
+all_prefixes [] = [] ∷ []
+all_prefixes (size ∷ sizes) =
+    [] ∷ flat_map (λ p. map (λ prefix. p ∷ prefix) (all_prefixes sizes)) (range_with_len 0 size)
+
+-- The proper fronts of a prefix: the shorter prefixes that it begins with, the empty one first.
+abbrev pub proper_fronts : List ℕ → List (List ℕ)
+proper_fronts [] = []
+proper_fronts (p ∷ prefix) = [] ∷ map (λ front. p ∷ front) (proper_fronts prefix)
+
+-- The completions of a prefix from a start on, in declared order.
+abbrev pub completions_from : List ℕ → Start → List ℕ → List (List ℕ)
+completions_from sizes start prefix =
+    at_or_after (first_of_start sizes start) (completions sizes prefix)
+
+-- A search visits a prefix, and judges it, where each of its proper fronts is judged `Open`, and
+-- where it has a completion from the start on; and the prefixes that it visits, in preorder.
+-- Source: own choice.
+-- Example: over the sizes 3 and 2, where the verdict is `Open` at the empty prefix and at 0, `Yes`
+-- at 0 1, and `No` at 0 0, at 1 and at 2, a search from the first choice on visits the empty
+-- prefix, 0, 0 0, 0 1, 1 and 2; one from after the choice 0 1 on visits the empty prefix, 1 and 2.
+abbrev pub is_visited : List ℕ → (List ℕ → Verdict) → Start → List ℕ → Bool
+is_visited sizes verdict start prefix =
+    list_all (λ front. is_open (verdict front)) (proper_fronts prefix)
+    && nat_lt 0 (length (completions_from sizes start prefix))
+
+abbrev pub visited : List ℕ → (List ℕ → Verdict) → Start → List (List ℕ)
+visited sizes verdict start = filter (is_visited sizes verdict start) (all_prefixes sizes)
+
+-- What a visited prefix gives: where it is judged `Yes`, its completions from the start on; and
+-- what some visited prefixes give, one behind the other.
+-- Source: own choice.
+-- Example: over the sizes 3 and 2, where the verdict at 1 is `Yes`, the prefix 1 gives 1 0 and 1 1,
+-- and from after the choice 1 0 on it gives 1 1 alone. A prefix that is `Open` or `No` gives none.
+abbrev pub given_at : List ℕ → (List ℕ → Verdict) → Start → List ℕ → List (List ℕ)
+given_at sizes verdict start prefix =
+    if is_yes (verdict prefix) then completions_from sizes start prefix else []
+
+abbrev pub given_by : List ℕ → (List ℕ → Verdict) → Start → List (List ℕ) → List (List ℕ)
+given_by sizes verdict start prefixes = flat_map (given_at sizes verdict start) prefixes
+
+-- The prefixes that are visited under a budget, if there is one: so many of the first. Without a
+-- budget, all. And what they give.
+-- Source: own choice.
+-- Example: where the empty prefix, 0, 0 0, 0 1, 1 and 2 are visited, of which 0 1 is a whole choice
+-- and alone is judged `Yes`, a budget of 3 leaves out 0 1, 1 and 2, and nothing is given; one of 6
+-- leaves out nothing, and 0 1 is given, as without a budget.
+abbrev pub up_to_budget : Option ℕ → List (List ℕ) → List (List ℕ)
+up_to_budget None prefixes = prefixes
+up_to_budget (Some budget) prefixes = take budget prefixes
+
+abbrev pub visited_under : List ℕ → (List ℕ → Verdict) → Start → Option ℕ → List (List ℕ)
+visited_under sizes verdict start budget = up_to_budget budget (visited sizes verdict start)
+
+abbrev pub given_under : List ℕ → (List ℕ → Verdict) → Start → Option ℕ → List (List ℕ)
+given_under sizes verdict start budget =
+    given_by sizes verdict start (visited_under sizes verdict start budget)
+
+-- How far a search has come: the prefixes that it has judged are the first of those that it visits,
+-- in their order, and the choices that it has given are the first of those that these give.
+-- Source: own choice.
+-- Example: where the empty prefix, 0, 0 0, 0 1, 1 and 2 are visited, a search that has judged the
+-- first four of them has come that far, whether it has given the completions of 0 1 or not.
+pub record IsPartOfSearch (sizes : List ℕ) (verdict : List ℕ → Verdict) (start : Start)
+    (budget : Option ℕ) (judged given : List (List ℕ)) : Type 0 where
+  pub judged_first : judged ≡ take (length judged) (visited_under sizes verdict start budget)
+  pub given_first : (rest : List (List ℕ))
+      × (given ++ rest ≡ given_by sizes verdict start judged)
+
+-- A search is over: it has judged every prefix that it visits under its budget, and given every
+-- choice that these give.
+-- Source: own choice.
+-- Example: without a budget it has then given all answers from its start on.
+pub record IsWholeSearch (sizes : List ℕ) (verdict : List ℕ → Verdict) (start : Start)
+    (budget : Option ℕ) (judged given : List (List ℕ)) : Type 0 where
+  pub judged_all : judged ≡ visited_under sizes verdict start budget
+  pub given_all : given ≡ given_under sizes verdict start budget
+
+-- A choice begins with the last of some prefixes.
+pub record BeginsWithLast (prefixes : List (List ℕ)) (choice : List ℕ) : Type 0 where
+  pub depth : ℕ
+  pub last : slice_get prefixes (length prefixes - 1) ≡ Some (take depth choice)

@@ -1,0 +1,57 @@
+-- Where a search stands, and what it has judged and given so far.
+use Rattle.std.specs.Prelude.{◌≡◌, ℕ, ◌<◌, ◌≤◌, ◌-◌, List, ◌++◌, length, take}
+use Rattle.std.specs.Prelude.{slice_get, slice_index, nat_eq, if◌then◌else◌, Option, Some, None}
+use Rattle.std.specs.List.{starts_with}
+use Rattle.am_universe.specs.Words.{IsWhole, completions}
+use Rattle.am_search.specs.declared.start.Start.{Start}
+use Rattle.am_search.specs.declared.stage.Stage.{Stage}
+use Rattle.am_search.specs.declared.stage.Stage.TheVariants.{Judging, Giving, Done}
+use Rattle.am_search.specs.declared.verdict.Verdict.{Verdict}
+use Rattle.am_search.specs.declared.verdict.Verdict.TheVariants.{Yes}
+use Rattle.am_search.specs.Start.{first_of_start, at_or_after}
+use Rattle.am_search.specs.Visits.{visited, given_by}
+
+-- A choice where it begins with a prefix.
+abbrev pub if_begins : List ℕ → Option (List ℕ) → Option (List ℕ)
+if_begins prefix None = None
+if_begins prefix (Some c) = if starts_with nat_eq c prefix then Some c else None
+
+-- The first position below a prefix of so many positions: along a choice, that of the choice.
+abbrev pub first_position : Option (List ℕ) → ℕ → ℕ
+first_position None i = 0
+first_position (Some c) i = slice_index c i
+
+module _ (sizes : List ℕ) (verdict : List ℕ → Verdict) (start : Start) where
+  -- The prefix stands first among those that are still to be judged. `along` is the choice at which
+  -- the start begins, where that begins with the prefix. What is judged has been given.
+  pub record IsJudging (prefix : List ℕ) (along : Option (List ℕ)) (judged given : List (List ℕ))
+      : Type 0 where
+    pub next : slice_get (visited sizes verdict start) (length judged) ≡ Some prefix
+    pub along_is : along ≡ if_begins prefix (first_of_start sizes start)
+    pub given_all : given ≡ given_by sizes verdict start judged
+
+  -- The prefix of so many positions was judged last, and `Yes`; of its completions those from the
+  -- choice on are left.
+  pub record IsGiving (depth : ℕ) (choice : List ℕ) (judged given : List (List ℕ)) : Type 0 where
+    pub some : 0 < length judged
+    pub last : slice_get (visited sizes verdict start) (length judged - 1)
+        ≡ Some (take depth choice)
+    pub yes : verdict (take depth choice) ≡ Yes
+    pub whole : IsWhole sizes choice
+    pub depth_is : depth ≤ length choice
+    pub given_next : given ++ at_or_after (Some choice) (completions sizes (take depth choice))
+        ≡ given_by sizes verdict start judged
+
+  -- All is judged and given.
+  pub record IsDone (judged given : List (List ℕ)) : Type 0 where
+    pub all : length (visited sizes verdict start) ≤ length judged
+    pub given_all : given ≡ given_by sizes verdict start judged
+
+  -- What is judged so far is the beginning of what is judged in all, and the rest is as the stage
+  -- says.
+  pub record IsWalk (stage : Stage) (current : List ℕ) (along : Option (List ℕ))
+      (judged given : List (List ℕ)) : Type 0 where
+    pub front : judged ≡ take (length judged) (visited sizes verdict start)
+    pub judging : stage ≡ Judging → IsJudging current along judged given
+    pub giving : (depth : ℕ) → stage ≡ Giving depth → IsGiving depth current judged given
+    pub done : stage ≡ Done → IsDone judged given
