@@ -1,0 +1,87 @@
+-- The completions of a prefix: which they are, and one that goes on as a function says.
+use Rattle.std.proofs.Common.{◌≡◌, ℕ, zero, suc, ◌<◌, ◌≤◌, Bool, true, List, [], ◌∷◌, length, get_or, nat_eq, nat_lt, refl, ap, sym, arith}
+use Rattle.std.specs.List.{starts_with}
+use Rattle.std.proofs.lemmas.Bool.{and_parts, and_from, eq-eqb, eqb-true, lt-ltb}
+use Rattle.am_universe.specs.Choice.{choices, admits, IsWhole}
+use Rattle.am_universe.specs.Completions.{completions}
+use Rattle.am_universe.proofs.ListLemmas.{IsIn, IsIn-from_Contains}
+use Rattle.am_universe.proofs.ChoiceLemmas.{whole_from_in, choices_whole}
+use Rattle.am_masks.proofs.ListLemmas.{from_filter, into_filter}
+
+-- a choice begins with a prefix
+abbrev pub begins : List ℕ → List ℕ → Bool
+begins c prefix = starts_with nat_eq c prefix
+
+pub completion_whole : (ns prefix c : List ℕ) → IsIn (completions ns prefix) c → IsWhole ns c × (begins c prefix ≡ true)
+completion_whole ns prefix c i =
+    let r = from_filter (λ d. starts_with nat_eq d prefix) (choices ns) c i in (whole_from_in ns c r.0, r.1)
+
+pub is_completion : (ns prefix c : List ℕ) → IsWhole ns c → begins c prefix ≡ true → IsIn (completions ns prefix) c
+is_completion ns prefix c whole e = into_filter (λ d. starts_with nat_eq d prefix) (choices ns) c (IsIn-from_Contains (choices ns) c ((choices_whole ns c).1 whole)) e
+
+-- it is as long at least, and has its positions
+pub begins_long : (c prefix : List ℕ) → begins c prefix ≡ true → length prefix ≤ length c
+begins_long c [] e = omega arith
+begins_long [] (p ∷ prefix) e = cc
+begins_long (q ∷ c) (p ∷ prefix) e =
+    let rest = begins_long c prefix (and_parts (nat_eq p q) (begins c prefix) e).1 in omega arith
+
+pub begins_at : (c prefix : List ℕ) (i : ℕ) → begins c prefix ≡ true → i < length prefix → get_or c i 0 ≡ get_or prefix i 0
+begins_at c [] i e h = absurd (omega arith)
+begins_at [] (p ∷ prefix) i e h = cc
+begins_at (q ∷ c) (p ∷ prefix) zero e h = sym (eqb-true p q (and_parts (nat_eq p q) (begins c prefix) e).0)
+begins_at (q ∷ c) (p ∷ prefix) (suc i) e h = begins_at c prefix i (and_parts (nat_eq p q) (begins c prefix) e).1 (omega arith)
+
+-- ---- Going on as a function says.
+
+-- a position for each label, at which it has a value
+abbrev pub IsBelow : (ℕ → ℕ) → List ℕ → Type 0
+IsBelow f ns = (i : ℕ) → i < length ns → f i < get_or ns i 0
+
+pub completed : (ℕ → ℕ) → List ℕ → List ℕ → List ℕ
+completed f [] prefix = []
+completed f (n ∷ ns) [] = f 0 ∷ completed (λ i. f (suc i)) ns []
+completed f (n ∷ ns) (p ∷ prefix) = p ∷ completed (λ i. f (suc i)) ns prefix
+
+completed_length : (f : ℕ → ℕ) (ns prefix : List ℕ) → length (completed f ns prefix) ≡ length ns
+unfolding completed
+completed_length f [] prefix = refl
+completed_length f (n ∷ ns) [] = ap suc (completed_length (λ i. f (suc i)) ns [])
+completed_length f (n ∷ ns) (p ∷ prefix) = ap suc (completed_length (λ i. f (suc i)) ns prefix)
+
+nothing_admitted : (ns : List ℕ) → admits ns [] ≡ true
+nothing_admitted [] = refl
+nothing_admitted (n ∷ ns) = refl
+
+completed_admitted : (f : ℕ → ℕ) (ns prefix : List ℕ) → admits ns prefix ≡ true → IsBelow f ns → admits ns (completed f ns prefix) ≡ true
+unfolding completed
+completed_admitted f [] prefix a below = refl
+completed_admitted f (n ∷ ns) [] a below =
+    and_from (nat_lt (f 0) n) (admits ns (completed (λ i. f (suc i)) ns [])) (lt-ltb (f 0) n (below 0 (omega arith)))
+    (completed_admitted (λ i. f (suc i)) ns [] (nothing_admitted ns) (λ i h. below (suc i) (omega arith)))
+completed_admitted f (n ∷ ns) (p ∷ prefix) a below =
+    let parts = and_parts (nat_lt p n) (admits ns prefix) a in
+    and_from (nat_lt p n) (admits ns (completed (λ i. f (suc i)) ns prefix)) parts.0
+    (completed_admitted (λ i. f (suc i)) ns prefix parts.1 (λ i h. below (suc i) (omega arith)))
+
+completed_begins : (f : ℕ → ℕ) (ns prefix : List ℕ) → admits ns prefix ≡ true → begins (completed f ns prefix) prefix ≡ true
+unfolding completed
+completed_begins f [] [] a = refl
+completed_begins f [] (p ∷ prefix) a = cc
+completed_begins f (n ∷ ns) [] a = refl
+completed_begins f (n ∷ ns) (p ∷ prefix) a =
+    and_from (nat_eq p p) (begins (completed (λ i. f (suc i)) ns prefix) prefix) (eq-eqb p p refl)
+    (completed_begins (λ i. f (suc i)) ns prefix (and_parts (nat_lt p n) (admits ns prefix) a).1)
+
+-- it is a completion, and goes on as it should
+pub completed_in : (f : ℕ → ℕ) (ns prefix : List ℕ) → admits ns prefix ≡ true → IsBelow f ns → IsIn (completions ns prefix) (completed f ns prefix)
+completed_in f ns prefix a below =
+    is_completion ns prefix (completed f ns prefix) (completed_admitted f ns prefix a below, completed_length f ns prefix) (completed_begins f ns prefix a)
+
+pub completed_at : (f : ℕ → ℕ) (ns prefix : List ℕ) (i : ℕ) → length prefix ≤ i → i < length ns → get_or (completed f ns prefix) i 0 ≡ f i
+unfolding completed
+completed_at f [] prefix i low high = absurd (omega arith)
+completed_at f (n ∷ ns) [] zero low high = refl
+completed_at f (n ∷ ns) [] (suc i) low high = completed_at (λ k. f (suc k)) ns [] i (omega arith) (omega arith)
+completed_at f (n ∷ ns) (p ∷ prefix) zero low high = absurd (omega arith)
+completed_at f (n ∷ ns) (p ∷ prefix) (suc i) low high = completed_at (λ k. f (suc k)) ns prefix i (omega arith) (omega arith)

@@ -1,0 +1,168 @@
+ghost use Rattle.std.specs.Prelude.{◌≡◌, ◌<◌, not, map, IfOk, OnOk, OnErr};
+ghost use Rattle.std.specs.List.{list_any, AllByRecursion};
+ghost use Rattle.am_labels.specs.Words.{row_of};
+ghost use Rattle.am_masks.specs.Rows.{is_never_true};
+ghost use Rattle.am_masks.specs.Words.{IsCubeOf, verdict_at, is_yes, is_no};
+ghost use Rattle.am_masks.specs.CubeView.{restricted};
+
+use crate::mask::Mask;
+use am_labels::{Choice, Matchers, Row, Universe};
+use am_search::Verdict;
+use am_universe::limits::MAX_LABELS;
+use std::alloc::{AllocError, Global};
+use std::marker::Model;
+
+/// The permitted positions of one label.
+#[derive(Drop)]
+struct LabelMask {
+    label: usize,
+    mask: Mask,
+}
+
+impl LabelMask {
+    ghost use Rattle.std.specs.Prelude.{◌||◌};
+    ghost use Rattle.am_masks.specs.Cube.{reaches, permits_at};
+
+    /// Whether a prefix has no position that the mask forbids.
+    fn fits(&self, prefix: &Choice) -> bool
+        ensures { result ≡ (not (reaches prefix.now self.now) || permits_at prefix.now self.now) }
+    {
+        self.label >= prefix.len() || self.mask.permits(prefix.get(self.label))
+    }
+}
+
+/// Which positions of each label a list of matchers permits. The label set of a whole choice
+/// matches the list where each of its positions is permitted.
+#[derive(Drop)]
+pub struct Cube {
+    /// No choice is permitted.
+    empty: bool,
+    /// The labels of which some positions are permitted and some are not, ascending. Of every other
+    /// label all are, unless no choice is permitted.
+    masks: Vec<LabelMask>,
+    /// One more than the last label that has a mask; 0 where none has.
+    reach: usize,
+}
+
+impl Model for Cube {
+    ghost use Rattle.am_masks.specs.Cube.{MaskedLabels};
+    ghost use Rattle.am_masks.specs.CubeView.{IsKept};
+
+    ghost Value = { MaskedLabels };
+
+    ghost view = { λ a. record { empty = a.empty; masks = a.masks.items } };
+
+    ghost invariant = { λ a. IsKept a.masks.items a.reach };
+}
+
+impl Cube {
+    /// The cube of a list of matchers. An `Err` only where memory was refused.
+    ///
+    /// A matcher of a label that the universe does not declare is the same at every choice: where
+    /// it is false no choice is permitted, and where it is true it says nothing.
+    pub fn of(alloc: Global, matchers: &Matchers, universe: &Universe) -> Result<Cube, AllocError>
+        ensures exact { IfOk result (λ cube. IsCubeOf universe.now matchers.now cube) }
+    {
+        // What `len` promises tells the proof that each label has some value.
+        prove!(universe.len() <= MAX_LABELS);
+        let rows = rows_of(alloc, matchers, universe)?;
+        let mut cube = Cube {
+            empty: is_any_never_true(rows.as_slice()),
+            masks: Vec::new(alloc),
+            reach: 0,
+        };
+        for label in 0..universe.len() {
+            let size = universe.size(label);
+            let mask = Mask::of_rows(alloc, rows.as_slice(), label, size)?;
+            cube.restrict(label, mask, size)?;
+        }
+        Ok(cube)
+    }
+
+    /// Permits the positions of a mask alone, of a label behind those that have one. After an `Err`
+    /// nothing has changed.
+    fn restrict(&mut self, label: usize, mask: Mask, size: usize) -> Result<(), AllocError>
+        requires label { label < MAX_LABELS }
+        requires last { AllByRecursion (λ m. m.label < label) self.old.masks }
+        ensures restricted { OnOk result (self.new ≡ restricted self.old label mask size) }
+        ensures err { OnErr result (self.new ≡ self.old) }
+    {
+        if mask.is_full(size) {
+            return Ok(());
+        }
+        if mask.is_empty(size) {
+            self.empty = true;
+            return Ok(());
+        }
+        self.masks.push(LabelMask { label, mask })?;
+        self.reach = label + 1;
+        Ok(())
+    }
+
+    /// What the list says of the completions of a prefix: `Yes`, the label set of each matches it;
+    /// `No`, that of none does; `Open`, those of only some do. So it is at each prefix that the
+    /// universe admits. It takes no memory, and looks at no label behind the prefix.
+    pub fn judge(&self, prefix: &Choice) -> Verdict
+        ensures verdict { result ≡ verdict_at self.now prefix.now }
+    {
+        if !self.may(prefix) {
+            Verdict::No
+        } else if self.reach <= prefix.len() {
+            Verdict::Yes
+        } else {
+            Verdict::Open
+        }
+    }
+
+    /// Whether the verdict at a prefix is not `No`: the list matches some completion.
+    pub fn may(&self, prefix: &Choice) -> bool
+        ensures verdict { result ≡ not (is_no (verdict_at self.now prefix.now)) }
+    {
+        if self.empty {
+            return false;
+        }
+        // The mask at `i` is of the label `i` or of one behind it.
+        let within = self.masks.len().min(prefix.len());
+        for i in (0..within).rev() {
+            if !self.masks[i].fits(prefix) {
+                return false;
+            }
+        }
+        true
+    }
+
+    /// Whether the verdict at a prefix is `Yes`: the list matches every completion.
+    pub fn must(&self, prefix: &Choice) -> bool
+        ensures verdict { result ≡ is_yes (verdict_at self.now prefix.now) }
+    {
+        self.reach <= prefix.len() && self.may(prefix)
+    }
+}
+
+/// The rows of a list of matchers.
+fn rows_of(alloc: Global, matchers: &Matchers, universe: &Universe) -> Result<Vec<Row>, AllocError>
+    ensures rows { IfOk result (λ rows. rows.items ≡ map (row_of universe.now) matchers.now) }
+{
+    let mut rows = Vec::with_capacity(alloc, matchers.len())?;
+    for i in 0..matchers.len() {
+        rows.push(matchers.get(i).row(alloc, universe)?)?;
+    }
+    Ok(rows)
+}
+
+/// Whether one of the rows is true at no choice.
+fn is_any_never_true(rows: &[Row]) -> bool
+    ensures { result ≡ list_any is_never_true rows.now }
+{
+    rows.iter().any(is_never_true)
+}
+
+/// Whether a row is true at no choice: it is of a label that is not declared, and false.
+fn is_never_true(row: &Row) -> bool
+    ensures { result ≡ is_never_true row.now }
+{
+    match row.label() {
+        Some(_) => false,
+        None => !row.holds(0),
+    }
+}

@@ -1,0 +1,17 @@
+//! Masks and cubes: what a list of matchers says of the completions of a prefix of a choice.
+//!
+//! A [`Cube`] is made of a list of matchers, for the labels of a universe. At a prefix of a choice
+//! it answers a `Verdict`: whether all, none or some of the label sets of the prefix's completions
+//! match the list. It looks at no completion, and takes no memory.
+#![tactic(auto)]
+
+// Which positions of one label are permitted.
+mod mask;
+
+// Which positions of each label are permitted.
+mod cube;
+
+pub use cube::Cube;
+
+// What holds of the definitions by themselves.
+pub mod laws;
