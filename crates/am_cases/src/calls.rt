@@ -7,7 +7,7 @@ use crate::alerts::of_alerts;
 use crate::pages::of_ask;
 use crate::reports::{Report, of_report};
 use crate::silences::{of_instant, of_silences};
-use crate::starts::{of_first, of_judge, of_token};
+use crate::starts::{of_cube, of_first, of_judge, of_search, of_token};
 use crate::trees::config_text;
 use crate::worlds::{of_explain, of_inhibited, of_pairs, of_silenced};
 use am_case_files::{Problem, split_at_first, split_at_last, utf8};
@@ -39,6 +39,8 @@ pub enum Call {
     Ends,
     Judge,
     First,
+    Cube,
+    Search,
     Token,
     Ask,
     Dead,
@@ -100,6 +102,8 @@ pub fn call_named(name: &[u8]) -> Option<Call> {
         b"ends" => Some(Call::Ends),
         b"judge" => Some(Call::Judge),
         b"first" => Some(Call::First),
+        b"cube" => Some(Call::Cube),
+        b"search" => Some(Call::Search),
         b"token" => Some(Call::Token),
         b"ask" => Some(Call::Ask),
         b"dead" => Some(Call::Dead),
@@ -136,6 +140,8 @@ pub fn given(
         Call::Ends => of_ends(alloc, over.with.unwrap_or(b""), utf8(alloc, text)?),
         Call::Judge => of_judge(alloc, over, text),
         Call::First => of_first(alloc, over, utf8(alloc, text)?),
+        Call::Cube => of_cube(alloc, over.universe, text),
+        Call::Search => of_search(alloc, over.universe, text),
         Call::Token => of_token(alloc, over.universe, utf8(alloc, text)?),
         Call::Ask => of_ask(alloc, over, text),
         Call::Dead => of_report(alloc, Report::Routes, over, text),

@@ -1,15 +1,16 @@
-//! The search: what it gives of tokens and judges, as a text.
+//! The search: what it gives of tokens, judges and cubes, as a text.
 
-use crate::calls::{Over, fault_behind, told};
+use crate::calls::{Over, fault_behind, refused, told};
 use crate::worlds::world_of;
 use am_case_files::{Problem, split_at_last, utf8};
+use am_case_judges::{add_positions, cube_text, prefix_of, search_text, verdict_text};
 use am_eval::{Question, World};
 use am_files::read_universe;
-use am_labels::{Choice, Fault, Out, Place, Universe};
+use am_labels::{Choice, Fault, Out, Place, Universe, parse_matchers};
 use am_questions::parse_question;
-use am_search::{Judge, Start, Verdict, first, parse_token, write_token};
+use am_search::{Judge, Start, first, parse_token, write_token};
 use am_whole::Whole;
-use std::alloc::{AllocError, Global};
+use std::alloc::Global;
 
 /// The start that a token says, or the fault. The start has to have just this token.
 pub fn of_token(alloc: Global, universe: &[u8], token: &str) -> Result<Vec<u8>, Problem> {
@@ -40,14 +41,12 @@ pub fn token_of(alloc: Global, start: &Start) -> Result<Vec<u8>, Problem> {
     }
 }
 
-/// The positions of a choice with a `.` between, behind these words and a blank.
+/// The positions of a choice with a `.` between, if there are any, behind these words and a blank.
 fn positions_behind(alloc: Global, words: &str, choice: &Choice) -> Result<Vec<u8>, Problem> {
     let mut text = String::from_str(alloc, words)?;
-    for i in 0..choice.len() {
-        text.push(if i > 0 { '.' } else { ' ' })?;
-        let position = choice.get(i);
-        let position = format!(in alloc; "{position}")?;
-        text.push_str(position.as_str())?;
+    if !choice.is_empty() {
+        text.push(' ')?;
+        add_positions(alloc, choice, &mut text)?;
     }
     Ok(text.into_bytes())
 }
@@ -82,29 +81,31 @@ pub fn of_judge(alloc: Global, over: Over<'_>, text: &[u8]) -> Result<Vec<u8>, P
         Ok(inputs) => inputs,
         Err(fault) => return fault_behind(alloc, b"", &fault),
     };
-    let positions = utf8(alloc, positions)?;
-    match verdict_on(alloc, &inputs, positions)? {
-        Some(Verdict::Yes) => told(alloc, "yes"),
-        Some(Verdict::No) => told(alloc, "no"),
-        Some(Verdict::Open) => told(alloc, "open"),
-        None => Err(Problem::about(alloc, "no prefix", positions.as_bytes())),
+    let prefix = prefix_of(alloc, &inputs.universe, utf8(alloc, positions)?)?;
+    let judge = Whole::new(alloc, &inputs.universe, &inputs.world, &inputs.question)?;
+    told(alloc, verdict_text(judge.judge(&prefix)))
+}
+
+/// What the cube of a list is known to be at a prefix.
+pub fn of_cube(alloc: Global, universe: &[u8], text: &[u8]) -> Result<Vec<u8>, Problem> {
+    let Some((list, positions)) = split_at_last(text, b" on ") else {
+        return Err(Problem::said(alloc, "a list, ` on ` and positions are wanted"));
+    };
+    let universe = match read_universe(alloc, universe) {
+        Ok(universe) => universe,
+        Err(fault) => return fault_behind(alloc, b"", &fault),
+    };
+    match parse_matchers(alloc, utf8(alloc, list)?) {
+        Ok(list) => cube_text(alloc, &universe, &list, utf8(alloc, positions)?),
+        Err(kind) => refused(alloc, kind),
     }
 }
 
-/// What the judge says of the prefix of these positions, if it is one.
-fn verdict_on(
-    alloc: Global,
-    inputs: &Inputs,
-    positions: &str,
-) -> Result<Option<Verdict>, AllocError> {
-    let token = format!(in alloc; "s1:{positions}")?;
-    let judge = Whole::new(alloc, &inputs.universe, &inputs.world, &inputs.question)?;
-    let Ok(start) = parse_token(token.as_str(), &inputs.universe) else {
-        return Ok(None);
-    };
-    match start {
-        Start::At(prefix) => Ok(Some(judge.judge(&prefix))),
-        Start::After(_) => Ok(None),
+/// What a search over a judge that is written here gives and judges.
+pub fn of_search(alloc: Global, universe: &[u8], text: &[u8]) -> Result<Vec<u8>, Problem> {
+    match read_universe(alloc, universe) {
+        Ok(universe) => search_text(alloc, &universe, text),
+        Err(fault) => fault_behind(alloc, b"", &fault),
     }
 }
 

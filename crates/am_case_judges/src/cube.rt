@@ -1,0 +1,128 @@
+//! Cubes: what a list of matchers is known to be at a prefix, and counted over its completions.
+
+use crate::positions::prefix_of;
+use am_case_files::Problem;
+use am_labels::Matchers;
+use am_masks::Cube;
+use am_search::Verdict;
+use am_universe::limits::MAX_POSITIONS;
+use am_universe::{Choice, Universe, set_of};
+use std::alloc::Global;
+
+/// The most completions that are counted.
+const MOST_COUNTED: usize = 100_000;
+
+/// The verdict of a list's cube at the prefix of these positions. It has to be what the completions
+/// come to, one by one; of more than are counted it is said that they are not.
+pub fn cube_text(
+    alloc: Global,
+    universe: &Universe,
+    list: &Matchers,
+    positions: &str,
+) -> Result<Vec<u8>, Problem> {
+    let prefix = prefix_of(alloc, universe, positions)?;
+    let verdict = verdict_at(alloc, universe, list, &prefix)?;
+    let word = verdict_text(verdict);
+    match counted(alloc, universe, list, &prefix)? {
+        Some(counted) if counted == verdict => Ok(Vec::from_slice(alloc, word.as_bytes())?),
+        Some(counted) => {
+            let wanted = verdict_text(counted);
+            Err(Problem::differs(alloc, "counted", wanted.as_bytes(), word.as_bytes()))
+        }
+        None => {
+            let text = format!(in alloc; "{word}, not counted")?;
+            Ok(text.into_bytes())
+        }
+    }
+}
+
+/// The word of a verdict.
+pub fn verdict_text(verdict: Verdict) -> &'static str {
+    match verdict {
+        Verdict::Yes => "yes",
+        Verdict::No => "no",
+        Verdict::Open => "open",
+    }
+}
+
+/// What the cube of a list says of a prefix, in each of its ways to say it.
+fn verdict_at(
+    alloc: Global,
+    universe: &Universe,
+    list: &Matchers,
+    prefix: &Choice,
+) -> Result<Verdict, Problem> {
+    let cube = Cube::of(alloc, list, universe)?;
+    let verdict = cube.judge(prefix);
+    let may = verdict != Verdict::No;
+    let must = verdict == Verdict::Yes;
+    if cube.may(prefix) != may || cube.must(prefix) != must {
+        return Err(Problem::said(alloc, "`may` or `must` does not say what `judge` says"));
+    }
+    Ok(verdict)
+}
+
+/// What the completions of a prefix come to, one by one; `None` where they are too many to count.
+fn counted(
+    alloc: Global,
+    universe: &Universe,
+    list: &Matchers,
+    prefix: &Choice,
+) -> Result<Option<Verdict>, Problem> {
+    let Some(count) = count_completions(universe, prefix) else {
+        return Ok(None);
+    };
+    let mut matched = 0_usize;
+    for number in 0..count {
+        if matches_at(alloc, universe, list, &completion(universe, prefix, number))? {
+            matched = matched.saturating_add(1);
+        }
+    }
+    Ok(Some(if matched == count {
+        Verdict::Yes
+    } else if matched == 0 {
+        Verdict::No
+    } else {
+        Verdict::Open
+    }))
+}
+
+/// How many completions a prefix has, unless there are more than are counted.
+fn count_completions(universe: &Universe, prefix: &Choice) -> Option<usize> {
+    let mut count = 1_usize;
+    for i in prefix.len()..universe.len() {
+        count = count.checked_mul(universe.size(i))?;
+        if count > MOST_COUNTED {
+            return None;
+        }
+    }
+    Some(count)
+}
+
+/// The completion of a prefix that has this number: each number below their count has another.
+fn completion(universe: &Universe, prefix: &Choice, number: usize) -> Choice {
+    let mut choice = *prefix;
+    let mut rest = number;
+    for i in prefix.len()..universe.len() {
+        let size = universe.size(i);
+        if choice.len() < MAX_POSITIONS {
+            choice.push((rest % size) as u8);
+        }
+        rest /= size;
+    }
+    choice
+}
+
+/// Whether the label set of a whole choice matches a list.
+fn matches_at(
+    alloc: Global,
+    universe: &Universe,
+    list: &Matchers,
+    choice: &Choice,
+) -> Result<bool, Problem> {
+    if !universe.admits(choice) || choice.len() != universe.len() {
+        return Err(Problem::said(alloc, "a completion is not whole"));
+    }
+    let set = set_of(alloc, universe, choice)?;
+    Ok(list.matches(alloc, &set)?)
+}

@@ -1,0 +1,28 @@
+//! What is judged in cases: judges that are written there, and what a search gives and judges over
+//! them; and cubes, whose verdicts are counted.
+//!
+//! [`Written`] is a judge that says at some prefixes `Yes` or `No`, and keeps which prefixes it was
+//! asked about. [`search_text`] reads such a judge and a start, searches from there on, and says
+//! which choices were given and which prefixes were judged for it. For every start at once it
+//! compares that with the rule by which a search goes, applied to the list of all prefixes.
+//! [`cube_text`] says what the cube of a list of matchers is known to be at a prefix, and counts it
+//! over the completions. Nothing here knows configurations, so it is proved beside the crates that
+//! the program `am_cases` waits for.
+#![tactic(auto)]
+
+// The positions of choices and prefixes, as a text.
+mod positions;
+// The judge, and how it is written.
+mod judge_text;
+mod written;
+// What a search gives and judges, and what it has to.
+mod rule;
+mod search;
+
+// What a cube is known to be at a prefix.
+mod cube;
+
+pub use cube::{cube_text, verdict_text};
+pub use positions::{add_positions, prefix_of};
+pub use search::search_text;
+pub use written::{Written, begins_with};

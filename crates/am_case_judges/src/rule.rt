@@ -1,0 +1,120 @@
+//! The rule by which a search goes, applied to the list of all prefixes.
+//!
+//! In the order of a dictionary a prefix stands before what begins with it. In this order, and from
+//! a start on, those prefixes are judged whose proper prefixes are all `Open`, and with which a
+//! choice from the start on begins. The true choices from the start on are given.
+
+use crate::written::{Written, begins_with};
+use am_case_files::Problem;
+use am_search::Verdict;
+use am_universe::{Choice, Universe};
+use std::alloc::{AllocError, Global};
+
+/// The most prefixes of which all starts are tried.
+const MOST_PLACES: usize = 200;
+
+/// A prefix, where all of a universe stand in the order of a dictionary.
+#[derive(Clone, Copy)]
+pub struct Place {
+    pub prefix: Choice,
+    pub is_whole: bool,
+    verdict: Verdict,
+    /// Whether all its proper prefixes are `Open`.
+    is_reached: bool,
+    /// Where the last choice stands that begins with it.
+    last: usize,
+}
+
+/// All prefixes, in the order of a dictionary.
+pub fn places_of(alloc: Global, judge: &Written<'_>) -> Result<Vec<Place>, Problem> {
+    let prefixes = prefixes_of(alloc, judge.universe())?;
+    let mut places = Vec::with_capacity(alloc, prefixes.len())?;
+    for prefix in &prefixes {
+        places.push(Place {
+            prefix: *prefix,
+            is_whole: prefix.len() == judge.universe().len(),
+            verdict: judge.says(prefix),
+            is_reached: is_reached(judge, prefixes.as_slice(), prefix),
+            last: last_below(prefixes.as_slice(), prefix),
+        })?;
+    }
+    Ok(places)
+}
+
+fn is_reached(judge: &Written<'_>, prefixes: &[Choice], prefix: &Choice) -> bool {
+    for front in prefixes {
+        let is_proper = front.len() < prefix.len() && begins_with(prefix, front);
+        if is_proper && judge.says(front) != Verdict::Open {
+            return false;
+        }
+    }
+    true
+}
+
+fn last_below(prefixes: &[Choice], prefix: &Choice) -> usize {
+    let mut last = 0;
+    for (i, one) in prefixes.iter().enumerate() {
+        if begins_with(one, prefix) {
+            last = i;
+        }
+    }
+    last
+}
+
+/// The true choices that stand at a place or behind it.
+pub fn true_from(alloc: Global, places: &[Place], from: usize) -> Result<Vec<Choice>, AllocError> {
+    let mut choices = Vec::new(alloc);
+    for (i, place) in places.iter().enumerate() {
+        if i >= from && place.is_whole && place.verdict == Verdict::Yes {
+            choices.push(place.prefix)?;
+        }
+    }
+    Ok(choices)
+}
+
+/// The prefixes that are judged for the choices at a place or behind it.
+pub fn judged_from(
+    alloc: Global,
+    places: &[Place],
+    from: usize,
+) -> Result<Vec<Choice>, AllocError> {
+    let mut prefixes = Vec::new(alloc);
+    for place in places {
+        if place.is_reached && place.last >= from {
+            prefixes.push(place.prefix)?;
+        }
+    }
+    Ok(prefixes)
+}
+
+/// The prefixes of a universe's choices, in the order of a dictionary.
+fn prefixes_of(alloc: Global, universe: &Universe) -> Result<Vec<Choice>, Problem> {
+    let mut prefixes = Vec::new(alloc);
+    let mut next = Some(Choice::empty());
+    for _ in 0..MOST_PLACES {
+        let Some(prefix) = next else {
+            return Ok(prefixes);
+        };
+        prefixes.push(prefix)?;
+        next = prefix_after(universe, prefix);
+    }
+    Err(Problem::said(alloc, "more prefixes than all starts are tried of"))
+}
+
+/// The prefix that follows in the order of a dictionary, if there is one.
+fn prefix_after(universe: &Universe, prefix: Choice) -> Option<Choice> {
+    let mut next = prefix;
+    if next.len() < universe.len() {
+        next.push(0);
+        return Some(next);
+    }
+    for _ in 0..prefix.len() {
+        let position = next.pop()?.saturating_add(1);
+        let i = next.len();
+        if i < universe.len() && usize::from(position) < universe.size(i) {
+            next.push(position);
+            return Some(next);
+        }
+    }
+    None
+}

@@ -1,0 +1,195 @@
+//! What a search gives from a start on, and which prefixes it judges for that, as a text.
+
+ghost use Rattle.am_search.specs.Words.{IsStart};
+ghost use Rattle.am_case_judges.specs.WrittenView.{written_sizes};
+
+use crate::judge_text::judge_of;
+use crate::positions::{add_positions, prefix_of};
+use crate::rule::{Place, judged_from, places_of, true_from};
+use crate::written::Written;
+use am_case_files::{Problem, split_at_last, utf8};
+use am_search::{Answers, Start, State, first};
+use am_universe::{Choice, Universe};
+use std::alloc::{AllocError, Global};
+
+/// The most answers that a case may have.
+const MOST_ANSWERS: usize = 1_000;
+
+/// What a search gives and judges. The text is a judge and where the search begins: ` at ` and a
+/// prefix, or ` after ` and a whole choice; or ` first`, for the first answer alone. Where
+/// ` counted` stands at the end, it is said how many prefixes are judged, and not which. Behind a
+/// judge with ` from every start` each start is compared with the rule, and how many there are is
+/// said.
+pub fn search_text(alloc: Global, universe: &Universe, text: &[u8]) -> Result<Vec<u8>, Problem> {
+    if let Some(judge) = text.strip_suffix(b" from every start") {
+        let judge = judge_of(alloc, universe, utf8(alloc, judge)?)?;
+        return check_every_start(alloc, &judge);
+    }
+    match text.strip_suffix(b" counted") {
+        Some(text) => seen_over(alloc, universe, text)?.counted_text(alloc),
+        None => seen_over(alloc, universe, text)?.text(alloc),
+    }
+}
+
+/// What a search gave, and which prefixes it judged, both in order.
+#[derive(Drop)]
+struct Seen {
+    given: Vec<Choice>,
+    judged: Vec<Choice>,
+}
+
+impl Seen {
+    /// `given:` and the choices, and `; judged:` and the prefixes, each behind a blank.
+    fn text(&self, alloc: Global) -> Result<Vec<u8>, Problem> {
+        let mut text = self.given_text(alloc)?;
+        text.push_str("; judged:")?;
+        add_each(alloc, self.judged.as_slice(), &mut text)?;
+        Ok(text.into_bytes())
+    }
+
+    /// The same, but for the prefixes their number.
+    fn counted_text(&self, alloc: Global) -> Result<Vec<u8>, Problem> {
+        let mut text = self.given_text(alloc)?;
+        let count = self.judged.len();
+        let count = format!(in alloc; "; judged: {count} prefixes")?;
+        text.push_str(count.as_str())?;
+        Ok(text.into_bytes())
+    }
+
+    fn given_text(&self, alloc: Global) -> Result<String, AllocError> {
+        let mut text = String::from_str(alloc, "given:")?;
+        add_each(alloc, self.given.as_slice(), &mut text)?;
+        Ok(text)
+    }
+}
+
+fn add_each(alloc: Global, choices: &[Choice], text: &mut String) -> Result<(), AllocError> {
+    for choice in choices {
+        text.push(' ')?;
+        add_positions(alloc, choice, text)?;
+    }
+    Ok(())
+}
+
+/// What a search over a judge gives and judges from where it begins.
+fn seen_over(alloc: Global, universe: &Universe, text: &[u8]) -> Result<Seen, Problem> {
+    if let Some(judge) = text.strip_suffix(b" first") {
+        let judge = judge_of(alloc, universe, utf8(alloc, judge)?)?;
+        return seen_first(alloc, &judge);
+    }
+    let (judge, positions, is_after) = parts_of(alloc, text)?;
+    let judge = judge_of(alloc, universe, utf8(alloc, judge)?)?;
+    let prefix = prefix_of(alloc, universe, utf8(alloc, positions)?)?;
+    match judge.start(prefix, is_after) {
+        Some(start) => seen_from(alloc, &judge, start),
+        None => Err(Problem::about(alloc, "no whole choice", positions)),
+    }
+}
+
+/// A judge, the positions of a start, and whether it is after them.
+fn parts_of(alloc: Global, text: &[u8]) -> Result<(&[u8], &[u8], bool), Problem> {
+    if let Some((judge, positions)) = split_at_last(text, b" at ") {
+        return Ok((judge, positions, false));
+    }
+    match split_at_last(text, b" after ") {
+        Some((judge, positions)) => Ok((judge, positions, true)),
+        None => Err(Problem::about(alloc, "a judge and a start are wanted", text)),
+    }
+}
+
+/// What a search gives and judges from a start on.
+fn seen_from(alloc: Global, judge: &Written<'_>, start: Start) -> Result<Seen, Problem>
+    requires { IsStart (written_sizes judge.now) start }
+{
+    let mut given = Vec::new(alloc);
+    let mut answers = Answers::from(judge, start);
+    for _ in 0..MOST_ANSWERS {
+        match next_answer(alloc, &mut answers)? {
+            Some(choice) => given.push(choice)?,
+            None => {
+                let judged = judge.take_judged(alloc)?;
+                return Ok(Seen { given, judged });
+            }
+        }
+    }
+    Err(Problem::said(alloc, "more answers than a case may have"))
+}
+
+/// The next answer, if there is one. The state has to say the same, and the end has to last.
+fn next_answer(
+    alloc: Global,
+    answers: &mut Answers<'_, Written<'_>>,
+) -> Result<Option<Choice>, Problem> {
+    let answer = answers.next();
+    let is_told = match &answer {
+        Some(_) => answers.state() == State::Running,
+        None => has_ended(answers),
+    };
+    if !is_told {
+        return Err(Problem::said(alloc, "the state does not say what `next` answered"));
+    }
+    Ok(answer)
+}
+
+/// Whether answers have come to their end, and stay there.
+fn has_ended(answers: &mut Answers<'_, Written<'_>>) -> bool {
+    answers.state() == State::Ended && answers.next().is_none() && answers.state() == State::Ended
+}
+
+/// What is given and judged where the first answer alone is asked for.
+fn seen_first(alloc: Global, judge: &Written<'_>) -> Result<Seen, Problem> {
+    let mut given = Vec::new(alloc);
+    if let Some(choice) = first(judge) {
+        given.push(choice)?;
+    }
+    let judged = judge.take_judged(alloc)?;
+    Ok(Seen { given, judged })
+}
+
+/// Compares what is found from each start on with what the rule says.
+fn check_every_start(alloc: Global, judge: &Written<'_>) -> Result<Vec<u8>, Problem> {
+    let places = places_of(alloc, judge)?;
+    let mut count = 0_usize;
+    for (i, place) in places.iter().enumerate() {
+        check_start(alloc, judge, places.as_slice(), i, place.prefix, false)?;
+        count = count.saturating_add(1);
+        if place.is_whole {
+            check_start(alloc, judge, places.as_slice(), i, place.prefix, true)?;
+            count = count.saturating_add(1);
+        }
+    }
+    let text = format!(in alloc; "{count} starts")?;
+    Ok(text.into_bytes())
+}
+
+/// Compares what is found from a start on: at or after the prefix that stands at `i`.
+fn check_start(
+    alloc: Global,
+    judge: &Written<'_>,
+    places: &[Place],
+    i: usize,
+    prefix: Choice,
+    is_after: bool,
+) -> Result<(), Problem> {
+    let Some(start) = judge.start(prefix, is_after) else {
+        return Err(Problem::said(alloc, "no start"));
+    };
+    let from = if is_after { i.saturating_add(1) } else { i };
+    let wanted = Seen {
+        given: true_from(alloc, places, from)?,
+        judged: judged_from(alloc, places, from)?,
+    };
+    let wanted = wanted.text(alloc)?;
+    let found = seen_from(alloc, judge, start)?.text(alloc)?;
+    if found.as_slice() == wanted.as_slice() {
+        return Ok(());
+    }
+    let part = start_text(alloc, &prefix, is_after)?;
+    Err(Problem::differs(alloc, part.as_str(), wanted.as_slice(), found.as_slice()))
+}
+
+fn start_text(alloc: Global, prefix: &Choice, is_after: bool) -> Result<String, AllocError> {
+    let mut text = String::from_str(alloc, if is_after { "after " } else { "at " })?;
+    add_positions(alloc, prefix, &mut text)?;
+    Ok(text)
+}
