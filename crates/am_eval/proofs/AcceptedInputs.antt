@@ -1,6 +1,6 @@
 -- Inputs that are accepted have no first fault, but for the patterns that the engine may refuse.
-use Rattle.std.proofs.Common.{◌≡◌, ◌<◌, ◌≤◌, ℕ, List, [], ◌∷◌, ◌++◌, length, Option, None, Some}
-use Rattle.std.proofs.Common.{Result, Ok, Err, refl, sym, ap, subst, ◌∙◌, ◌⊎◌, inl, inr, arith}
+use Rattle.std.proofs.Common.{◌≡◌, ℕ, List, [], ◌∷◌, ◌++◌, length, Option, None, Some}
+use Rattle.std.proofs.Common.{Result, Ok, Err, refl, sym, ap, ◌∙◌, ◌⊎◌, inl, inr, arith}
 use Rattle.am_universe.specs.declared.kind.Kind.TheVariants as kinds
 use Rattle.am_universe.specs.declared.place.Place.{Place}
 use Rattle.am_universe.specs.Universe.{Label}
@@ -11,9 +11,9 @@ use Rattle.am_json.specs.Pointer.{Refusal}
 use Rattle.am_json.proofs.Readings.{says_one}
 use Rattle.am_records.specs.UniverseFile.{FileSaysUniverse, read_universe_file}
 use Rattle.am_records.specs.UniverseFaults.{IsFirstFaultOfUniverseFile}
-use Rattle.am_records.specs.SilencesFile.{Silence, FileSaysSilences}
+use Rattle.am_records.specs.SilencesFile.{Silence}
 use Rattle.am_records.specs.SilencesReading.{read_silences_file}
-use Rattle.am_records.specs.SilencesFaults.{SilencesFileRefusedFor, IsMetPatternOfSilences}
+use Rattle.am_records.specs.SilencesFaults.{IsMetPatternOfSilences}
 use Rattle.am_records.specs.AlertsReading.{read_alerts_file}
 use Rattle.am_records.proofs.UniverseSays as universe_file
 use Rattle.am_records.proofs.UniverseFaultLemmas.{universe_file_first}
@@ -26,7 +26,6 @@ use Rattle.am_files.specs.ConfigReading.{read_config_file}
 use Rattle.am_files.specs.ConfigFaults.{ConfigFileRefusedFor, IsMetPatternOfConfig}
 use Rattle.am_files.proofs.ConfigSays as config_file
 use Rattle.am_files.proofs.ConfigFaultLemmas.{config_file_first}
-use Rattle.am_eval.specs.declared.limits.TheConstants.{MAX_PAIRS}
 use Rattle.am_eval.specs.World.{World}
 use Rattle.am_eval.specs.Pairs.{pairs_of}
 use Rattle.am_eval.specs.Files.{config_of, SaysSilencesIfAny, SaysAlertsIfAny}

@@ -150,7 +150,7 @@ pub at_routes : (c : Configuration) (s : LabelMap) (path : List ℕ) → Contain
     → MatchesAt s c path
 at_routes c s path h = end_matches s c.root path (IsIn-from_Contains (ends s c) path h)
 
-some_matched : (b : Bool) (all : List (List ℕ)) → b ≡ true → cond b (or_itself all) [] ≢ []
+pub some_matched : (b : Bool) (all : List (List ℕ)) → b ≡ true → cond b (or_itself all) [] ≢ []
 some_matched true [] e h = cc
 some_matched true (x ∷ xs) e h = cc
 some_matched false all e h = cc
@@ -206,7 +206,7 @@ pub itself : (w : World) (s : LabelMap) (path : List ℕ)
     → IsTrue (holds_of w (Ends path) s) → IsTrue (holds_of w (Enters path) s)
 itself w s path h = (exactly w s path).1 ([], rw (append-nil path) h)
 
-first_of : (paths : List (List ℕ)) → paths ≢ [] → (path : List ℕ) × IsIn paths path
+pub first_of : (paths : List (List ℕ)) → paths ≢ [] → (path : List ℕ) × IsIn paths path
 first_of [] some = absurd (some refl)
 first_of (path ∷ paths) some = (path, inl refl)
 

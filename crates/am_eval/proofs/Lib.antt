@@ -19,3 +19,9 @@ pub mod SimpleParts
 pub mod SiblingLaws
 pub mod SetRefusals
 pub mod AcceptedInputs
+pub mod SomeWay
+pub mod RoutePathLaws
+pub mod RouteConditions
+pub mod HidingConditions
+pub mod ConditionLaws
+pub mod PairConditions

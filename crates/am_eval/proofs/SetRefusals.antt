@@ -1,9 +1,9 @@
 -- A matcher text, and the text of a label set, is read or refused, never both, and refused with one
 -- kind; but for the patterns that the engine may refuse.
-use Rattle.std.proofs.Common.{◌≡◌, ◌≢◌, ◌<◌, ◌≤◌, ℕ, List, [], ◌∷◌, ◌++◌, length, Bool, true, false}
-use Rattle.std.proofs.Common.{refl, sym, ap, subst, ◌∙◌, ◌⊎◌, inl, inr, arith}
+use Rattle.std.proofs.Common.{◌≡◌, ◌≢◌, ◌≤◌, ℕ, List, [], ◌∷◌, ◌++◌, length, Bool, true, false}
+use Rattle.std.proofs.Common.{refl, sym, ap, subst, ◌∙◌, inl, inr, arith}
 use Rattle.std.specs.Prelude.{IsTrue, not, ◌&&◌, ◌||◌, if◌then◌else◌}
-use Rattle.std.proofs.lemmas.Bool.{and_parts, false≢true, cases_Bool}
+use Rattle.std.proofs.lemmas.Bool.{and_parts, false≢true}
 use Rattle.am_universe.specs.declared.kind.Kind.{Kind}
 use Rattle.am_universe.specs.declared.kind.Kind.TheVariants as kinds
 use Rattle.am_universe.specs.LabelSet.{LabelMap}
@@ -15,7 +15,7 @@ use Rattle.am_labels.specs.PatternCut.{in_profile}
 use Rattle.am_labels.specs.Matcher.{Condition, takes_pattern}
 use Rattle.am_labels.specs.MatcherText.{Spells}
 use Rattle.am_labels.specs.MatcherRefusals.{has_valid_pattern, have_valid_patterns}
-use Rattle.am_labels.specs.MatcherRefusals.{pattern_refusal, ValueRefusedFor, PatternsRefusedFor}
+use Rattle.am_labels.specs.MatcherRefusals.{ValueRefusedFor, PatternsRefusedFor}
 use Rattle.am_labels.specs.MatcherRefusals.{ListRefusedFor, TextRefusedFor}
 use Rattle.am_labels.specs.ParsedLabelSet.{is_equality, are_equalities, repeats_name, SpellsSet}
 use Rattle.am_labels.specs.ParsedLabelSet.{SetRefusedFor, SetTextRefusedFor}

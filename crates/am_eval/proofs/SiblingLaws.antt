@@ -7,7 +7,7 @@ use Rattle.am_universe.specs.LabelSet.{LabelMap}
 use Rattle.am_labels.specs.Matcher.{all_hold}
 use Rattle.am_files.specs.ConfigFile.{RouteTree, matchers_of, children_of, continues_of}
 use Rattle.am_files.specs.Path.{list_of}
-use Rattle.am_eval.specs.Routing.{ends_at, is_last, EndsThere}
+use Rattle.am_eval.specs.Routing.{ends_at, is_last}
 use Rattle.am_eval.proofs.FlatEnds.{ends_exactly}
 
 goes_on : (matches continues : Bool) → (matches && not continues) ≡ false → matches ≡ true

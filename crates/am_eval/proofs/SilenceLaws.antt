@@ -171,7 +171,7 @@ steady_active from to silence later steady =
     rw (begun, ended) refl
 
 -- what hides an alert is among the active silences
-by_active : (w : World) (s : LabelMap) (silences : List Silence)
+pub by_active : (w : World) (s : LabelMap) (silences : List Silence)
     → list_any (hides w s) silences
     ≡ list_any (λ silence. all_hold s silence.matchers) (filter (is_active w.instant) silences)
 by_active w s [] = refl

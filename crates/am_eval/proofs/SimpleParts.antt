@@ -1,7 +1,7 @@
 -- What makes a question true: its parts, where it is joined, and what a simple part asks for.
 use Rattle.std.proofs.Common.{◌≡◌, ◌↔◌, ℕ, List, [], ◌∷◌, Bool, true, false, Contains}
 use Rattle.std.proofs.Common.{Option, Some, None, refl, ap, subst, ◌∙◌, ◌⊎◌, inl, inr}
-use Rattle.std.specs.Prelude.{IsTrue, option_map, ◌==◌, not, ◌&&◌, ◌||◌}
+use Rattle.std.specs.Prelude.{IsTrue, option_map, ◌==◌, not, ◌||◌}
 use Rattle.std.specs.List.{filter_map, cons_option, list_any, AllByRecursion}
 use Rattle.std.specs.Cmp.Lexicographic.{bytes_decides}
 use Rattle.std.proofs.lemmas.Bool.{eqb-true, eq-eqb, and_parts, and_from, false≢true}

@@ -1,5 +1,6 @@
 pub mod Routing
 pub mod RoutingExamples
+pub mod RoutePaths
 pub mod World
 pub mod WorldCode
 pub mod Silencing
@@ -10,6 +11,7 @@ pub mod InhibitionExample
 pub mod Tree
 pub mod Question
 pub mod QuestionView
+pub mod Conditions
 pub mod Files
 pub mod AskedInstant
 pub mod Faults

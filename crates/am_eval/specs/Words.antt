@@ -13,6 +13,9 @@ pub use Rattle.am_eval.specs.InhibitionExample.{inhibiting_world, two_rules_worl
 pub use Rattle.am_eval.specs.InhibitionExample.{severity_warning, severity_any}
 pub use Rattle.am_eval.specs.Question.{Question, holds_of, satisfies, is_answer, answers}
 pub use Rattle.am_eval.specs.QuestionView.{question_view}
+pub use Rattle.am_eval.specs.RoutePaths.{paths_at, paths_from, paths_of}
+pub use Rattle.am_eval.specs.Conditions.{Literal, literal_holds, some_way_holds, conditions_of}
+pub use Rattle.am_eval.specs.Conditions.{matching, not_matching, inhibiting_way, same_value}
 pub use Rattle.am_eval.specs.Tree.{Tree}
 pub use Rattle.am_eval.specs.Files.{config_of, SaysSilencesIfAny, SaysAlertsIfAny}
 pub use Rattle.am_eval.specs.AskedInstant.{asked_instant, instant_fault}

@@ -20,6 +20,7 @@ ghost use Rattle.am_eval.specs.declared.limits.TheConstants.{MAX_PAIRS};
 ghost use Rattle.am_eval.specs.declared.pair.Pair.{Pair};
 ghost use Rattle.am_eval.specs.Tree.{Not, And, Or};
 ghost use Rattle.am_eval.specs.Question.{Any, Silenced, Inhibited, Receiver, Ends, Enters, Braces};
+ghost use Rattle.am_eval.specs.Question.{Simple};
 ghost use Rattle.am_eval.specs.Words.{ends, receivers, ends_at, MatchesAt, EndsThere, worked, Has};
 ghost use Rattle.am_records.specs.SilencesFile.{Silence};
 ghost use Rattle.am_eval.specs.Words.{World, is_active, hides, is_silenced, silencers};
@@ -33,6 +34,7 @@ ghost use Rattle.am_eval.specs.Words.{Question, holds_of, satisfies, answers};
 ghost use Rattle.am_eval.specs.Words.{WorldInputs, AcceptsWorld, IsFirstFaultOfCall};
 ghost use Rattle.am_eval.specs.Words.{explain_stages};
 ghost use Rattle.am_eval.specs.Words.{Tree};
+ghost use Rattle.am_eval.specs.Words.{literal_holds, some_way_holds, conditions_of};
 
 /// An alert ends somewhere, since the top-level route matches every label set. Each end is the
 /// path of a route that matches, and so has a receiver.
@@ -289,6 +291,13 @@ pub fn an_example_of_inhibition()
     ensures which { (s : LabelMap) → Has s (codes "db") (codes "warning")
         → inhibitors two_rules_world s ≡ (1, 0) ∷ [] }
     ensures told { inhibited_line (1, 0) ≡ codes "inhibited 1 0\n" }
+{}
+
+/// A simple part of a question is true of an alert exactly where its condition is: where in one of
+/// its ways each list is matched or not, as is wanted.
+pub fn a_simple_part_is_true_where_its_condition_holds()
+    ensures exactly { (w : World) (s : LabelMap) (simple : Simple)
+        → holds_of w simple s ≡ some_way_holds (literal_holds s) (conditions_of w simple) }
 {}
 
 /// A choice is among the answers exactly where it is whole and its label set satisfies the

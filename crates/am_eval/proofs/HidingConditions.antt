@@ -1,0 +1,121 @@
+-- An alert is silenced, and it is inhibited, exactly where the ways of it say so.
+use Rattle.std.proofs.Common.{◌≡◌, List, ℕ, [], ◌∷◌, ◌++◌, map, Bool, true, false, cond, not, ◌&&◌}
+use Rattle.std.proofs.Common.{◌||◌, refl, sym, ap, ◌∙◌}
+use Rattle.std.specs.List.{filter, list_all, list_any}
+use Rattle.std.specs.Cmp.Lexicographic.{texts_ties}
+use Rattle.std.proofs.lemmas.List.Folds.{list_all-append}
+use Rattle.am_universe.specs.LabelSet.{LabelMap, value_of}
+use Rattle.am_universe.specs.Text.{same_text}
+use Rattle.am_universe.proofs.LabelMapLemmas.{flips}
+use Rattle.am_labels.specs.Matcher.{Condition, all_hold, condition_holds}
+use Rattle.am_files.specs.ConfigFile.{Rule}
+use Rattle.am_records.specs.SilencesFile.{Silence}
+use Rattle.am_eval.specs.World.{World}
+use Rattle.am_eval.specs.Silencing.{is_active, is_silenced}
+use Rattle.am_eval.specs.Inhibition.{have_equal, inhibits, is_inhibited}
+use Rattle.am_eval.specs.Conditions.{literal_holds, some_way_holds, matching, not_matching}
+use Rattle.am_eval.specs.Conditions.{silencing_ways, same_value, inhibiting_way, inhibiting_ways}
+use Rattle.am_eval.proofs.SilenceLaws.{by_active}
+use Rattle.am_eval.proofs.SomeWay.{some_way-joined}
+
+-- ---- Silences.
+
+and_nothing : (b : Bool) → (b && true) ≡ b
+and_nothing true = refl
+and_nothing false = refl
+
+one_matched : (s : LabelMap) (silences : List Silence)
+    → list_any (λ silence. all_hold s silence.matchers) silences
+    ≡ some_way_holds (literal_holds s) (map (λ silence. matching silence.matchers ∷ []) silences)
+one_matched s [] = refl
+one_matched s (silence ∷ silences) =
+    ap (λ b. b || list_any (λ other. all_hold s other.matchers) silences)
+    (sym (and_nothing (all_hold s silence.matchers)))
+    ∙ ap (λ b. (all_hold s silence.matchers && true) || b) (one_matched s silences)
+
+pub silenced_condition : (w : World) (s : LabelMap)
+    → is_silenced w s ≡ some_way_holds (literal_holds s) (silencing_ways w)
+silenced_condition w s =
+    by_active w s w.silences ∙ one_matched s (filter (is_active w.instant) w.silences)
+
+-- ---- Inhibition rules.
+
+same_text-turned : (a b : List ℕ) → same_text a b ≡ same_text b a
+same_text-turned a b = texts_ties a b ∙ flips a b
+
+-- matchers that ask for the values of a firing alert say that both have the same
+pub same_values : (firing s : LabelMap) (names : List (List ℕ))
+    → all_hold s (map (same_value firing) names) ≡ have_equal names firing s
+same_values firing s [] = refl
+same_values firing s (name ∷ names) =
+    ap (λ b. b && all_hold s (map (same_value firing) names))
+    (same_text-turned (value_of s name) (value_of firing name))
+    ∙ ap (λ b. same_text (value_of firing name) (value_of s name) && b)
+    (same_values firing s names)
+
+-- where the target side matches the firing alert too, the source side is not to match the other
+not_both_sides : (s : LabelMap) (source : List Condition) (both : Bool)
+    → list_all (literal_holds s) (cond both (not_matching source ∷ []) [])
+    ≡ not (both && all_hold s source)
+not_both_sides s source true = and_nothing (not (all_hold s source))
+not_both_sides s source false = refl
+
+-- the tests of a rule in the order of its definition, and in that of its way
+in_order : (fires both matched other equal : Bool)
+    → (fires && matched && equal && not ((fires && both) && (other && matched)))
+    ≡ (fires && ((matched && equal) && not (both && other)))
+in_order false both matched other equal = refl
+in_order true both false other equal = refl
+in_order true both true other false = refl
+in_order true true true true true = refl
+in_order true true true false true = refl
+in_order true false true other true = refl
+
+way_holds : (rule : Rule) (firing s : LabelMap)
+    → inhibits rule firing s
+    ≡ (all_hold firing rule.source && list_all (literal_holds s) (inhibiting_way rule firing))
+way_holds rule firing s =
+    let fires = all_hold firing rule.source in
+    let both = all_hold firing rule.target in
+    let other = all_hold s rule.source in
+    let matched = all_hold s rule.target in
+    let equal = have_equal rule.equal firing s in
+    let asked = map (same_value firing) rule.equal in
+    let values = list_all-append (condition_holds s) rule.target asked
+    ∙ ap (λ b. matched && b) (same_values firing s rule.equal) in
+    in_order fires both matched other equal
+    ∙ ap (λ b. fires && (b && not (both && other))) (sym values)
+    ∙ ap (λ b. fires && (all_hold s (rule.target ++ asked) && b))
+    (sym (not_both_sides s rule.source both))
+
+-- one of those that pass a first test passes another
+kept_or_not : {X Y : Type 0} (f : X → Y) (says : Y → Bool) (b : Bool) (x : X) (kept : List X)
+    → ((b && says (f x)) || list_any says (map f kept))
+    ≡ list_any says (map f (cond b (x ∷ kept) kept))
+kept_or_not f says true x kept = refl
+kept_or_not f says false x kept = refl
+
+any_kept : {X Y : Type 0} (test both : X → Bool) (f : X → Y) (says : Y → Bool)
+    → ((x : X) → both x ≡ (test x && says (f x))) → (xs : List X)
+    → list_any both xs ≡ list_any says (map f (filter test xs))
+any_kept test both f says each [] = refl
+any_kept test both f says each (x ∷ xs) =
+    ap (λ b. b || list_any both xs) (each x)
+    ∙ ap (λ b. (test x && says (f x)) || b) (any_kept test both f says each xs)
+    ∙ kept_or_not f says (test x) x (filter test xs)
+
+by_rule : (rule : Rule) (s : LabelMap) (alerts : List LabelMap)
+    → list_any (λ firing. inhibits rule firing s) alerts
+    ≡ some_way_holds (literal_holds s)
+    (map (inhibiting_way rule) (filter (λ firing. all_hold firing rule.source) alerts))
+by_rule rule s alerts =
+    any_kept (λ firing. all_hold firing rule.source) (λ firing. inhibits rule firing s)
+    (inhibiting_way rule) (list_all (literal_holds s)) (λ firing. way_holds rule firing s) alerts
+
+pub inhibited_condition : (w : World) (s : LabelMap)
+    → is_inhibited w s ≡ some_way_holds (literal_holds s) (inhibiting_ways w)
+inhibited_condition w s =
+    (λ i. list_any (λ rule. by_rule rule s w.alerts i) w.config.rules)
+    ∙ sym (some_way-joined (literal_holds s) (λ rule.
+    map (inhibiting_way rule) (filter (λ firing. all_hold firing rule.source) w.alerts))
+    w.config.rules)

@@ -1,0 +1,273 @@
+-- An alert ends at a route, enters it, or goes to a receiver, exactly where the ways there say so.
+use Rattle.std.proofs.Common.{◌≡◌, ◌≢◌, ◌↔◌, ℕ, List, [], ◌∷◌, ◌++◌, map, take, Bool, true, false}
+use Rattle.std.proofs.Common.{◌&&◌, ◌||◌, not, cond, Option, Some, None, Contains, refl, sym, ap}
+use Rattle.std.proofs.Common.{◌∙◌}
+use Rattle.std.specs.Prelude.{slice_get, IsTrue, IsFalse}
+use Rattle.std.specs.List.{AllByRecursion, filter, list_all}
+use Rattle.std.proofs.lemmas.Bool.{and_parts, and_from, eqb-true, eq-eqb, not-true}
+use Rattle.std.proofs.lemmas.List.Folds.{list_all-map}
+use Rattle.am_universe.specs.LabelSet.{LabelMap}
+use Rattle.am_universe.proofs.ListLemmas.{Contains-from_IsIn}
+use Rattle.am_labels.specs.Matcher.{all_hold}
+use Rattle.am_files.specs.ConfigFile.{RouteTree, route, matchers_of, continues_of, children_of}
+use Rattle.am_files.specs.ConfigFile.{receiver_of}
+use Rattle.am_files.specs.Path.{list_of, route_at}
+use Rattle.am_eval.specs.World.{World}
+use Rattle.am_eval.specs.Routing.{ends_at, ends, children_seen, ends_tried, is_last, EndsThere}
+use Rattle.am_eval.specs.Question.{Ends, Enters, Receiver, holds_of}
+use Rattle.am_eval.specs.RoutePaths.{paths_at}
+use Rattle.am_eval.specs.Conditions.{Literal, literal_holds, some_way_holds, matching, not_matching}
+use Rattle.am_eval.specs.Conditions.{stopped_by_none, no_child_of, ways_into, ways_below, ways_to_end}
+use Rattle.am_eval.specs.Conditions.{ways_to_enter, is_receiver, paths_to, ways_to_receiver}
+use Rattle.am_eval.proofs.Members.{any_in, in_any}
+use Rattle.am_eval.proofs.AnswerLaws.{passes_from_kept, kept_from_passes}
+use Rattle.am_eval.proofs.EndLaws.{some_matched, first_of, exactly}
+use Rattle.am_eval.proofs.FlatEnds.{ends_exactly}
+use Rattle.am_eval.proofs.SimpleParts.{goes_there, ends_there}
+use Rattle.am_eval.proofs.RoutePathLaws.{is_path}
+use Rattle.am_eval.proofs.SomeWay.{some_way-literal, some_way-front, some_way-joined}
+
+-- two tests are the same where each says what the other says
+pub same_test : {P : Type 0} (a b : Bool) → (IsTrue a ↔ P) → (IsTrue b ↔ P) → a ≡ b
+same_test true true h g = refl
+same_test true false h g = sym (g.1 (h.0 refl))
+same_test false true h g = h.1 (g.0 refl)
+same_test false false h g = refl
+
+through : {P Q R : Type 0} → (P ↔ Q) → (Q ↔ R) → P ↔ R
+through first then = (λ h. then.0 (first.0 h), λ h. first.1 (then.1 h))
+
+-- ---- Siblings and children that are not matched.
+
+none_passes : {X : Type 0} (test : X → Bool) (xs : List X)
+    → AllByRecursion (λ x. IsFalse (test x)) xs ↔ IsTrue (list_all (λ x. not (test x)) xs)
+none_passes test [] = (λ h. refl, λ h. tt)
+none_passes test (x ∷ xs) = (
+  λ h. and_from (not (test x)) (list_all (λ y. not (test y)) xs) (ap not h.0)
+      ((none_passes test xs).0 h.1),
+  λ h.
+      let parts = and_parts (not (test x)) (list_all (λ y. not (test y)) xs) h in
+      (not-true (test x) parts.0, (none_passes test xs).1 parts.1),
+)
+
+-- one that continues is not asked for, and does not stop an alert
+one_kept : {X : Type 0} (holds : Literal → Bool) (f : X → Literal) (matches continues : Bool)
+    (x : X) (xs : List X) → holds (f x) ≡ not matches
+    → list_all holds (map f (cond (not continues) (x ∷ xs) xs))
+    ≡ (not (matches && not continues) && list_all holds (map f xs))
+one_kept holds f true true x xs e = refl
+one_kept holds f true false x xs e = ap (λ b. b && list_all holds (map f xs)) e
+one_kept holds f false true x xs e = refl
+one_kept holds f false false x xs e = ap (λ b. b && list_all holds (map f xs)) e
+
+passing_holds : (s : LabelMap) (ts : List RouteTree)
+    → list_all (literal_holds s) (stopped_by_none ts) ≡ list_all (λ t. not (is_last s t)) ts
+passing_holds s [] = refl
+passing_holds s (t ∷ ts) =
+    one_kept (literal_holds s) (λ u. not_matching (matchers_of u)) (all_hold s (matchers_of t))
+    (continues_of t) t (filter (λ u. not (continues_of u)) ts) refl
+    ∙ ap (λ b. not (is_last s t) && b) (passing_holds s ts)
+
+passed : (s : LabelMap) (ts : List RouteTree)
+    → AllByRecursion (λ t. IsFalse (is_last s t)) ts
+    ↔ IsTrue (list_all (literal_holds s) (stopped_by_none ts))
+passed s ts =
+    let none = none_passes (is_last s) ts in
+    let same = passing_holds s ts in
+    (λ h. same ∙ none.0 h, λ h. none.1 (sym same ∙ h))
+
+no_child : (s : LabelMap) (t : RouteTree)
+    → AllByRecursion (λ child. IsFalse (all_hold s (matchers_of child))) (list_of (children_of t))
+    ↔ IsTrue (list_all (literal_holds s) (no_child_of t))
+no_child s t =
+    let children = list_of (children_of t) in
+    let none = none_passes (λ child. all_hold s (matchers_of child)) children in
+    let same = list_all-map (literal_holds s) (λ u. not_matching (matchers_of u)) children in
+    (λ h. same ∙ none.0 h, λ h. none.1 (sym same ∙ h))
+
+-- ---- Down by a path.
+
+abbrev GoesDown : LabelMap → (RouteTree → List Literal) → RouteTree → List ℕ → Type 0
+GoesDown s last t path =
+    IsTrue (some_way_holds (literal_holds s) (ways_into (λ u. ways_below last u path) (Some t)))
+
+-- no further: what is asked of the last route
+or_nothing : (b : Bool) → (b || false) ≡ b
+or_nothing true = refl
+or_nothing false = refl
+
+there : (s : LabelMap) (last : RouteTree → List Literal) (t : RouteTree)
+    → GoesDown s last t []
+    ↔ (IsTrue (all_hold s (matchers_of t)) × IsTrue (list_all (literal_holds s) (last t)))
+there s last t =
+    let holds = literal_holds s in
+    let matched = all_hold s (matchers_of t) in
+    let all = some_way-literal holds (matching (matchers_of t)) (last t ∷ [])
+    ∙ ap (λ b. matched && b) (or_nothing (list_all holds (last t))) in (
+      λ h. and_parts matched (list_all holds (last t)) (sym all ∙ h),
+      λ h. all ∙ and_from matched (list_all holds (last t)) h.0 h.1,
+    )
+
+-- and a step further
+some_route : (s : LabelMap) (further : RouteTree → List (List Literal)) (o : Option RouteTree)
+    → IsTrue (some_way_holds (literal_holds s) (ways_into further o))
+    → (t : RouteTree) × (o ≡ Some t)
+    × IsTrue (some_way_holds (literal_holds s) (ways_into further (Some t)))
+some_route s further None h = absurd (cc)
+some_route s further (Some t) h = (t, refl, h)
+
+abbrev GoesOn : LabelMap → (RouteTree → List Literal) → RouteTree → ℕ → List ℕ → Type 0
+GoesOn s last t p path =
+    IsTrue (all_hold s (matchers_of t))
+    × (child : RouteTree) × (slice_get (list_of (children_of t)) p ≡ Some child)
+    × AllByRecursion (λ earlier. IsFalse (is_last s earlier)) (take p (list_of (children_of t)))
+    × GoesDown s last child path
+
+further : (s : LabelMap) (last : RouteTree → List Literal) (t : RouteTree) (p : ℕ) (path : List ℕ)
+    → GoesDown s last t (p ∷ path) ↔ GoesOn s last t p path
+further s last t p path =
+    let holds = literal_holds s in
+    let matched = all_hold s (matchers_of t) in
+    let children = list_of (children_of t) in
+    let before = stopped_by_none (take p children) in
+    let below = λ (child : RouteTree). ways_below last child path in
+    let rest = some_way_holds holds (ways_into below (slice_get children p)) in
+    let all = some_way-literal holds (matching (matchers_of t)) (ways_below last t (p ∷ path))
+    ∙ ap (λ b. matched && b)
+    (some_way-front holds before (ways_into below (slice_get children p))) in (
+      λ h.
+          let parts = and_parts matched (list_all holds before && rest) (sym all ∙ h) in
+          let more = and_parts (list_all holds before) rest parts.1 in
+          let child = some_route s below (slice_get children p) more.1 in
+          (parts.0, child.0, child.1, (passed s (take p children)).1 more.0, child.2),
+      λ h.
+          let goes : rest ≡ true =
+          ap (λ o. some_way_holds holds (ways_into below o)) h.2 ∙ h.4 in
+          all ∙ and_from matched (list_all holds before && rest) h.0
+          (and_from (list_all holds before) rest ((passed s (take p children)).0 h.3) goes),
+    )
+
+-- ---- To the end.
+
+ends_by : (s : LabelMap) (t : RouteTree) (path : List ℕ)
+    → EndsThere s t path ↔ GoesDown s no_child_of t path
+ends_by s t [] =
+    let none = no_child s t in
+    let at = there s no_child_of t in
+    (λ h. at.1 (h.0, none.0 h.1), λ h. let parts = at.0 h in (parts.0, none.1 parts.1))
+ends_by s t (p ∷ path) =
+    let goes = further s no_child_of t p path in (
+      λ h. goes.1 (h.0, h.1, h.2, h.3, (ends_by s h.1 path).0 h.4),
+      λ h. let on = goes.0 h in (on.0, on.1, on.2, on.3, (ends_by s on.1 path).1 on.4),
+    )
+
+pub end_condition : (w : World) (s : LabelMap) (path : List ℕ)
+    → holds_of w (Ends path) s
+    ≡ some_way_holds (literal_holds s) (ways_to_end w.config path)
+end_condition w s path =
+    let root = w.config.root in
+    same_test (holds_of w (Ends path) s)
+    (some_way_holds (literal_holds s) (ways_to_end w.config path))
+    (through (ends_there w s path) (ends_exactly s root path))
+    (let by = ends_by s root path in (λ h. by.1 h, λ h. by.0 h))
+
+-- ---- Into a route.
+
+matched_ends : (s : LabelMap) (t : RouteTree) → IsTrue (all_hold s (matchers_of t))
+    → ends_at s t ≢ []
+matched_ends s (route settings children) h =
+    some_matched (all_hold s settings.matchers) (ends_tried (children_seen s 0 children)) h
+
+end_of_matched : (s : LabelMap) (t : RouteTree) → IsTrue (all_hold s (matchers_of t))
+    → (path : List ℕ) × EndsThere s t path
+end_of_matched s t h =
+    let one = first_of (ends_at s t) (matched_ends s t h) in
+    (one.0, (ends_exactly s t one.0).0 (Contains-from_IsIn (ends_at s t) one.0 one.1))
+
+matched_at_end : (s : LabelMap) (t : RouteTree) (path : List ℕ) → EndsThere s t path
+    → IsTrue (all_hold s (matchers_of t))
+matched_at_end s t [] h = h.0
+matched_at_end s t (p ∷ path) h = h.0
+
+abbrev nothing : RouteTree → List Literal
+nothing t = []
+
+enters_by : (s : LabelMap) (t : RouteTree) (path : List ℕ)
+    → ((below : List ℕ) × EndsThere s t (path ++ below)) ↔ GoesDown s nothing t path
+enters_by s t [] =
+    let at = there s nothing t in (
+      λ h. at.1 (matched_at_end s t h.0 h.1, refl),
+      λ h. end_of_matched s t (at.0 h).0,
+    )
+enters_by s t (p ∷ path) =
+    let goes = further s nothing t p path in (
+      λ h.
+          let on = h.1 in
+          goes.1 (on.0, on.1, on.2, on.3, (enters_by s on.1 path).0 (h.0, on.4)),
+      λ h.
+          let on = goes.0 h in
+          let end = (enters_by s on.1 path).1 on.4 in
+          (end.0, (on.0, on.1, on.2, on.3, end.1)),
+    )
+
+pub entry_condition : (w : World) (s : LabelMap) (path : List ℕ)
+    → holds_of w (Enters path) s
+    ≡ some_way_holds (literal_holds s) (ways_to_enter w.config path)
+entry_condition w s path =
+    let root = w.config.root in
+    let by = enters_by s root path in
+    let end = λ (below : List ℕ).
+    through (ends_there w s (path ++ below)) (ends_exactly s root (path ++ below)) in
+    same_test (holds_of w (Enters path) s)
+    (some_way_holds (literal_holds s) (ways_to_enter w.config path))
+    (through (exactly w s path)
+    (λ h. (h.0, (end h.0).0 h.1), λ h. (h.0, (end h.0).1 h.1)))
+    (λ h. by.1 h, λ h. by.0 h)
+
+-- ---- To a receiver.
+
+receiver_there : (receiver : ℕ) (o : Option RouteTree) → IsTrue (is_receiver receiver o)
+    → (t : RouteTree) × (o ≡ Some t) × (receiver_of t ≡ receiver)
+receiver_there receiver None h = absurd (cc)
+receiver_there receiver (Some t) h = (t, refl, eqb-true (receiver_of t) receiver h)
+
+there_receiver : (receiver : ℕ) (o : Option RouteTree) (t : RouteTree) → o ≡ Some t
+    → receiver_of t ≡ receiver → IsTrue (is_receiver receiver o)
+there_receiver receiver o t e is =
+    ap (is_receiver receiver) e ∙ eq-eqb (receiver_of t) receiver is
+
+abbrev GoesThere : World → LabelMap → ℕ → Type 0
+GoesThere w s receiver =
+    (path : List ℕ) × (t : RouteTree) × Contains (ends s w.config) path
+    × (route_at w.config.root path ≡ Some t) × (receiver_of t ≡ receiver)
+
+receives_by : (w : World) (s : LabelMap) (receiver : ℕ)
+    → IsTrue (some_way_holds (literal_holds s) (ways_to_receiver w.config receiver))
+    ↔ GoesThere w s receiver
+receives_by w s receiver =
+    let root = w.config.root in
+    let holds = literal_holds s in
+    let has = λ (path : List ℕ). is_receiver receiver (route_at root path) in
+    let ends_so = λ (path : List ℕ). some_way_holds holds (ways_to_end w.config path) in
+    let all = some_way-joined holds (ways_to_end w.config) (paths_to receiver root) in (
+      λ h.
+          let one = any_in ends_so (paths_to receiver root) (sym all ∙ h) in
+          let kept = passes_from_kept has (paths_at root) one.0 one.1 in
+          let t = receiver_there receiver (route_at root one.0) kept.1 in
+          let end = (ends_exactly s root one.0).1 ((ends_by s root one.0).1 one.2) in
+          (one.0, t.0, end, t.1, t.2),
+      λ h.
+          let there = is_path root h.1 h.0 h.3 in
+          let passes = there_receiver receiver (route_at root h.0) h.1 h.3 h.4 in
+          let end = (ends_by s root h.0).0 ((ends_exactly s root h.0).0 h.2) in
+          all ∙ in_any ends_so (paths_to receiver root) h.0
+          (kept_from_passes has (paths_at root) h.0 there passes) end,
+    )
+
+pub receiver_condition : (w : World) (s : LabelMap) (receiver : ℕ)
+    → holds_of w (Receiver receiver) s
+    ≡ some_way_holds (literal_holds s) (ways_to_receiver w.config receiver)
+receiver_condition w s receiver =
+    same_test (holds_of w (Receiver receiver) s)
+    (some_way_holds (literal_holds s) (ways_to_receiver w.config receiver))
+    (goes_there w s receiver) (receives_by w s receiver)

@@ -1,0 +1,162 @@
+-- Conditions: when a simple part of a question is true of an alert, as a list of ways to make it
+-- so, each of which is a list of literals. To test them no tree of routes has to be walked.
+use Rattle.std.specs.Prelude.{ℕ, List, [], ◌∷◌, ◌++◌, map, take, slice_get, Bool, true, false, not}
+use Rattle.std.specs.Prelude.{if◌then◌else◌, Option, Some, None, ◌==◌}
+use Rattle.std.specs.List.{filter, flat_map, list_all, list_any}
+use Rattle.am_universe.specs.LabelSet.{LabelMap, value_of}
+use Rattle.am_labels.specs.Matcher.{Condition, all_hold}
+use Rattle.am_labels.specs.declared.op.Op.TheVariants as ops
+use Rattle.am_files.specs.ConfigFile.{RouteTree, Configuration, Rule, matchers_of, continues_of}
+use Rattle.am_files.specs.ConfigFile.{receiver_of, children_of}
+use Rattle.am_files.specs.Path.{list_of, route_at}
+use Rattle.am_records.specs.SilencesFile.{Silence}
+use Rattle.am_eval.specs.declared.pair.Pair.{Pair}
+use Rattle.am_eval.specs.World.{World}
+use Rattle.am_eval.specs.Silencing.{is_active}
+use Rattle.am_eval.specs.RoutePaths.{paths_at}
+use Rattle.am_eval.specs.Question.{Simple, Any, Silenced, Inhibited, Receiver, Ends, Enters, Braces}
+
+-- A literal: a list of matchers, and whether an alert has to match it or must not match it.
+-- Source: propositional logic, where a literal is a statement or its negation.
+-- Example: `not_matching` of `severity="critical"` says that the alert is not critical.
+pub record Literal : Type 0 where
+  pub matchers : List Condition
+  pub wanted : Bool
+
+abbrev pub matching : List Condition → Literal
+matching matchers = record { matchers = matchers; wanted = true }
+
+abbrev pub not_matching : List Condition → Literal
+not_matching matchers = record { matchers = matchers; wanted = false }
+
+-- A literal is true of a label set that matches its list, or, if it is not wanted, of one that does
+-- not. A condition is true where all literals of one of its ways are true, whatever decides the
+-- literals. A way without literals is true, and a condition without ways is false.
+-- Source: propositional logic, the disjunctive normal form.
+-- Example: `not_matching` of `team="web"` is true of `{team="db"}`.
+abbrev pub literal_holds : LabelMap → Literal → Bool
+literal_holds s l = if l.wanted then all_hold s l.matchers else not (all_hold s l.matchers)
+
+abbrev pub some_way_holds : (Literal → Bool) → List (List Literal) → Bool
+some_way_holds holds ways = list_any (list_all holds) ways
+
+-- ---- Routes.
+
+-- Literals that say: the alert matches none of these siblings that lack `continue`, so that the
+-- child behind them is tried; and: it matches no child of a route, so that it ends at the route
+-- itself.
+-- Source: Alertmanager configuration reference 0.25, "<route>": `continue`.
+-- Example: of two siblings of which the first has `continue` and the second lacks it, the second
+-- alone must not be matched.
+abbrev pub stopped_by_none : List RouteTree → List Literal
+stopped_by_none siblings =
+    map (λ t. not_matching (matchers_of t)) (filter (λ t. not (continues_of t)) siblings)
+
+abbrev pub no_child_of : RouteTree → List Literal
+no_child_of t = map (λ child. not_matching (matchers_of child)) (list_of (children_of t))
+
+-- How an alert that matches a route gets down from it to the route at a path. At each step it is
+-- stopped by none of the siblings before the next route, and matches that route; `last` gives what
+-- else is asked at the route at the path. There is one way, or none if no route is there. And how
+-- it matches a route, if there is one, and goes on as `further` says.
+-- Source: Alertmanager configuration reference 0.25, "<route>".
+-- Example: below the top-level route, whose first child lacks `continue`, the way to `/1` is: do
+-- not match `/0`, match `/1`.
+abbrev pub ways_into : (RouteTree → List (List Literal)) → Option RouteTree → List (List Literal)
+ways_into further None = []
+ways_into further (Some t) = map (λ way. matching (matchers_of t) ∷ way) (further t)
+
+abbrev pub ways_below : (RouteTree → List Literal) → RouteTree → List ℕ → List (List Literal)
+ways_below last t [] = last t ∷ []
+ways_below last t (p ∷ path) =
+    map (λ way. stopped_by_none (take p (list_of (children_of t))) ++ way)
+    (ways_into (λ child. ways_below last child path) (slice_get (list_of (children_of t)) p))
+
+-- An alert enters the route at a path where it matches the top-level route and gets down from there
+-- by that path. It ends there where, beside that, it matches no child of the route. It goes to a
+-- receiver where it ends at a route that has it.
+-- Source: Alertmanager configuration reference 0.25, "<route>".
+-- Example: there is one way to end at `/`: match the top-level route, which has no matchers, and
+-- none of its children.
+abbrev pub ways_to_enter : Configuration → List ℕ → List (List Literal)
+ways_to_enter c path = ways_into (λ t. ways_below (λ _. []) t path) (Some c.root)
+
+abbrev pub ways_to_end : Configuration → List ℕ → List (List Literal)
+ways_to_end c path = ways_into (λ t. ways_below no_child_of t path) (Some c.root)
+
+abbrev pub is_receiver : ℕ → Option RouteTree → Bool
+is_receiver receiver None = false
+is_receiver receiver (Some t) = receiver_of t == receiver
+
+abbrev pub paths_to : ℕ → RouteTree → List (List ℕ)
+paths_to receiver t = filter (λ path. is_receiver receiver (route_at t path)) (paths_at t)
+
+abbrev pub ways_to_receiver : Configuration → ℕ → List (List Literal)
+ways_to_receiver c receiver = flat_map (ways_to_end c) (paths_to receiver c.root)
+
+-- ---- Silences and inhibition rules.
+
+-- An alert is silenced where it matches all matchers of an active silence: one way for each.
+-- Source: Alertmanager documentation 0.25, "Silences".
+-- Example: a silence that is not active gives no way.
+abbrev pub silencing_ways : World → List (List Literal)
+silencing_ways w =
+    map (λ (silence : Silence). matching silence.matchers ∷ [])
+    (filter (is_active w.instant) w.silences)
+
+-- The matcher that asks for the value which a firing alert has for a label.
+-- Source: Alertmanager configuration reference 0.25, "<inhibit_rule>": `equal`; a missing label and
+-- a label with an empty value are the same thing.
+-- Example: for the label `team` it is `team="db"` where the firing alert is of the team `db`, and
+-- `team=""` where it has no team.
+abbrev pub same_value : LabelMap → List ℕ → Condition
+same_value firing name =
+    record { name = name; op = ops.Equal; value = value_of firing name }
+
+-- How a firing alert that matches the source side of a rule inhibits another by that rule. The
+-- other matches one list: the target side, and the firing alert's values for the labels in `equal`.
+-- If the firing alert matches the target side too, the other must not match the source side. And
+-- all ways of a world: one for each rule and each firing alert that its source side matches.
+-- Source: Alertmanager configuration reference 0.25, "<inhibit_rule>".
+-- Example: where the source side asks for the severity `critical`, the target side for `warning`,
+-- and `equal` has `team`, a firing critical alert of the team `db` inhibits what matches
+-- `severity="warning"` and `team="db"`. Where both sides ask for any severity it inhibits nothing:
+-- the other alert would have to match this, and not to match it.
+abbrev pub inhibiting_way : Rule → LabelMap → List Literal
+inhibiting_way rule firing =
+    matching (rule.target ++ map (same_value firing) rule.equal)
+    ∷ (if all_hold firing rule.target then not_matching rule.source ∷ [] else [])
+
+abbrev pub inhibiting_ways : World → List (List Literal)
+inhibiting_ways w =
+    flat_map
+    (λ rule. map (inhibiting_way rule) (filter (λ firing. all_hold firing rule.source) w.alerts))
+    w.config.rules
+
+-- The same of a pair of a rule and a firing alert that its source side matches, by their positions.
+abbrev pub way_of_alert : Rule → Option LabelMap → List Literal
+way_of_alert rule None = []
+way_of_alert rule (Some firing) = inhibiting_way rule firing
+
+abbrev pub way_of_rule : Option LabelMap → Option Rule → List Literal
+way_of_rule firing None = []
+way_of_rule firing (Some rule) = way_of_alert rule firing
+
+abbrev pub pair_way : List Rule → List LabelMap → Pair → List Literal
+pair_way rules alerts pair =
+    way_of_rule (slice_get alerts pair.alert) (slice_get rules pair.rule)
+
+-- ---- Questions.
+
+-- The condition of a simple part. The law `a_simple_part_is_true_where_its_condition_holds` says
+-- that the part is true of an alert exactly where its condition is.
+-- Source: own choice.
+-- Example: `any` has one way, without literals. `{team="db"}` has one way, with one literal.
+abbrev pub conditions_of : World → Simple → List (List Literal)
+conditions_of w Any = [] ∷ []
+conditions_of w Silenced = silencing_ways w
+conditions_of w Inhibited = inhibiting_ways w
+conditions_of w (Receiver receiver) = ways_to_receiver w.config receiver
+conditions_of w (Ends path) = ways_to_end w.config path
+conditions_of w (Enters path) = ways_to_enter w.config path
+conditions_of w (Braces matchers) = (matching matchers ∷ []) ∷ []
