@@ -2,7 +2,7 @@
 use Rattle.std.proofs.Common.{◌≡◌, ℕ, zero, suc, ◌+◌, ◌<◌, Bool, true, false, not, ◌&&◌, List, [], ◌∷◌, ◌++◌, length, map, get_or, Option, Some, slice_get, All, refl, ap, sym, ◌∙◌, subst, inl, inr, arith}
 use Rattle.std.specs.List.{list_all, list_any, range_with_len, AllByRecursion}
 use Rattle.std.proofs.lemmas.Bool.{cases_Bool, and_right, not-false, not-true}
-use Rattle.std.proofs.lemmas.List.{length-map}
+use Rattle.std.proofs.lemmas.List.{length-map, length-append, get_or_append_left, get_or-append-add}
 use Rattle.std.proofs.lemmas.List.Folds.{list_all-append, list_all-map, list_all_at}
 use Rattle.std.proofs.lemmas.List.FromFn.{get_or-range_with_len, length-range_with_len}
 use Rattle.std.proofs.lemmas.List.Quantifiers.{position-Some}
@@ -20,13 +20,14 @@ use Rattle.am_labels.specs.Row.{TruthRow, row_of, row_holds, truths_of, truth_on
 use Rattle.am_labels.proofs.RowLawLemmas.{rows_decide}
 use Rattle.am_masks.specs.declared.cube.LabelMask.{LabelMask}
 use Rattle.am_masks.specs.Verdicts.{matches_at}
-use Rattle.am_masks.specs.Rows.{all_allow, is_never_true}
+use Rattle.am_masks.specs.Rows.{all_allow, is_any_of, is_never_true}
 use Rattle.am_masks.specs.Cube.{MaskedLabels, may_at, IsCubeOf}
 use Rattle.am_masks.specs.CubeView.{AscendByLabel, permits_all, permits_none, restricted}
 use Rattle.am_masks.proofs.ListLemmas.{each_map, each_pushed, one_fails, and_true}
 use Rattle.am_masks.proofs.Completed.{completion_whole}
 use Rattle.am_masks.proofs.VerdictLemmas.{same_verdict}
 use Rattle.am_masks.proofs.RowLemmas.{allow_first, allow_first_more, IsRowBelow, rows_by_labels}
+use Rattle.am_masks.proofs.RowLemmas.{all_allow_joined, others_allow, grouped}
 use Rattle.am_masks.proofs.CubeLemmas.{fits, fits_at, IsProper, HaveValues, exact}
 use Rattle.am_masks.proofs.JudgeLemmas.{ascend_pushed}
 
@@ -121,13 +122,6 @@ pub record IsBuilt (u : List Label) (rows : List TruthRow) (cube : MaskedLabels)
   pub before : AllByRecursion (λ m. m.label < count) cube.masks
   pub proper : AllByRecursion (IsProper (sizes u)) cube.masks
 
-pub built_none : (u : List Label) (rows : List TruthRow) (empty : Bool) → empty ≡ list_any is_never_true rows → IsBuilt u rows (record { empty = empty; masks = [] }) 0
-built_none u rows empty e = record { decided = λ c whole. ap (λ b. not b && true) e; ascend = tt; before = tt; proper = tt }
-
-grouped : (a x y : Bool) → ((a && x) && y) ≡ (a && (x && y))
-grouped true x y = refl
-grouped false x y = refl
-
 pub built_more : (u : List Label) (rows : List TruthRow) (cube : MaskedLabels) (label : ℕ) (mask : List Bool) (size : ℕ)
     → IsBuilt u rows cube label → slice_get (sizes u) label ≡ Some size → ((j : ℕ) → j < size → get_or mask j false ≡ all_allow rows label j)
     → IsBuilt u rows (restricted cube label mask size) (label + 1)
@@ -147,6 +141,29 @@ built_more u rows cube label mask size built at same =
       ascend = ascend_restricted cube label mask size built.ascend built.before;
       before = before_restricted cube label mask size built.before;
       proper = proper_restricted cube label mask size ns within here built.proper;
+    }
+
+-- a label that no row is of
+pub built_past : (u : List Label) (rows more : List TruthRow) (cube : MaskedLabels) (label : ℕ)
+    → IsBuilt u (rows ++ more) cube label → is_any_of rows label ≡ false
+    → is_any_of more label ≡ false → IsBuilt u (rows ++ more) cube (label + 1)
+built_past u rows more cube label built none none_of_more =
+    let all = rows ++ more in
+    record {
+      decided = λ c whole.
+          let j = get_or c label 0 in
+          built.decided c whole
+          ∙ ap (λ b. not (list_any is_never_true all) && b)
+          (sym (allow_first_more all c label
+          ∙ ap (λ b. allow_first all c label && b)
+          (all_allow_joined rows more label j
+          ∙ ap (λ b. b && all_allow more label j) (others_allow rows label j none)
+          ∙ others_allow more label j none_of_more)
+          ∙ and_true (allow_first all c label)));
+      ascend = built.ascend;
+      before = each_map (λ m. m.label < label) (λ m. m.label < label + 1) cube.masks
+          (λ m h. omega (arith, h)) built.before;
+      proper = built.proper;
     }
 
 -- ---- All labels.
@@ -192,7 +209,21 @@ all_sized_at u [] label size k d at h e = absurd (omega arith)
 all_sized_at u (m ∷ ms) label size zero d at h e = row_sized u m (label_position u m.name) label size at e
 all_sized_at u (m ∷ ms) label size (suc k) d at h e = all_sized_at u ms label size k d at (omega arith) e
 
-pub all_sized : (u : List Label) (ms : List Condition) (rows : List TruthRow) (label size : ℕ) → rows ≡ map (row_of u) ms → slice_get (sizes u) label ≡ Some size
+front_of_all : {X : Type 0} (P : X → Type 0) (xs ys : List X) → All P (xs ++ ys) → All P xs
+front_of_all P xs ys all = λ k d h.
+    subst P (get_or_append_left xs ys d k h) (all k d (omega (arith, h, length-append xs ys)))
+
+rest_of_all : {X : Type 0} (P : X → Type 0) (xs ys : List X) → All P (xs ++ ys) → All P ys
+rest_of_all P xs ys all = λ k d h.
+    subst P (get_or-append-add xs ys k d)
+    (all (length xs + k) d (omega (arith, h, length-append xs ys)))
+
+pub all_sized : (u : List Label) (ms : List Condition) (rows more : List TruthRow)
+    (label size : ℕ) → rows ++ more ≡ map (row_of u) ms → slice_get (sizes u) label ≡ Some size
     → All (λ row. row.label ≡ Some label → length row.truths ≡ size) rows
-all_sized u ms rows label size same at =
-    subst (λ rs. All (λ row. row.label ≡ Some label → length row.truths ≡ size) rs) (sym same) (λ k d h. all_sized_at u ms label size k d at h)
+    × All (λ row. row.label ≡ Some label → length row.truths ≡ size) more
+all_sized u ms rows more label size same at =
+    let P : TruthRow → Type 0 = λ row. row.label ≡ Some label → length row.truths ≡ size in
+    let each : All P (rows ++ more) =
+    subst (All P) (sym same) (λ k d h. all_sized_at u ms label size k d at h) in
+    (front_of_all P rows more each, rest_of_all P rows more each)

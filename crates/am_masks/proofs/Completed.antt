@@ -1,10 +1,10 @@
 -- The completions of a prefix: which they are, and one that goes on as a function says.
-use Rattle.std.proofs.Common.{◌≡◌, ℕ, zero, suc, ◌<◌, ◌≤◌, Bool, true, List, [], ◌∷◌, length, get_or, nat_eq, nat_lt, refl, ap, sym, arith}
-use Rattle.std.specs.List.{starts_with}
+use Rattle.std.proofs.Common.{◌≡◌, ℕ, zero, suc, ◌<◌, ◌≤◌, Bool, true, List, [], ◌∷◌, ◌++◌, length, get_or, nat_eq, nat_lt, refl, ap, sym, arith}
+use Rattle.std.specs.List.{starts_with, AllByRecursion}
 use Rattle.std.proofs.lemmas.Bool.{and_parts, and_from, eq-eqb, eqb-true, lt-ltb}
 use Rattle.am_universe.specs.Choice.{choices, admits, IsWhole}
 use Rattle.am_universe.specs.Completions.{completions}
-use Rattle.am_universe.proofs.ListLemmas.{IsIn, IsIn-from_Contains}
+use Rattle.am_universe.proofs.ListLemmas.{IsIn, IsIn-from_Contains, AllByRecursion-at, AllByRecursion-each}
 use Rattle.am_universe.proofs.ChoiceLemmas.{whole_from_in, choices_whole}
 use Rattle.am_masks.proofs.ListLemmas.{from_filter, into_filter}
 
@@ -31,6 +31,28 @@ begins_at c [] i e h = absurd (omega arith)
 begins_at [] (p ∷ prefix) i e h = cc
 begins_at (q ∷ c) (p ∷ prefix) zero e h = sym (eqb-true p q (and_parts (nat_eq p q) (begins c prefix) e).0)
 begins_at (q ∷ c) (p ∷ prefix) (suc i) e h = begins_at c prefix i (and_parts (nat_eq p q) (begins c prefix) e).1 (omega arith)
+
+-- a choice that begins with a longer prefix begins with its front
+begins_with_front : (c prefix more : List ℕ) → begins c (prefix ++ more) ≡ true
+    → begins c prefix ≡ true
+begins_with_front c [] more e = refl
+begins_with_front [] (p ∷ prefix) more e = cc
+begins_with_front (q ∷ c) (p ∷ prefix) more e =
+    let parts = and_parts (nat_eq p q) (begins c (prefix ++ more)) e in
+    and_from (nat_eq p q) (begins c prefix) parts.0 (begins_with_front c prefix more parts.1)
+
+pub completion_of_front : (ns prefix more c : List ℕ) → IsIn (completions ns (prefix ++ more)) c
+    → IsIn (completions ns prefix) c
+completion_of_front ns prefix more c i =
+    let r = completion_whole ns (prefix ++ more) c i in
+    is_completion ns prefix c r.0 (begins_with_front c prefix more r.1)
+
+-- what holds of each completion of a prefix holds of each of a longer one
+pub each_completion : (P : List ℕ → Type 0) (ns prefix more : List ℕ)
+    → AllByRecursion P (completions ns prefix) → AllByRecursion P (completions ns (prefix ++ more))
+each_completion P ns prefix more all =
+    AllByRecursion-each P (completions ns (prefix ++ more)) (λ c i.
+    AllByRecursion-at P (completions ns prefix) c all (completion_of_front ns prefix more c i))
 
 -- ---- Going on as a function says.
 

@@ -2,15 +2,13 @@
 use Rattle.std.proofs.Common.{◌≡◌, ℕ, ◌+◌, ◌<◌, Bool, true, false, not, ◌&&◌, ◌||◌, ◌==◌, List, [], ◌∷◌, ◌++◌, length, map, take, get_or, Option, Some, None, unwrap_or, slice_get, refl, ap, sym, ◌∙◌, eqb, add-one, zero-add}
 use Rattle.std.specs.Option.{option_eq}
 use Rattle.std.specs.List.{list_all, list_any, range_with_len, AllByRecursion}
-use Rattle.std.proofs.lemmas.Bool.{eq-eqb, ne_eqb, lt-ltb}
+use Rattle.std.proofs.lemmas.Bool.{and_from, or_parts, eq-eqb, ne_eqb, lt-ltb}
 use Rattle.std.proofs.lemmas.List.{take_more, map-append}
 use Rattle.std.proofs.lemmas.Option.{slice_get_within, get_or_from_slice_get}
 use Rattle.std.proofs.lemmas.List.Folds.{list_all_more, list_all-append}
-use Rattle.am_universe.specs.Universe.{Label}
 use Rattle.am_universe.proofs.CompletionLemmas.{range_more}
-use Rattle.am_labels.specs.Matcher.{Condition}
-use Rattle.am_labels.specs.Row.{TruthRow, truth_among, truth_at, is_reached, row_holds, row_of}
-use Rattle.am_masks.specs.Rows.{is_label, allows, all_allow, is_false_without, is_never_true}
+use Rattle.am_labels.specs.Row.{TruthRow, truth_among, truth_at, is_reached, row_holds}
+use Rattle.am_masks.specs.Rows.{is_label, is_any_of, allows, all_allow, is_false_without, is_never_true}
 use Rattle.am_masks.proofs.ListLemmas.{all_both, all_but, all_others, and_true}
 
 -- one row more
@@ -28,6 +26,43 @@ pub allows_by_test : (row : TruthRow) (o : Option ℕ) (label j : ℕ) (test : B
     → allows row label j ≡ (not test || truth_at row j)
 allows_by_test row o label j test same e =
     ap (λ b. not b || truth_at row j) (sym (e ∙ test_of_label o label ∙ ap (λ x. is_label x label) same))
+
+-- the rows of two lists
+pub all_allow_joined : (rows more : List TruthRow) (label j : ℕ)
+    → all_allow (rows ++ more) label j ≡ (all_allow rows label j && all_allow more label j)
+all_allow_joined rows more label j = list_all-append (λ row. allows row label j) rows more
+
+-- where no row is of a label, each allows its positions
+pub others_allow : (rows : List TruthRow) (label j : ℕ) → is_any_of rows label ≡ false
+    → all_allow rows label j ≡ true
+others_allow [] label j none = refl
+others_allow (row ∷ rows) label j none =
+    let parts = or_parts (is_label row.label label) (is_any_of rows label) none in
+    and_from (allows row label j) (all_allow rows label j)
+    (ap (λ b. not b || truth_at row j) parts.0) (others_allow rows label j parts.1)
+
+-- one position, narrowed by one row more: by one of the label, and by another
+pub grouped : (a x y : Bool) → ((a && x) && y) ≡ (a && (x && y))
+grouped true x y = refl
+grouped false x y = refl
+
+module _ (rows : List TruthRow) (i : ℕ) (row : TruthRow) (label j : ℕ) (old now : Bool)
+    (within : i < length rows) (here : row ≡ get_or rows i row)
+    (so_far : now ≡ (old && all_allow (take i rows) label j)) where
+  narrowed_more : (b : Bool) → allows row label j ≡ b
+      → (now && b) ≡ (old && all_allow (take (i + 1) rows) label j)
+  narrowed_more b e =
+      ap (λ a. a && b) so_far ∙ grouped old (all_allow (take i rows) label j) b
+      ∙ ap (λ a. old && (all_allow (take i rows) label j && a)) (sym e)
+      ∙ ap (λ a. old && a) (sym (all_allow_more rows i row label j within here))
+
+  pub narrowed_by : allows row label j ≡ (not true || truth_at row j)
+      → (now && truth_at row j) ≡ (old && all_allow (take (i + 1) rows) label j)
+  narrowed_by e = narrowed_more (truth_at row j) e
+
+  pub narrowed_past : allows row label j ≡ (not false || truth_at row j)
+      → now ≡ (old && all_allow (take (i + 1) rows) label j)
+  narrowed_past e = sym (and_true now) ∙ narrowed_more true e
 
 -- ---- A choice by its labels.
 
@@ -84,10 +119,14 @@ rows_by_labels (row ∷ rows) c below =
     ∙ rearranged (is_never_true row) (list_any is_never_true rows) (list_all mine range) (list_all theirs range)
     ∙ ap (λ b. not (is_never_true row || list_any is_never_true rows) && b) (sym (all_both mine theirs range))
 
--- ---- The rows of a list of matchers.
+-- ---- The rows of a list, one after another.
 
-pub rows_more : (u : List Label) (ms : List Condition) (i : ℕ) (m : Condition) (rows : List TruthRow) (row : TruthRow)
-    → rows ≡ map (row_of u) (take i ms) → slice_get ms i ≡ Some m → row ≡ row_of u m → rows ++ row ∷ [] ≡ map (row_of u) (take (i + 1) ms)
-rows_more u ms i m rows row so_far here same =
-    let more : take (i + 1) ms ≡ take i ms ++ m ∷ [] = take_more ms i m (slice_get_within ms i m here) ∙ ap (λ n. take i ms ++ n ∷ []) (get_or_from_slice_get ms i m m here) in
-    rw (so_far, same) (sym (ap (map (row_of u)) more ∙ map-append (row_of u) (take i ms) (m ∷ [])))
+-- what is made of each, with one more
+pub mapped_more : {X Y : Type 0} (f : X → Y) (xs : List X) (i : ℕ) (x : X) (ys : List Y) (y : Y)
+    → ys ≡ map f (take i xs) → slice_get xs i ≡ Some x → y ≡ f x
+    → ys ++ y ∷ [] ≡ map f (take (i + 1) xs)
+mapped_more f xs i x ys y so_far here same =
+    let more : take (i + 1) xs ≡ take i xs ++ x ∷ [] =
+    take_more xs i x (slice_get_within xs i x here)
+    ∙ ap (λ z. take i xs ++ z ∷ []) (get_or_from_slice_get xs i x x here) in
+    rw (so_far, same) (sym (ap (map f) more ∙ map-append f (take i xs) (x ∷ [])))

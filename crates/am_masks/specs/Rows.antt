@@ -1,12 +1,16 @@
 -- What the rows of a list of matchers say of one label.
 use Rattle.std.specs.Prelude.{ℕ, List, Bool, false, not, ◌==◌, ◌||◌, Option, Some, None}
-use Rattle.std.specs.List.{list_all}
+use Rattle.std.specs.List.{list_all, list_any}
 use Rattle.am_labels.specs.Words.{TruthRow, truth_at}
 
 -- A row is of the label at a position.
 abbrev pub is_label : Option ℕ → ℕ → Bool
 is_label None i = false
 is_label (Some label) i = label == i
+
+-- One of some rows is of the label at a position.
+abbrev pub is_any_of : List TruthRow → ℕ → Bool
+is_any_of rows i = list_any (λ row. is_label row.label i) rows
 
 -- A row allows a position of a label where it is true there, or is of another label; and each of
 -- some rows does.

@@ -1,11 +1,12 @@
-ghost use Rattle.std.specs.Prelude.{◌≡◌, ◌<◌, not, map, IfOk, OnOk, OnErr};
+ghost use Rattle.std.specs.Prelude.{◌≡◌, ◌<◌, not, IfOk, OnOk, OnErr, IsTrue};
 ghost use Rattle.std.specs.List.{list_any, AllByRecursion};
-ghost use Rattle.am_labels.specs.Words.{row_of};
-ghost use Rattle.am_masks.specs.Rows.{is_never_true};
+ghost use Rattle.am_masks.specs.Rows.{is_never_true, is_any_of};
 ghost use Rattle.am_masks.specs.Words.{IsCubeOf, verdict_at, is_yes, is_no};
 ghost use Rattle.am_masks.specs.CubeView.{restricted};
 
+use crate::JudgedList;
 use crate::mask::Mask;
+use crate::rows::rows_of;
 use am_labels::{Choice, Matchers, Row, Universe};
 use am_search::Verdict;
 use am_universe::limits::MAX_LABELS;
@@ -28,6 +29,13 @@ impl LabelMask {
         ensures { result ≡ (not (reaches prefix.now self.now) || permits_at prefix.now self.now) }
     {
         self.label >= prefix.len() || self.mask.permits(prefix.get(self.label))
+    }
+
+    /// Whether two masks are of the same label and permit the same positions.
+    fn is_same(&self, other: &LabelMask) -> bool
+        ensures { IsTrue result → self.now ≡ other.now }
+    {
+        self.label == other.label && self.mask.is_same(&other.mask)
     }
 }
 
@@ -63,20 +71,8 @@ impl Cube {
     pub fn of(alloc: Global, matchers: &Matchers, universe: &Universe) -> Result<Cube, AllocError>
         ensures exact { IfOk result (λ cube. IsCubeOf universe.now matchers.now cube) }
     {
-        // What `len` promises tells the proof that each label has some value.
-        prove!(universe.len() <= MAX_LABELS);
-        let rows = rows_of(alloc, matchers, universe)?;
-        let mut cube = Cube {
-            empty: is_any_never_true(rows.as_slice()),
-            masks: Vec::new(alloc),
-            reach: 0,
-        };
-        for label in 0..universe.len() {
-            let size = universe.size(label);
-            let mask = Mask::of_rows(alloc, rows.as_slice(), label, size)?;
-            cube.restrict(label, mask, size)?;
-        }
-        Ok(cube)
+        let rows = rows_of(alloc, universe, matchers)?;
+        Cube::of_rows(alloc, universe, rows.as_slice(), &[])
     }
 
     /// Permits the positions of a mask alone, of a label behind those that have one. After an `Err`
@@ -97,6 +93,21 @@ impl Cube {
         self.masks.push(LabelMask { label, mask })?;
         self.reach = label + 1;
         Ok(())
+    }
+
+    /// Whether two cubes permit the same positions of each label.
+    fn has_masks_of(&self, other: &Cube) -> bool
+        ensures { IsTrue result → self.now ≡ other.now }
+    {
+        if self.empty != other.empty || self.masks.len() != other.masks.len() {
+            return false;
+        }
+        for i in 0..self.masks.len() {
+            if !self.masks[i].is_same(&other.masks[i]) {
+                return false;
+            }
+        }
+        true
     }
 
     /// What the list says of the completions of a prefix: `Yes`, the label set of each matches it;
@@ -139,15 +150,67 @@ impl Cube {
     }
 }
 
-/// The rows of a list of matchers.
-fn rows_of(alloc: Global, matchers: &Matchers, universe: &Universe) -> Result<Vec<Row>, AllocError>
-    ensures rows { IfOk result (λ rows. rows.items ≡ map (row_of universe.now) matchers.now) }
-{
-    let mut rows = Vec::with_capacity(alloc, matchers.len())?;
-    for i in 0..matchers.len() {
-        rows.push(matchers.get(i).row(alloc, universe)?)?;
+impl JudgedList for Cube {
+    ghost use Rattle.std.specs.Prelude.{IsTrue};
+    ghost use Rattle.am_labels.specs.Words.{admits};
+    ghost use Rattle.am_masks.specs.Cube.{verdict_at};
+
+    ghost verdict = { verdict_at };
+
+    ghost Knows = { λ sizes prefix. IsTrue (admits sizes prefix) };
+
+    ghost knows_whole = { λ ns c whole. whole.0 };
+
+    fn of_rows(
+        alloc: Global,
+        universe: &Universe,
+        rows: &[Row],
+        more: &[Row],
+    ) -> Result<Cube, AllocError> {
+        // What `len` promises tells the proof that each label has some value.
+        prove!(universe.len() <= MAX_LABELS);
+        let mut cube = Cube {
+            empty: is_any_never_true(rows) || is_any_never_true(more),
+            masks: Vec::new(alloc),
+            reach: 0,
+        };
+        for label in 0..universe.len() {
+            // Of a label that no row is of, all positions are permitted.
+            if is_any_of(rows, label) || is_any_of(more, label) {
+                let size = universe.size(label);
+                let mask = Mask::of_rows(alloc, rows, more, label, size)?;
+                cube.restrict(label, mask, size)?;
+            }
+        }
+        Ok(cube)
     }
-    Ok(rows)
+
+    fn judge(&self, prefix: &Choice) -> Verdict {
+        Cube::judge(self, prefix)
+    }
+
+    fn may(&self, prefix: &Choice) -> bool {
+        Cube::may(self, prefix)
+    }
+
+    fn must(&self, prefix: &Choice) -> bool {
+        Cube::must(self, prefix)
+    }
+
+    fn is_never(&self) -> bool {
+        self.empty
+    }
+
+    fn is_same(&self, other: &Cube) -> bool {
+        self.has_masks_of(other)
+    }
+}
+
+/// Whether one of the rows is of the label at a position.
+fn is_any_of(rows: &[Row], label: usize) -> bool
+    ensures { result ≡ is_any_of rows.now label }
+{
+    rows.iter().any(|row| row.label() == Some(label))
 }
 
 /// Whether one of the rows is true at no choice.

@@ -1,5 +1,6 @@
 //! Facts about the definitions alone: each is the contract of a function with an empty body.
-ghost use Rattle.std.specs.Prelude.{◌≡◌, ◌≢◌, ◌↔◌, ℕ, List, IsTrue, false, not, if◌then◌else◌};
+ghost use Rattle.std.specs.Prelude.{◌≡◌, ◌≢◌, ◌↔◌, ◌++◌, ℕ, List, IsTrue, false, not};
+ghost use Rattle.std.specs.Prelude.{if◌then◌else◌};
 ghost use Rattle.std.specs.List.{list_any, AllByRecursion};
 ghost use Rattle.am_labels.specs.Words.{Label, IsUniverse, sizes, admits, IsWhole, completions};
 ghost use Rattle.am_labels.specs.Words.{label_set_of, Condition, all_hold};
@@ -41,4 +42,14 @@ pub fn a_whole_choice_is_never_open()
         → verdict_of_list u ms c ≡ (if all_hold (label_set_of u c) ms then Yes else No) }
     ensures closed { (u : List Label) (ms : List Condition) (c : List ℕ) → IsWhole (sizes u) c
         → verdict_of_list u ms c ≢ Open }
+{}
+
+/// A list that is decided at a prefix stays so as the prefix grows: the completions of the longer
+/// prefix are among those of the shorter one.
+pub fn a_decided_list_stays_decided()
+    ensures yes { (u : List Label) (ms : List Condition) (prefix more : List ℕ)
+        → verdict_of_list u ms prefix ≡ Yes → verdict_of_list u ms (prefix ++ more) ≡ Yes }
+    ensures no { (u : List Label) (ms : List Condition) (prefix more : List ℕ)
+        → IsUniverse u → IsTrue (admits (sizes u) (prefix ++ more))
+        → verdict_of_list u ms prefix ≡ No → verdict_of_list u ms (prefix ++ more) ≡ No }
 {}

@@ -2,8 +2,15 @@
 //!
 //! A [`Cube`] is made of a list of matchers, for the labels of a universe. At a prefix of a choice
 //! it answers a `Verdict`: whether all, none or some of the label sets of the prefix's completions
-//! match the list. It looks at no completion, and takes no memory.
+//! match the list. It looks at no completion, and takes no memory. A judge asks a [`JudgedList`],
+//! of which a cube is one: it is made of rows, which [`rows_of`] makes.
 #![tactic(auto)]
+
+// The rows of matchers.
+mod rows;
+
+// What a judge asks of a list of matchers.
+mod judged_list;
 
 // Which positions of one label are permitted.
 mod mask;
@@ -12,6 +19,8 @@ mod mask;
 mod cube;
 
 pub use cube::Cube;
+pub use judged_list::JudgedList;
+pub use rows::rows_of;
 
 // What holds of the definitions by themselves.
 pub mod laws;

@@ -1,5 +1,5 @@
-ghost use Rattle.std.specs.Prelude.{◌≡◌, ℕ, ◌<◌, ◌≤◌, ◌&&◌, false, length, Some};
-ghost use Rattle.std.specs.Prelude.{slice_index_or, nat_lt, IfOk, IfSome, All};
+ghost use Rattle.std.specs.Prelude.{◌≡◌, ℕ, ◌<◌, ◌≤◌, ◌++◌, ◌&&◌, false, length, Some};
+ghost use Rattle.std.specs.Prelude.{slice_index_or, nat_lt, IfOk, IfSome, IsTrue, All};
 ghost use Rattle.am_labels.specs.Words.{truth_at};
 ghost use Rattle.am_masks.specs.Rows.{all_allow};
 ghost use Rattle.am_masks.specs.CubeView.{permits_none, permits_all};
@@ -31,25 +31,24 @@ impl Model for Mask {
 }
 
 impl Mask {
-    /// The positions of a label of this size at which each row of that label is true. Rows of other
-    /// labels say nothing. An `Err` only where memory was refused.
+    /// The positions of a label of this size at which each row of that label is true, of `rows` and
+    /// of `more`. Rows of other labels say nothing. An `Err` only where memory was refused.
     pub(crate) fn of_rows(
         alloc: Global,
         rows: &[Row],
+        more: &[Row],
         label: usize,
         size: usize,
     ) -> Result<Mask, AllocError>
         requires size { size ≤ MAX_VALUES }
         requires rows { All (λ row. row.label ≡ Some label → length row.truths ≡ size) rows.now }
+        requires more { All (λ row. row.label ≡ Some label → length row.truths ≡ size) more.now }
         ensures permitted { IfOk result (λ mask. (j : ℕ) → j < size
-            → slice_index_or mask j false ≡ all_allow rows.now label j) }
+            → slice_index_or mask j false ≡ all_allow (rows.now ++ more.now) label j) }
     {
         let mut mask = Mask::full(alloc, size)?;
-        for row in rows {
-            if row.label() == Some(label) {
-                mask.narrow(row, size);
-            }
-        }
+        mask.narrow_by_rows(rows, label, size);
+        mask.narrow_by_rows(more, label, size);
         Ok(mask)
     }
 
@@ -65,6 +64,20 @@ impl Mask {
             u128::MAX >> (ROOM - size)
         };
         Ok(Mask { bits })
+    }
+
+    /// Takes out the positions of a label of this size at which some row of that label is false.
+    fn narrow_by_rows(&mut self, rows: &[Row], label: usize, size: usize)
+        requires size { size ≤ MAX_VALUES }
+        requires rows { All (λ row. row.label ≡ Some label → length row.truths ≡ size) rows.now }
+        ensures permitted { (j : ℕ) → j < size → slice_index_or self.new j false
+            ≡ (slice_index_or self.old j false && all_allow rows.now label j) }
+    {
+        for row in rows {
+            if row.label() == Some(label) {
+                self.narrow(row, size);
+            }
+        }
     }
 
     /// Takes out the positions below a size at which a row is false.
@@ -86,6 +99,13 @@ impl Mask {
         ensures permitted { result ≡ slice_index_or self.now position false }
     {
         self.contains(usize::from(position))
+    }
+
+    /// Whether two masks permit the same positions.
+    pub(crate) fn is_same(&self, other: &Mask) -> bool
+        ensures same { IsTrue result → self.now ≡ other.now }
+    {
+        self.bits == other.bits
     }
 
     /// Whether no position of a label of this size is permitted.

@@ -1,0 +1,58 @@
+ghost use Rattle.std.specs.Prelude.{◌≡◌, ◌++◌, ℕ, List, map, not, IfOk, IsTrue};
+ghost use Rattle.am_labels.specs.Words.{Condition, IsWhole, sizes, row_of};
+ghost use Rattle.am_search.specs.declared.verdict.Verdict.{Verdict};
+ghost use Rattle.am_search.specs.declared.verdict.Verdict.TheVariants.{No};
+ghost use Rattle.am_masks.specs.Words.{verdict_of_list, is_yes, is_no};
+
+use am_labels::{Choice, Row, Universe};
+use am_search::Verdict;
+use std::alloc::{AllocError, Global};
+
+/// A list of matchers, as a judge looks at it: made once, of the rows of its matchers, and asked at
+/// prefixes of choices.
+pub trait JudgedList: Drop {
+    /// What is answered at a prefix.
+    ghost verdict: { Self → List ℕ → Verdict };
+
+    /// At which prefixes of choices, over labels of these sizes, that is the verdict of the list.
+    ghost Knows: { List ℕ → List ℕ → Type 0 };
+
+    /// The list of which these are the rows: those of `rows`, and behind them those of `more`. An
+    /// `Err` only where memory was refused.
+    fn of_rows(
+        alloc: Global,
+        universe: &Universe,
+        rows: &[Row],
+        more: &[Row],
+    ) -> Result<Self, AllocError>
+        requires rows { (ms : List Condition)
+            × (rows.now ++ more.now ≡ map (row_of universe.now) ms) }
+        ensures exact { IfOk result (λ list. (ms : List Condition)
+            → rows.now ++ more.now ≡ map (row_of universe.now) ms → (prefix : List ℕ)
+            → Knows (sizes universe.now) prefix
+            → verdict list prefix ≡ verdict_of_list universe.now ms prefix) };
+
+    /// What is known of the list at a prefix.
+    fn judge(&self, prefix: &Choice) -> Verdict
+        ensures verdict { result ≡ verdict self.now prefix.now };
+
+    /// Whether the verdict at a prefix is not `No`.
+    fn may(&self, prefix: &Choice) -> bool
+        ensures may { result ≡ not (is_no (verdict self.now prefix.now)) };
+
+    /// Whether the verdict at a prefix is `Yes`.
+    fn must(&self, prefix: &Choice) -> bool
+        ensures must { result ≡ is_yes (verdict self.now prefix.now) };
+
+    /// Whether the verdict is known to be `No` at every prefix.
+    fn is_never(&self) -> bool
+        ensures never { IsTrue result → (prefix : List ℕ) → verdict self.now prefix ≡ No };
+
+    /// Whether this list and another are known to have the same verdict at every prefix.
+    fn is_same(&self, other: &Self) -> bool
+        ensures same { IsTrue result → (prefix : List ℕ)
+            → verdict self.now prefix ≡ verdict other.now prefix };
+
+    /// The list is known at each whole choice.
+    ghost knows_whole: { (ns c : List ℕ) → IsWhole ns c → Knows ns c };
+}
