@@ -1,0 +1,13 @@
+pub mod Kleene
+pub mod SomeWay
+pub mod Soundness
+pub mod WalkLemmas
+pub mod RouteSteps
+pub mod RouteMade
+pub mod QuestionMade
+pub mod QuestionSteps
+pub mod ListSteps
+pub mod PairSteps
+pub mod SilenceSteps
+pub mod WorldServed
+pub mod PlanJudges

@@ -1,0 +1,109 @@
+-- A step of a loop over a list: what is known of the items so far holds with one more.
+use Rattle.std.proofs.Common.{◌≡◌, ℕ, ◌+◌, Bool, true, false, ◌&&◌, ◌||◌, List, [], ◌∷◌, ◌++◌, map}
+use Rattle.std.proofs.Common.{Some, take, refl, sym, ap, ◌∙◌, inl, inr}
+use Rattle.std.proofs.lemmas.Bool.{cases_Bool}
+use Rattle.std.specs.Prelude.{slice_get}
+use Rattle.std.specs.List.{list_any, filter}
+use Rattle.std.proofs.lemmas.List.{take_more, map-append}
+use Rattle.std.proofs.lemmas.List.Elements.{filter-append}
+use Rattle.std.proofs.lemmas.List.Folds.{list_any-append}
+use Rattle.std.proofs.lemmas.Option.{get_or_from_slice_get, slice_get_within}
+
+pub one_more : {X : Type 0} (xs : List X) (i : ℕ) (x : X) → slice_get xs i ≡ Some x
+    → take (i + 1) xs ≡ take i xs ++ x ∷ []
+one_more xs i x here =
+    take_more xs i x (slice_get_within xs i x here)
+    ∙ ap (λ y. take i xs ++ y ∷ []) (get_or_from_slice_get xs i x x here)
+
+-- the same is made of both lists
+pub mapped_both : {X Y Z : Type 0} (f : X → Z) (g : Y → Z) (xs : List X) (x : X) (ys : List Y)
+    (i : ℕ) (y : Y) → map f xs ≡ map g (take i ys) → slice_get ys i ≡ Some y → f x ≡ g y
+    → map f (xs ++ x ∷ []) ≡ map g (take (i + 1) ys)
+mapped_both f g xs x ys i y so_far here same =
+    map-append f xs (x ∷ [])
+    ∙ ap (λ zs. zs ++ f x ∷ []) so_far
+    ∙ ap (λ z. map g (take i ys) ++ z ∷ []) same
+    ∙ sym (ap (map g) (one_more ys i y here) ∙ map-append g (take i ys) (y ∷ []))
+
+-- ---- Whether some of the items that are kept passes.
+
+or_false : (b : Bool) → (b || false) ≡ b
+or_false true = refl
+or_false false = refl
+
+pub any_pushed : {X : Type 0} (test : X → Bool) (xs : List X) (x : X)
+    → list_any test (xs ++ x ∷ []) ≡ (list_any test xs || test x)
+any_pushed test xs x =
+    list_any-append test xs (x ∷ []) ∙ ap (λ b. list_any test xs || b) (or_false (test x))
+
+-- those that are kept, with one more
+kept_more : {X : Type 0} (keep : X → Bool) (xs : List X) (i : ℕ) (x : X) → slice_get xs i ≡ Some x
+    → filter keep (take (i + 1) xs) ≡ filter keep (take i xs) ++ filter keep (x ∷ [])
+kept_more keep xs i x here =
+    ap (filter keep) (one_more xs i x here) ∙ filter-append keep (take i xs) (x ∷ [])
+
+-- one that is kept has its counterpart
+pub any_kept : {Y : Type 0} (q keep : Y → Bool) (ys : List Y) (i : ℕ) (y : Y)
+    (so_far also now : Bool) → slice_get ys i ≡ Some y → keep y ≡ true
+    → so_far ≡ list_any q (filter keep (take i ys)) → also ≡ q y → now ≡ (so_far || also)
+    → now ≡ list_any q (filter keep (take (i + 1) ys))
+any_kept q keep ys i y so_far also now here keeps e f g =
+    let kept = filter keep (take i ys) in
+    let with_y : filter keep (take (i + 1) ys) ≡ kept ++ y ∷ [] =
+    kept_more keep ys i y here ∙ rw keeps refl in
+    g ∙ ap (λ b. b || also) e ∙ ap (λ b. list_any q kept || b) f
+    ∙ sym (ap (list_any q) with_y ∙ any_pushed q kept y)
+
+-- one more of all
+pub any_more : {Y : Type 0} (q : Y → Bool) (ys : List Y) (i : ℕ) (y : Y) (so_far also now : Bool)
+    → slice_get ys i ≡ Some y → so_far ≡ list_any q (take i ys) → also ≡ q y
+    → now ≡ (so_far || also) → now ≡ list_any q (take (i + 1) ys)
+any_more q ys i y so_far also now here e f g =
+    g ∙ ap (λ b. b || also) e ∙ ap (λ b. list_any q (take i ys) || b) f
+    ∙ sym (ap (list_any q) (one_more ys i y here) ∙ any_pushed q (take i ys) y)
+
+-- one that adds nothing
+pub any_without : {X : Type 0} (p : X → Bool) (xs : List X) (x : X)
+    → (p x ≡ true → list_any p xs ≡ true) → list_any p xs ≡ (list_any p xs || p x)
+any_without p xs x said = elim (cases_Bool (p x)) [
+  | inl e ↦ said e ∙ sym (ap (λ b. b || p x) (said e))
+  | inr e ↦ sym (ap (λ b. list_any p xs || b) e ∙ or_false (list_any p xs))
+]
+
+-- one that is not kept has none
+pub none_kept : {Y : Type 0} (q keep : Y → Bool) (ys : List Y) (i : ℕ) (y : Y) (so_far : Bool)
+    → slice_get ys i ≡ Some y → keep y ≡ false
+    → so_far ≡ list_any q (filter keep (take i ys))
+    → so_far ≡ list_any q (filter keep (take (i + 1) ys))
+none_kept q keep ys i y so_far here drops e =
+    let kept = filter keep (take i ys) in
+    let without : list_any q (kept ++ filter keep (y ∷ [])) ≡ (list_any q kept || false) =
+    list_any-append q kept (filter keep (y ∷ [])) ∙ rw drops refl in
+    e ∙ sym (ap (list_any q) (kept_more keep ys i y here) ∙ without ∙ or_false (list_any q kept))
+
+-- ---- Tests of what is made of items.
+
+pub and_true : (b : Bool) → (b && true) ≡ b
+and_true true = refl
+and_true false = refl
+
+-- two lists of which the same truths are made
+pub any_of_same : {X Y : Type 0} (p : X → Bool) (q : Y → Bool) (xs : List X) (ys : List Y)
+    → map p xs ≡ map q ys → list_any p xs ≡ list_any q ys
+any_of_same p q xs ys same =
+    sym (any_made p xs) ∙ ap (list_any (λ b. b)) same ∙ any_made q ys
+  where
+    any_made : {X : Type 0} (p : X → Bool) (xs : List X) → list_any (λ b. b) (map p xs) ≡ list_any p xs
+    any_made p [] = refl
+    any_made p (x ∷ xs) = ap (λ b. p x || b) (any_made p xs)
+
+pub any_mapped : {X Y : Type 0} (test : Y → Bool) (f : X → Y) (xs : List X)
+    → list_any test (map f xs) ≡ list_any (λ x. test (f x)) xs
+any_mapped test f [] = refl
+any_mapped test f (x ∷ xs) = ap (λ b. test (f x) || b) (any_mapped test f xs)
+
+pub same_any_test : {X : Type 0} (p q : X → Bool) (xs : List X) → ((x : X) → p x ≡ q x)
+    → list_any p xs ≡ list_any q xs
+same_any_test p q [] same = refl
+same_any_test p q (x ∷ xs) same =
+    ap (λ b. b || list_any p xs) (same x) ∙ ap (λ b. q x || b) (same_any_test p q xs same)

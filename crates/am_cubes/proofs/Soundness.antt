@@ -1,0 +1,230 @@
+-- The verdict of a question agrees with its truth at each completion, and says it at a whole choice.
+use Rattle.std.proofs.Common.{◌≡◌, ◌≢◌, ℕ, Bool, true, false, not, ◌&&◌, ◌||◌, List, [], ◌∷◌, map}
+use Rattle.std.proofs.Common.{cond, refl, ap, sym, ◌∙◌, subst}
+use Rattle.std.specs.List.{list_all, list_any, AllByRecursion}
+use Rattle.am_universe.specs.Universe.{Label, sizes}
+use Rattle.am_universe.specs.Choice.{IsWhole}
+use Rattle.am_universe.specs.Completions.{completions}
+use Rattle.am_universe.specs.LabelSet.{LabelMap, label_set_of}
+use Rattle.am_universe.proofs.ListLemmas.{IsIn, AllByRecursion-at, AllByRecursion-each}
+use Rattle.am_universe.proofs.CompletionLemmas.{completions_of_whole}
+use Rattle.am_labels.specs.Matcher.{all_hold}
+use Rattle.am_search.specs.declared.verdict.Verdict.{Verdict}
+use Rattle.am_search.specs.declared.verdict.Verdict.TheVariants.{Yes, No, Open}
+use Rattle.am_masks.specs.Verdicts.{matches_at, verdict_over, verdict_of_list}
+use Rattle.am_masks.proofs.VerdictLemmas.{yes_exactly, no_exactly, verdict_over_one, decided}
+use Rattle.am_eval.specs.Tree.{Part, Not, And, Or}
+use Rattle.am_eval.specs.Question.{Question, Simple, holds_of, is_answer}
+use Rattle.am_eval.specs.World.{World}
+use Rattle.am_eval.specs.Conditions.{Literal, literal_holds, some_way_holds, conditions_of}
+use Rattle.am_cubes.specs.Verdicts.{kleene_not, kleene_and, kleene_or, all_of, any_of}
+use Rattle.am_cubes.specs.Verdicts.{verdict_of_literal, verdict_of_simple, verdict_of}
+
+-- ---- A verdict agrees with a truth: `Yes` with true, `No` with false, and `Open` with both.
+
+abbrev pub Agrees : Verdict → Bool → Type 0
+Agrees Yes b = b ≡ true
+Agrees No b = b ≡ false
+Agrees Open b = Unit {0}
+
+pub agrees_yes : (v : Verdict) (b : Bool) → Agrees v b → v ≡ Yes → b ≡ true
+agrees_yes v b h e = subst (λ x. Agrees x b) e h
+
+pub agrees_no : (v : Verdict) (b : Bool) → Agrees v b → v ≡ No → b ≡ false
+agrees_no v b h e = subst (λ x. Agrees x b) e h
+
+not_agrees : (v : Verdict) (b : Bool) → Agrees v b → Agrees (kleene_not v) (not b)
+not_agrees Yes b h = ap not h
+not_agrees No b h = ap not h
+not_agrees Open b h = tt
+
+and_agrees : (v w : Verdict) (a b : Bool) → Agrees v a → Agrees w b
+    → Agrees (kleene_and v w) (a && b)
+and_agrees Yes w a b h k = subst (λ x. Agrees w (x && b)) (sym h) k
+and_agrees No w a b h k = ap (λ x. x && b) h
+and_agrees Open Yes a b h k = tt
+and_agrees Open No a b h k = ap (λ x. a && x) k ∙ by a
+  where
+    by : (a : Bool) → (a && false) ≡ false
+    by true = refl
+    by false = refl
+and_agrees Open Open a b h k = tt
+
+or_agrees : (v w : Verdict) (a b : Bool) → Agrees v a → Agrees w b
+    → Agrees (kleene_or v w) (a || b)
+or_agrees Yes w a b h k = ap (λ x. x || b) h
+or_agrees No w a b h k = subst (λ x. Agrees w (x || b)) (sym h) k
+or_agrees Open Yes a b h k = ap (λ x. a || x) k ∙ by a
+  where
+    by : (a : Bool) → (a || true) ≡ true
+    by true = refl
+    by false = refl
+or_agrees Open No a b h k = tt
+or_agrees Open Open a b h k = tt
+
+-- the and of a list of things, and the or of such ands
+all_agrees : {X : Type 0} (verdict : X → Verdict) (truth : X → Bool)
+    → ((x : X) → Agrees (verdict x) (truth x)) → (xs : List X)
+    → Agrees (all_of (map verdict xs)) (list_all truth xs)
+all_agrees verdict truth each [] = refl
+all_agrees verdict truth each (x ∷ xs) =
+    and_agrees (verdict x) (all_of (map verdict xs)) (truth x) (list_all truth xs)
+    (each x) (all_agrees verdict truth each xs)
+
+any_agrees : {X : Type 0} (verdict : X → Verdict) (truth : X → Bool)
+    → ((x : X) → Agrees (verdict x) (truth x)) → (xs : List X)
+    → Agrees (any_of (map verdict xs)) (list_any truth xs)
+any_agrees verdict truth each [] = refl
+any_agrees verdict truth each (x ∷ xs) =
+    or_agrees (verdict x) (any_of (map verdict xs)) (truth x) (list_any truth xs)
+    (each x) (any_agrees verdict truth each xs)
+
+-- ---- At a completion of a prefix.
+
+list_agrees : (test : List ℕ → Bool) (cs : List (List ℕ)) (c : List ℕ) → IsIn cs c
+    → (v : Verdict) → verdict_over test cs ≡ v → Agrees v (test c)
+list_agrees test cs c there Yes e =
+    AllByRecursion-at (λ d. test d ≡ true) cs c ((yes_exactly test cs).0 e) there
+list_agrees test cs c there No e =
+    AllByRecursion-at (λ d. test d ≡ false) cs c ((no_exactly test cs c there).0 e) there
+list_agrees test cs c there Open e = tt
+
+literal_agrees : (u : List Label) (prefix c : List ℕ) → IsIn (completions (sizes u) prefix) c
+    → (l : Literal)
+    → Agrees (verdict_of_literal u prefix l) (literal_holds (label_set_of u c) l)
+literal_agrees u prefix c there l = by l.wanted
+  where
+    here : Agrees (verdict_of_list u l.matchers prefix) (matches_at u l.matchers c)
+    here =
+        list_agrees (matches_at u l.matchers) (completions (sizes u) prefix) c there
+        (verdict_of_list u l.matchers prefix) refl
+
+    by : (wanted : Bool)
+        → Agrees (cond wanted (verdict_of_list u l.matchers prefix)
+        (kleene_not (verdict_of_list u l.matchers prefix)))
+        (cond wanted (all_hold (label_set_of u c) l.matchers)
+        (not (all_hold (label_set_of u c) l.matchers)))
+    by true = here
+    by false =
+        not_agrees (verdict_of_list u l.matchers prefix) (matches_at u l.matchers c) here
+
+-- that a simple part is true where its condition holds
+abbrev pub AreConditions : Type 0
+AreConditions = (w : World) (s : LabelMap) (simple : Simple)
+    → holds_of w simple s ≡ some_way_holds (literal_holds s) (conditions_of w simple)
+
+pub verdict_agrees : AreConditions → (u : List Label) (w : World) (q : Question)
+    (prefix c : List ℕ) → IsIn (completions (sizes u) prefix) c
+    → Agrees (verdict_of u w q prefix) (is_answer u w q c)
+verdict_agrees by_condition u w (Part simple) prefix c there =
+    let s = label_set_of u c in
+    subst (λ b. Agrees (verdict_of_simple u w simple prefix) b) (sym (by_condition w s simple))
+    (any_agrees (λ way. all_of (map (verdict_of_literal u prefix) way))
+    (λ way. list_all (literal_holds s) way)
+    (all_agrees (verdict_of_literal u prefix) (literal_holds s) (literal_agrees u prefix c there))
+    (conditions_of w simple))
+verdict_agrees by_condition u w (Not q) prefix c there =
+    not_agrees (verdict_of u w q prefix) (is_answer u w q c)
+    (verdict_agrees by_condition u w q prefix c there)
+verdict_agrees by_condition u w (And q r) prefix c there =
+    and_agrees (verdict_of u w q prefix) (verdict_of u w r prefix) (is_answer u w q c)
+    (is_answer u w r c) (verdict_agrees by_condition u w q prefix c there)
+    (verdict_agrees by_condition u w r prefix c there)
+verdict_agrees by_condition u w (Or q r) prefix c there =
+    or_agrees (verdict_of u w q prefix) (verdict_of u w r prefix) (is_answer u w q c)
+    (is_answer u w r c) (verdict_agrees by_condition u w q prefix c there)
+    (verdict_agrees by_condition u w r prefix c there)
+
+pub yes_says_all : AreConditions → (u : List Label) (w : World) (q : Question) (prefix : List ℕ)
+    → verdict_of u w q prefix ≡ Yes
+    → AllByRecursion (λ c. is_answer u w q c ≡ true) (completions (sizes u) prefix)
+yes_says_all by_condition u w q prefix e =
+    AllByRecursion-each (λ c. is_answer u w q c ≡ true) (completions (sizes u) prefix)
+    (λ c there. agrees_yes (verdict_of u w q prefix) (is_answer u w q c)
+    (verdict_agrees by_condition u w q prefix c there) e)
+
+pub no_says_none : AreConditions → (u : List Label) (w : World) (q : Question) (prefix : List ℕ)
+    → verdict_of u w q prefix ≡ No
+    → AllByRecursion (λ c. is_answer u w q c ≡ false) (completions (sizes u) prefix)
+no_says_none by_condition u w q prefix e =
+    AllByRecursion-each (λ c. is_answer u w q c ≡ false) (completions (sizes u) prefix)
+    (λ c there. agrees_no (verdict_of u w q prefix) (is_answer u w q c)
+    (verdict_agrees by_condition u w q prefix c there) e)
+
+-- ---- At a whole choice, where the verdict of each list says its truth.
+
+-- a verdict says a truth
+abbrev says : Bool → Verdict
+says b = cond b Yes No
+
+not_says : (b : Bool) → kleene_not (says b) ≡ says (not b)
+not_says true = refl
+not_says false = refl
+
+and_says : (a b : Bool) → kleene_and (says a) (says b) ≡ says (a && b)
+and_says true b = refl
+and_says false b = refl
+
+or_says : (a b : Bool) → kleene_or (says a) (says b) ≡ says (a || b)
+or_says true b = refl
+or_says false b = refl
+
+all_says : {X : Type 0} (verdict : X → Verdict) (truth : X → Bool)
+    → ((x : X) → verdict x ≡ says (truth x)) → (xs : List X)
+    → all_of (map verdict xs) ≡ says (list_all truth xs)
+all_says verdict truth each [] = refl
+all_says verdict truth each (x ∷ xs) =
+    ap (λ v. kleene_and v (all_of (map verdict xs))) (each x)
+    ∙ ap (kleene_and (says (truth x))) (all_says verdict truth each xs)
+    ∙ and_says (truth x) (list_all truth xs)
+
+any_says : {X : Type 0} (verdict : X → Verdict) (truth : X → Bool)
+    → ((x : X) → verdict x ≡ says (truth x)) → (xs : List X)
+    → any_of (map verdict xs) ≡ says (list_any truth xs)
+any_says verdict truth each [] = refl
+any_says verdict truth each (x ∷ xs) =
+    ap (λ v. kleene_or v (any_of (map verdict xs))) (each x)
+    ∙ ap (kleene_or (says (truth x))) (any_says verdict truth each xs)
+    ∙ or_says (truth x) (list_any truth xs)
+
+literal_says : (u : List Label) (c : List ℕ) → IsWhole (sizes u) c → (l : Literal)
+    → verdict_of_literal u c l ≡ says (literal_holds (label_set_of u c) l)
+literal_says u c whole l = by l.wanted
+  where
+    here : verdict_of_list u l.matchers c ≡ says (matches_at u l.matchers c)
+    here =
+        ap (verdict_over (matches_at u l.matchers)) (completions_of_whole (sizes u) c whole)
+        ∙ verdict_over_one (matches_at u l.matchers) c
+
+    by : (wanted : Bool)
+        → cond wanted (verdict_of_list u l.matchers c)
+        (kleene_not (verdict_of_list u l.matchers c))
+        ≡ says (cond wanted (all_hold (label_set_of u c) l.matchers)
+        (not (all_hold (label_set_of u c) l.matchers)))
+    by true = here
+    by false = ap kleene_not here ∙ not_says (matches_at u l.matchers c)
+
+pub verdict_says : AreConditions → (u : List Label) (w : World) (q : Question) (c : List ℕ)
+    → IsWhole (sizes u) c → verdict_of u w q c ≡ cond (is_answer u w q c) Yes No
+verdict_says by_condition u w (Part simple) c whole =
+    let s = label_set_of u c in
+    any_says (λ way. all_of (map (verdict_of_literal u c) way))
+    (λ way. list_all (literal_holds s) way)
+    (all_says (verdict_of_literal u c) (literal_holds s) (literal_says u c whole))
+    (conditions_of w simple)
+    ∙ ap says (sym (by_condition w s simple))
+verdict_says by_condition u w (Not q) c whole =
+    ap kleene_not (verdict_says by_condition u w q c whole) ∙ not_says (is_answer u w q c)
+verdict_says by_condition u w (And q r) c whole =
+    ap (λ v. kleene_and v (verdict_of u w r c)) (verdict_says by_condition u w q c whole)
+    ∙ ap (kleene_and (says (is_answer u w q c))) (verdict_says by_condition u w r c whole)
+    ∙ and_says (is_answer u w q c) (is_answer u w r c)
+verdict_says by_condition u w (Or q r) c whole =
+    ap (λ v. kleene_or v (verdict_of u w r c)) (verdict_says by_condition u w q c whole)
+    ∙ ap (kleene_or (says (is_answer u w q c))) (verdict_says by_condition u w r c whole)
+    ∙ or_says (is_answer u w q c) (is_answer u w r c)
+
+pub never_open : AreConditions → (u : List Label) (w : World) (q : Question) (c : List ℕ)
+    → IsWhole (sizes u) c → verdict_of u w q c ≢ Open
+never_open by_condition u w q c whole =
+    decided (is_answer u w q c) (verdict_of u w q c) (verdict_says by_condition u w q c whole)

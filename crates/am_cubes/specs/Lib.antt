@@ -1,0 +1,14 @@
+pub mod Verdicts
+pub mod Modality
+pub mod Target
+pub mod TargetView
+pub mod RouteSeen
+pub mod RoutesByLists
+pub mod PartView
+pub mod PairsByLists
+pub mod WorldByLists
+pub mod QuestionByLists
+pub mod QuestionView
+pub mod PlanView
+pub mod PlanWords
+pub mod Words

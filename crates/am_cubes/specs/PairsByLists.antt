@@ -1,0 +1,59 @@
+-- Whether a pair of a rule and a firing alert inhibits, by lists that have verdicts, and by the
+-- definitions.
+use Rattle.std.specs.Prelude.{◌≡◌, ℕ, List, map, slice_get, Bool, true, not, ◌&&◌}
+use Rattle.std.specs.Prelude.{if◌then◌else◌}
+use Rattle.std.specs.Prelude.{Option, Some, None}
+use Rattle.std.specs.List.{list_all, list_any}
+use Rattle.std.specs.declared.alloc.Global.{Global}
+use Rattle.std.specs.declared.vec.Vec.{Vec}
+use Rattle.am_labels.specs.Words.{Label, TruthRow, row_of}
+use Rattle.am_files.specs.ConfigFile.{Rule}
+use Rattle.am_search.specs.declared.verdict.Verdict.{Verdict}
+use Rattle.am_masks.specs.Words.{verdict_of_list}
+use Rattle.am_eval.specs.declared.pair.Pair.{Pair}
+use Rattle.am_eval.specs.Words.{World}
+use Rattle.am_eval.specs.Conditions.{pair_way}
+use Rattle.am_cubes.specs.declared.modality.Modality.{Modality}
+use Rattle.am_cubes.specs.declared.pair_lists.PairList.{PairList}
+use Rattle.am_cubes.specs.declared.pair_lists.PairLists.{PairLists}
+use Rattle.am_cubes.specs.Modality.{passes, other}
+use Rattle.am_cubes.specs.Verdicts.{verdict_of_literal}
+
+-- The source side is not matched; where there is no list for it, nothing is asked. The source side
+-- that a pair asks about, if it does. And whether a pair inhibits, by its lists.
+abbrev pub source_fails : {L : Type 0} → (L → List ℕ → Verdict) → List ℕ → Modality → Option L
+    → Bool
+source_fails verdict prefix m None = true
+source_fails verdict prefix m (Some source) = not (passes (other m) (verdict source prefix))
+
+abbrev pub source_among : {L : Type 0} → List L → Bool → ℕ → Option L
+source_among sources both rule = if both then slice_get sources rule else None
+
+abbrev pub pair_by : {L : Type 0} → (L → List ℕ → Verdict) → List ℕ → Modality → List L
+    → PairList L → Bool
+pair_by verdict prefix m sources pair =
+    passes m (verdict pair.list prefix)
+    && source_fails verdict prefix m (source_among sources pair.both pair.rule)
+
+abbrev pub inhibited_by : {L : Type 0} → (L → List ℕ → Verdict) → List ℕ → PairLists L → Modality
+    → Bool
+inhibited_by verdict prefix lists m =
+    list_any (pair_by verdict prefix m lists.sources.items) lists.pairs.items
+
+-- These are the lists of the source sides of rules, in order; and the rows of their target sides.
+abbrev pub AreSources : {L : Type 0} → List Label → (L → List ℕ → Verdict) → List ℕ → List L
+    → List Rule → Type 0
+AreSources u verdict prefix sources rules =
+    map (λ source. verdict source prefix) sources
+    ≡ map (λ (rule : Rule). verdict_of_list u rule.source prefix) rules
+
+abbrev pub AreTargets : List Label → List (Vec TruthRow Global) → List Rule → Type 0
+AreTargets u targets rules =
+    map (λ (rows : Vec TruthRow Global). rows.items) targets
+    ≡ map (λ (rule : Rule). map (row_of u) rule.target) rules
+
+-- Whether the way of a pair passes at a prefix, by the definitions.
+abbrev pub way_of_pair : List Label → World → List ℕ → Modality → Pair → Bool
+way_of_pair u w prefix m pair =
+    list_all (λ l. passes m (verdict_of_literal u prefix l))
+    (pair_way w.config.rules w.alerts pair)
