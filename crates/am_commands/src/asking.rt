@@ -10,11 +10,11 @@ ghost use Rattle.am_search.specs.Words.{IsStart, page_text, trailer_text};
 ghost use Rattle.am_commands.specs.Words.{AnswersInputs, AnswersInputsInPart, page_of_inputs};
 ghost use Rattle.am_commands.specs.Words.{IsAskedOf};
 
+use am_cubes::Plan;
 use am_eval::Files;
 use am_labels::{Fault, Kind, LineTable, Place, Sink};
 use am_questions::{AcceptedInputs, read_inputs};
 use am_search::{Answers, Page, Trailer, write_page};
-use am_whole::Whole;
 use std::alloc::Global;
 
 /// Writes the label sets of the universe that satisfy the question, each once and in declared
@@ -38,8 +38,10 @@ use std::alloc::Global;
 /// with no pointer; `Write`, at `Output`. `Memory`, at `Memory`, comes wherever memory ran out.
 /// After any but `Write` the sink is as it was.
 ///
-/// Each label set of the universe from the start on is tried by itself, so time grows with the
-/// product of the numbers of values. Memory does not grow with the number of answers.
+/// Prefixes of choices are judged, by the cubes of a plan: what is below one of which nothing can
+/// be an answer is left out, and what is below one of which everything must be is written without a
+/// look. Where neither is seen early, time grows with the product of the numbers of values. Memory
+/// does not grow with the number of answers.
 pub fn ask<W: Sink>(
     alloc: Global,
     universe: &[u8],
@@ -104,7 +106,7 @@ fn write_answers<W: Sink>(
         × WroteInPart W.taken W.failures out.old out.new
         (page_text accepted.now.universe (page_of_inputs accepted.now limit))) }
 {
-    let judge = match Whole::new(
+    let judge = match Plan::new(
         alloc,
         &accepted.universe,
         &accepted.world,

@@ -1,117 +1,16 @@
--- The paths that are reported are those of the routes, in order.
-use Rattle.std.proofs.Common.{◌≡◌, ◌≢◌, ◌↔◌, ℕ, zero, suc, ◌+◌, ◌<◌, List, [], ◌∷◌, map}
-use Rattle.std.proofs.Common.{Option, Some, None, refl, sym, ap, subst, ◌∙◌, inl, inr, arith}
-use Rattle.std.proofs.Common.{Contains}
-use Rattle.std.specs.Prelude.{slice_get, option_and_then}
+-- The paths that are reported are in order.
+use Rattle.std.proofs.Common.{◌≡◌, ℕ, ◌+◌, ◌<◌, List, [], ◌∷◌, map, refl, sym, subst, arith}
 use Rattle.std.specs.Ordering.{nat_cmp}
 use Rattle.std.specs.Cmp.Lexicographic.{slice_cmp}
 use Rattle.std.specs.List.Sorted.{IsStrictlySortedBy}
 use Rattle.std.specs.declared.cmp.Ordering.TheVariants.{Less}
-use Rattle.std.proofs.lemmas.Option.{option_and_then_some}
-use Rattle.am_universe.proofs.ListLemmas.{IsIn, IsIn-from_Contains, Contains-from_IsIn, IsIn-left}
-use Rattle.am_universe.proofs.ListLemmas.{IsIn-right, IsIn-split, IsIn-map, IsIn-unmap}
-use Rattle.am_universe.proofs.ListLemmas.{AllByRecursion-each, IsStrictlySortedBy-append}
-use Rattle.am_universe.proofs.ListLemmas.{IsStrictlySortedBy-map}
+use Rattle.am_universe.proofs.ListLemmas.{IsIn-unmap, AllByRecursion-each}
+use Rattle.am_universe.proofs.ListLemmas.{IsStrictlySortedBy-append, IsStrictlySortedBy-map}
 use Rattle.am_universe.proofs.ChoiceLemmas.{same_first, less_first}
 use Rattle.am_files.specs.ConfigFile.{RouteTree, Routes, route, no_routes, next_route}
-use Rattle.am_files.specs.ConfigFile.{Configuration}
-use Rattle.am_files.specs.Path.{list_of, route_at}
+use Rattle.am_eval.specs.RoutePaths.{paths_at, paths_from}
+use Rattle.am_eval.proofs.RoutePathLaws.{is_below}
 use Rattle.am_search.proofs.ChoiceOrder.{Ascends}
-use Rattle.am_coverage.specs.Coverage.{paths_at, paths_from, paths_of}
-
--- ---- A path below the children from a position on goes down to one of them.
-
-abbrev IsBelow : ℕ → Routes → List ℕ → Type 0
-IsBelow i ts path =
-    (k : ℕ) × (t : RouteTree) × (rest : List ℕ) × (slice_get (list_of ts) k ≡ Some t)
-    × (path ≡ (i + k) ∷ rest) × IsIn (paths_at t) rest
-
-here : (i : ℕ) (t : RouteTree) (ts : Routes) (path : List ℕ)
-    → IsIn (map (λ below. i ∷ below) (paths_at t)) path → IsBelow i (next_route t ts) path
-here i t ts path h =
-    let r = IsIn-unmap (λ below. i ∷ below) (paths_at t) path h in
-    let at : i ≡ i + 0 = omega arith in
-    (0, t, r.0, refl, sym r.2 ∙ ap (λ k. k ∷ r.0) at, r.1)
-
-behind : (i : ℕ) (t : RouteTree) (ts : Routes) (path : List ℕ) → IsBelow (i + 1) ts path
-    → IsBelow i (next_route t ts) path
-behind i t ts path h =
-    let at : (i + 1) + h.0 ≡ i + suc h.0 = omega arith in
-    (suc h.0, h.1, h.2, h.3, h.4 ∙ ap (λ k. k ∷ h.2) at, h.5)
-
-is_below : (i : ℕ) (ts : Routes) (path : List ℕ) → IsIn (paths_from i ts) path → IsBelow i ts path
-is_below i no_routes path h = absurd h
-is_below i (next_route t ts) path h =
-    elim (IsIn-split (map (λ below. i ∷ below) (paths_at t)) (paths_from (i + 1) ts) path h) [
-      | inl a ↦ here i t ts path a
-      | inr b ↦ behind i t ts path (is_below (i + 1) ts path b)
-    ]
-
--- and a path that goes down to one of them is one of all
-below_is : (i k : ℕ) (ts : Routes) (t : RouteTree) (rest : List ℕ)
-    → slice_get (list_of ts) k ≡ Some t → IsIn (paths_at t) rest
-    → IsIn (paths_from i ts) ((i + k) ∷ rest)
-below_is i k no_routes t rest e h = absurd (cc)
-below_is i zero (next_route u ts) t rest e h =
-    let same : t ≡ u = cc in
-    let at : i ≡ i + 0 = omega arith in
-    let mapped = IsIn-map (λ below. i ∷ below) (paths_at u) rest
-    (subst (λ (x : RouteTree). IsIn (paths_at x) rest) same h) in
-    subst (λ (n : ℕ). IsIn (paths_from i (next_route u ts)) (n ∷ rest)) at
-    (IsIn-left (map (λ below. i ∷ below) (paths_at u)) (paths_from (i + 1) ts) (i ∷ rest) mapped)
-below_is i (suc k) (next_route u ts) t rest e h =
-    let at : (i + 1) + k ≡ i + suc k = omega arith in
-    subst (λ (n : ℕ). IsIn (paths_from i (next_route u ts)) (n ∷ rest)) at
-    (IsIn-right (map (λ below. i ∷ below) (paths_at u)) (paths_from (i + 1) ts)
-    (((i + 1) + k) ∷ rest) (below_is (i + 1) k ts t rest e h))
-
--- ---- The paths are those of the routes.
-
-at_child : (t : RouteTree) (children : Routes) (p k : ℕ) (path rest : List ℕ)
-    → slice_get (list_of children) k ≡ Some t → p ∷ path ≡ k ∷ rest → IsIn (paths_at t) rest
-    → (IsIn (paths_at t) path → (u : RouteTree) × (route_at t path ≡ Some u))
-    → (u : RouteTree)
-    × (option_and_then (λ child. route_at child path) (slice_get (list_of children) p) ≡ Some u)
-at_child t children p k path rest child e h below =
-    let first : p ≡ k = cc in
-    let others : rest ≡ path = cc in
-    let r = below (subst (λ (x : List ℕ). IsIn (paths_at t) x) others h) in
-    (r.0, rw (first, child) r.1)
-
-leads : (t : RouteTree) (path : List ℕ) → IsIn (paths_at t) path
-    → (u : RouteTree) × (route_at t path ≡ Some u)
-leads t [] h = (t, refl)
-leads (route settings children) (p ∷ path) (inl e) = absurd (cc)
-leads (route settings children) (p ∷ path) (inr h) =
-    let b = is_below 0 children (p ∷ path) h in
-    let at : 0 + b.0 ≡ b.0 = omega arith in
-    at_child b.1 children p b.0 path b.2 b.3 (b.4 ∙ ap (λ k. k ∷ b.2) at) b.5 (leads b.1 path)
-
-is_path : (t u : RouteTree) (path : List ℕ) → route_at t path ≡ Some u → IsIn (paths_at t) path
-is_path (route settings children) u [] e = inl refl
-is_path (route settings children) u (p ∷ path) e =
-    option_and_then_some (λ child. route_at child path) (slice_get (list_of children) p) u e
-    (λ child is further.
-    let at : 0 + p ≡ p = omega arith in
-    inr (subst (λ (n : ℕ). IsIn (paths_from 0 children) (n ∷ path)) at
-    (below_is 0 p children child path is (is_path child u path further))))
-
-is_some : {X : Type 0} (o : Option X) → o ≢ None → (x : X) × (o ≡ Some x)
-is_some None some = absurd (some refl)
-is_some (Some x) some = (x, refl)
-
-pub paths_exactly : (c : Configuration) (path : List ℕ)
-    → Contains (paths_of c) path ↔ (route_at c.root path ≢ None)
-paths_exactly c path = (
-  λ h none.
-      let r = leads c.root path (IsIn-from_Contains (paths_of c) path h) in
-      let both : None ≡ Some r.0 = sym none ∙ r.1 in cc,
-  λ some.
-      let r = is_some (route_at c.root path) some in
-      Contains-from_IsIn (paths_of c) path (is_path c.root r.0 path r.1),
-)
-
--- ---- In order.
 
 mutual
   unfolding IsStrictlySortedBy

@@ -11,12 +11,13 @@ use Rattle.am_universe.specs.Text.{quoted_text}
 use Rattle.am_universe.specs.WrittenLabelSet.{set_text}
 use Rattle.am_files.specs.ConfigFile.{Configuration}
 use Rattle.am_files.specs.Path.{path_text}
+use Rattle.am_eval.specs.RoutePaths.{paths_of}
 use Rattle.am_coverage.specs.declared.coverage.RouteCoverage.{RouteCoverage}
 use Rattle.am_coverage.specs.declared.coverage.RouteCoverage.TheVariants as route_is
 use Rattle.am_coverage.specs.declared.coverage.ReceiverCoverage.{ReceiverCoverage}
 use Rattle.am_coverage.specs.declared.coverage.ReceiverCoverage.TheVariants as receiver_is
 use Rattle.am_coverage.specs.Coverage.{IsDead, IsNeverEntered, IsUnmatched, route_coverage}
-use Rattle.am_coverage.specs.Coverage.{receiver_coverage, paths_of}
+use Rattle.am_coverage.specs.Coverage.{receiver_coverage}
 use Rattle.am_coverage.specs.WrittenCoverage.{route_line, routes_text, receiver_line}
 use Rattle.am_coverage.specs.WrittenCoverage.{receivers_text}
 use Rattle.am_coverage.specs.Report.{IsFirstChoice, EndsAt, GoesTo, IsRouteLine, live_route}

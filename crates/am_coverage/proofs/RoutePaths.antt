@@ -5,7 +5,7 @@ use Rattle.std.proofs.lemmas.List.{map-append, at_drop_more}
 use Rattle.am_files.specs.declared.route.Route.{Route}
 use Rattle.am_files.specs.ConfigFile.{RouteTree, routes_of}
 use Rattle.am_files.specs.RouteView.{route_view}
-use Rattle.am_coverage.specs.Coverage.{paths_at, paths_from}
+use Rattle.am_eval.specs.RoutePaths.{paths_at, paths_from}
 use Rattle.am_eval.proofs.ChildEnds.{paths_below}
 
 -- the paths of these children and of the routes below them, from their parent on

@@ -1,12 +1,10 @@
 -- Coverage: which routes and receivers the label sets of a universe reach.
-use Rattle.std.specs.Prelude.{ℕ, ◌+◌, List, [], ◌∷◌, ◌++◌, map, Contains, IsTrue}
-use Rattle.std.specs.Prelude.{Option, Some, None, ◌==◌}
+use Rattle.std.specs.Prelude.{ℕ, List, Contains, IsTrue, Option, Some, None, ◌==◌}
 use Rattle.std.specs.List.{find, list_any}
 use Rattle.am_universe.specs.Universe.{Label, sizes}
 use Rattle.am_universe.specs.Choice.{choices, IsWhole}
 use Rattle.am_universe.specs.LabelSet.{label_set_of}
 use Rattle.am_universe.specs.Text.{same_text}
-use Rattle.am_files.specs.ConfigFile.{RouteTree, Routes, route, no_routes, next_route}
 use Rattle.am_files.specs.ConfigFile.{Configuration}
 use Rattle.am_files.specs.Path.{leads_through}
 use Rattle.am_eval.specs.Routing.{ends, receivers}
@@ -85,22 +83,3 @@ live_or_unmatched (Some choice) = receiver_is.Live choice
 
 abbrev pub receiver_coverage : List Label → Configuration → ℕ → ReceiverCoverage
 receiver_coverage u c receiver = live_or_unmatched (first_receipt u c receiver)
-
--- ---- The routes of a configuration.
-
--- The paths of a route and of all routes below it, from itself on: each route before those below
--- it, and these before its next sibling. And those of the children from a position on.
--- Source: own choice.
--- Example: where the top-level route has two children, and the first of these one, the paths are
--- `/`, `/0`, `/0/0` and `/1`.
-abbrev mutual
-  pub paths_at : RouteTree → List (List ℕ)
-  paths_at (route settings children) = [] ∷ paths_from 0 children
-
-  pub paths_from : ℕ → Routes → List (List ℕ)
-  paths_from i no_routes = []
-  paths_from i (next_route t ts) =
-      map (λ path. i ∷ path) (paths_at t) ++ paths_from (i + 1) ts
-
-abbrev pub paths_of : Configuration → List (List ℕ)
-paths_of c = paths_at c.root

@@ -9,8 +9,9 @@ use Rattle.am_universe.specs.WrittenLabelSet.{set_text}
 use Rattle.am_files.specs.ConfigFile.{Configuration}
 use Rattle.am_files.specs.Path.{path_text}
 use Rattle.am_eval.specs.Routing.{ends, receivers}
+use Rattle.am_eval.specs.RoutePaths.{paths_of}
 use Rattle.am_search.specs.Start.{comes_before}
-use Rattle.am_coverage.specs.Coverage.{IsDead, IsNeverEntered, IsUnmatched, paths_of}
+use Rattle.am_coverage.specs.Coverage.{IsDead, IsNeverEntered, IsUnmatched}
 
 -- Of all choices of a universe this is the first, in declared order, that has a property.
 -- Source: own choice.

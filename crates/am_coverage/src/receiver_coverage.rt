@@ -1,24 +1,24 @@
 //! What becomes of each receiver.
 
-ghost use Rattle.std.specs.Prelude.{◌≡◌, List, length, map, IfOk};
+ghost use Rattle.std.specs.Prelude.{◌≡◌, length, map, IfOk};
 ghost use Rattle.std.specs.List.{AllByRecursion, range_with_len};
-ghost use Rattle.am_labels.specs.Words.{Label, sizes};
-ghost use Rattle.am_eval.specs.Words.{World};
-ghost use Rattle.am_whole.specs.Words.{whole_sizes, KnowsWorld};
+ghost use Rattle.am_labels.specs.Words.{sizes};
+ghost use Rattle.am_cubes.specs.Words.{plan_universe, plan_world, plan_sizes};
 ghost use Rattle.am_coverage.specs.Words.{receiver_coverage, IsShownReceiver};
 
 use crate::coverage::ReceiverCoverage;
 use crate::first_answers::first_answer;
+use am_cubes::Plan;
 use am_eval::{Question, World};
+use am_files::Path;
 use am_labels::Universe;
-use am_whole::Whole;
 use std::alloc::{AllocError, Global};
 
 /// What becomes of each receiver of the configuration of a world, in declared order. An `Err` only
 /// where memory was refused.
 ///
-/// For each receiver the choices of the universe are judged one by one, up to the first that goes
-/// to it.
+/// For each receiver prefixes are judged up to the first choice that goes to it, by cubes of the
+/// routes that are made once.
 pub fn receivers_covered(
     alloc: Global,
     universe: &Universe,
@@ -30,28 +30,28 @@ pub fn receivers_covered(
     ensures shown { IfOk result (λ found.
         AllByRecursion (IsShownReceiver (sizes universe.now)) found.items) }
 {
-    let any = Question::Any;
-    let tables = Whole::new(alloc, universe, world, &any)?;
+    let entered = Question::enters(Path::root());
+    let plan = Plan::new(alloc, universe, world, &entered)?;
     let count = world.config().receivers();
     let mut found = Vec::with_capacity(alloc, count)?;
     for receiver in 0..count {
-        found.push(coverage_of(alloc, &tables, receiver)?)?;
+        found.push(coverage_of(alloc, &plan, receiver)?)?;
     }
     Ok(found)
 }
 
-/// What becomes of the receiver at a position, by a judge that knows the world.
+/// What becomes of the receiver at a position, in the world of a plan.
 fn coverage_of(
     alloc: Global,
-    tables: &Whole<'_>,
+    plan: &Plan<'_>,
     receiver: usize,
 ) -> Result<ReceiverCoverage, AllocError>
-    ensures coverage { IfOk result (λ coverage. (u : List Label) (w : World)
-        → KnowsWorld tables.now u w → coverage ≡ receiver_coverage u w.config receiver) }
-    ensures shown { IfOk result (IsShownReceiver (whole_sizes tables.now)) }
+    ensures coverage { IfOk result (λ coverage. coverage
+        ≡ receiver_coverage (plan_universe plan.now) (plan_world plan.now).config receiver) }
+    ensures shown { IfOk result (IsShownReceiver (plan_sizes plan.now)) }
 {
     let question = Question::receiver(receiver);
-    Ok(match first_answer(alloc, tables, &question)? {
+    Ok(match first_answer(alloc, plan, &question)? {
         Some(choice) => ReceiverCoverage::Live(choice),
         None => ReceiverCoverage::Unmatched,
     })

@@ -1,60 +1,84 @@
--- What rows say of the label set of a whole choice.
-use Rattle.std.proofs.Common.{◌≡◌, ℕ, List, [], ◌∷◌, ◌&&◌, map, refl, sym, ap, ◌∙◌}
-use Rattle.std.proofs.Common.{String, string_bytes}
+-- The rows of a list of matchers, and what they say of the label set of a whole choice.
+use Rattle.std.proofs.Common.{◌≡◌, ℕ, zero, suc, ◌+◌, ◌<◌, ◌≤◌, Bool, false, ◌&&◌, cond}
+use Rattle.std.proofs.Common.{List, [], ◌∷◌, ◌++◌}
+use Rattle.std.proofs.Common.{length, map, take, get_or, Option, Some, None, All}
+use Rattle.std.proofs.Common.{refl, sym, ap, ◌∙◌, subst, arith}
 use Rattle.std.specs.List.{list_all}
-use Rattle.std.specs.Cmp.Lexicographic.{texts_ties}
-use Rattle.std.specs.declared.alloc.Global.{Global}
-use Rattle.std.proofs.lemmas.List.Folds.{list_all-map}
-use Rattle.std.proofs.lemmas.Simd.{map-map}
+use Rattle.std.proofs.lemmas.List.{length-append, take_more, take_all}
+use Rattle.std.proofs.lemmas.List.{get_or_append_left, get_or-append-add}
+use Rattle.std.proofs.lemmas.List.Elements.{All-map}
+use Rattle.std.proofs.lemmas.List.Folds.{list_all-append, list_all-map}
 use Rattle.am_universe.specs.Universe.{Label, IsUniverse, sizes}
 use Rattle.am_universe.specs.Choice.{IsWhole}
-use Rattle.am_universe.specs.LabelSet.{LabelMap, value_of, label_set_of}
-use Rattle.am_universe.specs.Text.{same_text}
-use Rattle.am_universe.proofs.LabelMapLemmas.{flips}
-use Rattle.am_labels.specs.declared.op.Op.TheVariants.{Equal}
-use Rattle.am_labels.specs.Matcher.{Condition, all_hold}
-use Rattle.am_labels.specs.Row.{TruthRow, row_of, row_holds}
+use Rattle.am_universe.proofs.CompletionLemmas.{completions_of_whole}
+use Rattle.am_labels.specs.Matcher.{Condition}
+use Rattle.am_labels.specs.Row.{TruthRow, truths_of, truth_among, truth_at, row_of, row_holds}
 use Rattle.am_labels.proofs.RowLawLemmas.{rows_decide}
-use Rattle.am_files.specs.RouteView.{names_of}
-use Rattle.am_eval.specs.Inhibition.{have_equal}
+use Rattle.am_search.specs.declared.verdict.Verdict.TheVariants.{Yes, No}
+use Rattle.am_masks.specs.Verdicts.{matches_at, verdict_over, verdict_of_list}
+use Rattle.am_masks.proofs.VerdictLemmas.{verdict_over_one}
+use Rattle.am_whole.specs.RowsView.{IsRow, all_hold_at}
 
-pub all_of : (u : List Label) (ms : List Condition) (rows : List TruthRow) (c : List ℕ)
-    → IsUniverse u → IsWhole (sizes u) c → rows ≡ map (row_of u) ms
-    → list_all (λ row. row_holds row c) rows ≡ all_hold (label_set_of u c) ms
-all_of u ms rows c h whole e =
-    ap (list_all (λ row. row_holds row c)) e
-    ∙ list_all-map (λ row. row_holds row c) (row_of u) ms ∙ sym (rows_decide u c ms h whole)
+-- ---- A row that is copied.
 
--- a label has an alert's value
-abbrev pub as_alert : LabelMap → List ℕ → Condition
-as_alert a name = record { name = name; op = Equal; value = value_of a name }
+-- where a row has a truth, it is its truth at that position
+truth_among_them : (u : List Label) (m : Condition) (o : Option ℕ) (j : ℕ)
+    → j < length (truths_of u m o)
+    → truth_among o (truths_of u m o) j ≡ get_or (truths_of u m o) j false
+truth_among_them u m None zero within = refl
+truth_among_them u m None (suc j) within = absurd (omega (arith, within))
+truth_among_them u m (Some i) j within = refl
 
-pub row_as_alert : (u : List Label) (a : LabelMap) (row : TruthRow) (name read value : List ℕ)
-    → row ≡ row_of u (record { name = read; op = Equal; value = value }) → read ≡ name
-    → value ≡ value_of a name → row ≡ row_of u (as_alert a name)
-row_as_alert u a row name read value e f g =
-    e ∙ ap (λ n. row_of u (record { name = n; op = Equal; value = value })) f
-    ∙ ap (λ v. row_of u (record { name = name; op = Equal; value = v })) g
+pub truth_there : (u : List Label) (row : TruthRow) (j : ℕ) → IsRow u row → j < length row.truths
+    → truth_at row j ≡ get_or row.truths j false
+truth_there u row j is within =
+    let m = is.0 in
+    ap (λ r. truth_at r j) is.1
+    ∙ truth_among_them u m (row_of u m).label j (subst (λ r. j < length r.truths) is.1 within)
+    ∙ ap (λ r. get_or r.truths j false) (sym is.1)
 
-same_text-turned : (a b : List ℕ) → same_text a b ≡ same_text b a
-same_text-turned a b = texts_ties a b ∙ flips a b
+-- one truth more
+pub one_more : (u : List Label) (row : TruthRow) (so_far now : List Bool) (j : ℕ) (truth : Bool)
+    → IsRow u row → j < length row.truths → so_far ≡ take j row.truths → truth ≡ truth_at row j
+    → now ≡ so_far ++ truth ∷ [] → now ≡ take (j + 1) row.truths
+one_more u row so_far now j truth is within before here more =
+    rw (more, before, here, truth_there u row j is within)
+    (sym (take_more row.truths j false within))
 
-equal_on : (a s : LabelMap) (names : List (List ℕ))
-    → all_hold s (map (as_alert a) names) ≡ have_equal names a s
-equal_on a s [] = refl
-equal_on a s (name ∷ names) =
-    ap (λ b. b && all_hold s (map (as_alert a) names))
-    (same_text-turned (value_of s name) (value_of a name))
-    ∙ ap (λ b. same_text (value_of a name) (value_of s name) && b) (equal_on a s names)
+pub same_row : (row : TruthRow) (label : Option ℕ) (truths : List Bool) (j : ℕ)
+    → label ≡ row.label → truths ≡ take j row.truths → length row.truths ≤ j
+    → record { label = label; truths = truths } ≡ row
+same_row row label truths j e f all =
+    ap (λ o. record { label = o; truths = truths }) e
+    ∙ ap (λ ts. record { label = row.label; truths = ts }) (f ∙ take_all j row.truths all)
 
-pub all_equal : (u : List Label) (a : LabelMap) (names : List (String Global))
-    (rows : List TruthRow) (c : List ℕ) → IsUniverse u → IsWhole (sizes u) c
-    → rows ≡ map (λ name. row_of u (as_alert a (string_bytes name))) names
-    → list_all (λ row. row_holds row c) rows ≡ have_equal (names_of names) a (label_set_of u c)
-all_equal u a names rows c h whole e =
-    let ms = map (as_alert a) (names_of names) in
-    let of_names : map (row_of u) ms ≡ map (λ name. row_of u (as_alert a (string_bytes name))) names =
-    ap (map (row_of u)) (map-map (as_alert a) string_bytes names)
-    ∙ map-map (row_of u) (λ name. as_alert a (string_bytes name)) names in
-    all_of u ms rows c h whole (e ∙ sym of_names)
-    ∙ equal_on a (label_set_of u c) (names_of names)
+-- ---- The rows of a list, in two parts.
+
+pub are_rows : (u : List Label) (ms : List Condition) (rows more : List TruthRow)
+    → rows ++ more ≡ map (row_of u) ms → All (IsRow u) rows × All (IsRow u) more
+are_rows u ms rows more same =
+    let of_each : All (IsRow u) (map (row_of u) ms) =
+    All-map (IsRow u) (row_of u) ms (λ k d h. (get_or ms k d, refl)) in
+    let each : All (IsRow u) (rows ++ more) = subst (All (IsRow u)) (sym same) of_each in (
+      λ k d h. subst (IsRow u) (get_or_append_left rows more d k h)
+          (each k d (omega (arith, h, length-append rows more))),
+      λ k d h. subst (IsRow u) (get_or-append-add rows more k d)
+          (each (length rows + k) d (omega (arith, h, length-append rows more))),
+    )
+
+-- ---- At a whole choice.
+
+pub verdict_of_rows : (u : List Label) (ms : List Condition) (rows more kept others : List TruthRow)
+    (c : List ℕ) → IsUniverse u → IsWhole (sizes u) c → rows ++ more ≡ map (row_of u) ms
+    → kept ≡ rows → others ≡ more
+    → cond (all_hold_at kept c && all_hold_at others c) Yes No ≡ verdict_of_list u ms c
+verdict_of_rows u ms rows more kept others c h whole same first rest =
+    let truth : (all_hold_at kept c && all_hold_at others c) ≡ matches_at u ms c =
+    ap (λ rs. all_hold_at rs c && all_hold_at others c) first
+    ∙ ap (λ rs. all_hold_at rows c && all_hold_at rs c) rest
+    ∙ sym (list_all-append (λ row. row_holds row c) rows more)
+    ∙ ap (list_all (λ row. row_holds row c)) same
+    ∙ list_all-map (λ row. row_holds row c) (row_of u) ms ∙ sym (rows_decide u c ms h whole) in
+    ap (λ b. cond b Yes No) truth
+    ∙ sym (ap (verdict_over (matches_at u ms)) (completions_of_whole (sizes u) c whole)
+    ∙ verdict_over_one (matches_at u ms) c)

@@ -1,5 +1,5 @@
--- What a clause reads of `Whole`: its universe, the sizes of its labels, the outcome of a choice,
--- and which choices are true.
+-- What a clause reads of `Whole`: its universe, the sizes of its labels, which choices are true,
+-- and its verdicts.
 use Rattle.std.specs.Prelude.{◌≡◌, ℕ, ◌≤◌, ◌<◌, List, [], ◌∷◌, length, Bool, true, false, nat_lt}
 use Rattle.std.specs.Prelude.{if◌then◌else◌, IsTrue}
 use Rattle.std.specs.List.{AllByRecursion}
@@ -9,17 +9,14 @@ use Rattle.std.proofs.lemmas.Bool.Decides.{nat_tests}
 use Rattle.am_universe.specs.Universe.{Label, sizes}
 use Rattle.am_universe.specs.Choice.{admits, IsWhole}
 use Rattle.am_universe.specs.Completions.{completions}
-use Rattle.am_universe.specs.LabelSet.{label_set_of}
 use Rattle.am_universe.proofs.CompletionLemmas.{completions_of_whole}
-use Rattle.am_eval.specs.World.{World}
 use Rattle.am_search.specs.Judge.{AreSizes, IsJudge}
 use Rattle.am_search.specs.declared.verdict.Verdict.{Verdict}
 use Rattle.am_search.specs.declared.verdict.Verdict.TheVariants.{Yes, No, Open}
-use Rattle.am_whole.specs.declared.whole.Tables.{Tables}
-use Rattle.am_whole.specs.declared.whole.Tables.TheVariants.{Own, Shared}
+use Rattle.am_cubes.specs.declared.modality.Modality.TheVariants.{Must}
+use Rattle.am_cubes.specs.Words.{truth_by}
 use Rattle.am_whole.specs.declared.whole.Whole.{Whole}
-use Rattle.am_whole.specs.WorldOutcome.{WorldOutcome, world_outcome, world_by_rows}
-use Rattle.am_whole.specs.QuestionByRows.{question_at}
+use Rattle.am_whole.specs.RowsView.{rows_verdict}
 
 -- The universe of a judge, and how many values each of its labels has.
 abbrev pub whole_universe : Whole → List Label
@@ -28,24 +25,9 @@ whole_universe whole = whole.universe.now
 abbrev pub whole_sizes : Whole → List ℕ
 whole_sizes whole = sizes (whole_universe whole)
 
--- The outcome of a choice by the rows of a judge.
-abbrev pub world_by_tables : List ℕ → Tables → WorldOutcome
-world_by_tables c (Own rows) = world_by_rows c rows
-world_by_tables c (Shared rows) = world_by_rows c rows.now
-
--- The outcome of a choice in the world of a judge, and whether it makes its question true.
-abbrev pub whole_outcome : Whole → List ℕ → WorldOutcome
-whole_outcome whole c = world_by_tables c whole.world
-
+-- Whether a choice makes the question of a judge true, by rows.
 abbrev pub whole_truth : Whole → List ℕ → Bool
-whole_truth whole c = question_at c (whole_outcome whole c) whole.question
-
--- A judge knows a world, over a universe: the universe is its own, and each whole choice has the
--- outcome that its label set has in the world.
-pub record KnowsWorld (whole : Whole) (u : List Label) (w : World) : Type 0 where
-  pub universe : whole_universe whole ≡ u
-  pub outcome : (c : List ℕ) → IsWhole (sizes u) c
-      → whole_outcome whole c ≡ world_outcome w (label_set_of u c)
+whole_truth whole c = truth_by rows_verdict c whole.judged Must
 
 -- The verdict where nothing is known of a prefix that is not whole.
 abbrev pub verdict_when_whole : List ℕ → (List ℕ → Bool) → List ℕ → Verdict

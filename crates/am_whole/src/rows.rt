@@ -1,62 +1,155 @@
 //! The rows of a list of matchers.
 
-ghost use Rattle.std.specs.Prelude.{◌≡◌, ℕ, List, IfOk};
-ghost use Rattle.am_labels.specs.Words.{sizes, IsWhole, label_set_of, all_hold};
-ghost use Rattle.am_files.specs.Words.{names_of};
-ghost use Rattle.am_eval.specs.Words.{have_equal};
-ghost use Rattle.am_whole.specs.Words.{rows_hold_at};
+ghost use Rattle.std.specs.Prelude.{◌≡◌, length, All, IfOk};
+ghost use Rattle.am_labels.specs.Words.{row_holds};
+ghost use Rattle.am_whole.specs.RowsView.{IsRow, all_hold_at, rows_hold_at};
 
-use am_labels::{Choice, LabelSet, Matchers, Row, Universe};
+use am_labels::{Choice, Row, Universe};
+use am_masks::JudgedList;
+use am_search::Verdict;
 use am_universe::limits::MAX_LABELS;
 use std::alloc::{AllocError, Global};
+use std::marker::Model;
 
-/// Rows over the labels of a universe, all of which a choice has to satisfy.
+/// A copy of a row: the truth of a matcher on each value of its label.
+#[derive(Drop)]
+struct KeptRow {
+    label: Option<usize>,
+    truths: Vec<bool>,
+}
+
+impl Model for KeptRow {
+    ghost use Rattle.am_labels.specs.Row.{TruthRow};
+
+    ghost Value = { TruthRow };
+
+    ghost view = { λ r. record { label = r.label; truths = r.truths.items } };
+}
+
+impl KeptRow {
+    /// A copy of a row of a matcher over the labels of a universe. An `Err` only where memory was
+    /// refused.
+    fn of(alloc: Global, universe: &Universe, row: &Row) -> Result<KeptRow, AllocError>
+        requires { IsRow universe.now row.now }
+        ensures same { IfOk result (λ kept. kept ≡ row.now) }
+    {
+        let count = truth_count(universe, row);
+        let mut truths = Vec::with_capacity(alloc, count)?;
+        for j in 0..count {
+            truths.push(row.holds(j))?;
+        }
+        Ok(KeptRow {
+            label: row.label(),
+            truths,
+        })
+    }
+
+    /// Whether the matcher is true on the value that a choice gives to its label.
+    fn holds_at(&self, choice: &Choice) -> bool
+        ensures truth { result ≡ row_holds self.now choice.now }
+    {
+        let j = match self.label {
+            Some(i) if i < choice.len() => usize::from(choice.get(i)),
+            Some(_) => return false,
+            None => 0,
+        };
+        j < self.truths.len() && self.truths[j]
+    }
+}
+
+/// The rows of a list of matchers, in the two parts in which they come. A whole choice has to
+/// satisfy each of them; of a prefix that is not whole they say nothing.
 #[derive(Drop)]
 pub struct Rows {
-    rows: Vec<Row>,
+    rows: Vec<KeptRow>,
+    more: Vec<KeptRow>,
 }
 
 impl Rows {
-    /// The rows of some matchers: they hold at a whole choice where its label set matches these. An
-    /// `Err` only where memory was refused.
-    pub fn of(alloc: Global, universe: &Universe, matchers: &Matchers) -> Result<Rows, AllocError>
-        ensures truth { IfOk result (λ rows. (c : List ℕ) → IsWhole (sizes universe.now) c
-            → rows_hold_at rows c ≡ all_hold (label_set_of universe.now c) matchers.now) }
-    {
-        // What `len` promises tells the proof that the names of the labels are distinct.
-        prove!(universe.len() <= MAX_LABELS);
-        let mut rows = Vec::with_capacity(alloc, matchers.len())?;
-        for i in 0..matchers.len() {
-            rows.push(matchers.get(i).row(alloc, universe)?)?;
-        }
-        Ok(Rows { rows })
-    }
-
-    /// Rows that hold at a whole choice where its label set and an alert have the same values for
-    /// these labels. An `Err` only where memory was refused.
-    pub fn of_equal(
-        alloc: Global,
-        universe: &Universe,
-        names: &[String],
-        alert: &LabelSet,
-    ) -> Result<Rows, AllocError>
-        ensures truth { IfOk result (λ rows. (c : List ℕ) → IsWhole (sizes universe.now) c
-            → rows_hold_at rows c
-            ≡ have_equal (names_of names.now) alert.now (label_set_of universe.now c)) }
-    {
-        // What `len` promises tells the proof that the names of the labels are distinct.
-        prove!(universe.len() <= MAX_LABELS);
-        let mut rows = Vec::with_capacity(alloc, names.len())?;
-        for name in names {
-            rows.push(Row::of_value(alloc, universe, name.as_str(), alert.get(name))?)?;
-        }
-        Ok(Rows { rows })
-    }
-
     /// Whether every row holds at a choice.
-    pub fn hold_at(&self, choice: &Choice) -> bool
+    fn hold_at(&self, choice: &Choice) -> bool
         ensures truth { result ≡ rows_hold_at self.now choice.now }
     {
-        self.rows.iter().all(|row| row.holds_at(choice))
+        all_hold_at(&self.rows, choice) && all_hold_at(&self.more, choice)
     }
+}
+
+impl JudgedList for Rows {
+    ghost use Rattle.am_labels.specs.Words.{IsWhole};
+    ghost use Rattle.am_whole.specs.RowsView.{rows_verdict};
+
+    ghost verdict = { rows_verdict };
+
+    ghost Knows = { IsWhole };
+
+    ghost knows_whole = { λ ns c whole. whole };
+
+    fn of_rows(
+        alloc: Global,
+        universe: &Universe,
+        rows: &[Row],
+        more: &[Row],
+    ) -> Result<Rows, AllocError> {
+        // What `len` promises tells the proof that the names of the labels are distinct.
+        prove!(universe.len() <= MAX_LABELS);
+        let rows = kept_rows(alloc, universe, rows)?;
+        let more = kept_rows(alloc, universe, more)?;
+        Ok(Rows { rows, more })
+    }
+
+    fn judge(&self, prefix: &Choice) -> Verdict {
+        if self.hold_at(prefix) {
+            Verdict::Yes
+        } else {
+            Verdict::No
+        }
+    }
+
+    fn may(&self, prefix: &Choice) -> bool {
+        self.hold_at(prefix)
+    }
+
+    fn must(&self, prefix: &Choice) -> bool {
+        self.hold_at(prefix)
+    }
+
+    // The plain judge leaves nothing out.
+    fn is_never(&self) -> bool {
+        false
+    }
+
+    fn is_same(&self, _other: &Rows) -> bool {
+        false
+    }
+}
+
+/// How many truths a row of a matcher has: one for each value of its label, and one alone where the
+/// label is not declared.
+fn truth_count(universe: &Universe, row: &Row) -> usize
+    requires { IsRow universe.now row.now }
+    ensures { result ≡ length row.now.truths }
+{
+    match row.label() {
+        Some(i) => universe.size(i),
+        None => 1,
+    }
+}
+
+/// Copies of rows of matchers, in their order.
+fn kept_rows(alloc: Global, universe: &Universe, rows: &[Row]) -> Result<Vec<KeptRow>, AllocError>
+    requires { All (IsRow universe.now) rows.now }
+    ensures same { IfOk result (λ kept. kept.items ≡ rows.now) }
+{
+    let mut kept = Vec::with_capacity(alloc, rows.len())?;
+    for row in rows {
+        kept.push(KeptRow::of(alloc, universe, row)?)?;
+    }
+    Ok(kept)
+}
+
+/// Whether every one of some rows holds at a choice.
+fn all_hold_at(rows: &[KeptRow], choice: &Choice) -> bool
+    ensures truth { result ≡ all_hold_at rows.now choice.now }
+{
+    rows.iter().all(|row| row.holds_at(choice))
 }

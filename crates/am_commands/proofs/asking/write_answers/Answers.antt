@@ -1,5 +1,6 @@
 -- What is written is the page of the answers.
 use Rattle.std.proofs.Common.{◌≡◌, List, ℕ, subst, ap, ◌∙◌}
+use Rattle.am_universe.specs.Universe.{sizes}
 use Rattle.am_universe.specs.Sink.{WroteInPart}
 use Rattle.am_universe.proofs.Writing.{wrote_as}
 use Rattle.am_eval.specs.Question.{is_answer}
@@ -7,7 +8,7 @@ use Rattle.am_eval.specs.QuestionView.{question_view}
 use Rattle.am_search.specs.Page.{page_of}
 use Rattle.am_search.specs.AnswersView.{answers_left}
 use Rattle.am_search.specs.PageText.{page_text}
-use Rattle.am_whole.specs.WholeView.{whole_sizes, whole_truth}
+use Rattle.am_cubes.specs.PlanWords.{plan_sizes, plan_truth}
 use Rattle.am_commands.specs.AskOutcome.{page_of_inputs}
 use Rattle.am_commands.proofs.AskedPages.{page_of_judge}
 use Rattle.am_commands.proofs.asking.write_answers.Goals as goal
@@ -17,8 +18,8 @@ returns-in-Ok-write_page-clause-trailer g c =
     let read = c.args.accepted.now in
     let answer = is_answer read.universe read.world (question_view read.question) in
     let same : page_of (answers_left c.from-answers.result) c.args.limit ≡ page_of_inputs read c.args.limit =
-    page_of_judge read.universe (whole_sizes c.in-Ok.judge) (whole_truth c.in-Ok.judge) answer read.start
-    (answers_left c.from-answers.result) c.args.limit c.in-Ok.ensures.sizes c.in-Ok.ensures.truth c.from-answers.ensures.left in
+    page_of_judge read.universe (plan_sizes c.in-Ok.judge) (plan_truth c.in-Ok.judge) answer read.start
+    (answers_left c.from-answers.result) c.args.limit (ap sizes c.in-Ok.ensures.universe) c.in-Ok.ensures.truth c.from-answers.ensures.left in
     c.in-Ok-write_page.ensures.trailer ∙ ap (λ p. p.trailer) same
 
 pub returns-in-Ok-write_page-clause-written : goal.returns-in-Ok-write_page-clause-written
@@ -26,8 +27,8 @@ returns-in-Ok-write_page-clause-written g c =
     let read = c.args.accepted.now in
     let answer = is_answer read.universe read.world (question_view read.question) in
     let same : page_of (answers_left c.from-answers.result) c.args.limit ≡ page_of_inputs read c.args.limit =
-    page_of_judge read.universe (whole_sizes c.in-Ok.judge) (whole_truth c.in-Ok.judge) answer read.start
-    (answers_left c.from-answers.result) c.args.limit c.in-Ok.ensures.sizes c.in-Ok.ensures.truth c.from-answers.ensures.left in
+    page_of_judge read.universe (plan_sizes c.in-Ok.judge) (plan_truth c.in-Ok.judge) answer read.start
+    (answers_left c.from-answers.result) c.args.limit (ap sizes c.in-Ok.ensures.universe) c.in-Ok.ensures.truth c.from-answers.ensures.left in
     wrote_as (ap (λ u. page_text u (page_of (answers_left c.from-answers.result) c.args.limit)) c.in-Ok-of.ensures.universe ∙ ap (page_text read.universe) same)
     c.in-Ok-write_page.ensures.written.ok
 
@@ -36,8 +37,8 @@ returns-clause-write g c = λ failed.
     let read = c.args.accepted.now in
     let answer = is_answer read.universe read.world (question_view read.question) in
     let same : page_of (answers_left c.from-answers.result) c.args.limit ≡ page_of_inputs read c.args.limit =
-    page_of_judge read.universe (whole_sizes c.in-Ok.judge) (whole_truth c.in-Ok.judge) answer read.start
-    (answers_left c.from-answers.result) c.args.limit c.in-Ok.ensures.sizes c.in-Ok.ensures.truth c.from-answers.ensures.left in
+    page_of_judge read.universe (plan_sizes c.in-Ok.judge) (plan_truth c.in-Ok.judge) answer read.start
+    (answers_left c.from-answers.result) c.args.limit (ap sizes c.in-Ok.ensures.universe) c.in-Ok.ensures.truth c.from-answers.ensures.left in
     let text = ap (λ u. page_text u (page_of (answers_left c.from-answers.result) c.args.limit)) c.in-Ok-of.ensures.universe ∙ ap (page_text read.universe) same in (
       c.of-in-Err-write_page.ensures.place,
       c.of-in-Err-write_page.ensures.pointer,

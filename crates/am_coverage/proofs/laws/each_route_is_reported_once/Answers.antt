@@ -1,4 +1,5 @@
-use Rattle.am_coverage.proofs.PathLaws.{paths_exactly, paths_ascend}
+use Rattle.am_eval.proofs.RoutePathLaws.{paths_exactly}
+use Rattle.am_coverage.proofs.PathLaws.{paths_ascend}
 use Rattle.am_coverage.proofs.laws.each_route_is_reported_once.Goals as goal
 
 pub returns : goal.returns

@@ -1,9 +1,10 @@
-use Rattle.std.proofs.Common.{[], ◌∷◌, ◌++◌, ap, ◌∙◌, refl, subst, sym, zero-add}
+use Rattle.std.proofs.Common.{◌≡◌, [], ◌∷◌, ◌++◌, ap, ◌∙◌, refl, subst, sym, zero-add}
 use Rattle.std.specs.List.{AllByRecursion}
 use Rattle.std.proofs.lemmas.List.FromFn.{map-range_with_len_more}
 use Rattle.am_universe.specs.Universe.{sizes}
 use Rattle.am_universe.proofs.DistinctLists.{all_push}
 use Rattle.am_coverage.specs.Coverage.{receiver_coverage}
+use Rattle.am_cubes.specs.PlanWords.{plan_world}
 use Rattle.am_coverage.specs.CoverageView.{IsShownReceiver}
 use Rattle.am_coverage.proofs.receiver_coverage.receivers_covered.Goals as goal
 
@@ -13,9 +14,13 @@ loop-receiver-preserved c =
     let w = c.args.world.now in
     let i = c.loop-receiver.receiver in
     let coverage = c.in_ok-coverage_of.field-0 in
-    let is = c.in_ok-coverage_of.ensures.coverage u w c.in_ok-tables.ensures.world in
+    let plan = c.in_ok-plan.plan in
+    let is : coverage ≡ receiver_coverage u w.config i =
+    c.in_ok-coverage_of.ensures.coverage
+    ∙ ap (λ v. receiver_coverage v (plan_world plan).config i) c.in_ok-plan.ensures.universe
+    ∙ ap (λ v. receiver_coverage u v.config i) c.in_ok-plan.ensures.world in
     let reached : IsShownReceiver (sizes u) coverage =
-    subst (λ sizes. IsShownReceiver sizes coverage) c.in_ok-tables.ensures.sizes
+    subst (λ v. IsShownReceiver (sizes v) coverage) c.in_ok-plan.ensures.universe
     c.in_ok-coverage_of.ensures.shown in
     record {
       receivers = c.in_ok-push.ensures.items

@@ -1,7 +1,7 @@
 use Rattle.std.proofs.Common.{◌≡◌, map, refl, ◌∙◌}
 use Rattle.std.proofs.lemmas.List.{map-id}
 use Rattle.am_files.specs.ConfigView.{config_view}
-use Rattle.am_coverage.specs.Coverage.{paths_of}
+use Rattle.am_eval.specs.RoutePaths.{paths_of}
 use Rattle.am_coverage.proofs.route_paths.paths_of.Goals as goal
 
 pub returns : goal.returns

@@ -1,0 +1,19 @@
+use Rattle.am_whole.proofs.RowMeaning.{are_rows, verdict_of_rows}
+use Rattle.am_whole.proofs.rows.RowsJudgedList.of_rows.Goals as goal
+
+pub kept_rows-requires : goal.kept_rows-requires
+kept_rows-requires c =
+    (are_rows c.args.universe.now c.requires.rows.0 c.args.rows.now c.args.more.now
+    c.requires.rows.1).0
+
+pub kept_rows-requires-2 : goal.kept_rows-requires-2
+kept_rows-requires-2 c =
+    (are_rows c.args.universe.now c.requires.rows.0 c.args.rows.now c.args.more.now
+    c.requires.rows.1).1
+
+pub returns : goal.returns
+returns c = record {
+  exact = λ ms same prefix whole. verdict_of_rows c.args.universe.now ms c.args.rows.now
+      c.args.more.now c.in_ok-rows.rows.items c.in_ok-more.more.items prefix
+      c.len.ensures.universe whole same c.in_ok-rows.ensures.same c.in_ok-more.ensures.same;
+}
