@@ -1,16 +1,13 @@
 //! Cubes: what a list of matchers is known to be at a prefix, and counted over its completions.
 
+use crate::completions::{completion, count_completions, verdict_of_count};
 use crate::positions::prefix_of;
 use am_case_files::Problem;
 use am_labels::Matchers;
 use am_masks::Cube;
 use am_search::Verdict;
-use am_universe::limits::MAX_POSITIONS;
 use am_universe::{Choice, Universe, set_of};
 use std::alloc::Global;
-
-/// The most completions that are counted.
-const MOST_COUNTED: usize = 100_000;
 
 /// The verdict of a list's cube at the prefix of these positions. It has to be what the completions
 /// come to, one by one; of more than are counted it is said that they are not.
@@ -78,39 +75,7 @@ fn counted(
             matched = matched.saturating_add(1);
         }
     }
-    Ok(Some(if matched == count {
-        Verdict::Yes
-    } else if matched == 0 {
-        Verdict::No
-    } else {
-        Verdict::Open
-    }))
-}
-
-/// How many completions a prefix has, unless there are more than are counted.
-fn count_completions(universe: &Universe, prefix: &Choice) -> Option<usize> {
-    let mut count = 1_usize;
-    for i in prefix.len()..universe.len() {
-        count = count.checked_mul(universe.size(i))?;
-        if count > MOST_COUNTED {
-            return None;
-        }
-    }
-    Some(count)
-}
-
-/// The completion of a prefix that has this number: each number below their count has another.
-fn completion(universe: &Universe, prefix: &Choice, number: usize) -> Choice {
-    let mut choice = *prefix;
-    let mut rest = number;
-    for i in prefix.len()..universe.len() {
-        let size = universe.size(i);
-        if choice.len() < MAX_POSITIONS {
-            choice.push((rest % size) as u8);
-        }
-        rest /= size;
-    }
-    choice
+    Ok(Some(verdict_of_count(matched, count)))
 }
 
 /// Whether the label set of a whole choice matches a list.

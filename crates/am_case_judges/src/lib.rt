@@ -6,12 +6,16 @@
 //! which choices were given and which prefixes were judged for it. For every start at once it
 //! compares that with the rule by which a search goes, applied to the list of all prefixes.
 //! [`cube_text`] says what the cube of a list of matchers is known to be at a prefix, and counts it
-//! over the completions. Nothing here knows configurations, so it is proved beside the crates that
-//! the program `am_cases` waits for.
+//! over the completions. [`compare`] searches over two judges from every start there is, which has
+//! to give the same. Nothing here knows configurations, so it is proved beside the crates that the
+//! program `am_cases` waits for.
 #![tactic(auto)]
 
 // The positions of choices and prefixes, as a text.
 mod positions;
+// All prefixes, and the completions of one.
+mod completions;
+mod prefixes;
 // The judge, and how it is written.
 mod judge_text;
 mod written;
@@ -22,6 +26,10 @@ mod search;
 // What a cube is known to be at a prefix.
 mod cube;
 
+// Two judges that are to say the same.
+mod alike;
+
+pub use alike::{Alike, check_verdict, compare, compare_verdicts, counted_verdict, verdict_at};
 pub use cube::{cube_text, verdict_text};
 pub use positions::{add_positions, prefix_of};
 pub use search::search_text;

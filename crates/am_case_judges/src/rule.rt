@@ -4,10 +4,11 @@
 //! a start on, those prefixes are judged whose proper prefixes are all `Open`, and with which a
 //! choice from the start on begins. The true choices from the start on are given.
 
+use crate::prefixes::prefixes_of;
 use crate::written::{Written, begins_with};
 use am_case_files::Problem;
 use am_search::Verdict;
-use am_universe::{Choice, Universe};
+use am_universe::Choice;
 use std::alloc::{AllocError, Global};
 
 /// The most prefixes of which all starts are tried.
@@ -27,7 +28,7 @@ pub struct Place {
 
 /// All prefixes, in the order of a dictionary.
 pub fn places_of(alloc: Global, judge: &Written<'_>) -> Result<Vec<Place>, Problem> {
-    let prefixes = prefixes_of(alloc, judge.universe())?;
+    let prefixes = prefixes_of(alloc, judge.universe(), MOST_PLACES)?;
     let mut places = Vec::with_capacity(alloc, prefixes.len())?;
     for prefix in &prefixes {
         places.push(Place {
@@ -85,36 +86,4 @@ pub fn judged_from(
         }
     }
     Ok(prefixes)
-}
-
-/// The prefixes of a universe's choices, in the order of a dictionary.
-fn prefixes_of(alloc: Global, universe: &Universe) -> Result<Vec<Choice>, Problem> {
-    let mut prefixes = Vec::new(alloc);
-    let mut next = Some(Choice::empty());
-    for _ in 0..MOST_PLACES {
-        let Some(prefix) = next else {
-            return Ok(prefixes);
-        };
-        prefixes.push(prefix)?;
-        next = prefix_after(universe, prefix);
-    }
-    Err(Problem::said(alloc, "more prefixes than all starts are tried of"))
-}
-
-/// The prefix that follows in the order of a dictionary, if there is one.
-fn prefix_after(universe: &Universe, prefix: Choice) -> Option<Choice> {
-    let mut next = prefix;
-    if next.len() < universe.len() {
-        next.push(0);
-        return Some(next);
-    }
-    for _ in 0..prefix.len() {
-        let position = next.pop()?.saturating_add(1);
-        let i = next.len();
-        if i < universe.len() && usize::from(position) < universe.size(i) {
-            next.push(position);
-            return Some(next);
-        }
-    }
-    None
 }

@@ -6,6 +6,7 @@ ghost use Rattle.am_search.specs.Words.{AreSizes, IsStart};
 ghost use Rattle.am_case_judges.specs.Fronts.{begins, begins_with_one, one_begins_with, is_closed};
 ghost use Rattle.std.proofs.Props.{props};
 
+use crate::prefixes::start_of;
 use am_case_files::Problem;
 use am_search::{Judge, Start, Verdict};
 use am_universe::limits::MAX_LABELS;
@@ -79,17 +80,7 @@ impl<'u> Written<'u> {
     pub fn start(&self, prefix: Choice, is_after: bool) -> Option<Start>
         ensures { IfSome result (IsStart (written_sizes self.now)) }
     {
-        if !self.universe.admits(&prefix) {
-            return None;
-        }
-        if !is_after {
-            return Some(Start::At(prefix));
-        }
-        if prefix.len() == self.universe.len() {
-            Some(Start::After(prefix))
-        } else {
-            None
-        }
+        start_of(self.universe, prefix, is_after)
     }
 
     /// The universe of its choices.

@@ -4,10 +4,11 @@ ghost use Rattle.std.specs.Prelude.{◌≡◌, Some, IfSome, length, slice_get};
 ghost use Rattle.am_universe.specs.Universe.{sizes};
 
 use crate::alerts::of_alerts;
+use crate::judges::{of_alike, of_first, of_generated, of_judge};
 use crate::pages::of_ask;
 use crate::reports::{Report, of_report};
 use crate::silences::{of_instant, of_silences};
-use crate::starts::{of_cube, of_first, of_judge, of_search, of_token};
+use crate::starts::{of_cube, of_search, of_token};
 use crate::trees::config_text;
 use crate::worlds::{of_explain, of_inhibited, of_pairs, of_silenced};
 use am_case_files::{Problem, split_at_first, split_at_last, utf8};
@@ -39,6 +40,8 @@ pub enum Call {
     Ends,
     Judge,
     First,
+    Alike,
+    Generated,
     Cube,
     Search,
     Token,
@@ -102,6 +105,8 @@ pub fn call_named(name: &[u8]) -> Option<Call> {
         b"ends" => Some(Call::Ends),
         b"judge" => Some(Call::Judge),
         b"first" => Some(Call::First),
+        b"alike" => Some(Call::Alike),
+        b"generated" => Some(Call::Generated),
         b"cube" => Some(Call::Cube),
         b"search" => Some(Call::Search),
         b"token" => Some(Call::Token),
@@ -139,7 +144,9 @@ pub fn given(
         Call::Row => of_row(alloc, over.universe, utf8(alloc, text)?),
         Call::Ends => of_ends(alloc, over.with.unwrap_or(b""), utf8(alloc, text)?),
         Call::Judge => of_judge(alloc, over, text),
-        Call::First => of_first(alloc, over, utf8(alloc, text)?),
+        Call::First => of_first(alloc, over, text),
+        Call::Alike => of_alike(alloc, over, text),
+        Call::Generated => of_generated(alloc, text),
         Call::Cube => of_cube(alloc, over.universe, text),
         Call::Search => of_search(alloc, over.universe, text),
         Call::Token => of_token(alloc, over.universe, utf8(alloc, text)?),

@@ -13,6 +13,7 @@ mod shelf;
 mod alerts;
 mod calls;
 mod commands;
+mod judges;
 mod pages;
 mod reports;
 mod script;

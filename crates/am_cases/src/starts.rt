@@ -1,15 +1,11 @@
-//! The search: what it gives of tokens, judges and cubes, as a text.
+//! The search: what it gives of tokens, cubes and judges that are written in a case, as a text.
 
-use crate::calls::{Over, fault_behind, refused, told};
-use crate::worlds::world_of;
+use crate::calls::{fault_behind, refused};
 use am_case_files::{Problem, split_at_last, utf8};
-use am_case_judges::{add_positions, cube_text, prefix_of, search_text, verdict_text};
-use am_eval::{Question, World};
+use am_case_judges::{add_positions, cube_text, search_text};
 use am_files::read_universe;
-use am_labels::{Choice, Fault, Out, Place, Universe, parse_matchers};
-use am_questions::parse_question;
-use am_search::{Judge, Start, first, parse_token, write_token};
-use am_whole::Whole;
+use am_labels::{Choice, Fault, Out, Place, parse_matchers};
+use am_search::{Start, parse_token, write_token};
 use std::alloc::Global;
 
 /// The start that a token says, or the fault. The start has to have just this token.
@@ -42,48 +38,13 @@ pub fn token_of(alloc: Global, start: &Start) -> Result<Vec<u8>, Problem> {
 }
 
 /// The positions of a choice with a `.` between, if there are any, behind these words and a blank.
-fn positions_behind(alloc: Global, words: &str, choice: &Choice) -> Result<Vec<u8>, Problem> {
+pub fn positions_behind(alloc: Global, words: &str, choice: &Choice) -> Result<Vec<u8>, Problem> {
     let mut text = String::from_str(alloc, words)?;
     if !choice.is_empty() {
         text.push(' ')?;
         add_positions(alloc, choice, &mut text)?;
     }
     Ok(text.into_bytes())
-}
-
-/// A question, and what it is about.
-#[derive(Drop)]
-struct Inputs {
-    universe: Universe,
-    world: World,
-    question: Question,
-}
-
-fn inputs_of(alloc: Global, over: Over<'_>, question: &str) -> Result<Inputs, Fault> {
-    let universe = read_universe(alloc, over.universe)?;
-    let world = world_of(alloc, &over.files(None))?;
-    match parse_question(alloc, question, world.config()) {
-        Ok(question) => Ok(Inputs {
-            universe,
-            world,
-            question,
-        }),
-        Err(kind) => Err(Fault::of(alloc, kind, Place::Question)),
-    }
-}
-
-/// What the judge of a question says of a prefix, or the fault.
-pub fn of_judge(alloc: Global, over: Over<'_>, text: &[u8]) -> Result<Vec<u8>, Problem> {
-    let Some((question, positions)) = split_at_last(text, b" on ") else {
-        return Err(Problem::said(alloc, "a question, ` on ` and positions are wanted"));
-    };
-    let inputs = match inputs_of(alloc, over, utf8(alloc, question)?) {
-        Ok(inputs) => inputs,
-        Err(fault) => return fault_behind(alloc, b"", &fault),
-    };
-    let prefix = prefix_of(alloc, &inputs.universe, utf8(alloc, positions)?)?;
-    let judge = Whole::new(alloc, &inputs.universe, &inputs.world, &inputs.question)?;
-    told(alloc, verdict_text(judge.judge(&prefix)))
 }
 
 /// What the cube of a list is known to be at a prefix.
@@ -106,18 +67,5 @@ pub fn of_search(alloc: Global, universe: &[u8], text: &[u8]) -> Result<Vec<u8>,
     match read_universe(alloc, universe) {
         Ok(universe) => search_text(alloc, &universe, text),
         Err(fault) => fault_behind(alloc, b"", &fault),
-    }
-}
-
-/// The positions of the first choice of which a question is true, or the fault.
-pub fn of_first(alloc: Global, over: Over<'_>, question: &str) -> Result<Vec<u8>, Problem> {
-    let inputs = match inputs_of(alloc, over, question) {
-        Ok(inputs) => inputs,
-        Err(fault) => return fault_behind(alloc, b"", &fault),
-    };
-    let judge = Whole::new(alloc, &inputs.universe, &inputs.world, &inputs.question)?;
-    match first(&judge) {
-        Some(choice) => positions_behind(alloc, "ok:", &choice),
-        None => told(alloc, "none"),
     }
 }

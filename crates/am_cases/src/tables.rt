@@ -3,7 +3,7 @@
 use crate::calls::{Call, Over, call_named, given};
 use crate::pages::{Asked, all_lines, check_pages, count_lines, write_asked};
 use crate::reports::{Report, write_report};
-use crate::worlds::set_and_instant;
+use crate::worlds::text_and_instant;
 use am_case_files::{
     Line, Manner, Named, Problem, Stop, Tally, Writer, filled, split_at_first, split_at_last,
 };
@@ -443,7 +443,7 @@ fn fault_over(
         Call::Dead => Ok(write_report(alloc, Report::Routes, over, text, out).err()),
         Call::Receivers => Ok(write_report(alloc, Report::Receivers, over, text, out).err()),
         Call::Explain => {
-            let (set, at) = set_and_instant(alloc, text)?;
+            let (set, at) = text_and_instant(alloc, text)?;
             Ok(explain(alloc, &over.files(at), set, out).err())
         }
         _ => Err(Problem::said(alloc, "this table writes to no writer")),

@@ -8,10 +8,10 @@ use am_files::{Alerts, Silences, parse_instant, read_alerts, read_config, read_s
 use am_labels::{Fault, Kind, LabelSet, Out, Place, parse_set};
 use std::alloc::{AllocError, Global};
 
-/// The text of a label set, and that of the instant that stands behind it, if one does.
-pub fn set_and_instant(alloc: Global, text: &[u8]) -> Result<(&str, Option<&str>), Problem> {
+/// A text, and that of the instant that stands behind it, if one does.
+pub fn text_and_instant(alloc: Global, text: &[u8]) -> Result<(&str, Option<&str>), Problem> {
     match split_at_last(text, b" at ") {
-        Some((set, at)) => Ok((utf8(alloc, set)?, Some(utf8(alloc, at)?))),
+        Some((text, at)) => Ok((utf8(alloc, text)?, Some(utf8(alloc, at)?))),
         None => Ok((utf8(alloc, text)?, None)),
     }
 }
@@ -39,7 +39,7 @@ pub fn world_of(alloc: Global, files: &Files<'_>) -> Result<World, Fault> {
 
 /// Which silences of an export are active, and which of them hide a label set.
 pub fn of_silenced<'a>(alloc: Global, file: &'a [u8], text: &'a [u8]) -> Result<Vec<u8>, Problem> {
-    let (set, at) = set_and_instant(alloc, text)?;
+    let (set, at) = text_and_instant(alloc, text)?;
     let files = Files {
         config: None,
         silences: Some(file),
@@ -143,7 +143,7 @@ fn inhibited_text(alloc: Global, inhibitors: &[(usize, usize)]) -> Result<Vec<u8
 
 /// Why a label set goes where it goes, the lines with a blank between, or the fault.
 pub fn of_explain(alloc: Global, over: Over<'_>, text: &[u8]) -> Result<Vec<u8>, Problem> {
-    let (set, at) = set_and_instant(alloc, text)?;
+    let (set, at) = text_and_instant(alloc, text)?;
     let mut out = Out::new(told(alloc, "ok: ")?);
     match explain(alloc, &over.files(at), set, &mut out) {
         Ok(()) => Ok(on_one_line(out.into_inner())),

@@ -1,0 +1,212 @@
+//! Two judges of one question, compared.
+
+ghost use Rattle.std.specs.Prelude.{◌≡◌};
+ghost use Rattle.am_universe.specs.Words.{sizes};
+
+use crate::completions::{completion, count_completions, verdict_of_count};
+use crate::cube::verdict_text;
+use crate::positions::add_positions;
+use crate::prefixes::{prefixes_of, start_of};
+use am_case_files::Problem;
+use am_search::{Answers, Judge, Verdict};
+use am_universe::{Choice, Universe};
+use std::alloc::{AllocError, Global};
+
+/// More prefixes than there are where all starts are tried.
+const MOST_PREFIXES: usize = 1_000;
+
+/// More choices than there are then.
+const MOST_CHOICES: usize = 1_000;
+
+/// What two judges that are alike came to.
+#[derive(Clone, Copy)]
+pub struct Alike {
+    /// How many starts there are.
+    pub starts: usize,
+    /// How many choices are given from all of them.
+    pub items: usize,
+    /// How many choices are true, and how many there are.
+    pub answers: usize,
+    pub choices: usize,
+}
+
+/// Compares what is given over two judges of a universe, one choice after the other, from every
+/// start: at each prefix, and after each whole choice.
+pub fn compare<J: Judge, K: Judge>(
+    alloc: Global,
+    universe: &Universe,
+    one: &J,
+    other: &K,
+) -> Result<Alike, Problem>
+    requires one { J.sizes one.now ≡ sizes universe.now }
+    requires other { K.sizes other.now ≡ sizes universe.now }
+{
+    let mut alike = Alike {
+        starts: 0,
+        items: 0,
+        answers: 0,
+        choices: 0,
+    };
+    for prefix in &prefixes_of(alloc, universe, MOST_PREFIXES)? {
+        let items = compare_at(alloc, universe, one, other, prefix, false)?;
+        add_start(items, &mut alike);
+        if prefix.is_empty() {
+            alike.answers = items;
+        }
+        if prefix.len() == universe.len() {
+            let items = compare_at(alloc, universe, one, other, prefix, true)?;
+            add_start(items, &mut alike);
+            alike.choices = alike.choices.saturating_add(1);
+        }
+    }
+    Ok(alike)
+}
+
+fn add_start(items: usize, alike: &mut Alike) {
+    alike.starts = alike.starts.saturating_add(1);
+    alike.items = alike.items.saturating_add(items);
+}
+
+/// Compares what is given from a start on: at a prefix, or after a whole choice. It answers how
+/// much that is.
+fn compare_at<J: Judge, K: Judge>(
+    alloc: Global,
+    universe: &Universe,
+    one: &J,
+    other: &K,
+    prefix: &Choice,
+    is_after: bool,
+) -> Result<usize, Problem>
+    requires one { J.sizes one.now ≡ sizes universe.now }
+    requires other { K.sizes other.now ≡ sizes universe.now }
+{
+    let found = given_from(alloc, universe, one, prefix, is_after)?;
+    let wanted = given_from(alloc, universe, other, prefix, is_after)?;
+    if found == wanted {
+        return Ok(found.len());
+    }
+    let part = start_text(alloc, prefix, is_after)?;
+    let wanted = choices_text(alloc, wanted.as_slice())?;
+    let found = choices_text(alloc, found.as_slice())?;
+    Err(Problem::differs(alloc, part.as_str(), wanted.as_bytes(), found.as_bytes()))
+}
+
+fn start_text(alloc: Global, prefix: &Choice, is_after: bool) -> Result<String, AllocError> {
+    let part = if is_after {
+        "given after "
+    } else {
+        "given at "
+    };
+    let mut text = String::from_str(alloc, part)?;
+    add_positions(alloc, prefix, &mut text)?;
+    Ok(text)
+}
+
+/// What is given over a judge from a start on.
+fn given_from<J: Judge>(
+    alloc: Global,
+    universe: &Universe,
+    judge: &J,
+    prefix: &Choice,
+    is_after: bool,
+) -> Result<Vec<Choice>, Problem>
+    requires { J.sizes judge.now ≡ sizes universe.now }
+{
+    let Some(start) = start_of(universe, *prefix, is_after) else {
+        return Err(Problem::said(alloc, "no start"));
+    };
+    let mut given = Vec::new(alloc);
+    let mut answers = Answers::from(judge, start);
+    for _ in 0..MOST_CHOICES {
+        match next_of(&mut answers) {
+            Some(choice) => given.push(choice)?,
+            None => return Ok(given),
+        }
+    }
+    Err(Problem::said(alloc, "more answers than there are choices"))
+}
+
+fn next_of<J: Judge>(answers: &mut Answers<'_, J>) -> Option<Choice> {
+    answers.next()
+}
+
+fn choices_text(alloc: Global, choices: &[Choice]) -> Result<String, AllocError> {
+    let mut text = String::new(alloc);
+    for (i, choice) in choices.iter().enumerate() {
+        if i > 0 {
+            text.push(' ')?;
+        }
+        add_positions(alloc, choice, &mut text)?;
+    }
+    Ok(text)
+}
+
+/// Compares what two judges say of every prefix.
+pub fn compare_verdicts<J: Judge, K: Judge>(
+    alloc: Global,
+    universe: &Universe,
+    one: &J,
+    other: &K,
+) -> Result<(), Problem>
+    requires one { J.sizes one.now ≡ sizes universe.now }
+    requires other { K.sizes other.now ≡ sizes universe.now }
+{
+    for prefix in &prefixes_of(alloc, universe, MOST_PREFIXES)? {
+        let found = verdict_at(alloc, universe, one, prefix)?;
+        let wanted = verdict_at(alloc, universe, other, prefix)?;
+        check_verdict(alloc, "judged", wanted, found)?;
+    }
+    Ok(())
+}
+
+/// What a judge says of a prefix.
+pub fn verdict_at<J: Judge>(
+    alloc: Global,
+    universe: &Universe,
+    judge: &J,
+    prefix: &Choice,
+) -> Result<Verdict, Problem>
+    requires { J.sizes judge.now ≡ sizes universe.now }
+{
+    if !universe.admits(prefix) {
+        return Err(Problem::said(alloc, "no prefix of the universe"));
+    }
+    Ok(judge.judge(prefix))
+}
+
+/// What the completions of a prefix come to by a judge, one by one; `None` where they are too many
+/// to count.
+pub fn counted_verdict<J: Judge>(
+    alloc: Global,
+    universe: &Universe,
+    judge: &J,
+    prefix: &Choice,
+) -> Result<Option<Verdict>, Problem>
+    requires { J.sizes judge.now ≡ sizes universe.now }
+{
+    let Some(count) = count_completions(universe, prefix) else {
+        return Ok(None);
+    };
+    let mut matched = 0_usize;
+    for number in 0..count {
+        let choice = completion(universe, prefix, number);
+        if verdict_at(alloc, universe, judge, &choice)? == Verdict::Yes {
+            matched = matched.saturating_add(1);
+        }
+    }
+    Ok(Some(verdict_of_count(matched, count)))
+}
+
+/// Whether a verdict is the one that is wanted; the words say of what it is.
+pub fn check_verdict(
+    alloc: Global,
+    words: &str,
+    wanted: Verdict,
+    found: Verdict,
+) -> Result<(), Problem> {
+    if found == wanted {
+        return Ok(());
+    }
+    let (wanted, found) = (verdict_text(wanted), verdict_text(found));
+    Err(Problem::differs(alloc, words, wanted.as_bytes(), found.as_bytes()))
+}

@@ -1,0 +1,45 @@
+//! The completions of a prefix, one after the other.
+
+use am_search::Verdict;
+use am_universe::limits::MAX_POSITIONS;
+use am_universe::{Choice, Universe};
+
+/// The most completions that are counted.
+const MOST_COUNTED: usize = 100_000;
+
+/// How many completions a prefix has, unless there are more than are counted.
+pub fn count_completions(universe: &Universe, prefix: &Choice) -> Option<usize> {
+    let mut count = 1_usize;
+    for i in prefix.len()..universe.len() {
+        count = count.checked_mul(universe.size(i))?;
+        if count > MOST_COUNTED {
+            return None;
+        }
+    }
+    Some(count)
+}
+
+/// The completion of a prefix that has this number: each number below their count has another.
+pub fn completion(universe: &Universe, prefix: &Choice, number: usize) -> Choice {
+    let mut choice = *prefix;
+    let mut rest = number;
+    for i in prefix.len()..universe.len() {
+        let size = universe.size(i);
+        if choice.len() < MAX_POSITIONS {
+            choice.push((rest % size) as u8);
+        }
+        rest /= size;
+    }
+    choice
+}
+
+/// The verdict where so many of all completions are true.
+pub fn verdict_of_count(matched: usize, count: usize) -> Verdict {
+    if matched == count {
+        Verdict::Yes
+    } else if matched == 0 {
+        Verdict::No
+    } else {
+        Verdict::Open
+    }
+}

@@ -1,0 +1,274 @@
+//! Judges: what the plan of a question says, beside the judge that looks at whole choices.
+
+use crate::calls::{Over, fault_behind, told};
+use crate::starts::positions_behind;
+use crate::worlds::text_and_instant;
+use am_case_files::{Problem, SmallWorld, split_at_first, split_at_last, utf8, world_of_seed};
+use am_case_judges::{
+    Alike, check_verdict, compare, compare_verdicts, counted_verdict, prefix_of, verdict_at,
+    verdict_text,
+};
+use am_commands::Files;
+use am_cubes::Plan;
+use am_eval::Question;
+use am_files::Path;
+use am_labels::{Choice, Fault, Kind};
+use am_questions::{AcceptedInputs, parse_question, read_inputs};
+use am_search::{Page, Verdict, first};
+use am_whole::Whole;
+use std::alloc::Global;
+
+/// Questions out of whose plans others are made: about nothing that a world has, and about all.
+const OTHERS: [&str; 2] = ["any", "ends / or silenced or inhibited"];
+
+/// The position of a child that no route has.
+const ABSENT: u16 = u16::MAX;
+
+/// All answers.
+const ALL: Page<'static> = Page {
+    after: None,
+    limit: None,
+};
+
+/// Why nothing is asked.
+#[derive(Drop)]
+enum Asking {
+    /// The text is none of a case.
+    Wrong(Problem),
+    /// The inputs are refused.
+    Refused(Fault),
+}
+
+impl From<Problem> for Asking {
+    fn from(problem: Problem) -> Asking {
+        Asking::Wrong(problem)
+    }
+}
+
+impl From<Fault> for Asking {
+    fn from(fault: Fault) -> Asking {
+        Asking::Refused(fault)
+    }
+}
+
+/// What is asked: a question, and behind it ` at ` and an instant, if one is given.
+fn inputs_of(alloc: Global, over: Over<'_>, text: &[u8]) -> Result<AcceptedInputs, Asking> {
+    let (question, at) = text_and_instant(alloc, text)?;
+    let files = over.files(at);
+    Ok(read_inputs(alloc, over.universe, &files, question, &ALL)?)
+}
+
+/// What a case gives where nothing is asked.
+fn unasked(alloc: Global, asking: Asking) -> Result<Vec<u8>, Problem> {
+    match asking {
+        Asking::Wrong(problem) => Err(problem),
+        Asking::Refused(fault) => fault_behind(alloc, b"", &fault),
+    }
+}
+
+/// What the plan of a question says of a prefix, or the fault.
+pub fn of_judge(alloc: Global, over: Over<'_>, text: &[u8]) -> Result<Vec<u8>, Problem> {
+    let Some((asked, positions)) = split_at_last(text, b" on ") else {
+        return Err(Problem::said(alloc, "a question, ` on ` and positions are wanted"));
+    };
+    let inputs = match inputs_of(alloc, over, asked) {
+        Ok(inputs) => inputs,
+        Err(asking) => return unasked(alloc, asking),
+    };
+    let prefix = prefix_of(alloc, &inputs.universe, utf8(alloc, positions)?)?;
+    let plan = Plan::new(alloc, &inputs.universe, &inputs.world, &inputs.question)?;
+    let verdict = verdict_at(alloc, &inputs.universe, &plan, &prefix)?;
+    check_whole(alloc, &inputs, &prefix, verdict)?;
+    check_others(alloc, &inputs, &prefix, verdict)?;
+    check_absent(alloc, &inputs, &prefix, verdict)?;
+    told(alloc, verdict_text(verdict))
+}
+
+/// Compares a verdict with the judge that looks at whole choices: at one of them it says the same.
+/// What a list in braces is known to be is all that can be known, and is counted.
+fn check_whole(
+    alloc: Global,
+    inputs: &AcceptedInputs,
+    prefix: &Choice,
+    verdict: Verdict,
+) -> Result<(), Problem> {
+    let universe = &inputs.universe;
+    let whole = Whole::new(alloc, universe, &inputs.world, &inputs.question)?;
+    if prefix.len() == universe.len() {
+        let wanted = verdict_at(alloc, universe, &whole, prefix)?;
+        check_verdict(alloc, "judged as a whole choice", wanted, verdict)?;
+    }
+    if let Question::Braces(_) = &inputs.question {
+        if let Some(wanted) = counted_verdict(alloc, universe, &whole, prefix)? {
+            check_verdict(alloc, "counted", wanted, verdict)?;
+        }
+    }
+    Ok(())
+}
+
+/// Compares a verdict with those of the plans that are made out of the plans of other questions.
+fn check_others(
+    alloc: Global,
+    inputs: &AcceptedInputs,
+    prefix: &Choice,
+    verdict: Verdict,
+) -> Result<(), Problem> {
+    for text in OTHERS {
+        let other = match parse_question(alloc, text, inputs.world.config()) {
+            Ok(other) => other,
+            Err(Kind::Memory) => return Err(Problem::Memory),
+            Err(_) => return Err(Problem::about(alloc, "no question", text.as_bytes())),
+        };
+        let plan = Plan::new(alloc, &inputs.universe, &inputs.world, &other)?;
+        let plan = plan.about(alloc, &inputs.question)?;
+        let found = verdict_at(alloc, &inputs.universe, &plan, prefix)?;
+        check_verdict(alloc, "judged by another plan", verdict, found)?;
+    }
+    Ok(())
+}
+
+/// Compares a verdict with that of a plan that is made out of one about a route that is not there.
+/// No label set ends at such a route or enters it.
+fn check_absent(
+    alloc: Global,
+    inputs: &AcceptedInputs,
+    prefix: &Choice,
+    verdict: Verdict,
+) -> Result<(), Problem> {
+    let universe = &inputs.universe;
+    let absent = Path::root().child(ABSENT);
+    let (ends, enters) = (Question::ends(absent), Question::enters(absent));
+    let plan = Plan::new(alloc, universe, &inputs.world, &ends)?;
+    let found = verdict_at(alloc, universe, &plan, prefix)?;
+    check_verdict(alloc, "`ends` of no route", Verdict::No, found)?;
+    let entering = plan.about(alloc, &enters)?;
+    let found = verdict_at(alloc, universe, &entering, prefix)?;
+    check_verdict(alloc, "`enters` of no route", Verdict::No, found)?;
+    let plan = plan.about(alloc, &inputs.question)?;
+    let found = verdict_at(alloc, universe, &plan, prefix)?;
+    check_verdict(alloc, "judged by the plan of no route", verdict, found)
+}
+
+/// The positions of the first choice of which a question is true, or the fault.
+pub fn of_first(alloc: Global, over: Over<'_>, text: &[u8]) -> Result<Vec<u8>, Problem> {
+    let inputs = match inputs_of(alloc, over, text) {
+        Ok(inputs) => inputs,
+        Err(asking) => return unasked(alloc, asking),
+    };
+    let plan = Plan::new(alloc, &inputs.universe, &inputs.world, &inputs.question)?;
+    let whole = Whole::new(alloc, &inputs.universe, &inputs.world, &inputs.question)?;
+    let found = first_text(alloc, first(&plan))?;
+    let wanted = first_text(alloc, first(&whole))?;
+    if found.as_slice() == wanted.as_slice() {
+        return Ok(found);
+    }
+    let (wanted, found) = (wanted.as_slice(), found.as_slice());
+    Err(Problem::differs(alloc, "the first of all choices", wanted, found))
+}
+
+fn first_text(alloc: Global, choice: Option<Choice>) -> Result<Vec<u8>, Problem> {
+    match choice {
+        Some(choice) => positions_behind(alloc, "ok:", &choice),
+        None => told(alloc, "none"),
+    }
+}
+
+/// How many starts there are, and how many choices are given from them, where the plan of a
+/// question and the judge that looks at whole choices give the same; or the fault.
+pub fn of_alike(alloc: Global, over: Over<'_>, text: &[u8]) -> Result<Vec<u8>, Problem> {
+    let inputs = match inputs_of(alloc, over, text) {
+        Ok(inputs) => inputs,
+        Err(asking) => return unasked(alloc, asking),
+    };
+    let alike = compared(alloc, &inputs)?;
+    let (starts, items) = (alike.starts, alike.items);
+    let text = format!(in alloc; "ok: {starts} starts, {items} items")?;
+    Ok(text.into_bytes())
+}
+
+/// Compares the plan of a question with the judge that looks at whole choices, and with the plan
+/// that is made out of that of another question.
+fn compared(alloc: Global, inputs: &AcceptedInputs) -> Result<Alike, Problem> {
+    let universe = &inputs.universe;
+    let plan = Plan::new(alloc, universe, &inputs.world, &inputs.question)?;
+    let other = Plan::new(alloc, universe, &inputs.world, &Question::Silenced)?;
+    let other = other.about(alloc, &inputs.question)?;
+    compare_verdicts(alloc, universe, &other, &plan)?;
+    let whole = Whole::new(alloc, universe, &inputs.world, &inputs.question)?;
+    compare(alloc, universe, &plan, &whole)
+}
+
+/// What the worlds of some seeds came to.
+#[derive(Clone, Copy)]
+struct Sum {
+    /// In how many of them some choices are answers, and some are not.
+    mixed: usize,
+    items: usize,
+}
+
+/// What the worlds of some seeds come to. The text is the first seed, a blank, and how many there
+/// are.
+pub fn of_generated(alloc: Global, text: &[u8]) -> Result<Vec<u8>, Problem> {
+    let (seed, count) = seeds_of(alloc, text)?;
+    let mut sum = Sum { mixed: 0, items: 0 };
+    for i in 0..count {
+        let seed = seed.wrapping_add(i);
+        match compared_at(alloc, seed) {
+            Ok(alike) => add_alike(&alike, &mut sum),
+            Err(problem) => return Err(of_seed(alloc, seed, problem)),
+        }
+    }
+    let (mixed, items) = (sum.mixed, sum.items);
+    let mut text = format!(in alloc; "ok: {count} worlds, {mixed} with some answers and not all")?;
+    let rest = format!(in alloc; ", {items} items")?;
+    text.push_str(rest.as_str())?;
+    Ok(text.into_bytes())
+}
+
+fn seeds_of(alloc: Global, text: &[u8]) -> Result<(u64, u64), Problem> {
+    if let Some((seed, count)) = split_at_first(text, b" ") {
+        let seed = utf8(alloc, seed)?.parse::<u64>().ok();
+        let count = utf8(alloc, count)?.parse::<u64>().ok();
+        if let (Some(seed), Some(count)) = (seed, count) {
+            return Ok((seed, count));
+        }
+    }
+    Err(Problem::about(alloc, "a seed and a number of worlds are wanted", text))
+}
+
+fn add_alike(alike: &Alike, sum: &mut Sum) {
+    sum.items = sum.items.saturating_add(alike.items);
+    if alike.answers > 0 && alike.answers < alike.choices {
+        sum.mixed = sum.mixed.saturating_add(1);
+    }
+}
+
+/// A problem with the seed of its world in front.
+fn of_seed(alloc: Global, seed: u64, problem: Problem) -> Problem {
+    let Problem::Said(words) = problem else {
+        return Problem::Memory;
+    };
+    match format!(in alloc; "seed {seed}: {words}") {
+        Ok(words) => Problem::Said(words),
+        Err(_) => Problem::Memory,
+    }
+}
+
+/// Compares the judges of the world of a seed, whose texts are read as those of files are.
+fn compared_at(alloc: Global, seed: u64) -> Result<Alike, Problem> {
+    let made = world_of_seed(alloc, seed)?;
+    let files = Files {
+        config: Some(made.config.as_bytes()),
+        silences: Some(made.silences.as_bytes()),
+        alerts: Some(made.alerts.as_bytes()),
+        at: Some(SmallWorld::INSTANT),
+    };
+    let universe = made.universe.as_bytes();
+    match read_inputs(alloc, universe, &files, made.question.as_str(), &ALL) {
+        Ok(inputs) => compared(alloc, &inputs),
+        Err(fault) => {
+            let fault = fault_behind(alloc, b"", &fault)?;
+            Err(Problem::about(alloc, "refused", fault.as_slice()))
+        }
+    }
+}
