@@ -1,9 +1,10 @@
 //! Matchers: their patterns, their texts, and which label sets they match.
 //!
 //! A [`Matcher`] asks something of the value of a label, and [`Matchers`] are a list of them, as
-//! Alertmanager has them. [`parse_matchers`] reads a list from a text, and [`parse_set`] a label
-//! set. [`brace_len`] says where the text of a list ends in a question. A [`Row`] is a matcher's
-//! truth on each value of its label in a [`Universe`].
+//! Alertmanager has them. [`PreparedMatchers`] decide a list on one label set after another.
+//! [`parse_matchers`] reads a list from a text, and [`parse_set`] a label set. [`brace_len`] says
+//! where the text of a list ends in a question. A [`Row`] is a matcher's truth on each value of its
+//! label in a [`Universe`].
 //!
 //! The public names of the crate `am_universe` that callers need are given again here.
 #![tactic(auto)]
@@ -25,12 +26,14 @@ mod pattern_profile;
 
 pub use op::Op;
 
-// A matcher, and a list of them.
+// A matcher, a list of them, and what decides one label set after another.
 mod matcher;
 mod matchers;
+mod prepared_matchers;
 
 pub use matcher::Matcher;
 pub use matchers::Matchers;
+pub use prepared_matchers::PreparedMatchers;
 
 // Their texts.
 mod label_set_text;

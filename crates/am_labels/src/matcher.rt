@@ -107,15 +107,6 @@ impl Matcher {
             search,
         })
     }
-
-    /// Whether the operator and the value are true of a text.
-    pub(crate) fn holds(&self, alloc: Global, text: &str) -> Result<bool, AllocError>
-        ensures { IfOk result (λ truth.
-            truth ≡ holds self.now.op self.now.value text.now) }
-    {
-        let mut prepared = self.prepare(alloc)?;
-        Ok(prepared.holds(text))
-    }
 }
 
 /// Decides a matcher on one text after another. One search of the engine serves them all; it keeps

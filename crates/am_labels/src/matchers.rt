@@ -112,12 +112,6 @@ impl Matchers {
     pub fn matches(&self, alloc: Global, set: &LabelSet) -> Result<bool, AllocError>
         ensures matched { IfOk result (λ matched. matched ≡ all_hold set.now self.now) }
     {
-        for matcher in &self.matchers {
-            let text = set.get(matcher.name());
-            if !matcher.holds(alloc, text)? {
-                return Ok(false);
-            }
-        }
-        Ok(true)
+        self.prepare(alloc).matches(alloc, set)
     }
 }

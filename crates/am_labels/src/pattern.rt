@@ -54,19 +54,20 @@ impl Pattern {
     pub(crate) fn matcher(&self, alloc: Global) -> Result<PatternMatcher<'_>, AllocError>
         ensures { IfOk result (λ m. m ≡ self.now) }
     {
+        let search = Box::new(alloc, self.regex.matcher(alloc)?)?;
         Ok(PatternMatcher {
             pattern: self,
-            matcher: self.regex.matcher(alloc)?,
+            search,
         })
     }
 }
 
 /// Searches for a pattern in one text after another. The engine keeps its caches from one to the
-/// next, and a search cannot fail.
+/// next, and a search cannot fail. What the engine keeps is large, so it is boxed.
 #[derive(Drop)]
 pub(crate) struct PatternMatcher<'p> {
     pattern: &'p Pattern,
-    matcher: regex::Matcher<'p>,
+    search: Box<regex::Matcher<'p>>,
 }
 
 impl<'p> Model for PatternMatcher<'p> {
@@ -78,7 +79,7 @@ impl<'p> Model for PatternMatcher<'p> {
 
     ghost view = { λ m. m.pattern.now };
 
-    ghost invariant = { λ m. SearchesFor (matcher_pattern m.matcher) m.pattern.now };
+    ghost invariant = { λ m. SearchesFor (matcher_pattern m.search.value) m.pattern.now };
 }
 
 impl<'p> PatternMatcher<'p> {
@@ -87,7 +88,7 @@ impl<'p> PatternMatcher<'p> {
         ensures found { result ≡ finds self.old text.now }
         ensures same { self.new ≡ self.old }
     {
-        self.matcher.is_match(text)
+        self.search.is_match(text)
     }
 }
 

@@ -1,11 +1,11 @@
 ghost use Rattle.std.specs.Prelude.{◌≡◌, ◌<◌, [], ◌∷◌, length, map, Some, IfOk, IfSome, slice_get};
-ghost use Rattle.am_labels.specs.Words.{sizes, values_at, row_of, truth_at, row_holds};
+ghost use Rattle.am_labels.specs.Words.{sizes, values_at, row_of, truth_at};
 ghost use Rattle.am_labels.specs.Words.{truth_on_value};
 ghost use Rattle.am_labels.specs.declared.op.Op.TheVariants.{Equal};
 
 use crate::Matcher;
 use crate::matcher::PreparedMatcher;
-use am_universe::{Choice, Universe};
+use am_universe::Universe;
 use std::alloc::{AllocError, Global};
 use std::marker::Model;
 
@@ -45,22 +45,6 @@ impl Row {
             Some(_) => self.truths[j],
             None => self.truths[0],
         }
-    }
-
-    /// Whether the matcher is true on the value that a choice gives to its label. A choice that has
-    /// no position for the label, or one that the label does not have, makes it false. Where the
-    /// label is not declared, the answer is the same for every choice.
-    pub fn holds_at(&self, choice: &Choice) -> bool
-        ensures truth { result ≡ row_holds self.now choice.now }
-    {
-        let Some(i) = self.label else {
-            return self.truths[0];
-        };
-        if i >= choice.len() {
-            return false;
-        }
-        let j = usize::from(choice.get(i));
-        j < self.truths.len() && self.truths[j]
     }
 
     /// The row of the matcher `name="value"`, for any name and any value. No matcher is made.
