@@ -337,7 +337,7 @@ impl Maker {
 }
 
 /// Adds a comma before each but the first of a list.
-fn add_comma(i: usize, text: &mut String) -> Result<(), AllocError> {
+pub(crate) fn add_comma(i: usize, text: &mut String) -> Result<(), AllocError> {
     if i > 0 {
         text.push(',')?;
     }
@@ -345,7 +345,7 @@ fn add_comma(i: usize, text: &mut String) -> Result<(), AllocError> {
 }
 
 /// Adds a text in quotes, those within it escaped.
-fn add_quoted(quoted: &str, text: &mut String) -> Result<(), AllocError> {
+pub(crate) fn add_quoted(quoted: &str, text: &mut String) -> Result<(), AllocError> {
     text.push('"')?;
     for letter in quoted.chars() {
         if letter == '"' {

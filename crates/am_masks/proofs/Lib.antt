@@ -6,3 +6,8 @@ pub mod RowLemmas
 pub mod CubeLemmas
 pub mod JudgeLemmas
 pub mod BuildLemmas
+pub mod SetLemmas
+pub mod BlockLemmas
+pub mod TableLemmas
+pub mod GroupLemmas
+pub mod ReasonLemmas

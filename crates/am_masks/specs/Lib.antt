@@ -4,3 +4,10 @@ pub mod Rows
 pub mod MaskView
 pub mod Cube
 pub mod CubeView
+pub mod Modality
+pub mod ListSetView
+pub mod BlockView
+pub mod Places
+pub mod TableView
+pub mod GroupView
+pub mod Reasons

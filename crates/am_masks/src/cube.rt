@@ -1,14 +1,17 @@
-ghost use Rattle.std.specs.Prelude.{◌≡◌, ◌<◌, not, IfOk, OnOk, OnErr, IsTrue};
+ghost use Rattle.std.specs.Prelude.{◌≡◌, ◌<◌, ℕ, List, map, false, not, IfOk, IfErr, OnOk, OnErr};
+ghost use Rattle.std.specs.Prelude.{IfSome, IfNone, IsTrue};
 ghost use Rattle.std.specs.List.{list_any, AllByRecursion};
 ghost use Rattle.am_masks.specs.Rows.{is_never_true, is_any_of};
-ghost use Rattle.am_masks.specs.Words.{IsCubeOf, verdict_at, is_yes, is_no};
+ghost use Rattle.am_search.specs.declared.verdict.Verdict.TheVariants.{Yes, No};
+ghost use Rattle.am_masks.specs.Words.{IsCubeOf, verdict_at, IsReason, is_yes, is_no};
 ghost use Rattle.am_masks.specs.CubeView.{restricted};
+ghost use Rattle.am_masks.specs.BlockView.{is_within, permits_position};
 
 use crate::JudgedList;
 use crate::mask::Mask;
 use crate::rows::rows_of;
 use am_labels::{Choice, Matchers, Row, Universe};
-use am_search::Verdict;
+use am_search::{Labels, Verdict};
 use am_universe::limits::MAX_LABELS;
 use std::alloc::{AllocError, Global};
 use std::marker::Model;
@@ -110,6 +113,34 @@ impl Cube {
         true
     }
 
+    /// Whether no choice is permitted.
+    pub(crate) fn is_empty(&self) -> bool
+        ensures { result ≡ self.now.empty }
+    {
+        self.empty
+    }
+
+    /// Whether the masks are all of labels among so many first ones.
+    pub(crate) fn is_within(&self, len: usize) -> bool
+        ensures { result ≡ is_within self.now len }
+    {
+        self.reach <= len
+    }
+
+    /// Whether a position of a label is permitted.
+    pub(crate) fn permits(&self, label: usize, position: usize) -> bool
+        ensures { result ≡ permits_position self.now label position }
+    {
+        self.masks
+            .iter()
+            .all(|m| m.label != label || m.mask.contains(position))
+    }
+
+    /// Whether a label has a mask.
+    pub(crate) fn has_mask_of(&self, label: usize) -> bool {
+        self.masks.iter().any(|m| m.label == label)
+    }
+
     /// What the list says of the completions of a prefix: `Yes`, the label set of each matches it;
     /// `No`, that of none does; `Open`, those of only some do. So it is at each prefix that the
     /// universe admits. It takes no memory, and looks at no label behind the prefix.
@@ -147,6 +178,44 @@ impl Cube {
         ensures verdict { result ≡ is_yes (verdict_at self.now prefix.now) }
     {
         self.reach <= prefix.len() && self.may(prefix)
+    }
+
+    /// Why the verdict at a prefix is `No`, where it is: the first label whose position is
+    /// forbidden, or no label where no choice is permitted. Whatever has the prefix's position
+    /// there is forbidden too.
+    pub fn why_not(&self, prefix: &Choice) -> Option<Labels>
+        ensures some { IfSome result (λ labels. IsReason self.now No labels prefix.now) }
+        ensures none { IfNone result (is_no (verdict_at self.now prefix.now) ≡ false) }
+    {
+        if self.empty {
+            return Some(Labels::none());
+        }
+        // The mask at `i` is of the label `i` or of one behind it.
+        let within = self.masks.len().min(prefix.len());
+        for mask in &self.masks[..within] {
+            if !mask.fits(prefix) {
+                return Some(Labels::none().with(mask.label));
+            }
+        }
+        None
+    }
+
+    /// Why the verdict at a prefix is `Yes`, where it is: all labels that have a mask. Whatever has
+    /// the prefix's positions there is permitted too.
+    pub fn why(&self, prefix: &Choice) -> Option<Labels>
+        ensures some { IfSome result (λ labels. IsReason self.now Yes labels prefix.now) }
+        ensures none { IfNone result (is_yes (verdict_at self.now prefix.now) ≡ false) }
+    {
+        // What `len` promises tells the proof that a set has room for the labels of the prefix.
+        prove!(prefix.len() <= MAX_LABELS);
+        if !self.must(prefix) {
+            return None;
+        }
+        let mut labels = Labels::none();
+        for mask in &self.masks {
+            labels = labels.with(mask.label);
+        }
+        Some(labels)
     }
 }
 
@@ -203,6 +272,15 @@ impl JudgedList for Cube {
 
     fn is_same(&self, other: &Cube) -> bool {
         self.has_masks_of(other)
+    }
+
+    fn into_cubes(lists: Vec<Cube>) -> Result<Vec<Cube>, Vec<Cube>>
+        ensures cubes { IfOk result (λ cubes. (prefix : List ℕ)
+            → map (λ cube. verdict_at cube prefix) cubes.items
+            ≡ map (λ list. verdict_at list prefix) lists.items) }
+        ensures lists { IfErr result (λ same. same.items ≡ lists.items) }
+    {
+        Ok(lists)
     }
 }
 

@@ -1,9 +1,10 @@
-ghost use Rattle.std.specs.Prelude.{◌≡◌, ◌++◌, ℕ, List, map, not, IfOk, IsTrue};
+ghost use Rattle.std.specs.Prelude.{◌≡◌, ◌++◌, ℕ, List, map, not, IfOk, IfErr, IsTrue};
 ghost use Rattle.am_labels.specs.Words.{Condition, IsWhole, sizes, row_of};
 ghost use Rattle.am_search.specs.declared.verdict.Verdict.{Verdict};
 ghost use Rattle.am_search.specs.declared.verdict.Verdict.TheVariants.{No};
-ghost use Rattle.am_masks.specs.Words.{verdict_of_list, is_yes, is_no};
+ghost use Rattle.am_masks.specs.Words.{verdict_of_list, verdict_at, is_yes, is_no};
 
+use crate::cube::Cube;
 use am_labels::{Choice, Row, Universe};
 use am_search::Verdict;
 use std::alloc::{AllocError, Global};
@@ -52,6 +53,13 @@ pub trait JudgedList: Drop {
     fn is_same(&self, other: &Self) -> bool
         ensures same { IsTrue result → (prefix : List ℕ)
             → verdict self.now prefix ≡ verdict other.now prefix };
+
+    /// The same lists as cubes, where they are cubes. Else they come back as an `Err`.
+    fn into_cubes(lists: Vec<Self>) -> Result<Vec<Cube>, Vec<Self>>
+        ensures cubes { IfOk result (λ cubes. (prefix : List ℕ)
+            → map (λ cube. verdict_at cube prefix) cubes.items
+            ≡ map (λ list. verdict list prefix) lists.items) }
+        ensures lists { IfErr result (λ same. same.items ≡ lists.items) };
 
     /// The list is known at each whole choice.
     ghost knows_whole: { (ns c : List ℕ) → IsWhole ns c → Knows ns c };

@@ -3,7 +3,8 @@
 //! A [`Cube`] is made of a list of matchers, for the labels of a universe. At a prefix of a choice
 //! it answers a `Verdict`: whether all, none or some of the label sets of the prefix's completions
 //! match the list. It looks at no completion, and takes no memory. A judge asks a [`JudgedList`],
-//! of which a cube is one: it is made of rows, which [`rows_of`] makes.
+//! of which a cube is one: it is made of rows, which [`rows_of`] makes. Many lists stand in a
+//! [`Group`], in which cubes are asked at once by a [`Table`].
 #![tactic(auto)]
 
 // The rows of matchers.
@@ -18,9 +19,21 @@ mod mask;
 // Which positions of each label are permitted.
 mod cube;
 
+// What is asked of a verdict.
+mod modality;
+
+// Many lists at once.
+mod block;
+mod group;
+mod list_set;
+mod table;
+
 pub use cube::Cube;
+pub use group::Group;
 pub use judged_list::JudgedList;
+pub use modality::Modality;
 pub use rows::rows_of;
+pub use table::Table;
 
 // What holds of the definitions by themselves.
 pub mod laws;

@@ -123,7 +123,7 @@ impl Mask {
     }
 
     /// Whether the position `j` is permitted. One for which there is no room is not.
-    fn contains(&self, j: usize) -> bool
+    pub(crate) fn contains(&self, j: usize) -> bool
         ensures { result ≡ slice_index_or self.now j false }
     {
         j < ROOM && (self.bits >> j) & 1 == 1

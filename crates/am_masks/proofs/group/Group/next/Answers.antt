@@ -1,0 +1,31 @@
+use Rattle.std.proofs.Common.{IfSome, IfNone, ap, sym, ◌∙◌, subst, length}
+use Rattle.am_masks.specs.Modality.{passes}
+use Rattle.am_masks.specs.Cube.{verdict_at}
+use Rattle.am_masks.specs.Places.{IsNext, NoneBetween}
+use Rattle.am_masks.specs.GroupView.{verdicts_in}
+use Rattle.am_masks.proofs.GroupLemmas.{if_some_next, if_none_next}
+use Rattle.am_masks.proofs.group.Group.next.Goals as goal
+
+pub returns-in-Lists-clause-some : goal.returns-in-Lists-clause-some
+returns-in-Lists-clause-some g c =
+    let V = g.L.JudgedList.verdict in
+    let prefix = c.args.prefix.now in
+    rw (c.in-Lists.is, sym c.as_slice.ensures.value)
+    (if_some_next (passes c.args.modality) (λ list. V list prefix) c.as_slice.result.now c.args.from c.next_list.result c.next_list.ensures.some)
+
+pub returns-in-Lists-clause-none : goal.returns-in-Lists-clause-none
+returns-in-Lists-clause-none g c =
+    let V = g.L.JudgedList.verdict in
+    let prefix = c.args.prefix.now in
+    rw (c.in-Lists.is, sym c.as_slice.ensures.value)
+    (if_none_next (passes c.args.modality) (λ list. V list prefix) c.as_slice.result.now c.args.from c.next_list.result c.next_list.ensures.none)
+
+pub returns-in-Cubes-clause-some : goal.returns-in-Cubes-clause-some
+returns-in-Cubes-clause-some g c =
+    rw c.in-Cubes.is
+    (if_some_next (passes c.args.modality) (λ cube. verdict_at cube c.args.prefix.now) c.in-Cubes.table c.args.from c.next.result c.next.ensures.some)
+
+pub returns-in-Cubes-clause-none : goal.returns-in-Cubes-clause-none
+returns-in-Cubes-clause-none g c =
+    rw c.in-Cubes.is
+    (if_none_next (passes c.args.modality) (λ cube. verdict_at cube c.args.prefix.now) c.in-Cubes.table c.args.from c.next.result c.next.ensures.none)
