@@ -116,7 +116,7 @@ fn given_from<J: Judge>(
         return Err(Problem::said(alloc, "no start"));
     };
     let mut given = Vec::new(alloc);
-    let mut answers = Answers::from(judge, start);
+    let mut answers = Answers::from(judge, start, None);
     for _ in 0..MOST_CHOICES {
         match next_of(&mut answers) {
             Some(choice) => given.push(choice)?,

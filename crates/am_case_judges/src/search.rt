@@ -16,10 +16,10 @@ use std::alloc::{AllocError, Global};
 const MOST_ANSWERS: usize = 1_000;
 
 /// What a search gives and judges. The text is a judge and where the search begins: ` at ` and a
-/// prefix, or ` after ` and a whole choice; or ` first`, for the first answer alone. Where
-/// ` counted` stands at the end, it is said how many prefixes are judged, and not which. Behind a
-/// judge with ` from every start` each start is compared with the rule, and how many there are is
-/// said.
+/// prefix, or ` after ` and a whole choice; or ` first`, for the first answer alone. Behind a start
+/// may stand ` steps ` and a budget. Where ` counted` stands at the end, it is said how many
+/// prefixes are judged, and not which. Behind a judge with ` from every start` each start is
+/// compared with the rule, and how many there are is said.
 pub fn search_text(alloc: Global, universe: &Universe, text: &[u8]) -> Result<Vec<u8>, Problem> {
     if let Some(judge) = text.strip_suffix(b" from every start") {
         let judge = judge_of(alloc, universe, utf8(alloc, judge)?)?;
@@ -31,19 +31,23 @@ pub fn search_text(alloc: Global, universe: &Universe, text: &[u8]) -> Result<Ve
     }
 }
 
-/// What a search gave, and which prefixes it judged, both in order.
+/// What a search gave, and which prefixes it judged, both in order, and where it stopped, if it
+/// did.
 #[derive(Drop)]
 struct Seen {
     given: Vec<Choice>,
     judged: Vec<Choice>,
+    stopped: Option<Choice>,
 }
 
 impl Seen {
-    /// `given:` and the choices, and `; judged:` and the prefixes, each behind a blank.
+    /// `given:` and the choices, and `; judged:` and the prefixes, each behind a blank; and
+    /// `; stopped at ` and the prefix, if there is one.
     fn text(&self, alloc: Global) -> Result<Vec<u8>, Problem> {
         let mut text = self.given_text(alloc)?;
         text.push_str("; judged:")?;
         add_each(alloc, self.judged.as_slice(), &mut text)?;
+        self.add_stop(alloc, &mut text)?;
         Ok(text.into_bytes())
     }
 
@@ -53,7 +57,16 @@ impl Seen {
         let count = self.judged.len();
         let count = format!(in alloc; "; judged: {count} prefixes")?;
         text.push_str(count.as_str())?;
+        self.add_stop(alloc, &mut text)?;
         Ok(text.into_bytes())
+    }
+
+    fn add_stop(&self, alloc: Global, text: &mut String) -> Result<(), AllocError> {
+        if let Some(prefix) = &self.stopped {
+            text.push_str("; stopped at ")?;
+            add_positions(alloc, prefix, text)?;
+        }
+        Ok(())
     }
 
     fn given_text(&self, alloc: Global) -> Result<String, AllocError> {
@@ -77,12 +90,24 @@ fn seen_over(alloc: Global, universe: &Universe, text: &[u8]) -> Result<Seen, Pr
         let judge = judge_of(alloc, universe, utf8(alloc, judge)?)?;
         return seen_first(alloc, &judge);
     }
+    let (text, steps) = steps_of(alloc, text)?;
     let (judge, positions, is_after) = parts_of(alloc, text)?;
     let judge = judge_of(alloc, universe, utf8(alloc, judge)?)?;
     let prefix = prefix_of(alloc, universe, utf8(alloc, positions)?)?;
     match judge.start(prefix, is_after) {
-        Some(start) => seen_from(alloc, &judge, start),
+        Some(start) => seen_from(alloc, &judge, start, steps),
         None => Err(Problem::about(alloc, "no whole choice", positions)),
+    }
+}
+
+/// What stands before ` steps `, and the budget behind it, if there is one.
+fn steps_of(alloc: Global, text: &[u8]) -> Result<(&[u8], Option<u64>), Problem> {
+    let Some((text, steps)) = split_at_last(text, b" steps ") else {
+        return Ok((text, None));
+    };
+    match utf8(alloc, steps)?.parse::<u64>() {
+        Ok(steps) => Ok((text, Some(steps))),
+        Err(_) => Err(Problem::about(alloc, "no number of steps", steps)),
     }
 }
 
@@ -97,18 +122,28 @@ fn parts_of(alloc: Global, text: &[u8]) -> Result<(&[u8], &[u8], bool), Problem>
     }
 }
 
-/// What a search gives and judges from a start on.
-fn seen_from(alloc: Global, judge: &Written<'_>, start: Start) -> Result<Seen, Problem>
+/// What a search gives and judges from a start on, under a budget of steps, if there is one.
+fn seen_from(
+    alloc: Global,
+    judge: &Written<'_>,
+    start: Start,
+    steps: Option<u64>,
+) -> Result<Seen, Problem>
     requires { IsStart (written_sizes judge.now) start }
 {
     let mut given = Vec::new(alloc);
-    let mut answers = Answers::from(judge, start);
+    let mut answers = Answers::from(judge, start, steps);
     for _ in 0..MOST_ANSWERS {
         match next_answer(alloc, &mut answers)? {
             Some(choice) => given.push(choice)?,
             None => {
+                let stopped = stop_of(answers.state());
                 let judged = judge.take_judged(alloc)?;
-                return Ok(Seen { given, judged });
+                return Ok(Seen {
+                    given,
+                    judged,
+                    stopped,
+                });
             }
         }
     }
@@ -123,7 +158,7 @@ fn next_answer(
     let answer = answers.next();
     let is_told = match &answer {
         Some(_) => answers.state() == State::Running,
-        None => has_ended(answers),
+        None => is_over(answers),
     };
     if !is_told {
         return Err(Problem::said(alloc, "the state does not say what `next` answered"));
@@ -131,9 +166,18 @@ fn next_answer(
     Ok(answer)
 }
 
-/// Whether answers have come to their end, and stay there.
-fn has_ended(answers: &mut Answers<'_, Written<'_>>) -> bool {
-    answers.state() == State::Ended && answers.next().is_none() && answers.state() == State::Ended
+/// Whether answers have ended or stopped, and it stays so.
+fn is_over(answers: &mut Answers<'_, Written<'_>>) -> bool {
+    let state = answers.state();
+    state != State::Running && answers.next().is_none() && answers.state() == state
+}
+
+/// The prefix at which a search stopped, if it did.
+fn stop_of(state: State) -> Option<Choice> {
+    match state {
+        State::Stopped(prefix) => Some(prefix),
+        State::Running | State::Ended => None,
+    }
 }
 
 /// What is given and judged where the first answer alone is asked for.
@@ -143,7 +187,11 @@ fn seen_first(alloc: Global, judge: &Written<'_>) -> Result<Seen, Problem> {
         given.push(choice)?;
     }
     let judged = judge.take_judged(alloc)?;
-    Ok(Seen { given, judged })
+    Ok(Seen {
+        given,
+        judged,
+        stopped: None,
+    })
 }
 
 /// Compares what is found from each start on with what the rule says.
@@ -178,9 +226,10 @@ fn check_start(
     let wanted = Seen {
         given: true_from(alloc, places, from)?,
         judged: judged_from(alloc, places, from)?,
+        stopped: None,
     };
     let wanted = wanted.text(alloc)?;
-    let found = seen_from(alloc, judge, start)?.text(alloc)?;
+    let found = seen_from(alloc, judge, start, None)?.text(alloc)?;
     if found.as_slice() == wanted.as_slice() {
         return Ok(());
     }

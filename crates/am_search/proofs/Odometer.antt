@@ -84,7 +84,7 @@ beside_last (size ∷ sizes) (q ∷ prefix) p h =
 
 -- ---- The first choice after a whole one.
 
-find_append : (test : List ℕ → Bool) (xs ys : List (List ℕ)) → find test (xs ++ ys) ≡ option_or (find test xs) (find test ys)
+pub find_append : (test : List ℕ → Bool) (xs ys : List (List ℕ)) → find test (xs ++ ys) ≡ option_or (find test xs) (find test ys)
 find_append test [] ys = refl
 find_append test (x ∷ xs) ys = by (test x) (find_append test xs ys)
   where

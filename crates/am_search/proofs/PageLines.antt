@@ -9,24 +9,24 @@ use Rattle.std.proofs.lemmas.List.{get_or_append_left}
 use Rattle.std.proofs.lemmas.Grind.{flat_map-append}
 use borrow.Author.Tests.{lt-ltb, le-ltb, eqb-true}
 use Rattle.am_search.specs.declared.trailer.Trailer.{Trailer}
-use Rattle.am_search.specs.declared.trailer.Trailer.TheVariants.{End, Next}
-use Rattle.am_search.specs.Page.{AnswerPage, page_of}
+use Rattle.am_search.specs.declared.trailer.Trailer.TheVariants.{Next}
+use Rattle.am_search.specs.Page.{AnswerPage, page_ending}
 use Rattle.am_search.specs.TrailerText.{trailer_text}
 
 -- ---- Which page it is.
 
-abbrev part_page : List (List ℕ) → ℕ → AnswerPage
+abbrev pub part_page : List (List ℕ) → ℕ → AnswerPage
 part_page xs n = record { choices = take n xs; trailer = Next (get_or xs (n - 1) []) }
 
-abbrev all_page : List (List ℕ) → AnswerPage
-all_page xs = record { choices = xs; trailer = End }
+abbrev pub all_page : Trailer → List (List ℕ) → AnswerPage
+all_page ending xs = record { choices = xs; trailer = ending }
 
-page_of_part : (xs : List (List ℕ)) (n : ℕ) → n < length xs → page_of xs (Some n) ≡ part_page xs n
-page_of_part xs n h = ap (λ b. cond b (part_page xs n) (all_page xs)) (lt-ltb n (length xs) h)
+pub page_of_part : (ending : Trailer) (xs : List (List ℕ)) (n : ℕ) → n < length xs → page_ending ending xs (Some n) ≡ part_page xs n
+page_of_part ending xs n h = ap (λ b. cond b (part_page xs n) (all_page ending xs)) (lt-ltb n (length xs) h)
 
-page_of_all : (xs : List (List ℕ)) (limit : Option ℕ) → IfSome limit (λ n. length xs ≤ n) → page_of xs limit ≡ all_page xs
-page_of_all xs None h = refl
-page_of_all xs (Some n) h = ap (λ b. cond b (part_page xs n) (all_page xs)) (le-ltb n (length xs) h)
+pub page_of_all : (ending : Trailer) (xs : List (List ℕ)) (limit : Option ℕ) → IfSome limit (λ n. length xs ≤ n) → page_ending ending xs limit ≡ all_page ending xs
+page_of_all ending xs None h = refl
+page_of_all ending xs (Some n) h = ap (λ b. cond b (part_page xs n) (all_page ending xs)) (le-ltb n (length xs) h)
 
 -- ---- How far it has come: `done` are written, the last of them is `last`, there is room for so many more under the limit.
 pub record IsSoFar (xs : List (List ℕ)) (limit : Option ℕ) (IsWritten : List (List ℕ) → Type 0) (left : List (List ℕ)) (room : Option ℕ) (last : List ℕ) : Type 0 where
@@ -43,12 +43,12 @@ begun xs limit IsWritten last e w = record { done = []; all = refl; limit_is = b
     by None = refl
     by (Some n) = ap Some (omega arith)
 
-module _ {xs : List (List ℕ)} {limit : Option ℕ} {IsWritten : List (List ℕ) → Type 0} {left : List (List ℕ)} {room : Option ℕ} {last : List ℕ} (so_far : IsSoFar xs limit IsWritten left room last) where
+module _ {xs : List (List ℕ)} {limit : Option ℕ} {IsWritten : List (List ℕ) → Type 0} {left : List (List ℕ)} {room : Option ℕ} {last : List ℕ} (ending : Trailer) (so_far : IsSoFar xs limit IsWritten left room last) where
   -- no answer is left
-  pub all_written : left ≡ [] → page_of xs limit ≡ record { choices = so_far.done; trailer = End }
+  pub all_written : left ≡ [] → page_ending ending xs limit ≡ record { choices = so_far.done; trailer = ending }
   all_written none =
       let same : xs ≡ so_far.done = so_far.all ∙ ap (λ l. so_far.done ++ l) none ∙ append-nil so_far.done in
-      page_of_all xs limit (fits same limit room so_far.limit_is) ∙ ap all_page same
+      page_of_all ending xs limit (fits same limit room so_far.limit_is) ∙ ap (all_page ending) same
     where
       fits : xs ≡ so_far.done → (l r : Option ℕ) → l ≡ option_map (λ k. length so_far.done + k) r → IfSome l (λ n. length xs ≤ n)
       fits same None r e = tt
@@ -58,41 +58,42 @@ module _ {xs : List (List ℕ)} {limit : Option ℕ} {IsWritten : List (List ℕ
           omega (arith, ap length same, is)
 
   -- one more is left than there may be
-  pub full : (c : List ℕ) (rest : List (List ℕ)) → left ≡ c ∷ rest → room ≡ Some 0 → IfSome limit (λ n. 0 < n) → page_of xs limit ≡ record { choices = so_far.done; trailer = Next last }
+  pub full : (c : List ℕ) (rest : List (List ℕ)) → left ≡ c ∷ rest → room ≡ Some 0 → IfSome limit (λ n. 0 < n) → page_ending ending xs limit ≡ record { choices = so_far.done; trailer = Next last }
   full c rest found e some =
       let done : List (List ℕ) = so_far.done in
       let n : ℕ = length done in
       let is : limit ≡ Some n = so_far.limit_is ∙ ap (option_map (λ r. n + r)) e ∙ ap Some (omega arith) in
       let positive : 0 < n = subst (λ l. IfSome l (λ n. 0 < n)) is some in
       let same : xs ≡ done ++ c ∷ rest = so_far.all ∙ ap (λ l. done ++ l) found in
-      ap (page_of xs) is ∙ page_of_part xs n (omega (arith, ap length same, length-append done (c ∷ rest)))
+      ap (page_ending ending xs) is ∙ page_of_part ending xs n (omega (arith, ap length same, length-append done (c ∷ rest)))
       ∙ ap (λ l. part_page l n) same
       ∙ ap (λ (l : List (List ℕ)). record { choices = l; trailer = Next (get_or (done ++ c ∷ rest) (n - 1) []) }) (take-append_seam done (c ∷ rest))
       ∙ ap (λ (l : List ℕ). record { choices = done; trailer = Next l }) (get_or_append_left done (c ∷ rest) [] (n - 1) (omega (arith, positive)) ∙ sym so_far.last_is)
 
   -- the next answer is written: the page has it behind the others
-  pub through : (c : List ℕ) (rest : List (List ℕ)) → left ≡ c ∷ rest → room ≢ Some 0 → (more : List (List ℕ)) × ((page_of xs limit).choices ≡ so_far.done ++ c ∷ more)
+  pub through : (c : List ℕ) (rest : List (List ℕ)) → left ≡ c ∷ rest → room ≢ Some 0 → (more : List (List ℕ)) × ((page_ending ending xs limit).choices ≡ so_far.done ++ c ∷ more)
   through c rest found some = by limit room refl so_far.limit_is some
     where
       same : xs ≡ so_far.done ++ c ∷ rest
       same = so_far.all ∙ ap (λ l. so_far.done ++ l) found
 
-      by : (l r : Option ℕ) → limit ≡ l → l ≡ option_map (λ k. length so_far.done + k) r → r ≢ Some 0 → (more : List (List ℕ)) × ((page_of xs limit).choices ≡ so_far.done ++ c ∷ more)
-      by None r is e other = (rest, ap (λ l. (page_of xs l).choices) is ∙ same)
+      by : (l r : Option ℕ) → limit ≡ l → l ≡ option_map (λ k. length so_far.done + k) r → r ≢ Some 0 → (more : List (List ℕ)) × ((page_ending ending xs limit).choices ≡ so_far.done ++ c ∷ more)
+      by None r is e other = (rest, ap (λ l. (page_ending ending xs l).choices) is ∙ same)
       by (Some n) None is e other = cc
       by (Some n) (Some zero) is e other = absurd (other refl)
       by (Some n) (Some (suc k)) is e other = under (nat_lt n (length xs)) refl
         where
-          under : (b : Bool) → nat_lt n (length xs) ≡ b → (more : List (List ℕ)) × ((page_of xs limit).choices ≡ so_far.done ++ c ∷ more)
+          under : (b : Bool) → nat_lt n (length xs) ≡ b → (more : List (List ℕ)) × ((page_ending ending xs limit).choices ≡ so_far.done ++ c ∷ more)
           under true h =
               let count : n ≡ length so_far.done + suc k = cc in (
                 take k rest,
-                ap (λ l. (page_of xs l).choices) is ∙ ap (λ b. (cond b (part_page xs n) (all_page xs)).choices) h
+                ap (λ l. (page_ending ending xs l).choices) is ∙ ap (λ b. (cond b (part_page xs n) (all_page ending xs)).choices) h
                     ∙ ap (λ m. take m xs) count ∙ ap (take (length so_far.done + suc k)) same
                     ∙ take-append-add so_far.done (c ∷ rest) (suc k),
               )
-          under false h = (rest, ap (λ l. (page_of xs l).choices) is ∙ ap (λ b. (cond b (part_page xs n) (all_page xs)).choices) h ∙ same)
+          under false h = (rest, ap (λ l. (page_ending ending xs l).choices) is ∙ ap (λ b. (cond b (part_page xs n) (all_page ending xs)).choices) h ∙ same)
 
+module _ {xs : List (List ℕ)} {limit : Option ℕ} {IsWritten : List (List ℕ) → Type 0} {left : List (List ℕ)} {room : Option ℕ} {last : List ℕ} (so_far : IsSoFar xs limit IsWritten left room last) where
   pub one_more : {IsWrittenNow : List (List ℕ) → Type 0} (c : List ℕ) (rest : List (List ℕ)) (after : Option ℕ) → left ≡ c ∷ rest → room ≡ option_map (λ r. r + 1) after → IsWrittenNow (so_far.done ++ c ∷ []) → IsSoFar xs limit IsWrittenNow rest after c
   one_more c rest after found less w = record {
     done = so_far.done ++ c ∷ [];

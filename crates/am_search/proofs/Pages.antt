@@ -15,10 +15,10 @@ use Rattle.am_universe.proofs.ChoiceLemmas.{choices_sorted, whole_from_in, less_
 use Rattle.am_search.specs.declared.start.Start.{Start}
 use Rattle.am_search.specs.declared.start.Start.TheVariants.{At, After}
 use Rattle.am_search.specs.declared.trailer.Trailer.{Trailer}
-use Rattle.am_search.specs.declared.trailer.Trailer.TheVariants.{End, Next}
+use Rattle.am_search.specs.declared.trailer.Trailer.TheVariants.{End, Next, Stopped}
 use Rattle.am_search.specs.Judge.{AreSizes}
 use Rattle.am_search.specs.Start.{comes_before, IsStart, first_of_start, at_or_after, choices_from, answers_from}
-use Rattle.am_search.specs.Page.{AnswerPage, page_of, page_from, rest_after, IsPage, IsChain, start_after, all_choices_of}
+use Rattle.am_search.specs.Page.{AnswerPage, page_ending, page_from, rest_after, IsPage, IsChain, start_after, all_choices_of}
 use Rattle.am_search.specs.Token.{token_text}
 use Rattle.am_search.specs.TrailerText.{trailer_text}
 use Rattle.am_search.proofs.ChoiceOrder.{Ascends, before_trans, not_back, filter_all, filter_same, in_filter, into_filter, from_found, after_taken, up_to_taken, taken_last}
@@ -112,14 +112,14 @@ two_conds true b x xs = refl
 two_conds false true x xs = refl
 two_conds false false x xs = refl
 
-filters_swapped : {X : Type 0} (f g : X → Bool) (xs : List X) → filter f (filter g xs) ≡ filter g (filter f xs)
+pub filters_swapped : {X : Type 0} (f g : X → Bool) (xs : List X) → filter f (filter g xs) ≡ filter g (filter f xs)
 filters_swapped f g [] = refl
 filters_swapped f g (x ∷ xs) =
     swapped_cond f x (g x) (filter g xs) ∙ ap (λ l. cond (g x) (cond (f x) (x ∷ l) l) l) (filters_swapped f g xs)
     ∙ two_conds (g x) (f x) x (filter g (filter f xs)) ∙ sym (swapped_cond g x (f x) (filter f xs))
 
 -- where all that pass a test pass another, the other changes nothing
-filter_within : {X : Type 0} (f g : X → Bool) (xs : List X) → ((x : X) → f x ≡ true → g x ≡ true) → filter f (filter g xs) ≡ filter f xs
+pub filter_within : {X : Type 0} (f g : X → Bool) (xs : List X) → ((x : X) → f x ≡ true → g x ≡ true) → filter f (filter g xs) ≡ filter f xs
 filter_within f g xs h = filters_swapped f g xs ∙ filter_all g (filter f xs) (λ y i. h y (in_filter f xs y i).1)
 
 is_not : (b : Bool) → not b ≡ true → b ≡ false
@@ -151,37 +151,37 @@ answer_whole ns c truth start i = from_whole ns c start (in_filter truth (choice
 -- ---- Pages.
 
 -- what a page of a list is, by whether there is more than the limit
-record IsPart (xs : List (List ℕ)) (page : AnswerPage) (c : List ℕ) (n : ℕ) : Type 0 where
-  choices : page.choices ≡ take n xs
-  trailer : page.trailer ≡ Next c
-  last : c ≡ get_or xs (n - 1) []
-  some : 0 < n
-  more : n < length xs
+pub record IsPart (xs : List (List ℕ)) (page : AnswerPage) (c : List ℕ) (n : ℕ) : Type 0 where
+  pub choices : page.choices ≡ take n xs
+  pub trailer : page.trailer ≡ Next c
+  pub last : c ≡ get_or xs (n - 1) []
+  pub some : 0 < n
+  pub more : n < length xs
 
-record IsAll (xs : List (List ℕ)) (page : AnswerPage) : Type 0 where
-  choices : page.choices ≡ xs
-  trailer : page.trailer ≡ End
+pub record IsAll (ending : Trailer) (xs : List (List ℕ)) (page : AnswerPage) : Type 0 where
+  pub choices : page.choices ≡ xs
+  pub trailer : page.trailer ≡ ending
 
-data PageKind (xs : List (List ℕ)) (page : AnswerPage) : Type 0 where
-  part : (c : List ℕ) (n : ℕ) → IsPart xs page c n → PageKind xs page
-  whole : IsAll xs page → PageKind xs page
+pub data PageKind (ending : Trailer) (xs : List (List ℕ)) (page : AnswerPage) : Type 0 where
+  part : (c : List ℕ) (n : ℕ) → IsPart xs page c n → PageKind ending xs page
+  whole : IsAll ending xs page → PageKind ending xs page
 
-kind_of : (xs : List (List ℕ)) (limit : Option ℕ) → IfSome limit (λ n. 0 < n) → PageKind xs (page_of xs limit)
-kind_of xs None h = whole (record { choices = refl; trailer = refl })
-kind_of xs (Some n) h = by (nat_lt n (length xs)) refl
+pub kind_of : (ending : Trailer) (xs : List (List ℕ)) (limit : Option ℕ) → IfSome limit (λ n. 0 < n) → PageKind ending xs (page_ending ending xs limit)
+kind_of ending xs None h = whole (record { choices = refl; trailer = refl })
+kind_of ending xs (Some n) h = by (nat_lt n (length xs)) refl
   where
-    by : (b : Bool) → nat_lt n (length xs) ≡ b → PageKind xs (page_of xs (Some n))
+    by : (b : Bool) → nat_lt n (length xs) ≡ b → PageKind ending xs (page_ending ending xs (Some n))
     by true e =
-        let same : page_of xs (Some n) ≡ record { choices = take n xs; trailer = Next (get_or xs (n - 1) []) } =
-        ap (λ b. cond b (record { choices = take n xs; trailer = Next (get_or xs (n - 1) []) }) (record { choices = xs; trailer = End })) e in
+        let same : page_ending ending xs (Some n) ≡ record { choices = take n xs; trailer = Next (get_or xs (n - 1) []) } =
+        ap (λ b. cond b (record { choices = take n xs; trailer = Next (get_or xs (n - 1) []) }) (record { choices = xs; trailer = ending })) e in
         part (get_or xs (n - 1) []) n (record { choices = ap (λ p. p.choices) same; trailer = ap (λ p. p.trailer) same; last = refl; some = h; more = grind (arith, nat_tests, e) })
     by false e =
-        let same : page_of xs (Some n) ≡ record { choices = xs; trailer = End } =
-        ap (λ b. cond b (record { choices = take n xs; trailer = Next (get_or xs (n - 1) []) }) (record { choices = xs; trailer = End })) e in
+        let same : page_ending ending xs (Some n) ≡ record { choices = xs; trailer = ending } =
+        ap (λ b. cond b (record { choices = take n xs; trailer = Next (get_or xs (n - 1) []) }) (record { choices = xs; trailer = ending })) e in
         whole (record { choices = ap (λ p. p.choices) same; trailer = ap (λ p. p.trailer) same })
 
-page_kind : (ns : List ℕ) (truth : List ℕ → Bool) (start : Start) (page : AnswerPage) → IsPage ns truth start page → PageKind (answers_from ns truth start) page
-page_kind ns truth start page h = subst (PageKind (answers_from ns truth start)) (sym h.from_start) (kind_of (answers_from ns truth start) h.limit h.at_least_one)
+page_kind : (ns : List ℕ) (truth : List ℕ → Bool) (start : Start) (page : AnswerPage) → IsPage ns truth start page → PageKind End (answers_from ns truth start) page
+page_kind ns truth start page h = subst (PageKind End (answers_from ns truth start)) (sym h.from_start) (kind_of End (answers_from ns truth start) h.limit h.at_least_one)
 
 rest_of_part : (ns c : List ℕ) (truth : List ℕ → Bool) (start : Start) (page : AnswerPage) (n : ℕ) → IsPart (answers_from ns truth start) page c n → answers_from ns truth (After c) ≡ drop n (answers_from ns truth start)
 rest_of_part ns c truth start page n h =
@@ -269,17 +269,23 @@ limit_reached ns c truth start n = by (nat_lt n (length xs)) refl
 
 -- ---- Trailers.
 
-pub trailer_token : (trailer : Trailer) (start : Start) → start_after trailer ≡ Some start
-    → trailer_text trailer ≡ codes "# next " ++ (token_text start ++ codes "\n")
-trailer_token End start e = absurd (cc)
-trailer_token (Next c) start e =
+pub trailer_next : (c : List ℕ) (start : Start) → start_after (Next c) ≡ Some start
+    → trailer_text (Next c) ≡ codes "# next " ++ (token_text start ++ codes "\n")
+trailer_next c start e =
     let same : After c ≡ start = cc in
     ap (λ s. codes "# next " ++ (token_text s ++ codes "\n")) same
+
+pub trailer_stopped : (prefix : List ℕ) (start : Start) → start_after (Stopped prefix) ≡ Some start
+    → trailer_text (Stopped prefix) ≡ codes "# stopped " ++ (token_text start ++ codes "\n")
+trailer_stopped prefix start e =
+    let same : At prefix ≡ start = cc in
+    ap (λ s. codes "# stopped " ++ (token_text s ++ codes "\n")) same
 
 pub trailer_end : (trailer : Trailer) → start_after trailer ≡ None
     → trailer_text trailer ≡ codes "# end\n"
 trailer_end End e = refl
 trailer_end (Next c) e = absurd (cc)
+trailer_end (Stopped prefix) e = absurd (cc)
 
 -- ---- Pages in a row.
 
@@ -292,3 +298,4 @@ chain_joined ns truth start (page ∷ pages) h =
         → all_choices_of pages ≡ rest_after ns truth t
     by End e more = ap all_choices_of e
     by (Next c) k more = more (After c) k
+    by (Stopped prefix) k more = more (At prefix) k

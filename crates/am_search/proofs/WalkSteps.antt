@@ -1,9 +1,9 @@
 -- Where the search stands after it has judged a prefix, and after it has given a choice.
-use Rattle.std.proofs.Common.{◌≡◌, ◌⊎◌, ℕ, suc, ◌-◌, ◌<◌, ◌≤◌, Bool, true, false, not, cond, nat_eq, List, [], ◌∷◌, ◌++◌, length, map, nat_lt, take, drop, slice_get, get_or, slice_index, Option, Some, None, IfSome, MatchOption, ap, sym, subst, ◌∙◌, refl, inl, inr, arith, append-nil, append_assoc, length-append}
+use Rattle.std.proofs.Common.{◌≡◌, ◌⊎◌, ℕ, suc, ◌-◌, ◌<◌, ◌≤◌, Bool, true, false, not, cond, nat_eq, List, [], ◌∷◌, ◌++◌, length, map, nat_lt, take, drop, slice_get, slice_index, Option, Some, None, IfSome, MatchOption, ap, sym, subst, ◌∙◌, refl, inl, inr, arith, append-nil, append_assoc, length-append}
 use Rattle.std.specs.Prelude.{option_map}
 use Rattle.std.specs.List.{filter, find, flat_map, range_with_len, starts_with}
 use Rattle.std.proofs.lemmas.Bool.{false≢true, cases_Bool, cases_lt}
-use Rattle.std.proofs.lemmas.List.{length-take-le, drop_at, drop_all, take_all, take-append-drop}
+use Rattle.std.proofs.lemmas.List.{length-take-le}
 use Rattle.std.proofs.lemmas.List.Kept.{IsStrictlySortedBy-filter}
 use Rattle.std.proofs.lemmas.Grind.{flat_map-append}
 use Rattle.std.specs.Ordering.{nat_cmp}
@@ -19,7 +19,7 @@ use Rattle.am_search.specs.declared.verdict.Verdict.{Verdict}
 use Rattle.am_search.specs.declared.verdict.Verdict.TheVariants.{Yes, No, Open}
 use Rattle.am_search.specs.Judge.{IsJudge, is_open, is_yes}
 use Rattle.am_search.specs.Start.{comes_before, first_of_start, at_or_after}
-use Rattle.am_search.specs.Visits.{all_prefixes, is_visited, completions_from, visited, given_at, given_by, given_under, IsPartOfSearch, IsWholeSearch, BeginsWithLast}
+use Rattle.am_search.specs.Visits.{all_prefixes, is_visited, completions_from, visited, given_at, given_by}
 use Rattle.am_search.specs.NextPrefix.{next_beside}
 use Rattle.am_search.specs.Walk.{if_begins, first_position, IsJudging, IsGiving, IsDone, IsWalk}
 use Rattle.am_search.proofs.ChoiceOrder.{Ascends, not_itself, not_back, in_filter, filter_all, filter_step, from_first, member_then_rest}
@@ -39,7 +39,7 @@ at_first : (cs : List (List ℕ)) (c : List ℕ) → Ascends cs → slice_get cs
 at_first [] c s e = cc
 at_first (d ∷ cs) c s e = let same : d ≡ c = cc in ap (λ x. at_or_after (Some x) (d ∷ cs)) (sym same) ∙ from_first d cs s
 
-completion_begins : (sizes prefix c : List ℕ) → IsIn (completions sizes prefix) c → IsWhole sizes c × (starts_with nat_eq c prefix ≡ true)
+pub completion_begins : (sizes prefix c : List ℕ) → IsIn (completions sizes prefix) c → IsWhole sizes c × (starts_with nat_eq c prefix ≡ true)
 completion_begins sizes prefix c i =
     let r = in_filter (λ d. starts_with nat_eq d prefix) (choices sizes) c i in
     (whole_from_in sizes c r.0, r.1)
@@ -369,68 +369,6 @@ open_room sizes truth verdict law p a e = elim (cases_lt (length p) (length size
 pub along_longer : (o : Option (List ℕ)) (n m : ℕ) → n ≡ m → ((f : List ℕ) → o ≡ Some f → m < length f) → IfSome o (λ f. n < length f)
 along_longer None n m e h = tt
 along_longer (Some f) n m e h = omega (arith, h f refl)
-
--- ---- What is left to give.
-
--- the choices that were given are the first of those that are given in all
-pub record IsGivenFront (sizes : List ℕ) (verdict : List ℕ → Verdict) (start : Start) (judged given : List (List ℕ)) : Type 0 where
-  pub of_judged : (rest : List (List ℕ)) × (given ++ rest ≡ given_by sizes verdict start judged)
-  pub of_all : (rest : List (List ℕ)) × (given ++ rest ≡ given_under sizes verdict start None)
-
-given_of_judged : (sizes : List ℕ) (verdict : List ℕ → Verdict) (start : Start) (stage : Stage) (current : List ℕ) (along : Option (List ℕ)) (judged given : List (List ℕ))
-    → IsWalk sizes verdict start stage current along judged given → (rest : List (List ℕ)) × (given ++ rest ≡ given_by sizes verdict start judged)
-given_of_judged sizes verdict start Judging current along judged given h = ([], append-nil given ∙ (h.judging refl).given_all)
-given_of_judged sizes verdict start (Giving depth) current along judged given h = (at_or_after (Some current) (completions sizes (take depth current)), (h.giving depth refl).given_next)
-given_of_judged sizes verdict start Done current along judged given h = ([], append-nil given ∙ (h.done refl).given_all)
-
-pub given_front : (sizes : List ℕ) (verdict : List ℕ → Verdict) (start : Start) (stage : Stage) (current : List ℕ) (along : Option (List ℕ)) (judged given : List (List ℕ))
-    → IsWalk sizes verdict start stage current along judged given → IsGivenFront sizes verdict start judged given
-given_front sizes verdict start stage current along judged given h =
-    let some = given_of_judged sizes verdict start stage current along judged given h in
-    let all : List (List ℕ) = visited sizes verdict start in
-    let later : List (List ℕ) = given_by sizes verdict start (drop (length judged) all) in
-    record {
-      of_judged = some;
-      of_all = (
-        some.0 ++ later,
-        sym (append_assoc given some.0 later) ∙ ap (λ l. l ++ later) some.1
-            ∙ ap (λ l. given_by sizes verdict start l ++ later) h.front
-            ∙ sym (flat_map-append (given_at sizes verdict start) (take (length judged) all) (drop (length judged) all))
-            ∙ ap (given_by sizes verdict start) (take-append-drop (length judged) all),
-      );
-    }
-
-pub left_one : (given rest all : List (List ℕ)) (c : List ℕ) → (given ++ c ∷ []) ++ rest ≡ all → drop (length given) all ≡ c ∷ drop (length (given ++ c ∷ [])) all
-left_one given rest all c e =
-    let more : given ++ (c ∷ rest) ≡ all = sym (append_assoc given (c ∷ []) rest) ∙ e in
-    ap (drop (length given)) (sym more) ∙ drop_at given (c ∷ rest) (length given) refl
-    ∙ ap (λ l. c ∷ l) (sym (ap (drop (length (given ++ c ∷ []))) (sym e) ∙ drop_at (given ++ c ∷ []) rest (length (given ++ c ∷ [])) refl))
-
-pub part_of_search : {sizes : List ℕ} {verdict : List ℕ → Verdict} {start : Start} {stage : Stage} {current : List ℕ} {along : Option (List ℕ)} {judged given : List (List ℕ)}
-    → IsWalk sizes verdict start stage current along judged given → IsPartOfSearch sizes verdict start None judged given
-part_of_search {sizes} {verdict} {start} {stage} {current} {along} {judged} {given} h =
-    record { judged_first = h.front; given_first = (given_front sizes verdict start stage current along judged given h).of_judged }
-
-pub whole_search : {sizes : List ℕ} {verdict : List ℕ → Verdict} {start : Start} {stage : Stage} {current : List ℕ} {along : Option (List ℕ)} {judged given : List (List ℕ)}
-    → IsWalk sizes verdict start stage current along judged given → stage ≡ Done → IsWholeSearch sizes verdict start None judged given
-whole_search {sizes} {verdict} {start} {stage} {current} {along} {judged} {given} h e =
-    let past = h.done e in
-    let same : judged ≡ visited sizes verdict start = h.front ∙ take_all (length judged) (visited sizes verdict start) past.all in
-    record { judged_all = same; given_all = past.given_all ∙ ap (given_by sizes verdict start) same }
-
-pub begins_with_last : {sizes : List ℕ} {verdict : List ℕ → Verdict} {start : Start} {stage : Stage} {current : List ℕ} {along : Option (List ℕ)} {judged given : List (List ℕ)} (depth : ℕ)
-    → IsWalk sizes verdict start stage current along judged given → stage ≡ Giving depth → BeginsWithLast judged current
-begins_with_last {sizes} {verdict} {start} {stage} {current} {along} {judged} {given} depth h e =
-    let w = h.giving depth e in
-    let all : List (List ℕ) = visited sizes verdict start in
-    let i : ℕ = length judged - 1 in
-    let x : List ℕ = take depth current in
-    let below : i < length judged = omega (arith, w.some) in
-    let here : get_or all i x ≡ x = Rattle.std.proofs.lemmas.Option.get_or_from_slice_get all i x x w.last in
-    record { depth = depth; last = Rattle.std.proofs.lemmas.Option.slice_get_read judged (length judged) i x refl below (sym (ap (λ l. get_or l i x) h.front ∙ Rattle.std.proofs.lemmas.List.get_or-take (length judged) all i x below ∙ here)) }
-
-pub none_left : (given all : List (List ℕ)) → given ≡ all → drop (length given) all ≡ []
-none_left given all e = drop_all (length given) all (omega (arith, ap length e))
 
 -- ---- Where the search begins.
 

@@ -1,12 +1,17 @@
 pub mod Words
 pub mod Judge
+pub mod ExactJudge
 pub mod Start
 pub mod Page
 pub mod Token
 pub mod Visits
 pub mod VisitsExample
+pub mod BudgetPage
 pub mod NextPrefix
 pub mod Walk
 pub mod AnswersView
 pub mod TrailerText
 pub mod PageText
+pub mod Labels
+pub mod Conflict
+pub mod Jumps

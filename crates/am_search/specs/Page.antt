@@ -2,9 +2,9 @@
 use Rattle.std.specs.Prelude.{◌≡◌, ℕ, ◌<◌, ◌-◌, List, [], ◌∷◌, ◌++◌, length, take, get_or, Bool}
 use Rattle.std.specs.Prelude.{nat_lt, if◌then◌else◌, Option, Some, None, IfSome, MatchOption}
 use Rattle.am_search.specs.declared.start.Start.{Start}
-use Rattle.am_search.specs.declared.start.Start.TheVariants.{After}
+use Rattle.am_search.specs.declared.start.Start.TheVariants.{At, After}
 use Rattle.am_search.specs.declared.trailer.Trailer.{Trailer}
-use Rattle.am_search.specs.declared.trailer.Trailer.TheVariants.{End, Next}
+use Rattle.am_search.specs.declared.trailer.Trailer.TheVariants.{End, Next, Stopped}
 use Rattle.am_search.specs.Start.{answers_from}
 
 -- A page: some choices, and the trailer that says what is left.
@@ -12,18 +12,26 @@ pub record AnswerPage : Type 0 where
   pub choices : List (List ℕ)
   pub trailer : Trailer
 
--- The page of some answers under a limit of at least 1, if there is one: if there are more answers
--- than that, the first so many, and `Next` with the last of them; if not, all, and `End`. And the
--- page from a start, whose answers are those from there on.
+-- The page of some answers under a limit of at least 1, if there is one, whose trailer is this one
+-- where all of them fit: if there are more answers than the limit, the first so many, and `Next`
+-- with the last of them; if not, all, and that trailer.
+-- Source: own choice.
+-- Example: of the answers 1 0 and 2 0 and with the trailer `Stopped` at 2 1, the page under the
+-- limit 1 is 1 0, and `Next` with 1 0; under the limit 2 it is both, and `Stopped` at 2 1.
+abbrev pub page_ending : Trailer → List (List ℕ) → Option ℕ → AnswerPage
+page_ending ending answers None = record { choices = answers; trailer = ending }
+page_ending ending answers (Some limit) =
+    if nat_lt limit (length answers) then
+    record { choices = take limit answers; trailer = Next (get_or answers (limit - 1) []) }
+    else record { choices = answers; trailer = ending }
+
+-- The page of all answers that there are, under a limit, if there is one: it ends with `Next` or
+-- with `End`. And the page from a start, whose answers are those from there on.
 -- Source: own choice.
 -- Example: where 0 0, 1 0 and 2 0 alone are true, the page after 0 0 with the limit 1 is 1 0, and
 -- `Next` with 1 0; with the limit 2 it is 1 0 and 2 0, and `End`.
 abbrev pub page_of : List (List ℕ) → Option ℕ → AnswerPage
-page_of answers None = record { choices = answers; trailer = End }
-page_of answers (Some limit) =
-    if nat_lt limit (length answers) then
-    record { choices = take limit answers; trailer = Next (get_or answers (limit - 1) []) }
-    else record { choices = answers; trailer = End }
+page_of answers limit = page_ending End answers limit
 
 abbrev pub page_from : List ℕ → (List ℕ → Bool) → Start → Option ℕ → AnswerPage
 page_from sizes truth start limit = page_of (answers_from sizes truth start) limit
@@ -33,6 +41,7 @@ page_from sizes truth start limit = page_of (answers_from sizes truth start) lim
 abbrev pub start_after : Trailer → Option Start
 start_after End = None
 start_after (Next c) = Some (After c)
+start_after (Stopped prefix) = Some (At prefix)
 
 abbrev pub answers_from_any : List ℕ → (List ℕ → Bool) → Option Start → List (List ℕ)
 answers_from_any sizes truth None = []

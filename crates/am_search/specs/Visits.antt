@@ -93,6 +93,17 @@ pub record IsWholeSearch (sizes : List ℕ) (verdict : List ℕ → Verdict) (st
   pub judged_all : judged ≡ visited_under sizes verdict start budget
   pub given_all : given ≡ given_under sizes verdict start budget
 
+-- A search has stopped at a prefix: it has judged as many prefixes as its budget allows, the prefix
+-- is the next that it visits, and every choice that the judged ones give was given.
+-- Source: own choice.
+-- Example: where the empty prefix, 0, 0 0, 0 1, 1 and 2 are visited, a search with a budget of 5
+-- stops at 2; it has judged the other five, and given 0 1.
+pub record IsStoppedSearch (sizes : List ℕ) (verdict : List ℕ → Verdict) (start : Start)
+    (budget : Option ℕ) (judged given : List (List ℕ)) (prefix : List ℕ) : Type 0 where
+  pub used : budget ≡ Some (length judged)
+  pub next : slice_get (visited sizes verdict start) (length judged) ≡ Some prefix
+  pub given_all : given ≡ given_by sizes verdict start judged
+
 -- A choice begins with the last of some prefixes.
 pub record BeginsWithLast (prefixes : List (List ℕ)) (choice : List ℕ) : Type 0 where
   pub depth : ℕ

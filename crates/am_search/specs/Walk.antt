@@ -1,6 +1,7 @@
 -- Where a search stands, and what it has judged and given so far.
 use Rattle.std.specs.Prelude.{◌≡◌, ℕ, ◌<◌, ◌≤◌, ◌-◌, List, ◌++◌, length, take}
-use Rattle.std.specs.Prelude.{slice_get, slice_index, nat_eq, if◌then◌else◌, Option, Some, None}
+use Rattle.std.specs.Prelude.{◌+◌, slice_get, slice_index, nat_eq, if◌then◌else◌}
+use Rattle.std.specs.Prelude.{Option, Some, None, option_map}
 use Rattle.std.specs.List.{starts_with}
 use Rattle.am_universe.specs.Words.{IsWhole, completions}
 use Rattle.am_search.specs.declared.start.Start.{Start}
@@ -20,6 +21,16 @@ if_begins prefix (Some c) = if starts_with nat_eq c prefix then Some c else None
 abbrev pub first_position : Option (List ℕ) → ℕ → ℕ
 first_position None i = 0
 first_position (Some c) i = slice_index c i
+
+-- So much is left of a budget, if there is one, where so many prefixes were judged.
+abbrev pub IsLeft : Option ℕ → Option ℕ → List (List ℕ) → Type 0
+IsLeft budget left judged = budget ≡ option_map (λ n. length judged + n) left
+
+-- A search that has stopped stands at the prefix that is judged next, and nothing is left of its
+-- budget.
+abbrev pub IsAtStop : Stage → List ℕ → Option ℕ → List ℕ → Type 0
+IsAtStop stage current left prefix =
+    (stage ≡ Judging) × (current ≡ prefix) × (left ≡ Some 0)
 
 module _ (sizes : List ℕ) (verdict : List ℕ → Verdict) (start : Start) where
   -- The prefix stands first among those that are still to be judged. `along` is the choice at which

@@ -1,14 +1,15 @@
-ghost use Rattle.std.specs.Prelude.{◌≡◌, ◌<◌, ◌≤◌, ◌∷◌, [], ◌++◌, Some, None, length, IsTrue};
+ghost use Rattle.std.specs.Prelude.{◌≡◌, ◌≢◌, ◌<◌, ◌≤◌, ◌+◌, ◌∷◌, [], ◌++◌, Some, None, ℕ, List};
+ghost use Rattle.std.specs.Prelude.{length, IsTrue, option_map};
 ghost use Rattle.std.specs.Prelude.{IfSome, IfNone, MatchOption, MatchBool, slice_get};
 ghost use Rattle.std.specs.Iterator.{YieldsFirst};
 ghost use Rattle.std.specs.List.{find, starts_with};
 ghost use Rattle.am_universe.specs.Words.{admits, IsWhole, choices, completions};
 ghost use Rattle.am_search.specs.declared.start.Start.TheVariants.{At, After};
 ghost use Rattle.am_search.specs.declared.stage.Stage.TheVariants.{Judging, Giving, Done};
-ghost use Rattle.am_search.specs.declared.answers.State.TheVariants.{Running, Ended};
+ghost use Rattle.am_search.specs.declared.answers.State.TheVariants.{Running, Ended, Stopped};
 ghost use Rattle.am_search.specs.Start.{IsStart, first_of_start, answers_from};
 ghost use Rattle.am_search.specs.NextPrefix.{next_beside};
-ghost use Rattle.am_search.specs.Walk.{IsWalk, first_position};
+ghost use Rattle.am_search.specs.Walk.{IsWalk, IsLeft, IsAtStop, first_position};
 ghost use Rattle.std.proofs.Props.{props};
 
 use crate::judged::Judged;
@@ -23,16 +24,23 @@ pub enum State {
     Running,
     /// Every answer has been given.
     Ended,
+    /// The budget is used, and every answer has been given that the judged prefixes give. This is
+    /// the prefix that would be judged next.
+    Stopped(Choice),
 }
 
 /// The true choices of a judge from a start on, in declared order, each once.
 ///
 /// Prefixes are judged, and not whole choices one by one: what is below a `No` is left out, and
-/// what is below a `Yes` is given with no further judgement. No memory is taken.
+/// what is below a `Yes` is given with no further judgement. A budget limits how many prefixes are
+/// judged; where more would be, the answers stop. No memory is taken.
 #[derive(Drop)]
 pub struct Answers<'a, J: Judge> {
     judge: &'a J,
     start: Start,
+    // How many prefixes may be judged in all, and how many more of them.
+    budget: Option<u64>,
+    left: Option<u64>,
     state: State,
     stage: Stage,
     // The prefix that is judged next, or the choice that is given next.
@@ -43,22 +51,31 @@ pub struct Answers<'a, J: Judge> {
     given: History<Choice>,
     ghost walk: { IsWalk (J.sizes judge.now) (J.verdict judge.now) start stage current along
         judged given.items } by { Prim.hlevel props },
+    ghost steps: { IsLeft budget left judged } by { Prim.hlevel props },
     ghost ended: { state ≡ Ended → stage ≡ Done },
+    ghost stopped: { (prefix : List ℕ) → state ≡ Stopped prefix
+        → IsAtStop stage current left prefix } by { Prim.hlevel props },
 }
 
 impl<'a, J: Judge> Answers<'a, J> {
     ghost use Rattle.am_search.specs.AnswersView.{answers_left, answers_judge, answers_state};
     ghost use Rattle.am_search.specs.AnswersView.{answers_start, answers_judged, answers_given};
-    ghost use Rattle.am_search.specs.Visits.{IsPartOfSearch, IsWholeSearch};
+    ghost use Rattle.am_search.specs.AnswersView.{answers_budget};
+    ghost use Rattle.am_search.specs.Visits.{given_under};
+    ghost use Rattle.am_search.specs.Visits.{IsPartOfSearch, IsWholeSearch, IsStoppedSearch};
 
-    /// The answers from a start on, which is one over the sizes of the judge.
-    pub fn from(judge: &'a J, start: Start) -> Answers<'a, J>
+    /// The answers from a start on, which is one over the sizes of the judge. With a budget of
+    /// steps at most so many prefixes are judged, and the answers are what these give.
+    pub fn from(judge: &'a J, start: Start, steps: Option<u64>) -> Answers<'a, J>
         requires { IsStart (J.sizes judge.now) start }
-        ensures left { answers_left result
+        ensures left { steps ≡ None → answers_left result
             ≡ answers_from (J.sizes judge.now) (J.truth judge.now) start }
+        ensures left_under { answers_left result
+            ≡ given_under (J.sizes judge.now) (J.verdict judge.now) start steps }
         ensures judge { answers_judge result ≡ judge.now }
         ensures state { answers_state result ≡ Running }
         ensures start { answers_start result ≡ start }
+        ensures budget { answers_budget result ≡ steps }
         ensures judged { answers_judged result ≡ [] }
         ensures given { answers_given result ≡ [] }
     {
@@ -67,6 +84,8 @@ impl<'a, J: Judge> Answers<'a, J> {
         Answers {
             judge,
             start,
+            budget: steps,
+            left: steps,
             state: State::Running,
             stage,
             current: Choice::empty(),
@@ -76,15 +95,20 @@ impl<'a, J: Judge> Answers<'a, J> {
         }
     }
 
-    /// `Running` until `next` first answers `None`, and `Ended` from then on.
+    /// `Running` until `next` first answers `None`, and from then on `Ended`, or `Stopped` with the
+    /// prefix that would be judged next.
     pub fn state(&self) -> State
         ensures state { result ≡ answers_state self.now }
         ensures ended { result ≡ Ended → IsWholeSearch (J.sizes (answers_judge self.now))
             (J.verdict (answers_judge self.now)) (answers_start self.now) None
             (answers_judged self.now) (answers_given self.now) }
+        ensures stopped { (prefix : List ℕ) → result ≡ Stopped prefix
+            → IsStoppedSearch (J.sizes (answers_judge self.now))
+            (J.verdict (answers_judge self.now)) (answers_start self.now)
+            (answers_budget self.now) (answers_judged self.now) (answers_given self.now) prefix }
         ensures judged { IsPartOfSearch (J.sizes (answers_judge self.now))
-            (J.verdict (answers_judge self.now)) (answers_start self.now) None
-            (answers_judged self.now) (answers_given self.now) }
+            (J.verdict (answers_judge self.now)) (answers_start self.now)
+            (answers_budget self.now) (answers_judged self.now) (answers_given self.now) }
     {
         self.state
     }
@@ -92,16 +116,19 @@ impl<'a, J: Judge> Answers<'a, J> {
     /// Judges the prefix at which the search stands, and goes on to where it stands then. Nothing
     /// else asks the judge.
     fn judge_next(&mut self)
-        requires { self.old.stage ≡ Judging }
+        requires stage { self.old.stage ≡ Judging }
+        requires left { self.old.left ≢ Some 0 }
         ensures judged { answers_judged self.new
             ≡ answers_judged self.old ++ self.old.current ∷ [] }
         ensures given { answers_given self.new ≡ answers_given self.old }
         ensures judge { answers_judge self.new ≡ answers_judge self.old }
         ensures start { answers_start self.new ≡ answers_start self.old }
+        ensures budget { answers_budget self.new ≡ answers_budget self.old }
         ensures state { answers_state self.new ≡ answers_state self.old }
     {
         let verdict = self.judge.judge(&self.current);
         self.judged.tick(&self.current);
+        self.left = one_less(self.left);
         match verdict {
             Verdict::Open => {
                 let position = position_along(&self.along, self.current.len());
@@ -129,6 +156,7 @@ impl<'a, J: Judge> Answers<'a, J> {
         ensures judged { answers_judged self.new ≡ answers_judged self.old }
         ensures judge { answers_judge self.new ≡ answers_judge self.old }
         ensures start { answers_start self.new ≡ answers_start self.old }
+        ensures budget { answers_budget self.new ≡ answers_budget self.old }
         ensures state { answers_state self.new ≡ answers_state self.old }
     {
         let choice = self.current;
@@ -150,6 +178,7 @@ impl<'a, J: Judge> Iterator for Answers<'a, J> {
     ghost use Rattle.std.specs.Iterator.{item_count, MakesProgress};
     ghost use Rattle.am_search.specs.AnswersView.{answers_left, answers_judge, answers_state};
     ghost use Rattle.am_search.specs.AnswersView.{answers_start, answers_judged, answers_given};
+    ghost use Rattle.am_search.specs.AnswersView.{answers_budget, answers_stop, state_at};
     ghost use Rattle.am_search.specs.Visits.{IsPartOfSearch, IsWholeSearch, BeginsWithLast};
 
     type Item = Choice;
@@ -158,27 +187,34 @@ impl<'a, J: Judge> Iterator for Answers<'a, J> {
 
     ghost remaining = { item_count answers_left };
 
-    /// The next answer. After the first `None` there is none.
+    /// The next answer. After the first `None` there is none: all have come, or the budget is used
+    /// and another prefix would be judged.
     fn next(&mut self) -> Option<Choice>
         ensures first { YieldsFirst answers_left self.old result self.new }
         ensures fewer { MakesProgress (λ _. ⊤) (item_count answers_left) self.old result self.new }
         ensures whole { IfSome result (IsWhole (J.sizes (answers_judge self.old))) }
         ensures judge { answers_judge self.new ≡ answers_judge self.old }
-        ensures state { MatchOption result (answers_state self.new ≡ Ended)
+        ensures state { MatchOption result
+            (answers_state self.new ≡ state_at (answers_stop self.new))
             (λ _. answers_state self.new ≡ Running) }
         ensures start { answers_start self.new ≡ answers_start self.old }
+        ensures budget { answers_budget self.new ≡ answers_budget self.old }
         ensures given { MatchOption result (answers_given self.new ≡ answers_given self.old)
             (λ c. answers_given self.new ≡ answers_given self.old ++ c ∷ []) }
         ensures last { IfSome result (BeginsWithLast (answers_judged self.new)) }
         ensures never_fewer { length (answers_judged self.old) ≤ length (answers_judged self.new) }
         ensures judged { IsPartOfSearch (J.sizes (answers_judge self.new))
-            (J.verdict (answers_judge self.new)) (answers_start self.new) None
-            (answers_judged self.new) (answers_given self.new) }
+            (J.verdict (answers_judge self.new)) (answers_start self.new)
+            (answers_budget self.new) (answers_judged self.new) (answers_given self.new) }
         ensures ended { IfNone result (IsWholeSearch (J.sizes (answers_judge self.new))
-            (J.verdict (answers_judge self.new)) (answers_start self.new) None
-            (answers_judged self.new) (answers_given self.new)) }
+            (J.verdict (answers_judge self.new)) (answers_start self.new)
+            (answers_budget self.new) (answers_judged self.new) (answers_given self.new)) }
     {
         while self.stage == Stage::Judging {
+            if self.left == Some(0) {
+                self.state = State::Stopped(self.current);
+                return None;
+            }
             self.judge_next();
         }
         if let Stage::Giving(depth) = self.stage {
@@ -195,7 +231,7 @@ pub fn first<J: Judge>(judge: &J) -> Option<Choice>
     ensures whole { IfSome result (IsWhole (J.sizes judge.now)) }
     ensures first { result ≡ find (J.truth judge.now) (choices (J.sizes judge.now)) }
 {
-    let mut answers = Answers::from(judge, Start::At(Choice::empty()));
+    let mut answers = Answers::from(judge, Start::At(Choice::empty()), None);
     answers.next()
 }
 
@@ -235,6 +271,17 @@ fn choice_after<J: Judge>(judge: &J, choice: &Choice) -> Option<Choice>
         Some(next)
     } else {
         None
+    }
+}
+
+/// What is left of a budget, if there is one, after one step more.
+fn one_less(left: Option<u64>) -> Option<u64>
+    requires { left ≢ Some 0 }
+    ensures { left ≡ option_map (λ n. 1 + n) result }
+{
+    match left {
+        Some(steps) => Some(steps - 1),
+        None => None,
     }
 }
 

@@ -1,20 +1,27 @@
 //! Facts about the definitions alone: each is the contract of a function with an empty body.
-ghost use Rattle.std.specs.Prelude.{◌≡◌, ◌↔◌, ◌<◌, ◌≤◌, ℕ, List, [], ◌∷◌, ◌++◌, length, Bool, not};
-ghost use Rattle.std.specs.Prelude.{Some, None, IsTrue, Contains, codes};
+ghost use Rattle.std.specs.Prelude.{◌≡◌, ◌↔◌, ◌<◌, ◌≤◌, ℕ, ◌+◌, ◌*◌, List, [], ◌∷◌, ◌++◌, length};
+ghost use Rattle.std.specs.Prelude.{Bool, not, false, Option, Some, None, IfSome, IsTrue, Contains};
+ghost use Rattle.std.specs.Prelude.{codes};
 ghost use Rattle.std.specs.Ordering.{nat_cmp};
 ghost use Rattle.std.specs.Cmp.Lexicographic.{slice_cmp};
-ghost use Rattle.std.specs.List.{filter};
+ghost use Rattle.std.specs.List.{filter, sum, AllByRecursion};
 ghost use Rattle.std.specs.List.Sorted.{IsStrictlySortedBy};
 ghost use Rattle.am_universe.specs.Words.{Label, IsUniverse, sizes, admits, choices, IsWhole};
+ghost use Rattle.am_universe.specs.Words.{completions};
+ghost use Rattle.am_search.specs.declared.labels.Labels.{Labels};
 ghost use Rattle.am_search.specs.declared.start.Start.{Start};
 ghost use Rattle.am_search.specs.declared.start.Start.TheVariants.{At, After};
 ghost use Rattle.am_search.specs.declared.trailer.Trailer.{Trailer};
-ghost use Rattle.am_search.specs.declared.trailer.Trailer.TheVariants.{End, Next};
+ghost use Rattle.am_search.specs.declared.trailer.Trailer.TheVariants.{End, Next, Stopped};
 ghost use Rattle.am_search.specs.Words.{AreSizes, comes_before, IsStart, first_of_start};
 ghost use Rattle.am_search.specs.Words.{choices_from, answers_from, AnswerPage, page_from};
 ghost use Rattle.am_search.specs.Words.{rest_after, IsPage, IsChain, all_choices_of, token_text};
 ghost use Rattle.am_search.specs.Words.{start_after, trailer_text};
-ghost use Rattle.am_search.specs.Words.{IsJudge, all_prefixes, visited, given_under};
+ghost use Rattle.am_search.specs.Words.{IsJudge, IsExactJudge, is_yes};
+ghost use Rattle.am_search.specs.Words.{all_prefixes, visited, given_under};
+ghost use Rattle.am_search.specs.Words.{IsPartOfSearch, page_under, stop_of, IsSearchPage};
+ghost use Rattle.am_search.specs.Words.{IsSearchChain, BeginsLater};
+ghost use Rattle.am_search.specs.Words.{IsConflict};
 ghost use Rattle.am_search.specs.VisitsExample.{example_verdict};
 ghost use Rattle.am_search.specs.declared.verdict.Verdict.{Verdict};
 
@@ -80,11 +87,14 @@ pub fn a_page_keeps_its_limit()
         → length (page_from ns truth start (Some n)).choices ≡ n }
 {}
 
-/// The text of a trailer behind which a page begins is `# next` and the token of the start of that
-/// page; that of a trailer behind which none does is `# end`.
+/// The text of a trailer behind which a page begins is `# next` or `# stopped` and the token of the
+/// start of that page; that of a trailer behind which none does is `# end`.
 pub fn a_trailer_has_the_token_of_its_start()
-    ensures next { (trailer : Trailer) (start : Start) → start_after trailer ≡ Some start
-        → trailer_text trailer ≡ codes "# next " ++ (token_text start ++ codes "\n") }
+    ensures next { (c : List ℕ) (start : Start) → start_after (Next c) ≡ Some start
+        → trailer_text (Next c) ≡ codes "# next " ++ (token_text start ++ codes "\n") }
+    ensures stopped { (prefix : List ℕ) (start : Start) → start_after (Stopped prefix) ≡ Some start
+        → trailer_text (Stopped prefix)
+        ≡ codes "# stopped " ++ (token_text start ++ codes "\n") }
     ensures end { (trailer : Trailer) → start_after trailer ≡ None
         → trailer_text trailer ≡ codes "# end\n" }
 {}
@@ -111,6 +121,78 @@ pub fn a_page_and_its_rest_are_the_answers()
     ensures more { (ns c : List ℕ) (truth : List ℕ → Bool) (start : Start) (page : AnswerPage)
         → IsPage ns truth start page → page.trailer ≡ Next c
         → 0 < length (answers_from ns truth (After c)) }
+{}
+
+/// A page under a budget that ends with `Next` or with `End` is the page without the budget.
+pub fn a_page_that_does_not_stop_is_the_page_without_a_budget()
+    ensures unlimited { (ns : List ℕ) (truth : List ℕ → Bool) (verdict : List ℕ → Verdict)
+        (start : Start) (limit : Option ℕ) → IsJudge ns truth verdict
+        → page_under ns verdict start limit None ≡ page_from ns truth start limit }
+    ensures next { (ns c : List ℕ) (truth : List ℕ → Bool) (verdict : List ℕ → Verdict)
+        (start : Start) (limit budget : Option ℕ) → IsJudge ns truth verdict
+        → IfSome limit (λ n. 0 < n)
+        → (page_under ns verdict start limit budget).trailer ≡ Next c
+        → page_under ns verdict start limit budget ≡ page_from ns truth start limit }
+    ensures end { (ns : List ℕ) (truth : List ℕ → Bool) (verdict : List ℕ → Verdict)
+        (start : Start) (limit budget : Option ℕ) → IsJudge ns truth verdict
+        → IfSome limit (λ n. 0 < n)
+        → (page_under ns verdict start limit budget).trailer ≡ End
+        → page_under ns verdict start limit budget ≡ page_from ns truth start limit }
+{}
+
+/// A page that stops at a prefix has exactly those answers from its start on that come before the
+/// prefix, and so before its first completion.
+pub fn a_stopped_page_has_the_answers_before_its_prefix()
+    ensures before { (ns prefix : List ℕ) (truth : List ℕ → Bool) (verdict : List ℕ → Verdict)
+        (start : Start) (limit budget : Option ℕ) → IsJudge ns truth verdict
+        → IfSome limit (λ n. 0 < n)
+        → (page_under ns verdict start limit budget).trailer ≡ Stopped prefix
+        → (page_under ns verdict start limit budget).choices
+        ≡ filter (λ c. comes_before c prefix) (answers_from ns truth start) }
+{}
+
+/// A search judges no more prefixes than it visits in all, and no more than its budget allows.
+pub fn a_search_keeps_its_budget()
+    ensures within { (ns : List ℕ) (verdict : List ℕ → Verdict) (start : Start) (budget : Option ℕ)
+        (judged given : List (List ℕ)) → IsPartOfSearch ns verdict start budget judged given
+        → length judged ≤ length (visited ns verdict start) }
+    ensures budget { (ns : List ℕ) (verdict : List ℕ → Verdict) (start : Start) (budget : Option ℕ)
+        (judged given : List (List ℕ)) → IsPartOfSearch ns verdict start budget judged given
+        → IfSome budget (λ n. length judged ≤ n) }
+{}
+
+/// The answers from the start of a page on are its choices, and then those that its trailer leaves,
+/// also where a budget stops it that is enough: one of more steps than there are labels.
+pub fn a_page_under_a_budget_and_its_rest_are_the_answers()
+    ensures rest { (ns : List ℕ) (truth : List ℕ → Bool) (verdict : List ℕ → Verdict)
+        (start : Start) (page : AnswerPage) → IsJudge ns truth verdict
+        → IsSearchPage ns verdict start page
+        → answers_from ns truth start ≡ page.choices ++ rest_after ns truth page.trailer }
+    ensures start { (ns : List ℕ) (truth : List ℕ → Bool) (verdict : List ℕ → Verdict)
+        (start next : Start) (page : AnswerPage) → IsJudge ns truth verdict
+        → IsSearchPage ns verdict start page → start_after page.trailer ≡ Some next
+        → IsStart ns next }
+{}
+
+/// The page behind another begins later, where the budget is enough. So pages in a row come to an
+/// end: there are no more of them than choices.
+pub fn pages_under_budgets_come_to_an_end()
+    ensures later { (ns : List ℕ) (truth : List ℕ → Bool) (verdict : List ℕ → Verdict)
+        (start next : Start) (page : AnswerPage) → IsJudge ns truth verdict
+        → IsSearchPage ns verdict start page → start_after page.trailer ≡ Some next
+        → BeginsLater ns start next }
+    ensures at_most { (ns : List ℕ) (truth : List ℕ → Bool) (verdict : List ℕ → Verdict)
+        (start : Start) (pages : List AnswerPage) → IsJudge ns truth verdict
+        → IsSearchChain ns verdict start pages → length pages ≤ length (choices ns) }
+{}
+
+/// The choices of pages in a row, joined, are the answers from the first page's start on, whatever
+/// the limits of the pages are, and whatever their budgets, where these are enough.
+pub fn pages_under_budgets_are_the_answers()
+    ensures joined { (ns : List ℕ) (truth : List ℕ → Bool) (verdict : List ℕ → Verdict)
+        (start : Start) (pages : List AnswerPage) → IsJudge ns truth verdict
+        → IsSearchChain ns verdict start pages
+        → all_choices_of pages ≡ answers_from ns truth start }
 {}
 
 /// The choices of pages in a row, joined, are the answers from the first page's start on.
@@ -146,6 +228,36 @@ pub fn judged_prefixes_give_the_answers()
         → given_under ns verdict start None ≡ answers_from ns truth start }
 {}
 
+/// With an exact judge few prefixes are judged. Let `n` be the number of answers from the start on,
+/// and `z` the number of values that all labels have together: then at most `1 + (n + 1) * z`
+/// prefixes are judged. From the first choice on it is at most `1 + n * z`, so no more than one
+/// where there is no answer.
+pub fn judged_prefixes_are_few()
+    ensures at_most { (ns : List ℕ) (truth : List ℕ → Bool) (verdict : List ℕ → Verdict)
+        (start : Start) → IsExactJudge ns truth verdict
+        → length (visited ns verdict start)
+        ≤ 1 + (length (answers_from ns truth start) + 1) * sum ns }
+    ensures from_the_first { (ns : List ℕ) (truth : List ℕ → Bool) (verdict : List ℕ → Verdict)
+        → IsExactJudge ns truth verdict
+        → length (visited ns verdict (At []))
+        ≤ 1 + length (answers_from ns truth (At [])) * sum ns }
+{}
+
+/// That bound can be reached. The judge of the example below is exact. From the first choice on six
+/// prefixes are judged, where one choice is true and the labels have five values together.
+pub fn an_example_of_the_most_prefixes()
+    ensures exact { IsExactJudge (3 ∷ 2 ∷ []) (λ c. is_yes (example_verdict c)) example_verdict }
+    ensures reached { length (visited (3 ∷ 2 ∷ []) example_verdict (At []))
+        ≡ 1 + 1 * sum (3 ∷ 2 ∷ []) }
+{}
+
+/// Where some labels are a conflict of a prefix, no completion of the prefix is true.
+pub fn a_conflict_refutes_all_completions()
+    ensures none { (ns prefix : List ℕ) (truth : List ℕ → Bool) (labels : Labels)
+        → IsConflict ns truth labels prefix
+        → AllByRecursion (λ c. truth c ≡ false) (completions ns prefix) }
+{}
+
 /// What is visited and given in an example, over the sizes 3 and 2.
 pub fn an_example_of_a_search()
     ensures from_the_first { visited (3 ∷ 2 ∷ []) example_verdict (At [])
@@ -158,4 +270,10 @@ pub fn an_example_of_a_search()
     ensures enough { given_under (3 ∷ 2 ∷ []) example_verdict (At []) (Some 6)
         ≡ (0 ∷ 1 ∷ []) ∷ [] }
     ensures too_few { given_under (3 ∷ 2 ∷ []) example_verdict (At []) (Some 3) ≡ [] }
+    ensures stops { stop_of (3 ∷ 2 ∷ []) example_verdict (At []) (Some 5) ≡ Some (2 ∷ []) }
+    ensures ends { stop_of (3 ∷ 2 ∷ []) example_verdict (At []) (Some 6) ≡ None }
+    ensures stopped_page { page_under (3 ∷ 2 ∷ []) example_verdict (At []) (Some 1) (Some 5)
+        ≡ record { choices = (0 ∷ 1 ∷ []) ∷ []; trailer = Stopped (2 ∷ []) } }
+    ensures ended_page { page_under (3 ∷ 2 ∷ []) example_verdict (At []) (Some 1) (Some 6)
+        ≡ record { choices = (0 ∷ 1 ∷ []) ∷ []; trailer = End } }
 {}

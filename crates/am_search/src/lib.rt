@@ -2,7 +2,9 @@
 //!
 //! A [`Judge`] says of each whole choice whether it is true, and of each prefix what is known of
 //! its completions. [`Answers`] are the true choices from a [`Start`] on, in declared order, and
-//! [`first`] is the first of all. A start is written as a token, by which a page says where the
+//! [`first`] is the first of all. Where nothing but the first is wanted, a [`Refuter`] says why no
+//! completion of a prefix is true, and [`first_by_jumps`] skips what fails for the same reason. A
+//! start is written as a token, by which a page says where the
 //! next one begins: [`write_token`] and [`parse_token`].
 #![tactic(auto)]
 
@@ -26,6 +28,15 @@ mod judged;
 mod stage;
 
 pub use answers::{Answers, State, first};
+
+// The first true choice alone, by what refutes prefixes.
+mod jumps;
+mod labels;
+mod refuter;
+
+pub use jumps::first_by_jumps;
+pub use labels::Labels;
+pub use refuter::Refuter;
 
 // Which part of the answers is wanted.
 mod page;

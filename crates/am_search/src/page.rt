@@ -6,4 +6,7 @@ pub struct Page<'a> {
     pub after: Option<&'a str>,
     /// The most lines to write, at least 1, beside the trailer. Without a limit there is none.
     pub limit: Option<u64>,
+    /// The most prefixes to judge, at least 65. Where more would be judged, the page stops there,
+    /// and its trailer says where the next one goes on. Without such a budget there is none.
+    pub steps: Option<u64>,
 }

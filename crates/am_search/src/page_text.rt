@@ -1,18 +1,19 @@
-ghost use Rattle.std.specs.Prelude.{◌≡◌, ◌<◌, IfOk, IfSome};
+ghost use Rattle.std.specs.Prelude.{◌≡◌, ◌<◌, ℕ, List, Option, IfOk, IfSome};
 ghost use Rattle.am_universe.specs.Words.{sizes, Writes};
-ghost use Rattle.am_search.specs.Words.{answers_left, answers_judge, page_of, lines_text};
-ghost use Rattle.am_search.specs.Words.{page_text};
+ghost use Rattle.am_search.specs.Words.{answers_judge, answers_page, lines_text, page_text};
+ghost use Rattle.am_search.specs.Words.{state_at, trailer_at};
 
-use crate::answers::Answers;
+use crate::answers::{Answers, State};
 use crate::judge::Judge;
 use crate::trailer::Trailer;
 use crate::trailer_text::write_trailer;
 use am_universe::{Choice, Kind, LineTable, Sink};
 
 /// Writes a page of the answers that are left: a line for each, up to a limit, and then the
-/// trailer, which is the answer. The table is that of the universe whose choices the answers are.
-/// The only `Err` is `Kind::Write`, after a part of the page from its front. Each line is written
-/// before the next answer is looked for. No memory is taken.
+/// trailer, which is the answer. Where there are more answers than the limit, that is `Next`; else
+/// it says whether the search stopped. The table is that of the universe whose choices the answers
+/// are. The only `Err` is `Kind::Write`, after a part of the page from its front. Each line is
+/// written before the next answer is looked for. No memory is taken.
 pub fn write_page<J: Judge, W: Sink>(
     table: &mut LineTable,
     answers: &mut Answers<'_, J>,
@@ -22,9 +23,9 @@ pub fn write_page<J: Judge, W: Sink>(
     requires sizes { J.sizes (answers_judge answers.old) ≡ sizes table.old }
     requires limit { IfSome limit (λ n. 0 < n) }
     ensures trailer { IfOk result (λ trailer.
-        trailer ≡ (page_of (answers_left answers.old) limit).trailer) }
+        trailer ≡ (answers_page answers.old limit).trailer) }
     ensures written { Writes W.taken W.failures out.old out.new
-        (page_text table.old (page_of (answers_left answers.old) limit)) result }
+        (page_text table.old (answers_page answers.old limit)) result }
 {
     let trailer = write_lines(table, answers, limit, out)?;
     write_trailer(&trailer, out)?;
@@ -41,9 +42,9 @@ fn write_lines<J: Judge, W: Sink>(
     requires sizes { J.sizes (answers_judge answers.old) ≡ sizes table.old }
     requires limit { IfSome limit (λ n. 0 < n) }
     ensures trailer { IfOk result (λ trailer.
-        trailer ≡ (page_of (answers_left answers.old) limit).trailer) }
+        trailer ≡ (answers_page answers.old limit).trailer) }
     ensures written { Writes W.taken W.failures out.old out.new
-        (lines_text table.old (page_of (answers_left answers.old) limit).choices) result }
+        (lines_text table.old (answers_page answers.old limit).choices) result }
 {
     let mut room = limit;
     let mut last = Choice::empty();
@@ -57,5 +58,15 @@ fn write_lines<J: Judge, W: Sink>(
             room = Some(lines - 1);
         }
     }
-    Ok(Trailer::End)
+    Ok(trailer_of(answers.state()))
+}
+
+/// The trailer of a page with all answers that there are, by how far the search has come.
+fn trailer_of(state: State) -> Trailer
+    ensures { (stop : Option (List ℕ)) → state ≡ state_at stop → result ≡ trailer_at stop }
+{
+    match state {
+        State::Stopped(prefix) => Trailer::Stopped(prefix),
+        State::Running | State::Ended => Trailer::End,
+    }
 }

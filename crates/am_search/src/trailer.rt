@@ -7,4 +7,7 @@ pub enum Trailer {
     End,
     /// Answers are left: those after this choice, which is the last of the page.
     Next(Choice),
+    /// The search stopped, as its budget was used. Answers may be left: those from the first
+    /// completion of this prefix on.
+    Stopped(Choice),
 }

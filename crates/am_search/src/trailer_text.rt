@@ -18,5 +18,10 @@ pub fn write_trailer<W: Sink>(trailer: &Trailer, out: &mut W) -> Result<(), Kind
             write_token(&Start::After(*choice), out)?;
             put_all(out, b"\n")
         }
+        Trailer::Stopped(prefix) => {
+            put_all(out, b"# stopped ")?;
+            write_token(&Start::At(*prefix), out)?;
+            put_all(out, b"\n")
+        }
     }
 }

@@ -21,7 +21,9 @@ invariant_of-self g c =
     record {
       walk = walk_at Done Done _ _ a.judged _ refl refl refl (sym c.followed_by-self.ensures.joined)
           (given_end ns (g.J.Judge.verdict a.judge.now) a.start some c.args.depth a.current a.judged a.given.items a.walk.front (a.walk.giving c.args.depth c.requires) c.if-not-go_beside.ensures);
+      steps = a.steps;
       ended = λ ended. refl;
+      stopped = λ prefix e. let past = (a.stopped prefix e).0 in let within = c.requires in cc;
     }
 
 pub invariant_of-self-then-len-depth : goal.invariant_of-self-then-len-depth
@@ -35,7 +37,9 @@ invariant_of-self-then-len-depth g c =
           (at_giving c.args.depth a.walk.front
           (given_longer ns (g.J.Judge.verdict a.judge.now) a.start some c.args.depth a.current a.judged a.given.items a.walk.front (a.walk.giving c.args.depth c.requires)
           c.go_beside.new.prefix c.complete.new.prefix c.if-not-go_beside.ensures long c.complete.ensures));
+      steps = a.steps;
       ended = a.ended;
+      stopped = λ prefix e. let past = (a.stopped prefix e).0 in let within = c.requires in cc;
     }
 
 pub invariant_of-self-else-len-depth : goal.invariant_of-self-else-len-depth
@@ -48,5 +52,7 @@ invariant_of-self-else-len-depth g c =
       walk = walk_at Judging Judging _ _ a.judged _ refl refl refl (sym c.followed_by-self.ensures.joined)
           (given_last ns (g.J.Judge.verdict a.judge.now) a.start some c.args.depth a.current a.judged a.given.items a.walk.front (a.walk.giving c.args.depth c.requires)
           c.go_beside.new.prefix c.if-not-go_beside.ensures short);
+      steps = a.steps;
       ended = λ ended. let past = a.ended ended in let within = c.requires in cc;
+      stopped = λ prefix e. let past = (a.stopped prefix e).0 in let within = c.requires in cc;
     }

@@ -1,9 +1,10 @@
-use Rattle.std.proofs.Common.{◌≡◌, ◌++◌, ◌∷◌, [], ℕ, List, length, drop, ap, sym, subst, ◌∙◌, None}
+use Rattle.std.proofs.Common.{rules, ◌≡◌, ◌++◌, ◌∷◌, [], ℕ, List, length, drop, ap, sym, subst, ◌∙◌}
 use Rattle.am_universe.specs.Words.{IsWhole}
 use Rattle.am_search.specs.Visits.{given_under, BeginsWithLast}
 use Rattle.am_search.specs.AnswersView.{answers_left}
 use Rattle.am_search.proofs.Walks.{progress}
-use Rattle.am_search.proofs.WalkSteps.{given_front, left_one, part_of_search, begins_with_last}
+use Rattle.am_search.specs.declared.stage.Stage.TheVariants.{Done}
+use Rattle.am_search.proofs.WalkBudgets.{given_front, left_one, part_of_search, whole_search, begins_with_last, nothing_left}
 use Rattle.am_search.proofs.answers.AnswersIterator.next.Goals as goal
 
 pub returns-in-Giving-clause-first : goal.returns-in-Giving-clause-first
@@ -12,11 +13,12 @@ returns-in-Giving-clause-first g c =
     let new = c.give_next.new.self in
     let ns = g.J.Judge.sizes new.judge.now in
     let v = g.J.Judge.verdict new.judge.now in
-    let front = given_front ns v new.start new.stage new.current new.along new.judged new.given.items new.walk in
-    let all : List (List ℕ) = given_under ns v new.start None in
+    let front = given_front new.budget new.left new.walk new.steps in
+    let all : List (List ℕ) = given_under ns v new.start new.budget in
     let now_given : new.given.items ≡ old.given.items ++ c.give_next.result ∷ [] = c.give_next.ensures.given ∙ ap (λ l. l ++ c.give_next.result ∷ []) c.loop-self.invariant.given in
-    ap (λ j. drop (length old.given.items) (given_under (g.J.Judge.sizes j) (g.J.Judge.verdict j) old.start None)) (sym (c.give_next.ensures.judge ∙ c.loop-self.invariant.judge))
-    ∙ ap (λ s. drop (length old.given.items) (given_under ns v s None)) (sym (c.give_next.ensures.start ∙ c.loop-self.invariant.start))
+    ap (λ j. drop (length old.given.items) (given_under (g.J.Judge.sizes j) (g.J.Judge.verdict j) old.start old.budget)) (sym (c.give_next.ensures.judge ∙ c.loop-self.invariant.judge))
+    ∙ ap (λ s. drop (length old.given.items) (given_under ns v s old.budget)) (sym (c.give_next.ensures.start ∙ c.loop-self.invariant.start))
+    ∙ ap (λ b. drop (length old.given.items) (given_under ns v new.start b)) (sym (c.give_next.ensures.budget ∙ c.loop-self.invariant.budget))
     ∙ left_one old.given.items front.of_all.0 all c.give_next.result (ap (λ l. l ++ front.of_all.0) (sym now_given) ∙ front.of_all.1)
     ∙ ap (λ l. c.give_next.result ∷ drop (length l) all) (sym now_given)
 
@@ -29,9 +31,18 @@ returns-in-Giving-clause-whole g c =
     (subst (IsWhole (g.J.Judge.sizes c.loop-self.self.judge.now)) (sym c.give_next.ensures.choice) (c.loop-self.self.walk.giving c.in-Giving.depth c.in-Giving.is).whole)
 
 pub returns-in-Giving-clause-judged : goal.returns-in-Giving-clause-judged
-returns-in-Giving-clause-judged g c = part_of_search c.give_next.new.self.walk
+returns-in-Giving-clause-judged g c =
+    let new = c.give_next.new.self in
+    part_of_search new.budget new.left new.walk new.steps
 
 pub returns-in-Giving-clause-last : goal.returns-in-Giving-clause-last
 returns-in-Giving-clause-last g c =
     subst (BeginsWithLast c.give_next.new.self.judged) (sym c.give_next.ensures.choice)
     (subst (λ j. BeginsWithLast j c.loop-self.self.current) (sym c.give_next.ensures.judged) (begins_with_last c.in-Giving.depth c.loop-self.self.walk c.in-Giving.is))
+
+pub returns-clause-first : goal.returns-clause-first
+returns-clause-first g c =
+    let a = c.loop-self.self in
+    let is = c.loop-self.invariant in
+    let done : a.stage ≡ Done = search rules in
+    nothing_left c.args.self.now a (sym is.judge) (sym is.start) (sym is.budget) (sym is.given) (whole_search a.budget a.left a.walk a.steps done)

@@ -7,6 +7,7 @@ abbrev pub invariant-loop-self : goal.invariant-loop-self
 invariant-loop-self g l = record {
   judge : l.self.judge.now ≡ l.fn.self.judge.now;
   start : l.self.start ≡ l.fn.self.start;
+  budget : l.self.budget ≡ l.fn.self.budget;
   state : l.self.state ≡ l.fn.self.state;
   given : l.self.given.items ≡ l.fn.self.given.items;
   judged : length l.fn.self.judged ≤ length l.self.judged;

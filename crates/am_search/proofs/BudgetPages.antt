@@ -1,0 +1,351 @@
+-- What the pages of a search under a budget are: what came before the stop, and what is left.
+use Rattle.std.proofs.Common.{◌≡◌, ◌⊎◌, ℕ, zero, suc, ◌+◌, ◌-◌, ◌<◌, ◌≤◌, Bool, true, false, not, cond, nat_eq, List, [], ◌∷◌, ◌++◌, length, take, drop, get_or, slice_get, Option, Some, None, IfSome, length-append, ap, sym, subst, ◌∙◌, refl, inl, inr, arith, append-nil}
+use Rattle.std.specs.List.{filter, flat_map, starts_with}
+use Rattle.std.proofs.lemmas.Bool.{false≢true, cases_Bool, cases_lt}
+use Rattle.std.proofs.lemmas.Grind.{flat_map-append}
+use Rattle.std.proofs.lemmas.List.{take-append-le, take-append-drop, get_or_append_left, take_all}
+use Rattle.std.proofs.lemmas.List.Elements.{filter-append}
+use Rattle.am_universe.specs.Choice.{choices}
+use Rattle.am_universe.specs.Completions.{completions}
+use Rattle.am_universe.proofs.ListLemmas.{IsIn}
+use Rattle.am_search.specs.declared.start.Start.{Start}
+use Rattle.am_search.specs.declared.start.Start.TheVariants.{At}
+use Rattle.am_search.specs.declared.trailer.Trailer.{Trailer}
+use Rattle.am_search.specs.declared.trailer.Trailer.TheVariants.{End, Next, Stopped}
+use Rattle.am_search.specs.declared.verdict.Verdict.{Verdict}
+use Rattle.am_search.specs.declared.verdict.Verdict.TheVariants.{Yes, No, Open}
+use Rattle.am_search.specs.Judge.{IsJudge, is_open, is_yes}
+use Rattle.am_search.specs.Start.{comes_before, first_of_start, at_or_after, choices_from, answers_from}
+use Rattle.am_search.specs.Visits.{visited, completions_from, given_at, given_by, given_under}
+use Rattle.am_search.specs.Page.{page_ending, page_of, page_from, rest_after}
+use Rattle.am_search.specs.BudgetPage.{stop_of, trailer_at, page_under, IsEnough}
+use Rattle.am_search.proofs.ChoiceOrder.{Ascends, above_first, ascends_rest, not_back, before_trans, filter_all, filter_none, in_filter}
+use Rattle.am_search.proofs.Odometer.{admits_at_most}
+use Rattle.am_search.proofs.PrefixOrder.{before_nothing, before_parts, begins_parts, begins_behind, before_begins, before_beside, front_passes}
+use Rattle.am_search.proofs.VisitedPrefixes.{ReachesTo, visited_sorted, in_visited, IsVisited}
+use Rattle.am_search.proofs.VisitSteps.{got_at, past_length}
+use Rattle.am_search.proofs.VisitsGive.{visited_give}
+use Rattle.am_search.proofs.WalkSteps.{HasBegun, begun_at}
+use Rattle.am_search.proofs.PageLines.{all_page, page_of_part, page_of_all}
+use Rattle.am_search.proofs.Pages.{choices_at, filters_swapped, filter_within, part, whole, kind_of, page_rest}
+
+-- what does not come before a later choice does not come before an earlier one
+pub stays_from : (f p c : List ℕ) → comes_before f p ≡ true → not (comes_before c p) ≡ true → not (comes_before c f) ≡ true
+stays_from f p c less late = elim (cases_Bool (comes_before c f)) [
+  | inl early ↦ absurd (false≢true (sym (ap not (before_trans c f p early less)) ∙ late))
+  | inr e ↦ ap not e
+]
+
+-- ---- Before and after a place in a list that ascends.
+
+before_at : (xs : List (List ℕ)) (k : ℕ) (p q : List ℕ) → Ascends xs → slice_get xs k ≡ Some p → IsIn (take k xs) q → comes_before q p ≡ true
+before_at [] k p q s e i = cc
+before_at (x ∷ xs) zero p q s e i = absurd i
+before_at (x ∷ xs) (suc k) p q s e (inl same) = ap (λ y. comes_before y p) (sym same) ∙ above_first x xs p s (got_at xs k p e)
+before_at (x ∷ xs) (suc k) p q s e (inr i) = before_at xs k p q (ascends_rest x xs s) e i
+
+from_at : (xs : List (List ℕ)) (k : ℕ) (p q : List ℕ) → Ascends xs → slice_get xs k ≡ Some p → IsIn (drop k xs) q → (p ≡ q) ⊎ (comes_before p q ≡ true)
+from_at [] k p q s e i = cc
+from_at (x ∷ xs) zero p q s e (inl same) = let here : x ≡ p = cc in inl (sym here ∙ same)
+from_at (x ∷ xs) zero p q s e (inr i) = let here : x ≡ p = cc in inr (ap (λ y. comes_before y q) (sym here) ∙ above_first x xs q s i)
+from_at (x ∷ xs) (suc k) p q s e i = from_at xs k p q (ascends_rest x xs s) e i
+
+pub in_taken : (xs : List (List ℕ)) (k : ℕ) (q : List ℕ) → IsIn (take k xs) q → IsIn xs q
+in_taken [] zero q i = absurd i
+in_taken [] (suc k) q i = absurd i
+in_taken (x ∷ xs) zero q i = absurd i
+in_taken (x ∷ xs) (suc k) q (inl same) = inl same
+in_taken (x ∷ xs) (suc k) q (inr i) = inr (in_taken xs k q i)
+
+in_dropped : (xs : List (List ℕ)) (k : ℕ) (q : List ℕ) → IsIn (drop k xs) q → IsIn xs q
+in_dropped [] zero q i = absurd i
+in_dropped [] (suc k) q i = absurd i
+in_dropped (x ∷ xs) zero q i = i
+in_dropped (x ∷ xs) (suc k) q i = inr (in_dropped xs k q i)
+
+-- a filter of joined lists whose members all pass, or all fail
+all_joined : (test : List ℕ → Bool) (f : List ℕ → List (List ℕ)) (ps : List (List ℕ)) → ((p c : List ℕ) → IsIn ps p → IsIn (f p) c → test c ≡ true) → filter test (flat_map f ps) ≡ flat_map f ps
+all_joined test f [] h = refl
+all_joined test f (p ∷ ps) h =
+    filter-append test (f p) (flat_map f ps)
+    ∙ ap (λ l. l ++ filter test (flat_map f ps)) (filter_all test (f p) (λ c i. h p c (inl refl) i))
+    ∙ ap (λ l. f p ++ l) (all_joined test f ps (λ q c i. h q c (inr i)))
+
+none_joined : (test : List ℕ → Bool) (f : List ℕ → List (List ℕ)) (ps : List (List ℕ)) → ((p c : List ℕ) → IsIn ps p → IsIn (f p) c → test c ≡ false) → filter test (flat_map f ps) ≡ []
+none_joined test f [] h = refl
+none_joined test f (p ∷ ps) h =
+    filter-append test (f p) (flat_map f ps)
+    ∙ ap (λ l. l ++ filter test (flat_map f ps)) (filter_none test (f p) (λ c i. h p c (inl refl) i))
+    ∙ none_joined test f ps (λ q c i. h q c (inr i))
+
+-- ---- What a prefix gives begins with it, and the prefix is judged `Yes`.
+
+record IsGivenAt (verdict : List ℕ → Verdict) (q c : List ℕ) : Type 0 where
+  begins : starts_with nat_eq c q ≡ true
+  closed : is_open (verdict q) ≡ false
+
+in_completions_from : (sizes q c : List ℕ) (first : Option (List ℕ)) → IsIn (at_or_after first (completions sizes q)) c → starts_with nat_eq c q ≡ true
+in_completions_from sizes q c None i = absurd i
+in_completions_from sizes q c (Some f) i =
+    (in_filter (λ d. starts_with nat_eq d q) (choices sizes) c (in_filter (λ d. not (comes_before d f)) (completions sizes q) c i).0).1
+
+given_at_is : (sizes : List ℕ) (verdict : List ℕ → Verdict) (start : Start) (q c : List ℕ) → IsIn (given_at sizes verdict start q) c → IsGivenAt verdict q c
+given_at_is sizes verdict start q c i = by (verdict q) refl i
+  where
+    by : (v : Verdict) → verdict q ≡ v → IsIn (cond (is_yes v) (completions_from sizes start q) []) c → IsGivenAt verdict q c
+    by Yes e j = record { begins = in_completions_from sizes q c (first_of_start sizes start) j; closed = ap is_open e }
+    by No e j = absurd j
+    by Open e j = absurd j
+
+-- ---- What is given before a visited prefix, and from there on.
+
+module _ (sizes : List ℕ) (verdict : List ℕ → Verdict) (start : Start) (k : ℕ) (p : List ℕ) (at_k : slice_get (visited sizes verdict start) k ≡ Some p) where
+  pub begun : HasBegun sizes start
+  begun = begun_at sizes verdict start k p at_k
+
+  pub visited_is : (q : List ℕ) → IsIn (visited sizes verdict start) q → IsVisited sizes verdict begun.first q
+  visited_is q i = in_visited sizes verdict start begun.first begun.begins q i
+
+  given_early : (q c : List ℕ) → IsIn (take k (visited sizes verdict start)) q → IsIn (given_at sizes verdict start q) c → comes_before c p ≡ true
+  given_early q c i j =
+      let less = before_at (visited sizes verdict start) k p q (visited_sorted sizes verdict start) at_k i in
+      let given = given_at_is sizes verdict start q c j in
+      let here = visited_is p (got_at (visited sizes verdict start) k p at_k) in
+      elim (cases_Bool (starts_with nat_eq p q)) [
+        | inl b ↦ absurd (false≢true (sym given.closed ∙ front_passes (λ front. is_open (verdict front)) q p here.fronts b less))
+        | inr other ↦ before_beside q p c less other given.begins
+      ]
+
+  given_late : (q c : List ℕ) → IsIn (drop k (visited sizes verdict start)) q → IsIn (given_at sizes verdict start q) c → comes_before c p ≡ false
+  given_late q c i j =
+      let given = given_at_is sizes verdict start q c j in
+      elim (from_at (visited sizes verdict start) k p q (visited_sorted sizes verdict start) at_k i) [
+        | inl same ↦ ap (comes_before c) same ∙ begins_behind q c given.begins
+        | inr less ↦ not_back p c (before_begins p q c less given.begins)
+      ]
+
+  -- the answers, cut at the prefix
+  module _ (truth : List ℕ → Bool) (law : IsJudge sizes truth verdict) where
+    pub answers_cut : answers_from sizes truth start
+        ≡ given_by sizes verdict start (take k (visited sizes verdict start)) ++ given_by sizes verdict start (drop k (visited sizes verdict start))
+    answers_cut =
+        sym (visited_give sizes truth verdict start law)
+        ∙ ap (given_by sizes verdict start) (sym (take-append-drop k (visited sizes verdict start)))
+        ∙ flat_map-append (given_at sizes verdict start) (take k (visited sizes verdict start)) (drop k (visited sizes verdict start))
+
+    -- those before it are what was given, and the others are left
+    pub given_before : given_by sizes verdict start (take k (visited sizes verdict start)) ≡ filter (λ c. comes_before c p) (answers_from sizes truth start)
+    given_before =
+        let early : List (List ℕ) = given_by sizes verdict start (take k (visited sizes verdict start)) in
+        let late : List (List ℕ) = given_by sizes verdict start (drop k (visited sizes verdict start)) in
+        sym (append-nil early)
+        ∙ ap (λ l. early ++ l) (sym (none_joined (λ c. comes_before c p) (given_at sizes verdict start) (drop k (visited sizes verdict start)) given_late))
+        ∙ ap (λ l. l ++ filter (λ c. comes_before c p) late) (sym (all_joined (λ c. comes_before c p) (given_at sizes verdict start) (take k (visited sizes verdict start)) given_early))
+        ∙ sym (filter-append (λ c. comes_before c p) early late)
+        ∙ ap (filter (λ c. comes_before c p)) (sym answers_cut)
+
+    left_from : given_by sizes verdict start (drop k (visited sizes verdict start)) ≡ filter (λ c. not (comes_before c p)) (answers_from sizes truth start)
+    left_from =
+        let early : List (List ℕ) = given_by sizes verdict start (take k (visited sizes verdict start)) in
+        let late : List (List ℕ) = given_by sizes verdict start (drop k (visited sizes verdict start)) in
+        ap (λ l. l ++ late) (sym (none_joined (λ c. not (comes_before c p)) (given_at sizes verdict start) (take k (visited sizes verdict start)) (λ q c i j. ap not (given_early q c i j))))
+        ∙ ap (λ l. filter (λ c. not (comes_before c p)) early ++ l) (sym (all_joined (λ c. not (comes_before c p)) (given_at sizes verdict start) (drop k (visited sizes verdict start)) (λ q c i j. ap not (given_late q c i j))))
+        ∙ sym (filter-append (λ c. not (comes_before c p)) early late)
+        ∙ ap (filter (λ c. not (comes_before c p))) (sym answers_cut)
+
+    -- where the prefix comes after the first choice, these are the answers from the prefix on
+    pub left_at : comes_before begun.first p ≡ true → given_by sizes verdict start (drop k (visited sizes verdict start)) ≡ answers_from sizes truth (At p)
+    left_at less =
+        let here = visited_is p (got_at (visited sizes verdict start) k p at_k) in
+        left_from
+        ∙ filters_swapped (λ c. not (comes_before c p)) truth (choices_from sizes start)
+        ∙ ap (filter truth)
+        (ap (λ o. filter (λ c. not (comes_before c p)) (at_or_after o (choices sizes))) begun.begins
+        ∙ filter_within (λ c. not (comes_before c p)) (λ c. not (comes_before c begun.first)) (choices sizes) (λ c late. stays_from begun.first p c less late)
+        ∙ sym (choices_at sizes p law.limits here.admitted))
+
+-- ---- A budget of more steps than there are labels comes past the first choice.
+
+longer : (f a b : List ℕ) → starts_with nat_eq f a ≡ true → starts_with nat_eq f b ≡ true → comes_before a b ≡ true → length a < length b
+longer f a [] h k less = absurd (false≢true (sym (before_nothing a) ∙ less))
+longer f [] (q ∷ b) h k less = omega arith
+longer [] (p ∷ a) (q ∷ b) h k less = absurd (false≢true h)
+longer (r ∷ f) (p ∷ a) (q ∷ b) h k less =
+    let to_a = begins_parts r p f a h in
+    let to_b = begins_parts r q f b k in
+    elim (before_parts p q a b less) [
+      | inl l ↦ absurd (omega (arith, l, to_a.0, to_b.0))
+      | inr same ↦ omega (arith, longer f a b to_a.1 to_b.1 same.1)
+    ]
+
+deep : (f : List ℕ) (xs : List (List ℕ)) (n k : ℕ) (p : List ℕ) → Ascends xs → ((y : List ℕ) → IsIn xs y → ReachesTo f y)
+    → ((y : List ℕ) → IsIn xs y → starts_with nat_eq f y ≡ true → n ≤ length y) → slice_get xs k ≡ Some p → starts_with nat_eq f p ≡ true → n + k ≤ length p
+deep f [] n k p s reach least e b = cc
+deep f (x ∷ xs) n zero p s reach least e b =
+    let here : x ≡ p = cc in
+    omega (arith, least p (inl here) b)
+deep f (x ∷ xs) n (suc k) p s reach least e b =
+    let over = above_first x xs p s (got_at xs k p e) in
+    let to_x = along (reach x (inl refl)) over in
+    let low = least x (inl refl) to_x in
+    omega (
+      arith,
+      deep f xs (suc n) k p (ascends_rest x xs s) (λ y i. reach y (inr i))
+          (λ y i c. omega (arith, low, longer f x y to_x c (above_first x xs y s i))) e b,
+    )
+  where
+    along : ReachesTo f x → comes_before x p ≡ true → starts_with nat_eq f x ≡ true
+    along (inl h) over = h
+    along (inr less) over = absurd (false≢true (sym (begins_behind p f b) ∙ before_trans f x p less over))
+
+module _ (sizes : List ℕ) (verdict : List ℕ → Verdict) (start : Start) (k : ℕ) (p : List ℕ) (at_k : slice_get (visited sizes verdict start) k ≡ Some p) where
+  pub past_first : length sizes < k → comes_before (begun sizes verdict start k p at_k).first p ≡ true
+  past_first enough = by (visited_is sizes verdict start k p at_k p (got_at (visited sizes verdict start) k p at_k))
+    where
+      f : List ℕ
+      f = (begun sizes verdict start k p at_k).first
+
+      by : IsVisited sizes verdict f p → comes_before f p ≡ true
+      by here = elim here.reaches_to [
+        | inr less ↦ less
+        | inl b ↦
+            let long : 0 + k ≤ length p =
+            deep f (visited sizes verdict start) 0 k p (visited_sorted sizes verdict start)
+            (λ y i. (visited_is sizes verdict start k p at_k y i).reaches_to) (λ y i c. omega arith) at_k b in
+            absurd (omega (arith, long, enough, admits_at_most sizes p here.admitted))
+      ]
+
+-- ---- What a page under a budget is.
+
+-- where nothing stops the search, its answers are all that there are
+all_given : (sizes : List ℕ) (truth : List ℕ → Bool) (verdict : List ℕ → Verdict) (start : Start) (budget : Option ℕ) → IsJudge sizes truth verdict
+    → stop_of sizes verdict start budget ≡ None → given_under sizes verdict start budget ≡ answers_from sizes truth start
+all_given sizes truth verdict start None law none = visited_give sizes truth verdict start law
+all_given sizes truth verdict start (Some k) law none =
+    ap (given_by sizes verdict start) (take_all k (visited sizes verdict start) (past_length (visited sizes verdict start) k none))
+    ∙ visited_give sizes truth verdict start law
+
+-- the answers under a budget are the first of all
+given_first : (sizes : List ℕ) (truth : List ℕ → Bool) (verdict : List ℕ → Verdict) (start : Start) (budget : Option ℕ) → IsJudge sizes truth verdict
+    → (rest : List (List ℕ)) × (answers_from sizes truth start ≡ given_under sizes verdict start budget ++ rest)
+given_first sizes truth verdict start None law = ([], sym (visited_give sizes truth verdict start law) ∙ sym (append-nil (given_under sizes verdict start None)))
+given_first sizes truth verdict start (Some k) law =
+    let all : List (List ℕ) = visited sizes verdict start in (
+      given_by sizes verdict start (drop k all),
+      sym (visited_give sizes truth verdict start law)
+          ∙ ap (given_by sizes verdict start) (sym (take-append-drop k all))
+          ∙ flat_map-append (given_at sizes verdict start) (take k all) (drop k all),
+    )
+
+-- a page that is cut by its limit is that of all answers
+same_part : (ending : Trailer) (xs later : List (List ℕ)) (n : ℕ) → 0 < n → n < length xs → page_ending ending xs (Some n) ≡ page_of (xs ++ later) (Some n)
+same_part ending xs later n some more =
+    page_of_part ending xs n more
+    ∙ ap (λ l. record { choices = l; trailer = Next (get_or xs (n - 1) []) }) (sym (take-append-le n xs later (omega (arith, more))))
+    ∙ ap (λ l. record { choices = take n (xs ++ later); trailer = Next l }) (sym (get_or_append_left xs later [] (n - 1) (omega (arith, some, more))))
+    ∙ sym (page_of_part End (xs ++ later) n (omega (arith, more, length-append xs later)))
+
+module _ (sizes : List ℕ) (truth : List ℕ → Bool) (verdict : List ℕ → Verdict) (start : Start) (law : IsJudge sizes truth verdict) where
+  -- without a stop, or cut by the limit, the page is the one without a budget
+  pub same_unstopped : (limit budget : Option ℕ) → stop_of sizes verdict start budget ≡ None → page_under sizes verdict start limit budget ≡ page_from sizes truth start limit
+  same_unstopped limit budget none =
+      ap (λ o. page_ending (trailer_at o) (given_under sizes verdict start budget) limit) none
+      ∙ ap (λ xs. page_of xs limit) (all_given sizes truth verdict start budget law none)
+
+  same_cut : (limit budget : Option ℕ) (n : ℕ) → limit ≡ Some n → 0 < n → n < length (given_under sizes verdict start budget)
+      → page_under sizes verdict start limit budget ≡ page_from sizes truth start limit
+  same_cut limit budget n is some more =
+      let xs : List (List ℕ) = given_under sizes verdict start budget in
+      let ending : Trailer = trailer_at (stop_of sizes verdict start budget) in
+      let front = given_first sizes truth verdict start budget law in
+      ap (page_ending ending xs) is ∙ same_part ending xs front.0 n some more
+      ∙ ap (λ l. page_of l (Some n)) (sym front.1) ∙ ap (page_of (answers_from sizes truth start)) (sym is)
+
+  -- which page it is
+  pub data UnderKind (limit budget : Option ℕ) : Type 0 where
+    without : page_under sizes verdict start limit budget ≡ page_from sizes truth start limit → UnderKind limit budget
+    stopped : (k : ℕ) (p : List ℕ) → budget ≡ Some k → slice_get (visited sizes verdict start) k ≡ Some p
+        → (page_under sizes verdict start limit budget).trailer ≡ Stopped p
+        → (page_under sizes verdict start limit budget).choices ≡ given_by sizes verdict start (take k (visited sizes verdict start)) → UnderKind limit budget
+
+  all_kind : (limit budget : Option ℕ) (p : List ℕ) → stop_of sizes verdict start budget ≡ Some p
+      → page_under sizes verdict start limit budget ≡ all_page (trailer_at (stop_of sizes verdict start budget)) (given_under sizes verdict start budget) → UnderKind limit budget
+  all_kind limit budget p e same = by budget refl
+    where
+      by : (b : Option ℕ) → budget ≡ b → UnderKind limit budget
+      by None is = let none : None ≡ Some p = ap (stop_of sizes verdict start) (sym is) ∙ e in cc
+      by (Some k) is =
+          stopped k p is (ap (stop_of sizes verdict start) (sym is) ∙ e)
+          (ap (λ page. page.trailer) same ∙ ap trailer_at e)
+          (ap (λ page. page.choices) same ∙ ap (given_under sizes verdict start) is)
+
+  pub under_kind : (limit budget : Option ℕ) → IfSome limit (λ n. 0 < n) → UnderKind limit budget
+  under_kind limit budget some = by_stop (stop_of sizes verdict start budget) refl
+    where
+      by_limit : (p : List ℕ) → stop_of sizes verdict start budget ≡ Some p → (l : Option ℕ) → limit ≡ l → IfSome l (λ n. 0 < n) → UnderKind limit budget
+      by_limit p e None is h = all_kind limit budget p e (ap (page_ending (trailer_at (stop_of sizes verdict start budget)) (given_under sizes verdict start budget)) is)
+      by_limit p e (Some n) is h = elim (cases_lt n (length (given_under sizes verdict start budget))) [
+        | inl more ↦ without (same_cut limit budget n is h more)
+        | inr few ↦
+            all_kind limit budget p e
+            (ap (page_ending (trailer_at (stop_of sizes verdict start budget)) (given_under sizes verdict start budget)) is
+            ∙ page_of_all (trailer_at (stop_of sizes verdict start budget)) (given_under sizes verdict start budget) (Some n) few)
+      ]
+
+      by_stop : (o : Option (List ℕ)) → stop_of sizes verdict start budget ≡ o → UnderKind limit budget
+      by_stop None e = without (same_unstopped limit budget e)
+      by_stop (Some p) e = by_limit p e limit refl some
+
+-- a page without a budget does not stop
+pub never_stopped : (sizes : List ℕ) (truth : List ℕ → Bool) (start : Start) (limit : Option ℕ) (p : List ℕ) → IfSome limit (λ n. 0 < n) → (page_from sizes truth start limit).trailer ≡ Stopped p → ⊥
+never_stopped sizes truth start limit p some e = elim (kind_of End (answers_from sizes truth start) limit some) [
+  | part c n h ↦ let next : Next c ≡ Stopped p = sym h.trailer ∙ e in cc
+  | whole h ↦ let end : End ≡ Stopped p = sym h.trailer ∙ e in cc
+]
+
+-- ---- Laws of pages under a budget.
+
+module _ (sizes : List ℕ) (truth : List ℕ → Bool) (verdict : List ℕ → Verdict) (start : Start) (limit budget : Option ℕ) (law : IsJudge sizes truth verdict) (some : IfSome limit (λ n. 0 < n)) where
+  -- a page that does not stop is the one without a budget
+  pub same_next : (c : List ℕ) → (page_under sizes verdict start limit budget).trailer ≡ Next c → page_under sizes verdict start limit budget ≡ page_from sizes truth start limit
+  same_next c e = elim (under_kind sizes truth verdict start law limit budget some) [
+    | without same ↦ same
+    | stopped k p is at_k ends has ↦ let no : Stopped p ≡ Next c = sym ends ∙ e in cc
+  ]
+
+  pub same_end : (page_under sizes verdict start limit budget).trailer ≡ End → page_under sizes verdict start limit budget ≡ page_from sizes truth start limit
+  same_end e = elim (under_kind sizes truth verdict start law limit budget some) [
+    | without same ↦ same
+    | stopped k p is at_k ends has ↦ let no : Stopped p ≡ End = sym ends ∙ e in cc
+  ]
+
+  -- one that stops at a prefix has the answers before it
+  pub stopped_before : (p : List ℕ) → (page_under sizes verdict start limit budget).trailer ≡ Stopped p
+      → (page_under sizes verdict start limit budget).choices ≡ filter (λ c. comes_before c p) (answers_from sizes truth start)
+  stopped_before p e = elim (under_kind sizes truth verdict start law limit budget some) [
+    | without same ↦ absurd (never_stopped sizes truth start limit p some (sym (ap (λ page. page.trailer) same) ∙ e))
+    | stopped k q is at_k ends has ↦
+        let both : Stopped q ≡ Stopped p = sym ends ∙ e in
+        let here : q ≡ p = cc in
+        has ∙ given_before sizes verdict start k q at_k truth law ∙ ap (λ x. filter (λ c. comes_before c x) (answers_from sizes truth start)) here
+  ]
+
+  module _ (enough : IsEnough sizes budget) where
+    pub enough_steps : (k : ℕ) → budget ≡ Some k → length sizes < k
+    enough_steps k is = subst (IsEnough sizes) is enough
+
+    without_rest : page_under sizes verdict start limit budget ≡ page_from sizes truth start limit
+        → answers_from sizes truth start ≡ (page_under sizes verdict start limit budget).choices ++ rest_after sizes truth (page_under sizes verdict start limit budget).trailer
+    without_rest same =
+        page_rest sizes truth start (page_under sizes verdict start limit budget) (record { limit = limit; at_least_one = some; from_start = same })
+
+    -- the page, and what its trailer leaves
+    pub rest_under : answers_from sizes truth start ≡ (page_under sizes verdict start limit budget).choices ++ rest_after sizes truth (page_under sizes verdict start limit budget).trailer
+    rest_under = elim (under_kind sizes truth verdict start law limit budget some) [
+      | without same ↦ without_rest same
+      | stopped k p is at_k ends has ↦
+          answers_cut sizes verdict start k p at_k truth law
+          ∙ ap (λ l. l ++ given_by sizes verdict start (drop k (visited sizes verdict start))) (sym has)
+          ∙ ap (λ l. (page_under sizes verdict start limit budget).choices ++ l)
+          (left_at sizes verdict start k p at_k truth law (past_first sizes verdict start k p at_k (enough_steps k is)) ∙ ap (rest_after sizes truth) (sym ends))
+    ]

@@ -1,0 +1,85 @@
+-- Sets of labels, bit by bit.
+use Rattle.std.proofs.Common.{◌≡◌, ℕ, zero, suc, ◌*◌, ◌/◌, ◌%◌, ◌^◌, ◌<◌, Bool, true, false, ◌&&◌, ◌||◌, ◌==◌, nat_eq, nat_lt, bit_and, bit_or, min, max, ◌-◌, refl, ap, sym, ◌∙◌, inl, inr, arith}
+use Rattle.std.specs.Int.{bit_at}
+use Rattle.std.proofs.lemmas.Bool.{cases_eq, cases_lt, eq-eqb, ne_eqb, lt-ltb, le-ltb, and_right, or_right}
+use Rattle.std.proofs.lemmas.Nat.Bits.{bit_at-zero, shr_and_one, bit_at_or, bit_at-lt, bit_at_set_same, bit_at_set_other, bit_at_and, bit_at_ones, bit_at_ones_above}
+use Rattle.std.proofs.Math.Nat.{mod-eq_of_lt}
+use Rattle.std.proofs.Math.Pow.{pow-lt}
+use mir.Syntax.{w64}
+use Rattle.am_search.specs.declared.labels.TheConstants.{ROOM}
+use Rattle.am_search.specs.Labels.{has_label}
+
+-- a bit is 1
+abbrev is_one : ℕ → ℕ → Bool
+is_one bits i = bit_at bits i == 1
+
+or_false : (b : Bool) → (b || false) ≡ b
+or_false true = refl
+or_false false = refl
+
+pub has_none : (i : ℕ) → has_label (record { bits = 0 }) i ≡ false
+unfolding has_label
+has_none i = ap (λ b. nat_eq b 1) (bit_at-zero i)
+
+-- one bit set
+pub has_with : (bits label i : ℕ) → label < ROOM
+    → has_label (record { bits = bit_or bits (1 * 2 ^ label % 2 ^ ROOM) }) i
+    ≡ (has_label (record { bits = bits }) i || i == label)
+unfolding has_label
+has_with bits label i h = elim (cases_eq i label) [
+  | inl same ↦ rw (same, eq-eqb label label refl)
+      (ap (λ b. nat_eq b 1) (bit_at_set_same w64 bits label h) ∙ sym (or_right (is_one bits label) true refl))
+  | inr other ↦ rw (ne_eqb i label other)
+      (ap (λ b. nat_eq b 1) (bit_at_set_other w64 bits label h i other) ∙ sym (or_false (is_one bits i)))
+]
+
+greater : (a b : ℕ) → a < 2 → b < 2 → nat_eq (max a b) 1 ≡ (nat_eq a 1 || nat_eq b 1)
+greater zero zero h k = refl
+greater zero (suc zero) h k = refl
+greater (suc zero) zero h k = refl
+greater (suc zero) (suc zero) h k = refl
+greater zero (suc (suc b)) h k = absurd (omega arith)
+greater (suc zero) (suc (suc b)) h k = absurd (omega arith)
+greater (suc (suc a)) b h k = absurd (omega arith)
+
+-- the bits of both
+pub has_either : (a b i : ℕ)
+    → has_label (record { bits = bit_or a b }) i
+    ≡ (has_label (record { bits = a }) i || has_label (record { bits = b }) i)
+unfolding has_label
+has_either a b i =
+    ap (λ n. nat_eq n 1) (bit_at_or a b i)
+    ∙ greater (bit_at a i) (bit_at b i) (bit_at-lt a i) (bit_at-lt b i)
+
+-- the bits below one
+pub has_before : (bits label i ones : ℕ) → ones ≡ 2 ^ label - 1
+    → has_label (record { bits = bit_and bits ones }) i
+    ≡ (has_label (record { bits = bits }) i && nat_lt i label)
+unfolding has_label
+has_before bits label i ones same =
+    ap (λ n. nat_eq (bit_at (bit_and bits n) i) 1) same
+    ∙ ap (λ n. nat_eq n 1) (bit_at_and bits (2 ^ label - 1) i)
+    ∙ elim (cases_lt i label) [
+      | inl low ↦ rw (bit_at_ones label i low, lt-ltb i label low) (kept (bit_at bits i) (bit_at-lt bits i))
+      | inr high ↦ rw (bit_at_ones_above label i high, le-ltb i label high)
+          (ap (λ n. nat_eq n 1) (min_none (bit_at bits i)) ∙ sym (and_right (is_one bits i) false refl))
+    ]
+  where
+    min_none : (n : ℕ) → min n 0 ≡ 0
+    min_none n = omega arith
+
+    kept : (n : ℕ) → n < 2 → nat_eq (min n 1) 1 ≡ (nat_eq n 1 && true)
+    kept zero h = refl
+    kept (suc zero) h = refl
+    kept (suc (suc n)) h = absurd (omega arith)
+
+pub ones_of : (label : ℕ) → label < ROOM → 1 * 2 ^ label % 2 ^ ROOM - 1 ≡ 2 ^ label - 1
+ones_of label h =
+    let one : 1 * 2 ^ label ≡ 2 ^ label = omega arith in
+    ap (λ n. n % 2 ^ ROOM - 1) one ∙ ap (λ n. n - 1) (mod-eq_of_lt (pow-lt h))
+
+-- the test that the code makes
+pub tested : (bits label : ℕ)
+    → nat_eq (bit_and (bits / 2 ^ label) 1) 1 ≡ has_label (record { bits = bits }) label
+unfolding has_label
+tested bits label = ap (λ b. nat_eq b 1) (shr_and_one bits label)

@@ -1,0 +1,243 @@
+-- Pages of searches in a row, under budgets that are enough: what they have together, and that they come to an end.
+use Rattle.std.proofs.Common.{◌≡◌, ◌⊎◌, ℕ, ◌<◌, ◌≤◌, Bool, true, false, not, cond, nat_eq, ◌-◌, get_or, List, [], ◌∷◌, ◌++◌, length, Option, Some, None, IfSome, MatchOption, ap, sym, subst, ◌∙◌, refl, inl, inr, arith}
+use Rattle.std.specs.List.{filter, starts_with}
+use Rattle.std.proofs.lemmas.Bool.{false≢true}
+use Rattle.am_universe.specs.Choice.{choices, admits}
+use Rattle.am_universe.specs.Completions.{completions}
+use Rattle.am_universe.proofs.ListLemmas.{IsIn}
+use Rattle.am_search.specs.declared.start.Start.{Start}
+use Rattle.am_search.specs.declared.start.Start.TheVariants.{At, After}
+use Rattle.am_search.specs.declared.trailer.Trailer.TheVariants.{End}
+use Rattle.am_search.specs.declared.verdict.Verdict.{Verdict}
+use Rattle.am_search.specs.Judge.{IsJudge}
+use Rattle.am_search.specs.Start.{comes_before, IsStart, first_of_start, at_or_after, choices_from, answers_from}
+use Rattle.am_search.specs.Visits.{visited}
+use Rattle.am_search.specs.Page.{AnswerPage, page_from, rest_after, IsPage, start_after, answers_from_any, all_choices_of}
+use Rattle.am_search.specs.BudgetPage.{page_under, IsSearchPage, IsSearchChain, BeginsLater}
+use Rattle.am_search.proofs.ChoiceOrder.{filter_step, in_filter, taken_last, not_itself, before_trans}
+use Rattle.am_search.proofs.Odometer.{ArePositive, positive, filled, first_completion_is}
+use Rattle.am_search.proofs.PrefixOrder.{before_begins}
+use Rattle.am_search.proofs.Walks.{in_choices, first_is_whole}
+use Rattle.am_search.proofs.VisitSteps.{got_at}
+use Rattle.am_search.proofs.WalkSteps.{completion_begins}
+use Rattle.am_search.proofs.Pages.{choices_after, begins_with, next_is_start, more_left, part, whole, kind_of}
+use Rattle.am_search.proofs.BudgetPages.{begun, visited_is, past_first, under_kind, without, stopped, rest_under, stays_from, enough_steps}
+
+-- ---- Lists of which fewer pass.
+
+fewer_pass : (few more : List ℕ → Bool) (xs : List (List ℕ)) → ((x : List ℕ) → few x ≡ true → more x ≡ true) → length (filter few xs) ≤ length (filter more xs)
+fewer_pass few more [] within = omega arith
+fewer_pass few more (x ∷ xs) within = by (few x) (more x) refl refl (fewer_pass few more xs within)
+  where
+    by : (a b : Bool) → few x ≡ a → more x ≡ b → length (filter few xs) ≤ length (filter more xs)
+        → length (cond a (x ∷ filter few xs) (filter few xs)) ≤ length (cond b (x ∷ filter more xs) (filter more xs))
+    by true true a b h = omega arith
+    by true false a b h = absurd (false≢true (sym b ∙ within x a))
+    by false true a b h = omega arith
+    by false false a b h = h
+
+fewer_by_one : (few more : List ℕ → Bool) (xs : List (List ℕ)) (y : List ℕ) → ((x : List ℕ) → few x ≡ true → more x ≡ true) → IsIn xs y → few y ≡ false → more y ≡ true
+    → length (filter few xs) < length (filter more xs)
+fewer_by_one few more [] y within i out kept = absurd i
+fewer_by_one few more (x ∷ xs) y within (inl same) out kept =
+    omega (
+      arith,
+      fewer_pass few more xs within,
+      ap length (filter_step few x xs false (ap few same ∙ out)),
+      ap length (filter_step more x xs true (ap more same ∙ kept)),
+    )
+fewer_by_one few more (x ∷ xs) y within (inr i) out kept = by (few x) (more x) refl refl (fewer_by_one few more xs y within i out kept)
+  where
+    by : (a b : Bool) → few x ≡ a → more x ≡ b → length (filter few xs) < length (filter more xs)
+        → length (cond a (x ∷ filter few xs) (filter few xs)) < length (cond b (x ∷ filter more xs) (filter more xs))
+    by true true a b h = omega arith
+    by true false a b h = absurd (false≢true (sym b ∙ within x a))
+    by false true a b h = omega arith
+    by false false a b h = h
+
+-- ---- Where a start begins.
+
+-- a start from which there is a choice begins at one
+pub record HasFirst (ns : List ℕ) (start : Start) : Type 0 where
+  pub first : List ℕ
+  pub begins : first_of_start ns start ≡ Some first
+
+has_first : (ns : List ℕ) (start : Start) → 0 < length (choices_from ns start) → HasFirst ns start
+has_first ns start some = by (first_of_start ns start) refl
+  where
+    by : (o : Option (List ℕ)) → first_of_start ns start ≡ o → HasFirst ns start
+    by None e = absurd (omega (arith, some, ap length (ap (λ x. at_or_after x (choices ns)) e)))
+    by (Some c) e = record { first = c; begins = e }
+
+member_some : (xs : List (List ℕ)) (c : List ℕ) → IsIn xs c → 0 < length xs
+member_some [] c i = absurd i
+member_some (x ∷ xs) c i = omega arith
+
+first_member : (xs ys : List (List ℕ)) (c : List ℕ) → xs ≡ c ∷ ys → IsIn xs c
+first_member xs ys c e = subst (λ l. IsIn l c) (sym e) (inl refl)
+
+-- a start after one of the choices begins later
+after_later : (ns c : List ℕ) (start : Start) → IsIn (choices_from ns start) c → 0 < length (choices_from ns (After c)) → BeginsLater ns start (After c)
+after_later ns c start i some =
+    let here = has_first ns start (member_some (choices_from ns start) c i) in
+    let there = has_first ns (After c) some in
+    let from_here = begins_with ns here.first start here.begins in
+    let from_there = begins_with ns there.first (After c) there.begins in
+    let behind : comes_before c there.first ≡ true =
+    (in_filter (comes_before c) (choices ns) there.first (subst (λ l. IsIn l there.first) (choices_after ns c) (first_member (choices_from ns (After c)) _ there.first from_there.1))).1 in
+    record {
+      first = here.first;
+      begins = here.begins;
+      next_first = there.first;
+      next_begins = there.begins;
+      later = by here.first there.first behind (subst (λ l. IsIn l c) from_here.1 i);
+    }
+  where
+    by : (f d : List ℕ) → comes_before c d ≡ true → IsIn (f ∷ choices_from ns (After f)) c → comes_before f d ≡ true
+    by f d less (inl same) = ap (λ x. comes_before x d) same ∙ less
+    by f d less (inr j) =
+        before_trans f c d (in_filter (comes_before f) (choices ns) c (subst (λ l. IsIn l c) (choices_after ns f) j)).1 less
+
+-- a start at a prefix that the first choice comes before begins later
+at_later : (ns f p : List ℕ) (start : Start) → ArePositive ns → first_of_start ns start ≡ Some f → admits ns p ≡ true → comes_before f p ≡ true → BeginsLater ns start (At p)
+at_later ns f p start some begins a less =
+    let is = first_completion_is ns p some a in
+    record {
+      first = f;
+      begins = begins;
+      next_first = filled ns p;
+      next_begins = is;
+      later = before_begins f p (filled ns p) less (completion_begins ns p (filled ns p) (got_at (completions ns p) 0 (filled ns p) is)).1;
+    }
+
+-- fewer choices are left from there on
+later_fewer : (ns : List ℕ) (start next : Start) → BeginsLater ns start next → length (choices_from ns next) < length (choices_from ns start)
+later_fewer ns start next h =
+    let f : List ℕ = h.first in
+    let d : List ℕ = h.next_first in
+    let few : choices_from ns next ≡ filter (λ x. not (comes_before x d)) (choices ns) = ap (λ o. at_or_after o (choices ns)) h.next_begins in
+    let more : choices_from ns start ≡ filter (λ x. not (comes_before x f)) (choices ns) = ap (λ o. at_or_after o (choices ns)) h.begins in
+    omega (
+      arith,
+      ap length few,
+      ap length more,
+      fewer_by_one (λ x. not (comes_before x d)) (λ x. not (comes_before x f)) (choices ns) f (λ x late. stays_from f d x h.later late)
+          (in_choices ns f (first_is_whole ns start f h.begins)) (ap not h.later) (ap not (not_itself f)),
+    )
+
+later_some : (ns : List ℕ) (start next : Start) → BeginsLater ns start next → 0 < length (choices_from ns next)
+later_some ns start next h = omega (arith, ap length (begins_with ns h.next_first next h.next_begins).1)
+
+-- ---- The start behind a page.
+
+-- what is known of a page behind which one begins
+pub record GoesOn (ns : List ℕ) (start next : Start) : Type 0 where
+  pub is_start : IsStart ns next
+  pub later : BeginsLater ns start next
+
+in_answers : (ns c : List ℕ) (truth : List ℕ → Bool) (start : Start) (n : ℕ) → 0 < n → n < length (answers_from ns truth start) → c ≡ get_or (answers_from ns truth start) (n - 1) []
+    → IsIn (choices_from ns start) c
+in_answers ns c truth start n some more last =
+    (in_filter truth (choices_from ns start) c (subst (IsIn (answers_from ns truth start)) (sym last) (taken_last (answers_from ns truth start) n some more))).0
+
+some_answer : (truth : List ℕ → Bool) (cs : List (List ℕ)) → 0 < length (filter truth cs) → 0 < length cs
+some_answer truth [] h = absurd (omega arith)
+some_answer truth (c ∷ cs) h = omega arith
+
+goes_on_from : (ns : List ℕ) (truth : List ℕ → Bool) (start next : Start) (limit : Option ℕ) → IfSome limit (λ n. 0 < n)
+    → start_after (page_from ns truth start limit).trailer ≡ Some next → GoesOn ns start next
+goes_on_from ns truth start next limit some e = elim (kind_of End (answers_from ns truth start) limit some) [
+  | whole w ↦ let none : None ≡ Some next = sym (ap start_after w.trailer) ∙ e in cc
+  | part c n h ↦
+      let both : Some (After c) ≡ Some next = sym (ap start_after h.trailer) ∙ e in
+      let same : After c ≡ next = cc in
+      let is_page : IsPage ns truth start (page_from ns truth start limit) = record { limit = limit; at_least_one = some; from_start = refl } in
+      subst (GoesOn ns start) same (record {
+        is_start = next_is_start ns c truth start (page_from ns truth start limit) is_page h.trailer;
+        later = after_later ns c start (in_answers ns c truth start n h.some h.more h.last)
+            (some_answer truth (choices_from ns (After c)) (more_left ns c truth start (page_from ns truth start limit) is_page h.trailer));
+      })
+]
+
+module _ (ns : List ℕ) (truth : List ℕ → Bool) (verdict : List ℕ → Verdict) (start : Start) (page : AnswerPage) (law : IsJudge ns truth verdict) (h : IsSearchPage ns verdict start page) where
+  pub goes_on : (next : Start) → start_after page.trailer ≡ Some next → GoesOn ns start next
+  goes_on next e =
+      let here : start_after (page_under ns verdict start h.limit h.budget).trailer ≡ Some next = ap (λ p. start_after p.trailer) (sym h.from_start) ∙ e in
+      elim (under_kind ns truth verdict start law h.limit h.budget h.at_least_one) [
+        | without same ↦ goes_on_from ns truth start next h.limit h.at_least_one (ap (λ p. start_after p.trailer) (sym same) ∙ here)
+        | stopped k p is at_k ends has ↦
+            let both : Some (At p) ≡ Some next = sym (ap start_after ends) ∙ here in
+            let same : At p ≡ next = cc in
+            let begins = begun ns verdict start k p at_k in
+            let admitted = (visited_is ns verdict start k p at_k p (got_at (visited ns verdict start) k p at_k)).admitted in
+            subst (GoesOn ns start) same (record {
+              is_start = admitted;
+              later = at_later ns begins.first p start (positive ns law.limits.values) begins.begins admitted
+                  (past_first ns verdict start k p at_k (enough_steps ns truth verdict start h.limit h.budget law h.at_least_one h.enough k is));
+            })
+      ]
+
+  -- the answers are those of the page and those that its trailer leaves
+  pub search_rest : answers_from ns truth start ≡ page.choices ++ rest_after ns truth page.trailer
+  search_rest =
+      rest_under ns truth verdict start h.limit h.budget law h.at_least_one h.enough
+      ∙ ap (λ p. p.choices ++ rest_after ns truth p.trailer) (sym h.from_start)
+
+-- ---- Pages in a row.
+
+pub search_chain_joined : (ns : List ℕ) (truth : List ℕ → Bool) (verdict : List ℕ → Verdict) (start : Start) (pages : List AnswerPage) → IsJudge ns truth verdict → IsSearchChain ns verdict start pages
+    → all_choices_of pages ≡ answers_from ns truth start
+search_chain_joined ns truth verdict start [] law h = absurd h
+search_chain_joined ns truth verdict start (page ∷ pages) law h =
+    ap (λ l. page.choices ++ l) (by (start_after page.trailer) h.1 (λ next k. search_chain_joined ns truth verdict next pages law k))
+    ∙ sym (search_rest ns truth verdict start page law h.0)
+  where
+    by : (o : Option Start) → MatchOption o (pages ≡ []) (λ next. IsSearchChain ns verdict next pages) → ((next : Start) → IsSearchChain ns verdict next pages → all_choices_of pages ≡ answers_from ns truth next)
+        → all_choices_of pages ≡ answers_from_any ns truth o
+    by None e more = ap all_choices_of e
+    by (Some next) k more = more next k
+
+-- there are no more of them than choices from their start on, but for one page
+at_most_from : (ns : List ℕ) (truth : List ℕ → Bool) (verdict : List ℕ → Verdict) (start : Start) (pages : List AnswerPage) → IsJudge ns truth verdict → IsSearchChain ns verdict start pages
+    → (length pages ≤ 1) ⊎ (length pages ≤ length (choices_from ns start))
+at_most_from ns truth verdict start [] law h = absurd h
+at_most_from ns truth verdict start (page ∷ pages) law h =
+    by (start_after page.trailer) refl h.1 (λ next k. at_most_from ns truth verdict next pages law k)
+  where
+    by : (o : Option Start) → start_after page.trailer ≡ o → MatchOption o (pages ≡ []) (λ next. IsSearchChain ns verdict next pages)
+        → ((next : Start) → IsSearchChain ns verdict next pages → (length pages ≤ 1) ⊎ (length pages ≤ length (choices_from ns next)))
+        → (length (page ∷ pages) ≤ 1) ⊎ (length (page ∷ pages) ≤ length (choices_from ns start))
+    by None e none more = inl (omega (arith, ap length none))
+    by (Some next) e k more =
+        let on = goes_on ns truth verdict start page law h.0 next e in
+        let fewer = later_fewer ns start next on.later in
+        let some = later_some ns start next on.later in
+        elim (more next k) [
+          | inl one ↦ inr (omega (arith, one, fewer, some))
+          | inr most ↦ inr (omega (arith, most, fewer))
+        ]
+
+filtered_at_most : (test : List ℕ → Bool) (xs : List (List ℕ)) → length (filter test xs) ≤ length xs
+filtered_at_most test [] = omega arith
+filtered_at_most test (x ∷ xs) = by (test x) (filtered_at_most test xs)
+  where
+    by : (b : Bool) → length (filter test xs) ≤ length xs → length (cond b (x ∷ filter test xs) (filter test xs)) ≤ length (x ∷ xs)
+    by true h = omega arith
+    by false h = omega arith
+
+pub search_chain_ends : (ns : List ℕ) (truth : List ℕ → Bool) (verdict : List ℕ → Verdict) (start : Start) (pages : List AnswerPage) → IsJudge ns truth verdict → IsSearchChain ns verdict start pages
+    → length pages ≤ length (choices ns)
+search_chain_ends ns truth verdict start pages law h = elim (at_most_from ns truth verdict start pages law h) [
+  | inl one ↦ omega (arith, one, some)
+  | inr most ↦ omega (arith, most, within (first_of_start ns start))
+]
+  where
+    within : (o : Option (List ℕ)) → length (at_or_after o (choices ns)) ≤ length (choices ns)
+    within None = omega arith
+    within (Some f) = filtered_at_most (λ c. not (comes_before c f)) (choices ns)
+
+    some : 0 < length (choices ns)
+    some =
+        let is = first_completion_is ns [] (positive ns law.limits.values) refl in
+        let c : List ℕ = filled ns [] in
+        member_some (choices ns) c (in_filter (λ d. starts_with nat_eq d []) (choices ns) c (got_at (completions ns []) 0 c is)).0

@@ -1,0 +1,217 @@
+-- What a search has given and what it has left, under a budget.
+use Rattle.std.proofs.Common.{◌≡◌, ℕ, ◌+◌, ◌-◌, ◌<◌, ◌≤◌, List, [], ◌∷◌, ◌++◌, length, take, drop, slice_get, get_or, Option, Some, None, IfSome, ap, sym, subst, ◌∙◌, refl, arith, append-nil, append_assoc, length-append, length-take}
+use Rattle.std.specs.Prelude.{option_map}
+use Rattle.std.specs.Iterator.{YieldsFirst}
+use Rattle.std.proofs.Math.Seq.{take-add, take-append_seam}
+use Rattle.std.proofs.lemmas.List.{drop_at, drop_all, take_all, take-append-drop}
+use Rattle.std.proofs.lemmas.Option.{slice_get_past}
+use Rattle.std.proofs.lemmas.Grind.{flat_map-append}
+use Rattle.am_universe.specs.Completions.{completions}
+use Rattle.am_search.specs.declared.answers.Answers.{Answers}
+use Rattle.am_search.specs.declared.judge.Judge.{Ghosts}
+use Rattle.am_search.specs.declared.start.Start.{Start}
+use Rattle.am_search.specs.declared.stage.Stage.{Stage}
+use Rattle.am_search.specs.declared.stage.Stage.TheVariants.{Judging, Giving, Done}
+use Rattle.am_search.specs.declared.verdict.Verdict.{Verdict}
+use Rattle.am_search.specs.Start.{at_or_after}
+use Rattle.am_search.specs.Visits.{visited, given_at, given_by, up_to_budget, given_under, IsPartOfSearch, IsWholeSearch, IsStoppedSearch, BeginsWithLast}
+use Rattle.am_search.specs.BudgetPage.{stop_of, trailer_at, page_under}
+use Rattle.am_search.specs.Page.{page_ending}
+use Rattle.am_search.specs.AnswersView.{answers_left, answers_stop, answers_page}
+use Rattle.am_search.specs.Walk.{IsLeft, IsAtStop, IsWalk}
+
+-- ---- What is left of a budget.
+
+pub left_first : (budget : Option ℕ) (judged : List (List ℕ)) → judged ≡ [] → IsLeft budget budget judged
+left_first None judged none = refl
+left_first (Some n) judged none = ap Some (omega (arith, ap length none))
+
+pub left_after : (budget left after : Option ℕ) (judged more : List (List ℕ)) (p : List ℕ) → IsLeft budget left judged
+    → left ≡ option_map (λ n. 1 + n) after → more ≡ judged ++ p ∷ [] → IsLeft budget after more
+left_after budget left None judged more p is less e = is ∙ ap (option_map (λ n. length judged + n)) less
+left_after budget left (Some k) judged more p is less e =
+    is ∙ ap (option_map (λ n. length judged + n)) less ∙ ap Some (omega (arith, ap length e, length-append judged (p ∷ [])))
+
+-- ---- What is judged under a budget.
+
+-- what has been judged is the front of what is judged under the budget
+pub record IsFrontUnder (all : List (List ℕ)) (budget : Option ℕ) (judged : List (List ℕ)) : Type 0 where
+  pub more : List (List ℕ)
+  pub is : up_to_budget budget all ≡ judged ++ more
+
+pub front_under : (all : List (List ℕ)) (budget left : Option ℕ) (judged : List (List ℕ)) → IsLeft budget left judged → judged ≡ take (length judged) all → IsFrontUnder all budget judged
+front_under all budget None judged is front = record {
+  more = drop (length judged) all;
+  is = ap (λ b. up_to_budget b all) is ∙ sym (take-append-drop (length judged) all) ∙ ap (λ l. l ++ drop (length judged) all) (sym front);
+}
+front_under all budget (Some n) judged is front = record {
+  more = take n (drop (length judged) all);
+  is = ap (λ b. up_to_budget b all) is ∙ take-add (length judged) n all ∙ ap (λ l. l ++ take n (drop (length judged) all)) (sym front);
+}
+
+-- where all is judged, the budget leaves nothing out
+pub all_under : (all : List (List ℕ)) (budget left : Option ℕ) (judged : List (List ℕ)) → IsLeft budget left judged → length all ≤ length judged → up_to_budget budget all ≡ all
+all_under all budget None judged is past = ap (λ b. up_to_budget b all) is
+all_under all budget (Some n) judged is past =
+    ap (λ b. up_to_budget b all) is ∙ take_all (length judged + n) all (omega (arith, past))
+
+used_up : (budget : Option ℕ) (judged : List (List ℕ)) → IsLeft budget (Some 0) judged → budget ≡ Some (length judged)
+used_up budget judged is = is ∙ ap Some (omega arith)
+
+-- ---- Where the search stops.
+
+module _ (sizes : List ℕ) (verdict : List ℕ → Verdict) (start : Start) (budget : Option ℕ) (judged : List (List ℕ)) where
+  pub stops_nowhere : (left : Option ℕ) → IsLeft budget left judged → length (visited sizes verdict start) ≤ length judged → stop_of sizes verdict start budget ≡ None
+  stops_nowhere None is past = ap (stop_of sizes verdict start) is
+  stops_nowhere (Some n) is past =
+      ap (stop_of sizes verdict start) is ∙ slice_get_past (visited sizes verdict start) (length judged + n) (omega (arith, past))
+
+  pub stops_at : (prefix : List ℕ) → IsLeft budget (Some 0) judged → slice_get (visited sizes verdict start) (length judged) ≡ Some prefix → stop_of sizes verdict start budget ≡ Some prefix
+  stops_at prefix is next = ap (stop_of sizes verdict start) (used_up budget judged is) ∙ next
+
+-- ---- What is left to give.
+
+-- the choices that were given are the first of those that are given in all
+pub record IsGivenFront (sizes : List ℕ) (verdict : List ℕ → Verdict) (start : Start) (budget : Option ℕ) (judged given : List (List ℕ)) : Type 0 where
+  pub of_judged : (rest : List (List ℕ)) × (given ++ rest ≡ given_by sizes verdict start judged)
+  pub of_all : (rest : List (List ℕ)) × (given ++ rest ≡ given_under sizes verdict start budget)
+
+given_of_judged : (sizes : List ℕ) (verdict : List ℕ → Verdict) (start : Start) (stage : Stage) (current : List ℕ) (along : Option (List ℕ)) (judged given : List (List ℕ))
+    → IsWalk sizes verdict start stage current along judged given → (rest : List (List ℕ)) × (given ++ rest ≡ given_by sizes verdict start judged)
+given_of_judged sizes verdict start Judging current along judged given h = ([], append-nil given ∙ (h.judging refl).given_all)
+given_of_judged sizes verdict start (Giving depth) current along judged given h = (at_or_after (Some current) (completions sizes (take depth current)), (h.giving depth refl).given_next)
+given_of_judged sizes verdict start Done current along judged given h = ([], append-nil given ∙ (h.done refl).given_all)
+
+pub given_front : {sizes : List ℕ} {verdict : List ℕ → Verdict} {start : Start} {stage : Stage} {current : List ℕ} {along : Option (List ℕ)} {judged given : List (List ℕ)} (budget left : Option ℕ)
+    → IsWalk sizes verdict start stage current along judged given → IsLeft budget left judged → IsGivenFront sizes verdict start budget judged given
+given_front {sizes} {verdict} {start} {stage} {current} {along} {judged} {given} budget left h is =
+    let some = given_of_judged sizes verdict start stage current along judged given h in
+    let front = front_under (visited sizes verdict start) budget left judged is h.front in
+    let later : List (List ℕ) = given_by sizes verdict start front.more in
+    record {
+      of_judged = some;
+      of_all = (
+        some.0 ++ later,
+        sym (append_assoc given some.0 later) ∙ ap (λ l. l ++ later) some.1
+            ∙ sym (flat_map-append (given_at sizes verdict start) judged front.more)
+            ∙ ap (given_by sizes verdict start) (sym front.is),
+      );
+    }
+
+pub left_one : (given rest all : List (List ℕ)) (c : List ℕ) → (given ++ c ∷ []) ++ rest ≡ all → drop (length given) all ≡ c ∷ drop (length (given ++ c ∷ [])) all
+left_one given rest all c e =
+    let more : given ++ (c ∷ rest) ≡ all = sym (append_assoc given (c ∷ []) rest) ∙ e in
+    ap (drop (length given)) (sym more) ∙ drop_at given (c ∷ rest) (length given) refl
+    ∙ ap (λ l. c ∷ l) (sym (ap (drop (length (given ++ c ∷ []))) (sym e) ∙ drop_at (given ++ c ∷ []) rest (length (given ++ c ∷ [])) refl))
+
+module _ {sizes : List ℕ} {verdict : List ℕ → Verdict} {start : Start} {stage : Stage} {current : List ℕ} {along : Option (List ℕ)} {judged given : List (List ℕ)} (budget left : Option ℕ)
+    (h : IsWalk sizes verdict start stage current along judged given) (is : IsLeft budget left judged) where
+  pub part_of_search : IsPartOfSearch sizes verdict start budget judged given
+  part_of_search =
+      let front = front_under (visited sizes verdict start) budget left judged is h.front in
+      record {
+        judged_first = sym (ap (take (length judged)) front.is ∙ take-append_seam judged front.more);
+        given_first = (given_front budget left h is).of_judged;
+      }
+
+  whole_of : judged ≡ up_to_budget budget (visited sizes verdict start) → given ≡ given_by sizes verdict start judged → IsWholeSearch sizes verdict start budget judged given
+  whole_of same all = record { judged_all = same; given_all = all ∙ ap (given_by sizes verdict start) same }
+
+  -- all is judged
+  all_judged : stage ≡ Done → judged ≡ visited sizes verdict start
+  all_judged e = h.front ∙ take_all (length judged) (visited sizes verdict start) (h.done e).all
+
+  pub ended_search : stage ≡ Done → IsWholeSearch sizes verdict start None judged given
+  ended_search e = record { judged_all = all_judged e; given_all = (h.done e).given_all ∙ ap (given_by sizes verdict start) (all_judged e) }
+
+  pub whole_search : stage ≡ Done → IsWholeSearch sizes verdict start budget judged given
+  whole_search e =
+      let past = h.done e in
+      whole_of (all_judged e ∙ sym (all_under (visited sizes verdict start) budget left judged is past.all)) past.given_all
+
+  pub stop_when_done : stage ≡ Done → stop_of sizes verdict start budget ≡ None
+  stop_when_done e = stops_nowhere sizes verdict start budget judged left is (h.done e).all
+
+  -- the budget is used
+  used : left ≡ Some 0 → IsLeft budget (Some 0) judged
+  used none = subst (λ l. IsLeft budget l judged) none is
+
+  pub whole_at_stop : stage ≡ Judging → left ≡ Some 0 → IsWholeSearch sizes verdict start budget judged given
+  whole_at_stop e none =
+      whole_of (h.front ∙ ap (λ b. up_to_budget b (visited sizes verdict start)) (sym (used_up budget judged (used none)))) (h.judging e).given_all
+
+  pub stop_when_used : stage ≡ Judging → left ≡ Some 0 → stop_of sizes verdict start budget ≡ Some current
+  stop_when_used e none = stops_at sizes verdict start budget judged current (used none) (h.judging e).next
+
+  pub stopped_search : (prefix : List ℕ) → IsAtStop stage current left prefix → IsStoppedSearch sizes verdict start budget judged given prefix
+  stopped_search prefix at_stop = record {
+    used = used_up budget judged (used at_stop.2);
+    next = (h.judging at_stop.0).next ∙ ap Some at_stop.1;
+    given_all = (h.judging at_stop.0).given_all;
+  }
+
+pub begins_with_last : {sizes : List ℕ} {verdict : List ℕ → Verdict} {start : Start} {stage : Stage} {current : List ℕ} {along : Option (List ℕ)} {judged given : List (List ℕ)} (depth : ℕ)
+    → IsWalk sizes verdict start stage current along judged given → stage ≡ Giving depth → BeginsWithLast judged current
+begins_with_last {sizes} {verdict} {start} {stage} {current} {along} {judged} {given} depth h e =
+    let w = h.giving depth e in
+    let all : List (List ℕ) = visited sizes verdict start in
+    let i : ℕ = length judged - 1 in
+    let x : List ℕ = take depth current in
+    let below : i < length judged = omega (arith, w.some) in
+    let here : get_or all i x ≡ x = Rattle.std.proofs.lemmas.Option.get_or_from_slice_get all i x x w.last in
+    record { depth = depth; last = Rattle.std.proofs.lemmas.Option.slice_get_read judged (length judged) i x refl below (sym (ap (λ l. get_or l i x) h.front ∙ Rattle.std.proofs.lemmas.List.get_or-take (length judged) all i x below ∙ here)) }
+
+pub none_left : (given all : List (List ℕ)) → given ≡ all → drop (length given) all ≡ []
+none_left given all e = drop_all (length given) all (omega (arith, ap length e))
+
+-- answers that have come as far have as much left
+pub same_left : {J : Type 0} {j : Ghosts J} (a b : Answers J j) → a.judge.now ≡ b.judge.now → a.start ≡ b.start → a.budget ≡ b.budget → a.given.items ≡ b.given.items → answers_left a ≡ answers_left b
+same_left {J} {j} a b judge start budget given =
+    ap (λ l. drop (length l) (given_under (j.sizes a.judge.now) (j.verdict a.judge.now) a.start a.budget)) given
+    ∙ ap (λ k. drop (length b.given.items) (given_under (j.sizes k) (j.verdict k) a.start a.budget)) judge
+    ∙ ap (λ s. drop (length b.given.items) (given_under (j.sizes b.judge.now) (j.verdict b.judge.now) s a.budget)) start
+    ∙ ap (λ n. drop (length b.given.items) (given_under (j.sizes b.judge.now) (j.verdict b.judge.now) b.start n)) budget
+
+-- where the search is over, nothing is left
+pub nothing_left : {J : Type 0} {j : Ghosts J} (a b : Answers J j) → a.judge.now ≡ b.judge.now → a.start ≡ b.start → a.budget ≡ b.budget → a.given.items ≡ b.given.items
+    → IsWholeSearch (j.sizes b.judge.now) (j.verdict b.judge.now) b.start b.budget b.judged b.given.items → YieldsFirst answers_left a None b
+nothing_left {J} {j} a b judge start budget given whole =
+    let none : answers_left b ≡ [] = none_left b.given.items (given_under (j.sizes b.judge.now) (j.verdict b.judge.now) b.start b.budget) whole.given_all in
+    (same_left a b judge start budget given ∙ none, none)
+
+-- answers under one budget stop at one prefix
+pub same_stop : {J : Type 0} {j : Ghosts J} (a b : Answers J j) → a.judge.now ≡ b.judge.now → a.start ≡ b.start → a.budget ≡ b.budget → answers_stop a ≡ answers_stop b
+same_stop {J} {j} a b judge start budget =
+    ap (λ k. stop_of (j.sizes k) (j.verdict k) a.start a.budget) judge
+    ∙ ap (λ s. stop_of (j.sizes b.judge.now) (j.verdict b.judge.now) s a.budget) start
+    ∙ ap (stop_of (j.sizes b.judge.now) (j.verdict b.judge.now) b.start) budget
+
+-- the page of answers that have just begun is that of a search
+pub page_is : {J : Type 0} {j : Ghosts J} (a : Answers J j) (judge : J) (start : Start) (limit budget : Option ℕ) → a.judge.now ≡ judge → a.start ≡ start → a.budget ≡ budget
+    → answers_left a ≡ given_under (j.sizes judge) (j.verdict judge) start budget → answers_page a limit ≡ page_under (j.sizes judge) (j.verdict judge) start limit budget
+page_is {J} {j} a judge start limit budget same begins under left =
+    ap (λ xs. page_ending (trailer_at (stop_of (j.sizes a.judge.now) (j.verdict a.judge.now) a.start a.budget)) xs limit) left
+    ∙ ap (λ o. page_ending (trailer_at o) (given_under (j.sizes judge) (j.verdict judge) start budget) limit)
+    (ap (λ k. stop_of (j.sizes k) (j.verdict k) a.start a.budget) same
+    ∙ ap (λ b. stop_of (j.sizes judge) (j.verdict judge) b a.budget) begins
+    ∙ ap (stop_of (j.sizes judge) (j.verdict judge) start) under)
+
+-- ---- How many are judged.
+
+taken_length : (judged all : List (List ℕ)) → judged ≡ take (length judged) all → length judged ≤ length all
+taken_length judged all e = omega (arith, ap length e, length-take (length judged) all)
+
+under_length : (budget : Option ℕ) (all : List (List ℕ)) → length (up_to_budget budget all) ≤ length all
+under_length None all = omega arith
+under_length (Some n) all = omega (arith, length-take n all)
+
+pub judged_within : (sizes : List ℕ) (verdict : List ℕ → Verdict) (start : Start) (budget : Option ℕ) (judged given : List (List ℕ)) → IsPartOfSearch sizes verdict start budget judged given
+    → length judged ≤ length (visited sizes verdict start)
+judged_within sizes verdict start budget judged given h =
+    omega (arith, taken_length judged (up_to_budget budget (visited sizes verdict start)) h.judged_first, under_length budget (visited sizes verdict start))
+
+pub judged_budget : (sizes : List ℕ) (verdict : List ℕ → Verdict) (start : Start) (budget : Option ℕ) (judged given : List (List ℕ)) → IsPartOfSearch sizes verdict start budget judged given
+    → IfSome budget (λ n. length judged ≤ n)
+judged_budget sizes verdict start None judged given h = tt
+judged_budget sizes verdict start (Some n) judged given h =
+    omega (arith, taken_length judged (take n (visited sizes verdict start)) h.judged_first, length-take n (visited sizes verdict start))

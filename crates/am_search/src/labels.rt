@@ -1,0 +1,62 @@
+ghost use Rattle.std.specs.Prelude.{◌≡◌, ℕ, ◌<◌, ◌||◌, ◌&&◌, ◌==◌, nat_lt, false};
+
+use am_universe::limits::MAX_LABELS;
+
+/// How many labels a set has room for.
+const ROOM: usize = 64;
+
+const _: () = prove!(MAX_LABELS <= ROOM);
+
+/// A set of labels, by their positions. How it is kept is known in this file alone.
+#[derive(Clone, Copy, Debug)]
+pub struct Labels {
+    bits: u64,
+}
+
+impl Labels {
+    ghost use Rattle.am_search.specs.Labels.{has_label};
+
+    /// The set without labels.
+    pub fn none() -> Labels
+        ensures none { (i : ℕ) → has_label result i ≡ false }
+    {
+        Labels { bits: 0 }
+    }
+
+    /// The set with one label more.
+    pub fn with(self, label: usize) -> Labels
+        requires room { label < MAX_LABELS }
+        ensures with { (i : ℕ) → has_label result i ≡ (has_label self i || i == label) }
+    {
+        Labels {
+            bits: self.bits | 1u64 << label,
+        }
+    }
+
+    /// The labels that are in one of two sets.
+    pub fn union(self, other: Labels) -> Labels
+        ensures either { (i : ℕ) → has_label result i ≡ (has_label self i || has_label other i) }
+    {
+        Labels {
+            bits: self.bits | other.bits,
+        }
+    }
+
+    /// The labels of the set that come before a label.
+    pub fn before(self, label: usize) -> Labels
+        requires room { label < MAX_LABELS }
+        ensures before { (i : ℕ) → has_label result i ≡ (has_label self i && nat_lt i label) }
+    {
+        Labels {
+            bits: self.bits & ((1u64 << label) - 1),
+        }
+    }
+
+    /// Whether a label is in the set.
+    pub fn contains(self, label: usize) -> bool
+        requires room { label < MAX_LABELS }
+        ensures contains { result ≡ has_label self label }
+    {
+        (self.bits >> label) & 1 == 1
+    }
+}

@@ -1,0 +1,39 @@
+ghost use Rattle.std.specs.Prelude.{◌≡◌, ℕ, ◌<◌, List, Bool, length, slice_get, IsTrue};
+ghost use Rattle.std.specs.Prelude.{Some, IfSome, IfNone};
+ghost use Rattle.am_universe.specs.Words.{admits, IsWhole};
+ghost use Rattle.am_search.specs.Judge.{AreSizes};
+ghost use Rattle.am_search.specs.Conflict.{IsConflict};
+
+use crate::Labels;
+use am_universe::Choice;
+
+/// What says which choices over some labels are true, and which labels of a prefix are to blame
+/// where no completion is.
+pub trait Refuter {
+    /// How many values each label has, in declared order.
+    ghost sizes: { Self → List ℕ };
+
+    /// Whether a whole choice is true.
+    ghost truth: { Self → List ℕ → Bool };
+
+    /// How many labels there are, at most `MAX_LABELS`.
+    fn labels(&self) -> usize
+        ensures labels { result ≡ length (sizes self.now) };
+
+    /// How many values the label at `i` has, 1 to `MAX_VALUES`.
+    fn size(&self, i: usize) -> usize
+        requires { i < length (sizes self.now) }
+        ensures size { slice_get (sizes self.now) i ≡ Some result };
+
+    /// Why no completion of a prefix is true, where that is known: labels of the prefix that are a
+    /// conflict, so that no whole choice is true that has the prefix's positions at them. At a
+    /// whole choice the answer is `None` only where that is true.
+    fn refute(&self, prefix: &Choice) -> Option<Labels>
+        requires { IsTrue (admits (sizes self.now) prefix.now) }
+        ensures conflict { IfSome result (λ labels.
+            IsConflict (sizes self.now) (truth self.now) labels prefix.now) }
+        ensures whole { IfNone result (IsWhole (sizes self.now) prefix.now
+            → IsTrue (truth self.now prefix.now)) };
+
+    ghost laws: { (refuter : Self) → AreSizes (sizes refuter) };
+}
