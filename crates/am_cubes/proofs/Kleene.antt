@@ -7,9 +7,9 @@ use Rattle.am_search.specs.declared.verdict.Verdict.{Verdict}
 use Rattle.am_search.specs.declared.verdict.Verdict.TheVariants.{Yes, No, Open}
 use Rattle.am_eval.specs.Question.{Simple}
 use Rattle.am_eval.specs.Words.{World, Literal, some_way_holds, conditions_of}
-use Rattle.am_cubes.specs.declared.modality.Modality.{Modality}
-use Rattle.am_cubes.specs.declared.modality.Modality.TheVariants.{May, Must}
-use Rattle.am_cubes.specs.Modality.{passes, other}
+use Rattle.am_masks.specs.declared.modality.Modality.{Modality}
+use Rattle.am_masks.specs.declared.modality.Modality.TheVariants.{May, Must}
+use Rattle.am_masks.specs.Modality.{passes, other}
 use Rattle.am_cubes.specs.Verdicts.{kleene_not, kleene_and, kleene_or, all_of, any_of}
 use Rattle.am_cubes.specs.Verdicts.{verdict_of_literal, verdict_of_simple}
 

@@ -1,6 +1,7 @@
 pub mod Kleene
 pub mod SomeWay
 pub mod Soundness
+pub mod OneList
 pub mod WalkLemmas
 pub mod RouteSteps
 pub mod RouteMade
@@ -11,3 +12,5 @@ pub mod PairSteps
 pub mod SilenceSteps
 pub mod WorldServed
 pub mod PlanJudges
+pub mod WayReasons
+pub mod WayMeaning

@@ -1,8 +1,9 @@
 -- The lists of a pair of a rule and a firing alert say what its condition says.
 use Rattle.std.proofs.Common.{◌≡◌, ℕ, Bool, true, false, not, ◌&&◌, List, [], ◌∷◌, ◌++◌, map, cond}
-use Rattle.std.proofs.Common.{Option, Some, None, option_map, length, get_or, Contains, ◌<◌, refl, sym, ap, ◌∙◌, arith}
+use Rattle.std.proofs.Common.{Option, Some, None, option_map, length, get_or, Contains, ◌<◌, ◌≤◌, ◌⊎◌, ◌||◌, zero, suc, inl, inr, refl, sym, ap, ◌∙◌, arith}
 use Rattle.std.specs.Prelude.{slice_get, IsTrue}
 use Rattle.std.specs.List.{list_all, list_any}
+use Rattle.std.proofs.lemmas.Bool.{cases_lt, and_right, or_right}
 use Rattle.std.specs.declared.alloc.Global.{Global}
 use Rattle.std.specs.declared.vec.Vec.{Vec}
 use Rattle.std.proofs.lemmas.List.{length-map, map-append}
@@ -22,14 +23,17 @@ use Rattle.am_eval.specs.Words.{same_value}
 use Rattle.am_eval.specs.Conditions.{pair_way}
 use Rattle.am_eval.proofs.Inhibitors.{rule_within}
 use Rattle.am_eval.proofs.Members.{in_any, in_at}
-use Rattle.am_cubes.specs.declared.modality.Modality.{Modality}
-use Rattle.am_cubes.specs.declared.modality.Modality.TheVariants.{May, Must}
+use Rattle.am_masks.specs.declared.modality.Modality.{Modality}
+use Rattle.am_masks.specs.declared.modality.Modality.TheVariants.{May, Must}
 use Rattle.am_cubes.specs.declared.pair_lists.PairList.{PairList}
 use Rattle.am_cubes.specs.declared.pair_lists.PairLists.{PairLists}
-use Rattle.am_cubes.specs.Modality.{passes, other}
+use Rattle.am_cubes.specs.declared.pair_lists.PairSide.{PairSide}
+use Rattle.am_masks.specs.GroupView.{verdicts_in}
+use Rattle.am_masks.specs.Places.{NoneBetween}
+use Rattle.am_masks.specs.Modality.{passes, other}
 use Rattle.am_cubes.specs.Verdicts.{kleene_not, verdict_of_literal, verdict_of_simple}
 use Rattle.am_cubes.specs.PairsByLists.{source_fails, source_among, pair_by, inhibited_by, AreSources}
-use Rattle.am_cubes.specs.PairsByLists.{AreTargets, way_of_pair}
+use Rattle.am_cubes.specs.PairsByLists.{AreTargets, way_of_pair, side_fails, some_pair}
 use Rattle.am_cubes.proofs.Kleene.{passes_not, passes_simple}
 use Rattle.am_cubes.proofs.ListSteps.{and_true, any_mapped}
 use Rattle.am_eval.proofs.PairConditions.{ways_of_pairs}
@@ -122,7 +126,7 @@ pub pair_truth : {L : Type 0} (u : List Label) (w : World) (verdict : L → List
     → verdict list prefix
     ≡ verdict_of_list u (rule.target ++ map (same_value firing) rule.equal) prefix
     → pair_by verdict prefix m sources
-    (record { list = list; rule = pair.rule; both = pair.both })
+    (record { list = list; side = record { rule = pair.rule; both = pair.both } })
     ≡ way_of_pair u w prefix m pair
 pair_truth u w verdict prefix m sources list pair rule firing are at_rule at_alert which exact =
     let holds : Literal → Bool = λ l. passes m (verdict_of_literal u prefix l) in
@@ -139,36 +143,123 @@ pair_truth u w verdict prefix m sources list pair rule firing are at_rule at_ale
 
 -- ---- All pairs.
 
+-- by the lists of pairs and by what they ask of their source sides
+pub some_of_pairs : {L : Type 0} (verdict : L → List ℕ → Verdict) (prefix : List ℕ) (m : Modality)
+    (sources : List L) (pairs : List (PairList L))
+    → some_pair (passes m) (side_fails verdict prefix m sources)
+    (map (λ list. verdict list prefix) (map (λ (pair : PairList L). pair.list) pairs))
+    (map (λ (pair : PairList L). pair.side) pairs)
+    ≡ list_any (pair_by verdict prefix m sources) pairs
+some_of_pairs verdict prefix m sources [] = refl
+some_of_pairs verdict prefix m sources (pair ∷ pairs) =
+    ap (λ b. pair_by verdict prefix m sources pair || b)
+    (some_of_pairs verdict prefix m sources pairs)
+
 pub pairs_truth : {L : Type 0} (u : List Label) (w : World) (verdict : L → List ℕ → Verdict)
-    (prefix : List ℕ) (m : Modality) (lists : PairLists L)
-    → list_any (pair_by verdict prefix m lists.sources.items) lists.pairs.items
+    (prefix : List ℕ) (m : Modality) (lists : PairLists L) (pairs : List (PairList L))
+    → verdicts_in verdict prefix lists.lists
+    ≡ map (λ list. verdict list prefix) (map (λ (pair : PairList L). pair.list) pairs)
+    → lists.sides.items ≡ map (λ (pair : PairList L). pair.side) pairs
+    → list_any (pair_by verdict prefix m lists.sources.items) pairs
     ≡ list_any (way_of_pair u w prefix m) (pairs_of w.config.rules w.alerts)
     → inhibited_by verdict prefix lists m ≡ passes m (verdict_of_simple u w Inhibited prefix)
-pairs_truth u w verdict prefix m lists same =
+pairs_truth u w verdict prefix m lists pairs of_lists of_sides same =
     let holds : Literal → Bool = λ l. passes m (verdict_of_literal u prefix l) in
-    let pairs = pairs_of w.config.rules w.alerts in
-    same
-    ∙ sym (any_mapped (list_all holds) (pair_way w.config.rules w.alerts) pairs)
+    let fails = side_fails verdict prefix m lists.sources.items in
+    ap (λ vs. some_pair (passes m) fails vs lists.sides.items) of_lists
+    ∙ ap (λ sides. some_pair (passes m) fails (map (λ list. verdict list prefix)
+    (map (λ (pair : PairList _). pair.list) pairs)) sides) of_sides
+    ∙ some_of_pairs verdict prefix m lists.sources.items pairs
+    ∙ same
+    ∙ sym (any_mapped (list_all holds) (pair_way w.config.rules w.alerts)
+    (pairs_of w.config.rules w.alerts))
     ∙ ap (some_way_holds holds) (ways_of_pairs w)
     ∙ sym (passes_simple m u w Inhibited prefix)
+
+-- ---- One pair after the other.
+
+-- no pair inhibits; one does
+pub no_pair : (test : Verdict → Bool) (fails : PairSide → Bool) (vs : List Verdict)
+    (sides : List PairSide)
+    → ((j : ℕ) (v : Verdict) (side : PairSide) → slice_get vs j ≡ Some v
+    → slice_get sides j ≡ Some side → (test v && fails side) ≡ false)
+    → some_pair test fails vs sides ≡ false
+no_pair test fails [] sides none = refl
+no_pair test fails (v ∷ vs) [] none = refl
+no_pair test fails (v ∷ vs) (side ∷ sides) none =
+    rw (none 0 v side refl refl)
+    (no_pair test fails vs sides (λ j w other at with. none (suc j) w other at with))
+
+pub this_pair : (test : Verdict → Bool) (fails : PairSide → Bool) (vs : List Verdict)
+    (sides : List PairSide) (i : ℕ) (side : PairSide) → i < length vs
+    → ((v : Verdict) → slice_get vs i ≡ Some v → test v ≡ true) → slice_get sides i ≡ Some side
+    → fails side ≡ true → some_pair test fails vs sides ≡ true
+this_pair test fails [] sides i side h found at e = absurd (omega (arith, h))
+this_pair test fails (v ∷ vs) [] zero side h found at e = absurd (cc)
+this_pair test fails (v ∷ vs) [] (suc i) side h found at e = absurd (cc)
+this_pair test fails (v ∷ vs) (other ∷ sides) zero side h found at e =
+    rw (found v refl, ap fails (same_Some other side at) ∙ e) refl
+this_pair test fails (v ∷ vs) (other ∷ sides) (suc i) side h found at e =
+    or_right (test v && fails other) (some_pair test fails vs sides)
+    (this_pair test fails vs sides i side (omega arith) found at e)
+
+-- none of the pairs before a place inhibits
+abbrev pub NoPairBefore : (Verdict → Bool) → (PairSide → Bool) → List Verdict → List PairSide → ℕ
+    → Type 0
+NoPairBefore test fails vs sides i =
+    (j : ℕ) (v : Verdict) (side : PairSide) → j < i → slice_get vs j ≡ Some v
+    → slice_get sides j ≡ Some side → (test v && fails side) ≡ false
+
+-- none from a place on: there the verdicts pass nowhere, or the pairs end
+pub no_pair_to_end : (test : Verdict → Bool) (fails : PairSide → Bool) (vs : List Verdict)
+    (sides : List PairSide) (from to : ℕ) → NoPairBefore test fails vs sides from
+    → NoneBetween test vs from to → (length vs ≤ to) ⊎ (length sides ≤ to)
+    → some_pair test fails vs sides ≡ false
+no_pair_to_end test fails vs sides from to before none end =
+    no_pair test fails vs sides (λ j v side here with. elim (cases_lt j from) [
+      | inl past ↦ before j v side past here with
+      | inr behind ↦
+          let low : j < to = elim end [
+            | inl all ↦ omega (arith, all, slice_get_within vs j v here)
+            | inr out ↦ omega (arith, out, slice_get_within sides j side with)
+          ] in
+          ap (λ b. b && fails side) (none j v behind low here)
+    ])
+
+pub no_pair_more : (test : Verdict → Bool) (fails : PairSide → Bool) (vs : List Verdict)
+    (sides : List PairSide) (from i next : ℕ) (side : PairSide)
+    → NoPairBefore test fails vs sides from → NoneBetween test vs from i
+    → slice_get sides i ≡ Some side → fails side ≡ false
+    → ((j : ℕ) (x y : PairSide) → i ≤ j → j < next → slice_get sides i ≡ Some x
+    → slice_get sides j ≡ Some y → y ≡ x)
+    → NoPairBefore test fails vs sides next
+no_pair_more test fails vs sides from i next side before none at spared same j v other low here with =
+    elim (cases_lt j i) [
+      | inl first ↦ elim (cases_lt j from) [
+        | inl past ↦ before j v other past here with
+        | inr behind ↦ ap (λ b. b && fails other) (none j v behind first here)
+      ]
+      | inr last ↦
+          and_right (test v) (fails other) (ap fails (same j side other last low at with) ∙ spared)
+    ]
 
 -- ---- What adds nothing.
 
 -- a pair that says the same as one of some
 pub said_before : {L : Type 0} (verdict : L → List ℕ → Verdict) (prefix : List ℕ) (m : Modality)
     (sources : List L) (lists : List (PairList L)) (i : ℕ) (other pair : PairList L)
-    → slice_get lists i ≡ Some other → other.rule ≡ pair.rule → other.both ≡ pair.both
+    → slice_get lists i ≡ Some other → other.side.rule ≡ pair.side.rule → other.side.both ≡ pair.side.both
     → verdict other.list prefix ≡ verdict pair.list prefix
     → IsTrue (pair_by verdict prefix m sources pair)
     → IsTrue (list_any (pair_by verdict prefix m sources) lists)
 said_before verdict prefix m sources lists i other pair at same_rule same_both same_list e =
     let same : pair_by verdict prefix m sources other ≡ pair_by verdict prefix m sources pair =
-    ap (λ v. passes m v && source_fails verdict prefix m (source_among sources other.both other.rule))
+    ap (λ v. passes m v && source_fails verdict prefix m (source_among sources other.side.both other.side.rule))
     same_list
     ∙ ap (λ b. passes m (verdict pair.list prefix)
-    && source_fails verdict prefix m (source_among sources b other.rule)) same_both
+    && source_fails verdict prefix m (source_among sources b other.side.rule)) same_both
     ∙ ap (λ r. passes m (verdict pair.list prefix)
-    && source_fails verdict prefix m (source_among sources pair.both r)) same_rule in
+    && source_fails verdict prefix m (source_among sources pair.side.both r)) same_rule in
     in_any (pair_by verdict prefix m sources) lists other (in_at lists i other at) (same ∙ e)
 
 -- a list that is never matched
@@ -180,7 +271,7 @@ pub never_inhibits : {L : Type 0} (verdict : L → List ℕ → Verdict) (prefix
     (m : Modality) (sources : List L) (pair : PairList L) → verdict pair.list prefix ≡ No
     → pair_by verdict prefix m sources pair ≡ false
 never_inhibits verdict prefix m sources pair e =
-    let rest = source_fails verdict prefix m (source_among sources pair.both pair.rule) in
+    let rest = source_fails verdict prefix m (source_among sources pair.side.both pair.side.rule) in
     ap (λ b. b && rest) (passes_no m (verdict pair.list prefix) e)
 
 -- the row of an alert's value

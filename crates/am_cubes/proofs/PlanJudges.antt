@@ -11,9 +11,9 @@ use Rattle.am_masks.proofs.Completed.{completion_whole}
 use Rattle.am_eval.specs.Words.{World, Question, is_answer}
 use Rattle.am_eval.proofs.ConditionLaws as conditions
 use Rattle.am_cubes.specs.declared.judged_question.JudgedQuestion.{JudgedQuestion}
-use Rattle.am_cubes.specs.declared.modality.Modality.{Modality}
-use Rattle.am_cubes.specs.declared.modality.Modality.TheVariants.{May, Must}
-use Rattle.am_cubes.specs.Modality.{passes}
+use Rattle.am_masks.specs.declared.modality.Modality.{Modality}
+use Rattle.am_masks.specs.declared.modality.Modality.TheVariants.{May, Must}
+use Rattle.am_masks.specs.Modality.{passes}
 use Rattle.am_cubes.specs.QuestionView.{truth_by}
 use Rattle.am_cubes.specs.Verdicts.{verdict_of}
 use Rattle.am_cubes.specs.PlanView.{verdict_of_truths, judged_verdict, judged_truth}

@@ -10,9 +10,9 @@ use Rattle.am_eval.specs.Question as questions
 use Rattle.am_eval.specs.Words.{World, Question, Literal, some_way_holds, matching}
 use Rattle.am_eval.specs.Conditions.{ways_below, no_child_of, paths_to}
 use Rattle.am_eval.proofs.SomeWay.{some_way-append, some_way-literal}
-use Rattle.am_cubes.specs.declared.modality.Modality.{Modality}
+use Rattle.am_masks.specs.declared.modality.Modality.{Modality}
 use Rattle.am_cubes.specs.declared.needs.Need.TheVariants as needs
-use Rattle.am_cubes.specs.Modality.{passes}
+use Rattle.am_masks.specs.Modality.{passes}
 use Rattle.am_cubes.specs.Target.{Receiver, Ends, Enters}
 use Rattle.am_cubes.specs.RouteSeen.{route_seen}
 use Rattle.am_cubes.specs.Verdicts.{verdict_of_literal, verdict_of_simple}

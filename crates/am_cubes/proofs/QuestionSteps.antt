@@ -10,13 +10,13 @@ use Rattle.am_eval.specs.declared.question.Question.TheVariants as variants
 use Rattle.am_eval.specs.Tree.{Not, And, Or}
 use Rattle.am_eval.specs.Words.{Question, question_view}
 use Rattle.am_eval.specs.QuestionView.{view_step}
-use Rattle.am_cubes.specs.declared.modality.Modality.{Modality}
+use Rattle.am_masks.specs.declared.modality.Modality.{Modality}
 use Rattle.am_cubes.specs.declared.question_lists.QuestionLists.{QuestionLists}
 use Rattle.am_cubes.specs.declared.question_lists.QuestionLists.TheFolds.{fold-roll-QuestionLists}
 use Rattle.am_cubes.specs.declared.question_lists.QuestionLists.TheOpen.{QuestionLists-F}
 use Rattle.am_cubes.specs.declared.question_lists.QuestionLists.TheVariants as lists
 use Rattle.am_cubes.specs.declared.target.Target as targets
-use Rattle.am_cubes.specs.Modality.{other}
+use Rattle.am_masks.specs.Modality.{other}
 use Rattle.am_cubes.specs.TargetView.{target_view}
 use Rattle.am_cubes.specs.WorldByLists.{WorldSeen}
 use Rattle.am_cubes.specs.QuestionByLists.{question_step, question_by}

@@ -9,7 +9,7 @@ use Rattle.am_files.specs.RouteView.{route_view}
 use Rattle.am_files.specs.Path.{list_of}
 use Rattle.am_search.specs.declared.verdict.Verdict.{Verdict}
 use Rattle.am_masks.specs.Words.{verdict_of_list}
-use Rattle.am_cubes.specs.declared.modality.Modality.{Modality}
+use Rattle.am_masks.specs.declared.modality.Modality.{Modality}
 use Rattle.am_cubes.specs.Target.{Target}
 use Rattle.am_cubes.specs.RouteSeen.{RouteSeen, route_seen, comes_below}
 use Rattle.am_cubes.proofs.WalkLemmas.{walked}

@@ -4,11 +4,11 @@ use Rattle.std.proofs.Common.{Bool, true, false, not, cond, refl, ap, ◌∙◌,
 use Rattle.std.specs.Prelude.{◌&&◌, ◌||◌, if◌then◌else◌}
 use Rattle.std.proofs.lemmas.List.{drop_all}
 use Rattle.am_search.specs.declared.verdict.Verdict.{Verdict}
-use Rattle.am_cubes.specs.declared.modality.Modality.{Modality}
+use Rattle.am_masks.specs.declared.modality.Modality.{Modality}
 use Rattle.am_cubes.specs.declared.route_lists.RouteLists.{RouteLists}
 use Rattle.am_cubes.specs.declared.route_lists.RouteLists.TheViews.{out-RouteLists}
 use Rattle.am_cubes.specs.declared.route_lists.RouteLists.TheFolds.{fold_out-RouteLists}
-use Rattle.am_cubes.specs.Modality.{passes, other}
+use Rattle.am_masks.specs.Modality.{passes, other}
 use Rattle.am_cubes.specs.Target.{Target, target_below, is_end_here}
 use Rattle.am_cubes.specs.RouteSeen.{RouteSeen, comes_by, comes_below}
 use Rattle.am_cubes.specs.RoutesByLists.{seen_step, seen_by}

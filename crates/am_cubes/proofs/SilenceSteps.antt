@@ -6,8 +6,8 @@ use Rattle.am_records.specs.SilencesFile.{Silence}
 use Rattle.am_masks.specs.Words.{verdict_of_list}
 use Rattle.am_eval.specs.Question.{Silenced}
 use Rattle.am_eval.specs.Words.{World, Literal, is_active, matching}
-use Rattle.am_cubes.specs.declared.modality.Modality.{Modality}
-use Rattle.am_cubes.specs.Modality.{passes}
+use Rattle.am_masks.specs.declared.modality.Modality.{Modality}
+use Rattle.am_masks.specs.Modality.{passes}
 use Rattle.am_cubes.specs.Verdicts.{verdict_of_literal, verdict_of_simple}
 use Rattle.am_cubes.proofs.Kleene.{passes_simple}
 use Rattle.am_cubes.proofs.ListSteps.{and_true, any_mapped, same_any_test}

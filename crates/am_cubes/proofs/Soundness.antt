@@ -187,7 +187,7 @@ any_says verdict truth each (x ∷ xs) =
     ∙ ap (kleene_or (says (truth x))) (any_says verdict truth each xs)
     ∙ or_says (truth x) (list_any truth xs)
 
-literal_says : (u : List Label) (c : List ℕ) → IsWhole (sizes u) c → (l : Literal)
+pub literal_says : (u : List Label) (c : List ℕ) → IsWhole (sizes u) c → (l : Literal)
     → verdict_of_literal u c l ≡ says (literal_holds (label_set_of u c) l)
 literal_says u c whole l = by l.wanted
   where

@@ -15,8 +15,8 @@ use Rattle.am_eval.specs.Words.{Literal, some_way_holds, matching, not_matching}
 use Rattle.am_eval.specs.Words.{paths_at, paths_from}
 use Rattle.am_eval.specs.Conditions.{stopped_by_none, no_child_of, ways_into, ways_below, is_receiver}
 use Rattle.am_eval.specs.Conditions.{paths_to}
-use Rattle.am_cubes.specs.declared.modality.Modality.{Modality}
-use Rattle.am_cubes.specs.Modality.{passes}
+use Rattle.am_masks.specs.declared.modality.Modality.{Modality}
+use Rattle.am_masks.specs.Modality.{passes}
 use Rattle.am_cubes.specs.Verdicts.{verdict_of_literal}
 use Rattle.am_cubes.specs.Target.{Target, Nothing, Receiver, Ends, Enters, target_below, ways_to}
 use Rattle.am_cubes.specs.Target.{is_end_here, on_the_way}

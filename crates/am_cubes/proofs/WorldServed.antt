@@ -1,17 +1,16 @@
 -- What is seen of a world by its lists is what it has, as far as a question asks of it.
 use Rattle.std.proofs.Common.{◌≡◌, ℕ, List, true, Option, Some, None, refl}
 use Rattle.std.specs.Prelude.{is_some}
-use Rattle.std.specs.declared.alloc.Global.{Global}
-use Rattle.std.specs.declared.vec.Vec.{Vec}
+use Rattle.am_masks.specs.declared.group.Group.{Group}
 use Rattle.am_labels.specs.Words.{Label, sizes}
 use Rattle.am_search.specs.declared.verdict.Verdict.{Verdict}
 use Rattle.am_eval.specs.Question.{Silenced, Inhibited}
 use Rattle.am_eval.specs.Words.{World, Question}
-use Rattle.am_cubes.specs.declared.modality.Modality.{Modality}
+use Rattle.am_masks.specs.declared.modality.Modality.{Modality}
 use Rattle.am_cubes.specs.declared.pair_lists.PairLists.{PairLists}
 use Rattle.am_cubes.specs.declared.route_lists.RouteLists.{RouteLists}
 use Rattle.am_cubes.specs.declared.world_lists.WorldLists.{WorldLists}
-use Rattle.am_cubes.specs.Modality.{passes}
+use Rattle.am_masks.specs.Modality.{passes}
 use Rattle.am_cubes.specs.PartView.{part_value}
 use Rattle.am_cubes.specs.RouteSeen.{route_seen}
 use Rattle.am_cubes.specs.Target.{Target}
@@ -29,7 +28,7 @@ module _ {L : Type 0} (Knows : List ℕ → List ℕ → Type 0) (verdict : L �
   routes_served None are there m target = absurd (cc)
   routes_served (Some part) are there m target = are part refl prefix m target knows
 
-  silences_served : (part : Option (Vec L Global)) → AreSilences Knows verdict u w part
+  silences_served : (part : Option (Group L)) → AreSilences Knows verdict u w part
       → is_some part ≡ true → (m : Modality)
       → silenced_by_lists verdict prefix part m ≡ passes m (verdict_of_simple u w Silenced prefix)
   silences_served None are there m = absurd (cc)

@@ -1,5 +1,4 @@
 pub mod Verdicts
-pub mod Modality
 pub mod Target
 pub mod TargetView
 pub mod RouteSeen
@@ -12,3 +11,7 @@ pub mod QuestionView
 pub mod PlanView
 pub mod PlanWords
 pub mod Words
+pub mod ChoiceEnds
+pub mod RouteWays
+pub mod PathRefuter
+pub mod RouteEnds

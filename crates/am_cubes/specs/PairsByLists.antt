@@ -1,9 +1,10 @@
 -- Whether a pair of a rule and a firing alert inhibits, by lists that have verdicts, and by the
 -- definitions.
-use Rattle.std.specs.Prelude.{◌≡◌, ℕ, List, map, slice_get, Bool, true, not, ◌&&◌}
+use Rattle.std.specs.Prelude.{◌≡◌, ℕ, List, [], ◌∷◌, map, slice_get, Bool, true, false, not}
+use Rattle.std.specs.Prelude.{◌&&◌, ◌||◌}
 use Rattle.std.specs.Prelude.{if◌then◌else◌}
 use Rattle.std.specs.Prelude.{Option, Some, None}
-use Rattle.std.specs.List.{list_all, list_any}
+use Rattle.std.specs.List.{list_all}
 use Rattle.std.specs.declared.alloc.Global.{Global}
 use Rattle.std.specs.declared.vec.Vec.{Vec}
 use Rattle.am_labels.specs.Words.{Label, TruthRow, row_of}
@@ -13,10 +14,12 @@ use Rattle.am_masks.specs.Words.{verdict_of_list}
 use Rattle.am_eval.specs.declared.pair.Pair.{Pair}
 use Rattle.am_eval.specs.Words.{World}
 use Rattle.am_eval.specs.Conditions.{pair_way}
-use Rattle.am_cubes.specs.declared.modality.Modality.{Modality}
+use Rattle.am_masks.specs.declared.modality.Modality.{Modality}
 use Rattle.am_cubes.specs.declared.pair_lists.PairList.{PairList}
 use Rattle.am_cubes.specs.declared.pair_lists.PairLists.{PairLists}
-use Rattle.am_cubes.specs.Modality.{passes, other}
+use Rattle.am_cubes.specs.declared.pair_lists.PairSide.{PairSide}
+use Rattle.am_masks.specs.GroupView.{verdicts_in}
+use Rattle.am_masks.specs.Modality.{passes, other}
 use Rattle.am_cubes.specs.Verdicts.{verdict_of_literal}
 
 -- The source side is not matched; where there is no list for it, nothing is asked. The source side
@@ -29,16 +32,28 @@ source_fails verdict prefix m (Some source) = not (passes (other m) (verdict sou
 abbrev pub source_among : {L : Type 0} → List L → Bool → ℕ → Option L
 source_among sources both rule = if both then slice_get sources rule else None
 
+abbrev pub side_fails : {L : Type 0} → (L → List ℕ → Verdict) → List ℕ → Modality → List L
+    → PairSide → Bool
+side_fails verdict prefix m sources side =
+    source_fails verdict prefix m (source_among sources side.both side.rule)
+
 abbrev pub pair_by : {L : Type 0} → (L → List ℕ → Verdict) → List ℕ → Modality → List L
     → PairList L → Bool
 pair_by verdict prefix m sources pair =
-    passes m (verdict pair.list prefix)
-    && source_fails verdict prefix m (source_among sources pair.both pair.rule)
+    passes m (verdict pair.list prefix) && side_fails verdict prefix m sources pair.side
+
+-- Of some pairs one inhibits: the verdict of its list passes, and its source side is not matched.
+abbrev pub some_pair : (Verdict → Bool) → (PairSide → Bool) → List Verdict → List PairSide → Bool
+some_pair test fails [] sides = false
+some_pair test fails (v ∷ vs) [] = false
+some_pair test fails (v ∷ vs) (side ∷ sides) =
+    (test v && fails side) || some_pair test fails vs sides
 
 abbrev pub inhibited_by : {L : Type 0} → (L → List ℕ → Verdict) → List ℕ → PairLists L → Modality
     → Bool
 inhibited_by verdict prefix lists m =
-    list_any (pair_by verdict prefix m lists.sources.items) lists.pairs.items
+    some_pair (passes m) (side_fails verdict prefix m lists.sources.items)
+    (verdicts_in verdict prefix lists.lists) lists.sides.items
 
 -- These are the lists of the source sides of rules, in order; and the rows of their target sides.
 abbrev pub AreSources : {L : Type 0} → List Label → (L → List ℕ → Verdict) → List ℕ → List L

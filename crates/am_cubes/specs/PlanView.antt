@@ -7,7 +7,7 @@ use Rattle.am_search.specs.Words.{is_yes, IsJudge}
 use Rattle.am_masks.specs.Words.{MaskedLabels, verdict_at}
 use Rattle.am_eval.specs.Words.{World}
 use Rattle.am_cubes.specs.declared.judged_question.JudgedQuestion.{JudgedQuestion}
-use Rattle.am_cubes.specs.declared.modality.Modality.TheVariants.{May, Must}
+use Rattle.am_masks.specs.declared.modality.Modality.TheVariants.{May, Must}
 use Rattle.am_cubes.specs.QuestionView.{truth_by}
 use Rattle.am_cubes.specs.WorldByLists.{AreWorldLists}
 

@@ -2,10 +2,10 @@
 -- excluded, and whether it is certain.
 use Rattle.std.specs.Prelude.{ℕ, List, Bool, true, not, ◌&&◌, ◌||◌}
 use Rattle.am_search.specs.declared.verdict.Verdict.{Verdict}
-use Rattle.am_cubes.specs.declared.modality.Modality.{Modality}
+use Rattle.am_masks.specs.declared.modality.Modality.{Modality}
 use Rattle.am_cubes.specs.declared.question_lists.QuestionLists.{QuestionLists, fold-QuestionLists}
 use Rattle.am_cubes.specs.declared.question_lists.QuestionLists.TheOpen.{QuestionLists-F}
-use Rattle.am_cubes.specs.Modality.{passes, other}
+use Rattle.am_masks.specs.Modality.{passes, other}
 use Rattle.am_cubes.specs.TargetView.{target_view}
 use Rattle.am_cubes.specs.WorldByLists.{WorldSeen}
 

@@ -1,7 +1,7 @@
 -- The truth of a question by its own lists and those of its world.
 use Rattle.std.specs.Prelude.{ℕ, List, Bool}
 use Rattle.am_search.specs.declared.verdict.Verdict.{Verdict}
-use Rattle.am_cubes.specs.declared.modality.Modality.{Modality}
+use Rattle.am_masks.specs.declared.modality.Modality.{Modality}
 use Rattle.am_cubes.specs.declared.judged_question.JudgedQuestion.{JudgedQuestion}
 use Rattle.am_cubes.specs.WorldByLists.{world_seen}
 use Rattle.am_cubes.specs.QuestionByLists.{question_by}

@@ -6,8 +6,8 @@ use Rattle.am_files.specs.ConfigFile.{RouteTree, matchers_of, continues_of}
 use Rattle.am_search.specs.declared.verdict.Verdict.{Verdict}
 use Rattle.am_masks.specs.Words.{verdict_of_list}
 use Rattle.am_eval.specs.Words.{some_way_holds}
-use Rattle.am_cubes.specs.declared.modality.Modality.{Modality}
-use Rattle.am_cubes.specs.Modality.{passes}
+use Rattle.am_masks.specs.declared.modality.Modality.{Modality}
+use Rattle.am_masks.specs.Modality.{passes}
 use Rattle.am_cubes.specs.Verdicts.{kleene_not, verdict_of_literal}
 use Rattle.am_cubes.specs.Target.{Target, target_below, is_end_here, is_entered, is_nothing}
 use Rattle.am_cubes.specs.Target.{ways_to}

@@ -3,20 +3,20 @@
 use Rattle.std.specs.Prelude.{◌≡◌, ℕ, List, Bool, true, false, ◌&&◌, ◌||◌, Option, Some, None}
 use Rattle.std.specs.Prelude.{IsTrue, is_some}
 use Rattle.std.specs.List.{list_any}
-use Rattle.std.specs.declared.alloc.Global.{Global}
-use Rattle.std.specs.declared.vec.Vec.{Vec}
 use Rattle.am_labels.specs.Words.{Label, sizes}
 use Rattle.am_search.specs.declared.verdict.Verdict.{Verdict}
 use Rattle.am_eval.specs.Tree.{Part, Not, And, Or}
 use Rattle.am_eval.specs.Question.{Simple, Any, Silenced, Inhibited, Receiver, Ends, Enters, Braces}
 use Rattle.am_eval.specs.Words.{World, Question}
-use Rattle.am_cubes.specs.declared.modality.Modality.{Modality}
+use Rattle.am_masks.specs.declared.group.Group.{Group}
+use Rattle.am_masks.specs.GroupView.{verdicts_in}
+use Rattle.am_masks.specs.declared.modality.Modality.{Modality}
 use Rattle.am_cubes.specs.declared.needs.Need.{Need}
 use Rattle.am_cubes.specs.declared.needs.Need.TheVariants as needs
 use Rattle.am_cubes.specs.declared.pair_lists.PairLists.{PairLists}
 use Rattle.am_cubes.specs.declared.route_lists.RouteLists.{RouteLists}
 use Rattle.am_cubes.specs.declared.world_lists.WorldLists.{WorldLists}
-use Rattle.am_cubes.specs.Modality.{passes}
+use Rattle.am_masks.specs.Modality.{passes}
 use Rattle.am_cubes.specs.PartView.{part_value}
 use Rattle.am_cubes.specs.PairsByLists.{inhibited_by}
 use Rattle.am_cubes.specs.RouteSeen.{RouteSeen, route_seen}
@@ -42,10 +42,10 @@ comes_by_lists verdict prefix (Some lists) m target =
     comes_from (seen_by verdict prefix lists) m target
 
 abbrev pub silenced_by_lists : {L : Type 0} → (L → List ℕ → Verdict) → List ℕ
-    → Option (Vec L Global) → Modality → Bool
+    → Option (Group L) → Modality → Bool
 silenced_by_lists verdict prefix None m = false
 silenced_by_lists verdict prefix (Some lists) m =
-    list_any (λ list. passes m (verdict list prefix)) lists.items
+    list_any (passes m) (verdicts_in verdict prefix lists)
 
 abbrev pub inhibited_by_lists : {L : Type 0} → (L → List ℕ → Verdict) → List ℕ
     → Option (PairLists L) → Modality → Bool
@@ -70,11 +70,11 @@ AreRoutes {L = L} Knows verdict u w found =
     ≡ comes_from (route_seen u prefix w.config.root) m target
 
 abbrev pub AreSilences : {L : Type 0} → (List ℕ → List ℕ → Type 0) → (L → List ℕ → Verdict)
-    → List Label → World → Option (Vec L Global) → Type 0
+    → List Label → World → Option (Group L) → Type 0
 AreSilences {L = L} Knows verdict u w found =
-    (part : Vec L Global) → found ≡ Some part
+    (part : Group L) → found ≡ Some part
     → (prefix : List ℕ) (m : Modality) → Knows (sizes u) prefix
-    → list_any (λ list. passes m (verdict list prefix)) part.items
+    → list_any (passes m) (verdicts_in verdict prefix part)
     ≡ passes m (verdict_of_simple u w Silenced prefix)
 
 abbrev pub ArePairs : {L : Type 0} → (List ℕ → List ℕ → Type 0) → (L → List ℕ → Verdict)

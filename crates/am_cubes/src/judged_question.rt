@@ -3,18 +3,17 @@
 ghost use Rattle.std.specs.Prelude.{◌≡◌, ℕ, List, IfOk};
 ghost use Rattle.am_labels.specs.Words.{sizes};
 ghost use Rattle.am_eval.specs.Words.{question_view};
-ghost use Rattle.am_cubes.specs.declared.modality.Modality.{Modality};
-ghost use Rattle.am_cubes.specs.Modality.{passes};
+ghost use Rattle.am_masks.specs.declared.modality.Modality.{Modality};
+ghost use Rattle.am_masks.specs.Modality.{passes};
 ghost use Rattle.am_cubes.specs.Verdicts.{verdict_of};
 ghost use Rattle.am_cubes.specs.WorldByLists.{AreWorldLists};
 ghost use Rattle.am_cubes.specs.QuestionView.{truth_by};
 
-use crate::modality::Modality;
 use crate::question_lists::QuestionLists;
 use crate::world_lists::WorldLists;
 use am_eval::{Question, World};
 use am_labels::{Choice, Universe};
-use am_masks::JudgedList;
+use am_masks::{JudgedList, Modality};
 use std::alloc::{AllocError, Global};
 
 /// A question about a world, with a list for each list of matchers that it asks of: its own, and,

@@ -1,9 +1,18 @@
 //! Facts about the definitions alone: each is the contract of a function with an empty body.
-ghost use Rattle.std.specs.Prelude.{◌≡◌, ◌≢◌, ℕ, List, IsTrue, false, if◌then◌else◌};
-ghost use Rattle.std.specs.List.{AllByRecursion};
+ghost use Rattle.std.specs.Prelude.{◌≡◌, ◌≢◌, ◌≤◌, ℕ, ◌+◌, ◌*◌, List, [], length, IsTrue};
+ghost use Rattle.std.specs.Prelude.{false, if◌then◌else◌};
+ghost use Rattle.std.specs.List.{sum, AllByRecursion};
 ghost use Rattle.am_labels.specs.Words.{Label, IsUniverse, sizes, admits, IsWhole, completions};
+ghost use Rattle.am_labels.specs.Words.{Condition};
+ghost use Rattle.am_search.specs.declared.start.Start.{Start};
+ghost use Rattle.am_search.specs.declared.start.Start.TheVariants.{At};
 ghost use Rattle.am_search.specs.declared.verdict.Verdict.TheVariants.{Yes, No, Open};
+ghost use Rattle.am_search.specs.Words.{IsExactJudge, visited, answers_from};
+ghost use Rattle.am_eval.specs.Tree.{Part};
+ghost use Rattle.am_eval.specs.Question.{Braces};
 ghost use Rattle.am_eval.specs.Words.{World, Question, is_answer};
+ghost use Rattle.am_cubes.specs.declared.plan.Plan.{Plan};
+ghost use Rattle.am_cubes.specs.PlanWords.{plan_universe, plan_world, plan_sizes, plan_verdict};
 ghost use Rattle.am_cubes.specs.Verdicts.{verdict_of};
 
 /// Where the verdict of a question is `Yes`, every completion of the prefix is an answer; where it
@@ -21,4 +30,35 @@ pub fn a_verdict_says_what_holds_of_all_completions()
         → verdict_of u w q c ≡ (if is_answer u w q c then Yes else No) }
     ensures closed { (u : List Label) (w : World) (q : Question) (c : List ℕ)
         → IsUniverse u → IsWhole (sizes u) c → verdict_of u w q c ≢ Open }
+{}
+
+/// The judge of a question that is one list of matchers is exact: its verdict is `Open` only where
+/// the label set of some completion matches the list, and that of some completion does not.
+pub fn one_list_has_an_exact_judge()
+    ensures exact { (u : List Label) (w : World) (ms : List Condition) → IsUniverse u
+        → IsExactJudge (sizes u) (is_answer u w (Part (Braces ms)))
+        (verdict_of u w (Part (Braces ms))) }
+{}
+
+/// With the plan of one list of matchers few prefixes are judged. Let `n` be the number of answers
+/// from the start on, and `z` the number of values that all labels have together: then at most
+/// `1 + (n + 1) * z` prefixes are judged. From the first choice on it is at most `1 + n * z`, so no
+/// more than one where no label set matches the list.
+pub fn the_plan_of_one_list_judges_few_prefixes()
+    ensures at_most { (plan : Plan) (ms : List Condition) (start : Start)
+        → ((prefix : List ℕ) → IsTrue (admits (plan_sizes plan) prefix)
+        → plan_verdict plan prefix
+        ≡ verdict_of (plan_universe plan) (plan_world plan) (Part (Braces ms)) prefix)
+        → length (visited (plan_sizes plan) (plan_verdict plan) start)
+        ≤ 1 + (length (answers_from (plan_sizes plan)
+        (is_answer (plan_universe plan) (plan_world plan) (Part (Braces ms))) start) + 1)
+        * sum (plan_sizes plan) }
+    ensures from_the_first { (plan : Plan) (ms : List Condition)
+        → ((prefix : List ℕ) → IsTrue (admits (plan_sizes plan) prefix)
+        → plan_verdict plan prefix
+        ≡ verdict_of (plan_universe plan) (plan_world plan) (Part (Braces ms)) prefix)
+        → length (visited (plan_sizes plan) (plan_verdict plan) (At []))
+        ≤ 1 + length (answers_from (plan_sizes plan)
+        (is_answer (plan_universe plan) (plan_world plan) (Part (Braces ms))) (At []))
+        * sum (plan_sizes plan) }
 {}

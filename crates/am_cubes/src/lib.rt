@@ -6,11 +6,8 @@
 //! theirs in the logic of three values. Judging takes no memory.
 #![tactic(auto)]
 
-// What is asked of a verdict, and what is looked for among routes.
-mod modality;
+// What is looked for among routes.
 mod target;
-
-pub use modality::Modality;
 
 // The lists of a world.
 mod pair_lists;
@@ -28,8 +25,14 @@ pub use judged_question::JudgedQuestion;
 // The judge.
 mod plan;
 
-pub use am_masks::{Cube, JudgedList};
+pub use am_masks::{Cube, JudgedList, Modality};
 pub use plan::Plan;
+
+// The first label set that ends at a route.
+mod route_ends;
+mod route_ways;
+
+pub use route_ends::RouteEnds;
 
 // What holds of the definitions by themselves.
 pub mod laws;

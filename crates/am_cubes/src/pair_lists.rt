@@ -1,40 +1,49 @@
 //! The pairs of an inhibition rule and a firing alert, with their lists.
 
 ghost use Rattle.std.specs.Prelude.{◌≡◌, ◌||◌, ℕ, List, map, Contains, IfOk, OnOk, IsTrue};
-ghost use Rattle.std.specs.Prelude.{string_bytes};
+ghost use Rattle.std.specs.Prelude.{string_bytes, ◌<◌, ◌≤◌, length, slice_get, Some};
 ghost use Rattle.std.specs.List.{list_any};
 ghost use Rattle.am_labels.specs.Words.{sizes, row_of};
 ghost use Rattle.am_masks.specs.Words.{verdict_of_list};
 ghost use Rattle.am_eval.specs.Question.{Inhibited};
 ghost use Rattle.am_eval.specs.Words.{pairs_of, same_value};
-ghost use Rattle.am_cubes.specs.declared.modality.Modality.{Modality};
-ghost use Rattle.am_cubes.specs.Modality.{passes};
+ghost use Rattle.am_masks.specs.declared.modality.Modality.{Modality};
+ghost use Rattle.am_masks.specs.Modality.{passes};
 ghost use Rattle.am_cubes.specs.Verdicts.{verdict_of_simple};
-ghost use Rattle.am_cubes.specs.PairsByLists.{inhibited_by, pair_by, AreSources, AreTargets};
-ghost use Rattle.am_cubes.specs.PairsByLists.{way_of_pair};
+ghost use Rattle.am_cubes.specs.declared.pair_lists.PairSide.{PairSide};
+ghost use Rattle.am_cubes.specs.PairsByLists.{inhibited_by, side_fails, pair_by, AreSources};
+ghost use Rattle.am_cubes.specs.PairsByLists.{AreTargets, way_of_pair};
 
-use crate::modality::Modality;
 use am_eval::{Pair, World};
 use am_files::Rule;
 use am_labels::{Choice, LabelSet, Row, Universe};
-use am_masks::{JudgedList, rows_of};
+use am_masks::{Group, JudgedList, Modality, rows_of};
 use std::alloc::{AllocError, Global};
 
-/// A pair of a rule and a firing alert that its source side matches.
-#[derive(Drop)]
-struct PairList<L> {
-    /// The target side, with the alert's values for the labels in `equal`.
-    list: L,
+/// What a pair of a rule and a firing alert asks of the rule's source side.
+#[derive(Clone, Copy, Drop)]
+struct PairSide {
     /// The rule, by its position.
     rule: usize,
     /// Whether the rule's target side matches the alert too: then its source side must not match.
     both: bool,
 }
 
+/// A pair of a rule and a firing alert that its source side matches.
+#[derive(Drop)]
+struct PairList<L> {
+    /// The target side, with the alert's values for the labels in `equal`.
+    list: L,
+    side: PairSide,
+}
+
 /// The pairs of a world, with their lists.
 #[derive(Drop)]
 pub(crate) struct PairLists<L> {
-    pairs: Vec<PairList<L>>,
+    /// The target side of each pair, with the alert's values for the labels in `equal`.
+    lists: Group<L>,
+    /// What each pair asks of its source side.
+    sides: Vec<PairSide>,
     /// The source side of each rule.
     sources: Vec<L>,
 }
@@ -54,7 +63,12 @@ impl<L: JudgedList> PairLists<L> {
         let sources = lists_of_sources(alloc, universe, rules)?;
         let targets = rows_of_targets(alloc, universe, rules)?;
         let pairs = lists_of_pairs(alloc, universe, world, targets.as_slice())?;
-        Ok(PairLists { pairs, sources })
+        let (lists, sides) = parts_of_pairs(alloc, pairs)?;
+        Ok(PairLists {
+            lists: Group::of(alloc, universe, lists)?,
+            sides,
+            sources,
+        })
     }
 
     /// Whether a firing alert inhibits a label set: whether at a prefix that is not excluded, or
@@ -62,29 +76,71 @@ impl<L: JudgedList> PairLists<L> {
     pub(crate) fn inhibit(&self, modality: Modality, prefix: &Choice) -> bool
         ensures inhibited { result ≡ inhibited_by L.verdict prefix.now self.now modality }
     {
-        self.pairs.iter().any(|pair| pair_inhibits(&self.sources, pair, modality, prefix))
+        let mut from = 0;
+        while let Some(i) = self.lists.next(modality, prefix, from) {
+            if i >= self.sides.len() {
+                return false;
+            }
+            if side_fails(&self.sources, self.sides[i], modality, prefix) {
+                return true;
+            }
+            // The next pairs ask the same of the same source side.
+            from = behind_same(&self.sides, i);
+        }
+        false
     }
 }
 
-/// The same of one pair.
-fn pair_inhibits<L: JudgedList>(
+/// Whether the source side of a pair does not match, where the pair asks of it.
+fn side_fails<L: JudgedList>(
     sources: &[L],
-    pair: &PairList<L>,
+    side: PairSide,
     modality: Modality,
     prefix: &Choice,
 ) -> bool
-    ensures { result ≡ pair_by L.verdict prefix.now modality sources.now pair.now }
+    ensures { result ≡ side_fails L.verdict prefix.now modality sources.now side }
 {
-    if !modality.holds(&pair.list, prefix) {
-        return false;
-    }
-    if !pair.both {
+    if !side.both {
         return true;
     }
-    match sources.get(pair.rule) {
+    match sources.get(side.rule) {
         Some(source) => modality.fails(source, prefix),
         None => true,
     }
+}
+
+/// The first place behind one at which another source side is asked of, or nothing.
+fn behind_same(sides: &[PairSide], place: usize) -> usize
+    requires { place < length sides.now }
+    ensures behind { place < result }
+    ensures same { (j : ℕ) (x y : PairSide) → place ≤ j → j < result
+        → slice_get sides.now place ≡ Some x → slice_get sides.now j ≡ Some y → y ≡ x }
+{
+    let side = sides[place];
+    for i in place + 1..sides.len() {
+        if sides[i].rule != side.rule || sides[i].both != side.both {
+            return i;
+        }
+    }
+    sides.len()
+}
+
+/// The lists of some pairs, and what they ask of their source sides.
+fn parts_of_pairs<L: JudgedList>(
+    alloc: Global,
+    pairs: Vec<PairList<L>>,
+) -> Result<(Vec<L>, Vec<PairSide>), AllocError>
+    ensures lists { IfOk result (λ parts. parts.0.items ≡ map (λ pair. pair.list) pairs.items) }
+    ensures sides { IfOk result (λ parts. parts.1.items ≡ map (λ pair. pair.side) pairs.items) }
+{
+    let mut lists = Vec::with_capacity(alloc, pairs.len())?;
+    let mut sides = Vec::with_capacity(alloc, pairs.len())?;
+    for pair in pairs {
+        let PairList { list, side } = pair;
+        lists.push(list)?;
+        sides.push(side)?;
+    }
+    Ok((lists, sides))
 }
 
 /// The list of the source side of each rule.
@@ -172,10 +228,10 @@ fn is_idle<L: JudgedList>(lists: &[PairList<L>], pair: &PairList<L>) -> bool
     }
     for i in (0..lists.len()).rev() {
         let other = &lists[i];
-        if other.rule != pair.rule {
+        if other.side.rule != pair.side.rule {
             return false;
         }
-        if other.both == pair.both && other.list.is_same(&pair.list) {
+        if other.side.both == pair.side.both && other.list.is_same(&pair.list) {
             return true;
         }
     }
@@ -209,8 +265,10 @@ fn list_of_pair<L: JudgedList>(
     )?;
     Ok(PairList {
         list,
-        rule: pair.rule,
-        both: pair.both,
+        side: PairSide {
+            rule: pair.rule,
+            both: pair.both,
+        },
     })
 }
 

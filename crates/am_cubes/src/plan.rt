@@ -8,10 +8,9 @@ ghost use Rattle.am_cubes.specs.Verdicts.{verdict_of};
 ghost use Rattle.am_cubes.specs.PlanView.{KnowsWorld, IsJudgeOver};
 
 use crate::judged_question::JudgedQuestion;
-use crate::modality::Modality;
 use am_eval::{Question, World};
 use am_labels::{Choice, Universe};
-use am_masks::Cube;
+use am_masks::{Cube, Modality};
 use am_search::{Judge, Verdict};
 use am_universe::limits::MAX_LABELS;
 use std::alloc::{AllocError, Global};

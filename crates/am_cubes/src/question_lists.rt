@@ -3,18 +3,17 @@
 ghost use Rattle.std.specs.Prelude.{◌≡◌, ℕ, List, IfOk};
 ghost use Rattle.am_labels.specs.Words.{sizes};
 ghost use Rattle.am_eval.specs.Words.{World, question_view};
-ghost use Rattle.am_cubes.specs.declared.modality.Modality.{Modality};
-ghost use Rattle.am_cubes.specs.Modality.{passes};
+ghost use Rattle.am_masks.specs.declared.modality.Modality.{Modality};
+ghost use Rattle.am_masks.specs.Modality.{passes};
 ghost use Rattle.am_cubes.specs.Verdicts.{verdict_of};
 ghost use Rattle.am_cubes.specs.WorldByLists.{WorldSeen, world_seen, Serves};
 ghost use Rattle.am_cubes.specs.QuestionByLists.{question_by};
 
-use crate::modality::Modality;
 use crate::target::Target;
 use crate::world_lists::WorldLists;
 use am_eval::Question;
 use am_labels::{Choice, Universe};
-use am_masks::{JudgedList, rows_of};
+use am_masks::{JudgedList, Modality, rows_of};
 use std::alloc::{AllocError, Global};
 
 /// A question, with the lists of its matchers.

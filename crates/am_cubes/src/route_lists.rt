@@ -3,25 +3,24 @@
 ghost use Rattle.std.specs.Prelude.{◌≡◌, ◌&&◌, ℕ, List, map, IfOk};
 ghost use Rattle.am_labels.specs.Words.{sizes};
 ghost use Rattle.am_files.specs.Words.{route_view};
-ghost use Rattle.am_cubes.specs.Modality.{passes};
+ghost use Rattle.am_masks.specs.Modality.{passes};
 ghost use Rattle.am_cubes.specs.TargetView.{target_view};
 ghost use Rattle.am_cubes.specs.RouteSeen.{route_seen};
 ghost use Rattle.am_cubes.specs.RoutesByLists.{seen_by};
 
-use crate::modality::Modality;
 use crate::target::Target;
 use am_files::Route;
 use am_labels::{Choice, Universe};
-use am_masks::{JudgedList, rows_of};
+use am_masks::{JudgedList, Modality, rows_of};
 use std::alloc::{AllocError, Global};
 
 /// A route of a configuration, with the list of its matchers, and all routes below it.
 #[derive(Drop)]
 pub(crate) struct RouteLists<L> {
-    list: L,
-    continues: bool,
+    pub(crate) list: L,
+    pub(crate) continues: bool,
     receiver: usize,
-    routes: Vec<RouteLists<L>>,
+    pub(crate) routes: Vec<RouteLists<L>>,
 }
 
 impl<L: JudgedList> RouteLists<L> {

@@ -5,15 +5,14 @@ ghost use Rattle.std.specs.List.{list_any};
 ghost use Rattle.am_labels.specs.Words.{sizes};
 ghost use Rattle.am_eval.specs.Question.{Silenced};
 ghost use Rattle.am_eval.specs.Words.{question_view};
-ghost use Rattle.am_cubes.specs.declared.modality.Modality.{Modality};
-ghost use Rattle.am_cubes.specs.Modality.{passes};
+ghost use Rattle.am_masks.specs.declared.modality.Modality.{Modality};
+ghost use Rattle.am_masks.specs.Modality.{passes};
 ghost use Rattle.am_cubes.specs.TargetView.{target_view};
 ghost use Rattle.am_cubes.specs.PartView.{part_value};
 ghost use Rattle.am_cubes.specs.Verdicts.{verdict_of_simple};
 ghost use Rattle.am_cubes.specs.WorldByLists.{world_seen, AreWorldLists, HasParts};
 ghost use Rattle.am_cubes.specs.WorldByLists.{AreRoutes, AreSilences, ArePairs};
 
-use crate::modality::Modality;
 use crate::needs::{Need, needs};
 use crate::pair_lists::PairLists;
 use crate::part::Part;
@@ -21,7 +20,7 @@ use crate::route_lists::RouteLists;
 use crate::target::Target;
 use am_eval::{Question, World};
 use am_labels::{Choice, Universe};
-use am_masks::{JudgedList, rows_of};
+use am_masks::{Group, JudgedList, Modality, rows_of};
 use std::alloc::{AllocError, Global};
 
 /// The lists of the routes, the active silences, and the pairs of a world, as far as questions have
@@ -29,7 +28,7 @@ use std::alloc::{AllocError, Global};
 #[derive(Drop)]
 pub(crate) struct WorldLists<'a, L> {
     routes: Part<'a, RouteLists<L>>,
-    silences: Part<'a, Vec<L>>,
+    silences: Part<'a, Group<L>>,
     pairs: Part<'a, PairLists<L>>,
 }
 
@@ -113,7 +112,7 @@ impl<'a, L: JudgedList> WorldLists<'a, L> {
         ensures silenced { result ≡ (world_seen L.verdict prefix.now self.now).silenced modality }
     {
         match self.silences.get() {
-            Some(lists) => lists.iter().any(|list| modality.holds(list, prefix)),
+            Some(silences) => silences.any(modality, prefix),
             None => false,
         }
     }
@@ -153,9 +152,9 @@ fn with_silences<'a, L: JudgedList>(
     alloc: Global,
     universe: &Universe,
     world: &World,
-    part: Part<'a, Vec<L>>,
+    part: Part<'a, Group<L>>,
     needed: bool,
-) -> Result<Part<'a, Vec<L>>, AllocError>
+) -> Result<Part<'a, Group<L>>, AllocError>
     ensures silences { IfOk result (λ found.
         AreSilences L.Knows L.verdict universe.now world.now (part_value part.entry)
         → AreSilences L.Knows L.verdict universe.now world.now (part_value found)) }
@@ -164,7 +163,8 @@ fn with_silences<'a, L: JudgedList>(
     if part.is_there() || !needed {
         return Ok(part);
     }
-    Ok(Part::Own(lists_of_silences(alloc, universe, world)?))
+    let lists = lists_of_silences(alloc, universe, world)?;
+    Ok(Part::Own(Group::of(alloc, universe, lists)?))
 }
 
 /// The lists of the pairs of a world, where they are there or needed.

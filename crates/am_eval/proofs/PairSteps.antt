@@ -6,7 +6,7 @@ use Rattle.std.specs.Prelude.{slice_get}
 use Rattle.std.specs.List.{filter, flat_map, enumerate_from}
 use Rattle.std.proofs.lemmas.List.{length-append}
 use Rattle.am_universe.specs.LabelSet.{LabelMap}
-use Rattle.am_labels.specs.Matcher.{all_hold}
+use Rattle.am_labels.specs.Matcher.{Condition, all_hold}
 use Rattle.am_files.specs.ConfigFile.{Rule}
 use Rattle.am_eval.specs.declared.pair.Pair.{Pair}
 use Rattle.am_eval.specs.Pairs.{pair_of, pairs_of_rule}
@@ -32,6 +32,14 @@ pub one_pair : (rule : ℕ × Rule) (found : List Pair) (alerts : List LabelMap)
 one_pair rule found alerts i pair {a = a} here passes says =
     rw (left_at alerts i a here, passes, ← says)
     (append_assoc found (pair ∷ []) (pairs_from rule (i + 1) alerts))
+
+-- what the sides of a rule say is said of the rule
+pub pair_of_sides : (rule : ℕ × Rule) (i : ℕ) (a : LabelMap) (pair : Pair) {position : ℕ}
+    {target : List Condition} → position ≡ rule.0 → target ≡ rule.1.target
+    → pair ≡ record { rule = position; alert = i; both = all_hold a target }
+    → pair ≡ pair_of rule (i, a)
+pair_of_sides rule i a pair e f says =
+    says ∙ (λ k. record { rule = e k; alert = i; both = all_hold a (f k) })
 
 -- where there are as many as there may be, another is one too many
 pub one_too_many : (rule : ℕ × Rule) (found all : List Pair) (alerts : List LabelMap) (i n : ℕ)

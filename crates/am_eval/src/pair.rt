@@ -6,11 +6,11 @@ ghost use Rattle.std.specs.Prelude.{IfOk, IfErr, IfSome, OnOk};
 ghost use Rattle.am_universe.specs.declared.kind.Kind.TheVariants as kinds;
 ghost use Rattle.am_labels.specs.Words.{all_hold};
 ghost use Rattle.am_eval.specs.declared.limits.TheConstants.{MAX_PAIRS};
-ghost use Rattle.am_eval.specs.Pairs.{pair_of, pairs_of, pairs_of_rule};
+ghost use Rattle.am_eval.specs.Pairs.{pairs_of, pairs_of_rule};
 
 use crate::limits::MAX_PAIRS;
 use am_files::{Alerts, Rule};
-use am_labels::{Kind, LabelSet};
+use am_labels::{Kind, LabelSet, PreparedMatchers};
 use std::alloc::{AllocError, Global};
 
 /// An inhibition rule and a firing alert that its source side matches, each by its position.
@@ -55,35 +55,54 @@ fn add_pairs(
         × (MAX_PAIRS < length (found.old.items
         ++ pairs_of_rule alerts.now (position, rule.now)))) }
 {
+    let mut sides = Sides {
+        rule: position,
+        source: rule.source().prepare(alloc),
+        target: rule.target().prepare(alloc),
+    };
     for i in 0..alerts.len() {
-        if let Some(pair) = pair_of(alloc, position, rule, i, alerts.get(i))? {
+        if let Some(pair) = sides.pair_with(alloc, i, alerts.get(i))? {
             add_pair(found, pair)?;
         }
     }
     Ok(())
 }
 
-/// The pair of the rule and the alert at these positions, where the source side matches the alert.
-/// The target side is looked at only then.
-fn pair_of(
-    alloc: Global,
-    position: usize,
-    rule: &Rule,
-    i: usize,
-    alert: &LabelSet,
-) -> Result<Option<Pair>, AllocError>
-    ensures matched { IfOk result (λ found. is_some found ≡ all_hold alert.now rule.now.source) }
-    ensures pair { IfOk result (λ found. IfSome found (λ pair.
-        pair ≡ pair_of (position, rule.now) (i, alert.now))) }
-{
-    if !rule.source().matches(alloc, alert)? {
-        return Ok(None);
+/// The sides of the rule at a position, which are held against one alert after another.
+#[derive(Drop)]
+struct Sides<'r> {
+    rule: usize,
+    source: PreparedMatchers<'r>,
+    target: PreparedMatchers<'r>,
+}
+
+impl<'r> Sides<'r> {
+    /// The pair of the rule and the alert at this position, where the source side matches the
+    /// alert. The target side is looked at only then.
+    fn pair_with(
+        &mut self,
+        alloc: Global,
+        i: usize,
+        alert: &LabelSet,
+    ) -> Result<Option<Pair>, AllocError>
+        ensures matched { IfOk result (λ found.
+            is_some found ≡ all_hold alert.now self.old.source) }
+        ensures pair { IfOk result (λ found. IfSome found (λ pair. pair ≡ record {
+          rule = self.old.rule;
+          alert = i;
+          both = all_hold alert.now self.old.target;
+        })) }
+        ensures same { self.new ≡ self.old }
+    {
+        if !self.source.matches(alloc, alert)? {
+            return Ok(None);
+        }
+        Ok(Some(Pair {
+            rule: self.rule,
+            alert: i,
+            both: self.target.matches(alloc, alert)?,
+        }))
     }
-    Ok(Some(Pair {
-        rule: position,
-        alert: i,
-        both: rule.target().matches(alloc, alert)?,
-    }))
 }
 
 /// Adds a pair. `Limit` where there are [`MAX_PAIRS`]; `Memory` only where memory was refused.

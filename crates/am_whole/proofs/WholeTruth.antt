@@ -7,8 +7,8 @@ use Rattle.am_search.specs.Judge.{is_yes}
 use Rattle.am_eval.specs.World.{World}
 use Rattle.am_eval.specs.Question.{Question, is_answer}
 use Rattle.am_eval.proofs.ConditionLaws.{exactly}
-use Rattle.am_cubes.specs.declared.modality.Modality.TheVariants.{Must}
-use Rattle.am_cubes.specs.Modality.{passes}
+use Rattle.am_masks.specs.declared.modality.Modality.TheVariants.{Must}
+use Rattle.am_masks.specs.Modality.{passes}
 use Rattle.am_cubes.specs.Verdicts.{verdict_of}
 use Rattle.am_cubes.proofs.Soundness.{verdict_says}
 

@@ -13,7 +13,7 @@ use Rattle.am_universe.proofs.CompletionLemmas.{completions_of_whole}
 use Rattle.am_search.specs.Judge.{AreSizes, IsJudge}
 use Rattle.am_search.specs.declared.verdict.Verdict.{Verdict}
 use Rattle.am_search.specs.declared.verdict.Verdict.TheVariants.{Yes, No, Open}
-use Rattle.am_cubes.specs.declared.modality.Modality.TheVariants.{Must}
+use Rattle.am_masks.specs.declared.modality.Modality.TheVariants.{Must}
 use Rattle.am_cubes.specs.Words.{truth_by}
 use Rattle.am_whole.specs.declared.whole.Whole.{Whole}
 use Rattle.am_whole.specs.RowsView.{rows_verdict}

@@ -1,11 +1,12 @@
 //! The rows of a list of matchers.
 
-ghost use Rattle.std.specs.Prelude.{◌≡◌, length, All, IfOk};
+ghost use Rattle.std.specs.Prelude.{◌≡◌, ℕ, List, map, length, All, IfOk, IfErr};
 ghost use Rattle.am_labels.specs.Words.{row_holds};
-ghost use Rattle.am_whole.specs.RowsView.{IsRow, all_hold_at, rows_hold_at};
+ghost use Rattle.am_masks.specs.Words.{verdict_at};
+ghost use Rattle.am_whole.specs.RowsView.{IsRow, all_hold_at, rows_hold_at, rows_verdict};
 
 use am_labels::{Choice, Row, Universe};
-use am_masks::JudgedList;
+use am_masks::{Cube, JudgedList};
 use am_search::Verdict;
 use am_universe::limits::MAX_LABELS;
 use std::alloc::{AllocError, Global};
@@ -76,7 +77,6 @@ impl Rows {
 
 impl JudgedList for Rows {
     ghost use Rattle.am_labels.specs.Words.{IsWhole};
-    ghost use Rattle.am_whole.specs.RowsView.{rows_verdict};
 
     ghost verdict = { rows_verdict };
 
@@ -120,6 +120,15 @@ impl JudgedList for Rows {
 
     fn is_same(&self, _other: &Rows) -> bool {
         false
+    }
+
+    fn into_cubes(lists: Vec<Rows>) -> Result<Vec<Cube>, Vec<Rows>>
+        ensures cubes { IfOk result (λ cubes. (prefix : List ℕ)
+            → map (λ cube. verdict_at cube prefix) cubes.items
+            ≡ map (λ rows. rows_verdict rows prefix) lists.items) }
+        ensures lists { IfErr result (λ same. same.items ≡ lists.items) }
+    {
+        Err(lists)
     }
 }
 

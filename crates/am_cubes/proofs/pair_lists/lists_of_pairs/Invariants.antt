@@ -1,7 +1,7 @@
 use Rattle.std.proofs.Common.{◌≡◌, ℕ, List, take}
 use Rattle.std.specs.List.{list_any}
 use Rattle.am_labels.specs.Words.{sizes}
-use Rattle.am_cubes.specs.declared.modality.Modality.{Modality}
+use Rattle.am_masks.specs.declared.modality.Modality.{Modality}
 use Rattle.am_cubes.specs.PairsByLists.{pair_by, way_of_pair, AreSources}
 use Rattle.am_cubes.proofs.pair_lists.lists_of_pairs.Given as goal
 

@@ -5,7 +5,7 @@ use Rattle.std.proofs.lemmas.List.{append-nil, take_all}
 use Rattle.std.proofs.lemmas.Option.{slice_get_cases}
 use Rattle.am_labels.specs.Words.{row_of}
 use Rattle.am_eval.specs.Words.{is_active}
-use Rattle.am_cubes.specs.Modality.{passes}
+use Rattle.am_masks.specs.Modality.{passes}
 use Rattle.am_cubes.proofs.ListSteps.{any_kept, none_kept}
 use Rattle.am_cubes.proofs.SilenceSteps.{matchers_pass, silences_truth}
 use Rattle.am_cubes.proofs.world_lists.lists_of_silences.Goals as goal

@@ -2,8 +2,8 @@ use Rattle.std.proofs.Common.{◌≡◌, ℕ, List, take}
 use Rattle.std.specs.List.{list_any, filter}
 use Rattle.am_labels.specs.Words.{sizes}
 use Rattle.am_eval.specs.Words.{is_active}
-use Rattle.am_cubes.specs.declared.modality.Modality.{Modality}
-use Rattle.am_cubes.specs.Modality.{passes}
+use Rattle.am_masks.specs.declared.modality.Modality.{Modality}
+use Rattle.am_masks.specs.Modality.{passes}
 use Rattle.am_cubes.proofs.SilenceSteps.{matchers_pass}
 use Rattle.am_cubes.proofs.world_lists.lists_of_silences.Given as goal
 

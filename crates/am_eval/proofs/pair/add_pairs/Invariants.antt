@@ -10,4 +10,7 @@ invariant-loop-i l = record {
   together : l.found.items ++ pairs_from (l.position, l.rule) l.i l.alerts
       ≡ l.fn.found.items ++ pairs_of_rule l.alerts (l.position, l.rule);
   few : length l.found.items ≤ MAX_PAIRS;
+  rule : l.sides.rule ≡ l.position;
+  source : l.sides.source ≡ l.rule.source;
+  target : l.sides.target ≡ l.rule.target;
 }

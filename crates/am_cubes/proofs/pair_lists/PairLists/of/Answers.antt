@@ -1,4 +1,4 @@
-use Rattle.std.proofs.Common.{◌≡◌, List, ap, ◌∙◌, subst}
+use Rattle.std.proofs.Common.{◌≡◌, List, map, ap, ◌∙◌, subst}
 use Rattle.am_files.specs.ConfigFile.{Configuration, Rule}
 use Rattle.am_cubes.specs.PairsByLists.{AreSources}
 use Rattle.am_cubes.proofs.PairSteps.{pairs_truth}
@@ -17,7 +17,10 @@ returns g c =
       inhibited = λ prefix m knows.
           let are = subst (λ (rules : List Rule). AreSources u verdict prefix sources.items rules)
           of_world (c.in_ok-sources.ensures.sources prefix knows) in
+          let parts = c.in_ok-lists.ensures in
           pairs_truth u world verdict prefix m
-          (record { pairs = c.in_ok-pairs.pairs; sources = sources })
-          (c.in_ok-pairs.ensures.pairs prefix m sources.items knows are);
+          (record { lists = c.in_ok-of.field-0; sides = c.in_ok-lists.sides; sources = sources })
+          c.in_ok-pairs.pairs.items
+          (c.in_ok-of.ensures.same prefix ∙ ap (map (λ list. verdict list prefix)) parts.lists)
+          parts.sides (c.in_ok-pairs.ensures.pairs prefix m sources.items knows are);
     }

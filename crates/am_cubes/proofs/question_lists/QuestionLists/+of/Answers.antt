@@ -3,7 +3,7 @@ use Rattle.std.proofs.Common.{not, ◌&&◌, ◌||◌, ap, ◌∙◌, sym, refl,
 use Rattle.am_eval.specs.Tree.{Not, And, Or}
 use Rattle.am_eval.specs.Question as questions
 use Rattle.am_eval.specs.Words.{question_view}
-use Rattle.am_cubes.specs.Modality.{passes, other}
+use Rattle.am_masks.specs.Modality.{passes, other}
 use Rattle.am_cubes.specs.Verdicts.{verdict_of, verdict_of_simple}
 use Rattle.am_cubes.specs.WorldByLists.{Serves}
 use Rattle.am_cubes.specs.Target as targets

@@ -1,0 +1,14 @@
+use Rattle.std.proofs.Common.{refl}
+use Rattle.am_eval.specs.Tree.{Part}
+use Rattle.am_eval.specs.Question.{Braces}
+use Rattle.am_search.proofs.TokenTexts.{sizes_of_universe}
+use Rattle.am_cubes.specs.Verdicts.{verdict_of}
+use Rattle.am_cubes.proofs.OneList.{is_exact_judge}
+use Rattle.am_cubes.proofs.laws.one_list_has_an_exact_judge.Goals as goal
+
+pub returns : goal.returns
+returns c = record {
+  exact = λ u w ms universe.
+      is_exact_judge u w ms (verdict_of u w (Part (Braces ms))) (λ prefix a. refl)
+      (sizes_of_universe u universe);
+}

@@ -1,0 +1,8 @@
+use Rattle.am_cubes.proofs.OneList.{at_most, from_the_first}
+use Rattle.am_cubes.proofs.laws.the_plan_of_one_list_judges_few_prefixes.Goals as goal
+
+pub returns : goal.returns
+returns c = record {
+  at_most = λ plan ms start same. at_most plan ms same start;
+  from_the_first = from_the_first;
+}
