@@ -12,7 +12,7 @@ use Rattle.am_search.specs.Start.{comes_before}
 use Rattle.am_search.proofs.Walks.{in_choices}
 use Rattle.am_search.proofs.ChoiceOrder.{Ascends, above_first, ascends_rest, not_itself, not_back}
 
-is_found : {X : Type 0} (test : X → Bool) (xs : List X) (x : X) → find test xs ≡ Some x
+pub is_found : {X : Type 0} (test : X → Bool) (xs : List X) (x : X) → find test xs ≡ Some x
     → IsIn xs x × (test x ≡ true)
 is_found test [] x e = absurd (cc)
 is_found test (y ∷ ys) x e = elim (cases_Bool (test y)) [

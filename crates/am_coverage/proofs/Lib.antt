@@ -5,6 +5,11 @@ pub mod ReceiverLaws
 pub mod PathLaws
 pub mod QuestionLaws
 pub mod ReportLines
-pub mod FirstAlike
 pub mod Gathered
 pub mod ReportFacts
+pub mod EarliestFound
+pub mod FirstEndLaws
+pub mod EntryLaws
+pub mod BeforeByPosition
+pub mod RoutesBehind
+pub mod ReceiverRoutes

@@ -8,7 +8,7 @@ use Rattle.am_universe.specs.Choice.{IsWhole}
 use Rattle.am_universe.specs.LabelSet.{label_set_of}
 use Rattle.am_files.specs.ConfigFile.{Configuration, RouteTree, receiver_of}
 use Rattle.am_files.specs.Path.{route_at}
-use Rattle.am_eval.specs.Routing.{ends, receivers}
+use Rattle.am_eval.specs.Routing.{receivers}
 use Rattle.am_eval.proofs.SimpleParts.{receipt_from_test, test_from_receipt, end_of_receiver}
 use Rattle.am_eval.proofs.SimpleParts.{receiver_of_end}
 use Rattle.am_search.specs.Start.{comes_before}

@@ -1,6 +1,6 @@
 -- What becomes of a route is what holds over all label sets.
 use Rattle.std.proofs.Common.{◌≡◌, ◌≢◌, ◌↔◌, ℕ, List, Bool, false, Contains}
-use Rattle.std.proofs.Common.{Option, Some, None, refl, sym, ap, subst, ◌∙◌}
+use Rattle.std.proofs.Common.{Option, Some, None, refl, sym, ap, ◌∙◌}
 use Rattle.std.specs.Prelude.{IsTrue}
 use Rattle.std.specs.List.{list_any}
 use Rattle.std.specs.Cmp.Lexicographic.{bytes_decides}
@@ -9,7 +9,7 @@ use Rattle.am_universe.specs.Universe.{Label, sizes}
 use Rattle.am_universe.specs.Choice.{IsWhole}
 use Rattle.am_universe.specs.LabelSet.{label_set_of}
 use Rattle.am_universe.specs.Text.{same_text}
-use Rattle.am_universe.proofs.ListLemmas.{IsIn, IsIn-from_Contains, Contains-from_IsIn}
+use Rattle.am_universe.proofs.ListLemmas.{IsIn-from_Contains, Contains-from_IsIn}
 use Rattle.am_files.specs.ConfigFile.{Configuration}
 use Rattle.am_files.specs.Path.{leads_through}
 use Rattle.am_eval.specs.Routing.{ends}
@@ -40,7 +40,7 @@ through_itself path = (bytes_decides path _).1 (sym (take-length path))
 
 -- ---- What is told of a route.
 
-live_is : (entry end : Option (List ℕ)) (choice : List ℕ)
+pub live_is : (entry end : Option (List ℕ)) (choice : List ℕ)
     → live_or (dead_by entry) end ≡ route_is.Live choice → end ≡ Some choice
 live_is None None choice e = absurd (cc)
 live_is (Some x) None choice e = absurd (cc)
@@ -52,13 +52,13 @@ never_is None None e = (refl, refl)
 never_is (Some x) None e = absurd (cc)
 never_is entry (Some x) e = absurd (cc)
 
-entered_is : (entry end : Option (List ℕ)) → live_or (dead_by entry) end ≡ route_is.Entered
+pub entered_is : (entry end : Option (List ℕ)) → live_or (dead_by entry) end ≡ route_is.Entered
     → (end ≡ None) × ((choice : List ℕ) × (entry ≡ Some choice))
 entered_is None None e = absurd (cc)
 entered_is (Some x) None e = (refl, (x, refl))
 entered_is entry (Some x) e = absurd (cc)
 
-is_entered : (entry end : Option (List ℕ)) → end ≡ None → (entry ≡ None → ⊥)
+pub is_entered : (entry end : Option (List ℕ)) → end ≡ None → (entry ≡ None → ⊥)
     → live_or (dead_by entry) end ≡ route_is.Entered
 is_entered None end none some = absurd (some refl)
 is_entered (Some x) end none some = rw none refl
@@ -71,7 +71,7 @@ module _ (u : List Label) (c : Configuration) (path : List ℕ) where
   abbrev enters : List ℕ → Bool
   enters choice = list_any (leads_through path) (ends (label_set_of u choice) c)
 
-  no_end : IsDead u c path → first_end u c path ≡ None
+  pub no_end : IsDead u c path → first_end u c path ≡ None
   no_end dead =
       finds_none (sizes u) ends_there (λ choice whole h.
       dead choice whole (end_from_test path (ends (label_set_of u choice) c) h))

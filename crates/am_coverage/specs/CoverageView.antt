@@ -1,12 +1,26 @@
--- What clauses read of what was found: a path with what becomes of its route, and that the choices
--- that are shown are whole.
-use Rattle.std.specs.Prelude.{ℕ, List, ⊤}
+-- What clauses read of what was found: a path with what ends first at its route and what becomes of
+-- it, and that the choices that are shown are whole.
+use Rattle.std.specs.Prelude.{ℕ, List, ⊤, Option, Bool, is_some}
+use Rattle.std.specs.List.{list_any, take_while}
 use Rattle.am_universe.specs.Choice.{IsWhole}
+use Rattle.am_files.specs.Path.{leads_through}
 use Rattle.am_coverage.specs.declared.coverage.RouteCoverage.{RouteCoverage}
 use Rattle.am_coverage.specs.declared.coverage.RouteCoverage.TheVariants as route_is
 use Rattle.am_coverage.specs.declared.coverage.ReceiverCoverage.{ReceiverCoverage}
 use Rattle.am_coverage.specs.declared.coverage.ReceiverCoverage.TheVariants as receiver_is
+use Rattle.am_coverage.specs.declared.first_ends.FirstEnd.{FirstEnd}
 use Rattle.am_coverage.specs.declared.route_coverage.RouteFound.{RouteFound}
+
+-- A route, by its path, with the first choice that ends there.
+abbrev pub end_view : FirstEnd → List ℕ × Option (List ℕ)
+end_view end = (end.path, end.choice)
+
+-- Some label set ends below a route, as is told by those routes behind it in preorder, up to the
+-- first that is not below it.
+abbrev pub is_live_below : List ℕ → List FirstEnd → Bool
+is_live_below path behind =
+    list_any (λ end. is_some end.choice)
+    (take_while (λ end. leads_through path end.path) behind)
 
 -- A route, by its path, with what becomes of it.
 abbrev pub found_view : RouteFound → List ℕ × RouteCoverage

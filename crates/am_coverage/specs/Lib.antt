@@ -1,5 +1,6 @@
 pub mod Words
 pub mod Coverage
+pub mod FirstEnds
 pub mod CoverageView
 pub mod WrittenCoverage
 pub mod Report

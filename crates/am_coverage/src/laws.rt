@@ -1,17 +1,22 @@
 //! Facts about the definitions alone: each is the contract of a function with an empty body.
 ghost use Rattle.std.specs.Prelude.{◌≡◌, ◌≢◌, ◌↔◌, ℕ, List, [], ◌++◌, Some, None, Contains};
-ghost use Rattle.std.specs.Prelude.{false, codes, slice_get};
+ghost use Rattle.std.specs.Prelude.{false, codes, slice_get, map, IsTrue};
 ghost use Rattle.std.specs.Ordering.{nat_cmp};
 ghost use Rattle.std.specs.Cmp.Lexicographic.{slice_cmp};
+ghost use Rattle.std.specs.List.{filter};
 ghost use Rattle.std.specs.List.Sorted.{IsStrictlySortedBy};
 ghost use Rattle.am_labels.specs.Words.{Label, sizes, IsWhole, label_set_of, quoted_text};
 ghost use Rattle.am_files.specs.Words.{Configuration, RouteTree, route_at, receiver_of, path_text};
+ghost use Rattle.am_files.specs.Path.{leads_through};
+ghost use Rattle.am_eval.specs.Conditions.{paths_to};
 ghost use Rattle.am_eval.specs.Tree.{Part};
 ghost use Rattle.am_eval.specs.Question.{Ends, Enters, Receiver};
 ghost use Rattle.am_eval.specs.Words.{ends, receivers, World, answers};
 ghost use Rattle.am_search.specs.Words.{comes_before};
 ghost use Rattle.am_coverage.specs.declared.coverage.RouteCoverage.TheVariants as route_is;
 ghost use Rattle.am_coverage.specs.declared.coverage.ReceiverCoverage.TheVariants as receiver_is;
+ghost use Rattle.am_coverage.specs.Coverage.{first_end, first_entry, first_receipt};
+ghost use Rattle.am_coverage.specs.FirstEnds.{earliest};
 ghost use Rattle.am_coverage.specs.Words.{IsDead, IsNeverEntered, IsUnmatched, paths_of};
 ghost use Rattle.am_coverage.specs.Words.{route_coverage, receiver_coverage};
 ghost use Rattle.am_coverage.specs.Words.{IsRouteLine, IsReceiverLine};
@@ -81,6 +86,27 @@ pub fn a_dead_routes_question_has_no_answer()
         → IsNeverEntered u w.config path ↔ (answers u w (Part (Enters path)) ≡ []) }
     ensures unmatched { (u : List Label) (w : World) (receiver : ℕ)
         → IsUnmatched u w.config receiver ↔ (answers u w (Part (Receiver receiver)) ≡ []) }
+{}
+
+/// The first label set that enters a route is the earliest of those that end first at the route and
+/// at each route below it. So a dead route is told as entered exactly where one below it is live.
+pub fn a_dead_route_is_entered_where_one_below_it_is_live()
+    ensures first { (u : List Label) (c : Configuration) (path : List ℕ)
+        → first_entry u c path
+        ≡ earliest (map (first_end u c) (filter (leads_through path) (paths_of c))) }
+    ensures entered { (u : List Label) (c : Configuration) (path : List ℕ) → IsDead u c path
+        → (route_coverage u c path ≡ route_is.Entered)
+        ↔ ((below choice : List ℕ) × Contains (paths_of c) below
+        × IsTrue (leads_through path below)
+        × (route_coverage u c below ≡ route_is.Live choice)) }
+{}
+
+/// The first label set that goes to a receiver is the earliest of those that end first at each
+/// route that has it.
+pub fn a_receiver_is_live_from_the_first_end_of_its_routes()
+    ensures first { (u : List Label) (c : Configuration) (receiver : ℕ)
+        → first_receipt u c receiver
+        ≡ earliest (map (first_end u c) (paths_to receiver c.root)) }
 {}
 
 /// The paths that are reported are exactly those of the routes, in the order of a dictionary, so

@@ -9,7 +9,7 @@
 mod route_paths;
 // What becomes of each route and each receiver.
 mod coverage;
-mod first_answers;
+mod first_ends;
 mod receiver_coverage;
 mod route_coverage;
 

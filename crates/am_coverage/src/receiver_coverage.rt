@@ -1,24 +1,24 @@
 //! What becomes of each receiver.
 
-ghost use Rattle.std.specs.Prelude.{◌≡◌, length, map, IfOk};
+ghost use Rattle.std.specs.Prelude.{◌≡◌, ℕ, List, Option, length, map, IfOk};
 ghost use Rattle.std.specs.List.{AllByRecursion, range_with_len};
 ghost use Rattle.am_labels.specs.Words.{sizes};
-ghost use Rattle.am_cubes.specs.Words.{plan_universe, plan_world, plan_sizes};
+ghost use Rattle.am_search.specs.Words.{comes_before};
+ghost use Rattle.am_coverage.specs.Coverage.{live_or_unmatched};
+ghost use Rattle.am_coverage.specs.FirstEnds.{earlier};
 ghost use Rattle.am_coverage.specs.Words.{receiver_coverage, IsShownReceiver};
 
 use crate::coverage::ReceiverCoverage;
-use crate::first_answers::first_answer;
-use am_cubes::Plan;
-use am_eval::{Question, World};
-use am_files::Path;
-use am_labels::Universe;
+use crate::first_ends::first_ends;
+use am_eval::World;
+use am_labels::{Choice, Universe};
 use std::alloc::{AllocError, Global};
 
 /// What becomes of each receiver of the configuration of a world, in declared order. An `Err` only
 /// where memory was refused.
 ///
-/// For each receiver prefixes are judged up to the first choice that goes to it, by cubes of the
-/// routes that are made once.
+/// For each route there is one search, for the first label set that ends there. What goes to a
+/// receiver first is the earliest of those of its routes.
 pub fn receivers_covered(
     alloc: Global,
     universe: &Universe,
@@ -30,29 +30,48 @@ pub fn receivers_covered(
     ensures shown { IfOk result (λ found.
         AllByRecursion (IsShownReceiver (sizes universe.now)) found.items) }
 {
-    let entered = Question::enters(Path::root());
-    let plan = Plan::new(alloc, universe, world, &entered)?;
-    let count = world.config().receivers();
-    let mut found = Vec::with_capacity(alloc, count)?;
-    for receiver in 0..count {
-        found.push(coverage_of(alloc, &plan, receiver)?)?;
+    let ends = first_ends(alloc, universe, world)?;
+    let config = world.config();
+    let mut found = vec![in alloc; ReceiverCoverage::Unmatched; config.receivers()]?;
+    for end in &ends {
+        if let Some(route) = config.at(&end.path) {
+            let receiver = route.receiver();
+            found[receiver] = with_route(found[receiver], end.choice);
+        }
     }
     Ok(found)
 }
 
-/// What becomes of the receiver at a position, in the world of a plan.
-fn coverage_of(
-    alloc: Global,
-    plan: &Plan<'_>,
-    receiver: usize,
-) -> Result<ReceiverCoverage, AllocError>
-    ensures coverage { IfOk result (λ coverage. coverage
-        ≡ receiver_coverage (plan_universe plan.now) (plan_world plan.now).config receiver) }
-    ensures shown { IfOk result (IsShownReceiver (plan_sizes plan.now)) }
+/// What becomes of a receiver, by what is known of some of its routes and by the first choice that
+/// ends at one more.
+fn with_route(known: ReceiverCoverage, choice: Option<Choice>) -> ReceiverCoverage
+    ensures earlier { (first : Option (List ℕ)) → known ≡ live_or_unmatched first
+        → result ≡ live_or_unmatched (earlier first choice) }
 {
-    let question = Question::receiver(receiver);
-    Ok(match first_answer(alloc, plan, &question)? {
-        Some(choice) => ReceiverCoverage::Live(choice),
-        None => ReceiverCoverage::Unmatched,
-    })
+    let Some(choice) = choice else {
+        return known;
+    };
+    match known {
+        ReceiverCoverage::Unmatched => ReceiverCoverage::Live(choice),
+        ReceiverCoverage::Live(first) => {
+            if comes_before(&choice, &first) {
+                ReceiverCoverage::Live(choice)
+            } else {
+                known
+            }
+        }
+    }
+}
+
+/// Whether a choice comes before another in declared order.
+fn comes_before(choice: &Choice, other: &Choice) -> bool
+    ensures before { result ≡ comes_before choice.now other.now }
+{
+    for i in 0..choice.len().min(other.len()) {
+        let (position, beside) = (choice.get(i), other.get(i));
+        if position != beside {
+            return position < beside;
+        }
+    }
+    choice.len() < other.len()
 }

@@ -1,17 +1,16 @@
 //! What becomes of each route.
 
-ghost use Rattle.std.specs.Prelude.{◌≡◌, map, IfOk};
+ghost use Rattle.std.specs.Prelude.{◌≡◌, map, IfOk, if◌then◌else◌};
 ghost use Rattle.std.specs.List.{AllByRecursion};
 ghost use Rattle.am_labels.specs.Words.{sizes};
-ghost use Rattle.am_cubes.specs.Words.{plan_universe, plan_world, plan_sizes};
-ghost use Rattle.am_coverage.specs.Coverage.{first_entry, dead_by};
+ghost use Rattle.am_coverage.specs.declared.coverage.RouteCoverage.TheVariants as route_is;
+ghost use Rattle.am_coverage.specs.Coverage.{live_or};
+ghost use Rattle.am_coverage.specs.CoverageView.{is_live_below};
 ghost use Rattle.am_coverage.specs.Words.{route_coverage, paths_of, found_view, IsShownRoute};
 
 use crate::coverage::RouteCoverage;
-use crate::first_answers::first_answer;
-use crate::route_paths::paths_of;
-use am_cubes::Plan;
-use am_eval::{Question, World};
+use crate::first_ends::{FirstEnd, first_ends};
+use am_eval::World;
 use am_files::Path;
 use am_labels::Universe;
 use std::alloc::{AllocError, Global};
@@ -28,8 +27,8 @@ pub struct RouteFound {
 /// What becomes of each route of the configuration of a world, in preorder: each route before those
 /// below it, and these before its next sibling. An `Err` only where memory was refused.
 ///
-/// For each route prefixes are judged up to the first choice that ends there, and where there is
-/// none, once more up to the first that enters it, by cubes of the routes that are made once.
+/// For each route there is one search, for the first label set that ends there. Whether a dead
+/// route is entered follows from those of the routes below it.
 pub fn routes_covered(
     alloc: Global,
     universe: &Universe,
@@ -41,41 +40,42 @@ pub fn routes_covered(
     ensures shown { IfOk result (λ found.
         AllByRecursion (λ route. IsShownRoute (sizes universe.now) route.coverage) found.items) }
 {
-    let entered = Question::enters(Path::root());
-    let plan = Plan::new(alloc, universe, world, &entered)?;
-    let paths = paths_of(alloc, world.config())?;
-    let mut found = Vec::with_capacity(alloc, paths.len())?;
-    for path in &paths {
+    let ends = first_ends(alloc, universe, world)?;
+    let mut found = Vec::with_capacity(alloc, ends.len())?;
+    for (i, end) in ends.iter().enumerate() {
         found.push(RouteFound {
-            path: *path,
-            coverage: coverage_of(alloc, &plan, *path)?,
+            path: end.path,
+            coverage: coverage_of(end, &ends[i + 1..]),
         })?;
     }
     Ok(found)
 }
 
-/// What becomes of the route at a path, in the world of a plan.
-fn coverage_of(alloc: Global, plan: &Plan<'_>, path: Path) -> Result<RouteCoverage, AllocError>
-    ensures coverage { IfOk result (λ coverage. coverage
-        ≡ route_coverage (plan_universe plan.now) (plan_world plan.now).config path) }
-    ensures shown { IfOk result (IsShownRoute (plan_sizes plan.now)) }
+/// What becomes of a route, by what ends first there and at each route behind it.
+fn coverage_of(end: &FirstEnd, behind: &[FirstEnd]) -> RouteCoverage
+    ensures coverage { result
+        ≡ live_or (if is_live_below end.now.path behind.now then route_is.Entered
+        else route_is.NeverEntered) end.now.choice }
 {
-    let ends = Question::ends(path);
-    match first_answer(alloc, plan, &ends)? {
-        Some(choice) => Ok(RouteCoverage::Live(choice)),
-        None => coverage_of_dead(alloc, plan, path),
+    match end.choice {
+        Some(choice) => RouteCoverage::Live(choice),
+        None => {
+            if is_live_below(&end.path, behind) {
+                RouteCoverage::Entered
+            } else {
+                RouteCoverage::NeverEntered
+            }
+        }
     }
 }
 
-/// What becomes of the route at a path where no label set ends.
-fn coverage_of_dead(alloc: Global, plan: &Plan<'_>, path: Path) -> Result<RouteCoverage, AllocError>
-    ensures coverage { IfOk result (λ coverage. coverage
-        ≡ dead_by (first_entry (plan_universe plan.now) (plan_world plan.now).config path)) }
-    ensures shown { IfOk result (IsShownRoute (plan_sizes plan.now)) }
+/// Whether some label set ends below a route, by what ends first at each route behind it. Those
+/// below it come first of these.
+fn is_live_below(path: &Path, behind: &[FirstEnd]) -> bool
+    ensures below { result ≡ is_live_below path.now behind.now }
 {
-    let enters = Question::enters(path);
-    Ok(match first_answer(alloc, plan, &enters)? {
-        Some(_) => RouteCoverage::Entered,
-        None => RouteCoverage::NeverEntered,
-    })
+    behind
+        .iter()
+        .take_while(|end| end.path.leads_through(path))
+        .any(|end| end.choice.is_some())
 }

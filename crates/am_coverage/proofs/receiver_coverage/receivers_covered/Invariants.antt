@@ -1,14 +1,12 @@
-use Rattle.std.proofs.Common.{◌≡◌, map}
-use Rattle.std.specs.List.{AllByRecursion, range_with_len}
-use Rattle.am_universe.specs.Universe.{sizes}
-use Rattle.am_coverage.specs.Coverage.{receiver_coverage}
-use Rattle.am_coverage.specs.CoverageView.{IsShownReceiver}
+use Rattle.std.proofs.Common.{◌≡◌, map, length, take}
+use Rattle.std.specs.List.{range_with_len}
+use Rattle.am_eval.specs.RoutePaths.{paths_of}
+use Rattle.am_coverage.proofs.ReceiverRoutes.{covered_by}
 use Rattle.am_coverage.proofs.receiver_coverage.receivers_covered.Given as goal
 
--- of each receiver so far it is found what becomes of it
-abbrev pub invariant-loop-receiver : goal.invariant-loop-receiver
-invariant-loop-receiver l = record {
-  receivers : l.found.items
-      ≡ map (receiver_coverage l.universe l.world.config) (range_with_len 0 l.receiver);
-  shown : AllByRecursion (IsShownReceiver (sizes l.universe)) l.found.items;
-}
+-- what is known of each receiver is what the routes so far tell
+abbrev pub invariant-loop-end : goal.invariant-loop-end
+invariant-loop-end l =
+    l.found.items
+    ≡ map (covered_by l.universe l.world.config (take l.end-index (paths_of l.world.config)))
+    (range_with_len 0 (length l.world.config.receivers))

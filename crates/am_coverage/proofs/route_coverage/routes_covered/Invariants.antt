@@ -1,15 +1,16 @@
 use Rattle.std.proofs.Common.{◌≡◌, map, take}
 use Rattle.std.specs.List.{AllByRecursion}
 use Rattle.am_universe.specs.Universe.{sizes}
+use Rattle.am_eval.specs.RoutePaths.{paths_of}
 use Rattle.am_coverage.specs.Coverage.{route_coverage}
 use Rattle.am_coverage.specs.CoverageView.{found_view, IsShownRoute}
 use Rattle.am_coverage.proofs.route_coverage.routes_covered.Given as goal
 
 -- of each route so far it is found what becomes of it
-abbrev pub invariant-loop-path : goal.invariant-loop-path
-invariant-loop-path l = record {
+abbrev pub invariant-loop-i : goal.invariant-loop-i
+invariant-loop-i l = record {
   routes : map found_view l.found.items
       ≡ map (λ path. (path, route_coverage l.universe l.world.config path))
-      (take l.path-index l.path-items);
+      (take l.i (paths_of l.world.config));
   shown : AllByRecursion (λ route. IsShownRoute (sizes l.universe) route.coverage) l.found.items;
 }

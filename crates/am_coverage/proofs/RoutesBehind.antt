@@ -1,0 +1,185 @@
+-- The routes below a route are the first of those behind it in preorder, so that they tell whether
+-- it is entered.
+use Rattle.std.proofs.Common.{◌≡◌, ℕ, zero, suc, ◌+◌, List, [], ◌∷◌, map, drop, get_or, length, ◌<◌}
+use Rattle.std.proofs.Common.{Option, Some, None, Bool, true, false, refl, sym, ap, ◌∙◌}
+use Rattle.std.proofs.Common.{inl, inr, arith}
+use Rattle.std.specs.Prelude.{slice_get, is_some, ◌||◌}
+use Rattle.std.specs.List.{list_any, filter, take_while}
+use Rattle.std.proofs.lemmas.Bool.{cases_Bool, false≢true}
+use Rattle.std.proofs.lemmas.List.{drop-map, length-map}
+use Rattle.std.proofs.lemmas.List.Sums.{take_while-cons}
+use Rattle.std.proofs.lemmas.Option.{slice_get_read, get_or_from_slice_get}
+use Rattle.am_universe.specs.Universe.{Label, sizes}
+use Rattle.am_universe.specs.LabelSet.{label_set_of}
+use Rattle.am_universe.specs.Text.{same_text}
+use Rattle.am_universe.proofs.ListLemmas.{IsIn}
+use Rattle.am_files.specs.ConfigFile.{Configuration}
+use Rattle.am_files.specs.Path.{leads_through}
+use Rattle.am_eval.specs.RoutePaths.{paths_of}
+use Rattle.am_eval.specs.Routing.{ends}
+use Rattle.am_eval.proofs.Members.{in_at}
+use Rattle.am_search.specs.Start.{comes_before}
+use Rattle.am_search.proofs.ChoiceOrder.{Ascends, above_first, ascends_rest, not_back, filter_none}
+use Rattle.am_search.proofs.PrefixOrder.{begins_itself, begins_behind, before_beside}
+use Rattle.am_coverage.specs.declared.first_ends.FirstEnd.{FirstEnd}
+use Rattle.am_coverage.specs.Coverage.{first_end, first_entry, live_or, dead_by, route_coverage}
+use Rattle.am_coverage.specs.CoverageView.{end_view, is_live_below, IsShownRoute}
+use Rattle.am_coverage.specs.FirstEnds.{earliest}
+use Rattle.am_coverage.proofs.EntryLaws.{entered_where, dead_by_any}
+use Rattle.am_coverage.proofs.FirstEndLaws.{entry_is_earliest}
+use Rattle.am_coverage.proofs.FirstFound.{found_whole}
+use Rattle.am_coverage.proofs.PathLaws.{paths_ascend}
+
+-- ---- Of paths that ascend, those to which one leads stand right behind it.
+
+not_true : (b : Bool) → (b ≡ true → ⊥) → b ≡ false
+not_true true h = absurd (h refl)
+not_true false h = refl
+
+none_further : (p y : List ℕ) (ys : List (List ℕ)) → comes_before p y ≡ true
+    → leads_through p y ≡ false → Ascends (y ∷ ys) → filter (leads_through p) ys ≡ []
+none_further p y ys behind beside s = filter_none (leads_through p) ys (λ z i.
+    not_true (leads_through p z) (λ below.
+    let back = before_beside p y z behind beside below in
+    false≢true (sym (not_back y z (above_first y ys z s i)) ∙ back)))
+
+in_front : (p : List ℕ) (xs : List (List ℕ)) → ((x : List ℕ) → IsIn xs x → comes_before p x ≡ true)
+    → Ascends xs → filter (leads_through p) xs ≡ take_while (leads_through p) xs
+in_front p [] behind s = refl
+in_front p (x ∷ xs) behind s = elim (cases_Bool (leads_through p x)) [
+  | inl below ↦
+      let more = in_front p xs (λ y i. behind y (inr i)) (ascends_rest x xs s) in
+      rw (take_while-cons (leads_through p) x xs, below) (ap (λ ys. x ∷ ys) more)
+  | inr beside ↦
+      rw (take_while-cons (leads_through p) x xs, beside)
+      (none_further p x xs (behind x (inl refl)) beside s)
+]
+
+pub below_in_front : (p : List ℕ) (xs : List (List ℕ)) (i : ℕ) → Ascends xs
+    → slice_get xs i ≡ Some p
+    → filter (leads_through p) xs ≡ p ∷ take_while (leads_through p) (drop (i + 1) xs)
+below_in_front p [] i s at = absurd (cc)
+below_in_front p (x ∷ xs) zero s at =
+    let first : x ≡ p = cc in
+    rw (first, begins_itself p)
+    (ap (λ ys. p ∷ ys) (in_front p xs
+    (λ y i. ap (λ q. comes_before q y) (sym first) ∙ above_first x xs y s i) (ascends_rest x xs s)))
+below_in_front p (x ∷ xs) (suc i) s at =
+    let before = above_first x xs p s (in_at xs i p at) in
+    let beside : leads_through p x ≡ false = not_true (leads_through p x) (λ below.
+    false≢true (sym (begins_behind p x below) ∙ before)) in
+    let n : suc i + 1 ≡ suc (i + 1) = omega arith in
+    rw (n, beside) (below_in_front p xs i (ascends_rest x xs s) at)
+
+-- ---- What is found of each route, path by path.
+
+module _ (u : List Label) (c : Configuration) where
+  abbrev made : List ℕ → List ℕ × Option (List ℕ)
+  made path = (path, first_end u c path)
+
+  found_at : (items : List FirstEnd) (paths : List (List ℕ)) (i : ℕ) (end : FirstEnd)
+      → map end_view items ≡ map made paths → slice_get items i ≡ Some end
+      → (slice_get paths i ≡ Some end.path) × (end.choice ≡ first_end u c end.path)
+  found_at [] paths i end found at = absurd (cc)
+  found_at (e ∷ items) [] i end found at = absurd (cc)
+  found_at (e ∷ items) (path ∷ paths) zero end found at =
+      let here : end_view e ≡ made path = cc in
+      let same : e ≡ end = cc in
+      let view : end_view end ≡ made path = ap end_view (sym same) ∙ here in
+      let its_path : end.path ≡ path = ap (λ v. v.0) view in
+      (ap (λ p. Some p) (sym its_path), ap (λ v. v.1) view ∙ ap (first_end u c) (sym its_path))
+  found_at (e ∷ items) (path ∷ paths) (suc i) end found at =
+      let later : map end_view items ≡ map made paths = cc in found_at items paths i end later at
+
+  pub as_many : (items : List FirstEnd) (paths : List (List ℕ)) → map end_view items ≡ map made paths
+      → length items ≡ length paths
+  as_many items paths found =
+      sym (length-map items end_view) ∙ ap length found ∙ length-map paths made
+
+  pub path_at : (items : List FirstEnd) (paths : List (List ℕ)) (i : ℕ) (end : FirstEnd)
+      → i < length items → end ≡ get_or items i end → map end_view items ≡ map made paths
+      → (i < length paths) × (end.path ≡ get_or paths i end.path)
+      × (end.choice ≡ first_end u c end.path)
+  path_at items paths i end lt is found =
+      let at = found_at items paths i end found
+      (slice_get_read items (length items) i end refl lt is) in (
+        omega (arith, as_many items paths found, lt),
+        sym (get_or_from_slice_get paths i end.path end.path at.0),
+        at.1,
+      )
+
+  -- whether one below a route is live, from the first on that may be below it
+  live_alike : (p : List ℕ) (items : List FirstEnd) (paths : List (List ℕ))
+      → map end_view items ≡ map made paths
+      → is_live_below p items
+      ≡ list_any is_some (map (first_end u c) (take_while (leads_through p) paths))
+  live_alike p [] [] found = refl
+  live_alike p [] (path ∷ paths) found = absurd (cc)
+  live_alike p (e ∷ items) [] found = absurd (cc)
+  live_alike p (e ∷ items) (path ∷ paths) found =
+      let here : end_view e ≡ made path = cc in
+      let its_path : e.path ≡ path = ap (λ v. v.0) here in
+      let its_choice : e.choice ≡ first_end u c path = ap (λ v. v.1) here in
+      let later : map end_view items ≡ map made paths = cc in
+      let more = live_alike p items paths later in
+      elim (cases_Bool (leads_through p path)) [
+        | inl below ↦
+            let so : leads_through p e.path ≡ true = ap (leads_through p) its_path ∙ below in
+            rw (
+              take_while-cons (λ (end : FirstEnd). leads_through p end.path) e items,
+              take_while-cons (leads_through p) path paths,
+              so,
+              below,
+              its_choice,
+            ) (ap (λ b. is_some (first_end u c path) || b) more)
+        | inr beside ↦
+            let so : leads_through p e.path ≡ false = ap (leads_through p) its_path ∙ beside in
+            rw (
+              take_while-cons (λ (end : FirstEnd). leads_through p end.path) e items,
+              take_while-cons (leads_through p) path paths,
+              so,
+              beside,
+            ) refl
+      ]
+
+  -- ---- So a route is covered as it should be.
+
+  by_end : (entry end : Option (List ℕ)) (b : Bool)
+      → (end ≡ None → dead_by entry ≡ entered_where b)
+      → live_or (entered_where b) end ≡ live_or (dead_by entry) end
+  by_end entry None b dead = sym (dead refl)
+  by_end entry (Some choice) b dead = refl
+
+  pub route_covered : (items : List FirstEnd) (i : ℕ) (end : FirstEnd) → i < length items
+      → end ≡ get_or items i end → map end_view items ≡ map made (paths_of c)
+      → live_or (entered_where (is_live_below end.path (drop (i + 1) items))) end.choice
+      ≡ route_coverage u c end.path
+  route_covered items i end lt is found =
+      let path = end.path in
+      let paths = paths_of c in
+      let at = found_at items paths i end found (slice_get_read items (length items) i end refl lt is) in
+      let behind : map end_view (drop (i + 1) items) ≡ map made (drop (i + 1) paths) =
+      sym (drop-map end_view (i + 1) items) ∙ ap (drop (i + 1)) found ∙ drop-map made (i + 1) paths in
+      let below = take_while (leads_through path) (drop (i + 1) paths) in
+      let live = live_alike path (drop (i + 1) items) (drop (i + 1) paths) behind in
+      let all : filter (leads_through path) paths ≡ path ∷ below =
+      below_in_front path paths i (paths_ascend c.root) at.0 in
+      rw (live, at.1)
+      (by_end (first_entry u c path) (first_end u c path)
+      (list_any is_some (map (first_end u c) below)) (λ dead.
+      ap dead_by (entry_is_earliest u c path)
+      ∙ ap (λ some. dead_by (earliest (map (first_end u c) some))) all
+      ∙ dead_by_any (map (first_end u c) (path ∷ below))
+      ∙ ap (λ o. entered_where (is_some o || list_any is_some (map (first_end u c) below))) dead))
+
+  -- and the choice that shows it is whole
+  shown_by : (path : List ℕ) (entry end : Option (List ℕ)) → first_end u c path ≡ end
+      → IsShownRoute (sizes u) (live_or (dead_by entry) end)
+  shown_by path None None e = tt
+  shown_by path (Some x) None e = tt
+  shown_by path entry (Some choice) e =
+      (found_whole (sizes u)
+      (λ other. list_any (λ end. same_text end path) (ends (label_set_of u other) c)) choice e).0
+
+  pub route_shown : (path : List ℕ) → IsShownRoute (sizes u) (route_coverage u c path)
+  route_shown path = shown_by path (first_entry u c path) (first_end u c path) refl
