@@ -1,3 +1,4 @@
+use crate::steps::{MIN_STEPS, Steps};
 use clap::builder::ValueParser;
 use clap::error::ErrorKind;
 use clap::{Arg, ArgMatches, Command, Error};
@@ -19,6 +20,7 @@ pub enum Request<'a> {
         question: &'a str,
         after: Option<&'a str>,
         limit: Option<NonZeroU64>,
+        steps: Option<Steps>,
     },
     /// Which routes no label set of a universe ends at.
     Dead,
@@ -41,8 +43,8 @@ pub struct InputFiles<'a, F> {
     pub at: Option<&'a str>,
 }
 
-/// The most that `--limit` takes.
-const MAX_LIMIT: u64 = 4294967295;
+/// The most that `--limit` and `--steps` take.
+const MAX_COUNT: u64 = 4294967295;
 
 const ABOUT: &str = "Decides where Alertmanager routes alerts, and what silences or inhibits them";
 
@@ -169,6 +171,23 @@ all that is left. Change neither files nor question between two pages.
   {team=\"db\",severity=\"warning\"}
   # end
 
+A search may take long before it finds an answer, or sees that none is left. --steps stops
+it: a step is one look at the values of the first labels, which says that all label sets
+with these values are answers, that none is, or that more labels have to be looked at.
+
+  amcover ask --universe switches.json --steps 65 '{g=\"0\"}'
+
+over seven labels a to g, each with the values 0 and 1, writes 16 label sets, and then
+
+  # stopped s1:0.1
+
+Up to there the answer is complete. The same command with --after and that token goes on:
+
+  amcover ask --universe switches.json --steps 65 --after s1:0.1 '{g=\"0\"}'
+
+A page may stop without a line, and still have answers behind it: go on until `# end`.
+With --steps 1000000 a page ends after a million steps at most.
+
 Exit status: 0 done, 1 refused input, 2 usage, 3 out of memory, 4 the output failed.";
 
 const DEAD_ABOUT: &str = "Write which routes are dead: no label set of a universe ends there";
@@ -208,7 +227,9 @@ path stands what becomes of the route:
                        universe does not declare
 
 A route is dead for this universe alone: an alert with other labels or values may end
-there.
+there. So declare each label that a route asks about, with every value that matchers name,
+some for each pattern, one that none names, and null where alerts come without it. Labels
+that no route asks about cost no time, and many label sets are no harm.
 
 Exit status: 0 done, with dead routes or without, 1 refused input, 2 usage, 3 out of
 memory, 4 the output failed.";
@@ -242,7 +263,7 @@ The label set is the first of the universe that goes to db-pager. None goes to d
 route has that receiver, or each that has it is dead, as `amcover dead` shows.
 
 A receiver is unmatched for this universe alone: an alert with other labels or values may
-go there.
+go there. `amcover dead --help` says what to declare.
 
 Exit status: 0 done, with unmatched receivers or without, 1 refused input, 2 usage, 3 out
 of memory, 4 the output failed.";
@@ -314,6 +335,7 @@ fn request_of<'a>(name: &str, matches: &ArgMatches<'a>) -> Option<Request<'a>> {
                 question,
                 after: matches.get_str("after"),
                 limit: matches.get_one::<u64>("limit").and_then(NonZeroU64::new),
+                steps: matches.get_one::<u64>("steps").and_then(Steps::new),
             })
         }
         "dead" => Some(Request::Dead),
@@ -356,8 +378,13 @@ fn ask_command<'a>(alloc: Global) -> Result<Command<'a>, AllocError> {
     let limit = Arg::new(alloc, "limit")
         .long("limit")
         .value_name("N")
-        .value_parser(ValueParser::unsigned(1, MAX_LIMIT))
+        .value_parser(ValueParser::unsigned(1, MAX_COUNT))
         .help("Write at most N label sets, 1 to 4294967295, and a token if there are more");
+    let steps = Arg::new(alloc, "steps")
+        .long("steps")
+        .value_name("N")
+        .value_parser(ValueParser::unsigned(MIN_STEPS, MAX_COUNT))
+        .help("Stop the search after N steps, 65 to 4294967295, with a token to go on");
     let after = Arg::new(alloc, "after")
         .long("after")
         .value_name("TOKEN")
@@ -375,6 +402,7 @@ fn ask_command<'a>(alloc: Global) -> Result<Command<'a>, AllocError> {
         .arg(alerts_arg(alloc))?
         .arg(at_arg(alloc))?
         .arg(limit)?
+        .arg(steps)?
         .arg(after)?
         .arg(question)
 }

@@ -6,5 +6,7 @@
 #![tactic(auto)]
 
 mod command_line;
+mod steps;
 
 pub use command_line::{CommandLine, InputFiles, Request, parse_command_line};
+pub use steps::{MIN_STEPS, Steps};

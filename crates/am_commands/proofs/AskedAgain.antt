@@ -1,6 +1,7 @@
 -- Calls of `ask` in a row: what each writes is what the one before it left.
 use Rattle.std.proofs.Common.{◌≡◌, ℕ, ◌<◌, List, [], ◌∷◌, ◌++◌, Option, None, Some, IfSome}
 use Rattle.std.proofs.Common.{MatchOption, ap, sym, subst, ◌∙◌, refl, append-nil}
+use Rattle.std.specs.Prelude.{option_map}
 use Rattle.std.specs.List.{flat_map}
 use Rattle.std.proofs.lemmas.Grind.{flat_map-append}
 use mathlib.Core.List.{append_cancel_right}
@@ -9,19 +10,22 @@ use Rattle.am_universe.specs.WrittenLabelSet.{line}
 use Rattle.am_eval.specs.World.{World}
 use Rattle.am_eval.specs.Question.{Question, is_answer}
 use Rattle.am_search.specs.declared.start.Start.{Start}
-use Rattle.am_search.specs.declared.start.Start.TheVariants.{After}
-use Rattle.am_search.specs.declared.trailer.Trailer.{Trailer}
-use Rattle.am_search.specs.declared.trailer.Trailer.TheVariants.{End, Next}
-use Rattle.am_search.specs.Start.{IsStart, answers_from}
-use Rattle.am_search.specs.Page.{AnswerPage, rest_after}
+use Rattle.am_search.specs.declared.trailer.Trailer.TheVariants.{End}
+use Rattle.am_search.specs.Start.{answers_from}
+use Rattle.am_search.specs.Page.{AnswerPage, rest_after, start_after, answers_from_any}
+use Rattle.am_search.specs.BudgetPage.{IsSearchPage}
 use Rattle.am_search.specs.Token.{token_text}
 use Rattle.am_search.specs.TrailerText.{trailer_text}
 use Rattle.am_search.specs.PageText.{lines_text}
-use Rattle.am_search.proofs.Pages.{next_is_start}
+use Rattle.am_search.proofs.TokenTexts.{sizes_of_universe}
+use Rattle.am_search.proofs.BudgetPages.{same_unstopped}
+use Rattle.am_search.proofs.SearchChains.{goes_on}
+use Rattle.am_cubes.specs.Verdicts.{verdict_of}
 use Rattle.am_questions.specs.Inputs.{Inputs, after_token, AcceptsInputs}
 use Rattle.am_questions.proofs.OneInputs.{one_meaning_of_inputs}
-use Rattle.am_commands.specs.AskOutcome.{AnswersInputs, answer_page, Asked, IsAskedOf}
-use Rattle.am_commands.specs.AskOutcome.{AreAskedInARow, token_after}
+use Rattle.am_commands.specs.AskOutcome.{AnswersInputsUnder, answer_page, searched_page, Asked}
+use Rattle.am_commands.specs.AskOutcome.{IsAskedOf, AreAskedInARow}
+use Rattle.am_commands.proofs.AskedPages.{question_judges, enough_for}
 
 -- the lines of the answers from a start on
 abbrev pub lines_left : List Label → World → Question → Start → List ℕ
@@ -35,47 +39,69 @@ same_lines inputs u v w x q r start other said again =
     let same = one_meaning_of_inputs inputs u v w x q r start other said again in
     λ k. lines_left (same.0 k) (same.1 k) (same.2 k) (same.3 k)
 
--- the inputs with the token of a trailer are accepted, and ask for the start after its choice
-pub goes_on : (inputs : Inputs) (u : List Label) (w : World) (q : Question) (start : Start)
-    (limit : Option ℕ) (c : List ℕ) → AcceptsInputs inputs u w q start → IfSome limit (λ n. 0 < n)
-    → (answer_page u w q start limit).trailer ≡ Next c
-    → AcceptsInputs (after_token inputs (token_text (After c))) u w q (After c)
-goes_on inputs u w q start limit c accepts some next = record {
+-- the inputs with the token of a trailer are accepted, and ask for the start that it leaves
+pub goes_on_at : (inputs : Inputs) (u : List Label) (w : World) (q : Question) (start next : Start)
+    (page : AnswerPage) → AcceptsInputs inputs u w q start
+    → IsSearchPage (sizes u) (verdict_of u w q) start page → start_after page.trailer ≡ Some next
+    → AcceptsInputs (after_token inputs (token_text next)) u w q next
+goes_on_at inputs u w q start next page accepts is ends = record {
   says_universe = accepts.says_universe;
   accepts_world = accepts.accepts_world;
   reads = accepts.reads;
   starts = (
-    next_is_start (sizes u) c (is_answer u w q) start (answer_page u w q start limit)
-        (record { limit = limit; at_least_one = some; from_start = refl }) next,
+    (goes_on (sizes u) (is_answer u w q) (verdict_of u w q) start page
+        (question_judges u w q accepts.says_universe.3.is_universe) is next ends).is_start,
     refl,
   );
 }
 
+-- the page of a call is that of a search, under a budget that is enough
+asked_page : (inputs : Inputs) (asked : Asked) (h : IsAskedOf inputs asked)
+    → IsSearchPage (sizes h.2.universe) (verdict_of h.2.universe h.2.world h.2.question) h.2.start
+    (searched_page h.2.universe h.2.world h.2.question h.2.start asked.limit asked.steps)
+asked_page inputs asked h = record {
+  limit = asked.limit;
+  at_least_one = h.0;
+  budget = asked.steps;
+  enough = enough_for (sizes h.2.universe)
+      (sizes_of_universe h.2.universe h.2.accepts.says_universe.3.is_universe) asked.steps h.1;
+  from_start = refl;
+}
+
+-- so the inputs with the token of its trailer are accepted
+asked_goes_on : (inputs : Inputs) (asked : Asked) (next : Start) (h : IsAskedOf inputs asked)
+    → start_after asked.trailer ≡ Some next
+    → AcceptsInputs (after_token inputs (token_text next)) h.2.universe h.2.world h.2.question next
+asked_goes_on inputs asked next h ends =
+    goes_on_at inputs h.2.universe h.2.world h.2.question h.2.start next
+    (searched_page h.2.universe h.2.world h.2.question h.2.start asked.limit asked.steps)
+    h.2.accepts (asked_page inputs asked h) (ap start_after (sym h.2.trailer_is) ∙ ends)
+
 -- what a call has written is the lines of its page
 page_lines : (inputs : Inputs) (asked : Asked) (h : IsAskedOf inputs asked)
     → asked.lines
-    ≡ lines_text h.1.universe
-    (answer_page h.1.universe h.1.world h.1.question h.1.start asked.limit).choices
+    ≡ lines_text h.2.universe
+    (searched_page h.2.universe h.2.world h.2.question h.2.start asked.limit asked.steps).choices
 page_lines inputs asked h =
     let page : AnswerPage =
-    answer_page h.1.universe h.1.world h.1.question h.1.start asked.limit in
-    sym (append_cancel_right (lines_text h.1.universe page.choices) asked.lines
+    searched_page h.2.universe h.2.world h.2.question h.2.start asked.limit asked.steps in
+    sym (append_cancel_right (lines_text h.2.universe page.choices) asked.lines
     (trailer_text asked.trailer)
-    (ap (λ t. lines_text h.1.universe page.choices ++ trailer_text t) h.1.trailer_is ∙ h.1.written))
+    (ap (λ t. lines_text h.2.universe page.choices ++ trailer_text t) h.2.trailer_is ∙ h.2.written))
 
 -- the lines of a call, and those of what its trailer leaves, are all from its start on
 lines_and_rest : (inputs : Inputs) (asked : Asked) (h : IsAskedOf inputs asked)
     → asked.lines
-    ++ lines_text h.1.universe
-    (rest_after (sizes h.1.universe) (is_answer h.1.universe h.1.world h.1.question) asked.trailer)
-    ≡ lines_left h.1.universe h.1.world h.1.question h.1.start
+    ++ lines_text h.2.universe
+    (rest_after (sizes h.2.universe) (is_answer h.2.universe h.2.world h.2.question) asked.trailer)
+    ≡ lines_left h.2.universe h.2.world h.2.question h.2.start
 lines_and_rest inputs asked h =
-    let u : List Label = h.1.universe in
-    let page : AnswerPage = answer_page u h.1.world h.1.question h.1.start asked.limit in
+    let u : List Label = h.2.universe in
+    let page : AnswerPage = searched_page u h.2.world h.2.question h.2.start asked.limit asked.steps in
     let rest : List (List ℕ) =
-    rest_after (sizes u) (is_answer u h.1.world h.1.question) asked.trailer in
+    rest_after (sizes u) (is_answer u h.2.world h.2.question) asked.trailer in
     ap (λ text. text ++ lines_text u rest) (page_lines inputs asked h)
-    ∙ sym (flat_map-append (line u) page.choices rest) ∙ ap (lines_text u) (sym h.1.rest)
+    ∙ sym (flat_map-append (line u) page.choices rest) ∙ ap (lines_text u) (sym h.2.rest)
 
 pub lines_of_row : (inputs : Inputs) (row : List Asked) (u : List Label) (w : World) (q : Question)
     (start : Start) → AreAskedInARow inputs row → AcceptsInputs inputs u w q start
@@ -83,67 +109,79 @@ pub lines_of_row : (inputs : Inputs) (row : List Asked) (u : List Label) (w : Wo
 lines_of_row inputs [] u w q start h accepts = absurd h
 lines_of_row inputs (asked ∷ more) u w q start h accepts =
     ap (λ text. asked.lines ++ text)
-    (by asked.trailer h.0.1.trailer_is h.1 (λ c next k. lines_of_row
-    (after_token inputs (token_text (After c))) more h.0.1.universe h.0.1.world h.0.1.question
-    (After c) k
-    (goes_on inputs h.0.1.universe h.0.1.world h.0.1.question h.0.1.start asked.limit c
-    h.0.1.accepts h.0.0 next)))
+    (by (start_after asked.trailer) refl h.1 (λ next ends k. lines_of_row
+    (after_token inputs (token_text next)) more h.0.2.universe h.0.2.world h.0.2.question next k
+    (asked_goes_on inputs asked next h.0 ends)))
     ∙ lines_and_rest inputs asked h.0
-    ∙ same_lines inputs h.0.1.universe u h.0.1.world w h.0.1.question q h.0.1.start start
-    h.0.1.accepts accepts
+    ∙ same_lines inputs h.0.2.universe u h.0.2.world w h.0.2.question q h.0.2.start start
+    h.0.2.accepts accepts
   where
-    page : AnswerPage
-    page = answer_page h.0.1.universe h.0.1.world h.0.1.question h.0.1.start asked.limit
-
     left : Start → List ℕ
-    left next = lines_left h.0.1.universe h.0.1.world h.0.1.question next
+    left next = lines_left h.0.2.universe h.0.2.world h.0.2.question next
 
-    by : (trailer : Trailer) → trailer ≡ page.trailer
-        → MatchOption (token_after trailer) (more ≡ [])
+    by : (o : Option Start) → start_after asked.trailer ≡ o
+        → MatchOption (option_map token_text o) (more ≡ [])
         (λ token. AreAskedInARow (after_token inputs token) more)
-        → ((c : List ℕ) → page.trailer ≡ Next c
-        → AreAskedInARow (after_token inputs (token_text (After c))) more
-        → flat_map (λ (asked : Asked). asked.lines) more ≡ left (After c))
+        → ((next : Start) → start_after asked.trailer ≡ Some next
+        → AreAskedInARow (after_token inputs (token_text next)) more
+        → flat_map (λ (asked : Asked). asked.lines) more ≡ left next)
         → flat_map (λ (asked : Asked). asked.lines) more
-        ≡ lines_text h.0.1.universe
-        (rest_after (sizes h.0.1.universe) (is_answer h.0.1.universe h.0.1.world h.0.1.question)
-        trailer)
-    by End ends none goes = ap (flat_map (λ (asked : Asked). asked.lines)) none
-    by (Next c) ends again goes = goes c (sym ends) again
+        ≡ lines_text h.0.2.universe
+        (answers_from_any (sizes h.0.2.universe)
+        (is_answer h.0.2.universe h.0.2.world h.0.2.question) o)
+    by None ends none goes = ap (flat_map (λ (asked : Asked). asked.lines)) none
+    by (Some next) ends again goes = goes next ends again
 
--- the lines of calls in a row are those of the one call without a limit
+-- a call without a limit and without a budget writes all answers from its start on
+whole_page : (inputs : Inputs) (asked : Asked) (h : IsAskedOf inputs asked) → asked.limit ≡ None
+    → asked.steps ≡ None
+    → searched_page h.2.universe h.2.world h.2.question h.2.start asked.limit asked.steps
+    ≡ answer_page h.2.universe h.2.world h.2.question h.2.start None
+whole_page inputs asked h unlimited unbudgeted =
+    let u : List Label = h.2.universe in
+    ap (λ limit. searched_page u h.2.world h.2.question h.2.start limit asked.steps) unlimited
+    ∙ ap (searched_page u h.2.world h.2.question h.2.start None) unbudgeted
+    ∙ same_unstopped (sizes u) (is_answer u h.2.world h.2.question)
+    (verdict_of u h.2.world h.2.question) h.2.start
+    (question_judges u h.2.world h.2.question h.2.accepts.says_universe.3.is_universe) None None refl
+
+whole_lines : (inputs : Inputs) (asked : Asked) (h : IsAskedOf inputs asked) → asked.limit ≡ None
+    → asked.steps ≡ None → asked.lines ≡ lines_left h.2.universe h.2.world h.2.question h.2.start
+whole_lines inputs asked h unlimited unbudgeted =
+    page_lines inputs asked h
+    ∙ ap (λ page. lines_text h.2.universe page.choices)
+    (whole_page inputs asked h unlimited unbudgeted)
+
+-- the lines of calls in a row are those of the one call without a limit and without a budget
 pub row_is_one_page : (inputs : Inputs) (row : List Asked) (whole : Asked)
     → AreAskedInARow inputs row → IsAskedOf inputs whole → whole.limit ≡ None
-    → flat_map (λ (asked : Asked). asked.lines) row ≡ whole.lines
-row_is_one_page inputs row whole h one none =
-    lines_of_row inputs row one.1.universe one.1.world one.1.question one.1.start h one.1.accepts
-    ∙ ap (λ limit. lines_text one.1.universe
-    (answer_page one.1.universe one.1.world one.1.question one.1.start limit).choices) (sym none)
-    ∙ sym (page_lines inputs whole one)
+    → whole.steps ≡ None → flat_map (λ (asked : Asked). asked.lines) row ≡ whole.lines
+row_is_one_page inputs row whole h one unlimited unbudgeted =
+    lines_of_row inputs row one.2.universe one.2.world one.2.question one.2.start h one.2.accepts
+    ∙ sym (whole_lines inputs whole one unlimited unbudgeted)
 
--- a call with the token of a trailer and without a limit writes what that trailer left
-pub again_ends : (inputs : Inputs) (first second : Asked) (c : List ℕ) → IsAskedOf inputs first
-    → first.trailer ≡ Next c → IsAskedOf (after_token inputs (token_text (After c))) second
-    → second.limit ≡ None → second.trailer ≡ End
-again_ends inputs first second c asked next again none =
-    again.1.trailer_is
-    ∙ ap (λ limit. (answer_page again.1.universe again.1.world again.1.question again.1.start
-    limit).trailer)
-    none
+-- a call with the token of a trailer, without a limit and without a budget, writes what that trailer
+-- left
+pub again_ends : (inputs : Inputs) (first second : Asked) (next : Start) → IsAskedOf inputs first
+    → start_after first.trailer ≡ Some next
+    → IsAskedOf (after_token inputs (token_text next)) second → second.limit ≡ None
+    → second.steps ≡ None → second.trailer ≡ End
+again_ends inputs first second next asked ends again unlimited unbudgeted =
+    again.2.trailer_is
+    ∙ ap (λ page. page.trailer)
+    (whole_page (after_token inputs (token_text next)) second again unlimited unbudgeted)
 
-pub again_writes : (inputs : Inputs) (first second : Asked) (c : List ℕ)
-    → (asked : IsAskedOf inputs first) → first.trailer ≡ Next c
-    → IsAskedOf (after_token inputs (token_text (After c))) second → second.limit ≡ None
-    → second.lines
-    ≡ lines_text asked.1.universe
-    (rest_after (sizes asked.1.universe)
-    (is_answer asked.1.universe asked.1.world asked.1.question) (Next c))
-again_writes inputs first second c asked next again none =
-    page_lines (after_token inputs (token_text (After c))) second again
-    ∙ ap (λ limit. lines_text again.1.universe
-    (answer_page again.1.universe again.1.world again.1.question again.1.start limit).choices) none
-    ∙ same_lines (after_token inputs (token_text (After c))) again.1.universe asked.1.universe
-    again.1.world asked.1.world again.1.question asked.1.question again.1.start (After c)
-    again.1.accepts
-    (goes_on inputs asked.1.universe asked.1.world asked.1.question asked.1.start first.limit c
-    asked.1.accepts asked.0 (sym asked.1.trailer_is ∙ next))
+pub again_writes : (inputs : Inputs) (first second : Asked) (next : Start)
+    → (asked : IsAskedOf inputs first) → start_after first.trailer ≡ Some next
+    → IsAskedOf (after_token inputs (token_text next)) second → second.limit ≡ None
+    → second.steps ≡ None → second.lines
+    ≡ lines_text asked.2.universe
+    (rest_after (sizes asked.2.universe)
+    (is_answer asked.2.universe asked.2.world asked.2.question) first.trailer)
+again_writes inputs first second next asked ends again unlimited unbudgeted =
+    whole_lines (after_token inputs (token_text next)) second again unlimited unbudgeted
+    ∙ same_lines (after_token inputs (token_text next)) again.2.universe asked.2.universe
+    again.2.world asked.2.world again.2.question asked.2.question again.2.start next
+    again.2.accepts (asked_goes_on inputs first next asked ends)
+    ∙ ap (λ o. lines_text asked.2.universe (answers_from_any (sizes asked.2.universe)
+    (is_answer asked.2.universe asked.2.world asked.2.question) o)) (sym ends)

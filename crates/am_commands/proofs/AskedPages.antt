@@ -1,38 +1,104 @@
 -- Pages of the answers to a question.
-use Rattle.std.proofs.Common.{◌≡◌, ℕ, ◌<◌, List, [], ◌∷◌, ◌++◌, Bool, Option, None, Some, IfSome, Result, Ok, Err, IfOk, IfErr, ap, sym, subst, ◌∙◌, refl}
-use Rattle.std.specs.List.{flat_map}
+use Rattle.std.proofs.Common.{◌≡◌, ◌≢◌, ℕ, ◌<◌, Bool, List, [], ◌∷◌, ◌++◌, Option, None, Some, IfSome, Result, Ok, Err, IfOk, IfErr, ap, sym, subst, ◌∙◌, refl, arith}
+use Rattle.std.specs.Prelude.{IsTrue}
+use Rattle.std.specs.List.{filter, flat_map}
 use Rattle.std.proofs.lemmas.Grind.{flat_map-append}
-use Rattle.am_universe.specs.Universe.{Label, sizes}
-use Rattle.am_universe.specs.Choice.{IsWhole}
+use Rattle.am_universe.specs.declared.limits.TheConstants.{MAX_LABELS}
+use Rattle.am_universe.specs.Universe.{Label, IsUniverse, sizes}
+use Rattle.am_universe.specs.Choice.{admits}
+use Rattle.am_universe.specs.Sink.{Wrote}
 use Rattle.am_universe.specs.WrittenLabelSet.{line}
+use Rattle.am_eval.specs.World.{World}
+use Rattle.am_eval.specs.WorldInputs.{WorldInputs}
+use Rattle.am_eval.specs.Question.{Question, is_answer}
+use Rattle.am_eval.proofs.ConditionLaws.{exactly}
 use Rattle.am_search.specs.declared.start.Start.{Start}
 use Rattle.am_search.specs.declared.trailer.Trailer.{Trailer}
-use Rattle.am_search.specs.Start.{IsStart, answers_from}
-use Rattle.am_questions.specs.AskedStart.{AsksStart}
-use Rattle.am_search.specs.Page.{AnswerPage, page_of, page_from, rest_after, IsPage, IsChain, all_choices_of}
-use Rattle.am_search.proofs.Pages.{same_answers, page_rest, chain_joined}
-use Rattle.am_search.specs.PageText.{lines_text}
+use Rattle.am_search.specs.declared.trailer.Trailer.TheVariants.{End, Next, Stopped}
+use Rattle.am_search.specs.declared.verdict.Verdict.{Verdict}
+use Rattle.am_search.specs.Judge.{AreSizes, IsJudge}
+use Rattle.am_search.specs.Start.{comes_before, IsStart, answers_from}
+use Rattle.am_search.specs.Page.{AnswerPage, page_from, rest_after, IsChain, all_choices_of}
+use Rattle.am_search.specs.BudgetPage.{page_under, IsEnough, IsSearchChain}
+use Rattle.am_search.specs.PageText.{lines_text, page_text}
 use Rattle.am_search.specs.TrailerText.{trailer_text}
-use Rattle.am_universe.specs.Sink.{Wrote}
+use Rattle.am_search.proofs.TokenTexts.{sizes_of_universe}
+use Rattle.am_search.proofs.Pages.{chain_joined}
+use Rattle.am_search.proofs.BudgetPages.{same_unstopped, same_next, same_end, stopped_before, rest_under}
+use Rattle.am_search.proofs.SearchChains.{search_chain_joined}
+use Rattle.am_search.proofs.SameVerdicts.{same_page}
+use Rattle.am_cubes.specs.Verdicts.{verdict_of}
+use Rattle.am_cubes.proofs.Soundness.{yes_says_all, no_says_none, never_open}
+use Rattle.am_questions.specs.AskedStart.{AsksStart}
 use Rattle.am_questions.specs.Inputs.{Inputs}
-use Rattle.am_commands.specs.AskOutcome.{AnswersInputs, IsAskedOf, answer_page}
+use Rattle.am_commands.specs.AskOutcome.{AnswersInputs, AnswersInputsUnder, IsAskedOf, answer_page, searched_page}
 
--- the page of the answers of a judge whose truth at whole choices is that of the answers
-pub page_of_judge : (u : List Label) (ns : List ℕ) (truth answer : List ℕ → Bool) (start : Start) (left : List (List ℕ)) (limit : Option ℕ)
-    → ns ≡ sizes u → ((c : List ℕ) → IsWhole (sizes u) c → truth c ≡ answer c) → left ≡ answers_from ns truth start
-    → page_of left limit ≡ page_from (sizes u) answer start limit
-page_of_judge u ns truth answer start left limit same whole e =
-    ap (λ l. page_of l limit)
-    (e ∙ ap (λ n. answers_from n truth start) same ∙ same_answers (sizes u) truth answer start whole)
+-- ---- The search for the answers to a question.
 
--- the answers from a start on are those of the page, and those after a trailer that is the page's
-pub rest_of_page : (u : List Label) (answer : List ℕ → Bool) (start : Start) (limit : Option ℕ) (trailer : Trailer)
-    → IfSome limit (λ n. 0 < n) → trailer ≡ (page_from (sizes u) answer start limit).trailer
-    → answers_from (sizes u) answer start ≡ (page_from (sizes u) answer start limit).choices ++ rest_after (sizes u) answer trailer
-rest_of_page u answer start limit trailer some ends =
-    let there : AnswerPage = page_from (sizes u) answer start limit in
-    let is_page : IsPage (sizes u) answer start there = record { limit = limit; at_least_one = some; from_start = refl } in
-    page_rest (sizes u) answer start there is_page ∙ ap (λ t. there.choices ++ rest_after (sizes u) answer t) (sym ends)
+-- the verdicts of a question make a judge of its answers
+pub question_judges : (u : List Label) (w : World) (q : Question) → IsUniverse u → IsJudge (sizes u) (is_answer u w q) (verdict_of u w q)
+question_judges u w q is = record {
+  limits = sizes_of_universe u is;
+  yes = λ prefix a e. yes_says_all exactly u w q prefix e;
+  no = λ prefix a e. no_says_none exactly u w q prefix e;
+  whole = λ c whole e. never_open exactly u w q c whole e;
+}
+
+-- a judge that has these verdicts at the prefixes of choices finds the same page
+pub page_of_plan : (u : List Label) (w : World) (q : Question) (ns : List ℕ) (verdict : List ℕ → Verdict) (start : Start) (limit steps : Option ℕ)
+    → ns ≡ sizes u → ((prefix : List ℕ) → IsTrue (admits (sizes u) prefix) → verdict prefix ≡ verdict_of u w q prefix)
+    → page_under ns verdict start limit steps ≡ searched_page u w q start limit steps
+page_of_plan u w q ns verdict start limit steps same agrees =
+    ap (λ n. page_under n verdict start limit steps) same ∙ same_page (sizes u) verdict (verdict_of u w q) start agrees limit steps
+
+-- more steps than a universe may have labels are enough
+pub enough_for : (ns : List ℕ) → AreSizes ns → (steps : Option ℕ) → IfSome steps (λ n. MAX_LABELS < n) → IsEnough ns steps
+enough_for ns are None h = tt
+enough_for ns are (Some n) h = omega (arith, are.labels, h)
+
+-- what is known of the page that a trailer is of
+module _ (u : List Label) (w : World) (q : Question) (start : Start) (limit steps : Option ℕ) (trailer : Trailer) (is : IsUniverse u) (some : IfSome limit (λ n. 0 < n))
+    (ends : trailer ≡ (searched_page u w q start limit steps).trailer) where
+  pub rest_of_page : IfSome steps (λ n. MAX_LABELS < n)
+      → answers_from (sizes u) (is_answer u w q) start ≡ (searched_page u w q start limit steps).choices ++ rest_after (sizes u) (is_answer u w q) trailer
+  rest_of_page enough =
+      let law = question_judges u w q is in
+      rest_under (sizes u) (is_answer u w q) (verdict_of u w q) start limit steps law some (enough_for (sizes u) law.limits steps enough)
+      ∙ ap (λ t. (searched_page u w q start limit steps).choices ++ rest_after (sizes u) (is_answer u w q) t) (sym ends)
+
+  pub unstopped_page : ((prefix : List ℕ) → trailer ≢ Stopped prefix) → searched_page u w q start limit steps ≡ answer_page u w q start limit
+  unstopped_page runs = by trailer refl
+    where
+      by : (t : Trailer) → trailer ≡ t → searched_page u w q start limit steps ≡ answer_page u w q start limit
+      by End e = same_end (sizes u) (is_answer u w q) (verdict_of u w q) start limit steps (question_judges u w q is) some (sym ends ∙ e)
+      by (Next c) e = same_next (sizes u) (is_answer u w q) (verdict_of u w q) start limit steps (question_judges u w q is) some c (sym ends ∙ e)
+      by (Stopped prefix) e = absurd (runs prefix e)
+
+  pub stopped_page : (prefix : List ℕ) → trailer ≡ Stopped prefix
+      → (searched_page u w q start limit steps).choices ≡ filter (λ c. comes_before c prefix) (answers_from (sizes u) (is_answer u w q) start)
+  stopped_page prefix e = stopped_before (sizes u) (is_answer u w q) (verdict_of u w q) start limit steps (question_judges u w q is) some prefix (sym ends ∙ e)
+
+-- a call without a budget writes the page of the answers
+pub answers_unlimited : (inputs : Inputs) (limit steps : Option ℕ) (trailer : Trailer) (IsWritten : List ℕ → Type 0) → AnswersInputsUnder inputs limit steps trailer IsWritten → steps ≡ None
+    → AnswersInputs inputs limit trailer IsWritten
+answers_unlimited inputs limit steps trailer IsWritten h none =
+    let u : List Label = h.universe in
+    let law = question_judges u h.world h.question h.accepts.says_universe.3.is_universe in
+    let same : searched_page u h.world h.question h.start limit steps ≡ answer_page u h.world h.question h.start limit =
+    ap (searched_page u h.world h.question h.start limit) none
+    ∙ same_unstopped (sizes u) (is_answer u h.world h.question) (verdict_of u h.world h.question) h.start law limit None refl in
+    record {
+      universe = u;
+      world = h.world;
+      question = h.question;
+      start = h.start;
+      accepts = h.accepts;
+      written = subst (λ (page : AnswerPage). IsWritten (page_text u page)) same h.written;
+      trailer_is = h.trailer_is ∙ ap (λ page. page.trailer) same;
+      rest = h.rest ∙ ap (λ page. page.choices ++ rest_after (sizes u) (is_answer u h.world h.question) trailer) same;
+    }
+
+-- ---- Pages in a row.
 
 -- the lines of pages, joined, are the lines of all their choices
 lines_of_pages : (u : List Label) (pages : List AnswerPage) → flat_map (λ page. lines_text u page.choices) pages ≡ lines_text u (all_choices_of pages)
@@ -42,6 +108,12 @@ lines_of_pages u (page ∷ pages) = ap (λ rest. lines_text u page.choices ++ re
 pub lines_of_chain : (u : List Label) (answer : List ℕ → Bool) (start : Start) (pages : List AnswerPage) → IsChain (sizes u) answer start pages
     → flat_map (λ page. lines_text u page.choices) pages ≡ lines_text u (page_from (sizes u) answer start None).choices
 lines_of_chain u answer start pages h = lines_of_pages u pages ∙ ap (lines_text u) (chain_joined (sizes u) answer start pages h)
+
+pub lines_of_search_chain : (u : List Label) (w : World) (q : Question) (start : Start) (pages : List AnswerPage) → IsUniverse u → IsSearchChain (sizes u) (verdict_of u w q) start pages
+    → flat_map (λ page. lines_text u page.choices) pages ≡ lines_text u (page_from (sizes u) (is_answer u w q) start None).choices
+lines_of_search_chain u w q start pages is h =
+    lines_of_pages u pages
+    ∙ ap (lines_text u) (search_chain_joined (sizes u) (is_answer u w q) (verdict_of u w q) start pages (question_judges u w q is) h)
 
 -- the start that is asked for is one over the labels of the universe
 pub asked_is_start : (u : List Label) (after : Option (List ℕ)) (start : Start) → AsksStart u after start → IsStart (sizes u) start
@@ -64,20 +136,21 @@ if_ok (Err e) P Q f p = tt
 
 -- a page that a sink took is a call of which the laws speak
 pub asked_from : {S : Type 0} (taken : S → List ℕ) (failures : S → ℕ) (before after : S)
-    (inputs : Inputs) (limit : Option ℕ) (trailer : Trailer) → IfSome limit (λ n. 0 < n)
-    → AnswersInputs inputs limit trailer (Wrote taken failures before after)
+    (inputs : Inputs) (limit steps : Option ℕ) (trailer : Trailer) → IfSome limit (λ n. 0 < n) → IfSome steps (λ n. MAX_LABELS < n)
+    → AnswersInputsUnder inputs limit steps trailer (Wrote taken failures before after)
     → (lines : List ℕ)
-    × IsAskedOf inputs (record { limit = limit; lines = lines; trailer = trailer })
+    × IsAskedOf inputs (record { limit = limit; steps = steps; lines = lines; trailer = trailer })
     × (taken after ≡ taken before ++ (lines ++ trailer_text trailer))
-asked_from taken failures before after inputs limit trailer some answered =
+asked_from taken failures before after inputs limit steps trailer some enough answered =
     let page : AnswerPage =
-    answer_page answered.universe answered.world answered.question answered.start limit in
+    searched_page answered.universe answered.world answered.question answered.start limit steps in
     let lines : List ℕ = lines_text answered.universe page.choices in
     let same : lines ++ trailer_text page.trailer ≡ lines ++ trailer_text trailer =
     ap (λ t. lines ++ trailer_text t) (sym answered.trailer_is) in (
       lines,
       (
         some,
+        enough,
         record {
           universe = answered.universe;
           world = answered.world;
@@ -87,7 +160,23 @@ asked_from taken failures before after inputs limit trailer some answered =
           written = same;
           trailer_is = answered.trailer_is;
           rest = answered.rest;
+          unstopped = answered.unstopped;
+          stopped = answered.stopped;
         },
       ),
       answered.written.all ∙ ap (λ text. taken before ++ text) same,
     )
+
+-- the same call, with its inputs under other names
+abbrev with_files : List ℕ → WorldInputs → List ℕ → Option (List ℕ) → Inputs
+with_files universe world question after = record { universe = universe; world = world; question = question; after = after }
+
+pub answered_as : {universe other : List ℕ} {world other_world : WorldInputs} {limit other_limit steps other_steps : Option ℕ} (question : List ℕ) (after : Option (List ℕ)) (trailer : Trailer) (IsWritten : List ℕ → Type 0)
+    → universe ≡ other → world ≡ other_world → limit ≡ other_limit → steps ≡ other_steps
+    → AnswersInputsUnder (record { universe = universe; world = world; question = question; after = after }) limit steps trailer IsWritten
+    → AnswersInputsUnder (record { universe = other; world = other_world; question = question; after = after }) other_limit other_steps trailer IsWritten
+answered_as {universe} {other} {world} {other_world} {limit} {other_limit} {steps} {other_steps} question after trailer IsWritten u w l s h =
+    subst (λ (n : Option ℕ). AnswersInputsUnder (with_files other other_world question after) other_limit n trailer IsWritten) s
+    (subst (λ (n : Option ℕ). AnswersInputsUnder (with_files other other_world question after) n steps trailer IsWritten) l
+    (subst (λ (x : WorldInputs). AnswersInputsUnder (with_files other x question after) limit steps trailer IsWritten) w
+    (subst (λ (x : List ℕ). AnswersInputsUnder (with_files x world question after) limit steps trailer IsWritten) u h)))

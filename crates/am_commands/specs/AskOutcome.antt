@@ -1,17 +1,22 @@
 -- What `ask` answers. (This project's own.)
-use Rattle.std.specs.Prelude.{◌≡◌, ◌<◌, ℕ, List, [], ◌∷◌, ◌++◌, Option, IfSome, MatchOption}
+use Rattle.std.specs.Prelude.{◌≡◌, ◌≢◌, ◌<◌, ℕ, List, [], ◌∷◌, ◌++◌, Option, IfSome, MatchOption}
 use Rattle.std.specs.Prelude.{option_map}
+use Rattle.std.specs.List.{filter}
+use Rattle.am_universe.specs.declared.limits.TheConstants.{MAX_LABELS}
 use Rattle.am_universe.specs.Universe.{Label, sizes}
 use Rattle.am_eval.specs.World.{World}
 use Rattle.am_eval.specs.Question.{Question, is_answer}
 use Rattle.am_eval.specs.QuestionView.{question_view}
 use Rattle.am_search.specs.declared.start.Start.{Start}
 use Rattle.am_search.specs.declared.trailer.Trailer.{Trailer}
-use Rattle.am_search.specs.Start.{answers_from}
+use Rattle.am_search.specs.declared.trailer.Trailer.TheVariants.{Stopped}
+use Rattle.am_search.specs.Start.{answers_from, comes_before}
 use Rattle.am_search.specs.Page.{AnswerPage, page_from, rest_after, start_after}
+use Rattle.am_search.specs.BudgetPage.{page_under}
 use Rattle.am_search.specs.PageText.{page_text}
 use Rattle.am_search.specs.Token.{token_text}
 use Rattle.am_search.specs.TrailerText.{trailer_text}
+use Rattle.am_cubes.specs.Verdicts.{verdict_of}
 use Rattle.am_questions.specs.declared.inputs.AcceptedInputs.{AcceptedInputs}
 use Rattle.am_questions.specs.Inputs.{Inputs, after_token, AcceptsInputs}
 
@@ -23,10 +28,20 @@ use Rattle.am_questions.specs.Inputs.{Inputs, after_token, AcceptsInputs}
 abbrev pub answer_page : List Label → World → Question → Start → Option ℕ → AnswerPage
 answer_page u w q start limit = page_from (sizes u) (is_answer u w q) start limit
 
+-- The page of a search for these answers, under a budget of steps too, if there is one. A step is a
+-- judgement: at a prefix of a choice the search finds the verdict of the question, in the logic of
+-- three values.
+-- Source: own choice.
+-- Example: over the labels `a` and `b`, each with two values, `{b="0"}` is `Open` at the empty
+-- prefix and at 0. Under a budget of 2 the page is empty, and ends with `Stopped` at 0 0.
+abbrev pub searched_page : List Label → World → Question → Start → Option ℕ → Option ℕ → AnswerPage
+searched_page u w q start limit steps =
+    page_under (sizes u) (verdict_of u w q) start limit steps
+
 -- That page where the question, its world, its universe and its start are what inputs were read as.
-abbrev pub page_of_inputs : AcceptedInputs → Option ℕ → AnswerPage
-page_of_inputs read limit =
-    answer_page read.universe read.world (question_view read.question) read.start limit
+abbrev pub page_of_inputs : AcceptedInputs → Option ℕ → Option ℕ → AnswerPage
+page_of_inputs read limit steps =
+    searched_page read.universe read.world (question_view read.question) read.start limit steps
 
 -- The inputs are accepted, and the page of their answers, from the start that they ask for and
 -- under this limit, was written, and ends with this trailer. What the trailer leaves is exactly the
@@ -45,22 +60,50 @@ pub record AnswersInputs (inputs : Inputs) (limit : Option ℕ) (trailer : Trail
       ≡ (answer_page universe world question start limit).choices
       ++ rest_after (sizes universe) (is_answer universe world question) trailer
 
--- The inputs are accepted, and of the page of their answers this was written, a part of its text.
-pub record AnswersInputsInPart (inputs : Inputs) (limit : Option ℕ)
+-- The same under a budget of steps too, if there is one: the page of a search for the answers was
+-- written, and what its trailer leaves is exactly the rest. Where the search did not stop, it is
+-- the page without the budget; where it stopped at a prefix, the lines are exactly the answers from
+-- the start on that come before the prefix, and so before its first completion.
+pub record AnswersInputsUnder (inputs : Inputs) (limit steps : Option ℕ) (trailer : Trailer)
     (IsWritten : List ℕ → Type 0) : Type 0 where
   pub universe : List Label
   pub world : World
   pub question : Question
   pub start : Start
   pub accepts : AcceptsInputs inputs universe world question start
-  pub written : IsWritten (page_text universe (answer_page universe world question start limit))
+  pub written : IsWritten
+      (page_text universe (searched_page universe world question start limit steps))
+  pub trailer_is : trailer ≡ (searched_page universe world question start limit steps).trailer
+  pub rest : answers_from (sizes universe) (is_answer universe world question) start
+      ≡ (searched_page universe world question start limit steps).choices
+      ++ rest_after (sizes universe) (is_answer universe world question) trailer
+  pub unstopped : ((prefix : List ℕ) → trailer ≢ Stopped prefix)
+      → searched_page universe world question start limit steps
+      ≡ answer_page universe world question start limit
+  pub stopped : (prefix : List ℕ) → trailer ≡ Stopped prefix
+      → (searched_page universe world question start limit steps).choices
+      ≡ filter (λ c. comes_before c prefix)
+      (answers_from (sizes universe) (is_answer universe world question) start)
+
+-- The inputs are accepted, and of the page of a search for their answers this was written, a part
+-- of its text.
+pub record AnswersInputsInPart (inputs : Inputs) (limit steps : Option ℕ)
+    (IsWritten : List ℕ → Type 0) : Type 0 where
+  pub universe : List Label
+  pub world : World
+  pub question : Question
+  pub start : Start
+  pub accepts : AcceptsInputs inputs universe world question start
+  pub written : IsWritten
+      (page_text universe (searched_page universe world question start limit steps))
 
 -- ---- Calls in a row.
 
--- A call of `ask` that is done: its limit, if it had one, the lines that it wrote, and the trailer
--- behind them.
+-- A call of `ask` that is done: its limit and its budget of steps, as far as it had these, the
+-- lines that it wrote, and the trailer behind them.
 pub record Asked : Type 0 where
   pub limit : Option ℕ
+  pub steps : Option ℕ
   pub lines : List ℕ
   pub trailer : Trailer
 
@@ -68,15 +111,17 @@ pub record Asked : Type 0 where
 abbrev pub IsAskedOf : Inputs → Asked → Type 0
 IsAskedOf inputs asked =
     IfSome asked.limit (λ n. 0 < n)
-    × AnswersInputs inputs asked.limit asked.trailer
+    × IfSome asked.steps (λ n. MAX_LABELS < n)
+    × AnswersInputsUnder inputs asked.limit asked.steps asked.trailer
     (λ text. text ≡ asked.lines ++ trailer_text asked.trailer)
 
 -- The token in the text of a trailer, if it has one.
 abbrev pub token_after : Trailer → Option (List ℕ)
 token_after trailer = option_map token_text (start_after trailer)
 
--- Calls in a row, at least one: each under a limit of its own, the first with these inputs, each
--- later one with the same inputs but the token of the trailer before it, and the last with `End`.
+-- Calls in a row, at least one: each under a limit and a budget of its own, the first with these
+-- inputs, each later one with the same inputs but the token of the trailer before it, and the last
+-- with `End`.
 -- Source: own choice.
 -- Example: a call that ends with `# next t1:0.1`, and one with `--after t1:0.1` that ends with
 -- `# end`.

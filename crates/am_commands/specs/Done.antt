@@ -2,6 +2,7 @@
 use Rattle.std.specs.Prelude.{ℕ, List, [], Option, option_map, option_copied, unwrap_or}
 use Rattle.std.specs.Global.{Vec}
 use Rattle.std.specs.Int.NonZero.{non_zero_u64_get}
+use Rattle.am_command_line.specs.Words.{step_count}
 use Rattle.am_command_line.specs.declared.command_line.InputFiles.{InputFiles}
 use Rattle.am_command_line.specs.declared.command_line.Request.{Request}
 use Rattle.am_command_line.specs.declared.command_line.Request.TheVariants as requests
@@ -12,7 +13,7 @@ use Rattle.am_eval.specs.Explanation.{ExplainsSet, explain_stages}
 use Rattle.am_eval.specs.Faults.{Stage}
 use Rattle.am_questions.specs.Inputs.{Inputs, ask_stages}
 use Rattle.am_coverage.specs.Report.{IsRoutesReport, IsReceiversReport}
-use Rattle.am_commands.specs.AskOutcome.{AnswersInputs, AnswersInputsInPart}
+use Rattle.am_commands.specs.AskOutcome.{AnswersInputsUnder, AnswersInputsInPart}
 use Rattle.am_commands.specs.Reports.{ReportsFiles, report_stages}
 
 -- The bytes of a file that may be left out; those of the universe file, of which there are none
@@ -45,14 +46,15 @@ ask_inputs files question after = record {
 }
 
 -- What is asked for is done, and this holds of what is written: for `ask` the page of the answers
--- to that question, from that token on and under that limit, which ends with some trailer; for
+-- to that question, from that token on and under that limit and that budget, which ends with some
+-- trailer; for
 -- `dead` the report of routes; for `receivers` that of receivers; for `explain` the explanation of
 -- that set. And of this a part is written.
 abbrev pub IsDone : Request → InputFiles (Vec ℕ) → (List ℕ → Type 0) → Type 0
-IsDone (requests.Ask question after limit) files IsWritten =
+IsDone (requests.Ask question after limit steps) files IsWritten =
     (trailer : Trailer)
-    × AnswersInputs (ask_inputs files question.now (option_copied after))
-    (option_map non_zero_u64_get limit) trailer IsWritten
+    × AnswersInputsUnder (ask_inputs files question.now (option_copied after))
+    (option_map non_zero_u64_get limit) (option_map step_count steps) trailer IsWritten
 IsDone requests.Dead files IsWritten =
     ReportsFiles (universe_bytes files) (config_bytes files) IsRoutesReport IsWritten
 IsDone requests.Receivers files IsWritten =
@@ -61,9 +63,9 @@ IsDone (requests.Explain set) files IsWritten =
     ExplainsSet (world_inputs files) set.now IsWritten
 
 abbrev pub IsDoneInPart : Request → InputFiles (Vec ℕ) → (List ℕ → Type 0) → Type 0
-IsDoneInPart (requests.Ask question after limit) files IsWritten =
+IsDoneInPart (requests.Ask question after limit steps) files IsWritten =
     AnswersInputsInPart (ask_inputs files question.now (option_copied after))
-    (option_map non_zero_u64_get limit) IsWritten
+    (option_map non_zero_u64_get limit) (option_map step_count steps) IsWritten
 IsDoneInPart requests.Dead files IsWritten = IsDone requests.Dead files IsWritten
 IsDoneInPart requests.Receivers files IsWritten = IsDone requests.Receivers files IsWritten
 IsDoneInPart (requests.Explain set) files IsWritten =
@@ -71,7 +73,7 @@ IsDoneInPart (requests.Explain set) files IsWritten =
 
 -- The stages of what is asked for.
 abbrev pub request_stages : Request → InputFiles (Vec ℕ) → List Stage
-request_stages (requests.Ask question after limit) files =
+request_stages (requests.Ask question after limit steps) files =
     ask_stages (ask_inputs files question.now (option_copied after))
 request_stages requests.Dead files = report_stages (universe_bytes files) (config_bytes files)
 request_stages requests.Receivers files =

@@ -1,14 +1,15 @@
-ghost use Rattle.std.specs.Prelude.{◌≡◌, ◌≢◌, ◌<◌, ◌++◌, ℕ, List, [], IfOk, IfErr, IfSome};
+ghost use Rattle.std.specs.Prelude.{◌≡◌, ◌≢◌, ◌<◌, ◌++◌, ℕ, List, [], None, IfOk, IfErr, IfSome};
 ghost use Rattle.std.specs.Prelude.{string_bytes};
 ghost use Rattle.am_universe.specs.declared.kind.Kind.TheVariants as kinds;
+ghost use Rattle.am_universe.specs.declared.limits.TheConstants.{MAX_LABELS};
 ghost use Rattle.am_universe.specs.declared.place.Place.TheVariants as places;
 ghost use Rattle.am_labels.specs.Words.{sizes, Wrote, WroteInPart};
 ghost use Rattle.am_json.specs.Words.{refusal_of};
 ghost use Rattle.am_questions.specs.Words.{inputs_of, ask_stages};
 ghost use Rattle.am_eval.specs.Words.{IsFirstFaultOfCall};
 ghost use Rattle.am_search.specs.Words.{IsStart, page_text, trailer_text};
-ghost use Rattle.am_commands.specs.Words.{AnswersInputs, AnswersInputsInPart, page_of_inputs};
-ghost use Rattle.am_commands.specs.Words.{IsAskedOf};
+ghost use Rattle.am_commands.specs.Words.{AnswersInputs, AnswersInputsUnder};
+ghost use Rattle.am_commands.specs.Words.{AnswersInputsInPart, page_of_inputs, IsAskedOf};
 
 use am_cubes::Plan;
 use am_eval::Files;
@@ -24,9 +25,11 @@ use std::alloc::Global;
 /// file of alerts and the instant that is asked about, as far as there are such, and `question` is
 /// a question about what these say. `page` says where the lines begin, and how many there may be:
 /// where there are more, the trailer is `Next` with the last choice that was written, and the page
-/// of that trailer's token goes on after it. Without a limit, or where there are no more, it is
-/// `End`. All input is read before the first byte is written, and each line is written before the
-/// next label set is looked for.
+/// of that trailer's token goes on after it. It may also say how many prefixes of choices are
+/// judged: where the limit is not passed and more would be judged, the trailer is `Stopped` with
+/// the next of them, and the page of its token goes on there. Otherwise it is `End`. All input is
+/// read before the first byte is written, and each line is written before the next label set is
+/// looked for.
 ///
 /// The first fault is the one answered: a fault of the universe file, at `Universe`, as
 /// `read_universe` has it; of the configuration file, at `Config`, as `read_config` has it; of the
@@ -40,8 +43,8 @@ use std::alloc::Global;
 ///
 /// Prefixes of choices are judged, by the cubes of a plan: what is below one of which nothing can
 /// be an answer is left out, and what is below one of which everything must be is written without a
-/// look. Where neither is seen early, time grows with the product of the numbers of values. Memory
-/// does not grow with the number of answers.
+/// look. Where neither is seen early, time grows with the product of the numbers of values, unless
+/// a budget stops the search. Memory does not grow with the number of answers.
 pub fn ask<W: Sink>(
     alloc: Global,
     universe: &[u8],
@@ -51,17 +54,28 @@ pub fn ask<W: Sink>(
     out: &mut W,
 ) -> Result<Trailer, Fault>
     requires limit { IfSome page.now.limit (λ n. 0 < n) }
+    requires steps { IfSome page.now.steps (λ n. MAX_LABELS < n) }
 
     // The lines are exactly the label sets that satisfy the question, from the start on and up to
     // the trailer, and those after the trailer are exactly the rest.
-    ensures answered { IfOk result (λ trailer. AnswersInputs
+    ensures answered { page.now.steps ≡ None → IfOk result (λ trailer. AnswersInputs
         (inputs_of universe.now files.now question.now page.now) page.now.limit trailer
         (Wrote W.taken W.failures out.old out.new)) }
+
+    // The same under a budget: where the search stops is decided by the verdicts of the question.
+    ensures answered_under { IfOk result (λ trailer. AnswersInputsUnder
+        (inputs_of universe.now files.now question.now page.now) page.now.limit page.now.steps
+        trailer (Wrote W.taken W.failures out.old out.new)) }
 
     // What laws say of calls in a row is said of this one.
     ensures asked { IfOk result (λ trailer. (lines : List ℕ) × IsAskedOf
         (inputs_of universe.now files.now question.now page.now)
-        (record { limit = page.now.limit; lines = lines; trailer = trailer })
+        (record {
+          limit = page.now.limit;
+          steps = page.now.steps;
+          lines = lines;
+          trailer = trailer;
+        })
         × (W.taken out.new ≡ W.taken out.old ++ (lines ++ trailer_text trailer))) }
 
     // No other fault of the inputs comes before the one that is answered, and the pointer is that
@@ -74,37 +88,38 @@ pub fn ask<W: Sink>(
     ensures write { IfErr result (λ fault. fault.kind ≡ kinds.Write
         → (fault.place ≡ places.Output) × (string_bytes fault.pointer ≡ [])
         × AnswersInputsInPart (inputs_of universe.now files.now question.now page.now)
-        page.now.limit (WroteInPart W.taken W.failures out.old out.new)) }
+        page.now.limit page.now.steps (WroteInPart W.taken W.failures out.old out.new)) }
 
     // Nothing is written after a refusal.
     ensures untouched { IfErr result (λ fault. fault.kind ≢ kinds.Write → out.new ≡ out.old) }
 {
     let accepted = read_inputs(alloc, universe, files, question, page)?;
-    write_answers(alloc, &accepted, page.limit, out)
+    write_answers(alloc, &accepted, page.limit, page.steps, out)
 }
 
 /// Writes the page of the answers to a question that is accepted, from its start on and under a
-/// limit, if there is one. The answer is the trailer. `Memory`, at `Memory`, comes before the first
-/// byte is written; `Write` stands at `Output`.
+/// limit and a budget of steps, if there are these. The answer is the trailer. `Memory`, at
+/// `Memory`, comes before the first byte is written; `Write` stands at `Output`.
 fn write_answers<W: Sink>(
     alloc: Global,
     accepted: &AcceptedInputs,
     limit: Option<u64>,
+    steps: Option<u64>,
     out: &mut W,
 ) -> Result<Trailer, Fault>
     requires limit { IfSome limit (λ n. 0 < n) }
     requires start { IsStart (sizes accepted.now.universe) accepted.now.start }
     ensures trailer { IfOk result (λ trailer.
-        trailer ≡ (page_of_inputs accepted.now limit).trailer) }
+        trailer ≡ (page_of_inputs accepted.now limit steps).trailer) }
     ensures written { IfOk result (λ _. Wrote W.taken W.failures out.old out.new
-        (page_text accepted.now.universe (page_of_inputs accepted.now limit))) }
+        (page_text accepted.now.universe (page_of_inputs accepted.now limit steps))) }
     ensures memory { IfErr result (λ fault. fault.kind ≢ kinds.Write
         → (fault.kind ≡ kinds.Memory) × (fault.place ≡ places.Memory)
         × (string_bytes fault.pointer ≡ []) × (out.new ≡ out.old)) }
     ensures write { IfErr result (λ fault. fault.kind ≡ kinds.Write
         → (fault.place ≡ places.Output) × (string_bytes fault.pointer ≡ [])
         × WroteInPart W.taken W.failures out.old out.new
-        (page_text accepted.now.universe (page_of_inputs accepted.now limit))) }
+        (page_text accepted.now.universe (page_of_inputs accepted.now limit steps))) }
 {
     let judge = match Plan::new(
         alloc,
@@ -118,7 +133,7 @@ fn write_answers<W: Sink>(
     let Ok(mut table) = LineTable::of(alloc, &accepted.universe) else {
         return Err(Fault::memory(alloc));
     };
-    let mut answers = Answers::from(&judge, accepted.start);
+    let mut answers = Answers::from(&judge, accepted.start, steps);
     match write_page(&mut table, &mut answers, limit, out) {
         Ok(trailer) => Ok(trailer),
         Err(kind) => Err(Fault::of(alloc, kind, Place::Output)),

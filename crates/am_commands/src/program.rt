@@ -1,6 +1,8 @@
 ghost use Rattle.std.specs.Prelude.{◌≡◌, ◌≢◌, ◌<◌, IfOk, IfErr, IfSome, option_map, option_copied};
 ghost use Rattle.std.specs.Int.NonZero.{non_zero_u64_get};
 ghost use Rattle.am_universe.specs.declared.kind.Kind.TheVariants as kinds;
+ghost use Rattle.am_universe.specs.declared.limits.TheConstants.{MAX_LABELS};
+ghost use Rattle.am_command_line.specs.Words.{step_count};
 ghost use Rattle.am_labels.specs.Words.{Wrote, WroteInPart};
 ghost use Rattle.am_json.specs.Words.{refusal_of};
 ghost use Rattle.am_eval.specs.Words.{world_inputs_of, IsFirstFaultOfCall};
@@ -11,7 +13,7 @@ use crate::asking::ask;
 use crate::explaining::explain;
 use crate::read_file::read_file;
 use crate::reporting::{dead, receivers};
-use am_command_line::{CommandLine, InputFiles, Request, parse_command_line};
+use am_command_line::{CommandLine, InputFiles, Request, Steps, parse_command_line};
 use am_labels::{Fault, Kind, Out, Place, Sink, fault_at, report};
 use am_search::Page;
 use clap::Error;
@@ -140,10 +142,12 @@ fn make_call<W: Sink>(
             question,
             after,
             limit,
+            steps,
         } => {
             let page = Page {
                 after,
                 limit: limit_of(limit),
+                steps: steps_of(steps),
             };
             match ask(alloc, universe, &world, question, &page, out) {
                 Ok(_) => Ok(()),
@@ -196,6 +200,17 @@ fn limit_of(limit: Option<NonZeroU64>) -> Option<u64>
 {
     match limit {
         Some(limit) => Some(limit.get()),
+        None => None,
+    }
+}
+
+/// The most prefixes that a page may judge, if there is a budget.
+fn steps_of(steps: Option<Steps>) -> Option<u64>
+    ensures steps { result ≡ option_map step_count steps }
+    ensures enough { IfSome result (λ n. MAX_LABELS < n) }
+{
+    match steps {
+        Some(steps) => Some(steps.get()),
         None => None,
     }
 }

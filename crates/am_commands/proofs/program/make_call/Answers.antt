@@ -2,14 +2,15 @@
 use Rattle.std.proofs.Common.{◌≢◌, ℕ, List, sym, subst, option_copied}
 use Rattle.am_universe.specs.declared.fault.Fault.{Fault}
 use Rattle.am_universe.specs.declared.kind.Kind.TheVariants as kinds
+use Rattle.am_universe.specs.Sink.{Wrote}
 use Rattle.am_json.specs.Reading.{refusal_of}
 use Rattle.am_command_line.specs.declared.command_line.Request.{Request}
 use Rattle.am_eval.specs.Faults.{IsFirstFaultOfCall}
 use Rattle.am_eval.specs.WorldInputs.{WorldInputs, world_inputs_of}
 use Rattle.am_eval.specs.Explanation.{explain_stages}
 use Rattle.am_questions.specs.Inputs.{ask_stages}
-use Rattle.am_commands.specs.Done.{request_stages, world_inputs}
-use Rattle.am_commands.proofs.AskedPages.{if_failed}
+use Rattle.am_commands.specs.Done.{IsDone, request_stages, world_inputs}
+use Rattle.am_commands.proofs.AskedPages.{if_failed, answered_as}
 use Rattle.am_commands.proofs.program.make_call.Goals as goal
 
 pub returns-in-Err-clause-first : goal.returns-in-Err-clause-first
@@ -35,6 +36,20 @@ returns-in-Err-clause-first g c = λ written remembered.
       after = option_copied c.in-Ask.after;
     })) fault.place (refusal_of fault))
     c.world_files-world.ensures (c.in-Err.ensures.first written remembered)))
+
+pub returns-in-Ok-clause-done : goal.returns-in-Ok-clause-done
+returns-in-Ok-clause-done g c =
+    let trailer = c.in-Ok.field-0 in
+    subst
+    (λ (request : Request). IsDone request c.args.files.now
+    (Wrote g.W.Sink.taken g.W.Sink.failures c.args.out.now c.ask.new.out))
+    (sym c.in-Ask.is) (
+      trailer,
+      answered_as c.in-Ask.question.now (option_copied c.in-Ask.after) trailer
+          (Wrote g.W.Sink.taken g.W.Sink.failures c.args.out.now c.ask.new.out)
+          c.universe_of-universe.ensures c.world_files-world.ensures c.limit_of.ensures.limit
+          c.steps_of.ensures.steps c.in-Ok.ensures.answered_under,
+    )
 
 pub returns-in-Explain-clause-first : goal.returns-in-Explain-clause-first
 returns-in-Explain-clause-first g c =

@@ -1,0 +1,2 @@
+pub mod StepsView
+pub mod Words
