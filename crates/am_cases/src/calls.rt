@@ -4,7 +4,8 @@ ghost use Rattle.std.specs.Prelude.{◌≡◌, Some, IfSome, length, slice_get};
 ghost use Rattle.am_universe.specs.Universe.{sizes};
 
 use crate::alerts::of_alerts;
-use crate::judges::{of_alike, of_first, of_generated, of_judge};
+use crate::coverage::{of_large, of_reports};
+use crate::judges::{of_alike, of_count, of_first, of_generated, of_judge};
 use crate::pages::of_ask;
 use crate::reports::{Report, of_report};
 use crate::silences::{of_instant, of_silences};
@@ -40,8 +41,11 @@ pub enum Call {
     Ends,
     Judge,
     First,
+    Count,
     Alike,
     Generated,
+    Reports,
+    Large,
     Cube,
     Search,
     Token,
@@ -66,7 +70,7 @@ pub struct Over<'a> {
 
 impl<'a> Over<'a> {
     /// This universe, and no other file.
-    fn universe(universe: &'a [u8]) -> Over<'a> {
+    pub fn universe(universe: &'a [u8]) -> Over<'a> {
         Over {
             universe,
             with: None,
@@ -105,8 +109,11 @@ pub fn call_named(name: &[u8]) -> Option<Call> {
         b"ends" => Some(Call::Ends),
         b"judge" => Some(Call::Judge),
         b"first" => Some(Call::First),
+        b"count" => Some(Call::Count),
         b"alike" => Some(Call::Alike),
         b"generated" => Some(Call::Generated),
+        b"reports" => Some(Call::Reports),
+        b"large" => Some(Call::Large),
         b"cube" => Some(Call::Cube),
         b"search" => Some(Call::Search),
         b"token" => Some(Call::Token),
@@ -145,8 +152,11 @@ pub fn given(
         Call::Ends => of_ends(alloc, over.with.unwrap_or(b""), utf8(alloc, text)?),
         Call::Judge => of_judge(alloc, over, text),
         Call::First => of_first(alloc, over, text),
+        Call::Count => of_count(alloc, over, text),
         Call::Alike => of_alike(alloc, over, text),
         Call::Generated => of_generated(alloc, text),
+        Call::Reports => of_reports(alloc, text),
+        Call::Large => of_large(alloc, text),
         Call::Cube => of_cube(alloc, over.universe, text),
         Call::Search => of_search(alloc, over.universe, text),
         Call::Token => of_token(alloc, over.universe, utf8(alloc, text)?),

@@ -1,6 +1,12 @@
 //! Judges: what the plan of a question says, beside the judge that looks at whole choices.
 
+ghost use Rattle.am_cubes.specs.Words.{plan_sizes};
+ghost use Rattle.am_search.specs.Words.{IsStart};
+
 use crate::calls::{Over, fault_behind, told};
+use crate::counted::CountedPlan;
+use crate::coverage::refusal;
+use crate::pages::Asked;
 use crate::starts::positions_behind;
 use crate::worlds::text_and_instant;
 use am_case_files::{Problem, SmallWorld, split_at_first, split_at_last, utf8, world_of_seed};
@@ -14,7 +20,7 @@ use am_eval::Question;
 use am_files::Path;
 use am_labels::{Choice, Fault, Kind};
 use am_questions::{AcceptedInputs, parse_question, read_inputs};
-use am_search::{Page, Verdict, first};
+use am_search::{Answers, Page, Start, State, Verdict, first};
 use am_whole::Whole;
 use std::alloc::Global;
 
@@ -24,10 +30,14 @@ const OTHERS: [&str; 2] = ["any", "ends / or silenced or inhibited"];
 /// The position of a child that no route has.
 const ABSENT: u16 = u16::MAX;
 
+/// More answers than a case may have.
+const MOST_ANSWERS: usize = 100_000;
+
 /// All answers.
-const ALL: Page<'static> = Page {
+pub const ALL: Page<'static> = Page {
     after: None,
     limit: None,
+    steps: None,
 };
 
 /// Why nothing is asked.
@@ -173,6 +183,60 @@ fn first_text(alloc: Global, choice: Option<Choice>) -> Result<Vec<u8>, Problem>
     }
 }
 
+/// How many choices a search over the plan of a question gives, how often the plan is asked for it,
+/// and where the search stops, if it does; or the fault. The text is a page, as of `ask`, or a
+/// question and ` first`, for the first answer alone.
+pub fn of_count(alloc: Global, over: Over<'_>, text: &[u8]) -> Result<Vec<u8>, Problem> {
+    let (text, is_first) = match text.strip_suffix(b" first") {
+        Some(text) => (text, true),
+        None => (text, false),
+    };
+    let asked = Asked::of(alloc, text)?;
+    let page = asked.page();
+    let files = over.files(None);
+    let inputs = match read_inputs(alloc, over.universe, &files, asked.question, &page) {
+        Ok(inputs) => inputs,
+        Err(fault) => return fault_behind(alloc, b"", &fault),
+    };
+    let plan = Plan::new(alloc, &inputs.universe, &inputs.world, &inputs.question)?;
+    let counted = CountedPlan::of(&plan);
+    if is_first {
+        let given = usize::from(first(&counted).is_some());
+        return count_text(alloc, given, counted.asked(), State::Ended);
+    }
+    count_from(alloc, &counted, inputs.start, page.steps)
+}
+
+/// Counts what is given from a start on, and how often the plan is asked for it.
+fn count_from(
+    alloc: Global,
+    counted: &CountedPlan<'_>,
+    start: Start,
+    steps: Option<u64>,
+) -> Result<Vec<u8>, Problem>
+    requires { IsStart (plan_sizes counted.now.plan.now) start }
+{
+    let mut answers = Answers::from(counted, start, steps);
+    for given in 0..MOST_ANSWERS {
+        if answers.next().is_none() {
+            return count_text(alloc, given, counted.asked(), answers.state());
+        }
+    }
+    Err(Problem::said(alloc, "more answers than a case may have"))
+}
+
+fn count_text(alloc: Global, given: usize, asked: u64, state: State) -> Result<Vec<u8>, Problem> {
+    let text = format!(in alloc; "ok: {given} given, {asked} judged")?;
+    match state {
+        State::Stopped(prefix) => {
+            let mut text = text;
+            text.push_str(", stopped at")?;
+            positions_behind(alloc, text.as_str(), &prefix)
+        }
+        State::Running | State::Ended => Ok(text.into_bytes()),
+    }
+}
+
 /// How many starts there are, and how many choices are given from them, where the plan of a
 /// question and the judge that looks at whole choices give the same; or the fault.
 pub fn of_alike(alloc: Global, over: Over<'_>, text: &[u8]) -> Result<Vec<u8>, Problem> {
@@ -225,7 +289,8 @@ pub fn of_generated(alloc: Global, text: &[u8]) -> Result<Vec<u8>, Problem> {
     Ok(text.into_bytes())
 }
 
-fn seeds_of(alloc: Global, text: &[u8]) -> Result<(u64, u64), Problem> {
+/// A seed, a blank, and a number.
+pub fn seeds_of(alloc: Global, text: &[u8]) -> Result<(u64, u64), Problem> {
     if let Some((seed, count)) = split_at_first(text, b" ") {
         let seed = utf8(alloc, seed)?.parse::<u64>().ok();
         let count = utf8(alloc, count)?.parse::<u64>().ok();
@@ -244,7 +309,7 @@ fn add_alike(alike: &Alike, sum: &mut Sum) {
 }
 
 /// A problem with the seed of its world in front.
-fn of_seed(alloc: Global, seed: u64, problem: Problem) -> Problem {
+pub fn of_seed(alloc: Global, seed: u64, problem: Problem) -> Problem {
     let Problem::Said(words) = problem else {
         return Problem::Memory;
     };
@@ -266,9 +331,6 @@ fn compared_at(alloc: Global, seed: u64) -> Result<Alike, Problem> {
     let universe = made.universe.as_bytes();
     match read_inputs(alloc, universe, &files, made.question.as_str(), &ALL) {
         Ok(inputs) => compared(alloc, &inputs),
-        Err(fault) => {
-            let fault = fault_behind(alloc, b"", &fault)?;
-            Err(Problem::about(alloc, "refused", fault.as_slice()))
-        }
+        Err(fault) => Err(refusal(alloc, &fault)),
     }
 }

@@ -13,6 +13,8 @@ mod shelf;
 mod alerts;
 mod calls;
 mod commands;
+mod counted;
+mod coverage;
 mod judges;
 mod pages;
 mod reports;

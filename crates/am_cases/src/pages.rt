@@ -1,30 +1,42 @@
 //! Pages of answers: what a line of `ask` asks for, and whether the pages that follow one another
-//! come to the one page without a limit.
+//! come to the one page without a limit and without a budget.
+
+ghost use Rattle.std.specs.Prelude.{◌<◌, IfSome};
+ghost use Rattle.am_universe.specs.declared.limits.TheConstants.{MAX_LABELS};
 
 use crate::calls::{Over, fault_behind, on_one_line, told};
 use crate::starts::token_of;
 use am_case_files::{Problem, split_at_last, utf8};
+use am_command_line::Steps;
 use am_commands::{Page, Trailer, ask};
 use am_files::read_universe;
-use am_labels::{Choice, Fault, Kind, Out, Sink};
+use am_labels::{Fault, Kind, Out, Sink};
 use am_search::{Start, parse_token};
 use std::alloc::Global;
 use std::num::NonZeroU64;
 
+/// More pages than a line may have in a row.
+const MOST_PAGES: usize = 1_000;
+
 /// What a line of `ask` asks for: a question, and which part of its answers.
 #[derive(Clone, Copy)]
 pub struct Asked<'q, 't> {
-    question: &'q str,
-    limit: Option<NonZeroU64>,
-    after: Option<&'t str>,
+    pub question: &'q str,
+    pub limit: Option<NonZeroU64>,
+    pub steps: Option<Steps>,
+    pub after: Option<&'t str>,
 }
 
 impl<'q, 't> Asked<'q, 't> {
-    /// What a text asks for: a question, behind it ` limit ` and a number, and behind that
-    /// ` after ` and a token, as far as it has these.
+    /// What a text asks for: a question, behind it ` limit ` and a number, behind that ` steps `
+    /// and a number, and behind that ` after ` and a token, as far as it has these.
     pub fn of<'a>(alloc: Global, text: &'a [u8]) -> Result<Asked<'a, 'a>, Problem> {
         let (text, after) = match split_at_last(text, b" after ") {
             Some((text, after)) => (text, Some(utf8(alloc, after)?)),
+            None => (text, None),
+        };
+        let (text, steps) = match split_at_last(text, b" steps ") {
+            Some((text, steps)) => (text, Some(steps_of(alloc, steps)?)),
             None => (text, None),
         };
         let (question, limit) = match split_at_last(text, b" limit ") {
@@ -34,8 +46,41 @@ impl<'q, 't> Asked<'q, 't> {
         Ok(Asked {
             question: utf8(alloc, question)?,
             limit,
+            steps,
             after,
         })
+    }
+
+    /// The page that is asked for.
+    pub fn page(&self) -> Page<'t>
+        ensures limit { IfSome result.limit (λ n. 0 < n) }
+        ensures steps { IfSome result.steps (λ n. MAX_LABELS < n) }
+    {
+        Page {
+            after: self.after,
+            limit: count_of(self.limit),
+            steps: step_count_of(self.steps),
+        }
+    }
+}
+
+/// The most lines of a page, if there is a limit.
+fn count_of(limit: Option<NonZeroU64>) -> Option<u64>
+    ensures { IfSome result (λ n. 0 < n) }
+{
+    match limit {
+        Some(limit) => Some(limit.get()),
+        None => None,
+    }
+}
+
+/// The most steps of a page, if there is a budget.
+fn step_count_of(steps: Option<Steps>) -> Option<u64>
+    ensures { IfSome result (λ n. MAX_LABELS < n) }
+{
+    match steps {
+        Some(steps) => Some(steps.get()),
+        None => None,
     }
 }
 
@@ -46,10 +91,7 @@ pub fn write_asked<W: Sink>(
     asked: Asked<'_, '_>,
     out: &mut W,
 ) -> Result<Trailer, Fault> {
-    let page = Page {
-        after: asked.after,
-        limit: asked.limit.map(|limit| limit.get()),
-    };
+    let page = asked.page();
     let files = over.files(None);
     ask(alloc, over.universe, &files, asked.question, &page, out)
 }
@@ -59,6 +101,14 @@ fn limit_of(alloc: Global, text: &[u8]) -> Result<NonZeroU64, Problem> {
     match limit.and_then(NonZeroU64::new) {
         Some(limit) => Ok(limit),
         None => Err(Problem::about(alloc, "no limit of a page", text)),
+    }
+}
+
+fn steps_of(alloc: Global, text: &[u8]) -> Result<Steps, Problem> {
+    let steps = utf8(alloc, text)?.parse::<u64>().ok();
+    match steps.and_then(Steps::new) {
+        Some(steps) => Ok(steps),
+        None => Err(Problem::about(alloc, "no budget of a page", text)),
     }
 }
 
@@ -73,18 +123,20 @@ pub fn of_ask(alloc: Global, over: Over<'_>, text: &[u8]) -> Result<Vec<u8>, Pro
     }
 }
 
-/// A page, cut into its lines and the token of the next one, if there is one.
+/// A page, cut into its lines and the token of the next one, if there is one, and whether the
+/// search stopped.
 #[derive(Drop)]
 struct Part {
     lines: Vec<u8>,
     next: Option<String>,
+    stopped: bool,
 }
 
 /// The lines of all answers that a line asks for.
 pub fn all_lines(alloc: Global, over: Over<'_>, text: &[u8]) -> Result<Vec<u8>, Problem> {
     let asked = Asked::of(alloc, text)?;
-    if asked.limit.is_some() {
-        return Err(Problem::about(alloc, "no limit is wanted here", text));
+    if asked.limit.is_some() || asked.steps.is_some() {
+        return Err(Problem::about(alloc, "neither a limit nor a budget is wanted here", text));
     }
     Ok(part_of(alloc, over, asked)?.lines)
 }
@@ -95,60 +147,69 @@ pub fn count_lines(lines: &[u8]) -> u64 {
     u64::try_from(count).unwrap_or(u64::MAX)
 }
 
-/// Whether the pages of a limit, each after the token of the one before, come to these lines.
+/// Whether the pages of a limit and a budget, as far as there are these, each after the token of
+/// the one before, come to these lines. The answer is whether one of them stopped.
 pub fn check_pages(
     alloc: Global,
     over: Over<'_>,
     text: &[u8],
-    limit: u64,
+    limit: Option<u64>,
+    steps: Option<u64>,
     lines: &[u8],
-) -> Result<(), Problem> {
+) -> Result<bool, Problem> {
     let asked = Asked::of(alloc, text)?;
-    let Some(limit) = NonZeroU64::new(limit) else {
-        return Err(Problem::said(alloc, "a limit is at least 1"));
+    let asked = Asked {
+        question: asked.question,
+        limit: limit.and_then(NonZeroU64::new),
+        steps: steps.and_then(Steps::new),
+        after: asked.after,
     };
-    let joined = joined_pages(alloc, over, asked, limit, count_lines(lines))?;
-    if joined.as_slice() == lines {
-        return Ok(());
+    let joined = joined_pages(alloc, over, asked)?;
+    if joined.lines.as_slice() == lines {
+        return Ok(joined.stopped);
     }
-    Err(Problem::differs(alloc, "joined pages", lines, joined.as_slice()))
+    Err(Problem::differs(alloc, "joined pages", lines, joined.lines.as_slice()))
 }
 
-/// The lines of pages that follow one another. There are no more pages than there are answers, but
-/// for one without any.
-fn joined_pages(
-    alloc: Global,
-    over: Over<'_>,
-    asked: Asked<'_, '_>,
-    limit: NonZeroU64,
-    answers: u64,
-) -> Result<Vec<u8>, Problem> {
+/// The lines of pages that follow one another, and whether one of them stopped.
+fn joined_pages(alloc: Global, over: Over<'_>, asked: Asked<'_, '_>) -> Result<Part, Problem> {
     let mut lines = Vec::new(alloc);
+    let mut stopped = false;
     let mut token = match asked.after {
         Some(token) => Some(String::from_str(alloc, token)?),
         None => None,
     };
-    for _ in 0..answers.max(1) {
+    for _ in 0..MOST_PAGES {
         let page = Asked {
             question: asked.question,
-            limit: Some(limit),
+            limit: asked.limit,
+            steps: asked.steps,
             after: token.as_ref().map(|token| token.as_str()),
         };
         let part = part_of(alloc, over, page)?;
-        check_length(alloc, &part, limit.get())?;
+        check_length(alloc, &part, asked.limit)?;
+        stopped = stopped || part.stopped;
         lines.extend_from_slice(part.lines.as_slice())?;
         token = part.next;
         if token.is_none() {
-            return Ok(lines);
+            return Ok(Part {
+                lines,
+                next: None,
+                stopped,
+            });
         }
     }
     Err(Problem::about(alloc, "the pages come to no end", lines.as_slice()))
 }
 
-/// A page behind which there is another has as many lines as it may, and no page has more.
-fn check_length(alloc: Global, part: &Part, limit: u64) -> Result<(), Problem> {
-    let count = count_lines(part.lines.as_slice());
-    if count == limit || count < limit && part.next.is_none() {
+/// No page has more lines than it may. One behind which there is another has as many, unless the
+/// search stopped.
+fn check_length(alloc: Global, part: &Part, limit: Option<NonZeroU64>) -> Result<(), Problem> {
+    let Some(limit) = limit else {
+        return Ok(());
+    };
+    let (count, limit) = (count_lines(part.lines.as_slice()), limit.get());
+    if count == limit || count < limit && (part.next.is_none() || part.stopped) {
         return Ok(());
     }
     Err(Problem::about(alloc, "too many lines or too few", part.lines.as_slice()))
@@ -170,7 +231,10 @@ fn part_of(alloc: Global, over: Over<'_>, asked: Asked<'_, '_>) -> Result<Part, 
 fn cut(alloc: Global, over: Over<'_>, page: &[u8], trailer: Trailer) -> Result<Part, Problem> {
     match trailer {
         Trailer::End => cut_last(alloc, page),
-        Trailer::Next(last) => cut_before(alloc, over, page, last),
+        Trailer::Next(last) => cut_before(alloc, over, page, b"# next ", Start::After(last)),
+        Trailer::Stopped(prefix) => {
+            cut_before(alloc, over, page, b"# stopped ", Start::At(prefix))
+        }
     }
 }
 
@@ -180,34 +244,42 @@ fn cut_last(alloc: Global, page: &[u8]) -> Result<Part, Problem> {
         Some(lines) => Ok(Part {
             lines: Vec::from_slice(alloc, lines)?,
             next: None,
+            stopped: false,
         }),
         None => Err(Problem::about(alloc, "no end of the last page", page)),
     }
 }
 
-/// Cuts a page behind which there is another, after the choice that is last here.
-fn cut_before(alloc: Global, over: Over<'_>, page: &[u8], last: Choice) -> Result<Part, Problem> {
-    let Some((lines, behind)) = split_at_last(page, b"# next ") else {
+/// Cuts a page behind which there is another, from this start on. The trailer begins with the
+/// words.
+fn cut_before(
+    alloc: Global,
+    over: Over<'_>,
+    page: &[u8],
+    words: &[u8],
+    start: Start,
+) -> Result<Part, Problem> {
+    let Some((lines, behind)) = split_at_last(page, words) else {
         return Err(Problem::about(alloc, "no token of the next page", page));
     };
     let token = utf8(alloc, behind.strip_suffix(b"\n").unwrap_or(behind))?;
-    check_token(alloc, over, token, last)?;
+    check_token(alloc, over, token, start)?;
     Ok(Part {
         lines: Vec::from_slice(alloc, lines)?,
         next: Some(String::from_str(alloc, token)?),
+        stopped: matches!(start, Start::At(_)),
     })
 }
 
-/// Whether a token is read as the start after a choice, and that start is written as the token.
-fn check_token(alloc: Global, over: Over<'_>, token: &str, last: Choice) -> Result<(), Problem> {
+/// Whether a token is read as this start, and the start is written as the token.
+fn check_token(alloc: Global, over: Over<'_>, token: &str, wanted: Start) -> Result<(), Problem> {
     let universe = match read_universe(alloc, over.universe) {
         Ok(universe) => universe,
         Err(_) => return Err(Problem::Memory),
     };
-    let after = Start::After(last);
-    let written = token_of(alloc, &after)?;
+    let written = token_of(alloc, &wanted)?;
     match parse_token(token, &universe) {
-        Ok(start) if start == after && written.as_slice() == token.as_bytes() => Ok(()),
+        Ok(start) if start == wanted && written.as_slice() == token.as_bytes() => Ok(()),
         _ => Err(Problem::about(alloc, "another start", token.as_bytes())),
     }
 }

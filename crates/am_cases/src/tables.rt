@@ -53,7 +53,7 @@ pub enum Mode {
     Pairs,
     /// Each text, and over writers that stop.
     Writers,
-    /// Each text, and page by page with each limit.
+    /// Each text, and page by page with each limit and with each budget.
     Pages,
 }
 
@@ -236,7 +236,15 @@ fn run_one(
     Ok(())
 }
 
-/// Asks for the answers of a line page by page, with each limit up to one more than there are.
+/// The least budget of a page.
+const LEAST_STEPS: u64 = 65;
+
+/// More than the greatest budget under which a page of a case stops.
+const MOST_STEPS: u64 = 400;
+
+/// Asks for the answers of a line page by page: with each limit up to one more than there are, with
+/// each budget up to the first that is enough for all, and with the least budget and each of the
+/// first limits together.
 fn run_pages(
     alloc: Global,
     heading: &Heading,
@@ -249,9 +257,22 @@ fn run_pages(
         Err(problem) => return Ok(tally.count(one.number, Err(problem))?),
     };
     let lines = lines.as_slice();
+    let (over, text) = (heading.over(), text.as_slice());
     for limit in 1..count_lines(lines).saturating_add(2) {
-        let outcome = check_pages(alloc, heading.over(), text.as_slice(), limit, lines);
-        tally.count(one.number, outcome)?;
+        let outcome = check_pages(alloc, over, text, Some(limit), None, lines);
+        tally.count(one.number, outcome.map(|_| ()))?;
+    }
+    for limit in 1..count_lines(lines).saturating_add(2).min(20) {
+        let outcome = check_pages(alloc, over, text, Some(limit), Some(LEAST_STEPS), lines);
+        tally.count(one.number, outcome.map(|_| ()))?;
+    }
+    for steps in LEAST_STEPS..MOST_STEPS {
+        let outcome = check_pages(alloc, over, text, None, Some(steps), lines);
+        let is_last = !matches!(outcome, Ok(true));
+        tally.count(one.number, outcome.map(|_| ()))?;
+        if is_last {
+            break;
+        }
     }
     Ok(())
 }

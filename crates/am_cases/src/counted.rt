@@ -1,0 +1,57 @@
+//! What a search over the plan of a question comes to, with each call of the plan counted.
+
+ghost use Rattle.std.specs.Prelude.{◌≡◌};
+ghost use Rattle.am_cubes.specs.Words.{plan_sizes, plan_truth, plan_verdict};
+ghost use Rattle.am_cubes.specs.PlanWords.{plan_is_judge};
+
+use am_cubes::Plan;
+use am_labels::Choice;
+use am_search::{Judge, Verdict};
+use std::cell::Cell;
+
+/// A plan that counts how often it is asked.
+#[derive(Drop)]
+pub struct CountedPlan<'a> {
+    plan: &'a Plan<'a>,
+    asked: Cell<u64>,
+}
+
+impl<'a> CountedPlan<'a> {
+    /// A plan that was not asked yet.
+    pub fn of(plan: &'a Plan<'a>) -> CountedPlan<'a>
+        ensures plan { result.plan.now ≡ plan.now }
+    {
+        CountedPlan {
+            plan,
+            asked: Cell::new(0),
+        }
+    }
+
+    /// How often it was asked.
+    pub fn asked(&self) -> u64 {
+        self.asked.get()
+    }
+}
+
+impl<'a> Judge for CountedPlan<'a> {
+    ghost sizes = { λ counted. plan_sizes counted.plan.now };
+
+    ghost truth = { λ counted. plan_truth counted.plan.now };
+
+    ghost verdict = { λ counted. plan_verdict counted.plan.now };
+
+    ghost laws = { λ counted. plan_is_judge counted.plan.now };
+
+    fn labels(&self) -> usize {
+        self.plan.labels()
+    }
+
+    fn size(&self, i: usize) -> usize {
+        self.plan.size(i)
+    }
+
+    fn judge(&self, prefix: &Choice) -> Verdict {
+        self.asked.set(self.asked.get().saturating_add(1));
+        self.plan.judge(prefix)
+    }
+}
