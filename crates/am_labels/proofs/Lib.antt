@@ -16,3 +16,5 @@ pub mod MatcherRefusalLemmas
 mod ParsedLabelSetLemmas
 pub mod RowLemmas
 pub mod RowLawLemmas
+pub mod Passing
+pub mod SpaceLaws

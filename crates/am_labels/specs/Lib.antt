@@ -11,3 +11,4 @@ pub mod MatcherRefusals
 pub mod ParsedLabelSet
 pub mod BraceToken
 pub mod Row
+pub mod Space

@@ -10,7 +10,7 @@ pub use Rattle.am_universe.specs.Words.{label_position, values_at, same_value}
 pub use Rattle.am_universe.specs.Words.{name_fault, count_fault, value_fault}
 pub use Rattle.am_universe.specs.Words.{label_values_fault, label_fault, memory_fault}
 pub use Rattle.am_universe.specs.Words.{label_of, texts_of}
-pub use Rattle.am_universe.specs.Words.{choices, all_choices, admits, IsWhole, completions}
+pub use Rattle.am_universe.specs.Words.{choices, admits, IsWhole, completions}
 pub use Rattle.am_universe.specs.Words.{LabelMap, value_of, value_at, with_value}
 pub use Rattle.am_universe.specs.Words.{label_set_of, HasTextsAlone, label_map_of}
 pub use Rattle.am_universe.specs.Words.{pair_text, set_text, line, map_text}
@@ -41,3 +41,5 @@ pub use Rattle.am_labels.specs.ParsedLabelSet.{set_of_list, SpellsSet, SetTextRe
 pub use Rattle.am_labels.specs.BraceToken.{first_closing, brace_len}
 pub use Rattle.am_labels.specs.Row.{TruthRow, row_of, truth_at, truth_on_value}
 pub use Rattle.am_labels.specs.Row.{row_holds, rows_hold}
+pub use Rattle.am_labels.specs.Space.{Space, IsSpace, is_possible, is_possible_choice}
+pub use Rattle.am_labels.specs.Space.{all_choices, IsChoiceOf}

@@ -1,7 +1,11 @@
 //! Facts about the definitions alone: each is the contract of a function with an empty body.
 ghost use Rattle.std.specs.Prelude.{◌≡◌, ◌↔◌, ℕ, List, [], Some, map, false, IsTrue, Contains};
+ghost use Rattle.std.specs.List.Sorted.{IsStrictlySortedBy};
+ghost use Rattle.std.specs.Ordering.{nat_cmp};
+ghost use Rattle.std.specs.Cmp.Lexicographic.{slice_cmp};
 ghost use Rattle.am_labels.specs.Words.{Label, IsUniverse, sizes, IsWhole, label_set_of, value_of};
-ghost use Rattle.am_labels.specs.declared.limits.TheConstants.{MAX_MATCHERS};
+ghost use Rattle.am_labels.specs.Words.{choices, Space, all_choices, IsChoiceOf};
+ghost use Rattle.am_labels.specs.declared.limits.TheConstants.{MAX_MATCHERS, MAX_IMPOSSIBLE};
 ghost use Rattle.am_labels.specs.Words.{Condition, condition_holds, all_hold};
 ghost use Rattle.am_labels.specs.Words.{Piece, IsJoinOf, IsInProfile, in_profile};
 ghost use Rattle.am_labels.specs.Words.{row_of, row_holds, rows_hold, Spells, read_list};
@@ -12,9 +16,10 @@ pub use am_universe::laws::{
     declared_value, limits_of_universes, one_choice_a_line, same_text_decides, undeclared_value,
 };
 
-/// How many matchers a list may have.
+/// How many matchers a list may have, and how many lists of a space may be impossible.
 pub fn limit_of_matchers()
     ensures matchers { MAX_MATCHERS ≡ 64 }
+    ensures impossible { MAX_IMPOSSIBLE ≡ 64 }
 {}
 
 /// Every pattern is a join of pieces.
@@ -72,4 +77,17 @@ pub fn rows_decide_a_list()
     ensures same_truth { (u : List Label) (c : List ℕ) (ms : List Condition)
         → IsUniverse u → IsWhole (sizes u) c
         → all_hold (label_set_of u c) ms ≡ rows_hold u ms c }
+{}
+
+/// The choices of a space are the whole choices that are possible, in declared order.
+pub fn choices_of_a_space_are_the_possible_ones()
+    ensures exactly { (s : Space) (c : List ℕ) → Contains (all_choices s) c ↔ IsChoiceOf s c }
+    ensures ascending { (s : Space) → IsStrictlySortedBy (slice_cmp nat_cmp) (all_choices s) }
+{}
+
+/// Where nothing is impossible, they are all whole choices; where the empty list is, there is none.
+pub fn an_impossible_list_takes_away_what_it_matches()
+    ensures all { (labels : List Label) → all_choices (record { labels = labels; impossible = [] })
+        ≡ choices (sizes labels) }
+    ensures none { (s : Space) → Contains s.impossible [] → all_choices s ≡ [] }
 {}

@@ -4,7 +4,7 @@
 //! Alertmanager has them. [`PreparedMatchers`] decide a list on one label set after another.
 //! [`parse_matchers`] reads a list from a text, and [`parse_set`] a label set. [`brace_len`] says
 //! where the text of a list ends in a question. A [`Row`] is a matcher's truth on each value of its
-//! label in a [`Universe`].
+//! label in a [`Universe`]. A [`Space`] is a universe without its impossible label sets.
 //!
 //! The public names of the crate `am_universe` that callers need are given again here.
 #![tactic(auto)]
@@ -34,6 +34,11 @@ mod prepared_matchers;
 pub use matcher::Matcher;
 pub use matchers::Matchers;
 pub use prepared_matchers::PreparedMatchers;
+
+// A universe, and the lists of matchers that no label set of it matches.
+mod space;
+
+pub use space::Space;
 
 // Their texts.
 mod label_set_text;

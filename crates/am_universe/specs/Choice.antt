@@ -3,7 +3,6 @@
 use Rattle.std.specs.Prelude.{◌≡◌, ℕ, zero, suc, List, [], ◌∷◌, length, map, Bool, true, false}
 use Rattle.std.specs.Prelude.{nat_lt, ◌&&◌, IsTrue}
 use Rattle.std.specs.List.{flat_map, range_with_len}
-use Rattle.am_universe.specs.Universe.{Label, sizes}
 
 -- All whole choices over labels of these sizes, in declared order: as in a dictionary, the first
 -- label weighing most. For no labels there is one, the empty choice. No code forms this list: it is
@@ -13,10 +12,6 @@ use Rattle.am_universe.specs.Universe.{Label, sizes}
 abbrev pub choices : List ℕ → List (List ℕ)
 choices [] = [] ∷ []
 choices (size ∷ sizes) = flat_map (λ p. map (λ c. p ∷ c) (choices sizes)) (range_with_len 0 size)
-
--- All whole choices of a universe, in declared order.
-abbrev pub all_choices : List Label → List (List ℕ)
-all_choices u = choices (sizes u)
 
 -- A choice is no longer than the list of labels, and each position is below its label's size.
 abbrev pub admits : List ℕ → List ℕ → Bool

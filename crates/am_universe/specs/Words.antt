@@ -10,7 +10,7 @@ pub use Rattle.am_universe.specs.Universe.{label_position, values_at, same_value
 pub use Rattle.am_universe.specs.Universe.{name_fault, count_fault, value_fault}
 pub use Rattle.am_universe.specs.Universe.{label_values_fault, label_fault, memory_fault}
 pub use Rattle.am_universe.specs.UniverseView.{label_of, texts_of}
-pub use Rattle.am_universe.specs.Choice.{choices, all_choices, admits, IsWhole}
+pub use Rattle.am_universe.specs.Choice.{choices, admits, IsWhole}
 pub use Rattle.am_universe.specs.Completions.{completions}
 pub use Rattle.am_universe.specs.LabelSet.{LabelMap, value_of, value_at, with_value}
 pub use Rattle.am_universe.specs.LabelSet.{label_set_of, HasTextsAlone}

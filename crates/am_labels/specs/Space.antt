@@ -1,0 +1,39 @@
+-- Spaces: what a universe file declares. Its labels and their values make a product of choices, and
+-- the combinations that it calls impossible are left out of it.
+use Rattle.std.specs.Prelude.{ℕ, List, Bool, not, length, ◌≤◌, IsTrue}
+use Rattle.std.specs.List.{filter, list_any}
+use Rattle.am_universe.specs.Universe.{Label, IsUniverse, sizes}
+use Rattle.am_universe.specs.Choice.{choices, IsWhole}
+use Rattle.am_universe.specs.LabelSet.{LabelMap, label_set_of}
+use Rattle.am_labels.specs.declared.limits.TheConstants.{MAX_IMPOSSIBLE}
+use Rattle.am_labels.specs.Matcher.{Condition, all_hold}
+
+-- The labels with their values, and the lists of matchers that no label set of the space matches.
+pub record Space : Type 0 where
+  pub labels : List Label
+  pub impossible : List (List Condition)
+
+-- The labels are those of a universe, and the lists are not too many.
+pub record IsSpace (s : Space) : Type 0 where
+  pub labels : IsUniverse s.labels
+  pub at_most : length s.impossible ≤ MAX_IMPOSSIBLE
+
+-- No list of those that are impossible matches the label set. The empty list matches every set.
+abbrev pub is_possible : List (List Condition) → LabelMap → Bool
+is_possible impossible set = not (list_any (all_hold set) impossible)
+
+-- The same, on the label set of a choice.
+abbrev pub is_possible_choice : Space → List ℕ → Bool
+is_possible_choice s choice = is_possible s.impossible (label_set_of s.labels choice)
+
+-- All choices of a space, in declared order: the whole choices of its labels without the impossible
+-- ones.
+-- Source: own choice.
+-- Example: let `team` be `db` or `web`, and `severity` be `critical` or `info`, and
+-- `team="web",severity="info"` be impossible. Then they are 0 0, 0 1 and 1 0.
+abbrev pub all_choices : Space → List (List ℕ)
+all_choices s = filter (is_possible_choice s) (choices (sizes s.labels))
+
+-- A whole choice that is possible.
+abbrev pub IsChoiceOf : Space → List ℕ → Type 0
+IsChoiceOf s c = IsWhole (sizes s.labels) c × IsTrue (is_possible_choice s c)
