@@ -21,7 +21,7 @@ use Rattle.am_json.specs.Places.{ArrayPlace, array_itself, in_field, in_item, it
 use Rattle.am_json.specs.Places.{known_member, limit_fault, name_of, object_itself, object_path}
 use Rattle.am_json.specs.Places.{other_field, rank_of, shape_or, text_of}
 use Rattle.am_files.specs.ConfigFile.{Configuration, RouteTree, Rule, SaysConfig}
-use Rattle.am_files.specs.ConfigReading.{optional_items, read_config, read_config_file}
+use Rattle.am_files.specs.ConfigReading.{read_config, read_config_file}
 use Rattle.am_files.specs.ConfigReading.{read_next_receiver, read_receiver_names, read_receivers}
 use Rattle.am_files.specs.ConfigReading.{read_route, read_rule_items, read_rules}
 use Rattle.am_json.specs.Json.{field, items_of}
@@ -48,6 +48,7 @@ use Rattle.am_files.proofs.ConfigRanks.{config_tells}
 use Rattle.am_json.proofs.SameReadings.{items_within}
 use Rattle.am_json.proofs.SequenceLemmas.{Sequence, array_form, items_are_read, items_judged}
 use Rattle.am_json.proofs.SequenceLemmas.{next_form, required_array, required_array_gives}
+use Rattle.am_json.specs.OptionalItems.{optional_items}
 
 -- ---- One receiver.
 

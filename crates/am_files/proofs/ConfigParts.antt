@@ -14,40 +14,35 @@ use Rattle.am_labels.specs.declared.op.Op.{Op}
 use Rattle.am_universe.specs.Text.{same_text}
 use Rattle.am_labels.specs.declared.limits.TheConstants.{MAX_MATCHERS}
 use Rattle.am_labels.specs.Matcher.{Condition}
-use Rattle.am_labels.specs.MatcherText.{Spells}
-use Rattle.am_labels.specs.MatcherReading.{read_list}
 use Rattle.am_labels.specs.MatcherRefusals.{has_valid_pattern, have_valid_patterns}
 use Rattle.am_universe.proofs.DistinctLists.{distinct_none, distinct_push, distinct_pushed}
 use Rattle.am_universe.proofs.DistinctLists.{distinct_front}
-use Rattle.am_labels.proofs.MatcherTextWhole.{list_is_spelled}
 use Rattle.am_files.specs.declared.limits.TheConstants.{MAX_RECEIVERS}
 use Rattle.am_json.specs.Json.{field, is_one_of, items_of}
 use Rattle.am_json.specs.Pointer.{refusal_here, to_field, to_item}
-use Rattle.am_json.specs.Reading.{accept_some, reading_within, refuse_for, check_count, as_text}
+use Rattle.am_json.specs.Reading.{reading_within, refuse_for, check_count, as_text}
 use Rattle.am_json.specs.Reading.{as_object, required_text, required_items, read_each, read_items}
-use Rattle.am_files.specs.ConfigFile.{SaysName, SaysReceiver, SaysMatcherText, HasItems}
+use Rattle.am_files.specs.ConfigFile.{SaysName, SaysReceiver}
 use Rattle.am_records.specs.NamedText.{read_named_text}
 use Rattle.am_files.specs.ConfigFile.{SaysMatcherPair}
 use Rattle.am_files.specs.ConfigReading.{read_next_receiver}
 use Rattle.am_files.specs.ConfigFaults.{receiver_name_fault}
 use Rattle.am_files.specs.ConfigReading.{read_receiver_names, read_receivers, receiver_named}
-use Rattle.am_files.specs.ConfigReading.{effective_receiver, read_receiver, optional_items}
-use Rattle.am_files.specs.ConfigReading.{read_optional_items}
+use Rattle.am_files.specs.ConfigReading.{effective_receiver, read_receiver}
 use Rattle.am_files.specs.ConfigReading.{append_matchers}
-use Rattle.am_files.specs.ConfigReading.{read_matcher_text, read_next_matcher_text}
+use Rattle.am_files.specs.ConfigReading.{read_next_matcher_text}
 use Rattle.am_files.specs.ConfigReading.{read_matcher_pair}
 use Rattle.am_files.specs.ConfigReading.{read_next_pair}
-use Rattle.am_records.specs.MatcherFaults.{check_patterns, pattern_fault}
 use Rattle.am_json.proofs.Readings.{bind_ok, within_ok, refuse_for_ok, check_count_ok}
 use Rattle.am_json.proofs.Readings.{check_count_fits, ok_or_some, same_read}
 use Rattle.am_json.proofs.Items.{AllFit, items_say, items_read}
 use Rattle.am_json.proofs.Fields.{as_text_says, as_text_reads, as_object_says, as_object_reads}
 use Rattle.am_json.proofs.Fields.{required_text_says, required_text_reads, required_items_say}
 use Rattle.am_json.proofs.Fields.{required_items_read}
-use Rattle.am_records.proofs.Matching.{passes_sound}
 use Rattle.am_records.proofs.Matching.{checked_says, checked_reads, same_condition}
 use Rattle.am_records.proofs.NamedTextLemmas.{named_text_reads, named_text_says}
-use Rattle.am_files.proofs.MatcherTexts.{text_gives}
+use Rattle.am_records.proofs.MatcherTexts.{text_gives, text_says}
+use Rattle.am_records.specs.MatcherTexts.{SaysMatcherText, read_matcher_text}
 
 -- ---- The names of receivers.
 
@@ -225,36 +220,6 @@ receiver_reads names parent d r (inr said) =
           refl
     ]
 
--- ---- The items of an array that may be absent.
-
-pub optional_items_say : (key : List ℕ) (d : Data) (found : Option Data) (items : List Data)
-    → field key d ≡ found → (optional_items found).result ≡ Ok items → HasItems key d items
-optional_items_say key d None items is h = inl (is, sym (same_read [] items h))
-optional_items_say key d (Some v) items is h =
-    inr (rw is (ok_or_some (items_of v) (refusal_here kinds.Shape) items h))
-
-some_read : (found : Option Data) (items : List Data) → option_and_then items_of found ≡ Some items
-    → (optional_items found).result ≡ Ok items
-some_read None items h = absurd cc
-some_read (Some v) items h = rw h refl
-
-pub optional_items_read : (key : List ℕ) (d : Data) (items : List Data) → HasItems key d items
-    → (optional_items (field key d)).result ≡ Ok items
-optional_items_read key d items (inl said) = rw (said.0, said.1) refl
-optional_items_read key d items (inr said) = some_read (field key d) items said
-
-pub optional_array_says : (key : List ℕ) (d : Data) (items : List Data)
-    → (read_optional_items key d).result ≡ Ok items → HasItems key d items
-unfolding read_optional_items
-optional_array_says key d items h =
-    optional_items_say key d (field key d) items refl
-    (within_ok (to_field key) ((optional_items (field key d)).result) items h)
-
-pub optional_array_reads : (key : List ℕ) (d : Data) (items : List Data) → HasItems key d items
-    → (read_optional_items key d).result ≡ Ok items
-unfolding read_optional_items
-optional_array_reads key d items said = rw (optional_items_read key d items said) refl
-
 -- ---- Sound patterns.
 
 pub sound_append : (xs ys : List Condition) → IsTrue (have_valid_patterns xs)
@@ -291,31 +256,6 @@ append_reads : (before ms : List Condition) → length before + length ms ≤ MA
     → (append_matchers before ms).result ≡ Ok (before ++ ms)
 append_reads before ms le = rw (check_count_fits MAX_MATCHERS (length before + length ms) le) refl
 
-spelled_says : (part limit : List ℕ) (text : List ℕ) (all : List Condition)
-    → (read_matcher_text part limit text).result ≡ Ok all
-    → Spells text all × IsTrue (have_valid_patterns all)
-unfolding read_matcher_text
-spelled_says part limit text all h =
-    let ms =
-    bind_ok ((reading_within part
-    (accept_some (read_list text) (refusal_here kinds.BadMatcher))).result) _ all h in
-    let few =
-    bind_ok ((reading_within limit (check_count MAX_MATCHERS (length ms.0))).result) _ all
-    ms.2 in
-    let sound = bind_ok ((reading_within part (check_patterns ms.0)).result) _ all few.2 in
-    let is : ms.0 ≡ all = same_read ms.0 all sound.2 in
-    let spells =
-    list_is_spelled text ms.0
-    (ok_or_some (read_list text) (refusal_here kinds.BadMatcher) ms.0
-    (within_ok part ((accept_some (read_list text) (refusal_here kinds.BadMatcher)).result)
-    ms.0 ms.1)) in
-    let fine =
-    passes_sound ms.0 (refuse_for_ok (pattern_fault ms.0) sound.0
-    (within_ok part ((check_patterns ms.0).result) sound.0 sound.1)) in (
-      subst (λ (ns : List Condition). Spells text ns) is spells,
-      subst (λ (ns : List Condition). IsTrue (have_valid_patterns ns)) is fine,
-    )
-
 -- matchers that are said, behind others
 pub record Adds (Says : List Condition → Type 0) (before all : List Condition) : Type 0 where
   pub matchers : List Condition
@@ -351,17 +291,17 @@ adds_more Says before ms next all joins sound rest =
       few = λ le. rest.few few;
     }
 
-text_says : (before : List Condition) (i : ℕ) (d : Data) (all : List Condition)
+next_text_says : (before : List Condition) (i : ℕ) (d : Data) (all : List Condition)
     → (read_next_matcher_text before (i, d)).result ≡ Ok all
     → (ms : List Condition) × SaysMatcherText d ms × Joins before ms all
     × IsTrue (have_valid_patterns ms)
 unfolding read_next_matcher_text
-text_says before i d all h =
+next_text_says before i d all h =
     let text = bind_ok ((reading_within (to_item i) (as_text d)).result) _ all h in
     let ms =
     bind_ok ((read_matcher_text (to_item i) [] text.0).result)
     (λ ns. (append_matchers before ns).result) all text.2 in
-    let said = spelled_says (to_item i) [] text.0 ms.0 ms.1 in (
+    let said = text_says (to_item i) [] text.0 ms.0 ms.1 in (
       ms.0,
       (
         text.0,
@@ -370,7 +310,7 @@ text_says before i d all h =
         said.0,
       ),
       append_says before ms.0 all ms.2,
-      said.1,
+      said.2,
     )
 
 text_reads : (before : List Condition) (i : ℕ) (d : Data) (ms : List Condition)
@@ -426,7 +366,7 @@ texts_say before i (d ∷ ds) all h =
     bind_ok ((read_next_matcher_text before (i, d)).result)
     (λ ns. (read_each read_next_matcher_text ns (enumerate_from (i + 1) ds)).result) all
     h in
-    let one = text_says before i d next.0 next.1 in
+    let one = next_text_says before i d next.0 next.1 in
     let rest = texts_say next.0 (i + 1) ds all next.2 in
     adds_more (SaysTexts (d ∷ ds)) before one.0 next.0 all one.2 one.3
     (adds_that (SaysTexts ds) (λ more. SaysTexts (d ∷ ds) (one.0 ++ more)) next.0 all

@@ -13,7 +13,7 @@ use Rattle.am_files.specs.ConfigFile.{RouteSettings, RouteTree, route, Routes, n
 use Rattle.am_files.specs.ConfigFile.{next_route, Configuration}
 use Rattle.am_files.specs.ConfigFile.{route_matcher_fields, routes_of, matchers_of, route_count}
 use Rattle.am_files.specs.ConfigFile.{routes_count, route_levels, routes_levels, route_fields}
-use Rattle.am_files.specs.ConfigFile.{HasItems, SaysMatchers, SaysReceiver, SaysContinue, SaysRoute}
+use Rattle.am_files.specs.ConfigFile.{SaysMatchers, SaysReceiver, SaysContinue, SaysRoute}
 use Rattle.am_files.specs.ConfigFile.{SaysRoutes, SaysConfig, FileSaysConfig}
 use Rattle.am_files.specs.ConfigReading.{RouteFields, read_receivers, read_route_fields, read_route}
 use Rattle.am_files.specs.ConfigReading.{read_next_child, read_rules, read_config}
@@ -26,9 +26,10 @@ use Rattle.am_json.proofs.Fields.{file_decided}
 use Rattle.am_files.proofs.Routing.{are_read, count_push}
 use Rattle.am_files.proofs.Sound.{is_read, no_level, root_unmatched, route_sound}
 use Rattle.am_files.proofs.ConfigParts.{names_say, names_read, receiver_says, receiver_reads}
-use Rattle.am_files.proofs.ConfigParts.{optional_array_says, optional_array_reads}
 use Rattle.am_files.proofs.MatchersSay.{matchers_say, matchers_read}
 use Rattle.am_files.proofs.RuleSays.{rules_decide}
+use Rattle.am_json.proofs.OptionalArrays.{optional_array_says, optional_array_reads}
+use Rattle.am_json.specs.OptionalItems.{HasItems}
 
 -- ---- The fields of a route.
 

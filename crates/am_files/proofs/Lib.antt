@@ -1,4 +1,3 @@
-pub mod MatcherTexts
 pub mod Positions
 pub mod Routing
 pub mod Sound
@@ -12,7 +11,6 @@ pub mod RuleExample
 pub mod MatcherFaultLemmas
 pub mod PairFaultLemmas
 pub mod SideFaultLemmas
-pub mod OptionalArrays
 pub mod RuleFaultLemmas
 pub mod RouteParts
 pub mod RouteSteps

@@ -14,12 +14,11 @@ use Rattle.am_labels.specs.Matcher.{Condition}
 use Rattle.am_labels.specs.MatcherReading.{read_list}
 use Rattle.am_labels.specs.declared.limits.TheConstants.{MAX_MATCHERS}
 use Rattle.am_files.specs.ConfigFaults.{TextsPlace, array_shape, given_fault}
-use Rattle.am_files.specs.ConfigFaults.{item_matchers}
-use Rattle.am_files.specs.ConfigFaults.{one_text, spelling_fault, text_alone, text_pattern}
+use Rattle.am_files.specs.ConfigFaults.{one_text, text_alone, text_pattern}
 use Rattle.am_files.specs.ConfigFaults.{text_total, texts_fault, texts_given, texts_itself}
 use Rattle.am_files.specs.ConfigFaults.{texts_matcher, texts_path}
 use Rattle.am_files.specs.ConfigReading.{append_matchers, optional_texts}
-use Rattle.am_files.specs.ConfigReading.{read_matcher_text, read_matcher_texts}
+use Rattle.am_files.specs.ConfigReading.{read_matcher_texts}
 use Rattle.am_files.specs.ConfigReading.{read_next_matcher_text, read_texts, refuse_root_matchers}
 use Rattle.am_records.specs.MatcherFaults.{check_patterns, is_profile_pattern, one_pattern_fault}
 use Rattle.am_json.specs.Json.{items_of}
@@ -29,14 +28,15 @@ use Rattle.am_json.specs.Pointer.{refusal_here, to_field, to_item}
 use Rattle.am_json.specs.Reading.{Reading, accept, accept_some, check_count, reading_within}
 use Rattle.am_json.specs.Reading.{refuse_for, ◌>>=◌}
 use Rattle.am_records.proofs.PatternFaultLemmas.{patterns_form, patterns_judge}
+use Rattle.am_records.proofs.TextFaultLemmas.{spelled, spelled_judges, spelled_says}
 use Rattle.am_json.proofs.PlaceLemmas.{Clear, Form, IsPart, Judges, itself_refused, judges_plain}
-use Rattle.am_json.proofs.PlaceLemmas.{one_place, part_judges, refuse_judges, shape_judged}
-use Rattle.am_json.proofs.PlaceLemmas.{some_judged}
+use Rattle.am_json.proofs.PlaceLemmas.{one_place, part_judges, refuse_judges}
 use Rattle.am_json.proofs.PlaceOrder.{lead}
 use Rattle.am_json.proofs.Readings.{bind_ok, same_read, within_ok}
 use Rattle.am_json.proofs.SameReadings.{then_assoc, within_nothing}
 use Rattle.am_json.proofs.SequenceLemmas.{Loop, Sequence, all_judge, all_read, enumerate_loop}
 use Rattle.am_json.proofs.SequenceLemmas.{next_form, pattern_of_next, sequence_form}
+use Rattle.am_records.specs.MatcherTexts.{item_matchers, spelling_fault, read_matcher_text}
 
 -- ---- One text.
 
@@ -72,31 +72,6 @@ texts_sequence = record {
   fault_in = one_text_fault;
   pattern_in = one_text_pattern;
 }
-
--- the list that a text spells
-abbrev spelled : Option (List ℕ) → Reading (List Condition)
-spelled found = accept_some found (refusal_here kinds.Shape) >>= λ t. accept_some (read_list
-    t) (refusal_here kinds.BadMatcher)
-
-spelled_judges : (d : Data)
-    → Judges (one_place (shape_or spelling_fault (find.as_str d))) (spelled (find.as_str d))
-spelled_judges d =
-    shape_judged spelling_fault (find.as_str d)
-    (λ t. accept_some (read_list t) (refusal_here kinds.BadMatcher))
-    (λ t. some_judged kinds.BadMatcher (read_list t))
-
-spelled_says : (d : Data) (ms : List Condition) → (spelled (find.as_str d)).result ≡ Ok ms
-    → item_matchers d ≡ ms
-spelled_says d ms = by_text (find.as_str d) where
-  by_list : (found : Option (List Condition))
-      → (accept_some found (refusal_here kinds.BadMatcher)).result ≡ Ok ms → unwrap_or found [] ≡ ms
-  by_list None h = absurd cc
-  by_list (Some list) h = cc
-
-  by_text : (found : Option (List ℕ)) → (spelled found).result ≡ Ok ms
-      → unwrap_or (option_and_then read_list found) [] ≡ ms
-  by_text None h = absurd cc
-  by_text (Some t) h = by_list (read_list t) h
 
 -- behind the list that a text spells
 abbrev behind_spelled : ℕ → List Condition → List Condition → Reading (List Condition)

@@ -13,16 +13,19 @@ use Rattle.am_labels.specs.MatcherRefusals.{have_valid_patterns}
 use Rattle.am_json.specs.Json.{field, member_list}
 use Rattle.am_json.specs.Pointer.{to_field}
 use Rattle.am_json.specs.Reading.{as_items, as_object, read_each}
-use Rattle.am_files.specs.ConfigFile.{MatcherFields, SaysMatcherText, HasItems, SaysMatcherPair}
+use Rattle.am_files.specs.ConfigFile.{MatcherFields, SaysMatcherPair}
 use Rattle.am_files.specs.ConfigFile.{SaysPairs, SaysMatchers}
-use Rattle.am_files.specs.ConfigReading.{optional_items, refuse_root_matchers, read_matcher_texts}
+use Rattle.am_files.specs.ConfigReading.{refuse_root_matchers, read_matcher_texts}
 use Rattle.am_files.specs.ConfigReading.{read_next_pair, read_texts, read_pairs, optional_texts}
 use Rattle.am_files.specs.ConfigReading.{optional_pairs, read_matchers}
 use Rattle.am_json.proofs.Readings.{bind_ok, within_ok, same_read}
 use Rattle.am_json.proofs.Fields.{as_object_says}
-use Rattle.am_files.proofs.ConfigParts.{optional_items_say, optional_items_read, Adds, adds_none}
+use Rattle.am_files.proofs.ConfigParts.{Adds, adds_none}
 use Rattle.am_files.proofs.ConfigParts.{SaysTexts, texts_say, texts_read, pairs_say, pairs_read}
 use Rattle.am_files.proofs.ConfigParts.{sound_append, sound_apart}
+use Rattle.am_json.proofs.OptionalArrays.{optional_items_say, optional_items_read}
+use Rattle.am_json.specs.OptionalItems.{HasItems, optional_items}
+use Rattle.am_records.specs.MatcherTexts.{SaysMatcherText}
 
 not_root_says : (is_root : Bool) (ms all : List Condition)
     → (refuse_root_matchers is_root ms).result ≡ Ok all → ms ≡ all

@@ -32,7 +32,7 @@ use Rattle.am_files.proofs.RouteParts.{tree_form}
 use Rattle.am_files.proofs.RouteSteps.{children_reading, made_route, read_child, route_children}
 use Rattle.am_files.proofs.RouteSteps.{route_continues, route_matchers_on, route_rest, route_steps}
 use Rattle.am_files.proofs.Routing.{count_push}
-use Rattle.am_files.proofs.OptionalArrays.{optional_array, optional_array_gives}
+use Rattle.am_json.proofs.OptionalArrays.{optional_array, optional_array_gives}
 use Rattle.am_files.proofs.SideFaultLemmas.{side_judges}
 use Rattle.am_json.proofs.SequenceLemmas.{array_form, items_are_read, items_judged, next_form}
 use Rattle.am_json.proofs.SequenceLemmas.{sequence_form, slice_get_at}

@@ -6,16 +6,17 @@ use Rattle.serde_json.specs.Data.{Data}
 use Rattle.am_labels.specs.Matcher.{Condition}
 use Rattle.am_files.specs.ConfigFile.{RouteSettings, RouteTree, route, route_fields}
 use Rattle.am_files.specs.ConfigFile.{route_matcher_fields, routes_count, routes_of}
-use Rattle.am_files.specs.ConfigReading.{RouteFields, effective_receiver, optional_items}
-use Rattle.am_files.specs.ConfigReading.{read_optional_items, read_matchers, read_receiver}
+use Rattle.am_files.specs.ConfigReading.{RouteFields, effective_receiver}
+use Rattle.am_files.specs.ConfigReading.{read_matchers, read_receiver}
 use Rattle.am_files.specs.ConfigReading.{read_route, read_route_fields}
 use Rattle.am_json.specs.Json.{field}
 use Rattle.am_json.specs.Pointer.{to_field}
 use Rattle.am_json.specs.Reading.{Reading, accept, check_count, check_only_fields, boolean_or}
 use Rattle.am_json.specs.Reading.{read_boolean_or, read_items, reading_within, ◌>>=◌}
 use Rattle.am_files.specs.declared.limits.TheConstants.{MAX_ROUTES}
-use Rattle.am_files.proofs.OptionalArrays.{optional_within_then}
+use Rattle.am_json.proofs.OptionalArrays.{optional_within_then}
 use Rattle.am_json.proofs.SameReadings.{then_assoc}
+use Rattle.am_json.specs.OptionalItems.{optional_items, read_optional_items}
 
 -- ---- Reading a route, step by step.
 

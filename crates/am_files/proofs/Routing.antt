@@ -14,11 +14,12 @@ use Rattle.am_json.specs.Reading.{IsRefusalOrMemory, Fails}
 use Rattle.am_files.specs.ConfigFile.{RouteTree, route, routes_of, route_count, routes_count}
 use Rattle.am_files.specs.ConfigFile.{route_fields, route_matcher_fields}
 use Rattle.am_files.specs.ConfigReading.{RouteFields, read_receiver, read_matchers}
-use Rattle.am_files.specs.ConfigReading.{read_optional_items, read_route_fields, read_route}
+use Rattle.am_files.specs.ConfigReading.{read_route_fields, read_route}
 use Rattle.am_files.specs.ConfigReading.{read_next_child}
 use Rattle.am_json.proofs.Readings.{Leads, leads-refl, leads_on, fails_led, fails_first}
 use Rattle.am_json.proofs.Readings.{fails_refused, bind_ok, check_count_ok, same_read}
 use Rattle.am_json.proofs.Fields.{only_fields_say}
+use Rattle.am_json.specs.OptionalItems.{read_optional_items}
 
 abbrev children_of : List (List ℕ) → ℕ → ℕ → RouteFields → Reading (List RouteTree)
 children_of names left before fields =

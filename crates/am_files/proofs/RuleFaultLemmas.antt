@@ -7,15 +7,15 @@ use Rattle.serde_json.specs.Find as find
 use Rattle.am_universe.specs.declared.kind.Kind.{Kind}
 use Rattle.am_labels.specs.Matcher.{Condition}
 use Rattle.am_files.specs.ConfigFaults.{RuleField, RulePlace, SidePlace, equal_name_fault}
-use Rattle.am_files.specs.ConfigFaults.{optional_array_fault, rule_equal, rule_fault_at}
+use Rattle.am_files.specs.ConfigFaults.{rule_equal, rule_fault_at}
 use Rattle.am_files.specs.ConfigFaults.{rule_field_fault, rule_field_path, rule_matcher, rule_path}
 use Rattle.am_files.specs.ConfigFaults.{rule_source, rule_target, side_equalities, side_path}
 use Rattle.am_files.specs.ConfigFaults.{side_patterns, side_texts}
 use Rattle.am_files.specs.ConfigFile.{MatcherFields, Rule, rule_fields, source_matcher_fields}
 use Rattle.am_files.specs.ConfigFile.{target_matcher_fields}
-use Rattle.am_files.specs.ConfigReading.{optional_items, read_equal, read_equal_name}
+use Rattle.am_files.specs.ConfigReading.{read_equal, read_equal_name}
 use Rattle.am_files.specs.ConfigReading.{read_equal_names, read_matchers, read_next_equal_name}
-use Rattle.am_files.specs.ConfigReading.{read_next_rule, read_optional_items, read_rule}
+use Rattle.am_files.specs.ConfigReading.{read_next_rule, read_rule}
 use Rattle.am_files.specs.ConfigReading.{read_rule_items, read_rules}
 use Rattle.am_json.specs.Json.{field}
 use Rattle.am_json.specs.Places.{ArrayPlace, OnlyPlace, Step, array_fault, array_itself, in_field}
@@ -34,8 +34,9 @@ use Rattle.am_json.proofs.PlaceOrder.{lead}
 use Rattle.am_json.proofs.SequenceLemmas.{Sequence, array_form, items_judged, no_item_pattern}
 use Rattle.am_json.proofs.SequenceLemmas.{pattern_of_next, valued_judged, valued_seen}
 use Rattle.am_json.proofs.SequenceLemmas.{valued_sequence}
-use Rattle.am_files.proofs.OptionalArrays.{optional_array, optional_within}
+use Rattle.am_json.proofs.OptionalArrays.{optional_array, optional_within}
 use Rattle.am_files.proofs.SideFaultLemmas.{IsSide, side_judges}
+use Rattle.am_json.specs.OptionalItems.{optional_array_fault, optional_items, read_optional_items}
 
 -- ---- The names in `equal`.
 

@@ -1,74 +1,22 @@
 -- Inhibition rules: a value says one exactly where reading it finds no fault, and then that rule.
-use Rattle.std.proofs.Common.{◌≡◌, ℕ, ◌≤◌, List, [], length, false, Ok, refl, subst}
+use Rattle.std.proofs.Common.{◌≡◌, ℕ, List, false, Ok, refl, subst}
 use Rattle.std.specs.Prelude.{codes}
-use Rattle.std.specs.List.{AllZip}
 use Rattle.serde_json.specs.Data.{Data}
-use Rattle.am_json.specs.Pointer.{to_field}
-use Rattle.am_json.specs.Reading.{Reading, ◌>>=◌, reading_within, refuse_for, check_count, as_text}
-use Rattle.am_json.specs.Reading.{check_only_fields, read_items}
+use Rattle.am_json.specs.Reading.{refuse_for, as_text}
+use Rattle.am_json.specs.Reading.{check_only_fields}
 use Rattle.am_records.specs.MatcherFaults.{label_name_fault}
 use Rattle.am_files.specs.declared.limits.TheConstants.{MAX_RULES, MAX_EQUAL_NAMES}
 use Rattle.am_files.specs.ConfigFile.{Rule, rule_fields, source_matcher_fields}
-use Rattle.am_files.specs.ConfigFile.{target_matcher_fields, HasItems, SaysEqualName, SaysRule}
-use Rattle.am_files.specs.ConfigReading.{read_optional_items, read_matchers, read_equal_name}
+use Rattle.am_files.specs.ConfigFile.{target_matcher_fields, SaysEqualName, SaysRule}
+use Rattle.am_files.specs.ConfigReading.{read_matchers, read_equal_name}
 use Rattle.am_files.specs.ConfigReading.{read_equal_names, read_equal, read_rule, read_rule_items}
 use Rattle.am_files.specs.ConfigReading.{read_rules}
-use Rattle.am_json.proofs.Readings.{bind_ok, within_ok, refuse_for_ok, check_count_ok}
-use Rattle.am_json.proofs.Readings.{check_count_fits, same_read, Decides}
-use Rattle.am_json.proofs.Items.{each_says, each_reads}
+use Rattle.am_json.proofs.Readings.{bind_ok, refuse_for_ok}
+use Rattle.am_json.proofs.Readings.{same_read, Decides}
 use Rattle.am_json.proofs.Fields.{as_text_says, as_text_reads, only_fields_say, only_fields_read}
 use Rattle.am_records.proofs.Matching.{named_passes, name_is_some}
-use Rattle.am_files.proofs.ConfigParts.{optional_array_says, optional_array_reads}
 use Rattle.am_files.proofs.MatchersSay.{matchers_say, matchers_read}
-
--- ---- An array that may be absent, whose items are read each by itself.
-
--- its items are at most so many, and each says something
-pub record SaysEach {A : Type 0} (Says : Data → A → Type 0) (key : List ℕ) (limit : ℕ) (d : Data)
-    (xs : List A) : Type 0 where
-  pub items : List Data
-  pub is_array : HasItems key d items
-  pub few : length items ≤ limit
-  pub each : AllZip Says items xs
-
-module _ {A : Type 0} (Says : Data → A → Type 0) (read : Data → Reading A) (decides : (d : Data)
-    → Decides (Says d) ((read d).result)) (key : List ℕ) (limit : ℕ) where
-  abbrev read_counted : List Data → Reading (List A)
-  read_counted items =
-      check_count limit (length items) >>= λ _. read_items (λ before d. read d) [] items
-
-  abbrev read_array : Data → Reading (List A)
-  read_array d =
-      read_optional_items key d >>= λ items. reading_within (to_field key) (read_counted items)
-
-  array_says : (d : Data) (xs : List A) → (read_array d).result ≡ Ok xs
-      → SaysEach Says key limit d xs
-  array_says d xs h =
-      let items =
-      bind_ok ((read_optional_items key d).result)
-      (λ ds. (reading_within (to_field key) (read_counted ds)).result) xs h in
-      let counted =
-      bind_ok ((check_count limit (length items.0)).result)
-      (λ _. (read_items (λ before e. read e) [] items.0).result) xs
-      (within_ok (to_field key) ((read_counted items.0).result) xs items.2) in
-      record {
-        items = items.0;
-        is_array = optional_array_says key d items.0 items.1;
-        few = check_count_ok limit (length items.0) counted.0 counted.1;
-        each = each_says Says read decides items.0 xs counted.2;
-      }
-
-  array_reads : (d : Data) (xs : List A) → SaysEach Says key limit d xs
-      → (read_array d).result ≡ Ok xs
-  array_reads d xs said =
-      rw (
-        optional_array_reads key d said.items said.is_array,
-        check_count_fits limit (length said.items) said.few,
-        each_reads Says read decides said.items xs said.each,
-      ) refl
-
-  array_decides : (d : Data) → Decides (SaysEach Says key limit d) ((read_array d).result)
-  array_decides d = record { says = array_says d; reads = array_reads d }
+use Rattle.am_json.proofs.OptionalArrays.{SaysEach, array_decides}
 
 -- ---- The names of labels.
 

@@ -16,11 +16,12 @@ use Rattle.am_json.specs.Reading.{check_only_fields, read_boolean_or}
 use Rattle.am_files.specs.ConfigFile.{FileSaysConfig}
 use Rattle.am_files.specs.ConfigReading.{read_config, read_receivers, read_receiver_names}
 use Rattle.am_files.specs.ConfigReading.{read_next_receiver, read_route, read_route_fields}
-use Rattle.am_files.specs.ConfigReading.{read_receiver, read_matchers, read_optional_items}
+use Rattle.am_files.specs.ConfigReading.{read_receiver, read_matchers}
 use Rattle.am_files.specs.ConfigReading.{read_rules, read_rule_items}
 use Rattle.am_files.specs.SmallestConfig.{smallest_config_file, smallest_config}
 use Rattle.am_json.proofs.Values.{json_of_text}
 use Rattle.am_files.proofs.ConfigSays.{config_says}
+use Rattle.am_json.specs.OptionalItems.{read_optional_items}
 
 abbrev value : Data
 value = object (member (codes "receivers")

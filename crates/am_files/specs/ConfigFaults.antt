@@ -2,9 +2,9 @@
 -- value alone. (Alertmanager configuration reference 0.25; the order and the limits are this
 -- project's own.)
 use Rattle.std.specs.Prelude.{◌⊎◌, ◌+◌, ◌&&◌, ℕ, zero, suc, pred, List, [], ◌∷◌, ◌++◌, length, map}
-use Rattle.std.specs.Prelude.{take, sum_by, slice_get, Bool, true, false, not, nat_lt, is_some}
+use Rattle.std.specs.Prelude.{take, sum_by, slice_get, Bool, true, false, not, nat_lt}
 use Rattle.std.specs.Prelude.{if◌then◌else◌, Option, Some, None, option_map, option_and_then}
-use Rattle.std.specs.Prelude.{unwrap_or, codes}
+use Rattle.std.specs.Prelude.{codes}
 use Rattle.std.specs.List.{flat_map}
 use Rattle.serde_json.specs.Data.{Data}
 use Rattle.serde_json.specs.Find.{as_object, as_str}
@@ -14,7 +14,6 @@ use Rattle.am_labels.specs.declared.op.Op.{Op}
 use Rattle.am_labels.specs.declared.op.Op.TheVariants.{Equal, Matches}
 use Rattle.am_labels.specs.declared.limits.TheConstants.{MAX_MATCHERS}
 use Rattle.am_labels.specs.Matcher.{Condition}
-use Rattle.am_labels.specs.MatcherReading.{read_list}
 use Rattle.am_json.specs.Json.{field, is_one_of, items_of}
 use Rattle.am_json.specs.Pointer.{Refusal}
 use Rattle.am_json.specs.Places.{Step, known_member, array_item, turn, IsFirstFault}
@@ -26,7 +25,9 @@ use Rattle.am_json.specs.Places.{items_in_field, items_path, array_fault, requir
 use Rattle.am_json.specs.Places.{OnlyPlace, only_path, in_item, field_pairs, pair_name}
 use Rattle.am_files.specs.ConfigFile.{MatcherFields, route_fields, rule_fields}
 use Rattle.am_files.specs.ConfigFile.{source_matcher_fields, target_matcher_fields}
+use Rattle.am_json.specs.OptionalItems.{optional_array_fault}
 use Rattle.am_records.specs.MatcherFaults.{label_name_fault, one_pattern_fault, is_profile_pattern}
+use Rattle.am_records.specs.MatcherTexts.{item_matchers, spelling_fault}
 use Rattle.am_files.specs.declared.limits.TheConstants.{MAX_RECEIVERS, MAX_ROUTES, MAX_LEVELS}
 use Rattle.am_files.specs.declared.limits.TheConstants.{MAX_RULES, MAX_EQUAL_NAMES}
 
@@ -88,22 +89,13 @@ texts_path (text_pattern i j) = turn 0 ∷ turn i ∷ array_item 2 i ∷ turn j 
 texts_path (text_total i) = turn 0 ∷ turn i ∷ turn 3 ∷ []
 texts_path texts_given = turn 1 ∷ []
 
--- The matchers that a value spells, and none where it spells no list.
-abbrev pub item_matchers : Data → List Condition
-item_matchers d = unwrap_or (option_and_then read_list (as_str d)) []
-
--- Those of all items of the array in a field.
+-- The matchers of all items of the array in a field.
 abbrev pub field_matchers : Option Data → List Condition
 field_matchers found = flat_map item_matchers (items_in_field found)
 
 -- One matcher of one item, by their positions.
 abbrev pub text_matcher : List Data → ℕ → ℕ → Option Condition
 text_matcher items i j = option_and_then (λ d. slice_get (item_matchers d) j) (slice_get items i)
-
--- What is wrong with a text: it spells no list of matchers. By a law of `am_labels`, `read_list`
--- gives the one list that a text `Spells`, and none where there is none.
-abbrev pub spelling_fault : List ℕ → Option Kind
-spelling_fault text = if is_some (read_list text) then None else Some kinds.BadMatcher
 
 -- What is wrong with what a field gives: the top-level route may have no matchers.
 abbrev pub given_fault : {A : Type 0} → Bool → List A → Option Kind
@@ -362,11 +354,6 @@ RulePlace = ObjectPlace RuleField
 
 abbrev pub rule_path : Option Data → RulePlace → List Step
 rule_path found place = object_path (rule_field_path found) place
-
--- What is wrong with an array that may be absent: it is none, or has too many items.
-abbrev pub optional_array_fault : ℕ → Option Data → Option Kind
-optional_array_fault limit found =
-    if_there (λ d. shape_or (λ items. limit_fault limit (length items)) (items_of d)) found
 
 -- What is wrong with an item of `equal`: it is no text, or it is empty.
 abbrev pub equal_name_fault : Data → Option Kind

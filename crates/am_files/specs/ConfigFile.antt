@@ -8,15 +8,16 @@ use Rattle.serde_json.specs.Data.{Data, string, object, Members}
 use Rattle.am_universe.specs.Text.{same_text}
 use Rattle.am_labels.specs.declared.limits.TheConstants.{MAX_MATCHERS}
 use Rattle.am_labels.specs.Matcher.{Condition}
-use Rattle.am_labels.specs.MatcherText.{Spells}
 use Rattle.am_labels.specs.MatcherRefusals.{have_valid_patterns}
 use Rattle.am_labels.specs.declared.op.Op.{Op}
 use Rattle.am_labels.specs.declared.op.Op.TheVariants.{Equal, Matches}
 use Rattle.am_json.specs.declared.limits.TheConstants.{MAX_FILE_BYTES}
 use Rattle.am_records.specs.NamedText.{SaysNamedText}
+use Rattle.am_records.specs.MatcherTexts.{SaysMatcherText}
 use Rattle.am_files.specs.declared.limits.TheConstants.{MAX_RECEIVERS, MAX_ROUTES, MAX_LEVELS}
 use Rattle.am_files.specs.declared.limits.TheConstants.{MAX_RULES, MAX_EQUAL_NAMES}
 use Rattle.am_json.specs.Json.{json_of, field, items_of, member_list, SaysBooleanOr, HasOnlyFields}
+use Rattle.am_json.specs.OptionalItems.{HasItems}
 
 -- ---- Configurations.
 
@@ -186,19 +187,6 @@ pub record InheritsReceiver (parent : Option ℕ) (d : Data) (receiver : ℕ) : 
 abbrev pub SaysReceiver : List (List ℕ) → Option ℕ → Data → ℕ → Type 0
 SaysReceiver names parent d receiver =
     NamesReceiver names d receiver ⊎ InheritsReceiver parent d receiver
-
--- A text in `matchers` says the matchers that it spells.
--- Source: Alertmanager configuration reference 0.25, "<matcher>".
--- Example: the text `{team=db, severity!="info"}` says two matchers, `team="db"` and
--- `severity!="info"`; the text `team` says no list, and neither does the number 1.
-abbrev pub SaysMatcherText : Data → List Condition → Type 0
-SaysMatcherText d matchers = (text : List ℕ) × (d ≡ string text) × Spells text matchers
-
--- A field has an array with these items; where the field is absent, there are none.
-abbrev pub HasItems : List ℕ → Data → List Data → Type 0
-HasItems key d items =
-    ((field key d ≡ None) × (items ≡ []))
-    ⊎ (option_and_then items_of (field key d) ≡ Some items)
 
 -- A member of an object says a matcher with this operator.
 abbrev pub SaysMatcherPair : Op → List ℕ × Data → Condition → Type 0

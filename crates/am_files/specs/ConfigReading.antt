@@ -7,18 +7,17 @@ use Rattle.std.specs.Prelude.{position, codes}
 use Rattle.std.specs.Result.{result_err}
 use Rattle.std.specs.List.{enumerate_from}
 use Rattle.serde_json.specs.Data.{Data}
-use Rattle.am_universe.specs.declared.kind.Kind.{Kind}
 use Rattle.am_universe.specs.declared.kind.Kind.TheVariants as kinds
 use Rattle.am_labels.specs.declared.op.Op.{Op}
 use Rattle.am_labels.specs.declared.op.Op.TheVariants.{Equal, Matches}
 use Rattle.am_universe.specs.Text.{same_text}
 use Rattle.am_labels.specs.declared.limits.TheConstants.{MAX_MATCHERS}
 use Rattle.am_labels.specs.Matcher.{Condition}
-use Rattle.am_labels.specs.MatcherReading.{read_list}
 use Rattle.am_files.specs.declared.limits.TheConstants.{MAX_RECEIVERS, MAX_ROUTES, MAX_LEVELS}
 use Rattle.am_files.specs.declared.limits.TheConstants.{MAX_RULES, MAX_EQUAL_NAMES}
 use Rattle.am_json.specs.Json.{field, member_list}
-use Rattle.am_json.specs.Pointer.{Refusal, refusal_here, refusal_within, to_field, to_item}
+use Rattle.am_json.specs.OptionalItems.{read_optional_items}
+use Rattle.am_json.specs.Pointer.{Refusal, refusal_here, to_field, to_item}
 use Rattle.am_json.specs.Reading.{Reading, ◌>>=◌, accept, accept_some, refuse, reading_within}
 use Rattle.am_json.specs.Reading.{refuse_for, check_count, as_object, as_text, as_items}
 use Rattle.am_json.specs.Reading.{check_only_fields, required_field, required_text, required_items}
@@ -28,7 +27,8 @@ use Rattle.am_files.specs.ConfigFile.{route_matcher_fields, routes_of, routes_co
 use Rattle.am_files.specs.ConfigFile.{Rule, rule_fields, source_matcher_fields}
 use Rattle.am_files.specs.ConfigFile.{target_matcher_fields}
 use Rattle.am_json.specs.Places.{is_empty}
-use Rattle.am_records.specs.MatcherFaults.{label_name_fault, check_patterns, check_matcher}
+use Rattle.am_records.specs.MatcherFaults.{label_name_fault, check_matcher}
+use Rattle.am_records.specs.MatcherTexts.{read_matcher_text}
 use Rattle.am_records.specs.NamedText.{read_named_text}
 use Rattle.am_files.specs.ConfigFaults.{receiver_name_fault, given_fault}
 
@@ -82,14 +82,6 @@ read_receiver names parent d =
     reading_within (to_field (codes "receiver"))
     (effective_receiver names parent (field (codes "receiver") d))
 
--- The items of an array that may be absent, and those of the array in a field that may be absent.
-abbrev pub optional_items : Option Data → Reading (List Data)
-optional_items None = accept []
-optional_items (Some d) = as_items d
-
-unfoldable pub read_optional_items : List ℕ → Data → Reading (List Data)
-read_optional_items key d = reading_within (to_field key) (optional_items (field key d))
-
 -- ---- Matchers.
 
 -- Matchers behind others, of which there are not more than 64 together.
@@ -97,22 +89,8 @@ abbrev pub append_matchers : List Condition → List Condition → Reading (List
 append_matchers before ms =
     check_count MAX_MATCHERS (length before + length ms) >>= λ _. accept (before ++ ms)
 
--- The matchers of the text at this part of what is looked at. That one text has too many is refused
--- at a part that the caller names.
-unfoldable pub read_matcher_text : List ℕ → List ℕ → List ℕ → Reading (List Condition)
-read_matcher_text part limit_part text = do
-  ms ← reading_within part (accept_some (read_list text) (refusal_here kinds.BadMatcher))
-  _ ← reading_within limit_part (check_count MAX_MATCHERS (length ms))
-  _ ← reading_within part (check_patterns ms)
-  accept ms
-
--- The refusal of that text, by its kind.
-abbrev pub text_refusal : List ℕ → List ℕ → Kind → Refusal
-text_refusal part limit_part kinds.Limit = refusal_within limit_part (refusal_here kinds.Limit)
-text_refusal part limit_part kind = refusal_within part (refusal_here kind)
-
--- The same of an item, with its position, behind the matchers of others; there the limit is refused
--- at the array.
+-- The matchers of the text of an item, with its position, behind the matchers of others; there the
+-- limit is refused at the array.
 unfoldable pub read_next_matcher_text : List Condition → ℕ × Data → Reading (List Condition)
 read_next_matcher_text before item = do
   text ← reading_within (to_item item.0) (as_text item.1)

@@ -15,9 +15,8 @@ unfoldable pub use Rattle.am_files.specs.ConfigReading.{read_next_receiver, read
 unfoldable pub use Rattle.am_files.specs.ConfigReading.{read_receivers, read_receiver}
 pub use Rattle.am_files.specs.ConfigReading.{parent_receiver, receiver_position}
 pub use Rattle.am_files.specs.ConfigReading.{effective_receiver}
-unfoldable pub use Rattle.am_files.specs.ConfigReading.{read_optional_items}
-unfoldable pub use Rattle.am_files.specs.ConfigReading.{read_matcher_text, read_next_matcher_text}
-pub use Rattle.am_files.specs.ConfigReading.{read_matcher_texts, text_refusal, append_matchers}
+unfoldable pub use Rattle.am_files.specs.ConfigReading.{read_next_matcher_text}
+pub use Rattle.am_files.specs.ConfigReading.{read_matcher_texts, append_matchers}
 unfoldable pub use Rattle.am_files.specs.ConfigReading.{read_matcher_pair}
 unfoldable pub use Rattle.am_files.specs.ConfigReading.{read_next_pair, read_texts, read_pairs}
 pub use Rattle.am_files.specs.ConfigReading.{refuse_root_matchers}

@@ -12,7 +12,7 @@ ghost use Rattle.am_files.specs.Words.{route_count, routes_count, routes_of, rou
 ghost use Rattle.am_files.specs.Words.{config_view, fields_view, read_next_receiver};
 ghost use Rattle.am_files.specs.Words.{read_receiver_names, read_receivers, parent_receiver};
 ghost use Rattle.am_files.specs.Words.{receiver_position, effective_receiver, read_receiver};
-ghost use Rattle.am_files.specs.Words.{read_optional_items, read_matchers, read_route_fields};
+ghost use Rattle.am_files.specs.Words.{read_matchers, read_route_fields};
 ghost use Rattle.am_files.specs.Words.{read_route, source_matcher_fields, target_matcher_fields};
 ghost use Rattle.am_files.specs.Words.{rule_fields, read_equal_name, read_next_equal_name};
 ghost use Rattle.am_files.specs.Words.{read_equal_names, read_equal};
@@ -26,8 +26,8 @@ use crate::route::Route;
 use crate::route_matchers::{MatcherFields, read_matchers};
 use crate::rule::Rule;
 use am_json::{
-    ReadError, as_items, as_object, as_text, check_count, check_only_fields, field,
-    read_boolean_or, read_json, refuse_for, required_field, required_items, required_text,
+    ReadError, as_object, as_text, check_count, check_only_fields, field, read_boolean_or,
+    read_json, read_optional_items, refuse_for, required_field, required_items, required_text,
     within_field, within_item,
 };
 use am_labels::{Fault, Kind, Matchers, Place};
@@ -319,22 +319,6 @@ fn read_routes(
         after = next;
     }
     Ok((routes, after))
-}
-
-/// The items of the array in a field that may be absent.
-#[tactic(auto, unfolding(crate::specs::ConfigReading::read_optional_items))]
-fn read_optional_items<'v>(
-    alloc: Global,
-    value: &'v Value,
-    key: &str,
-) -> Result<&'v [Value], ReadError>
-    ensures { Gives (λ items. map view items.now) result
-        (read_optional_items key.now (view value.now)) }
-{
-    match field(value, key) {
-        None => Ok(&[]),
-        Some(found) => within_field(alloc, key, as_items(alloc, found)),
-    }
 }
 
 /// The receiver of a route: its own, or that of its parent where it names none.

@@ -5,9 +5,10 @@ ghost use Rattle.am_universe.specs.declared.kind.Kind.TheVariants as kinds;
 ghost use Rattle.am_json.specs.declared.read_error.ReadError.TheVariants as errors;
 ghost use Rattle.serde_json.specs.View.{view, members_view};
 ghost use Rattle.am_json.specs.Words.{to_item, member_list, Gives, IsRefusalOrMemory, read_each};
+ghost use Rattle.am_records.specs.Words.{read_matcher_text, text_refusal};
 ghost use Rattle.am_files.specs.Words.{matcher_fields_view, read_matchers, optional_texts};
 ghost use Rattle.am_files.specs.Words.{read_texts, read_matcher_texts, read_next_matcher_text};
-ghost use Rattle.am_files.specs.Words.{read_matcher_text, text_refusal, append_matchers};
+ghost use Rattle.am_files.specs.Words.{append_matchers};
 ghost use Rattle.am_files.specs.Words.{optional_pairs, read_pairs, read_next_pair};
 ghost use Rattle.am_files.specs.Words.{read_matcher_pair, refuse_root_matchers};
 

@@ -9,5 +9,6 @@ pub mod SameReadings
 pub mod PlaceLemmas
 pub mod SequenceLemmas
 pub mod FieldLemmas
+pub mod OptionalArrays
 pub mod ObjectLemmas
 pub mod FileLemmas

@@ -3,3 +3,4 @@ pub mod Json
 pub mod Pointer
 pub mod Places
 pub mod Reading
+pub mod OptionalItems

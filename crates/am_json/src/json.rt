@@ -7,7 +7,7 @@ ghost use Rattle.am_json.specs.Words.{json_of, field, is_one_of, is_unknown, unk
 ghost use Rattle.am_json.specs.Words.{refusal_here, Gives, accept_some, refuse_for, check_count};
 ghost use Rattle.am_json.specs.Words.{as_object, as_text, as_items, check_only_fields};
 ghost use Rattle.am_json.specs.Words.{required_field, required_text, required_items};
-ghost use Rattle.am_json.specs.Words.{boolean_or, read_boolean_or, read_json};
+ghost use Rattle.am_json.specs.Words.{read_optional_items, boolean_or, read_boolean_or, read_json};
 
 use crate::limits::MAX_FILE_BYTES;
 use crate::pointer::within_field;
@@ -194,6 +194,24 @@ pub fn required_items<'v>(
 {
     let found = required_field(alloc, value, key)?;
     within_field(alloc, key, as_items(alloc, found))
+}
+
+/// The items of the array in the field of this name, and none where it is absent, as [`field`]
+/// says. The only refusal is `Shape`, at the field: it is there, and no array. Memory may run out
+/// for its pointer.
+#[tactic(auto, unfolding(crate::specs::OptionalItems::read_optional_items))]
+pub fn read_optional_items<'v>(
+    alloc: Global,
+    value: &'v Value,
+    key: &str,
+) -> Result<&'v [Value], ReadError>
+    ensures reading { Gives (λ items. map view items.now) result
+        (read_optional_items key.now (view value.now)) }
+{
+    match field(value, key) {
+        None => Ok(&[]),
+        Some(found) => within_field(alloc, key, as_items(alloc, found)),
+    }
 }
 
 /// The truth value in the field of this name, and `default` where it is absent, as [`field`] says.

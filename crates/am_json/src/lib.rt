@@ -26,7 +26,7 @@ mod json;
 
 pub use json::{
     as_items, as_object, as_text, check_count, check_only_fields, field, read_boolean_or,
-    read_json, refuse_for, required_field, required_items, required_text,
+    read_json, read_optional_items, refuse_for, required_field, required_items, required_text,
 };
 
 // What holds of the definitions by themselves.

@@ -1,9 +1,11 @@
 pub mod UniverseSays
 pub mod Matching
+pub mod MatcherTexts
 pub mod SilencesSays
 pub mod SilencesExample
 pub mod UniverseFaultLemmas
 pub mod PatternFaultLemmas
+pub mod TextFaultLemmas
 pub mod SilenceMatcherFaultLemmas
 pub mod SilencesFaultLemmas
 pub mod NamedTextLemmas

@@ -1,6 +1,7 @@
 -- The first fault of the patterns of matchers, and the patterns of the profile that are met.
 use Rattle.std.proofs.Common.{Bool, Equal, Greater, Less, List, None, Option, Ordering, Some, []}
-use Rattle.std.proofs.Common.{ap, append-nil, arith, false, inl, inr, refl, slice_get, suc, true}
+use Rattle.std.proofs.Common.{ap, append-nil, arith, false, inl, inr, option_and_then, refl}
+use Rattle.std.proofs.Common.{slice_get, suc, true}
 use Rattle.std.proofs.Common.{zero, ℕ, ◌&&◌, ◌++◌, ◌<◌, ◌∷◌, ◌≡◌}
 use Rattle.std.proofs.lemmas.Cmp.{ranked}
 use Rattle.std.specs.Ordering.{MatchOrdering, nat_cmp, ordering_then}
@@ -10,11 +11,15 @@ use Rattle.am_universe.specs.declared.kind.Kind.TheVariants as kinds
 use Rattle.am_labels.specs.Matcher.{Condition, takes_pattern}
 use Rattle.am_labels.specs.MatcherRefusals.{has_valid_pattern, pattern_refusal}
 use Rattle.am_labels.specs.PatternCut.{in_profile}
-use Rattle.am_json.specs.Places.{IsBefore, IsMetPattern, OnlyPlace, if_there, only_path, turn}
+use Rattle.serde_json.specs.Data.{Data}
+use Rattle.am_json.specs.Places.{IsBefore, IsMetPattern, OnlyPlace, Step, if_there, only_path}
+use Rattle.am_json.specs.Places.{turn}
 use Rattle.am_json.specs.Pointer.{Refusal, refusal_here}
 use Rattle.am_json.specs.Reading.{IsPatternRefusal, accept, patterns_then, refuse_for, ◌>>=◌}
+use Rattle.am_json.proofs.FieldLemmas.{items_sequence}
 use Rattle.am_json.proofs.PlaceLemmas.{Form, Judges, Tells, one_place, one_refused}
 use Rattle.am_json.proofs.PlaceOrder.{none_before_itself}
+use Rattle.am_json.proofs.SequenceLemmas.{pattern_of_next}
 use Rattle.am_records.specs.MatcherFaults.{check_patterns, is_profile_pattern, one_pattern_fault}
 use Rattle.am_records.specs.MatcherFaults.{pattern_fault, profile_patterns}
 
@@ -182,3 +187,16 @@ matcher_judged m = record {
         pointer = ap (λ (q : Refusal). q.pointer) found.2;
         none_before = λ before b. absurd (none_before_itself [] b);
       }
+
+-- ---- Patterns in the items of an array.
+
+abbrev pub pattern_at : {Q : Type 0} → (Data → Q → Option Condition) → Data → Q → Bool
+pattern_at matcher_at item place = is_profile_pattern (matcher_at item place)
+
+-- the matcher of an item, if there is one, has the pattern
+pub item_pattern : {Q : Type 0} (path : Q → List Step) (fault_in : List Data → Data → Q → Option Kind)
+    (matcher_at : Data → Q → Option Condition) (item : Option Data) (place : Q)
+    → is_profile_pattern (option_and_then (λ d. matcher_at d place) item)
+    ≡ pattern_of_next (items_sequence path fault_in (pattern_at matcher_at)) item place
+item_pattern path fault_in matcher_at None place = refl
+item_pattern path fault_in matcher_at (Some d) place = refl

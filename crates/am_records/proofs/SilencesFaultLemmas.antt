@@ -1,5 +1,5 @@
 -- The fault that reading silences meets first is the first by its places.
-use Rattle.std.proofs.Common.{Bool, Err, List, None, Ok, Option, Some, [], arith, codes, length}
+use Rattle.std.proofs.Common.{Err, List, None, Ok, Option, [], arith, codes, length}
 use Rattle.std.proofs.Common.{option_and_then, refl, slice_get, suc, unwrap_or, zero, ℕ}
 use Rattle.std.proofs.Common.{ℤ, ◌<◌, ◌↔◌, ◌∷◌, ◌≡◌, ◌⊎◌}
 use Rattle.std.specs.Prelude.{⊤}
@@ -10,7 +10,7 @@ use Rattle.am_universe.specs.declared.kind.Kind.TheVariants as kinds
 use Rattle.am_labels.specs.Matcher.{Condition}
 use Rattle.am_records.specs.Instant.{instant_of}
 use Rattle.am_json.specs.Json.{field, items_of}
-use Rattle.am_json.specs.Places.{ArrayPlace, OnlyPlace, Step, array_itself}
+use Rattle.am_json.specs.Places.{ArrayPlace, OnlyPlace, array_itself}
 use Rattle.am_json.specs.Places.{array_path, in_field, in_item, items_in_field, known_member}
 use Rattle.am_json.specs.Places.{object_itself, other_field, rank_of, shape_or}
 use Rattle.am_json.specs.Places.{text_of}
@@ -46,22 +46,10 @@ use Rattle.am_json.proofs.PlaceOrder.{lead}
 use Rattle.am_json.proofs.Readings.{Decides}
 use Rattle.am_json.proofs.SameReadings.{items_within_then, text_read_within}
 use Rattle.am_json.proofs.SequenceLemmas.{Sequence, array_form, items_judged, or_null_judged}
-use Rattle.am_json.proofs.SequenceLemmas.{pattern_of_next, required_array}
+use Rattle.am_json.proofs.SequenceLemmas.{required_array}
+use Rattle.am_records.proofs.PatternFaultLemmas.{item_pattern, pattern_at}
 use Rattle.am_records.proofs.SilenceMatcherFaultLemmas.{silence_matcher_judged}
 use Rattle.am_records.proofs.SilenceMatcherFaultLemmas.{silence_matcher_tells}
-
--- ---- Patterns in the items of an array.
-
-abbrev pattern_at : {Q : Type 0} → (Data → Q → Option Condition) → Data → Q → Bool
-pattern_at matcher_at item place = is_profile_pattern (matcher_at item place)
-
--- the matcher of an item, if there is one, has the pattern
-item_pattern : {Q : Type 0} (path : Q → List Step) (fault_in : List Data → Data → Q → Option Kind)
-    (matcher_at : Data → Q → Option Condition) (item : Option Data) (place : Q)
-    → is_profile_pattern (option_and_then (λ d. matcher_at d place) item)
-    ≡ pattern_of_next (items_sequence path fault_in (pattern_at matcher_at)) item place
-item_pattern path fault_in matcher_at None place = refl
-item_pattern path fault_in matcher_at (Some d) place = refl
 
 -- ---- The matchers of a silence.
 

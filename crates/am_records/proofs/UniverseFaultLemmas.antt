@@ -1,45 +1,61 @@
 -- The fault that reading a universe file meets first is the first by its places.
 use Rattle.std.proofs.Common.{Bool, Err, List, None, Ok, Option, Some, [], ap, arith, codes, false}
-use Rattle.std.proofs.Common.{length, map, option_and_then, refl, subst, suc, sym, true}
-use Rattle.std.proofs.Common.{unwrap_or, zero, ℕ, ◌++◌, ◌<◌, ◌||◌, ◌↔◌, ◌∙◌, ◌∷◌, ◌≡◌}
+use Rattle.std.proofs.Common.{length, map, option_and_then, refl, slice_get, subst, suc, sym}
+use Rattle.std.proofs.Common.{unwrap_or, zero, ℕ, ◌++◌, ◌<◌, ◌||◌, ◌↔◌, ◌∙◌, ◌∷◌, ◌≡◌, ◌⊎◌}
 use Rattle.std.proofs.lemmas.List.{map_push}
 use Rattle.std.specs.List.{list_any}
-use Rattle.std.specs.Prelude.{if◌then◌else◌, not}
+use Rattle.std.specs.Prelude.{if◌then◌else◌, not, ⊤}
 use Rattle.serde_json.specs.Data.{Data, array, boolean, null, number, object, string}
 use Rattle.serde_json.specs.Find.{as_str}
+use Rattle.serde_json.specs.Find as find
 use Rattle.am_universe.specs.Text.{same_text}
 use Rattle.am_universe.specs.Universe.{Label, Values, count_fault, is_label_name}
 use Rattle.am_universe.specs.Universe.{name_fault, names, value_fault}
 use Rattle.am_universe.specs.declared.kind.Kind.{Kind}
 use Rattle.am_universe.specs.declared.kind.Kind.TheVariants as kinds
 use Rattle.am_universe.specs.declared.limits.TheConstants.{MAX_LABELS}
+use Rattle.am_labels.specs.Matcher.{Condition}
+use Rattle.am_labels.specs.Space.{Space}
+use Rattle.am_labels.specs.declared.limits.TheConstants.{MAX_IMPOSSIBLE}
 use Rattle.am_json.specs.Json.{field, items_of}
-use Rattle.am_json.specs.Places.{ArrayPlace, OnlyPlace, array_path}
-use Rattle.am_json.specs.Places.{items_in_field, known_member, limit_fault, only_path, rank_of}
-use Rattle.am_json.specs.Places.{shape_or, text_of}
+use Rattle.am_json.specs.OptionalItems.{optional_array_fault, optional_items, read_optional_items}
+use Rattle.am_json.specs.Places.{ArrayPlace, OnlyPlace, array_itself, array_path, in_field, in_item}
+use Rattle.am_json.specs.Places.{items_in_field, known_member, limit_fault, object_itself, only_path}
+use Rattle.am_json.specs.Places.{other_field, rank_of, shape_or, text_of}
 use Rattle.am_json.specs.Pointer.{Refusal, refusal_here, to_field}
 use Rattle.am_json.specs.Reading.{IsPatternRefusal, MayRefuse, Reading, accept, accept_some}
 use Rattle.am_json.specs.Reading.{read_items, reading_within, refuse_for, required_items}
 use Rattle.am_json.specs.Reading.{required_text, ◌>>=◌}
+use Rattle.am_records.specs.MatcherFaults.{is_profile_pattern}
 use Rattle.am_records.specs.UniverseFaults.{IsFirstFaultOfUniverse, IsFirstFaultOfUniverseFile}
-use Rattle.am_records.specs.UniverseFaults.{LabelField, LabelPlace, UniverseField, UniversePlace}
-use Rattle.am_records.specs.UniverseFaults.{file_labels, label_fault_at, label_field_fault}
+use Rattle.am_records.specs.UniverseFaults.{IsMetPatternOfUniverse, UniverseFileRefusedFor}
+use Rattle.am_records.specs.UniverseFaults.{LabelField, LabelPlace, ListPlace, UniverseField}
+use Rattle.am_records.specs.UniverseFaults.{UniversePlace, file_impossible, file_labels}
+use Rattle.am_records.specs.UniverseFaults.{has_universe_pattern, label_fault_at, label_field_fault}
 use Rattle.am_records.specs.UniverseFaults.{label_field_path, label_name, label_path, label_values}
-use Rattle.am_records.specs.UniverseFaults.{named_label, universe_fault_at, universe_field_fault}
-use Rattle.am_records.specs.UniverseFaults.{universe_field_path, universe_path, value_fault_at}
+use Rattle.am_records.specs.UniverseFaults.{list_fault_at, list_path, named_label, pattern_in_list}
+use Rattle.am_records.specs.UniverseFaults.{pattern_in_universe, universe_fault_at}
+use Rattle.am_records.specs.UniverseFaults.{universe_field_fault, universe_field_path}
+use Rattle.am_records.specs.UniverseFaults.{universe_path, value_fault_at}
 use Rattle.am_records.specs.UniverseFile.{SaysUniverse, SaysValue, file_fields, label_fields}
-use Rattle.am_records.specs.UniverseFile.{read_labels, read_next_label, read_next_value}
+use Rattle.am_records.specs.UniverseFile.{read_all_labels, read_all_lists, read_labels, read_lists}
+use Rattle.am_records.specs.UniverseFile.{read_next_impossible, read_next_label, read_next_value}
 use Rattle.am_records.specs.UniverseFile.{read_universe, read_universe_file, read_values}
 use Rattle.am_json.proofs.FieldLemmas.{items_form, items_seen, items_sequence, text_field_judges}
-use Rattle.am_json.proofs.FileLemmas.{bytes_decide, first_refused}
-use Rattle.am_json.proofs.ObjectLemmas.{array_tells, closed_judged, no_open_pattern, object_tells}
-use Rattle.am_json.proofs.ObjectLemmas.{only_tells, open_pattern}
+use Rattle.am_json.proofs.FileLemmas.{bytes_decide, bytes_refused}
+use Rattle.am_json.proofs.ObjectLemmas.{array_tells, closed_form, closed_judged, no_open_pattern}
+use Rattle.am_json.proofs.ObjectLemmas.{object_tells, only_tells, open_pattern}
+use Rattle.am_json.proofs.OptionalArrays.{optional_array, optional_within}
 use Rattle.am_json.proofs.PlaceLemmas.{Clear, Form, IsPart, Judges, RanksTell, cause_judges}
 use Rattle.am_json.proofs.PlaceLemmas.{first_decides, judges_plain, none_decides, one_place}
-use Rattle.am_json.proofs.PlaceLemmas.{one_refused, part_judges, said}
+use Rattle.am_json.proofs.PlaceLemmas.{one_refused, part_judges, refused_reached, said, said_of}
+use Rattle.am_json.proofs.PlaceLemmas.{same_judged}
 use Rattle.am_json.proofs.PlaceOrder.{lead}
-use Rattle.am_json.proofs.SameReadings.{items_within, items_within_then, then_accept}
-use Rattle.am_json.proofs.SequenceLemmas.{Sequence, items_judged, next_form, required_array}
+use Rattle.am_json.proofs.SameReadings.{items_within, items_within_then}
+use Rattle.am_json.proofs.SequenceLemmas.{Sequence, array_form, items_judged, next_form}
+use Rattle.am_json.proofs.SequenceLemmas.{required_array}
+use Rattle.am_records.proofs.PatternFaultLemmas.{item_pattern, pattern_at}
+use Rattle.am_records.proofs.TextFaultLemmas.{list_judged, list_tells}
 use Rattle.am_records.proofs.UniverseSays.{label_says, universe_decides, value_says}
 
 -- ---- A value.
@@ -242,7 +258,43 @@ labels_judge found =
     (λ ds d _ u _ are. labels_judged ds u d are)
     (λ ds d u label are is. labels_go_on ds u d label are is))
 
+-- ---- The lists that are impossible.
+
+abbrev list_fault_in : List Data → Data → ListPlace → Option Kind
+list_fault_in before item at = list_fault_at item at
+
+abbrev lists_sequence : Sequence Data ListPlace
+lists_sequence = items_sequence list_path list_fault_in (pattern_at pattern_in_list)
+
+abbrev lists_form : Option Data → Form (ArrayPlace ListPlace)
+lists_form found =
+    array_form lists_sequence (optional_array_fault MAX_IMPOSSIBLE found) (items_in_field found)
+
+lists_judge : (found : Option Data)
+    → Judges (lists_form found) (optional_items found >>= read_lists)
+unfolding read_lists
+lists_judge found =
+    optional_array (λ items. limit_fault MAX_IMPOSSIBLE (length items))
+    (read_items read_next_impossible []) lists_sequence found refl
+    (items_judged read_next_impossible lists_sequence (λ i. refl) (λ _ _. ⊤) tt
+    (items_in_field found) (λ _ d _ _ _ _. list_judged d) (λ _ _ _ _ _ _. tt))
+
 -- ---- The file.
+
+labels_within : (d : Data)
+    → read_all_labels d
+    ≡ reading_within (to_field (codes "labels"))
+    (accept_some (option_and_then items_of (field (codes "labels") d)) (refusal_here kinds.Shape)
+    >>= read_labels)
+unfolding read_all_labels
+labels_within d = items_within (codes "labels") read_labels d
+
+lists_within : (d : Data)
+    → read_all_lists d
+    ≡ reading_within (to_field (codes "impossible"))
+    (optional_items (field (codes "impossible") d) >>= read_lists)
+unfolding read_all_lists read_optional_items
+lists_within d = optional_within (codes "impossible") read_lists (field (codes "impossible") d)
 
 module _ (d : Data) where
   abbrev file_form : Form UniverseField
@@ -250,15 +302,24 @@ module _ (d : Data) where
     path =
         universe_field_path;
     fault_at = universe_field_fault d;
-    has_pattern = λ _. false;
+    has_pattern = λ place. is_profile_pattern (pattern_in_universe d (in_field place));
   }
 
   abbrev labels_field : Option Data
   labels_field = field (codes "labels") d
 
+  abbrev lists_field : Option Data
+  lists_field = field (codes "impossible") d
+
   labels_cover : (place : UniverseField) → lead (rank_of (universe_field_path place)) ≡ 2
       → (inner : ArrayPlace LabelPlace) × (place ≡ file_labels inner)
   labels_cover (file_labels place) e = (place, refl)
+  labels_cover (file_impossible place) e = absurd (omega (arith, e))
+
+  lists_cover : (place : UniverseField) → lead (rank_of (universe_field_path place)) ≡ 3
+      → (inner : ArrayPlace ListPlace) × (place ≡ file_impossible inner)
+  lists_cover (file_labels place) e = absurd (omega (arith, e))
+  lists_cover (file_impossible place) e = (place, refl)
 
   labels_part : IsPart file_form 1 (known_member 1 (codes "labels")) (labels_form labels_field)
       file_labels
@@ -269,44 +330,81 @@ module _ (d : Data) where
     covers = labels_cover;
   }
 
+  lists_seen : (place : ArrayPlace ListPlace)
+      → said_of file_form (file_impossible place)
+      ≡ said (known_member 2 (codes "impossible") ∷ (lists_form lists_field).path place)
+      ((lists_form lists_field).fault_at place) ((lists_form lists_field).has_pattern place)
+  lists_seen array_itself = refl
+  lists_seen (in_item i place) = λ j. (
+    universe_field_path (file_impossible (in_item i place)),
+    universe_field_fault d (file_impossible (in_item i place)),
+    item_pattern list_path list_fault_in pattern_in_list
+        (slice_get (items_in_field lists_field) i) place j,
+  )
+
+  lists_part : IsPart file_form 2 (known_member 2 (codes "impossible")) (lists_form lists_field)
+      file_impossible
+  lists_part = record { rank = refl; seen = lists_seen; covers = lists_cover }
+
   nothing_yet : Clear file_form 2
   nothing_yet (file_labels place) lt = absurd (omega (arith, lt))
+  nothing_yet (file_impossible place) lt = absurd (omega (arith, lt))
 
-  universe_clear : Clear file_form 3 → (place : UniverseField) → universe_field_fault d place ≡ None
+  universe_clear : Clear file_form 4 → (place : UniverseField) → universe_field_fault d place ≡ None
   universe_clear clear (file_labels place) = clear (file_labels place) (omega arith)
+  universe_clear clear (file_impossible place) = clear (file_impossible place) (omega arith)
 
-  abbrev labels_reading : Reading (List Label)
-  labels_reading = accept_some (option_and_then items_of labels_field) (refusal_here
-      kinds.Shape) >>= read_labels
+  abbrev made_space : List Label → List (List Condition) → Space
+  made_space labels impossible = record { labels = labels; impossible = impossible }
 
-  file_fields_judge : Judges file_form
-      (required_items (codes "labels") d
-      >>= λ items. reading_within (to_field (codes "labels")) (read_labels items))
+  -- behind the labels
+  abbrev lists_then : List Label → Reading Space
+  lists_then labels = read_all_lists d >>= λ impossible. accept (made_space labels impossible)
+
+  lists_then_judge : (labels : List Label) → Clear file_form 3
+      → Judges file_form (lists_then labels)
+  lists_then_judge labels clear =
+      rw (lists_within d)
+      (part_judges file_form 2 (known_member 2 (codes "impossible")) (lists_form lists_field)
+      file_impossible lists_part clear (optional_items lists_field >>= read_lists)
+      (λ impossible. accept (made_space labels impossible)) (lists_judge lists_field)
+      (λ impossible _ last.
+      judges_plain file_form (Ok (made_space labels impossible)) (universe_clear last)))
+
+  file_fields_judge : Judges file_form (read_all_labels d >>= lists_then)
   file_fields_judge =
-      let judged = part_judges file_form 1 (known_member 1 (codes "labels"))
-      (labels_form labels_field) file_labels labels_part nothing_yet
-      labels_reading (λ u. accept u) (labels_judge labels_field)
-      (λ u is last. judges_plain file_form (Ok u) (universe_clear last)) in
-      rw (items_within (codes "labels") read_labels d)
-      (subst (Judges file_form)
-      (then_accept (reading_within (to_field (codes "labels")) labels_reading)) judged)
+      rw (labels_within d)
+      (part_judges file_form 1 (known_member 1 (codes "labels")) (labels_form labels_field)
+      file_labels labels_part nothing_yet
+      (accept_some (option_and_then items_of labels_field) (refusal_here kinds.Shape)
+      >>= read_labels) lists_then (labels_judge labels_field)
+      (λ labels _ next. lists_then_judge labels next))
+
+  abbrev universe_form : Form UniversePlace
+  universe_form = record {
+    path = universe_path;
+    fault_at = universe_fault_at d;
+    has_pattern = has_universe_pattern d;
+  }
+
+  same_in_file : (place : UniversePlace)
+      → said_of universe_form place
+      ≡ said_of (closed_form file_fields (find.as_object d) file_form) place
+  same_in_file object_itself = refl
+  same_in_file (other_field key) = refl
+  same_in_file (in_field place) = refl
 
 in_file : (place : UniverseField) → 1 < lead (rank_of (universe_field_path place))
 in_file (file_labels place) = omega arith
-
-abbrev universe_form : Data → Form UniversePlace
-universe_form d = record {
-  path =
-      universe_path;
-  fault_at = universe_fault_at d;
-  has_pattern = open_pattern (λ _. false);
-}
+in_file (file_impossible place) = omega arith
 
 universe_judged : (d : Data) → Judges (universe_form d) (read_universe d)
 unfolding read_universe
-universe_judged d = closed_judged file_fields (file_form d) in_file (required_items (codes "labels")
-    d >>= λ items. reading_within (to_field (codes "labels")) (read_labels items))
-    (file_fields_judge d) d
+universe_judged d =
+    same_judged (universe_form d) (closed_form file_fields (find.as_object d) (file_form d))
+    (same_in_file d) (read_universe d)
+    (closed_judged file_fields (file_form d) in_file (read_all_labels d >>= lists_then d)
+    (file_fields_judge d) d)
 
 -- ---- Ranks tell places.
 
@@ -325,18 +423,23 @@ label_tells = (label_place_at values.0, is) where
   is label_name = refl
   is (label_values place) = ap label_values (values.1 place)
 
-abbrev universe_place_at : (List ℕ → ArrayPlace LabelPlace) → List ℕ → UniverseField
-universe_place_at place_at [] = file_labels (place_at [])
-universe_place_at place_at (n ∷ rank) = file_labels (place_at rank)
+labels_tell : RanksTell (array_path label_path)
+labels_tell = array_tells label_path (object_tells label_field_path in_label label_tells)
+
+lists_tell : RanksTell (array_path list_path)
+lists_tell = array_tells list_path list_tells
+
+abbrev universe_place_at : List ℕ → UniverseField
+universe_place_at (suc (suc n) ∷ rank) = file_impossible (lists_tell.0 rank)
+universe_place_at (suc zero ∷ rank) = file_labels (labels_tell.0 rank)
+universe_place_at _ = file_labels (labels_tell.0 [])
 
 universe_tells : RanksTell universe_field_path
-universe_tells = (universe_place_at labels.0, is) where
-  labels : RanksTell (array_path label_path)
-  labels = array_tells label_path (object_tells label_field_path in_label label_tells)
-
+universe_tells = (universe_place_at, is) where
   is : (place : UniverseField)
-      → universe_place_at labels.0 (rank_of (universe_field_path place)) ≡ place
-  is (file_labels place) = ap file_labels (labels.1 place)
+      → universe_place_at (rank_of (universe_field_path place)) ≡ place
+  is (file_labels place) = ap file_labels (labels_tell.1 place)
+  is (file_impossible place) = ap file_impossible (lists_tell.1 place)
 
 -- ---- The laws.
 
@@ -346,32 +449,32 @@ universe_first d r = let judged = universe_judged d in
     first_decides (universe_form d) (object_tells universe_field_path in_file universe_tells)
     (read_universe d).result judged.tells r
 
--- no pattern is met in a universe file
-universe_meets_none : (d : Data) (r : Refusal) → IsPatternRefusal (read_universe d).patterns r → ⊥
-universe_meets_none d r h =
-    let judged = universe_judged d in
-    let met = judged.meets r h in
-    let no : true ≡ false = sym met.stands.0 ∙ no_open_pattern met.place in
-    cc
+universe_met : (d : Data) (r : Refusal) → IsPatternRefusal (read_universe d).patterns r
+    → IsMetPatternOfUniverse d r
+universe_met d r h = let judged = universe_judged d in judged.meets r h
+
+pub universe_refused : (d : Data) (r : Refusal) → MayRefuse (read_universe d) r
+    → IsFirstFaultOfUniverse d r ⊎ IsMetPatternOfUniverse d r
+universe_refused d r refused =
+    refused_reached (universe_form d) (read_universe d) (universe_judged d) r refused
 
 pub universe_file_first : (bytes : List ℕ) (r : Refusal)
     → ((read_universe_file bytes).result ≡ Err r) ↔ IsFirstFaultOfUniverseFile bytes r
 unfolding read_universe_file
 universe_file_first bytes r =
-    bytes_decide IsFirstFaultOfUniverse (λ _ _. ⊥) read_universe universe_first universe_meets_none
-    bytes r
+    bytes_decide IsFirstFaultOfUniverse IsMetPatternOfUniverse read_universe universe_first
+    universe_met bytes r
 
--- so what is refused of a file is its first fault
 pub universe_file_refused : (bytes : List ℕ) (r : Refusal) → MayRefuse (read_universe_file bytes) r
-    → IsFirstFaultOfUniverseFile bytes r
+    → UniverseFileRefusedFor bytes r
 unfolding read_universe_file
 universe_file_refused bytes r refused =
-    first_refused IsFirstFaultOfUniverse read_universe universe_first universe_meets_none bytes r
-    refused
+    bytes_refused IsFirstFaultOfUniverse IsMetPatternOfUniverse read_universe universe_first
+    universe_met bytes r refused
 
--- a value says a universe where no place is at fault, and only there
+-- a value says a space where no place is at fault, and only there
 pub universe_sound : (d : Data)
-    → ((u : List Label) × SaysUniverse d u)
+    → ((s : Space) × SaysUniverse d s)
     ↔ ((place : UniversePlace) → universe_fault_at d place ≡ None)
 universe_sound d =
     let judged = universe_judged d in

@@ -1,8 +1,9 @@
--- A value says a universe exactly where reading it finds no fault, and then that universe.
+-- A value says a space exactly where reading it finds no fault, and then that space.
 use Rattle.std.proofs.Common.{◌≡◌, ℕ, ◌<◌, ◌≤◌, List, [], ◌∷◌, ◌++◌, length, Bool, true, false}
-use Rattle.std.proofs.Common.{cond, Option, Some, None, Ok, nat_le, refl, sym, ap}
+use Rattle.std.proofs.Common.{cond, Option, Some, None, option_and_then, Result, Ok, Err, nat_le, refl}
+use Rattle.std.proofs.Common.{sym, ap}
 use Rattle.std.proofs.Common.{subst, ◌∙◌, append_assoc, append-nil, length-append, arith}
-use Rattle.std.specs.Prelude.{codes}
+use Rattle.std.specs.Prelude.{codes, IfOk}
 use Rattle.std.specs.List.{AllZip, IsDistinct}
 use Rattle.std.proofs.lemmas.List.{map-append}
 use Rattle.std.proofs.lemmas.Slice.Zip.{AllZip-long}
@@ -21,21 +22,32 @@ use Rattle.am_universe.proofs.DistinctLists.{all_front, distinct_front}
 use Rattle.am_universe.proofs.UniverseLemmas.{IsUniverse-empty}
 use Rattle.am_universe.proofs.LabelFaultLemmas.{no_first, nothing_at, added_is_universe}
 use Rattle.am_universe.proofs.LabelFaultLemmas.{universe_was_added}
+use Rattle.am_labels.specs.declared.limits.TheConstants.{MAX_IMPOSSIBLE}
+use Rattle.am_labels.specs.Matcher.{Condition}
+use Rattle.am_labels.specs.Space.{Space}
+use Rattle.am_json.specs.Json.{field, items_of}
 use Rattle.am_json.specs.Pointer.{to_field, to_item}
-use Rattle.am_json.specs.Reading.{◌>>=◌, accept, reading_within, refuse_for, check_count}
+use Rattle.am_json.specs.declared.read_error.ReadError.{ReadError}
+use Rattle.am_json.specs.Reading.{Reading, ◌>>=◌, Gives, accept, reading_within, refuse_for}
+use Rattle.am_json.specs.Reading.{check_count}
 use Rattle.am_json.specs.Reading.{read_items, as_text, check_only_fields, required_text}
 use Rattle.am_json.specs.Reading.{required_items}
+use Rattle.am_records.specs.MatcherTexts.{read_matcher_text}
 use Rattle.am_records.specs.UniverseFile.{file_fields, label_fields, SaysValue, SaysLabel}
-use Rattle.am_records.specs.UniverseFile.{SaysUniverse, read_value, read_next_value, read_values}
-use Rattle.am_records.specs.UniverseFile.{read_next_label, read_labels, read_universe}
-use Rattle.am_records.specs.UniverseFile.{read_universe_file, FileSaysUniverse}
-use Rattle.am_json.proofs.Readings.{bind_ok, within_ok, refuse_for_ok, check_count_ok}
+use Rattle.am_records.specs.UniverseFile.{SaysImpossible, SaysUniverse, FileSaysUniverse}
+use Rattle.am_records.specs.UniverseFile.{read_value, read_next_value, read_values}
+use Rattle.am_records.specs.UniverseFile.{read_next_label, read_labels, read_all_labels}
+use Rattle.am_records.specs.UniverseFile.{read_impossible, read_lists, read_all_lists}
+use Rattle.am_records.specs.UniverseFile.{read_universe, read_universe_file}
+use Rattle.am_json.proofs.Readings.{bind_ok, within_ok, fails_first, refuse_for_ok, check_count_ok}
 use Rattle.am_json.proofs.Readings.{check_count_fits, same_read, Decides}
 use Rattle.am_json.proofs.Items.{AllFit, items_say, items_read}
-use Rattle.am_json.proofs.Fields.{as_text_says, only_fields_say, only_fields_read}
+use Rattle.am_json.proofs.Fields.{as_text_says, as_text_reads, only_fields_say, only_fields_read}
 use Rattle.am_json.proofs.Fields.{required_text_says, required_text_reads}
 use Rattle.am_json.proofs.Fields.{required_items_say, required_items_read}
 use Rattle.am_json.proofs.Fields.{file_decided}
+use Rattle.am_json.proofs.OptionalArrays.{SaysEach, array_decides}
+use Rattle.am_records.proofs.MatcherTexts.{text_gives, text_says}
 
 -- ---- A value.
 
@@ -43,9 +55,9 @@ use Rattle.am_json.proofs.Fields.{file_decided}
 abbrev ValueFits : Values → Option (List ℕ) → Type 0
 ValueFits before value = value_fault before value ≡ None
 
-text_says : (d : Data) (value : Option (List ℕ))
+some_text_says : (d : Data) (value : Option (List ℕ))
     → (as_text d >>= λ text. accept (Some text)).result ≡ Ok value → SaysValue d value
-text_says d value h =
+some_text_says d value h =
     let text = bind_ok ((as_text d).result) (λ t. Ok (Some t)) value h in
     subst (λ (v : Option (List ℕ)). SaysValue d v) (same_read (Some text.0) value text.2)
     (as_text_says d text.0 text.1)
@@ -54,11 +66,11 @@ read_value_says : (d : Data) (value : Option (List ℕ)) → (read_value d).resu
     → SaysValue d value
 read_value_says null None h = refl
 read_value_says null (Some t) h = absurd cc
-read_value_says (boolean b) value h = text_says (boolean b) value h
-read_value_says (number n) value h = text_says (number n) value h
-read_value_says (string s) value h = text_says (string s) value h
-read_value_says (array ds) value h = text_says (array ds) value h
-read_value_says (object ms) value h = text_says (object ms) value h
+read_value_says (boolean b) value h = some_text_says (boolean b) value h
+read_value_says (number n) value h = some_text_says (number n) value h
+read_value_says (string s) value h = some_text_says (string s) value h
+read_value_says (array ds) value h = some_text_says (array ds) value h
+read_value_says (object ms) value h = some_text_says (object ms) value h
 
 read_value_reads : (d : Data) (value : Option (List ℕ)) → SaysValue d value
     → (read_value d).result ≡ Ok value
@@ -254,13 +266,17 @@ grown before (label ∷ more) is fits few =
     subst IsUniverse (append_assoc before (label ∷ []) more)
     (grown (before ++ label ∷ []) more next fits.1 few_next)
 
--- ---- The file.
+-- an array of labels, which are a universe
+record SaysLabels (d : Data) (u : List Label) : Type 0 where
+  pub items : List Data
+  pub is_array : option_and_then items_of (field (codes "labels") d) ≡ Some items
+  pub labels : AllZip SaysLabel items u
+  pub is_universe : IsUniverse u
 
-pub universe_says : (d : Data) (u : List Label) → (read_universe d).result ≡ Ok u → SaysUniverse d u
-unfolding read_universe read_labels
-universe_says d u h =
-    let only = bind_ok ((check_only_fields file_fields d).result) _ u h in
-    let items = bind_ok ((required_items (codes "labels") d).result) _ u only.2 in
+labels_say : (d : Data) (u : List Label) → (read_all_labels d).result ≡ Ok u → SaysLabels d u
+unfolding read_all_labels read_labels
+labels_say d u h =
+    let items = bind_ok ((required_items (codes "labels") d).result) _ u h in
     let labels = within_ok (to_field (codes "labels")) ((read_labels items.0).result) u items.2 in
     let few =
     bind_ok ((check_count MAX_LABELS (length items.0)).result)
@@ -275,27 +291,98 @@ universe_says d u h =
       AllZip-long SaysLabel items.0 u said,
     ) in
     record {
-      only = only_fields_say file_fields d only.0 only.1;
       items = items.0;
       is_array = required_items_say (codes "labels") d items.0 items.1;
       labels = said;
       is_universe = grown [] u IsUniverse-empty fits count;
     }
 
-pub universe_reads : (d : Data) (u : List Label) → SaysUniverse d u
-    → (read_universe d).result ≡ Ok u
-unfolding read_universe read_labels
-universe_reads d u said =
+labels_read : (d : Data) (u : List Label) → SaysLabels d u → (read_all_labels d).result ≡ Ok u
+unfolding read_all_labels read_labels
+labels_read d u said =
     let count : length said.items ≤ MAX_LABELS =
     omega (arith, said.is_universe.at_most, AllZip-long SaysLabel said.items u said.labels) in
     let all =
     items_read SaysLabel LabelFits read_next_label label_reads [] said.items u said.labels
     (universe_fits [] u said.is_universe) in
     rw (
-      only_fields_read file_fields d said.only,
       required_items_read (codes "labels") d said.items said.is_array,
       check_count_fits MAX_LABELS (length said.items) count,
       all,
+    ) refl
+
+-- ---- The lists that are impossible.
+
+list_says : (d : Data) (ms : List Condition) → (read_impossible d).result ≡ Ok ms
+    → SaysImpossible d ms
+unfolding read_impossible
+list_says d ms h =
+    let text = bind_ok ((as_text d).result) (λ t. (read_matcher_text [] [] t).result) ms h in
+    let said = text_says [] [] text.0 ms text.2 in
+    record {
+      text = (text.0, as_text_says d text.0 text.1, said.0);
+      few = said.1;
+      valid_patterns = said.2;
+    }
+
+list_reads : (d : Data) (ms : List Condition) → SaysImpossible d ms
+    → (read_impossible d).result ≡ Ok ms
+unfolding read_impossible
+list_reads d ms said =
+    rw (
+      as_text_reads d said.text.0 said.text.1,
+      text_gives [] [] said.text.0 ms said.text.2 said.few said.valid_patterns,
+    ) refl
+
+lists_decide : (d : Data)
+    → Decides (SaysEach SaysImpossible (codes "impossible") MAX_IMPOSSIBLE d)
+    ((read_all_lists d).result)
+unfolding read_all_lists read_lists
+lists_decide d =
+    array_decides SaysImpossible read_impossible
+    (λ e. record { says = list_says e; reads = list_reads e }) (codes "impossible") MAX_IMPOSSIBLE d
+
+-- ---- The file.
+
+pub universe_says : (d : Data) (s : Space) → (read_universe d).result ≡ Ok s → SaysUniverse d s
+unfolding read_universe
+universe_says d s h =
+    let only = bind_ok ((check_only_fields file_fields d).result) _ s h in
+    let labels = bind_ok ((read_all_labels d).result) _ s only.2 in
+    let lists = bind_ok ((read_all_lists d).result) _ s labels.2 in
+    let said = labels_say d labels.0 labels.1 in
+    let listed = (lists_decide d).says lists.0 lists.1 in
+    subst (λ (found : Space). SaysUniverse d found) (same_read _ s lists.2) (record {
+      only = only_fields_say file_fields d only.0 only.1;
+      items = said.items;
+      is_array = said.is_array;
+      labels = said.labels;
+      is_universe = said.is_universe;
+      texts = listed.items;
+      has_texts = listed.is_array;
+      few = listed.few;
+      impossible = listed.each;
+    })
+
+pub universe_reads : (d : Data) (s : Space) → SaysUniverse d s → (read_universe d).result ≡ Ok s
+unfolding read_universe
+universe_reads d s said =
+    let labels : SaysLabels d s.labels = record {
+      items = said.items;
+      is_array = said.is_array;
+      labels = said.labels;
+      is_universe = said.is_universe;
+    } in
+    let lists : SaysEach SaysImpossible (codes "impossible") MAX_IMPOSSIBLE d s.impossible = record {
+      items = said.texts;
+      is_array = said.has_texts;
+      few = said.few;
+      each = said.impossible;
+    } in
+    rw (
+      only_fields_read file_fields d said.only,
+      labels_read d s.labels labels,
+      (lists_decide d).reads s.impossible lists,
     ) refl
 
 pub universe_decides : (d : Data) → Decides (SaysUniverse d) ((read_universe d).result)
@@ -305,3 +392,16 @@ pub file_decides : (bytes : List ℕ)
     → Decides (FileSaysUniverse bytes) ((read_universe_file bytes).result)
 unfolding read_universe_file
 file_decides bytes = file_decided SaysUniverse read_universe universe_decides bytes
+
+-- ---- What a reader gives.
+
+-- a space with these labels, whose lists are those that were read
+pub space_gives : (labels : List Label) (returned : Result Space ReadError)
+    (m : Reading (List (List Condition))) → Gives (λ (s : Space). s.impossible) returned m
+    → IfOk returned (λ s. s.labels ≡ labels)
+    → Gives (λ s. s) returned
+    (m >>= λ impossible. accept (record { labels = labels; impossible = impossible }))
+space_gives labels (Ok s) m gives is = rw (gives, ← is) refl
+space_gives labels (Err e) m gives is =
+    fails_first e m (λ impossible. accept (record { labels = labels; impossible = impossible }))
+    gives

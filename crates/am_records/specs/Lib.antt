@@ -2,6 +2,7 @@ pub mod Words
 pub mod UniverseFile
 pub mod UniverseFaults
 pub mod MatcherFaults
+pub mod MatcherTexts
 pub mod NamedText
 pub mod Instant
 pub mod SilencesFile

@@ -1,29 +1,35 @@
--- The universe file: which JSON value says which universe, and reading one with its first fault.
+-- The universe file: which JSON value says which space, and reading one with its first fault.
 -- (This project's own form.)
 use Rattle.std.specs.Prelude.{◌≡◌, ◌≤◌, ℕ, List, [], ◌∷◌, length, if◌then◌else◌, Option, Some, None}
-use Rattle.std.specs.Prelude.{option_and_then, codes}
+use Rattle.std.specs.Prelude.{option_and_then, codes, IsTrue}
 use Rattle.std.specs.Result.{result_err}
 use Rattle.std.specs.List.{AllZip}
 use Rattle.serde_json.specs.Data.{Data, null, string}
 use Rattle.am_universe.specs.declared.limits.TheConstants.{MAX_LABELS}
 use Rattle.am_universe.specs.Universe.{Values, Label, IsUniverse, name_fault}
 use Rattle.am_universe.specs.Universe.{count_fault, value_fault}
+use Rattle.am_labels.specs.declared.limits.TheConstants.{MAX_MATCHERS, MAX_IMPOSSIBLE}
+use Rattle.am_labels.specs.Matcher.{Condition}
+use Rattle.am_labels.specs.MatcherRefusals.{have_valid_patterns}
+use Rattle.am_labels.specs.Space.{Space}
 use Rattle.am_json.specs.declared.limits.TheConstants.{MAX_FILE_BYTES}
 use Rattle.am_json.specs.Json.{json_of, is_null, field, items_of, HasOnlyFields}
+use Rattle.am_json.specs.OptionalItems.{HasItems, read_optional_items}
 use Rattle.am_json.specs.Pointer.{Refusal, to_field}
 use Rattle.am_json.specs.Reading.{Reading, ◌>>=◌, accept, reading_within, refuse_for, check_count}
 use Rattle.am_json.specs.Reading.{read_items, as_text, check_only_fields, required_text}
 use Rattle.am_json.specs.Reading.{required_items, read_json}
+use Rattle.am_records.specs.MatcherTexts.{SaysMatcherText, read_matcher_text}
 
 -- The fields of the file.
 abbrev pub file_fields : List (List ℕ)
-file_fields = codes "labels" ∷ []
+file_fields = codes "labels" ∷ codes "impossible" ∷ []
 
 -- The fields of a label.
 abbrev pub label_fields : List (List ℕ)
 label_fields = codes "name" ∷ codes "values" ∷ []
 
--- ---- Which value says which universe.
+-- ---- Which value says which space.
 
 -- An object that has only `name` and `values` says a label: a text, and an array whose items say
 -- the values in their order. A text says itself, and `null` says absence.
@@ -41,22 +47,40 @@ pub record SaysLabel (d : Data) (label : Label) : Type 0 where
   pub is_array : option_and_then items_of (field (codes "values") d) ≡ Some items
   pub values : AllZip SaysValue items label.values
 
--- An object that has only `labels` says a universe: an array whose items say its labels in their
--- order, if these are a universe.
+-- A text in `impossible` says the list of matchers that it spells, of which there are at most
+-- `MAX_MATCHERS`. The value is a valid pattern where the operator takes one.
 -- Source: own choice.
--- Example: `{"labels": []}` says the universe without labels, and
+-- Example: the text `team=db,severity=info` says a list of two matchers, and `{}` the empty list,
+-- which matches every label set. The texts `team` and `team=~(` say none.
+pub record SaysImpossible (d : Data) (ms : List Condition) : Type 0 where
+  pub text : SaysMatcherText d ms
+  pub few : length ms ≤ MAX_MATCHERS
+  pub valid_patterns : IsTrue (have_valid_patterns ms)
+
+-- An object that has only `labels` and `impossible` says a space: an array whose items say its
+-- labels in their order, if these are a universe, and an array of at most `MAX_IMPOSSIBLE` texts,
+-- which say the lists of matchers that are impossible. Where the second is absent, nothing is
+-- impossible.
+-- Source: own choice.
+-- Example: `{"labels": []}` says the space without labels, of which nothing is impossible, and
 -- `{"labels": [{"name": "a", "values": ["x", "x"]}]}` says none, since a value stands twice.
-pub record SaysUniverse (d : Data) (u : List Label) : Type 0 where
+-- `{"labels": [{"name": "a", "values": ["x", "y"]}], "impossible": ["a=y"]}` says a space with two
+-- values of a label, of which the second never occurs.
+pub record SaysUniverse (d : Data) (s : Space) : Type 0 where
   pub only : HasOnlyFields file_fields d
   pub items : List Data
   pub is_array : option_and_then items_of (field (codes "labels") d) ≡ Some items
-  pub labels : AllZip SaysLabel items u
-  pub is_universe : IsUniverse u
+  pub labels : AllZip SaysLabel items s.labels
+  pub is_universe : IsUniverse s.labels
+  pub texts : List Data
+  pub has_texts : HasItems (codes "impossible") d texts
+  pub few : length texts ≤ MAX_IMPOSSIBLE
+  pub impossible : AllZip SaysImpossible texts s.impossible
 
--- The bytes of a file, at most `MAX_FILE_BYTES`, say the universe that their JSON value says.
-abbrev pub FileSaysUniverse : List ℕ → List Label → Type 0
-FileSaysUniverse bytes u =
-    (length bytes ≤ MAX_FILE_BYTES) × (d : Data) × (json_of bytes ≡ Some d) × SaysUniverse d u
+-- The bytes of a file, at most `MAX_FILE_BYTES`, say the space that their JSON value says.
+abbrev pub FileSaysUniverse : List ℕ → Space → Type 0
+FileSaysUniverse bytes s =
+    (length bytes ≤ MAX_FILE_BYTES) × (d : Data) × (json_of bytes ≡ Some d) × SaysUniverse d s
 
 -- ---- Reading it, with the first fault that is met.
 
@@ -93,20 +117,49 @@ read_labels items = do
   _ ← check_count MAX_LABELS (length items)
   read_items read_next_label [] items
 
--- The universe that a value says, or its first fault.
-unfoldable pub read_universe : Data → Reading (List Label)
-read_universe d = do
-  _ ← check_only_fields file_fields d
+-- Those in `labels`.
+unfoldable pub read_all_labels : Data → Reading (List Label)
+read_all_labels d = do
   items ← required_items (codes "labels") d
   reading_within (to_field (codes "labels")) (read_labels items)
 
--- The universe that a file says, or its first fault.
-unfoldable pub read_universe_file : List ℕ → Reading (List Label)
+-- A list of matchers that is impossible; all that is wrong with it stands at its text.
+unfoldable pub read_impossible : Data → Reading (List Condition)
+read_impossible d = do
+  text ← as_text d
+  read_matcher_text [] [] text
+
+-- A list behind others, which it does not depend on.
+abbrev pub read_next_impossible : List (List Condition) → Data → Reading (List Condition)
+read_next_impossible before d = read_impossible d
+
+-- The lists of an array, and those in `impossible`.
+unfoldable pub read_lists : List Data → Reading (List (List Condition))
+read_lists items = do
+  _ ← check_count MAX_IMPOSSIBLE (length items)
+  read_items read_next_impossible [] items
+
+unfoldable pub read_all_lists : Data → Reading (List (List Condition))
+read_all_lists d = do
+  items ← read_optional_items (codes "impossible") d
+  reading_within (to_field (codes "impossible")) (read_lists items)
+
+-- The space that a value says, or its first fault.
+unfoldable pub read_universe : Data → Reading Space
+read_universe d = do
+  _ ← check_only_fields file_fields d
+  labels ← read_all_labels d
+  impossible ← read_all_lists d
+  accept (record { labels = labels; impossible = impossible })
+
+-- The space that a file says, or its first fault.
+unfoldable pub read_universe_file : List ℕ → Reading Space
 read_universe_file bytes = do
   d ← read_json bytes
   read_universe d
 
--- The first fault of a value that says no universe, and of a file.
+-- The first fault of a value that says no space, and of a file, where the engine builds each
+-- pattern that its grammar reads.
 abbrev pub fault_of_universe : Data → Option Refusal
 fault_of_universe d = result_err ((read_universe d).result)
 

@@ -2,11 +2,17 @@
 pub use Rattle.am_records.specs.UniverseFile.{SaysUniverse, FileSaysUniverse, read_value}
 unfoldable pub use Rattle.am_records.specs.UniverseFile.{read_next_value, read_values}
 unfoldable pub use Rattle.am_records.specs.UniverseFile.{read_next_label, read_labels}
+unfoldable pub use Rattle.am_records.specs.UniverseFile.{read_all_labels, read_impossible}
+pub use Rattle.am_records.specs.UniverseFile.{read_next_impossible}
+unfoldable pub use Rattle.am_records.specs.UniverseFile.{read_lists, read_all_lists}
 unfoldable pub use Rattle.am_records.specs.UniverseFile.{read_universe, read_universe_file}
 pub use Rattle.am_records.specs.UniverseFile.{fault_of_universe, fault_of_universe_file}
 pub use Rattle.am_records.specs.UniverseFaults.{UniversePlace, universe_fault_at}
 pub use Rattle.am_records.specs.UniverseFaults.{IsFirstFaultOfUniverse, IsFirstFaultOfUniverseFile}
+pub use Rattle.am_records.specs.UniverseFaults.{IsMetPatternOfUniverse, UniverseFileRefusedFor}
 pub use Rattle.am_records.specs.MatcherFaults.{label_name_fault, check_matcher}
+unfoldable pub use Rattle.am_records.specs.MatcherTexts.{read_matcher_text}
+pub use Rattle.am_records.specs.MatcherTexts.{text_refusal}
 pub use Rattle.am_records.specs.Instant.{instant_of}
 pub use Rattle.am_records.specs.SilencesFile.{flagged_op, SaysSilences, FileSaysSilences}
 pub use Rattle.am_records.specs.SilencesExample.{severity_condition, silences_example}

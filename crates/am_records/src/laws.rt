@@ -2,7 +2,7 @@
 
 ghost use Rattle.std.specs.Prelude.{◌≡◌, ◌⊎◌, ◌↔◌, ℕ, List, Bool, not, IsTrue, None, Ok, Err};
 ghost use Rattle.serde_json.specs.Data.{Data};
-ghost use Rattle.am_labels.specs.Words.{Label, LabelMap};
+ghost use Rattle.am_labels.specs.Words.{LabelMap, Space};
 ghost use Rattle.am_json.specs.Words.{Refusal, MayRefuse};
 ghost use Rattle.am_labels.specs.Matcher.{takes_pattern, negates};
 ghost use Rattle.am_labels.specs.MatcherRefusals.{has_valid_pattern};
@@ -12,6 +12,7 @@ ghost use Rattle.am_records.specs.Words.{SaysUniverse, FileSaysUniverse, read_un
 ghost use Rattle.am_records.specs.Words.{read_universe_file, fault_of_universe};
 ghost use Rattle.am_records.specs.Words.{fault_of_universe_file, UniversePlace, universe_fault_at};
 ghost use Rattle.am_records.specs.Words.{IsFirstFaultOfUniverse, IsFirstFaultOfUniverseFile};
+ghost use Rattle.am_records.specs.Words.{IsMetPatternOfUniverse, UniverseFileRefusedFor};
 ghost use Rattle.am_records.specs.SilencesFile.{Silence};
 ghost use Rattle.am_records.specs.Words.{flagged_op, silences_example, example_silences};
 ghost use Rattle.am_records.specs.Words.{severity_condition};
@@ -23,31 +24,37 @@ ghost use Rattle.am_records.specs.Words.{SaysAlerts, FileSaysAlerts, AlertsPlace
 ghost use Rattle.am_records.specs.Words.{read_alerts, read_alerts_file, IsFirstFaultOfAlerts};
 ghost use Rattle.am_records.specs.Words.{IsFirstFaultOfAlertsFile, alerts_example, example_alerts};
 
-/// A JSON value says a universe exactly where reading it gives that universe. So it says at most
-/// one, and it has no fault exactly where it says one. What reading refuses it for is the first
-/// fault by the places of the form, and it says a universe exactly where no place is at fault.
+/// A JSON value says a space exactly where reading it gives that space, with each pattern built
+/// that the engine's grammar reads. So it says at most one, and it has no fault exactly where it
+/// says one. What reading refuses it for is the first fault by the places of the form, and it says
+/// a space exactly where no place is at fault. Beside the first fault only the refusals of patterns
+/// that are met before it are open.
 pub fn universes_are_read()
-    ensures read { (d : Data) (u : List Label)
-        → SaysUniverse d u ↔ ((read_universe d).result ≡ Ok u) }
-    ensures one { (d : Data) (u v : List Label) → SaysUniverse d u → SaysUniverse d v → u ≡ v }
+    ensures read { (d : Data) (s : Space)
+        → SaysUniverse d s ↔ ((read_universe d).result ≡ Ok s) }
+    ensures one { (d : Data) (s t : Space) → SaysUniverse d s → SaysUniverse d t → s ≡ t }
     ensures faults { (d : Data)
-        → (fault_of_universe d ≡ None) ↔ ((u : List Label) × SaysUniverse d u) }
+        → (fault_of_universe d ≡ None) ↔ ((s : Space) × SaysUniverse d s) }
     ensures first { (d : Data) (r : Refusal)
         → ((read_universe d).result ≡ Err r) ↔ IsFirstFaultOfUniverse d r }
-    ensures sound { (d : Data) → ((u : List Label) × SaysUniverse d u)
+    ensures sound { (d : Data) → ((s : Space) × SaysUniverse d s)
         ↔ ((place : UniversePlace) → universe_fault_at d place ≡ None) }
+    ensures refused { (d : Data) (r : Refusal) → MayRefuse (read_universe d) r
+        → IsFirstFaultOfUniverse d r ⊎ IsMetPatternOfUniverse d r }
 {}
 
 /// The same of the bytes of a file.
 pub fn universe_files_are_read()
-    ensures read { (bytes : List ℕ) (u : List Label)
-        → FileSaysUniverse bytes u ↔ ((read_universe_file bytes).result ≡ Ok u) }
-    ensures one { (bytes : List ℕ) (u v : List Label) → FileSaysUniverse bytes u
-        → FileSaysUniverse bytes v → u ≡ v }
+    ensures read { (bytes : List ℕ) (s : Space)
+        → FileSaysUniverse bytes s ↔ ((read_universe_file bytes).result ≡ Ok s) }
+    ensures one { (bytes : List ℕ) (s t : Space) → FileSaysUniverse bytes s
+        → FileSaysUniverse bytes t → s ≡ t }
     ensures faults { (bytes : List ℕ)
-        → (fault_of_universe_file bytes ≡ None) ↔ ((u : List Label) × FileSaysUniverse bytes u) }
+        → (fault_of_universe_file bytes ≡ None) ↔ ((s : Space) × FileSaysUniverse bytes s) }
     ensures first { (bytes : List ℕ) (r : Refusal)
         → ((read_universe_file bytes).result ≡ Err r) ↔ IsFirstFaultOfUniverseFile bytes r }
+    ensures refused { (bytes : List ℕ) (r : Refusal) → MayRefuse (read_universe_file bytes) r
+        → UniverseFileRefusedFor bytes r }
 {}
 
 /// A JSON value says silences exactly where reading it gives them, with each pattern built that

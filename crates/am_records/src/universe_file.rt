@@ -1,7 +1,7 @@
 //! Reading the universe file.
 
-ghost use Rattle.std.specs.Prelude.{◌≡◌, ◌≢◌, ◌≤◌, [], ◌∷◌, ◌++◌, length, map, None, Ok, Err, IfOk};
-ghost use Rattle.std.specs.Prelude.{IfErr, OnOk, string_bytes, option_map};
+ghost use Rattle.std.specs.Prelude.{◌≡◌, ◌≢◌, ◌<◌, ◌≤◌, [], ◌∷◌, ◌++◌, length, map, None, Ok, Err};
+ghost use Rattle.std.specs.Prelude.{IfOk, IfErr, OnOk, string_bytes, option_map};
 ghost use Rattle.serde_json.specs.View.{view};
 ghost use Rattle.am_universe.specs.declared.kind.Kind.TheVariants as kinds;
 ghost use Rattle.am_universe.specs.declared.place.Place.TheVariants as places;
@@ -9,61 +9,80 @@ ghost use Rattle.am_json.specs.declared.read_error.ReadError.TheVariants as erro
 ghost use Rattle.am_labels.specs.Words.{label_fault, label_of, texts_of};
 ghost use Rattle.am_json.specs.Words.{to_item, Gives, refusal_of, reading_within, read_items};
 ghost use Rattle.am_records.specs.Words.{FileSaysUniverse, read_value, read_next_value};
-ghost use Rattle.am_records.specs.Words.{read_values, read_next_label, read_labels, read_universe};
-ghost use Rattle.am_records.specs.Words.{read_universe_file, IsFirstFaultOfUniverseFile};
+ghost use Rattle.am_records.specs.Words.{read_values, read_next_label, read_labels};
+ghost use Rattle.am_records.specs.Words.{read_all_labels, read_impossible, read_next_impossible};
+ghost use Rattle.am_records.specs.Words.{read_lists, read_all_lists, read_matcher_text};
+ghost use Rattle.am_records.specs.Words.{read_universe, read_universe_file};
+ghost use Rattle.am_records.specs.Words.{UniverseFileRefusedFor};
 
 use am_json::{
-    ReadError, as_text, check_count, check_only_fields, read_json, refuse_for, required_items,
-    required_text, within_field, within_item,
+    ReadError, as_text, check_count, check_only_fields, read_json, read_optional_items, refuse_for,
+    required_items, required_text, within_field, within_item,
 };
-use am_labels::{Fault, Kind, Place, Universe};
+use am_labels::limits::MAX_IMPOSSIBLE;
+use am_labels::{Fault, Kind, Matchers, Place, Space, Universe, parse_matchers};
 use am_universe::limits::MAX_LABELS;
 use serde_json::Value;
 use std::alloc::{AllocError, Global};
 
-/// The universe that the bytes of a universe file say, with its labels and values in their order.
+/// The space that the bytes of a universe file say: its labels and values, and the lists of
+/// matchers that are impossible, each in their order.
 ///
 /// The first fault is the one answered, at the place `Universe` and at the pointer of the part at
 /// fault. A field that is `null` counts as absent.
-/// - `Limit`: more than `MAX_FILE_BYTES` bytes, [`MAX_LABELS`] labels or `MAX_VALUES` values of a
-///   label;
+/// - `Limit`: more than `MAX_FILE_BYTES` bytes, [`MAX_LABELS`] labels, `MAX_VALUES` values of a
+///   label, [`MAX_IMPOSSIBLE`] lists or `MAX_MATCHERS` matchers of a list;
 /// - `NotJson`: the bytes have no JSON value;
 /// - `Shape`: a value is not of its kind, a required field is absent, or a name is no label name;
 /// - `UnknownField`: there is a field that the form does not have;
 /// - `Empty`: a name or a value is the empty text, or a label has no value;
-/// - `Duplicate`: a name is that of an earlier label, or a value an earlier one of its label.
+/// - `Duplicate`: a name is that of an earlier label, or a value an earlier one of its label;
+/// - `BadMatcher`: a text spells no list of matchers;
+/// - `PatternProfile`: a pattern is outside the profile;
+/// - `Pattern`: the engine refuses a pattern of the profile, as it does where its grammar does not
+///   read it, and may do where it is too large. Such a refusal may come before the first fault that
+///   the file has by itself, and not after it.
 ///
 /// `Memory`, at the place `Memory` and the empty pointer, comes wherever memory ran out.
 ///
-/// The JSON value of the whole file is in memory until the universe is answered.
-pub fn read_universe(alloc: Global, bytes: &[u8]) -> Result<Universe, Fault>
-    ensures says { IfOk result (λ u. FileSaysUniverse bytes.now u) }
+/// The JSON value of the whole file is in memory until the space is answered.
+pub fn read_universe(alloc: Global, bytes: &[u8]) -> Result<Space, Fault>
+    ensures says { IfOk result (λ s. FileSaysUniverse bytes.now s) }
     ensures first { IfErr result (λ fault. fault.kind ≢ kinds.Memory
-        → (fault.place ≡ places.Universe)
-        × IsFirstFaultOfUniverseFile bytes.now (refusal_of fault)) }
+        → (fault.place ≡ places.Universe) × UniverseFileRefusedFor bytes.now (refusal_of fault)) }
     ensures memory { IfErr result (λ fault. fault.kind ≡ kinds.Memory
         → (fault.place ≡ places.Memory) × (string_bytes fault.pointer ≡ [])) }
     ensures no_write { IfErr result (λ fault. fault.kind ≢ kinds.Write) }
 {
     match read_universe_file(alloc, bytes) {
-        Ok(universe) => Ok(universe),
+        Ok(space) => Ok(space),
         Err(error) => Err(error.at(alloc, Place::Universe)),
     }
 }
 
 #[tactic(auto, using(am_json::proofs::Readings::steps), unfolding(crate::specs::UniverseFile::read_universe_file))]
-fn read_universe_file(alloc: Global, bytes: &[u8]) -> Result<Universe, ReadError>
-    ensures { Gives (λ u. u) result (read_universe_file bytes.now) }
+fn read_universe_file(alloc: Global, bytes: &[u8]) -> Result<Space, ReadError>
+    ensures { Gives (λ s. s) result (read_universe_file bytes.now) }
 {
     let value = read_json(alloc, bytes)?;
     read_universe_object(alloc, &value)
 }
 
 #[tactic(auto, using(am_json::proofs::Readings::steps), unfolding(crate::specs::UniverseFile::read_universe))]
-fn read_universe_object(alloc: Global, value: &Value) -> Result<Universe, ReadError>
-    ensures { Gives (λ u. u) result (read_universe (view value.now)) }
+fn read_universe_object(alloc: Global, value: &Value) -> Result<Space, ReadError>
+    ensures { Gives (λ s. s) result (read_universe (view value.now)) }
 {
-    check_only_fields(alloc, value, &["labels"])?;
+    check_only_fields(alloc, value, &["labels", "impossible"])?;
+    let universe = read_all_labels(alloc, value)?;
+    read_all_lists(alloc, universe, value)
+}
+
+// ---- The labels.
+
+#[tactic(auto, using(am_json::proofs::Readings::steps), unfolding(crate::specs::UniverseFile::read_all_labels))]
+fn read_all_labels(alloc: Global, value: &Value) -> Result<Universe, ReadError>
+    ensures { Gives (λ u. u) result (read_all_labels (view value.now)) }
+{
     let items = required_items(alloc, value, "labels")?;
     within_field(alloc, "labels", read_labels(alloc, items))
 }
@@ -206,5 +225,75 @@ fn owned(alloc: Global, value: Option<&str>) -> Result<Option<String>, AllocErro
     match value {
         Some(text) => Ok(Some(String::from_str(alloc, text)?)),
         None => Ok(None),
+    }
+}
+
+// ---- The lists that are impossible.
+
+/// The space of these labels, without the lists of the file.
+#[tactic(auto, using(am_json::proofs::Readings::steps), unfolding(crate::specs::UniverseFile::read_all_lists))]
+fn read_all_lists(alloc: Global, universe: Universe, value: &Value) -> Result<Space, ReadError>
+    ensures lists { Gives (λ s. s.impossible) result (read_all_lists (view value.now)) }
+    ensures labels { IfOk result (λ s. s.labels ≡ universe) }
+{
+    let items = read_optional_items(alloc, value, "impossible")?;
+    within_field(alloc, "impossible", read_lists(alloc, universe, items))
+}
+
+#[tactic(auto, unfolding(crate::specs::UniverseFile::read_lists))]
+fn read_lists(alloc: Global, universe: Universe, items: &[Value]) -> Result<Space, ReadError>
+    ensures lists { Gives (λ s. s.impossible) result (read_lists (map view items.now)) }
+    ensures labels { IfOk result (λ s. s.labels ≡ universe) }
+{
+    check_count(alloc, MAX_IMPOSSIBLE, items.len())?;
+    read_each_list(alloc, universe, items)
+}
+
+fn read_each_list(alloc: Global, universe: Universe, items: &[Value]) -> Result<Space, ReadError>
+    requires { length items.now ≤ MAX_IMPOSSIBLE }
+    ensures lists { Gives (λ s. s.impossible) result
+        (read_items read_next_impossible [] (map view items.now)) }
+    ensures labels { IfOk result (λ s. s.labels ≡ universe) }
+{
+    let mut space = Space::of(alloc, universe);
+    for item in items {
+        let found = read_impossible(alloc, item);
+        let list = within_item(alloc, space.impossible().len(), found)?;
+        forbid(&mut space, list)?;
+    }
+    Ok(space)
+}
+
+/// Leaves a list out where there is room for it. It fails only where memory ran out.
+fn forbid(space: &mut Space, list: Matchers) -> Result<(), ReadError>
+    requires { length space.old.impossible < MAX_IMPOSSIBLE }
+    ensures ok { OnOk result (space.new.impossible ≡ space.old.impossible ++ list ∷ []) }
+    ensures labels { space.new.labels ≡ space.old.labels }
+    ensures memory { IfErr result (λ e. e ≡ errors.Memory) }
+{
+    match space.forbid(list) {
+        Ok(()) => Ok(()),
+        Err(kind) => {
+            prove!(kind == Kind::Memory);
+            Err(ReadError::Memory)
+        }
+    }
+}
+
+#[tactic(auto, unfolding(crate::specs::UniverseFile::read_impossible))]
+fn read_impossible(alloc: Global, value: &Value) -> Result<Matchers, ReadError>
+    ensures { Gives (λ ms. ms) result (read_impossible (view value.now)) }
+{
+    let text = as_text(alloc, value)?;
+    read_matcher_text(alloc, text)
+}
+
+/// The list of matchers that a text spells. All that is wrong with it stands at the text.
+fn read_matcher_text(alloc: Global, text: &str) -> Result<Matchers, ReadError>
+    ensures { Gives (λ ms. ms) result (read_matcher_text [] [] text.now) }
+{
+    match parse_matchers(alloc, text) {
+        Ok(list) => Ok(list),
+        Err(kind) => Err(ReadError::refused(alloc, kind)),
     }
 }

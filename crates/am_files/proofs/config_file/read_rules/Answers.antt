@@ -3,9 +3,10 @@ use Rattle.std.proofs.lemmas.Result.{err_from_is_err_and}
 use Rattle.serde_json.specs.View.{view}
 use Rattle.am_json.specs.Pointer.{to_field}
 use Rattle.am_json.specs.Reading.{reading_within}
-use Rattle.am_files.specs.ConfigReading.{read_optional_items, read_rule_items, read_rules}
+use Rattle.am_files.specs.ConfigReading.{read_rule_items, read_rules}
 use Rattle.am_json.proofs.Readings.{fails_first, gives_later, within_gives}
 use Rattle.am_files.proofs.config_file.read_rules.Goals as goal
+use Rattle.am_json.specs.OptionalItems.{read_optional_items}
 
 pub returns-in_err-items : goal.returns-in_err-items
 unfolding read_rules
@@ -14,7 +15,7 @@ returns-in_err-items c =
     rw (p.1, p.2) (fails_first c.in_err-items.field-0.0
     (read_optional_items (codes "inhibit_rules") (view c.args.value.now))
     (λ items. reading_within (to_field (codes "inhibit_rules")) (read_rule_items items))
-    c.in_err-items.ensures)
+    c.in_err-items.ensures.reading)
 
 pub returns : goal.returns
 unfolding read_rules
@@ -27,4 +28,4 @@ returns c =
     gives_later (λ rs. rs.items) c.within_field.result
     (read_optional_items (codes "inhibit_rules") (view c.args.value.now))
     (λ ds. reading_within (to_field (codes "inhibit_rules")) (read_rule_items ds)) items
-    c.in_ok-items.ensures rules
+    c.in_ok-items.ensures.reading rules

@@ -1,6 +1,6 @@
 use Rattle.std.proofs.Common.{[]}
 use Rattle.am_json.specs.Pointer.{to_item}
-use Rattle.am_files.proofs.MatcherTexts.{text_gives, text_fails}
+use Rattle.am_records.proofs.MatcherTexts.{text_gives, text_fails}
 use Rattle.am_files.proofs.route_matchers.read_matcher_text_at.Goals as goal
 
 pub returns-in-Ok : goal.returns-in-Ok

@@ -1,6 +1,7 @@
 use Rattle.am_json.proofs.Readings.{says_one, fault_decides}
 use Rattle.am_records.proofs.UniverseSays.{universe_decides, universe_says, universe_reads}
-use Rattle.am_records.proofs.UniverseFaultLemmas.{universe_first, universe_sound}
+use Rattle.am_records.proofs.UniverseFaultLemmas.{universe_first, universe_refused}
+use Rattle.am_records.proofs.UniverseFaultLemmas.{universe_sound}
 use Rattle.am_records.proofs.laws.universes_are_read.Goals as goal
 
 pub returns-clause-read : goal.returns-clause-read
@@ -17,3 +18,6 @@ returns-clause-first c = λ d r. universe_first d r
 
 pub returns-clause-sound : goal.returns-clause-sound
 returns-clause-sound c = λ d. universe_sound d
+
+pub returns-clause-refused : goal.returns-clause-refused
+returns-clause-refused c = λ d r refused. universe_refused d r refused

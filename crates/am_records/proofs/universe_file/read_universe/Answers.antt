@@ -9,7 +9,7 @@ use Rattle.am_records.proofs.universe_file.read_universe.Goals as goal
 pub returns-in-Ok-clause-says : goal.returns-in-Ok-clause-says
 returns-in-Ok-clause-says c =
     let decides = file_decides c.args.bytes.now in
-    decides.says c.in-Ok.universe c.in-Ok.ensures
+    decides.says c.in-Ok.space c.in-Ok.ensures
 
 pub returns-in-Err-clause-first : goal.returns-in-Err-clause-first
 returns-in-Err-clause-first c = λ other.

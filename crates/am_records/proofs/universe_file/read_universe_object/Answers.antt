@@ -1,25 +1,26 @@
-use Rattle.std.proofs.Common.{List, map, codes}
-use Rattle.serde_json.specs.Data.{Data}
+use Rattle.std.proofs.Common.{List}
 use Rattle.serde_json.specs.View.{view}
 use Rattle.am_universe.specs.Universe.{Label}
-use Rattle.am_json.specs.Pointer.{to_field}
-use Rattle.am_json.specs.Reading.{Reading, ◌>>=◌, reading_within, check_only_fields}
-use Rattle.am_json.specs.Reading.{required_items}
-use Rattle.am_records.specs.UniverseFile.{file_fields, read_labels, read_universe}
-use Rattle.am_json.proofs.Readings.{gives_later, within_gives}
+use Rattle.am_labels.specs.Space.{Space}
+use Rattle.am_json.specs.Reading.{Reading, ◌>>=◌, accept, check_only_fields}
+use Rattle.am_records.specs.UniverseFile.{file_fields, read_all_labels, read_all_lists}
+use Rattle.am_records.specs.UniverseFile.{read_universe}
+use Rattle.am_json.proofs.Readings.{gives_later}
+use Rattle.am_records.proofs.UniverseSays.{space_gives}
 use Rattle.am_records.proofs.universe_file.read_universe_object.Goals as goal
 
 pub returns : goal.returns
 unfolding read_universe
 returns c =
     let d = view c.args.value.now in
-    let items = map view c.in_ok-items.items.now in
-    let labels : List Data → Reading (List Label) =
-    λ ds. reading_within (to_field (codes "labels")) (read_labels ds) in
+    let labels = c.in_ok-universe.universe in
+    let lists : List Label → Reading Space =
+    λ ls. read_all_lists d >>= λ impossible. accept (record { labels = ls; impossible = impossible })
+    in
     let last =
-    within_gives (λ u. u) (to_field (codes "labels")) c.read_labels.result c.within_field.result
-    (read_labels items) c.read_labels.ensures c.within_field.ensures.within in
-    gives_later (λ u. u) c.within_field.result (check_only_fields file_fields d)
-    (λ _. required_items (codes "labels") d >>= labels) tt c.in_ok-check_only_fields.ensures.reading
-    (gives_later (λ u. u) c.within_field.result (required_items (codes "labels") d) labels items
-    c.in_ok-items.ensures.reading last)
+    space_gives labels c.read_all_lists.result (read_all_lists d) c.read_all_lists.ensures.lists
+    c.read_all_lists.ensures.labels in
+    gives_later (λ s. s) c.read_all_lists.result (check_only_fields file_fields d)
+    (λ _. read_all_labels d >>= lists) tt c.in_ok-check_only_fields.ensures.reading
+    (gives_later (λ s. s) c.read_all_lists.result (read_all_labels d) lists labels
+    c.in_ok-universe.ensures last)

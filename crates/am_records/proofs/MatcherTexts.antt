@@ -1,5 +1,5 @@
 -- Matcher texts that are read, and those that are refused.
-use Rattle.std.proofs.Common.{◌≡◌, ◌≢◌, ℕ, ◌≤◌, List, length, Bool, true, false, cond, Option, Some}
+use Rattle.std.proofs.Common.{◌≡◌, ◌≢◌, ℕ, ◌≤◌, List, [], length, Bool, true, false, cond, Option, Some}
 use Rattle.std.proofs.Common.{None, Result, Ok, Err, IsTrue, inl, inr, refl, sym, subst}
 use Rattle.std.specs.Prelude.{IsErrAnd}
 use Rattle.am_universe.specs.declared.kind.Kind.{Kind}
@@ -15,12 +15,13 @@ use Rattle.am_json.specs.declared.read_error.ReadError.{ReadError}
 use Rattle.am_json.specs.declared.read_error.ReadError.TheVariants as errors
 use Rattle.am_json.specs.Pointer.{Refusal, refusal_here, refusal_within}
 use Rattle.am_json.specs.Reading.{Reading, ◌>>=◌, accept, accept_some, reading_within, check_count}
-use Rattle.am_json.specs.Reading.{MayRefuse, IsRefusalOrMemory, Gives}
-use Rattle.am_files.specs.ConfigReading.{read_matcher_text, text_refusal}
-use Rattle.am_records.specs.MatcherFaults.{check_patterns}
+use Rattle.am_json.specs.Reading.{MayRefuse, IsRefusalOrMemory, Fails, Gives}
+use Rattle.am_records.specs.MatcherFaults.{check_patterns, pattern_fault}
+use Rattle.am_records.specs.MatcherTexts.{read_matcher_text, text_refusal}
 use Rattle.am_json.proofs.Readings.{refuses_first, refuses_later, refuses_within, check_count_fits}
-use Rattle.am_json.proofs.Readings.{check_count_over}
-use Rattle.am_records.proofs.Matching.{sound_passes, patterns_refused}
+use Rattle.am_json.proofs.Readings.{check_count_over, check_count_ok, here_fails, bind_ok, within_ok}
+use Rattle.am_json.proofs.Readings.{ok_or_some, refuse_for_ok, same_read}
+use Rattle.am_records.proofs.Matching.{sound_passes, passes_sound, patterns_refused}
 
 abbrev err_of : ReadError → Result (List Condition) ReadError
 err_of e = Err e
@@ -107,3 +108,48 @@ text_fails part limit text kind (Ok ms) refused is memory = absurd is
 text_fails part limit text kind (Err errors.Memory) refused is memory = tt
 text_fails part limit text kind (Err (errors.Refused found)) refused is memory =
     rw is (text_refused part limit text kind (refused (λ e. refused_is_no_memory found (memory e))))
+
+refused_here : (kind : Kind) → text_refusal [] [] kind ≡ refusal_here kind
+refused_here kinds.Limit = refl
+refused_here kind = refl
+
+-- where all that is wrong with a text stands at what is looked at
+pub text_fails_here : (text : List ℕ) (kind : Kind) (e : ReadError)
+    → (kind ≢ kinds.Memory → TextRefusedFor text kind)
+    → IsRefusalOrMemory e (refusal_here kind) → (kind ≡ kinds.Memory → e ≡ errors.Memory)
+    → Fails e (read_matcher_text [] [] text)
+text_fails_here text kind e refused is memory =
+    here_fails kind e (read_matcher_text [] [] text) is memory
+    (λ other. subst (λ (r : Refusal). MayRefuse (read_matcher_text [] [] text) r)
+    (refused_here kind) (text_refused [] [] text kind (refused other)))
+
+-- ---- What a text says that is read.
+
+pub text_says : (part limit : List ℕ) (text : List ℕ) (all : List Condition)
+    → (read_matcher_text part limit text).result ≡ Ok all
+    → Spells text all × (length all ≤ MAX_MATCHERS) × IsTrue (have_valid_patterns all)
+unfolding read_matcher_text
+text_says part limit text all h =
+    let ms =
+    bind_ok ((reading_within part
+    (accept_some (read_list text) (refusal_here kinds.BadMatcher))).result) _ all h in
+    let few =
+    bind_ok ((reading_within limit (check_count MAX_MATCHERS (length ms.0))).result) _ all
+    ms.2 in
+    let sound = bind_ok ((reading_within part (check_patterns ms.0)).result) _ all few.2 in
+    let is : ms.0 ≡ all = same_read ms.0 all sound.2 in
+    let spells =
+    list_is_spelled text ms.0
+    (ok_or_some (read_list text) (refusal_here kinds.BadMatcher) ms.0
+    (within_ok part ((accept_some (read_list text) (refusal_here kinds.BadMatcher)).result)
+    ms.0 ms.1)) in
+    let count =
+    check_count_ok MAX_MATCHERS (length ms.0) few.0
+    (within_ok limit ((check_count MAX_MATCHERS (length ms.0)).result) few.0 few.1) in
+    let fine =
+    passes_sound ms.0 (refuse_for_ok (pattern_fault ms.0) sound.0
+    (within_ok part ((check_patterns ms.0).result) sound.0 sound.1)) in (
+      subst (λ (ns : List Condition). Spells text ns) is spells,
+      subst (λ (ns : List Condition). length ns ≤ MAX_MATCHERS) is count,
+      subst (λ (ns : List Condition). IsTrue (have_valid_patterns ns)) is fine,
+    )

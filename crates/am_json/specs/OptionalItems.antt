@@ -1,0 +1,28 @@
+-- An array in a field that may be absent: which items it has, what is wrong with it, and reading
+-- it. (This project's own.)
+use Rattle.std.specs.Prelude.{◌≡◌, ◌⊎◌, ℕ, List, [], length, Option, Some, None, option_and_then}
+use Rattle.serde_json.specs.Data.{Data}
+use Rattle.am_universe.specs.declared.kind.Kind.{Kind}
+use Rattle.am_json.specs.Json.{field, items_of}
+use Rattle.am_json.specs.Places.{shape_or, if_there, limit_fault}
+use Rattle.am_json.specs.Pointer.{to_field}
+use Rattle.am_json.specs.Reading.{Reading, accept, reading_within, as_items}
+
+-- A field has an array with these items; where the field is absent, there are none.
+abbrev pub HasItems : List ℕ → Data → List Data → Type 0
+HasItems key d items =
+    ((field key d ≡ None) × (items ≡ []))
+    ⊎ (option_and_then items_of (field key d) ≡ Some items)
+
+-- What is wrong with an array that may be absent: it is none, or has too many items.
+abbrev pub optional_array_fault : ℕ → Option Data → Option Kind
+optional_array_fault limit found =
+    if_there (λ d. shape_or (λ items. limit_fault limit (length items)) (items_of d)) found
+
+-- The items of an array that may be absent, and those of the array in a field that may be absent.
+abbrev pub optional_items : Option Data → Reading (List Data)
+optional_items None = accept []
+optional_items (Some d) = as_items d
+
+unfoldable pub read_optional_items : List ℕ → Data → Reading (List Data)
+read_optional_items key d = reading_within (to_field key) (optional_items (field key d))
