@@ -15,7 +15,8 @@ use Rattle.am_files.specs.Path.{list_of, route_at}
 use Rattle.am_eval.specs.World.{World}
 use Rattle.am_eval.specs.Routing.{ends, receivers, receiver_at}
 use Rattle.am_eval.specs.Question.{Receiver, Ends, Enters, holds_of}
-use Rattle.am_eval.proofs.EndLaws.{any_in, is_end, exactly, end_matches}
+use Rattle.am_labels.proofs.Passing.{any_in}
+use Rattle.am_eval.proofs.EndLaws.{is_end, exactly, end_matches}
 
 not_true : (b : Bool) → (b ≡ true → ⊥) → b ≡ false
 not_true true h = absurd (h refl)

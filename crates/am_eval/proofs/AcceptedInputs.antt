@@ -3,14 +3,14 @@ use Rattle.std.proofs.Common.{◌≡◌, ℕ, List, [], ◌∷◌, ◌++◌, len
 use Rattle.std.proofs.Common.{Result, Ok, Err, refl, sym, ap, ◌∙◌, ◌⊎◌, inl, inr, arith}
 use Rattle.am_universe.specs.declared.kind.Kind.TheVariants as kinds
 use Rattle.am_universe.specs.declared.place.Place.{Place}
-use Rattle.am_universe.specs.Universe.{Label}
 use Rattle.am_universe.specs.LabelSet.{LabelMap}
 use Rattle.am_labels.specs.ParsedLabelSet.{SpellsSet}
+use Rattle.am_labels.specs.Space.{Space}
 use Rattle.am_json.specs.Json.{json_of}
 use Rattle.am_json.specs.Pointer.{Refusal}
 use Rattle.am_json.proofs.Readings.{says_one}
 use Rattle.am_records.specs.UniverseFile.{FileSaysUniverse, read_universe_file}
-use Rattle.am_records.specs.UniverseFaults.{IsFirstFaultOfUniverseFile}
+use Rattle.am_records.specs.UniverseFaults.{IsMetPatternOfUniverse, UniverseFileRefusedFor}
 use Rattle.am_records.specs.SilencesFile.{Silence}
 use Rattle.am_records.specs.SilencesReading.{read_silences_file}
 use Rattle.am_records.specs.SilencesFaults.{IsMetPatternOfSilences}
@@ -48,11 +48,17 @@ cases_option : {X : Type 0} (o : Option X) → (o ≡ None) ⊎ ((x : X) × (o �
 cases_option None = inl refl
 cases_option (Some x) = inr (x, refl)
 
-pub universe_accepted : (bytes : List ℕ) (u : List Label) (r : Refusal) → FileSaysUniverse bytes u
-    → IsFirstFaultOfUniverseFile bytes r → ⊥
-universe_accepted bytes u r said first =
-    not_both (read_universe_file bytes).result u r ((universe_file.file_decides bytes).reads u said)
-    ((universe_file_first bytes r).1 first)
+pub universe_accepted : (bytes : List ℕ) (s : Space) (r : Refusal) → FileSaysUniverse bytes s
+    → UniverseFileRefusedFor bytes r → r.kind ≡ kinds.Pattern
+universe_accepted bytes s r said (inl first) =
+    absurd (not_both (read_universe_file bytes).result s r
+    ((universe_file.file_decides bytes).reads s said) ((universe_file_first bytes r).1 first))
+universe_accepted bytes s r said (inr met) =
+    elim (cases_option (json_of bytes)) [
+      | inl none ↦ absurd (rw none at met.1)
+      | inr value ↦
+          let pattern : IsMetPatternOfUniverse value.0 r = rw value.1 at met.1 in pattern.stands.1
+    ]
 
 pub config_accepted : (bytes : List ℕ) (c : Configuration) (r : Refusal) → FileSaysConfig bytes c
     → ConfigFileRefusedFor bytes r → r.kind ≡ kinds.Pattern

@@ -3,9 +3,8 @@ use Rattle.std.proofs.Common.{◌≡◌, ◌≢◌, ◌↔◌, ◌⊎◌, inl, i
 use Rattle.std.proofs.Common.{length, map, Option, Some, Bool, true, false, cond, refl, sym, ap}
 use Rattle.std.proofs.Common.{subst, ◌∙◌, arith, take, drop, Contains}
 use Rattle.std.specs.Prelude.{slice_get, option_and_then, IsTrue, IsFalse}
-use Rattle.std.specs.List.{AllByRecursion, flat_map, filter_map, list_any}
+use Rattle.std.specs.List.{AllByRecursion, flat_map, filter_map}
 use Rattle.std.proofs.lemmas.List.{append-nil, nil_from_length, take-append-drop}
-use Rattle.std.proofs.lemmas.Bool.{cases_Bool}
 use Rattle.std.proofs.Math.Seq.{take-append_seam}
 use Rattle.std.specs.Cmp.Lexicographic.{bytes_decides}
 use Rattle.am_universe.specs.LabelSet.{LabelMap}
@@ -13,6 +12,7 @@ use Rattle.am_universe.specs.Text.{same_text}
 use Rattle.am_universe.proofs.ListLemmas.{IsIn, IsIn-from_Contains, Contains-from_IsIn}
 use Rattle.am_universe.proofs.ListLemmas.{IsIn-split, IsIn-unmap}
 use Rattle.am_labels.specs.Matcher.{all_hold}
+use Rattle.am_labels.proofs.Passing.{any_in, in_any}
 use Rattle.am_files.specs.ConfigFile.{RouteTree, Routes, route, no_routes, next_route, matchers_of}
 use Rattle.am_files.specs.ConfigFile.{children_of, receiver_of, Configuration, IsConfig}
 use Rattle.am_files.specs.Path.{list_of, route_at, leads_through}
@@ -23,23 +23,6 @@ use Rattle.am_eval.specs.Question.{Any, Ends, Enters, holds_of}
 use Rattle.am_eval.proofs.ChildEnds.{is_last-unmatched}
 
 -- ---- Lists.
-
-pub any_in : {X : Type 0} (p : X → Bool) (xs : List X) → list_any p xs ≡ true
-    → (x : X) × IsIn xs x × (p x ≡ true)
-any_in p [] e = absurd (cc)
-any_in p (x ∷ xs) e = elim (cases_Bool (p x)) [
-  | inl passes ↦ (x, inl refl, passes)
-  | inr fails ↦ let later = any_in p xs (rw fails at e) in (later.0, inr later.1, later.2)
-]
-
-in_any : {X : Type 0} (p : X → Bool) (xs : List X) (x : X) → IsIn xs x → p x ≡ true
-    → list_any p xs ≡ true
-in_any p [] x h e = absurd h
-in_any p (y ∷ xs) x (inl same) e = let here : p y ≡ true = ap p same ∙ e in rw here refl
-in_any p (y ∷ xs) x (inr h) e = elim (cases_Bool (p y)) [
-  | inl passes ↦ rw passes refl
-  | inr fails ↦ rw fails (in_any p xs x h e)
-]
 
 count_some : {X Y : Type 0} (f : X → Option Y) (xs : List X)
     → ((x : X) → IsIn xs x → (y : Y) × (f x ≡ Some y))

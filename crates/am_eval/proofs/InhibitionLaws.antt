@@ -20,7 +20,7 @@ use Rattle.am_eval.specs.declared.pair.Pair.{Pair}
 use Rattle.am_eval.specs.World.{World}
 use Rattle.am_eval.specs.Inhibition.{have_equal, is_two_sided, inhibits, is_inhibited, inhibitors}
 use Rattle.am_eval.specs.Inhibition.{pair_inhibits}
-use Rattle.am_eval.proofs.AnswerLaws.{passes_from_kept, kept_from_passes}
+use Rattle.am_labels.proofs.Passing.{passes_from_kept, kept_from_passes}
 use Rattle.am_eval.proofs.PairLemmas.{is_pair, Keys, pairs_ascend}
 use Rattle.am_eval.proofs.Inhibitors.{all_pairs, at_pair, inhibiting_pair, by_pair, from_pair}
 use Rattle.am_eval.proofs.Inhibitors.{position, inhibitors_of_pairs}

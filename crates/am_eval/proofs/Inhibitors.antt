@@ -18,7 +18,8 @@ use Rattle.am_eval.specs.Silencing.{positions_where}
 use Rattle.am_eval.specs.Pairs.{pair_of, pairs_of_rule, pairs_of}
 use Rattle.am_eval.specs.Inhibition.{inhibits, is_inhibited, inhibitors}
 use Rattle.am_eval.specs.Inhibition.{pair_inhibits}
-use Rattle.am_eval.proofs.Members.{any_in, in_any, at_in, in_at, item_at}
+use Rattle.am_labels.proofs.Passing.{any_in, in_any}
+use Rattle.am_eval.proofs.Members.{at_in, in_at, item_at}
 use Rattle.am_eval.proofs.PairLemmas.{is_pair, pair_is}
 
 -- ---- By pairs.

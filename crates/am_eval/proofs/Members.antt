@@ -1,31 +1,9 @@
--- What is in a list: some that passes a test, an item at a position, what is numbered, and what is in
--- lists joined end to end.
+-- What is in a list: an item at a position, what is numbered, and what is in lists joined end to end.
 use Rattle.std.proofs.Common.{◌≡◌, inl, inr, ℕ, zero, suc, ◌+◌, List, [], ◌∷◌, Some}
-use Rattle.std.proofs.Common.{Bool, true, drop, refl, ap, ◌∙◌, arith}
-use Rattle.std.specs.Prelude.{slice_get, IsTrue}
-use Rattle.std.specs.List.{list_any, flat_map, enumerate_from}
-use Rattle.std.proofs.lemmas.Bool.{cases_Bool}
+use Rattle.std.proofs.Common.{drop, refl, ap, ◌∙◌, arith}
+use Rattle.std.specs.Prelude.{slice_get}
+use Rattle.std.specs.List.{flat_map, enumerate_from}
 use Rattle.am_universe.proofs.ListLemmas.{IsIn, IsIn-left, IsIn-right, IsIn-split}
-
--- ---- Some that passes a test.
-
-pub any_in : {X : Type 0} (test : X → Bool) (xs : List X) → IsTrue (list_any test xs)
-    → (x : X) × IsIn xs x × IsTrue (test x)
-any_in test [] h = absurd (cc)
-any_in test (x ∷ xs) h = elim (cases_Bool (test x)) [
-  | inl passes ↦ (x, inl refl, passes)
-  | inr fails ↦ let later = any_in test xs (rw fails at h) in (later.0, inr later.1, later.2)
-]
-
-pub in_any : {X : Type 0} (test : X → Bool) (xs : List X) (x : X) → IsIn xs x → IsTrue (test x)
-    → IsTrue (list_any test xs)
-in_any test [] x h passes = absurd h
-in_any test (y ∷ xs) x (inl same) passes =
-    let here : test y ≡ true = ap test same ∙ passes in rw here refl
-in_any test (y ∷ xs) x (inr later) passes = elim (cases_Bool (test y)) [
-  | inl first ↦ rw first refl
-  | inr fails ↦ rw fails (in_any test xs x later passes)
-]
 
 -- ---- At a position.
 

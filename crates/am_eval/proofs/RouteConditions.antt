@@ -19,8 +19,7 @@ use Rattle.am_eval.specs.RoutePaths.{paths_at}
 use Rattle.am_eval.specs.Conditions.{Literal, literal_holds, some_way_holds, matching, not_matching}
 use Rattle.am_eval.specs.Conditions.{stopped_by_none, no_child_of, ways_into, ways_below, ways_to_end}
 use Rattle.am_eval.specs.Conditions.{ways_to_enter, is_receiver, paths_to, ways_to_receiver}
-use Rattle.am_eval.proofs.Members.{any_in, in_any}
-use Rattle.am_eval.proofs.AnswerLaws.{passes_from_kept, kept_from_passes}
+use Rattle.am_labels.proofs.Passing.{any_in, in_any, passes_from_kept, kept_from_passes}
 use Rattle.am_eval.proofs.EndLaws.{some_matched, first_of, exactly}
 use Rattle.am_eval.proofs.FlatEnds.{ends_exactly}
 use Rattle.am_eval.proofs.SimpleParts.{goes_there, ends_there}

@@ -10,8 +10,6 @@ use Rattle.std.specs.Ordering.{nat_cmp}
 use Rattle.std.specs.declared.cmp.Ordering.TheVariants.{Less}
 use Rattle.std.proofs.lemmas.Bool.{cases_Bool, and_parts}
 use Rattle.std.proofs.lemmas.Int.{ints}
-use Rattle.am_universe.specs.Universe.{Label}
-use Rattle.am_universe.specs.Choice.{all_choices}
 use Rattle.am_universe.specs.LabelSet.{LabelMap, label_set_of}
 use Rattle.am_universe.proofs.ListLemmas.{IsIn, IsIn-from_Contains, Contains-from_IsIn}
 use Rattle.am_universe.specs.Text.{same_text}
@@ -26,8 +24,8 @@ use Rattle.am_eval.specs.Tree.{Part, Not, And, Or}
 use Rattle.am_eval.specs.Inhibition.{inhibits}
 use Rattle.am_eval.specs.Question.{Question, Simple, Any, Silenced, Inhibited, Receiver, Ends}
 use Rattle.am_eval.specs.Question.{Enters, Braces, holds_of, satisfies, answers}
-use Rattle.am_eval.proofs.AnswerLaws.{kept_behind}
-use Rattle.am_eval.proofs.Members.{any_in, in_any}
+use Rattle.am_labels.specs.Space.{Space, all_choices}
+use Rattle.am_labels.proofs.Passing.{any_in, in_any, kept_behind}
 
 -- ---- Positions.
 
@@ -211,13 +209,13 @@ same_truth w v s (Or q r) same =
     let left = same_truth w v s q same in
     let right = same_truth w v s r same in λ i. left i || right i
 
-pub same_active : (u : List Label) (w v : World) (question : Question) → w.config ≡ v.config
+pub same_active : (s : Space) (w v : World) (question : Question) → w.config ≡ v.config
     → w.alerts ≡ v.alerts
     → filter (is_active w.instant) w.silences ≡ filter (is_active v.instant) v.silences
-    → answers u w question ≡ answers u v question
-same_active u w v question config alerts active =
-    λ i. filter (λ choice. same_truth w v (label_set_of u choice) question (config, alerts, active) i)
-    (all_choices u)
+    → answers s w question ≡ answers s v question
+same_active s w v question config alerts active =
+    λ i. filter (λ choice. same_truth w v (label_set_of s.labels choice) question (config, alerts, active) i)
+    (all_choices s)
 
 all_steady : (from to : ℤ) (silences : List Silence) → from ≤ℤ to
     → AllByRecursion (IsSteady from to) silences
@@ -229,11 +227,11 @@ all_steady from to (silence ∷ silences) later steady =
       all_steady from to silences later steady.1,
     ) refl
 
-pub steady : (u : List Label) (w : World) (from to : ℤ) (question : Question) → from ≤ℤ to
+pub steady : (s : Space) (w : World) (from to : ℤ) (question : Question) → from ≤ℤ to
     → AllByRecursion (IsSteady from to) w.silences
-    → answers u (at_instant w from) question ≡ answers u (at_instant w to) question
-steady u w from to question later each =
-    same_active u (at_instant w from) (at_instant w to) question refl refl
+    → answers s (at_instant w from) question ≡ answers s (at_instant w to) question
+steady s w from to question later each =
+    same_active s (at_instant w from) (at_instant w to) question refl refl
     (all_steady from to w.silences later each)
 
 -- ---- What it is to be silenced.

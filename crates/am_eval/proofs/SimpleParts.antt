@@ -16,7 +16,7 @@ use Rattle.am_eval.specs.Routing.{ends, receivers, receiver_at}
 use Rattle.am_eval.specs.Inhibition.{inhibits}
 use Rattle.am_eval.specs.Tree.{Not, And, Or}
 use Rattle.am_eval.specs.Question.{Question, Inhibited, Receiver, Ends, Braces, holds_of, satisfies}
-use Rattle.am_eval.proofs.Members.{any_in, in_any}
+use Rattle.am_labels.proofs.Passing.{any_in, in_any}
 use Rattle.am_eval.proofs.SilenceLaws.{each_holds, all_of_each}
 
 pub end_from_test : (path : List ℕ) (all : List (List ℕ))

@@ -3,12 +3,12 @@ use Rattle.std.specs.Prelude.{◌≡◌, ◌⊎◌, ◌<◌, ◌≤◌, ℕ, Lis
 use Rattle.am_universe.specs.declared.kind.Kind.TheVariants as kinds
 use Rattle.am_universe.specs.declared.place.Place.{Place}
 use Rattle.am_universe.specs.declared.place.Place.TheVariants as places
-use Rattle.am_universe.specs.Universe.{Label}
 use Rattle.am_universe.specs.LabelSet.{LabelMap}
 use Rattle.am_labels.specs.ParsedLabelSet.{SpellsSet, SetTextRefusedFor}
+use Rattle.am_labels.specs.Space.{Space}
 use Rattle.am_json.specs.Pointer.{Refusal, refusal_here}
 use Rattle.am_records.specs.UniverseFile.{FileSaysUniverse}
-use Rattle.am_records.specs.UniverseFaults.{IsFirstFaultOfUniverseFile}
+use Rattle.am_records.specs.UniverseFaults.{UniverseFileRefusedFor}
 use Rattle.am_files.specs.ConfigFile.{Configuration, FileSaysConfig}
 use Rattle.am_files.specs.ConfigFaults.{ConfigFileRefusedFor}
 use Rattle.am_records.specs.SilencesFile.{Silence}
@@ -35,9 +35,9 @@ IsFirstFaultOfCall (stage ∷ later) place r =
 
 -- ---- The stages that there are.
 
--- The bytes of a file say a universe.
+-- The bytes of a file say a space.
 abbrev pub SaysSomeUniverse : List ℕ → Type 0
-SaysSomeUniverse bytes = (universe : List Label) × FileSaysUniverse bytes universe
+SaysSomeUniverse bytes = (space : Space) × FileSaysUniverse bytes space
 
 -- The bytes of a file say a configuration.
 abbrev pub SaysSomeConfig : List ℕ → Type 0
@@ -101,7 +101,7 @@ abbrev pub universe_stage : List ℕ → Stage
 universe_stage bytes = record {
   place = places.Universe;
   accepts = SaysSomeUniverse bytes;
-  refuses = IsFirstFaultOfUniverseFile bytes;
+  refuses = UniverseFileRefusedFor bytes;
 }
 
 -- The configuration file.

@@ -1,11 +1,11 @@
--- Questions: what is asked of a label set, and which choices of a universe are the answers.
+-- Questions: what is asked of a label set, and which choices of a space are the answers.
 use Rattle.std.specs.Prelude.{ℕ, List, Bool, true, not, ◌&&◌, ◌||◌, ◌==◌}
 use Rattle.std.specs.List.{filter, list_any}
 use Rattle.am_universe.specs.Universe.{Label}
-use Rattle.am_universe.specs.Choice.{all_choices}
 use Rattle.am_universe.specs.LabelSet.{LabelMap, label_set_of}
 use Rattle.am_universe.specs.Text.{same_text}
 use Rattle.am_labels.specs.Matcher.{Condition, all_hold}
+use Rattle.am_labels.specs.Space.{Space, is_possible_choice, all_choices}
 use Rattle.am_files.specs.Path.{leads_through}
 use Rattle.am_eval.specs.World.{World}
 use Rattle.am_eval.specs.Routing.{ends, receivers}
@@ -54,13 +54,16 @@ satisfies w (And q r) s = satisfies w q s && satisfies w r s
 satisfies w (Or q r) s = satisfies w q s || satisfies w r s
 
 -- The same, on the label set of a choice.
-abbrev pub is_answer : List Label → World → Question → List ℕ → Bool
-is_answer u w q choice = satisfies w q (label_set_of u choice)
+abbrev pub satisfies_at : List Label → World → Question → List ℕ → Bool
+satisfies_at u w q choice = satisfies w q (label_set_of u choice)
 
--- The answers: the choices of the universe, in declared order, whose label sets satisfy the
--- question.
+-- The answers: the choices of the space, in declared order, whose label sets satisfy the question.
 -- Source: own choice.
--- Example: of a universe with the one label `team`, which may be `db` or `web`, the answers to
--- `{team!="db"}` are the one choice 1.
-abbrev pub answers : List Label → World → Question → List (List ℕ)
-answers u w q = filter (is_answer u w q) (all_choices u)
+-- Example: of a space with the one label `team`, which may be `db` or `web`, the answers to
+-- `{team!="db"}` are the one choice 1; where `team="web"` is impossible, there is none.
+abbrev pub answers : Space → World → Question → List (List ℕ)
+answers s w q = filter (satisfies_at s.labels w q) (all_choices s)
+
+-- Whether a whole choice of the labels is an answer: it satisfies the question, and is possible.
+abbrev pub is_answer : Space → World → Question → List ℕ → Bool
+is_answer s w q choice = satisfies_at s.labels w q choice && is_possible_choice s choice

@@ -11,7 +11,8 @@ pub use Rattle.am_eval.specs.Inhibition.{have_equal, is_two_sided, inhibits, is_
 pub use Rattle.am_eval.specs.Inhibition.{inhibitors, pair_inhibits}
 pub use Rattle.am_eval.specs.InhibitionExample.{inhibiting_world, two_rules_world}
 pub use Rattle.am_eval.specs.InhibitionExample.{severity_warning, severity_any}
-pub use Rattle.am_eval.specs.Question.{Question, holds_of, satisfies, is_answer, answers}
+pub use Rattle.am_eval.specs.Question.{Question, holds_of, satisfies, satisfies_at}
+pub use Rattle.am_eval.specs.Question.{answers, is_answer}
 pub use Rattle.am_eval.specs.QuestionView.{question_view}
 pub use Rattle.am_eval.specs.RoutePaths.{paths_at, paths_from, paths_of}
 pub use Rattle.am_eval.specs.Conditions.{Literal, literal_holds, some_way_holds, conditions_of}

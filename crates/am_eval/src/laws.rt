@@ -7,7 +7,8 @@ ghost use Rattle.std.specs.Ordering.{nat_cmp};
 ghost use Rattle.std.specs.Cmp.Lexicographic.{slice_cmp};
 ghost use Rattle.std.specs.List.{AllByRecursion, filter};
 ghost use Rattle.std.specs.List.Sorted.{IsStrictlySortedBy};
-ghost use Rattle.am_labels.specs.Words.{Label, sizes, IsWhole, LabelMap, label_set_of, all_hold};
+ghost use Rattle.am_labels.specs.Words.{choices, sizes, LabelMap, label_set_of, all_hold};
+ghost use Rattle.am_labels.specs.Words.{Space, IsChoiceOf};
 ghost use Rattle.am_universe.specs.declared.kind.Kind.{Kind};
 ghost use Rattle.am_universe.specs.declared.kind.Kind.TheVariants as kinds;
 ghost use Rattle.am_universe.specs.declared.place.Place.{Place};
@@ -30,7 +31,7 @@ ghost use Rattle.am_eval.specs.Words.{is_two_sided, inhibits, is_inhibited, inhi
 ghost use Rattle.am_eval.specs.Words.{pair_inhibits, inhibiting_world, severity_critical};
 ghost use Rattle.am_eval.specs.Words.{two_rules_world, inhibited_line};
 ghost use Rattle.am_eval.specs.Words.{severity_warning, severity_any};
-ghost use Rattle.am_eval.specs.Words.{Question, holds_of, satisfies, answers};
+ghost use Rattle.am_eval.specs.Words.{Question, holds_of, satisfies, answers, is_answer};
 ghost use Rattle.am_eval.specs.Words.{WorldInputs, AcceptsWorld, IsFirstFaultOfCall};
 ghost use Rattle.am_eval.specs.Words.{explain_stages};
 ghost use Rattle.am_eval.specs.Words.{Tree};
@@ -190,13 +191,13 @@ pub fn inactive_silences_hide_nothing()
 /// where the same silences are active, in the same order. So two instants give the same answers
 /// where no silence begins or ends after the first and up to the second, that one included.
 pub fn answers_change_only_where_silences_begin_or_end()
-    ensures same_active { (u : List Label) (w v : World) (question : Question)
+    ensures same_active { (s : Space) (w v : World) (question : Question)
         → w.config ≡ v.config → w.alerts ≡ v.alerts
         → filter (is_active w.instant) w.silences ≡ filter (is_active v.instant) v.silences
-        → answers u w question ≡ answers u v question }
-    ensures steady { (u : List Label) (w : World) (from to : ℤ) (question : Question)
+        → answers s w question ≡ answers s v question }
+    ensures steady { (s : Space) (w : World) (from to : ℤ) (question : Question)
         → from ≤ℤ to → AllByRecursion (IsSteady from to) w.silences
-        → answers u (at_instant w from) question ≡ answers u (at_instant w to) question }
+        → answers s (at_instant w from) question ≡ answers s (at_instant w to) question }
 {}
 
 /// An example: what a silence of the team `db`, from 10 to 20, hides at 10, at 20, of another team,
@@ -300,19 +301,21 @@ pub fn a_simple_part_is_true_where_its_condition_holds()
         → holds_of w simple s ≡ some_way_holds (literal_holds s) (conditions_of w simple) }
 {}
 
-/// A choice is among the answers exactly where it is whole and its label set satisfies the
-/// question.
-pub fn answers_are_the_whole_choices_that_satisfy()
-    ensures exactly { (u : List Label) (w : World) (question : Question) (choice : List ℕ)
-        → (Contains (answers u w question) choice
-        ↔ (IsWhole (sizes u) choice
-        × IsTrue (satisfies w question (label_set_of u choice)))) }
+/// A choice is among the answers exactly where it is one of the space and its label set satisfies
+/// the question. The answers are those whole choices of the labels of which it is true to be one.
+pub fn answers_are_the_choices_that_satisfy()
+    ensures exactly { (s : Space) (w : World) (question : Question) (choice : List ℕ)
+        → (Contains (answers s w question) choice
+        ↔ (IsChoiceOf s choice
+        × IsTrue (satisfies w question (label_set_of s.labels choice)))) }
+    ensures of_all { (s : Space) (w : World) (question : Question)
+        → answers s w question ≡ filter (is_answer s w question) (choices (sizes s.labels)) }
 {}
 
 /// Each answer comes before those after it in declared order, so none stands twice.
 pub fn answers_ascend()
-    ensures ascending { (u : List Label) (w : World) (question : Question)
-        → IsStrictlySortedBy (slice_cmp nat_cmp) (answers u w question) }
+    ensures ascending { (s : Space) (w : World) (question : Question)
+        → IsStrictlySortedBy (slice_cmp nat_cmp) (answers s w question) }
 {}
 
 /// A text that is that of a label set is not refused as one. A text that is refused is refused with

@@ -1,9 +1,9 @@
 -- The inputs of a question that are accepted have no first fault, but for the patterns that the
 -- engine may refuse.
-use Rattle.std.proofs.Common.{◌≡◌, ℕ, List, [], ◌∷◌, ◌++◌, Option, sym, subst}
+use Rattle.std.proofs.Common.{◌≡◌, [], ◌∷◌, ◌++◌, subst}
 use Rattle.am_universe.specs.declared.kind.Kind.TheVariants as kinds
 use Rattle.am_universe.specs.declared.place.Place.{Place}
-use Rattle.am_universe.specs.Universe.{Label}
+use Rattle.am_labels.specs.Space.{Space}
 use Rattle.am_json.specs.Pointer.{Refusal}
 use Rattle.am_json.proofs.Readings.{says_one}
 use Rattle.am_records.proofs.UniverseSays as universe_file
@@ -11,7 +11,7 @@ use Rattle.am_files.specs.ConfigFile.{Configuration}
 use Rattle.am_eval.specs.World.{World}
 use Rattle.am_eval.specs.Question.{Question}
 use Rattle.am_eval.specs.Files.{config_of}
-use Rattle.am_eval.specs.Faults.{Stage, IsFirstFaultOfCall, universe_stage}
+use Rattle.am_eval.specs.Faults.{IsFirstFaultOfCall, universe_stage}
 use Rattle.am_eval.specs.WorldInputs.{world_stages}
 use Rattle.am_eval.proofs.AcceptedInputs.{by_stage, world_accepted, universe_accepted}
 use Rattle.am_eval.proofs.AcceptedInputs.{one_configuration}
@@ -23,40 +23,40 @@ use Rattle.am_questions.specs.QuestionStages.{question_stage, token_stage}
 use Rattle.am_questions.specs.Inputs.{Inputs, AcceptsInputs, ask_stages}
 use Rattle.am_questions.proofs.QuestionRefusals.{question_accepted}
 
-question_stage_accepted : (inputs : Inputs) (u : List Label) (w : World) (q : Question)
-    (start : Start) (r : Refusal) → AcceptsInputs inputs u w q start
+question_stage_accepted : (inputs : Inputs) (s : Space) (w : World) (q : Question)
+    (start : Start) (r : Refusal) → AcceptsInputs inputs s w q start
     → QuestionStageRefusedFor (config_of inputs.world.config) inputs.question r
     → r.kind ≡ kinds.Pattern
-question_stage_accepted inputs u w q start r accepts refused =
+question_stage_accepted inputs s w q start r accepts refused =
     question_accepted w.config inputs.question q r.kind accepts.reads
     (subst (λ (c : Configuration). QuestionRefusedFor c inputs.question r.kind)
     (one_configuration (config_of inputs.world.config) refused.0 w.config refused.1
     accepts.accepts_world.says_config)
     refused.2)
 
-token_stage_accepted : (inputs : Inputs) (u : List Label) (w : World) (q : Question)
-    (start : Start) (r : Refusal) → AcceptsInputs inputs u w q start
+token_stage_accepted : (inputs : Inputs) (s : Space) (w : World) (q : Question)
+    (start : Start) (r : Refusal) → AcceptsInputs inputs s w q start
     → TokenRefusedFor inputs.universe inputs.after r → ⊥
-token_stage_accepted inputs u w q start r accepts refused =
+token_stage_accepted inputs s w q start r accepts refused =
     refused.2 start
-    (subst (λ (v : List Label). AsksStart v inputs.after start)
-    (says_one (universe_file.file_decides inputs.universe) u refused.0 accepts.says_universe
+    (subst (λ (t : Space). AsksStart t.labels inputs.after start)
+    (says_one (universe_file.file_decides inputs.universe) s refused.0 accepts.says_universe
     refused.1)
     accepts.starts)
 
-pub asked_accepted : (inputs : Inputs) (u : List Label) (w : World) (q : Question) (start : Start)
-    (place : Place) (r : Refusal) → AcceptsInputs inputs u w q start
+pub asked_accepted : (inputs : Inputs) (s : Space) (w : World) (q : Question) (start : Start)
+    (place : Place) (r : Refusal) → AcceptsInputs inputs s w q start
     → IsFirstFaultOfCall (ask_stages inputs) place r → r.kind ≡ kinds.Pattern
-asked_accepted inputs u w q start place r accepts =
+asked_accepted inputs s w q start place r accepts =
     let last = token_stage inputs.universe inputs.after ∷ [] in
     let asked = question_stage (config_of inputs.world.config) inputs.question in
     by_stage (r.kind ≡ kinds.Pattern) (universe_stage inputs.universe)
     (world_stages inputs.world ++ asked ∷ last) place r
-    (λ refused. absurd (universe_accepted inputs.universe u r accepts.says_universe refused))
+    (λ refused. universe_accepted inputs.universe s r accepts.says_universe refused)
     (world_accepted (r.kind ≡ kinds.Pattern) inputs.world w (asked ∷ last) place r
     accepts.accepts_world (λ pattern. pattern)
     (by_stage (r.kind ≡ kinds.Pattern) asked last place r
-    (λ refused. question_stage_accepted inputs u w q start r accepts refused)
+    (λ refused. question_stage_accepted inputs s w q start r accepts refused)
     (by_stage (r.kind ≡ kinds.Pattern) (token_stage inputs.universe inputs.after) [] place r
-    (λ refused. absurd (token_stage_accepted inputs u w q start r accepts refused))
+    (λ refused. absurd (token_stage_accepted inputs s w q start r accepts refused))
     (λ none. absurd none))))

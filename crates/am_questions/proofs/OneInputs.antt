@@ -1,7 +1,8 @@
--- The inputs of a call, where they are accepted, are so as one universe, one world, one question
--- and one start.
+-- The inputs of a call, where they are accepted, are so as one space, one world, one question and
+-- one start.
 use Rattle.std.proofs.Common.{◌≡◌, ℕ, List, Option, Some, None, sym, subst, ◌∙◌}
 use Rattle.am_universe.specs.Universe.{Label, IsUniverse, sizes}
+use Rattle.am_labels.specs.Space.{Space}
 use Rattle.am_json.proofs.Readings.{says_one}
 use Rattle.am_records.specs.UniverseFile.{FileSaysUniverse}
 use Rattle.am_records.specs.SilencesFile.{Silence}
@@ -19,9 +20,9 @@ use Rattle.am_questions.specs.AskedStart.{AsksStart}
 use Rattle.am_questions.specs.Inputs.{Inputs, AcceptsInputs}
 use Rattle.am_questions.proofs.OneMeaning.{one_question}
 
-one_universe : (bytes : List ℕ) (u v : List Label) → FileSaysUniverse bytes u
-    → FileSaysUniverse bytes v → u ≡ v
-one_universe bytes u v = says_one (universe_file.file_decides bytes) u v
+one_space : (bytes : List ℕ) (s t : Space) → FileSaysUniverse bytes s → FileSaysUniverse bytes t
+    → s ≡ t
+one_space bytes s t = says_one (universe_file.file_decides bytes) s t
 
 silences_once : (file : Option (List ℕ)) (silences others : List Silence)
     → SaysSilencesIfAny file silences → SaysSilencesIfAny file others → silences ≡ others
@@ -52,17 +53,17 @@ one_start u None start other is asks also = asks ∙ sym also
 one_start u (Some token) start other is asks also =
     same_start (sizes u) start other (sizes_of_universe u is) asks.0 also.0 (asks.1 ∙ sym also.1)
 
-pub one_meaning_of_inputs : (inputs : Inputs) (u v : List Label) (w x : World) (q r : Question)
-    (start other : Start) → AcceptsInputs inputs u w q start → AcceptsInputs inputs v x r other
-    → (u ≡ v) × (w ≡ x) × (q ≡ r) × (start ≡ other)
-one_meaning_of_inputs inputs u v w x q r start other said again =
-    let universe : u ≡ v =
-    one_universe inputs.universe u v said.says_universe again.says_universe in
+pub one_meaning_of_inputs : (inputs : Inputs) (s t : Space) (w x : World) (q r : Question)
+    (start other : Start) → AcceptsInputs inputs s w q start → AcceptsInputs inputs t x r other
+    → (s ≡ t) × (w ≡ x) × (q ≡ r) × (start ≡ other)
+one_meaning_of_inputs inputs s t w x q r start other said again =
+    let space : s ≡ t = one_space inputs.universe s t said.says_universe again.says_universe in
     let world : w ≡ x = one_world inputs.world w x said.accepts_world again.accepts_world in
     let question : q ≡ r = one_question x.config inputs.question q r
     (subst (λ (y : World). ReadsQuestion y.config inputs.question q) world said.reads)
     again.reads in
-    let starts : start ≡ other = one_start v inputs.after start other again.says_universe.3.is_universe
-    (subst (λ (y : List Label). AsksStart y inputs.after start) universe said.starts)
+    let starts : start ≡ other = one_start t.labels inputs.after start other
+    again.says_universe.3.is_universe
+    (subst (λ (y : Space). AsksStart y.labels inputs.after start) space said.starts)
     again.starts in
-    (universe, world, question, starts)
+    (space, world, question, starts)

@@ -1,8 +1,8 @@
 -- The parts of a tree stand in its tokens in their order.
-use Rattle.std.proofs.Common.{◌≡◌, ℕ, List, [], ◌∷◌, ◌++◌, refl, sym, ap, subst, ◌∙◌, inl, inr}
+use Rattle.std.proofs.Common.{List, [], ◌∷◌, ◌++◌, refl, sym, ap, subst, ◌∙◌, inl, inr}
 use Rattle.std.proofs.Common.{append_assoc, append-nil, codes}
 use Rattle.std.specs.List.{AllByRecursion}
-use Rattle.am_eval.specs.Tree.{Tree, Part, Not, And, Or}
+use Rattle.am_eval.specs.Tree.{Tree, Part}
 use Rattle.am_questions.specs.Tokens.{Token, Open, Close, Word}
 use Rattle.am_questions.specs.Grammar.{Written, IsQuestion, IsBoth, IsOne, IsSimple, StandInOrder}
 use Rattle.am_questions.specs.Grammar.{IsJoint, no_part, part_before}

@@ -1,7 +1,7 @@
 -- The text of a question is read or refused, never both, and refused with one kind; but for the
 -- patterns that the engine may refuse.
-use Rattle.std.proofs.Common.{◌≡◌, ◌≢◌, ◌<◌, ◌≤◌, ℕ, List, [], ◌∷◌, ◌++◌, length, Option, None, Some}
-use Rattle.std.proofs.Common.{refl, sym, ap, subst, ◌∙◌, ◌⊎◌, inl, inr, arith}
+use Rattle.std.proofs.Common.{◌≡◌, ◌≢◌, ◌≤◌, ℕ, List, [], ◌∷◌, ◌++◌, length, None, Some}
+use Rattle.std.proofs.Common.{sym, subst, ◌∙◌, ◌⊎◌, inl, inr, arith}
 use Rattle.std.specs.List.{AllByRecursion}
 use Rattle.am_universe.specs.declared.kind.Kind.{Kind}
 use Rattle.am_universe.specs.declared.kind.Kind.TheVariants as kinds
@@ -14,8 +14,8 @@ use Rattle.am_questions.specs.Tokens.{Token}
 use Rattle.am_questions.specs.Grammar.{Written, WrittenAny, WrittenSilenced, WrittenInhibited}
 use Rattle.am_questions.specs.Grammar.{WrittenReceiver, WrittenEnds, WrittenEnters, WrittenBraces}
 use Rattle.am_questions.specs.Grammar.{IsQuestion}
-use Rattle.am_questions.specs.QuestionText.{Means, TreeMeans, ReadsQuestion, parts_of}
-use Rattle.am_questions.specs.QuestionText.{receiver_named, PartRefusedFor, IsMeant, PartsRefusedFor}
+use Rattle.am_questions.specs.QuestionText.{TreeMeans, ReadsQuestion, parts_of}
+use Rattle.am_questions.specs.QuestionText.{PartRefusedFor, IsMeant, PartsRefusedFor}
 use Rattle.am_questions.specs.QuestionText.{TokensRefusedFor, QuestionRefusedFor}
 use Rattle.am_questions.proofs.TokenTexts.{one_list}
 use Rattle.am_questions.proofs.Takes.{one_tree}

@@ -1,7 +1,7 @@
 -- What a call is handed that asks a question, when that is accepted, and the order of its faults.
 -- (This project's own.)
 use Rattle.std.specs.Prelude.{ℕ, List, [], ◌∷◌, ◌++◌, Option, Some, option_copied}
-use Rattle.am_universe.specs.Universe.{Label}
+use Rattle.am_labels.specs.Space.{Space}
 use Rattle.am_records.specs.UniverseFile.{FileSaysUniverse}
 use Rattle.am_search.specs.declared.start.Start.{Start}
 use Rattle.am_search.specs.declared.page.Page.{Page}
@@ -41,14 +41,15 @@ after_token inputs token = record {
   after = Some token;
 }
 
--- The inputs are accepted: the file says the universe, the world is accepted, the text is read as
--- the question about its configuration, and the start is the one that is asked for.
-pub record AcceptsInputs (inputs : Inputs) (universe : List Label) (world : World)
+-- The inputs are accepted: the universe file says the space, the world is accepted, the text is
+-- read as the question about its configuration, and the start is the one that is asked for over the
+-- labels of the space. A token may name a choice that is impossible.
+pub record AcceptsInputs (inputs : Inputs) (space : Space) (world : World)
     (question : Question) (start : Start) : Type 0 where
-  pub says_universe : FileSaysUniverse inputs.universe universe
+  pub says_universe : FileSaysUniverse inputs.universe space
   pub accepts_world : AcceptsWorld inputs.world world
   pub reads : ReadsQuestion world.config inputs.question question
-  pub starts : AsksStart universe inputs.after start
+  pub starts : AsksStart space.labels inputs.after start
 
 -- The stages of `ask`, in order: the universe file, those of the world, the question, the token.
 -- Source: own choice.

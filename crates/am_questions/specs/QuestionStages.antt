@@ -2,7 +2,7 @@
 use Rattle.std.specs.Prelude.{◌≡◌, ℕ, List, [], Option}
 use Rattle.am_universe.specs.declared.kind.Kind.TheVariants as kinds
 use Rattle.am_universe.specs.declared.place.Place.TheVariants as places
-use Rattle.am_universe.specs.Universe.{Label}
+use Rattle.am_labels.specs.Space.{Space}
 use Rattle.am_json.specs.Pointer.{Refusal, refusal_here}
 use Rattle.am_records.specs.UniverseFile.{FileSaysUniverse}
 use Rattle.am_files.specs.ConfigFile.{Configuration, FileSaysConfig}
@@ -25,17 +25,18 @@ QuestionStageRefusedFor bytes text r =
     (configuration : Configuration) × FileSaysConfig bytes configuration
     × QuestionRefusedFor configuration text r.kind × (r.pointer ≡ [])
 
--- The token, if there is one, asks for a start over the universe that the bytes of a file say.
+-- The token, if there is one, asks for a start over the labels that the bytes of a file say.
 abbrev pub HasSomeStart : List ℕ → Option (List ℕ) → Type 0
 HasSomeStart bytes after =
-    (universe : List Label) × FileSaysUniverse bytes universe
-    × (start : Start) × AsksStart universe after start
+    (space : Space) × FileSaysUniverse bytes space
+    × (start : Start) × AsksStart space.labels after start
 
 -- The token asks for none. Such a fault stands at no part of a file.
 abbrev pub TokenRefusedFor : List ℕ → Option (List ℕ) → Refusal → Type 0
 TokenRefusedFor bytes after r =
-    (universe : List Label) × FileSaysUniverse bytes universe
-    × ((start : Start) → AsksStart universe after start → ⊥) × (r ≡ refusal_here kinds.BadToken)
+    (space : Space) × FileSaysUniverse bytes space
+    × ((start : Start) → AsksStart space.labels after start → ⊥)
+    × (r ≡ refusal_here kinds.BadToken)
 
 -- The text of the question about the configuration of a file.
 abbrev pub question_stage : List ℕ → List ℕ → Stage

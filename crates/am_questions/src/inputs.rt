@@ -3,30 +3,32 @@ ghost use Rattle.std.specs.Prelude.{IfOk, IfErr, string_bytes};
 ghost use Rattle.am_universe.specs.declared.kind.Kind.TheVariants as kinds;
 ghost use Rattle.am_universe.specs.declared.place.Place.TheVariants as places;
 ghost use Rattle.am_json.specs.Words.{refusal_of, refusal_here};
+ghost use Rattle.am_labels.specs.Words.{sizes};
 ghost use Rattle.am_search.specs.declared.start.Start.{Start};
+ghost use Rattle.am_search.specs.Words.{IsStart};
 ghost use Rattle.am_eval.specs.Words.{question_view, IsFirstFaultOfCall};
 ghost use Rattle.am_questions.specs.Words.{inputs_of, AcceptsInputs, ask_stages, AsksStart};
 
 use crate::names::parse_question;
 use am_eval::{Files, Question, World, read_world};
 use am_files::read_universe;
-use am_labels::{Choice, Fault, Place, Universe, fault_at};
+use am_labels::{Choice, Fault, Place, Space, Universe, fault_at};
 use am_search::{Page, Start, parse_token};
 use std::alloc::Global;
 
 /// What the inputs of a question say, where they are accepted.
 #[derive(Drop)]
 pub struct AcceptedInputs {
-    pub universe: Universe,
+    pub space: Space,
     pub world: World,
     pub question: Question,
     pub start: Start,
 }
 
 /// Reads the inputs of a question: the universe file, the world, the question, and then the token
-/// that says where the answers begin. The first fault is the one answered, at `Universe`, where
-/// [`read_world`] has it, at `Question` or at `Token`. `Memory`, at `Memory`, comes wherever memory
-/// ran out.
+/// that says where the answers begin. It may name a choice that is impossible. The first fault is
+/// the one answered, at `Universe`, where [`read_world`] has it, at `Question` or at `Token`.
+/// `Memory`, at `Memory`, comes wherever memory ran out.
 pub fn read_inputs(
     alloc: Global,
     universe: &[u8],
@@ -36,7 +38,9 @@ pub fn read_inputs(
 ) -> Result<AcceptedInputs, Fault>
     ensures accepts { IfOk result (λ accepted. AcceptsInputs
         (inputs_of universe.now files.now question.now page.now)
-        accepted.universe accepted.world (question_view accepted.question) accepted.start) }
+        accepted.space accepted.world (question_view accepted.question) accepted.start) }
+    ensures start { IfOk result (λ accepted.
+        IsStart (sizes accepted.space.labels) accepted.start) }
     ensures first { IfErr result (λ fault. fault.kind ≢ kinds.Memory
         → IsFirstFaultOfCall (ask_stages (inputs_of universe.now files.now question.now page.now))
         fault.place (refusal_of fault)) }
@@ -44,15 +48,15 @@ pub fn read_inputs(
         → (fault.place ≡ places.Memory) × (string_bytes fault.pointer ≡ [])) }
     ensures no_write { IfErr result (λ fault. fault.kind ≢ kinds.Write) }
 {
-    let universe = read_universe(alloc, universe)?;
+    let space = read_universe(alloc, universe)?;
     let world = read_world(alloc, files)?;
     let question = match parse_question(alloc, question, world.config()) {
         Ok(question) => question,
         Err(kind) => return Err(fault_at(alloc, kind, Place::Question)),
     };
-    let start = read_start(alloc, page.after, &universe)?;
+    let start = read_start(alloc, page.after, space.universe())?;
     Ok(AcceptedInputs {
-        universe,
+        space,
         world,
         question,
         start,

@@ -6,7 +6,7 @@ ghost use Rattle.am_eval.specs.Tree.{Tree, Not, And, Or};
 ghost use Rattle.am_universe.specs.declared.kind.Kind.{Kind};
 ghost use Rattle.am_universe.specs.declared.kind.Kind.TheVariants as kinds;
 ghost use Rattle.am_universe.specs.declared.place.Place.{Place};
-ghost use Rattle.am_universe.specs.Words.{Label};
+ghost use Rattle.am_labels.specs.Words.{Space};
 ghost use Rattle.am_json.specs.Words.{Refusal};
 ghost use Rattle.am_search.specs.declared.start.Start.{Start};
 ghost use Rattle.am_eval.specs.Words.{Question, World, IsFirstFaultOfCall};
@@ -57,12 +57,12 @@ pub fn one_question_a_text()
         → ReadsQuestion c text p → ReadsQuestion c text q → p ≡ q }
 {}
 
-/// The inputs of a call, where they are accepted, mean one thing: they fix the universe, the world,
+/// The inputs of a call, where they are accepted, mean one thing: they fix the space, the world,
 /// the question and the start.
 pub fn accepted_inputs_mean_one_thing()
-    ensures one { (inputs : Inputs) (u v : List Label) (w x : World) (q r : Question)
-        (start other : Start) → AcceptsInputs inputs u w q start → AcceptsInputs inputs v x r other
-        → (u ≡ v) × (w ≡ x) × (q ≡ r) × (start ≡ other) }
+    ensures one { (inputs : Inputs) (s t : Space) (w x : World) (q r : Question)
+        (start other : Start) → AcceptsInputs inputs s w q start → AcceptsInputs inputs t x r other
+        → (s ≡ t) × (w ≡ x) × (q ≡ r) × (start ≡ other) }
 {}
 
 /// A text that is read as a question about a configuration is refused at most for a pattern, which
@@ -78,8 +78,8 @@ pub fn a_question_is_not_read_and_refused()
 /// Where the inputs of a question are accepted, they have no first fault, but for a pattern, which
 /// the engine may refuse.
 pub fn accepted_inputs_have_no_fault()
-    ensures pattern { (inputs : Inputs) (u : List Label) (w : World) (q : Question) (start : Start)
-        (place : Place) (refusal : Refusal) → AcceptsInputs inputs u w q start
+    ensures pattern { (inputs : Inputs) (s : Space) (w : World) (q : Question) (start : Start)
+        (place : Place) (refusal : Refusal) → AcceptsInputs inputs s w q start
         → IsFirstFaultOfCall (ask_stages inputs) place refusal
         → refusal.kind ≡ kinds.Pattern }
 {}

@@ -23,7 +23,7 @@ returns-in_err-world-clause-first c =
     → IsFirstFaultOfCall (ask_stages inputs) f.place (refusal_of f))
     fault c.from_residual-in_err-world.result c.from_residual-in_err-world.ensures.1
     (λ remembered. inr (
-      (c.in_ok-universe.universe, c.in_ok-universe.ensures.says),
+      (c.in_ok-space.space, c.in_ok-space.ensures.says),
       first_of_more (world_stages inputs.world)
           (question_stage (config_of inputs.world.config) inputs.question
           ∷ token_stage inputs.universe inputs.after ∷ [])
@@ -40,7 +40,7 @@ returns-in-Err-clause-first c = λ remembered.
     let refused : QuestionRefusedFor world.config inputs.question c.fault_at.result.kind =
     rw (c.fault_at.ensures.kind, ← c.config.ensures.config) (c.in-Err.ensures.refused given) in
     inr (
-      (c.in_ok-universe.universe, c.in_ok-universe.ensures.says),
+      (c.in_ok-space.space, c.in_ok-space.ensures.says),
       first_behind_world inputs.world world
           (question_stage (config_of inputs.world.config) inputs.question
           ∷ token_stage inputs.universe inputs.after ∷ [])
@@ -59,13 +59,13 @@ returns-in_err-start-clause-first c =
     let accepts = c.in_ok-world.ensures.accepts in
     let reads : ReadsQuestion world.config inputs.question (question_view c.in-Ok.question) =
     rw (← c.config.ensures.config) c.in-Ok.ensures.read in
-    let refused = c.in_err-start.ensures.refused in
+    let refused = rw c.universe.ensures.labels at c.in_err-start.ensures.refused in
     handed_on
     (λ (f : Fault). f.kind ≢ kinds.Memory
     → IsFirstFaultOfCall (ask_stages inputs) f.place (refusal_of f))
     fault c.from_residual-in_err-start.result c.from_residual-in_err-start.ensures.1
     (λ remembered. inr (
-      (c.in_ok-universe.universe, c.in_ok-universe.ensures.says),
+      (c.in_ok-space.space, c.in_ok-space.ensures.says),
       first_behind_world inputs.world world
           (question_stage (config_of inputs.world.config) inputs.question
           ∷ token_stage inputs.universe inputs.after ∷ [])
@@ -73,7 +73,7 @@ returns-in_err-start-clause-first c =
             (world.config, accepts.says_config, question_view c.in-Ok.question, reads),
             inl (
               refused.0,
-              (c.in_ok-universe.universe, c.in_ok-universe.ensures.says, refused.1, refused.2),
+              (c.in_ok-space.space, c.in_ok-space.ensures.says, refused.1, refused.2),
             ),
           )),
     ))

@@ -1,5 +1,0 @@
-use Rattle.am_eval.proofs.AnswerLaws.{answers_exact}
-use Rattle.am_eval.proofs.laws.answers_are_the_whole_choices_that_satisfy.Goals as goal
-
-pub returns : goal.returns
-returns c = record { exactly = answers_exact }
