@@ -1,6 +1,7 @@
 pub mod Kleene
 pub mod SomeWay
 pub mod Soundness
+pub mod SpaceExample
 pub mod OneList
 pub mod WalkLemmas
 pub mod RouteSteps
@@ -11,6 +12,9 @@ pub mod ListSteps
 pub mod PairSteps
 pub mod SilenceSteps
 pub mod WorldServed
+pub mod PossibleSteps
 pub mod PlanJudges
+pub mod ImpossibleCubes
+pub mod FirstPossible
 pub mod WayReasons
 pub mod WayMeaning

@@ -1,8 +1,10 @@
--- The judge of a question that is one list of matchers is exact.
-use Rattle.std.proofs.Common.{◌≡◌, ◌≤◌, ℕ, ◌+◌, ◌*◌, Bool, List, [], length, not, sym, ◌∙◌, refl}
+-- The judge of a question that is one list of matchers is exact, where nothing is impossible.
+use Rattle.std.proofs.Common.{◌≡◌, ◌≤◌, ℕ, ◌+◌, ◌*◌, Bool, List, [], length, map, not, ◌&&◌}
+use Rattle.std.proofs.Common.{ap, sym, ◌∙◌, refl}
 use Rattle.std.specs.Prelude.{IsTrue}
 use Rattle.std.specs.List.{sum, list_any}
-use Rattle.am_labels.specs.Words.{Label, sizes, admits, completions, Condition}
+use Rattle.am_labels.specs.Words.{Space, sizes, admits, completions, Condition}
+use Rattle.am_labels.specs.Words.{label_set_of, is_possible}
 use Rattle.am_search.specs.declared.start.Start.{Start}
 use Rattle.am_search.specs.declared.start.Start.TheVariants.{At}
 use Rattle.am_search.specs.declared.verdict.Verdict.{Verdict}
@@ -13,49 +15,69 @@ use Rattle.am_masks.specs.Words.{matches_at, verdict_of_list}
 use Rattle.am_masks.proofs.VerdictLemmas.{open_exactly}
 use Rattle.am_eval.specs.Tree.{Part}
 use Rattle.am_eval.specs.Question.{Braces}
-use Rattle.am_eval.specs.Words.{World, Question, is_answer}
+use Rattle.am_eval.specs.Words.{World, Question, is_answer, not_matching}
 use Rattle.am_eval.proofs.ConditionLaws as conditions
 use Rattle.am_cubes.specs.declared.plan.Plan.{Plan}
-use Rattle.am_cubes.specs.PlanWords.{plan_universe, plan_world, plan_sizes, plan_verdict}
+use Rattle.am_cubes.specs.PlanWords.{plan_space, plan_world, plan_sizes, plan_verdict}
 use Rattle.am_cubes.specs.PlanWords.{plan_is_judge}
-use Rattle.am_cubes.specs.Verdicts.{kleene_and, kleene_or, verdict_of}
+use Rattle.am_cubes.specs.Verdicts.{kleene_and, kleene_or, all_of, verdict_of_literal}
+use Rattle.am_cubes.specs.Verdicts.{verdict_of_question, verdict_of}
+use Rattle.am_cubes.proofs.ListSteps.{and_true, same_any_test}
 use Rattle.am_cubes.proofs.Soundness.{yes_says_all, no_says_none, never_open}
 
--- the or of one way, which is the and of one literal
-one_way : (v : Verdict) → kleene_or (kleene_and v Yes) No ≡ v
+-- the or of one way, which is the and of one literal; and that it is possible
+one_way : (v : Verdict) → kleene_and (kleene_or (kleene_and v Yes) No) Yes ≡ v
 one_way Yes = refl
 one_way No = refl
 one_way Open = refl
 
--- with verdicts that are those of the question at each prefix that the universe admits
-module _ (u : List Label) (w : World) (ms : List Condition) (verdict : List ℕ → Verdict)
-    (same : (prefix : List ℕ) → IsTrue (admits (sizes u) prefix)
-    → verdict prefix ≡ verdict_of u w (Part (Braces ms)) prefix) where
-  verdict_of_its_list : (prefix : List ℕ) → IsTrue (admits (sizes u) prefix)
-      → verdict prefix ≡ verdict_of_list u ms prefix
-  verdict_of_its_list prefix a = same prefix a ∙ one_way (verdict_of_list u ms prefix)
+-- with verdicts that are those of the question at each prefix that the space admits
+module _ (s : Space) (w : World) (ms : List Condition) (none : s.impossible ≡ [])
+    (verdict : List ℕ → Verdict)
+    (same : (prefix : List ℕ) → IsTrue (admits (sizes s.labels) prefix)
+    → verdict prefix ≡ verdict_of s w (Part (Braces ms)) prefix) where
+  verdict_of_its_list : (prefix : List ℕ) → IsTrue (admits (sizes s.labels) prefix)
+      → verdict prefix ≡ verdict_of_list s.labels ms prefix
+  verdict_of_its_list prefix a =
+      same prefix a
+      ∙ ap (λ lists. kleene_and (verdict_of_question s.labels w (Part (Braces ms)) prefix)
+      (all_of (map (λ ms. verdict_of_literal s.labels prefix (not_matching ms)) lists))) none
+      ∙ one_way (verdict_of_list s.labels ms prefix)
 
-  some_match_and_some_do_not : (prefix : List ℕ) → IsTrue (admits (sizes u) prefix)
+  answers_match : (c : List ℕ)
+      → matches_at s.labels ms c ≡ is_answer s w (Part (Braces ms)) c
+  answers_match c =
+      sym (ap (λ lists. matches_at s.labels ms c && is_possible lists (label_set_of s.labels c)) none
+      ∙ and_true (matches_at s.labels ms c))
+
+  some_match_and_some_do_not : (prefix : List ℕ) → IsTrue (admits (sizes s.labels) prefix)
       → verdict prefix ≡ Open
-      → IsTrue (list_any (matches_at u ms) (completions (sizes u) prefix))
-      × IsTrue (list_any (λ c. not (matches_at u ms c)) (completions (sizes u) prefix))
+      → IsTrue (list_any (is_answer s w (Part (Braces ms))) (completions (sizes s.labels) prefix))
+      × IsTrue (list_any (λ c. not (is_answer s w (Part (Braces ms)) c))
+      (completions (sizes s.labels) prefix))
   some_match_and_some_do_not prefix a e =
-      (open_exactly (matches_at u ms) (completions (sizes u) prefix)).0
-      (sym (verdict_of_its_list prefix a) ∙ e)
+      let cs = completions (sizes s.labels) prefix in
+      let matches = matches_at s.labels ms in
+      let answers = is_answer s w (Part (Braces ms)) in
+      let both = (open_exactly matches cs).0 (sym (verdict_of_its_list prefix a) ∙ e) in (
+        sym (same_any_test matches answers cs answers_match) ∙ both.0,
+        sym (same_any_test (λ c. not (matches c)) (λ c. not (answers c)) cs
+            (λ c. ap not (answers_match c))) ∙ both.1,
+      )
 
-  pub is_exact_judge : AreSizes (sizes u)
-      → IsExactJudge (sizes u) (is_answer u w (Part (Braces ms))) verdict
+  pub is_exact_judge : AreSizes (sizes s.labels)
+      → IsExactJudge (sizes s.labels) (is_answer s w (Part (Braces ms))) verdict
   is_exact_judge are =
       let question : Question = Part (Braces ms) in
       record {
         judge = record {
           limits = are;
           yes = λ prefix a e.
-              yes_says_all conditions.exactly u w question prefix (sym (same prefix a) ∙ e);
+              yes_says_all conditions.exactly s w question prefix (sym (same prefix a) ∙ e);
           no = λ prefix a e.
-              no_says_none conditions.exactly u w question prefix (sym (same prefix a) ∙ e);
+              no_says_none conditions.exactly s w question prefix (sym (same prefix a) ∙ e);
           whole = λ c whole e.
-              never_open conditions.exactly u w question c whole (sym (same c whole.0) ∙ e);
+              never_open conditions.exactly s w question c whole (sym (same c whole.0) ∙ e);
         };
         some = λ prefix a e. (some_match_and_some_do_not prefix a e).0;
         not_all = λ prefix a e. (some_match_and_some_do_not prefix a e).1;
@@ -63,16 +85,16 @@ module _ (u : List Label) (w : World) (ms : List Condition) (verdict : List ℕ 
 
 -- ---- What a plan judges.
 
-module _ (plan : Plan) (ms : List Condition)
+module _ (plan : Plan) (ms : List Condition) (none : (plan_space plan).impossible ≡ [])
     (same : (prefix : List ℕ) → IsTrue (admits (plan_sizes plan) prefix)
     → plan_verdict plan prefix
-    ≡ verdict_of (plan_universe plan) (plan_world plan) (Part (Braces ms)) prefix) where
+    ≡ verdict_of (plan_space plan) (plan_world plan) (Part (Braces ms)) prefix) where
   abbrev is_its_answer : List ℕ → Bool
-  is_its_answer = is_answer (plan_universe plan) (plan_world plan) (Part (Braces ms))
+  is_its_answer = is_answer (plan_space plan) (plan_world plan) (Part (Braces ms))
 
   is_exact : IsExactJudge (plan_sizes plan) is_its_answer (plan_verdict plan)
   is_exact =
-      is_exact_judge (plan_universe plan) (plan_world plan) ms (plan_verdict plan) same
+      is_exact_judge (plan_space plan) (plan_world plan) ms none (plan_verdict plan) same
       (plan_is_judge plan).limits
 
   pub at_most : (start : Start) → length (visited (plan_sizes plan) (plan_verdict plan) start)

@@ -22,7 +22,8 @@ use Rattle.am_eval.specs.Words.{World, Literal, pairs_of, some_way_holds, inhibi
 use Rattle.am_eval.specs.Words.{same_value}
 use Rattle.am_eval.specs.Conditions.{pair_way}
 use Rattle.am_eval.proofs.Inhibitors.{rule_within}
-use Rattle.am_eval.proofs.Members.{in_any, in_at}
+use Rattle.am_labels.proofs.Passing.{in_any}
+use Rattle.am_eval.proofs.Members.{in_at}
 use Rattle.am_masks.specs.declared.modality.Modality.{Modality}
 use Rattle.am_masks.specs.declared.modality.Modality.TheVariants.{May, Must}
 use Rattle.am_cubes.specs.declared.pair_lists.PairList.{PairList}

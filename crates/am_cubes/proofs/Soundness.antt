@@ -1,4 +1,5 @@
--- The verdict of a question agrees with its truth at each completion, and says it at a whole choice.
+-- The verdict of a question agrees with its truth at each completion, and says it at a whole choice;
+-- and so does the verdict of being an answer.
 use Rattle.std.proofs.Common.{◌≡◌, ◌≢◌, ℕ, Bool, true, false, not, ◌&&◌, ◌||◌, List, [], ◌∷◌, map}
 use Rattle.std.proofs.Common.{cond, refl, ap, sym, ◌∙◌, subst}
 use Rattle.std.specs.List.{list_all, list_any, AllByRecursion}
@@ -9,16 +10,19 @@ use Rattle.am_universe.specs.LabelSet.{LabelMap, label_set_of}
 use Rattle.am_universe.proofs.ListLemmas.{IsIn, AllByRecursion-at, AllByRecursion-each}
 use Rattle.am_universe.proofs.CompletionLemmas.{completions_of_whole}
 use Rattle.am_labels.specs.Matcher.{all_hold}
+use Rattle.am_labels.specs.Space.{Space, is_possible_choice}
 use Rattle.am_search.specs.declared.verdict.Verdict.{Verdict}
 use Rattle.am_search.specs.declared.verdict.Verdict.TheVariants.{Yes, No, Open}
 use Rattle.am_masks.specs.Verdicts.{matches_at, verdict_over, verdict_of_list}
 use Rattle.am_masks.proofs.VerdictLemmas.{yes_exactly, no_exactly, verdict_over_one, decided}
 use Rattle.am_eval.specs.Tree.{Part, Not, And, Or}
-use Rattle.am_eval.specs.Question.{Question, Simple, holds_of, is_answer}
+use Rattle.am_eval.specs.Question.{Question, Simple, holds_of, satisfies_at, is_answer}
 use Rattle.am_eval.specs.World.{World}
-use Rattle.am_eval.specs.Conditions.{Literal, literal_holds, some_way_holds, conditions_of}
+use Rattle.am_eval.specs.Conditions.{Literal, not_matching, literal_holds, some_way_holds}
+use Rattle.am_eval.specs.Conditions.{conditions_of}
 use Rattle.am_cubes.specs.Verdicts.{kleene_not, kleene_and, kleene_or, all_of, any_of}
-use Rattle.am_cubes.specs.Verdicts.{verdict_of_literal, verdict_of_simple, verdict_of}
+use Rattle.am_cubes.specs.Verdicts.{verdict_of_literal, verdict_of_simple, verdict_of_question}
+use Rattle.am_cubes.specs.Verdicts.{verdict_of_space, verdict_of}
 
 -- ---- A verdict agrees with a truth: `Yes` with true, `No` with false, and `Open` with both.
 
@@ -113,43 +117,72 @@ abbrev pub AreConditions : Type 0
 AreConditions = (w : World) (s : LabelMap) (simple : Simple)
     → holds_of w simple s ≡ some_way_holds (literal_holds s) (conditions_of w simple)
 
-pub verdict_agrees : AreConditions → (u : List Label) (w : World) (q : Question)
+pub question_agrees : AreConditions → (u : List Label) (w : World) (q : Question)
     (prefix c : List ℕ) → IsIn (completions (sizes u) prefix) c
-    → Agrees (verdict_of u w q prefix) (is_answer u w q c)
-verdict_agrees by_condition u w (Part simple) prefix c there =
+    → Agrees (verdict_of_question u w q prefix) (satisfies_at u w q c)
+question_agrees by_condition u w (Part simple) prefix c there =
     let s = label_set_of u c in
     subst (λ b. Agrees (verdict_of_simple u w simple prefix) b) (sym (by_condition w s simple))
     (any_agrees (λ way. all_of (map (verdict_of_literal u prefix) way))
     (λ way. list_all (literal_holds s) way)
     (all_agrees (verdict_of_literal u prefix) (literal_holds s) (literal_agrees u prefix c there))
     (conditions_of w simple))
-verdict_agrees by_condition u w (Not q) prefix c there =
-    not_agrees (verdict_of u w q prefix) (is_answer u w q c)
-    (verdict_agrees by_condition u w q prefix c there)
-verdict_agrees by_condition u w (And q r) prefix c there =
-    and_agrees (verdict_of u w q prefix) (verdict_of u w r prefix) (is_answer u w q c)
-    (is_answer u w r c) (verdict_agrees by_condition u w q prefix c there)
-    (verdict_agrees by_condition u w r prefix c there)
-verdict_agrees by_condition u w (Or q r) prefix c there =
-    or_agrees (verdict_of u w q prefix) (verdict_of u w r prefix) (is_answer u w q c)
-    (is_answer u w r c) (verdict_agrees by_condition u w q prefix c there)
-    (verdict_agrees by_condition u w r prefix c there)
+question_agrees by_condition u w (Not q) prefix c there =
+    not_agrees (verdict_of_question u w q prefix) (satisfies_at u w q c)
+    (question_agrees by_condition u w q prefix c there)
+question_agrees by_condition u w (And q r) prefix c there =
+    and_agrees (verdict_of_question u w q prefix) (verdict_of_question u w r prefix) (satisfies_at u w q c)
+    (satisfies_at u w r c) (question_agrees by_condition u w q prefix c there)
+    (question_agrees by_condition u w r prefix c there)
+question_agrees by_condition u w (Or q r) prefix c there =
+    or_agrees (verdict_of_question u w q prefix) (verdict_of_question u w r prefix) (satisfies_at u w q c)
+    (satisfies_at u w r c) (question_agrees by_condition u w q prefix c there)
+    (question_agrees by_condition u w r prefix c there)
 
-pub yes_says_all : AreConditions → (u : List Label) (w : World) (q : Question) (prefix : List ℕ)
-    → verdict_of u w q prefix ≡ Yes
-    → AllByRecursion (λ c. is_answer u w q c ≡ true) (completions (sizes u) prefix)
-yes_says_all by_condition u w q prefix e =
-    AllByRecursion-each (λ c. is_answer u w q c ≡ true) (completions (sizes u) prefix)
-    (λ c there. agrees_yes (verdict_of u w q prefix) (is_answer u w q c)
-    (verdict_agrees by_condition u w q prefix c there) e)
+-- what none of some lists may match is possible where each of them is not matched
+none_matches : {X : Type 0} (matches : X → Bool) (xs : List X)
+    → list_all (λ x. not (matches x)) xs ≡ not (list_any matches xs)
+none_matches matches [] = refl
+none_matches matches (x ∷ xs) =
+    ap (λ b. not (matches x) && b) (none_matches matches xs)
+    ∙ by (matches x) (list_any matches xs)
+  where
+    by : (a b : Bool) → (not a && not b) ≡ not (a || b)
+    by true b = refl
+    by false b = refl
 
-pub no_says_none : AreConditions → (u : List Label) (w : World) (q : Question) (prefix : List ℕ)
-    → verdict_of u w q prefix ≡ No
-    → AllByRecursion (λ c. is_answer u w q c ≡ false) (completions (sizes u) prefix)
-no_says_none by_condition u w q prefix e =
-    AllByRecursion-each (λ c. is_answer u w q c ≡ false) (completions (sizes u) prefix)
-    (λ c there. agrees_no (verdict_of u w q prefix) (is_answer u w q c)
-    (verdict_agrees by_condition u w q prefix c there) e)
+pub space_agrees : (s : Space) (prefix c : List ℕ) → IsIn (completions (sizes s.labels) prefix) c
+    → Agrees (verdict_of_space s prefix) (is_possible_choice s c)
+space_agrees s prefix c there =
+    subst (λ b. Agrees (verdict_of_space s prefix) b)
+    (none_matches (all_hold (label_set_of s.labels c)) s.impossible)
+    (all_agrees (λ ms. verdict_of_literal s.labels prefix (not_matching ms))
+    (λ ms. not (all_hold (label_set_of s.labels c) ms))
+    (λ ms. literal_agrees s.labels prefix c there (not_matching ms)) s.impossible)
+
+pub verdict_agrees : AreConditions → (s : Space) (w : World) (q : Question) (prefix c : List ℕ)
+    → IsIn (completions (sizes s.labels) prefix) c
+    → Agrees (verdict_of s w q prefix) (is_answer s w q c)
+verdict_agrees by_condition s w q prefix c there =
+    and_agrees (verdict_of_question s.labels w q prefix) (verdict_of_space s prefix)
+    (satisfies_at s.labels w q c) (is_possible_choice s c)
+    (question_agrees by_condition s.labels w q prefix c there) (space_agrees s prefix c there)
+
+pub yes_says_all : AreConditions → (s : Space) (w : World) (q : Question) (prefix : List ℕ)
+    → verdict_of s w q prefix ≡ Yes
+    → AllByRecursion (λ c. is_answer s w q c ≡ true) (completions (sizes s.labels) prefix)
+yes_says_all by_condition s w q prefix e =
+    AllByRecursion-each (λ c. is_answer s w q c ≡ true) (completions (sizes s.labels) prefix)
+    (λ c there. agrees_yes (verdict_of s w q prefix) (is_answer s w q c)
+    (verdict_agrees by_condition s w q prefix c there) e)
+
+pub no_says_none : AreConditions → (s : Space) (w : World) (q : Question) (prefix : List ℕ)
+    → verdict_of s w q prefix ≡ No
+    → AllByRecursion (λ c. is_answer s w q c ≡ false) (completions (sizes s.labels) prefix)
+no_says_none by_condition s w q prefix e =
+    AllByRecursion-each (λ c. is_answer s w q c ≡ false) (completions (sizes s.labels) prefix)
+    (λ c there. agrees_no (verdict_of s w q prefix) (is_answer s w q c)
+    (verdict_agrees by_condition s w q prefix c there) e)
 
 -- ---- At a whole choice, where the verdict of each list says its truth.
 
@@ -204,27 +237,43 @@ literal_says u c whole l = by l.wanted
     by true = here
     by false = ap kleene_not here ∙ not_says (matches_at u l.matchers c)
 
-pub verdict_says : AreConditions → (u : List Label) (w : World) (q : Question) (c : List ℕ)
-    → IsWhole (sizes u) c → verdict_of u w q c ≡ cond (is_answer u w q c) Yes No
-verdict_says by_condition u w (Part simple) c whole =
+pub question_says : AreConditions → (u : List Label) (w : World) (q : Question) (c : List ℕ)
+    → IsWhole (sizes u) c → verdict_of_question u w q c ≡ cond (satisfies_at u w q c) Yes No
+question_says by_condition u w (Part simple) c whole =
     let s = label_set_of u c in
     any_says (λ way. all_of (map (verdict_of_literal u c) way))
     (λ way. list_all (literal_holds s) way)
     (all_says (verdict_of_literal u c) (literal_holds s) (literal_says u c whole))
     (conditions_of w simple)
     ∙ ap says (sym (by_condition w s simple))
-verdict_says by_condition u w (Not q) c whole =
-    ap kleene_not (verdict_says by_condition u w q c whole) ∙ not_says (is_answer u w q c)
-verdict_says by_condition u w (And q r) c whole =
-    ap (λ v. kleene_and v (verdict_of u w r c)) (verdict_says by_condition u w q c whole)
-    ∙ ap (kleene_and (says (is_answer u w q c))) (verdict_says by_condition u w r c whole)
-    ∙ and_says (is_answer u w q c) (is_answer u w r c)
-verdict_says by_condition u w (Or q r) c whole =
-    ap (λ v. kleene_or v (verdict_of u w r c)) (verdict_says by_condition u w q c whole)
-    ∙ ap (kleene_or (says (is_answer u w q c))) (verdict_says by_condition u w r c whole)
-    ∙ or_says (is_answer u w q c) (is_answer u w r c)
+question_says by_condition u w (Not q) c whole =
+    ap kleene_not (question_says by_condition u w q c whole) ∙ not_says (satisfies_at u w q c)
+question_says by_condition u w (And q r) c whole =
+    ap (λ v. kleene_and v (verdict_of_question u w r c)) (question_says by_condition u w q c whole)
+    ∙ ap (kleene_and (says (satisfies_at u w q c))) (question_says by_condition u w r c whole)
+    ∙ and_says (satisfies_at u w q c) (satisfies_at u w r c)
+question_says by_condition u w (Or q r) c whole =
+    ap (λ v. kleene_or v (verdict_of_question u w r c)) (question_says by_condition u w q c whole)
+    ∙ ap (kleene_or (says (satisfies_at u w q c))) (question_says by_condition u w r c whole)
+    ∙ or_says (satisfies_at u w q c) (satisfies_at u w r c)
 
-pub never_open : AreConditions → (u : List Label) (w : World) (q : Question) (c : List ℕ)
-    → IsWhole (sizes u) c → verdict_of u w q c ≢ Open
-never_open by_condition u w q c whole =
-    decided (is_answer u w q c) (verdict_of u w q c) (verdict_says by_condition u w q c whole)
+pub space_says : (s : Space) (c : List ℕ) → IsWhole (sizes s.labels) c
+    → verdict_of_space s c ≡ says (is_possible_choice s c)
+space_says s c whole =
+    all_says (λ ms. verdict_of_literal s.labels c (not_matching ms))
+    (λ ms. not (all_hold (label_set_of s.labels c) ms))
+    (λ ms. literal_says s.labels c whole (not_matching ms)) s.impossible
+    ∙ ap says (none_matches (all_hold (label_set_of s.labels c)) s.impossible)
+
+pub verdict_says : AreConditions → (s : Space) (w : World) (q : Question) (c : List ℕ)
+    → IsWhole (sizes s.labels) c → verdict_of s w q c ≡ cond (is_answer s w q c) Yes No
+verdict_says by_condition s w q c whole =
+    ap (λ v. kleene_and v (verdict_of_space s c))
+    (question_says by_condition s.labels w q c whole)
+    ∙ ap (kleene_and (says (satisfies_at s.labels w q c))) (space_says s c whole)
+    ∙ and_says (satisfies_at s.labels w q c) (is_possible_choice s c)
+
+pub never_open : AreConditions → (s : Space) (w : World) (q : Question) (c : List ℕ)
+    → IsWhole (sizes s.labels) c → verdict_of s w q c ≢ Open
+never_open by_condition s w q c whole =
+    decided (is_answer s w q c) (verdict_of s w q c) (verdict_says by_condition s w q c whole)

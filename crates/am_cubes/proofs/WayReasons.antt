@@ -101,23 +101,22 @@ child_missing r rs p same past = ap (λ l. slice_get l p) (sym same) ∙ slice_g
 
 -- ---- A conflict of a prefix.
 
-pub conflict_matched : (ns : List ℕ) (p q : List ℕ → Bool) (labels : Labels) (prefix : List ℕ)
-    → admits ns prefix ≡ true → IsReasonAgainst p labels prefix
-    → IsConflict ns (λ c. p c && q c) labels prefix
-conflict_matched ns p q labels prefix admitted reason = record {
+-- what is a reason against a test is a conflict where nothing is true that fails the test
+pub conflict : (ns : List ℕ) (test truth : List ℕ → Bool) (labels : Labels) (prefix : List ℕ)
+    → admits ns prefix ≡ true → ((c : List ℕ) → test c ≡ false → truth c ≡ false)
+    → IsReasonAgainst test labels prefix → IsConflict ns truth labels prefix
+conflict ns test truth labels prefix admitted from reason = record {
   within = reason.within;
   none_true = λ c whole agrees.
       let most = admits_at_most ns prefix admitted in
-      ap (λ b. b && q c) (reason.fails c (omega (arith, most, whole.1)) agrees);
+      from c (reason.fails c (omega (arith, most, whole.1)) agrees);
 }
 
-pub conflict_free : (ns : List ℕ) (p q : List ℕ → Bool) (prefix : List ℕ) (answer : Option Labels)
-    → admits ns prefix ≡ true → IfSome answer (λ labels. IsReasonAgainst q labels prefix)
-    → IfSome answer (λ labels. IsConflict ns (λ c. p c && q c) labels prefix)
-conflict_free ns p q prefix None admitted reason = tt
-conflict_free ns p q prefix (Some labels) admitted reason = record {
-  within = reason.within;
-  none_true = λ c whole agrees.
-      let most = admits_at_most ns prefix admitted in
-      and_right (p c) (q c) (reason.fails c (omega (arith, most, whole.1)) agrees);
-}
+pub conflict_if_any : (ns : List ℕ) (test truth : List ℕ → Bool) (prefix : List ℕ)
+    (answer : Option Labels) → admits ns prefix ≡ true
+    → ((c : List ℕ) → test c ≡ false → truth c ≡ false)
+    → IfSome answer (λ labels. IsReasonAgainst test labels prefix)
+    → IfSome answer (λ labels. IsConflict ns truth labels prefix)
+conflict_if_any ns test truth prefix None admitted from reason = tt
+conflict_if_any ns test truth prefix (Some labels) admitted from reason =
+    conflict ns test truth labels prefix admitted from reason

@@ -8,10 +8,13 @@ pub mod PairsByLists
 pub mod WorldByLists
 pub mod QuestionByLists
 pub mod QuestionView
+pub mod SpaceExample
+pub mod PossibleView
 pub mod PlanView
 pub mod PlanWords
 pub mod Words
 pub mod ChoiceEnds
 pub mod RouteWays
+pub mod ImpossibleCubes
 pub mod PathRefuter
 pub mod RouteEnds

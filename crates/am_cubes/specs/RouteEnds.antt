@@ -1,12 +1,11 @@
 -- The parts of `RouteEnds`, and what it is asked.
-use Rattle.std.specs.Prelude.{List}
-use Rattle.am_labels.specs.Words.{Label}
+use Rattle.am_labels.specs.Words.{Space}
 use Rattle.am_files.specs.Words.{Configuration, config_view}
 use Rattle.am_cubes.specs.declared.route_ends.RouteEnds.{RouteEnds}
 
--- The universe and the configuration.
-abbrev pub ends_universe : RouteEnds → List Label
-ends_universe routes = routes.universe.now
+-- The space and the configuration.
+abbrev pub ends_space : RouteEnds → Space
+ends_space routes = routes.space.now
 
 abbrev pub ends_config : RouteEnds → Configuration
 ends_config routes = config_view routes.config.now

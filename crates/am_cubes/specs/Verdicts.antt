@@ -1,13 +1,13 @@
 -- The verdict of a question at a prefix of a choice. That of each list of matchers is exact, and
 -- the logic of three values joins them as the question and its conditions join the lists.
 use Rattle.std.specs.Prelude.{ℕ, List, [], ◌∷◌, map, if◌then◌else◌}
-use Rattle.am_labels.specs.Words.{Label}
+use Rattle.am_labels.specs.Words.{Label, Space}
 use Rattle.am_search.specs.declared.verdict.Verdict.{Verdict}
 use Rattle.am_search.specs.declared.verdict.Verdict.TheVariants.{Yes, No, Open}
 use Rattle.am_masks.specs.Words.{verdict_of_list}
 use Rattle.am_eval.specs.Tree.{Part, Not, And, Or}
 use Rattle.am_eval.specs.Question.{Simple}
-use Rattle.am_eval.specs.Words.{World, Question, Literal, conditions_of}
+use Rattle.am_eval.specs.Words.{World, Question, Literal, not_matching, conditions_of}
 
 -- The logic of three values: `not` exchanges `Yes` and `No`; `and` is `No` where one of its parts
 -- is, else `Open` where one is, else `Yes`; `or` is `Yes` where one of its parts is, else `Open`
@@ -62,12 +62,33 @@ abbrev pub verdict_of_simple : List Label → World → Simple → List ℕ → 
 verdict_of_simple u w simple prefix =
     any_of (map (λ way. all_of (map (verdict_of_literal u prefix) way)) (conditions_of w simple))
 
--- The verdict of a question: its `not`, `and` and `or` are those of three values.
+-- The verdict of a question on the label sets of a prefix: its `not`, `and` and `or` are those of
+-- three values. Which label sets are possible is not asked.
 -- Source: own choice.
 -- Example: where `team="db"` is `Open`, `{team="db"} or not {team="db"}` is `Open` too, though it
 -- is true of every label set.
-abbrev pub verdict_of : List Label → World → Question → List ℕ → Verdict
-verdict_of u w (Part simple) prefix = verdict_of_simple u w simple prefix
-verdict_of u w (Not q) prefix = kleene_not (verdict_of u w q prefix)
-verdict_of u w (And q r) prefix = kleene_and (verdict_of u w q prefix) (verdict_of u w r prefix)
-verdict_of u w (Or q r) prefix = kleene_or (verdict_of u w q prefix) (verdict_of u w r prefix)
+abbrev pub verdict_of_question : List Label → World → Question → List ℕ → Verdict
+verdict_of_question u w (Part simple) prefix = verdict_of_simple u w simple prefix
+verdict_of_question u w (Not q) prefix = kleene_not (verdict_of_question u w q prefix)
+verdict_of_question u w (And q r) prefix =
+    kleene_and (verdict_of_question u w q prefix) (verdict_of_question u w r prefix)
+verdict_of_question u w (Or q r) prefix =
+    kleene_or (verdict_of_question u w q prefix) (verdict_of_question u w r prefix)
+
+-- The verdict of being possible: no impossible list may match.
+-- Source: own choice.
+-- Example: `severity` may be `critical` or `warning`, and `team="web",severity="critical"` is
+-- impossible. At a prefix that chooses the team `web` and no severity the verdict is `Open`; at one
+-- that chooses the team `db` it is `Yes`.
+abbrev pub verdict_of_space : Space → List ℕ → Verdict
+verdict_of_space s prefix =
+    all_of (map (λ ms. verdict_of_literal s.labels prefix (not_matching ms)) s.impossible)
+
+-- The verdict of being an answer: that the question is true, and that the label set is possible.
+-- Source: own choice.
+-- Example: `team` may be `db`, `web` or absent, `severity` `critical` or `warning`, and
+-- `team="web",severity="critical"` is impossible. Of `any` the verdict is `Open` at the empty
+-- prefix, `Yes` at `0`, `Open` at `1`, `No` at `1.0`, and `Yes` at `1.1` and at `2`.
+abbrev pub verdict_of : Space → World → Question → List ℕ → Verdict
+verdict_of s w q prefix =
+    kleene_and (verdict_of_question s.labels w q prefix) (verdict_of_space s prefix)

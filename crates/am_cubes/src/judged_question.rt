@@ -5,7 +5,7 @@ ghost use Rattle.am_labels.specs.Words.{sizes};
 ghost use Rattle.am_eval.specs.Words.{question_view};
 ghost use Rattle.am_masks.specs.declared.modality.Modality.{Modality};
 ghost use Rattle.am_masks.specs.Modality.{passes};
-ghost use Rattle.am_cubes.specs.Verdicts.{verdict_of};
+ghost use Rattle.am_cubes.specs.Verdicts.{verdict_of_question};
 ghost use Rattle.am_cubes.specs.WorldByLists.{AreWorldLists};
 ghost use Rattle.am_cubes.specs.QuestionView.{truth_by};
 
@@ -35,7 +35,8 @@ impl<'a, L: JudgedList> JudgedQuestion<'a, L> {
     ) -> Result<JudgedQuestion<'a, L>, AllocError>
         ensures exact { IfOk result (λ judged. (prefix : List ℕ) (m : Modality)
             → L.Knows (sizes universe.now) prefix → truth_by L.verdict prefix judged m
-            ≡ passes m (verdict_of universe.now world.now (question_view question.now) prefix)) }
+            ≡ passes m (verdict_of_question universe.now world.now (question_view question.now)
+            prefix)) }
         ensures world { IfOk result (λ judged.
             AreWorldLists L.Knows L.verdict universe.now world.now judged.world) }
     {
@@ -59,7 +60,8 @@ impl<'a, L: JudgedList> JudgedQuestion<'a, L> {
         ensures exact { IfOk result (λ judged. (prefix : List ℕ) (m : Modality)
             → AreWorldLists L.Knows L.verdict universe.now world.now self.now.world
             → L.Knows (sizes universe.now) prefix → truth_by L.verdict prefix judged m
-            ≡ passes m (verdict_of universe.now world.now (question_view question.now) prefix)) }
+            ≡ passes m (verdict_of_question universe.now world.now (question_view question.now)
+            prefix)) }
         ensures world { IfOk result (λ judged.
             AreWorldLists L.Knows L.verdict universe.now world.now self.now.world
             → AreWorldLists L.Knows L.verdict universe.now world.now judged.world) }

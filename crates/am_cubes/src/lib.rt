@@ -2,8 +2,9 @@
 //!
 //! A [`Plan`] is a judge of prefixes. It has a cube for each list of matchers that its question
 //! asks of: those of the question itself, and, where it asks of them, those of the routes, of the
-//! active silences, and of the pairs of an inhibition rule and a firing alert. Its verdict joins
-//! theirs in the logic of three values. Judging takes no memory.
+//! active silences, and of the pairs of an inhibition rule and a firing alert. It has one for each
+//! impossible list of its space too. Its verdict joins theirs in the logic of three values. Judging
+//! takes no memory.
 #![tactic(auto)]
 
 // What is looked for among routes.
@@ -22,10 +23,14 @@ mod question_lists;
 
 pub use judged_question::JudgedQuestion;
 
+// Which label sets of a space are possible.
+mod impossible;
+mod possible;
+
 // The judge.
 mod plan;
 
-pub use am_masks::{Cube, JudgedList, Modality};
+pub use am_masks::{Cube, Group, JudgedList, Modality};
 pub use plan::Plan;
 
 // The first label set that ends at a route.

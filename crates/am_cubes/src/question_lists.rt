@@ -5,7 +5,7 @@ ghost use Rattle.am_labels.specs.Words.{sizes};
 ghost use Rattle.am_eval.specs.Words.{World, question_view};
 ghost use Rattle.am_masks.specs.declared.modality.Modality.{Modality};
 ghost use Rattle.am_masks.specs.Modality.{passes};
-ghost use Rattle.am_cubes.specs.Verdicts.{verdict_of};
+ghost use Rattle.am_cubes.specs.Verdicts.{verdict_of_question};
 ghost use Rattle.am_cubes.specs.WorldByLists.{WorldSeen, world_seen, Serves};
 ghost use Rattle.am_cubes.specs.QuestionByLists.{question_by};
 
@@ -49,7 +49,7 @@ impl<'q, L: JudgedList> QuestionLists<'q, L> {
             → L.Knows (sizes universe.now) prefix
             → Serves universe.now w prefix seen (question_view question.now)
             → question_by L.verdict prefix seen lists m
-            ≡ passes m (verdict_of universe.now w (question_view question.now) prefix)) }
+            ≡ passes m (verdict_of_question universe.now w (question_view question.now) prefix)) }
     {
         match question {
             Question::Any => Ok(QuestionLists::Any),

@@ -1,80 +1,89 @@
-//! The first label set of a universe that ends at a route.
+//! The first label set of a space that ends at a route.
 
 ghost use Rattle.std.specs.Prelude.{◌≡◌, IfOk, IfSome};
 ghost use Rattle.std.specs.List.{find};
 ghost use Rattle.std.proofs.Props.{props};
-ghost use Rattle.am_labels.specs.Words.{sizes, choices, IsWhole};
+ghost use Rattle.am_labels.specs.Words.{sizes, all_choices, IsChoiceOf};
 ghost use Rattle.am_files.specs.Words.{config_view};
 ghost use Rattle.am_search.specs.Words.{AreSizes};
 ghost use Rattle.am_cubes.specs.ChoiceEnds.{is_end_at};
+ghost use Rattle.am_cubes.specs.ImpossibleCubes.{KnowsPossible};
 ghost use Rattle.am_cubes.specs.RouteWays.{KnowsEnds};
 
+use crate::impossible::{impossible_cubes, why_impossible};
 use crate::route_lists::RouteLists;
 use crate::route_ways::{why_not_free, why_not_matched};
 use am_files::{Config, Path};
-use am_labels::{Choice, Universe};
+use am_labels::{Choice, Space};
 use am_masks::Cube;
 use am_search::{Labels, Refuter, first_by_jumps};
 use am_universe::limits::MAX_LABELS;
 use std::alloc::{AllocError, Global};
 
-/// The routes of a configuration, over a universe: each may be asked for the first label set of the
-/// universe that ends there.
+/// The routes of a configuration, over a space: each may be asked for the first label set of the
+/// space that ends there.
 #[derive(Drop)]
 pub struct RouteEnds<'a> {
-    universe: &'a Universe,
+    space: &'a Space,
     config: &'a Config,
     routes: RouteLists<Cube>,
-    ghost are_sizes: { AreSizes (sizes universe.now) } by { Prim.hlevel props },
-    ghost knows_ends: { KnowsEnds universe.now config.now routes } by { Prim.hlevel props },
+    impossible: Vec<Cube>,
+    ghost are_sizes: { AreSizes (sizes space.now.labels) } by { Prim.hlevel props },
+    ghost knows_ends: { KnowsEnds space.now.labels config.now routes } by { Prim.hlevel props },
+    ghost knows_possible: { KnowsPossible space.now impossible.items } by { Prim.hlevel props },
 }
 
 impl<'a> RouteEnds<'a> {
-    ghost use Rattle.am_cubes.specs.RouteEnds.{ends_universe, ends_config};
+    ghost use Rattle.am_cubes.specs.RouteEnds.{ends_space, ends_config};
 
-    /// The routes of a configuration, with a cube for the matchers of each. An `Err` only where
-    /// memory was refused.
+    /// The routes of a configuration, with a cube for the matchers of each, and one for each list
+    /// that the space calls impossible. An `Err` only where memory was refused.
     pub fn of(
         alloc: Global,
-        universe: &'a Universe,
+        space: &'a Space,
         config: &'a Config,
     ) -> Result<RouteEnds<'a>, AllocError>
-        ensures universe { IfOk result (λ routes. ends_universe routes ≡ universe.now) }
+        ensures space { IfOk result (λ routes. ends_space routes ≡ space.now) }
         ensures config { IfOk result (λ routes. ends_config routes ≡ config_view config.now) }
     {
+        let universe = space.universe();
         // What `len` promises tells the proof that the sizes are such as a refuter may have.
         prove!(universe.len() <= MAX_LABELS);
         let routes = RouteLists::of(alloc, universe, config.root())?;
+        let impossible = impossible_cubes(alloc, space)?;
         Ok(RouteEnds {
-            universe,
+            space,
             config,
             routes,
+            impossible,
         })
     }
 
-    /// The first choice of the universe, in declared order, whose label set ends at the route at a
+    /// The first choice of the space, in declared order, whose label set ends at the route at a
     /// path, if there is one. Without a route at the path there is none. No memory is taken.
     pub fn first_end(&self, path: &Path) -> Option<Choice>
-        ensures first { result ≡ find (is_end_at (ends_universe self.now) (ends_config self.now)
-            path.now) (choices (sizes (ends_universe self.now))) }
-        ensures whole { IfSome result (IsWhole (sizes (ends_universe self.now))) }
+        ensures first { result ≡ find (is_end_at (ends_space self.now).labels
+            (ends_config self.now) path.now) (all_choices (ends_space self.now)) }
+        ensures possible { IfSome result (IsChoiceOf (ends_space self.now)) }
     {
         let refuter = PathRefuter {
-            universe: self.universe,
+            space: self.space,
             routes: &self.routes,
+            impossible: self.impossible.as_slice(),
             path: path.steps(),
         };
         first_by_jumps(&refuter)
     }
 }
 
-/// What refutes prefixes none of whose completions ends at the route at a path.
+/// What refutes prefixes none of whose completions is possible and ends at the route at a path.
 #[derive(Drop)]
 struct PathRefuter<'a> {
-    universe: &'a Universe,
+    space: &'a Space,
     routes: &'a RouteLists<Cube>,
+    impossible: &'a [Cube],
     path: &'a [u16],
-    ghost are_sizes: { AreSizes (sizes universe.now) } by { Prim.hlevel props },
+    ghost are_sizes: { AreSizes (sizes space.now.labels) } by { Prim.hlevel props },
 }
 
 impl<'a> Refuter for PathRefuter<'a> {
@@ -87,17 +96,20 @@ impl<'a> Refuter for PathRefuter<'a> {
     ghost laws = { refuter_are_sizes };
 
     fn labels(&self) -> usize {
-        self.universe.len()
+        self.space.universe().len()
     }
 
     fn size(&self, i: usize) -> usize {
-        self.universe.size(i)
+        self.space.universe().size(i)
     }
 
     // The routes on the way come first: one that fails names a single label, so that the search
-    // goes back further than where a sibling or a child is certain.
+    // goes back further than where an impossible list, a sibling or a child is certain.
     fn refute(&self, prefix: &Choice) -> Option<Labels> {
         if let Some(labels) = why_not_matched(self.routes, self.path, prefix) {
+            return Some(labels);
+        }
+        if let Some(labels) = why_impossible(self.impossible, prefix) {
             return Some(labels);
         }
         why_not_free(self.routes, self.path, prefix)

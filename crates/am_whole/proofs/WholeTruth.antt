@@ -5,19 +5,19 @@ use Rattle.am_universe.specs.Choice.{IsWhole}
 use Rattle.am_search.specs.declared.verdict.Verdict.TheVariants.{Yes, No}
 use Rattle.am_search.specs.Judge.{is_yes}
 use Rattle.am_eval.specs.World.{World}
-use Rattle.am_eval.specs.Question.{Question, is_answer}
+use Rattle.am_eval.specs.Question.{Question, satisfies_at}
 use Rattle.am_eval.proofs.ConditionLaws.{exactly}
 use Rattle.am_masks.specs.declared.modality.Modality.TheVariants.{Must}
 use Rattle.am_masks.specs.Modality.{passes}
-use Rattle.am_cubes.specs.Verdicts.{verdict_of}
-use Rattle.am_cubes.proofs.Soundness.{verdict_says}
+use Rattle.am_cubes.specs.Verdicts.{verdict_of_question}
+use Rattle.am_cubes.proofs.Soundness.{question_says}
 
 yes_of : (b : Bool) → is_yes (cond b Yes No) ≡ b
 yes_of true = refl
 yes_of false = refl
 
--- it must be true exactly where the choice is an answer
+-- it must be true exactly where the choice satisfies the question
 pub must_at_whole : (u : List Label) (w : World) (q : Question) (c : List ℕ) → IsWhole (sizes u) c
-    → passes Must (verdict_of u w q c) ≡ is_answer u w q c
+    → passes Must (verdict_of_question u w q c) ≡ satisfies_at u w q c
 must_at_whole u w q c whole =
-    ap is_yes (verdict_says exactly u w q c whole) ∙ yes_of (is_answer u w q c)
+    ap is_yes (question_says exactly u w q c whole) ∙ yes_of (satisfies_at u w q c)

@@ -2,7 +2,7 @@
 
 ghost use Rattle.std.specs.Prelude.{◌≡◌, ◌<◌, ℕ, List, length, IfOk};
 ghost use Rattle.am_labels.specs.Words.{sizes, IsWhole};
-ghost use Rattle.am_eval.specs.Words.{is_answer, question_view};
+ghost use Rattle.am_eval.specs.Words.{satisfies_at, question_view};
 ghost use Rattle.std.proofs.Props.{props};
 ghost use Rattle.am_search.specs.Words.{AreSizes};
 
@@ -39,7 +39,7 @@ impl<'a> Whole<'a> {
         ensures sizes { IfOk result (λ whole. whole_sizes whole ≡ sizes universe.now) }
         ensures truth { IfOk result (λ whole. (c : List ℕ) → IsWhole (sizes universe.now) c
             → whole_truth whole c
-            ≡ is_answer universe.now world.now (question_view question.now) c) }
+            ≡ satisfies_at universe.now world.now (question_view question.now) c) }
         ensures open { IfOk result (λ whole. (prefix : List ℕ)
             → length prefix < length (sizes universe.now)
             → whole_verdict whole prefix ≡ verdicts.Open) }

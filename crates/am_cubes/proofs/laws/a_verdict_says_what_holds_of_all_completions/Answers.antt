@@ -4,8 +4,8 @@ use Rattle.am_cubes.proofs.laws.a_verdict_says_what_holds_of_all_completions.Goa
 
 pub returns : goal.returns
 returns c = record {
-  yes = λ u w q prefix universe admitted e. yes_says_all exactly u w q prefix e;
-  no = λ u w q prefix universe admitted e. no_says_none exactly u w q prefix e;
-  whole = λ u w q d universe whole. verdict_says exactly u w q d whole;
-  closed = λ u w q d universe whole. never_open exactly u w q d whole;
+  yes = λ s w q prefix universe admitted e. yes_says_all exactly s w q prefix e;
+  no = λ s w q prefix universe admitted e. no_says_none exactly s w q prefix e;
+  whole = λ s w q d universe whole. verdict_says exactly s w q d whole;
+  closed = λ s w q d universe whole. never_open exactly s w q d whole;
 }

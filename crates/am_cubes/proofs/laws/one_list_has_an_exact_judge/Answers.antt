@@ -8,7 +8,7 @@ use Rattle.am_cubes.proofs.laws.one_list_has_an_exact_judge.Goals as goal
 
 pub returns : goal.returns
 returns c = record {
-  exact = λ u w ms universe.
-      is_exact_judge u w ms (verdict_of u w (Part (Braces ms))) (λ prefix a. refl)
-      (sizes_of_universe u universe);
+  exact = λ s w ms universe none.
+      is_exact_judge s w ms none (verdict_of s w (Part (Braces ms))) (λ prefix a. refl)
+      (sizes_of_universe s.labels universe);
 }

@@ -4,7 +4,7 @@ use Rattle.am_eval.specs.Tree.{Not, And, Or}
 use Rattle.am_eval.specs.Question as questions
 use Rattle.am_eval.specs.Words.{question_view}
 use Rattle.am_masks.specs.Modality.{passes, other}
-use Rattle.am_cubes.specs.Verdicts.{verdict_of, verdict_of_simple}
+use Rattle.am_cubes.specs.Verdicts.{verdict_of_question, verdict_of_simple}
 use Rattle.am_cubes.specs.WorldByLists.{Serves}
 use Rattle.am_cubes.specs.Target as targets
 use Rattle.am_eval.proofs.QuestionSeen.{receiver_seen, ends_seen, enters_seen}
@@ -24,7 +24,7 @@ returns-in-Receiver g t c = record {
       by_comes g.L.JudgedList.verdict prefix seen m _
       ∙ served.routes refl m (targets.Receiver c.in-Receiver.receiver)
       ∙ comes_to_receiver u w prefix m c.in-Receiver.receiver
-      ∙ sym (ap (λ v. passes m (verdict_of u w v prefix)) seen_as);
+      ∙ sym (ap (λ v. passes m (verdict_of_question u w v prefix)) seen_as);
 }
 
 pub returns-in-Ends : goal.returns-in-Ends
@@ -38,7 +38,7 @@ returns-in-Ends g t c = record {
       ∙ comes_to_end u w prefix m c.steps.result.now
       ∙ ap (λ path. passes m (verdict_of_simple u w (questions.Ends path) prefix))
       c.steps.ensures.steps
-      ∙ sym (ap (λ v. passes m (verdict_of u w v prefix)) seen_as);
+      ∙ sym (ap (λ v. passes m (verdict_of_question u w v prefix)) seen_as);
 }
 
 pub returns-in-Enters : goal.returns-in-Enters
@@ -53,7 +53,7 @@ returns-in-Enters g t c = record {
       ∙ comes_to_enter u w prefix m path
       ∙ ap (λ p. passes m (verdict_of_simple u w (questions.Enters p) prefix))
       c.steps-in-Enters.ensures.steps
-      ∙ sym (ap (λ v. passes m (verdict_of u w v prefix)) seen_as);
+      ∙ sym (ap (λ v. passes m (verdict_of_question u w v prefix)) seen_as);
 }
 
 pub returns-in_ok-new-in-Not : goal.returns-in_ok-new-in-Not
@@ -68,8 +68,8 @@ returns-in_ok-new-in-Not g t c = record {
       by_not V prefix seen m c.in_ok-new-in-Not.field-0
       ∙ ap (λ lists. not (question_by V prefix seen lists (other m))) c.in_ok-new-in-Not.ensures.ok
       ∙ ap not (c.in_ok-lists-in-Not.ensures.exact w prefix seen (other m) knows served)
-      ∙ sym (passes_not m (verdict_of u w view prefix))
-      ∙ sym (ap (λ v. passes m (verdict_of u w v prefix)) seen_as);
+      ∙ sym (passes_not m (verdict_of_question u w view prefix))
+      ∙ sym (ap (λ v. passes m (verdict_of_question u w v prefix)) seen_as);
 }
 
 pub returns-in_ok-new-in-And-2 : goal.returns-in_ok-new-in-And-2
@@ -91,11 +91,11 @@ returns-in_ok-new-in-And-2 g t c = record {
       ∙ ap (λ b. b && question_by V prefix seen c.in_ok-right-in-And.right m)
       (c.in_ok-left-in-And.ensures.exact w prefix seen m knows
       (serves_left u w prefix seen left right both))
-      ∙ ap (λ b. passes m (verdict_of u w left prefix) && b)
+      ∙ ap (λ b. passes m (verdict_of_question u w left prefix) && b)
       (c.in_ok-right-in-And.ensures.exact w prefix seen m knows
       (serves_right u w prefix seen left right both))
-      ∙ sym (passes_and m (verdict_of u w left prefix) (verdict_of u w right prefix))
-      ∙ sym (ap (λ v. passes m (verdict_of u w v prefix)) seen_as);
+      ∙ sym (passes_and m (verdict_of_question u w left prefix) (verdict_of_question u w right prefix))
+      ∙ sym (ap (λ v. passes m (verdict_of_question u w v prefix)) seen_as);
 }
 
 pub returns-in_ok-new-in-Or-2 : goal.returns-in_ok-new-in-Or-2
@@ -117,9 +117,9 @@ returns-in_ok-new-in-Or-2 g t c = record {
       ∙ ap (λ b. b || question_by V prefix seen c.in_ok-right-in-Or.right m)
       (c.in_ok-left-in-Or.ensures.exact w prefix seen m knows
       (serves_left u w prefix seen left right both))
-      ∙ ap (λ b. passes m (verdict_of u w left prefix) || b)
+      ∙ ap (λ b. passes m (verdict_of_question u w left prefix) || b)
       (c.in_ok-right-in-Or.ensures.exact w prefix seen m knows
       (serves_right u w prefix seen left right both))
-      ∙ sym (passes_or m (verdict_of u w left prefix) (verdict_of u w right prefix))
-      ∙ sym (ap (λ v. passes m (verdict_of u w v prefix)) seen_as);
+      ∙ sym (passes_or m (verdict_of_question u w left prefix) (verdict_of_question u w right prefix))
+      ∙ sym (ap (λ v. passes m (verdict_of_question u w v prefix)) seen_as);
 }

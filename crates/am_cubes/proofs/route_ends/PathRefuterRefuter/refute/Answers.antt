@@ -1,21 +1,44 @@
-use Rattle.std.proofs.Common.{Some}
-use Rattle.am_cubes.specs.PathRefuter.{refuter_sizes}
+use Rattle.std.proofs.Common.{Some, ap}
+use Rattle.std.specs.Prelude.{◌&&◌}
+use Rattle.std.proofs.lemmas.Bool.{and_right}
+use Rattle.am_cubes.specs.ImpossibleCubes.{is_possible_by}
+use Rattle.am_cubes.specs.PathRefuter.{refuter_sizes, refuter_truth}
 use Rattle.am_cubes.specs.RouteWays.{is_way_matched, is_way_free, may_match, must_match}
-use Rattle.am_cubes.proofs.WayReasons.{conflict_matched, conflict_free}
+use Rattle.am_cubes.specs.RouteWays.{ends_by_cubes}
+use Rattle.am_cubes.proofs.WayReasons.{conflict, conflict_if_any}
 use Rattle.am_cubes.proofs.route_ends.PathRefuterRefuter.refute.Goals as goal
 
 pub returns-in-Some-clause-conflict : goal.returns-in-Some-clause-conflict
 returns-in-Some-clause-conflict c =
     let self = c.args.self.now in
-    conflict_matched (refuter_sizes self)
-    (λ d. is_way_matched (may_match d) self.path.now (Some self.routes.now))
-    (λ d. is_way_free (must_match d) self.path.now (Some self.routes.now))
-    c.in-Some.labels c.args.prefix.now c.requires c.in-Some.ensures.some
+    let path = self.path.now in
+    let routes = self.routes.now in
+    conflict (refuter_sizes self) (λ d. is_way_matched (may_match d) path (Some routes))
+    (refuter_truth self) c.in-Some.labels c.args.prefix.now c.requires
+    (λ d fails.
+    ap (λ b. (b && is_way_free (must_match d) path (Some routes))
+    && is_possible_by self.impossible.now d) fails)
+    c.in-Some.ensures.some
+
+pub returns-in-Some-why_impossible-clause-conflict : goal.returns-in-Some-why_impossible-clause-conflict
+returns-in-Some-why_impossible-clause-conflict c =
+    let self = c.args.self.now in
+    conflict (refuter_sizes self) (is_possible_by self.impossible.now) (refuter_truth self)
+    c.in-Some-why_impossible.labels c.args.prefix.now c.requires
+    (λ d fails.
+    and_right (ends_by_cubes self.path.now self.routes.now d)
+    (is_possible_by self.impossible.now d) fails)
+    c.in-Some-why_impossible.ensures.some
 
 pub returns-clause-conflict : goal.returns-clause-conflict
 returns-clause-conflict c =
     let self = c.args.self.now in
-    conflict_free (refuter_sizes self)
-    (λ d. is_way_matched (may_match d) self.path.now (Some self.routes.now))
-    (λ d. is_way_free (must_match d) self.path.now (Some self.routes.now))
-    c.args.prefix.now c.why_not_free.result c.requires c.why_not_free.ensures.some
+    let path = self.path.now in
+    let routes = self.routes.now in
+    conflict_if_any (refuter_sizes self) (λ d. is_way_free (must_match d) path (Some routes))
+    (refuter_truth self) c.args.prefix.now c.why_not_free.result c.requires
+    (λ d fails.
+    ap (λ b. b && is_possible_by self.impossible.now d)
+    (and_right (is_way_matched (may_match d) path (Some routes))
+    (is_way_free (must_match d) path (Some routes)) fails))
+    c.why_not_free.ensures.some
