@@ -3,13 +3,13 @@ use Rattle.std.proofs.Common.{◌≡◌, ◌↔◌, ℕ, List, [], ◌∷◌, ma
 use Rattle.std.proofs.Common.{Option, Some, None, refl, sym, ap, subst, ◌∙◌, ◌⊎◌, inl, inr}
 use Rattle.std.specs.Prelude.{IsTrue, is_some, if◌then◌else◌, ◌||◌}
 use Rattle.std.specs.List.{list_any, filter}
-use Rattle.am_universe.specs.Universe.{Label}
 use Rattle.am_universe.proofs.ListLemmas.{IsIn, IsIn-from_Contains, Contains-from_IsIn}
 use Rattle.am_universe.proofs.ListLemmas.{IsIn-map, IsIn-unmap}
+use Rattle.am_labels.specs.Space.{Space}
+use Rattle.am_labels.proofs.Passing.{in_any}
 use Rattle.am_files.specs.ConfigFile.{Configuration}
 use Rattle.am_files.specs.Path.{leads_through}
 use Rattle.am_eval.specs.RoutePaths.{paths_of}
-use Rattle.am_eval.proofs.Members.{in_any}
 use Rattle.am_search.specs.Start.{comes_before}
 use Rattle.am_search.proofs.ChoiceOrder.{in_filter, into_filter}
 use Rattle.am_coverage.specs.declared.coverage.RouteCoverage.{RouteCoverage}
@@ -83,41 +83,41 @@ some_earliest os c h none =
 
 -- ---- The law.
 
-module _ (u : List Label) (c : Configuration) (path : List ℕ) where
+module _ (s : Space) (c : Configuration) (path : List ℕ) where
   abbrev LiveBelow : Type 0
   LiveBelow =
       (below choice : List ℕ) × Contains (paths_of c) below × IsTrue (leads_through path below)
-      × (route_coverage u c below ≡ route_is.Live choice)
+      × (route_coverage s c below ≡ route_is.Live choice)
 
   abbrev below_ends : List (Option (List ℕ))
-  below_ends = map (first_end u c) (filter (leads_through path) (paths_of c))
+  below_ends = map (first_end s c) (filter (leads_through path) (paths_of c))
 
-  live_from_entered : route_coverage u c path ≡ route_is.Entered → LiveBelow
+  live_from_entered : route_coverage s c path ≡ route_is.Entered → LiveBelow
   live_from_entered e =
-      let entry = (entered_is (first_entry u c path) (first_end u c path) e).1 in
-      let there = earliest_in below_ends entry.0 (sym (entry_is_earliest u c path) ∙ entry.1) in
-      let r = IsIn-unmap (first_end u c) (filter (leads_through path) (paths_of c)) (Some entry.0)
+      let entry = (entered_is (first_entry s c path) (first_end s c path) e).1 in
+      let there = earliest_in below_ends entry.0 (sym (entry_is_earliest s c path) ∙ entry.1) in
+      let r = IsIn-unmap (first_end s c) (filter (leads_through path) (paths_of c)) (Some entry.0)
       there in
       let kept = in_filter (leads_through path) (paths_of c) r.0 r.1 in (
         r.0,
         entry.0,
         Contains-from_IsIn (paths_of c) r.0 kept.0,
         kept.1,
-        ap (live_or (dead_by (first_entry u c r.0))) r.2,
+        ap (live_or (dead_by (first_entry s c r.0))) r.2,
       )
 
-  entered_from_live : IsDead u c path → LiveBelow → route_coverage u c path ≡ route_is.Entered
+  entered_from_live : IsDead s c path → LiveBelow → route_coverage s c path ≡ route_is.Entered
   entered_from_live dead h =
-      let end : first_end u c h.0 ≡ Some h.1 =
-      live_is (first_entry u c h.0) (first_end u c h.0) h.1 h.4 in
+      let end : first_end s c h.0 ≡ Some h.1 =
+      live_is (first_entry s c h.0) (first_end s c h.0) h.1 h.4 in
       let in_filtered = into_filter (leads_through path) (paths_of c) h.0
       (IsIn-from_Contains (paths_of c) h.0 h.2) h.3 in
       let there : IsIn below_ends (Some h.1) =
       subst (λ (o : Option (List ℕ)). IsIn below_ends o) end
-      (IsIn-map (first_end u c) (filter (leads_through path) (paths_of c)) h.0 in_filtered) in
-      is_entered (first_entry u c path) (first_end u c path) (no_end u c path dead)
-      (λ none. some_earliest below_ends h.1 there (sym (entry_is_earliest u c path) ∙ none))
+      (IsIn-map (first_end s c) (filter (leads_through path) (paths_of c)) h.0 in_filtered) in
+      is_entered (first_entry s c path) (first_end s c path) (no_end s c path dead)
+      (λ none. some_earliest below_ends h.1 there (sym (entry_is_earliest s c path) ∙ none))
 
-  pub entered_exactly : IsDead u c path
-      → (route_coverage u c path ≡ route_is.Entered) ↔ LiveBelow
+  pub entered_exactly : IsDead s c path
+      → (route_coverage s c path ≡ route_is.Entered) ↔ LiveBelow
   entered_exactly dead = (live_from_entered, entered_from_live dead)

@@ -5,19 +5,18 @@ use Rattle.std.proofs.Common.{Option, Some, None, refl, sym, subst, ◌∙◌}
 use Rattle.std.specs.Prelude.{IsTrue, ◌==◌}
 use Rattle.std.specs.List.{list_any, filter}
 use Rattle.std.proofs.lemmas.Bool.{eqb-true, eq-eqb}
-use Rattle.am_universe.specs.Universe.{Label, sizes}
-use Rattle.am_universe.specs.Choice.{choices}
 use Rattle.am_universe.specs.LabelSet.{LabelMap, label_set_of}
 use Rattle.am_universe.specs.Text.{same_text}
 use Rattle.am_universe.proofs.ListLemmas.{IsIn-from_Contains, Contains-from_IsIn}
-use Rattle.am_universe.proofs.ChoiceLemmas.{choices_sorted}
+use Rattle.am_labels.specs.Space.{Space, all_choices}
+use Rattle.am_labels.proofs.Passing.{any_in, in_any}
+use Rattle.am_labels.proofs.SpaceLaws.{space_choices_sorted}
 use Rattle.am_files.specs.ConfigFile.{Configuration, RouteTree, receiver_of}
 use Rattle.am_files.specs.Path.{leads_through, route_at}
 use Rattle.am_eval.specs.Conditions.{is_receiver, paths_to}
 use Rattle.am_eval.specs.RoutePaths.{paths_of}
 use Rattle.am_eval.specs.Routing.{ends, receivers}
 use Rattle.am_eval.proofs.EndLaws.{at_routes}
-use Rattle.am_eval.proofs.Members.{any_in, in_any}
 use Rattle.am_eval.proofs.RoutePathLaws.{is_path}
 use Rattle.am_eval.proofs.SimpleParts.{end_from_test, test_from_end}
 use Rattle.am_eval.proofs.SimpleParts.{receipt_from_test, test_from_receipt}
@@ -26,7 +25,7 @@ use Rattle.am_search.proofs.ChoiceOrder.{in_filter, into_filter}
 use Rattle.am_coverage.specs.Coverage.{first_end, first_entry, first_receipt}
 use Rattle.am_coverage.specs.FirstEnds.{earlier, earliest}
 use Rattle.am_coverage.proofs.EarliestFound.{find_any, find_more}
-use Rattle.am_search.proofs.FirstAlike.{first_alike}
+use Rattle.am_search.proofs.FirstAlike.{find_alike}
 
 -- tests that pass together are the same
 same_test : (a b : Bool) → (IsTrue a → IsTrue b) → (IsTrue b → IsTrue a) → a ≡ b
@@ -86,34 +85,34 @@ module _ (s : LabelMap) (c : Configuration) where
       receiver_there receiver None h = absurd (cc)
       receiver_there receiver (Some t) h = (t, refl, eqb-true (receiver_of t) receiver h)
 
-module _ (u : List Label) (c : Configuration) where
+module _ (s : Space) (c : Configuration) where
   abbrev ends_of_choice : List ℕ → List ℕ → Bool
-  ends_of_choice path choice = is_end (label_set_of u choice) c path
+  ends_of_choice path choice = is_end (label_set_of s.labels choice) c path
 
   pub entry_is_earliest : (path : List ℕ)
-      → first_entry u c path
-      ≡ earliest (map (first_end u c) (filter (leads_through path) (paths_of c)))
+      → first_entry s c path
+      ≡ earliest (map (first_end s c) (filter (leads_through path) (paths_of c)))
   entry_is_earliest path =
-      first_alike (sizes u) (λ choice. list_any (leads_through path) (ends (label_set_of u choice) c))
+      find_alike (λ choice. list_any (leads_through path) (ends (label_set_of s.labels choice) c))
       (λ choice. list_any (λ end. ends_of_choice end choice) (filter (leads_through path) (paths_of c)))
-      (λ choice whole. enters_by_ends (label_set_of u choice) c path)
-      ∙ find_any ends_of_choice (filter (leads_through path) (paths_of c)) (choices (sizes u))
-      (choices_sorted (sizes u))
+      (all_choices s) (λ choice i. enters_by_ends (label_set_of s.labels choice) c path)
+      ∙ find_any ends_of_choice (filter (leads_through path) (paths_of c)) (all_choices s)
+      (space_choices_sorted s)
 
   pub receipt_is_earliest : (receiver : ℕ)
-      → first_receipt u c receiver
-      ≡ earliest (map (first_end u c) (paths_to receiver c.root))
+      → first_receipt s c receiver
+      ≡ earliest (map (first_end s c) (paths_to receiver c.root))
   receipt_is_earliest receiver =
-      first_alike (sizes u)
-      (λ choice. list_any (λ other. other == receiver) (receivers (label_set_of u choice) c))
+      find_alike
+      (λ choice. list_any (λ other. other == receiver) (receivers (label_set_of s.labels choice) c))
       (λ choice. list_any (λ end. ends_of_choice end choice) (paths_to receiver c.root))
-      (λ choice whole. goes_by_ends (label_set_of u choice) c receiver)
-      ∙ find_any ends_of_choice (paths_to receiver c.root) (choices (sizes u))
-      (choices_sorted (sizes u))
+      (all_choices s) (λ choice i. goes_by_ends (label_set_of s.labels choice) c receiver)
+      ∙ find_any ends_of_choice (paths_to receiver c.root) (all_choices s)
+      (space_choices_sorted s)
 
   -- of some routes and one more
   pub earliest_more : (paths : List (List ℕ)) (path : List ℕ)
-      → earliest (map (first_end u c) (paths ++ path ∷ []))
-      ≡ earlier (earliest (map (first_end u c) paths)) (first_end u c path)
+      → earliest (map (first_end s c) (paths ++ path ∷ []))
+      ≡ earlier (earliest (map (first_end s c) paths)) (first_end s c path)
   earliest_more paths path =
-      find_more ends_of_choice paths path (choices (sizes u)) (choices_sorted (sizes u))
+      find_more ends_of_choice paths path (all_choices s) (space_choices_sorted s)

@@ -1,26 +1,16 @@
 -- What `find` finds in a list: an item that passes, and no item that passes stands before it. And
--- what it finds among all choices.
+-- what it finds among all choices of a space.
 use Rattle.std.proofs.Common.{◌≡◌, ℕ, List, [], ◌∷◌, Bool, true, false, Option, Some, None}
 use Rattle.std.proofs.Common.{refl, sym, ap, ◌∙◌, inl, inr}
 use Rattle.std.specs.Prelude.{IsTrue}
 use Rattle.std.specs.List.{find}
 use Rattle.std.proofs.lemmas.Bool.{cases_Bool}
-use Rattle.am_universe.specs.Choice.{choices, IsWhole}
-use Rattle.am_universe.proofs.ListLemmas.{IsIn}
-use Rattle.am_universe.proofs.ChoiceLemmas.{choices_sorted, whole_from_in}
+use Rattle.am_universe.proofs.ListLemmas.{IsIn, IsIn-from_Contains, Contains-from_IsIn}
+use Rattle.am_labels.specs.Space.{Space, all_choices, IsChoiceOf}
+use Rattle.am_labels.proofs.SpaceLaws.{space_choices, space_choices_sorted}
 use Rattle.am_search.specs.Start.{comes_before}
-use Rattle.am_search.proofs.Walks.{in_choices}
 use Rattle.am_search.proofs.ChoiceOrder.{Ascends, above_first, ascends_rest, not_itself, not_back}
-
-pub is_found : {X : Type 0} (test : X → Bool) (xs : List X) (x : X) → find test xs ≡ Some x
-    → IsIn xs x × (test x ≡ true)
-is_found test [] x e = absurd (cc)
-is_found test (y ∷ ys) x e = elim (cases_Bool (test y)) [
-  | inl passes ↦
-      let found : Some y ≡ Some x = rw passes at e in
-      let same : y ≡ x = cc in (inl same, ap test (sym same) ∙ passes)
-  | inr fails ↦ let r = is_found test ys x (rw fails at e) in (inr r.0, r.1)
-]
+use Rattle.am_cubes.proofs.FirstPossible.{is_found}
 
 -- where an item passes, one is found
 finds : {X : Type 0} (test : X → Bool) (xs : List X) (x : X) → IsIn xs x → test x ≡ true
@@ -56,41 +46,46 @@ found_first test (z ∷ zs) x y s e (inr later) passes = elim (cases_Bool (test 
   | inr fails ↦ found_first test zs x y (ascends_rest z zs s) (rw fails at e) later passes
 ]
 
--- ---- The first of all choices that passes a test.
+-- ---- The first of all choices of a space that passes a test.
 
-pub found_whole : (ns : List ℕ) (test : List ℕ → Bool) (choice : List ℕ)
-    → find test (choices ns) ≡ Some choice → IsWhole ns choice × IsTrue (test choice)
-found_whole ns test choice e =
-    let r = is_found test (choices ns) choice e in (whole_from_in ns choice r.0, r.1)
+in_space : (s : Space) (choice : List ℕ) → IsChoiceOf s choice → IsIn (all_choices s) choice
+in_space s choice possible =
+    IsIn-from_Contains (all_choices s) choice ((space_choices s choice).1 possible)
 
-pub finds_whole : (ns : List ℕ) (test : List ℕ → Bool) (choice : List ℕ) → IsWhole ns choice
-    → IsTrue (test choice) → (first : List ℕ) × (find test (choices ns) ≡ Some first)
-finds_whole ns test choice whole passes =
-    finds test (choices ns) choice (in_choices ns choice whole) passes
+pub found_choice : (s : Space) (test : List ℕ → Bool) (choice : List ℕ)
+    → find test (all_choices s) ≡ Some choice → IsChoiceOf s choice × IsTrue (test choice)
+found_choice s test choice e =
+    let r = is_found test (all_choices s) choice e in
+    ((space_choices s choice).0 (Contains-from_IsIn (all_choices s) choice r.0), r.1)
 
-pub first_whole : (ns : List ℕ) (test : List ℕ → Bool) (choice other : List ℕ)
-    → find test (choices ns) ≡ Some choice → IsWhole ns other → IsTrue (test other)
+pub finds_choice : (s : Space) (test : List ℕ → Bool) (choice : List ℕ) → IsChoiceOf s choice
+    → IsTrue (test choice) → (first : List ℕ) × (find test (all_choices s) ≡ Some first)
+finds_choice s test choice possible passes =
+    finds test (all_choices s) choice (in_space s choice possible) passes
+
+pub first_choice : (s : Space) (test : List ℕ → Bool) (choice other : List ℕ)
+    → find test (all_choices s) ≡ Some choice → IsChoiceOf s other → IsTrue (test other)
     → comes_before other choice ≡ false
-first_whole ns test choice other e whole passes =
-    found_first test (choices ns) choice other (choices_sorted ns) e
-    (in_choices ns other whole) passes
+first_choice s test choice other e possible passes =
+    found_first test (all_choices s) choice other (space_choices_sorted s) e
+    (in_space s other possible) passes
 
-pub none_whole : (ns : List ℕ) (test : List ℕ → Bool) (choice : List ℕ)
-    → find test (choices ns) ≡ None → IsWhole ns choice → IsTrue (test choice) → ⊥
-none_whole ns test choice e whole passes =
-    none_found test (choices ns) choice e (in_choices ns choice whole) passes
+pub none_choice : (s : Space) (test : List ℕ → Bool) (choice : List ℕ)
+    → find test (all_choices s) ≡ None → IsChoiceOf s choice → IsTrue (test choice) → ⊥
+none_choice s test choice e possible passes =
+    none_found test (all_choices s) choice e (in_space s choice possible) passes
 
-pub finds_none : (ns : List ℕ) (test : List ℕ → Bool)
-    → ((choice : List ℕ) → IsWhole ns choice → IsTrue (test choice) → ⊥)
-    → find test (choices ns) ≡ None
-finds_none ns test none = by (find test (choices ns)) refl
+pub finds_none : (s : Space) (test : List ℕ → Bool)
+    → ((choice : List ℕ) → IsChoiceOf s choice → IsTrue (test choice) → ⊥)
+    → find test (all_choices s) ≡ None
+finds_none s test none = by (find test (all_choices s)) refl
   where
-    by : (o : Option (List ℕ)) → find test (choices ns) ≡ o → o ≡ None
+    by : (o : Option (List ℕ)) → find test (all_choices s) ≡ o → o ≡ None
     by None e = refl
     by (Some choice) e =
-        let r = found_whole ns test choice e in absurd (none choice r.0 r.1)
+        let r = found_choice s test choice e in absurd (none choice r.0 r.1)
 
--- of two whole choices of which none comes before the other, the one is the other
+-- of two choices of which none comes before the other, the one is the other
 same_in : (xs : List (List ℕ)) (x y : List ℕ) → Ascends xs → IsIn xs x → IsIn xs y
     → comes_before x y ≡ false → comes_before y x ≡ false → x ≡ y
 same_in [] x y s here there le ge = absurd here
@@ -106,8 +101,8 @@ same_in (z ∷ zs) x y s (inr later) (inl first) le ge =
 same_in (z ∷ zs) x y s (inr here) (inr there) le ge =
     same_in zs x y (ascends_rest z zs s) here there le ge
 
-pub same_whole : (ns : List ℕ) (choice other : List ℕ) → IsWhole ns choice → IsWhole ns other
+pub same_choice : (s : Space) (choice other : List ℕ) → IsChoiceOf s choice → IsChoiceOf s other
     → comes_before choice other ≡ false → comes_before other choice ≡ false → choice ≡ other
-same_whole ns choice other whole also le ge =
-    same_in (choices ns) choice other (choices_sorted ns) (in_choices ns choice whole)
-    (in_choices ns other also) le ge
+same_choice s choice other possible also le ge =
+    same_in (all_choices s) choice other (space_choices_sorted s) (in_space s choice possible)
+    (in_space s other also) le ge

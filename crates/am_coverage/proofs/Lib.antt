@@ -13,3 +13,4 @@ pub mod EntryLaws
 pub mod BeforeByPosition
 pub mod RoutesBehind
 pub mod ReceiverRoutes
+pub mod EmptySpace

@@ -10,8 +10,9 @@ use borrow.Author.Tests.{ltb-true}
 use Rattle.std.proofs.lemmas.List.{append-nil}
 use Rattle.std.proofs.lemmas.List.FromFn.{get_or-map-range_with_len}
 use Rattle.std.proofs.lemmas.List.Elements.{filter-append}
-use Rattle.am_universe.specs.Universe.{Label, sizes}
+use Rattle.am_universe.specs.Universe.{sizes}
 use Rattle.am_universe.specs.LabelSet.{label_set_of}
+use Rattle.am_labels.specs.Space.{Space}
 use Rattle.am_files.specs.ConfigFile.{Configuration, RouteTree, receiver_of}
 use Rattle.am_files.specs.ConfigView.{config_view}
 use Rattle.am_files.specs.Path.{route_at}
@@ -26,33 +27,33 @@ use Rattle.am_coverage.specs.Coverage.{receiver_coverage}
 use Rattle.am_coverage.specs.CoverageView.{IsShownReceiver}
 use Rattle.am_coverage.specs.FirstEnds.{earlier, earliest}
 use Rattle.am_coverage.proofs.FirstEndLaws.{earliest_more, receipt_is_earliest}
-use Rattle.am_coverage.proofs.FirstFound.{found_whole}
+use Rattle.am_coverage.proofs.FirstFound.{found_choice}
 
 abbrev has_receiver : Configuration → ℕ → List ℕ → Bool
 has_receiver c receiver path = is_receiver receiver (route_at c.root path)
 
 -- what becomes of a receiver as far as some routes tell
-abbrev pub covered_by : List Label → Configuration → List (List ℕ) → ℕ → ReceiverCoverage
-covered_by u c paths receiver =
-    live_or_unmatched (earliest (map (first_end u c) (filter (has_receiver c receiver) paths)))
+abbrev pub covered_by : Space → Configuration → List (List ℕ) → ℕ → ReceiverCoverage
+covered_by s c paths receiver =
+    live_or_unmatched (earliest (map (first_end s c) (filter (has_receiver c receiver) paths)))
 
 -- ---- One route more.
 
-module _ (u : List Label) (c : Configuration) (paths : List (List ℕ)) (path : List ℕ) where
+module _ (s : Space) (c : Configuration) (paths : List (List ℕ)) (path : List ℕ) where
   pub by_other : (receiver : ℕ) → has_receiver c receiver path ≡ false
-      → covered_by u c paths receiver ≡ covered_by u c (paths ++ path ∷ []) receiver
+      → covered_by s c paths receiver ≡ covered_by s c (paths ++ path ∷ []) receiver
   by_other receiver other =
       rw (filter-append (has_receiver c receiver) paths (path ∷ []), other, append-nil) refl
 
   pub by_its_own : (receiver : ℕ) → has_receiver c receiver path ≡ true
       → live_or_unmatched
-      (earlier (earliest (map (first_end u c) (filter (has_receiver c receiver) paths)))
-      (first_end u c path))
-      ≡ covered_by u c (paths ++ path ∷ []) receiver
+      (earlier (earliest (map (first_end s c) (filter (has_receiver c receiver) paths)))
+      (first_end s c path))
+      ≡ covered_by s c (paths ++ path ∷ []) receiver
   by_its_own receiver own =
       rw (filter-append (has_receiver c receiver) paths (path ∷ []), own)
       (ap live_or_unmatched
-      (sym (earliest_more u c (filter (has_receiver c receiver) paths) path)))
+      (sym (earliest_more s c (filter (has_receiver c receiver) paths) path)))
 
 -- ---- One place of a table changes.
 
@@ -109,51 +110,51 @@ receiver_declared config path t at =
     (receiver_below (length (config_view config).receivers) path (config_view config).root t
     config.sound.receivers_declared at)
 
-module _ (u : List Label) (c : Configuration) (paths : List (List ℕ)) where
+module _ (s : Space) (c : Configuration) (paths : List (List ℕ)) where
   -- the route at a path tells of its own receiver alone
   pub route_counted : (table : List ReceiverCoverage) (path : List ℕ) (t : RouteTree)
       (n receiver : ℕ) (known told : ReceiverCoverage)
-      → table ≡ map (covered_by u c paths) (range_with_len 0 n) → receiver ≡ receiver_of t
+      → table ≡ map (covered_by s c paths) (range_with_len 0 n) → receiver ≡ receiver_of t
       → receiver < n → route_at c.root path ≡ Some t → known ≡ get_or table receiver known
       → ((first : Option (List ℕ)) → known ≡ live_or_unmatched first
-      → told ≡ live_or_unmatched (earlier first (first_end u c path)))
+      → told ≡ live_or_unmatched (earlier first (first_end s c path)))
       → set table receiver told
-      ≡ map (covered_by u c (paths ++ path ∷ [])) (range_with_len 0 n)
+      ≡ map (covered_by s c (paths ++ path ∷ [])) (range_with_len 0 n)
   route_counted table path t n receiver known told is its_own lt at here tells =
-      let made = covered_by u c paths in
+      let made = covered_by s c paths in
       let so_far : known ≡ made receiver =
       here ∙ ap (λ all. get_or all receiver known) is
       ∙ get_or-map-range_with_len made 0 n receiver receiver known lt (omega arith) in
       ap (λ all. set all receiver told) is
-      ∙ set_made made (covered_by u c (paths ++ path ∷ [])) n receiver told
-      (tells (earliest (map (first_end u c) (filter (has_receiver c receiver) paths))) so_far
-      ∙ by_its_own u c paths path receiver (rw at (eq-eqb (receiver_of t) receiver (sym its_own))))
-      (λ k other. by_other u c paths path k
+      ∙ set_made made (covered_by s c (paths ++ path ∷ [])) n receiver told
+      (tells (earliest (map (first_end s c) (filter (has_receiver c receiver) paths))) so_far
+      ∙ by_its_own s c paths path receiver (rw at (eq-eqb (receiver_of t) receiver (sym its_own))))
+      (λ k other. by_other s c paths path k
       (rw at (ne_eqb (receiver_of t) k (λ e. other (sym (its_own ∙ e))))))
 
   -- and where there is none, of no receiver
   pub no_route_counted : (path : List ℕ) (n : ℕ) → route_at c.root path ≡ None
-      → map (covered_by u c paths) (range_with_len 0 n)
-      ≡ map (covered_by u c (paths ++ path ∷ [])) (range_with_len 0 n)
+      → map (covered_by s c paths) (range_with_len 0 n)
+      ≡ map (covered_by s c (paths ++ path ∷ [])) (range_with_len 0 n)
   no_route_counted path n none =
-      all_made (covered_by u c paths) (covered_by u c (paths ++ path ∷ [])) n
-      (λ k. by_other u c paths path k (rw none refl))
+      all_made (covered_by s c paths) (covered_by s c (paths ++ path ∷ [])) n
+      (λ k. by_other s c paths path k (rw none refl))
 
-module _ (u : List Label) (c : Configuration) where
-  pub all_counted : (receiver : ℕ) → covered_by u c (paths_of c) receiver
-      ≡ receiver_coverage u c receiver
-  all_counted receiver = ap live_or_unmatched (sym (receipt_is_earliest u c receiver))
+module _ (s : Space) (c : Configuration) where
+  pub all_counted : (receiver : ℕ) → covered_by s c (paths_of c) receiver
+      ≡ receiver_coverage s c receiver
+  all_counted receiver = ap live_or_unmatched (sym (receipt_is_earliest s c receiver))
 
-  shown_by : (receiver : ℕ) (receipt : Option (List ℕ)) → first_receipt u c receiver ≡ receipt
-      → IsShownReceiver (sizes u) (live_or_unmatched receipt)
+  shown_by : (receiver : ℕ) (receipt : Option (List ℕ)) → first_receipt s c receiver ≡ receipt
+      → IsShownReceiver (sizes s.labels) (live_or_unmatched receipt)
   shown_by receiver None e = tt
   shown_by receiver (Some choice) e =
-      (found_whole (sizes u)
-      (λ other. list_any (λ r. r == receiver) (receivers (label_set_of u other) c)) choice e).0
+      (found_choice s
+      (λ other. list_any (λ r. r == receiver) (receivers (label_set_of s.labels other) c)) choice e).0.0
 
   pub all_shown : (from n : ℕ)
-      → AllByRecursion (IsShownReceiver (sizes u))
-      (map (receiver_coverage u c) (range_with_len from n))
+      → AllByRecursion (IsShownReceiver (sizes s.labels))
+      (map (receiver_coverage s c) (range_with_len from n))
   all_shown from zero = tt
   all_shown from (suc n) =
-      (shown_by from (first_receipt u c from) refl, all_shown (from + 1) n)
+      (shown_by from (first_receipt s c from) refl, all_shown (from + 1) n)

@@ -6,9 +6,9 @@ use Rattle.std.specs.Prelude.{slice_get}
 use Rattle.std.specs.List.{AllZip, flat_map, zip, range_with_len}
 use Rattle.std.proofs.lemmas.List.Folds.{flat_map-map}
 use mathlib.Core.List.{append_cancel_left}
-use Rattle.am_universe.specs.Universe.{Label, sizes}
 use Rattle.am_universe.specs.Text.{quoted_text}
 use Rattle.am_universe.specs.WrittenLabelSet.{set_text}
+use Rattle.am_labels.specs.Space.{Space}
 use Rattle.am_files.specs.ConfigFile.{Configuration}
 use Rattle.am_files.specs.Path.{path_text}
 use Rattle.am_eval.specs.RoutePaths.{paths_of}
@@ -24,7 +24,7 @@ use Rattle.am_coverage.specs.Report.{IsFirstChoice, EndsAt, GoesTo, IsRouteLine,
 use Rattle.am_coverage.specs.Report.{entered_route, never_entered_route, IsReceiverLine}
 use Rattle.am_coverage.specs.Report.{live_receiver, unmatched_receiver, IsRoutesReport}
 use Rattle.am_coverage.specs.Report.{IsReceiversReport}
-use Rattle.am_coverage.proofs.FirstFound.{same_whole}
+use Rattle.am_coverage.proofs.FirstFound.{same_choice}
 use Rattle.am_coverage.proofs.RouteLaws.{live_told, live_ends, live_first, never_exactly}
 use Rattle.am_coverage.proofs.RouteLaws.{entered_exactly, dead_from_never}
 use Rattle.am_coverage.proofs.ReceiverLaws as of_receiver
@@ -40,66 +40,66 @@ joined : {X : Type 0} (line : X → List ℕ) (xs : List X)
     → flat_map line xs ≡ flat_map (λ text. text) (map line xs)
 joined line xs = sym (flat_map-map (λ text. text) line xs)
 
-module _ (u : List Label) (c : Configuration) where
+module _ (s : Space) (c : Configuration) where
   -- ---- Routes.
 
   abbrev route_line_at : List ℕ → List ℕ
-  route_line_at path = route_line u (path, route_coverage u c path)
+  route_line_at path = route_line s.labels (path, route_coverage s c path)
 
-  line_said : (path : List ℕ) (coverage : RouteCoverage) → route_coverage u c path ≡ coverage
-      → IsRouteLine u c path (route_line u (path, coverage))
+  line_said : (path : List ℕ) (coverage : RouteCoverage) → route_coverage s c path ≡ coverage
+      → IsRouteLine s c path (route_line s.labels (path, coverage))
   line_said path (route_is.Live choice) e =
-      let at = live_ends u c path choice e in
+      let at = live_ends s c path choice e in
       live_route choice
       (record {
-        whole = at.0;
+        possible = at.0;
         has = at.1;
-        first = λ other whole ends. live_first u c path choice other e whole ends;
+        first = λ other possible ends. live_first s c path choice other e possible ends;
       })
       refl
   line_said path route_is.Entered e =
-      let r = (entered_exactly u c path).1 e in entered_route r.0 r.1 refl
+      let r = (entered_exactly s c path).1 e in entered_route r.0 r.1 refl
   line_said path route_is.NeverEntered e =
-      never_entered_route ((never_exactly u c path).1 e) refl
+      never_entered_route ((never_exactly s c path).1 e) refl
 
-  lines_said : (paths : List (List ℕ)) → AllZip (IsRouteLine u c) paths (map route_line_at paths)
+  lines_said : (paths : List (List ℕ)) → AllZip (IsRouteLine s c) paths (map route_line_at paths)
   lines_said [] = tt
   lines_said (path ∷ paths) =
-      (line_said path (route_coverage u c path) refl, lines_said paths)
+      (line_said path (route_coverage s c path) refl, lines_said paths)
 
   pub routes_reported : (found : List (List ℕ × RouteCoverage))
-      → found ≡ map (λ path. (path, route_coverage u c path)) (paths_of c)
-      → IsRoutesReport u c (routes_text u found)
+      → found ≡ map (λ path. (path, route_coverage s c path)) (paths_of c)
+      → IsRoutesReport s c (routes_text s.labels found)
   routes_reported found is = record {
     lines = map route_line_at (paths_of c);
     each = lines_said (paths_of c);
-    joined = ap (routes_text u) is
+    joined = ap (routes_text s.labels) is
         ∙ ap (λ text. text ++ codes "# end\n")
-        (flat_map-map (route_line u) (λ path. (path, route_coverage u c path)) (paths_of c)
+        (flat_map-map (route_line s.labels) (λ path. (path, route_coverage s c path)) (paths_of c)
         ∙ joined route_line_at (paths_of c));
   }
 
-  first_is : (path choice : List ℕ) → IsFirstChoice u (EndsAt u c path) choice
-      → route_coverage u c path ≡ route_is.Live choice
+  first_is : (path choice : List ℕ) → IsFirstChoice s (EndsAt s c path) choice
+      → route_coverage s c path ≡ route_is.Live choice
   first_is path choice first =
-      let told = live_told u c path choice first.whole first.has in
-      let at = live_ends u c path told.0 told.1 in
-      let before = live_first u c path told.0 choice told.1 first.whole first.has in
+      let told = live_told s c path choice first.possible first.has in
+      let at = live_ends s c path told.0 told.1 in
+      let before = live_first s c path told.0 choice told.1 first.possible first.has in
       told.1 ∙ ap route_is.Live
-      (same_whole (sizes u) told.0 choice at.0 first.whole (first.first told.0 at.0 at.1) before)
+      (same_choice s told.0 choice at.0 first.possible (first.first told.0 at.0 at.1) before)
 
   -- the line of a route is the one that is written
-  pub route_line_is : (path line : List ℕ) → IsRouteLine u c path line
-      → line ≡ route_line u (path, route_coverage u c path)
+  pub route_line_is : (path line : List ℕ) → IsRouteLine s c path line
+      → line ≡ route_line s.labels (path, route_coverage s c path)
   route_line_is path line (live_route choice first e) =
-      e ∙ ap (λ coverage. route_line u (path, coverage)) (sym (first_is path choice first))
+      e ∙ ap (λ coverage. route_line s.labels (path, coverage)) (sym (first_is path choice first))
   route_line_is path line (entered_route dead entered e) =
-      e ∙ ap (λ coverage. route_line u (path, coverage))
-      (sym ((entered_exactly u c path).0 (dead, entered)))
+      e ∙ ap (λ coverage. route_line s.labels (path, coverage))
+      (sym ((entered_exactly s c path).0 (dead, entered)))
   route_line_is path line (never_entered_route never e) =
-      e ∙ ap (λ coverage. route_line u (path, coverage)) (sym ((never_exactly u c path).0 never))
+      e ∙ ap (λ coverage. route_line s.labels (path, coverage)) (sym ((never_exactly s c path).0 never))
 
-  lines_are : (paths lines : List (List ℕ)) → AllZip (IsRouteLine u c) paths lines
+  lines_are : (paths lines : List (List ℕ)) → AllZip (IsRouteLine s c) paths lines
       → lines ≡ map route_line_at paths
   lines_are [] [] each = refl
   lines_are [] (line ∷ lines) each = absurd each
@@ -107,40 +107,40 @@ module _ (u : List Label) (c : Configuration) where
   lines_are (path ∷ paths) (line ∷ lines) each =
       rw (route_line_is path line each.0, lines_are paths lines each.1) refl
 
-  pub routes_report_is : (report : List ℕ) → IsRoutesReport u c report
+  pub routes_report_is : (report : List ℕ) → IsRoutesReport s c report
       → report ≡ flat_map (λ line. line) (map route_line_at (paths_of c)) ++ codes "# end\n"
   routes_report_is report r =
       r.joined ∙ ap (λ lines. flat_map (λ line. line) lines ++ codes "# end\n")
       (lines_are (paths_of c) r.lines r.each)
 
-  pub one_routes_report : (report other : List ℕ) → IsRoutesReport u c report
-      → IsRoutesReport u c other → report ≡ other
-  one_routes_report report other r s = routes_report_is report r ∙ sym (routes_report_is other s)
+  pub one_routes_report : (report other : List ℕ) → IsRoutesReport s c report
+      → IsRoutesReport s c other → report ≡ other
+  one_routes_report report other r also = routes_report_is report r ∙ sym (routes_report_is other also)
 
   -- ---- What the line of a route says.
 
-  pub line_says_dead : (path line : List ℕ) → IsRouteLine u c path line
-      → IsDead u c path ↔ ((rest : List ℕ) × (line ≡ path_text path ++ (codes " dead " ++ rest)))
+  pub line_says_dead : (path line : List ℕ) → IsRouteLine s c path line
+      → IsDead s c path ↔ ((rest : List ℕ) × (line ≡ path_text path ++ (codes " dead " ++ rest)))
   line_says_dead path line (live_route choice first e) = (
-    λ dead. absurd (dead choice first.whole first.has),
+    λ dead. absurd (dead choice first.possible first.has),
     λ said.
         let bytes : (◌≡◌ {A = ℕ} 108 100) = differ (path_text path)
-        (codes " live " ++ (set_text u choice ++ codes "\n")) (codes " dead " ++ said.0) line 1 e
+        (codes " live " ++ (set_text s.labels choice ++ codes "\n")) (codes " dead " ++ said.0) line 1 e
         said.1 in
         absurd (omega (arith, bytes)),
   )
   line_says_dead path line (entered_route dead entered e) =
       (λ _. (codes "entered\n", e), λ _. dead)
   line_says_dead path line (never_entered_route never e) =
-      (λ _. (codes "never-entered\n", e), λ _. dead_from_never u c path never)
+      (λ _. (codes "never-entered\n", e), λ _. dead_from_never s c path never)
 
-  pub line_says_never : (path line : List ℕ) → IsRouteLine u c path line
-      → IsNeverEntered u c path ↔ (line ≡ path_text path ++ codes " dead never-entered\n")
+  pub line_says_never : (path line : List ℕ) → IsRouteLine s c path line
+      → IsNeverEntered s c path ↔ (line ≡ path_text path ++ codes " dead never-entered\n")
   line_says_never path line (live_route choice first e) = (
-    λ never. absurd (dead_from_never u c path never choice first.whole first.has),
+    λ never. absurd (dead_from_never s c path never choice first.possible first.has),
     λ said.
         let bytes : (◌≡◌ {A = ℕ} 108 100) = differ (path_text path)
-        (codes " live " ++ (set_text u choice ++ codes "\n")) (codes " dead never-entered\n") line 1
+        (codes " live " ++ (set_text s.labels choice ++ codes "\n")) (codes " dead never-entered\n") line 1
         e said in
         absurd (omega (arith, bytes)),
   )
@@ -157,20 +157,20 @@ module _ (u : List Label) (c : Configuration) where
 
   receiver_said : (receiver : ℕ) (name : List ℕ) (coverage : ReceiverCoverage)
       → slice_get c.receivers receiver ≡ Some name
-      → receiver_coverage u c receiver ≡ coverage
-      → IsReceiverLine u c receiver (receiver_line u (name, coverage))
+      → receiver_coverage s c receiver ≡ coverage
+      → IsReceiverLine s c receiver (receiver_line s.labels (name, coverage))
   receiver_said receiver name (receiver_is.Live choice) named e =
-      let at = of_receiver.live_goes u c receiver choice e in
+      let at = of_receiver.live_goes s c receiver choice e in
       live_receiver name choice named
       (record {
-        whole = at.0;
+        possible = at.0;
         has = at.1;
-        first = λ other whole goes.
-            of_receiver.live_first u c receiver choice other e whole goes;
+        first = λ other possible goes.
+            of_receiver.live_first s c receiver choice other e possible goes;
       })
       refl
   receiver_said receiver name receiver_is.Unmatched named e =
-      unmatched_receiver name named ((of_receiver.unmatched_exactly u c receiver).1 e) refl
+      unmatched_receiver name named ((of_receiver.unmatched_exactly s c receiver).1 e) refl
 
   -- the names from a position on are those that the configuration has there
   abbrev AreNamesFrom : ℕ → List (List ℕ) → Type 0
@@ -192,14 +192,14 @@ module _ (u : List Label) (c : Configuration) where
   -- the lines of the receivers of these names, from a position on
   abbrev lines_from : ℕ → List (List ℕ) → List (List ℕ)
   lines_from i names =
-      map (receiver_line u)
-      (zip names (map (receiver_coverage u c) (range_with_len i (length names))))
+      map (receiver_line s.labels)
+      (zip names (map (receiver_coverage s c) (range_with_len i (length names))))
 
   receivers_said : (i : ℕ) (names : List (List ℕ)) → AreNamesFrom i names
-      → AllZip (IsReceiverLine u c) (range_with_len i (length names)) (lines_from i names)
+      → AllZip (IsReceiverLine s c) (range_with_len i (length names)) (lines_from i names)
   receivers_said i [] are = tt
   receivers_said i (name ∷ names) are = (
-    receiver_said i name (receiver_coverage u c i) (first_name i name names are) refl,
+    receiver_said i name (receiver_coverage s c i) (first_name i name names are) refl,
     receivers_said (i + 1) names (later_names i name names are),
   )
 
@@ -207,25 +207,25 @@ module _ (u : List Label) (c : Configuration) where
   all_names k lt = ap (slice_get c.receivers) (omega arith)
 
   pub receivers_reported : (found : List ReceiverCoverage)
-      → found ≡ map (receiver_coverage u c) (range_with_len 0 (length c.receivers))
-      → IsReceiversReport u c (receivers_text u c.receivers found)
+      → found ≡ map (receiver_coverage s c) (range_with_len 0 (length c.receivers))
+      → IsReceiversReport s c (receivers_text s.labels c.receivers found)
   receivers_reported found is = record {
     lines = lines_from 0 c.receivers;
     each = receivers_said 0 c.receivers all_names;
-    joined = ap (receivers_text u c.receivers) is
-        ∙ ap (λ text. text ++ codes "# end\n") (joined (receiver_line u)
-        (zip c.receivers (map (receiver_coverage u c) (range_with_len 0 (length c.receivers)))));
+    joined = ap (receivers_text s.labels c.receivers) is
+        ∙ ap (λ text. text ++ codes "# end\n") (joined (receiver_line s.labels)
+        (zip c.receivers (map (receiver_coverage s c) (range_with_len 0 (length c.receivers)))));
   }
 
   first_receipt_is : (receiver : ℕ) (choice : List ℕ)
-      → IsFirstChoice u (GoesTo u c receiver) choice
-      → receiver_coverage u c receiver ≡ receiver_is.Live choice
+      → IsFirstChoice s (GoesTo s c receiver) choice
+      → receiver_coverage s c receiver ≡ receiver_is.Live choice
   first_receipt_is receiver choice first =
-      let told = of_receiver.live_told u c receiver choice first.whole first.has in
-      let at = of_receiver.live_goes u c receiver told.0 told.1 in
-      let before = of_receiver.live_first u c receiver told.0 choice told.1 first.whole first.has in
+      let told = of_receiver.live_told s c receiver choice first.possible first.has in
+      let at = of_receiver.live_goes s c receiver told.0 told.1 in
+      let before = of_receiver.live_first s c receiver told.0 choice told.1 first.possible first.has in
       told.1 ∙ ap receiver_is.Live
-      (same_whole (sizes u) told.0 choice at.0 first.whole (first.first told.0 at.0 at.1) before)
+      (same_choice s told.0 choice at.0 first.possible (first.first told.0 at.0 at.1) before)
 
   same_name : (receiver : ℕ) (name other : List ℕ) → slice_get c.receivers receiver ≡ Some name
       → slice_get c.receivers receiver ≡ Some other → name ≡ other
@@ -234,21 +234,21 @@ module _ (u : List Label) (c : Configuration) where
 
   -- the line of a receiver is the one that is written
   pub receiver_line_is : (receiver : ℕ) (name line : List ℕ)
-      → slice_get c.receivers receiver ≡ Some name → IsReceiverLine u c receiver line
-      → line ≡ receiver_line u (name, receiver_coverage u c receiver)
+      → slice_get c.receivers receiver ≡ Some name → IsReceiverLine s c receiver line
+      → line ≡ receiver_line s.labels (name, receiver_coverage s c receiver)
   receiver_line_is receiver name line named (live_receiver other choice is first e) =
       let same = same_name receiver other name is named in
       let live = first_receipt_is receiver choice first in
-      e ∙ ap (λ text. receiver_line u (text, receiver_is.Live choice)) same
-      ∙ ap (λ coverage. receiver_line u (name, coverage)) (sym live)
+      e ∙ ap (λ text. receiver_line s.labels (text, receiver_is.Live choice)) same
+      ∙ ap (λ coverage. receiver_line s.labels (name, coverage)) (sym live)
   receiver_line_is receiver name line named (unmatched_receiver other is unmatched e) =
       let same = same_name receiver other name is named in
-      let none = (of_receiver.unmatched_exactly u c receiver).0 unmatched in
-      e ∙ ap (λ text. receiver_line u (text, receiver_is.Unmatched)) same
-      ∙ ap (λ coverage. receiver_line u (name, coverage)) (sym none)
+      let none = (of_receiver.unmatched_exactly s c receiver).0 unmatched in
+      e ∙ ap (λ text. receiver_line s.labels (text, receiver_is.Unmatched)) same
+      ∙ ap (λ coverage. receiver_line s.labels (name, coverage)) (sym none)
 
   receiver_lines_are : (i : ℕ) (names lines : List (List ℕ)) → AreNamesFrom i names
-      → AllZip (IsReceiverLine u c) (range_with_len i (length names)) lines
+      → AllZip (IsReceiverLine s c) (range_with_len i (length names)) lines
       → lines ≡ lines_from i names
   receiver_lines_are i [] [] are each = refl
   receiver_lines_are i [] (line ∷ lines) are each = absurd each
@@ -259,30 +259,30 @@ module _ (u : List Label) (c : Configuration) where
         receiver_lines_are (i + 1) names lines (later_names i name names are) each.1,
       ) refl
 
-  pub receivers_report_is : (report : List ℕ) → IsReceiversReport u c report
+  pub receivers_report_is : (report : List ℕ) → IsReceiversReport s c report
       → report ≡ flat_map (λ line. line) (lines_from 0 c.receivers) ++ codes "# end\n"
   receivers_report_is report r =
       r.joined ∙ ap (λ lines. flat_map (λ line. line) lines ++ codes "# end\n")
       (receiver_lines_are 0 c.receivers r.lines all_names r.each)
 
-  pub one_receivers_report : (report other : List ℕ) → IsReceiversReport u c report
-      → IsReceiversReport u c other → report ≡ other
-  one_receivers_report report other r s =
-      receivers_report_is report r ∙ sym (receivers_report_is other s)
+  pub one_receivers_report : (report other : List ℕ) → IsReceiversReport s c report
+      → IsReceiversReport s c other → report ≡ other
+  one_receivers_report report other r also =
+      receivers_report_is report r ∙ sym (receivers_report_is other also)
 
   -- ---- What the line of a receiver says.
 
   pub line_says_unmatched : (receiver : ℕ) (name line : List ℕ)
-      → slice_get c.receivers receiver ≡ Some name → IsReceiverLine u c receiver line
-      → IsUnmatched u c receiver ↔ (line ≡ quoted_text name ++ codes " unmatched\n")
+      → slice_get c.receivers receiver ≡ Some name → IsReceiverLine s c receiver line
+      → IsUnmatched s c receiver ↔ (line ≡ quoted_text name ++ codes " unmatched\n")
   line_says_unmatched receiver name line named (live_receiver other choice is first e) =
       let same = same_name receiver other name is named in (
-        λ unmatched. absurd (unmatched choice first.whole first.has),
+        λ unmatched. absurd (unmatched choice first.possible first.has),
         λ said.
             let bytes : (◌≡◌ {A = ℕ} 108 117) = differ (quoted_text name)
-            (codes " live " ++ (set_text u choice ++ codes "\n")) (codes " unmatched\n") line 1
+            (codes " live " ++ (set_text s.labels choice ++ codes "\n")) (codes " unmatched\n") line 1
             (subst (λ (text : List ℕ). line
-            ≡ quoted_text text ++ (codes " live " ++ (set_text u choice ++ codes "\n"))) same e)
+            ≡ quoted_text text ++ (codes " live " ++ (set_text s.labels choice ++ codes "\n"))) same e)
             said in
             absurd (omega (arith, bytes)),
       )

@@ -5,21 +5,20 @@ use Rattle.std.specs.Prelude.{IsTrue}
 use Rattle.std.specs.List.{list_any}
 use Rattle.std.specs.Cmp.Lexicographic.{bytes_decides}
 use Rattle.std.proofs.Math.Seq.{take-length}
-use Rattle.am_universe.specs.Universe.{Label, sizes}
-use Rattle.am_universe.specs.Choice.{IsWhole}
 use Rattle.am_universe.specs.LabelSet.{label_set_of}
 use Rattle.am_universe.specs.Text.{same_text}
 use Rattle.am_universe.proofs.ListLemmas.{IsIn-from_Contains, Contains-from_IsIn}
+use Rattle.am_labels.specs.Space.{Space, IsChoiceOf}
+use Rattle.am_labels.proofs.Passing.{any_in, in_any}
 use Rattle.am_files.specs.ConfigFile.{Configuration}
 use Rattle.am_files.specs.Path.{leads_through}
 use Rattle.am_eval.specs.Routing.{ends}
-use Rattle.am_eval.proofs.Members.{any_in, in_any}
 use Rattle.am_eval.proofs.SimpleParts.{end_from_test, test_from_end}
 use Rattle.am_search.specs.Start.{comes_before}
 use Rattle.am_coverage.specs.declared.coverage.RouteCoverage.TheVariants as route_is
 use Rattle.am_coverage.specs.Coverage.{IsDead, IsNeverEntered, first_end}
 use Rattle.am_coverage.specs.Coverage.{first_entry, live_or, dead_by, route_coverage}
-use Rattle.am_coverage.proofs.FirstFound.{found_whole, finds_whole, first_whole, none_whole}
+use Rattle.am_coverage.proofs.FirstFound.{found_choice, finds_choice, first_choice, none_choice}
 use Rattle.am_coverage.proofs.FirstFound.{finds_none}
 
 -- ---- The tests are what they stand for.
@@ -63,86 +62,86 @@ pub is_entered : (entry end : Option (List ℕ)) → end ≡ None → (entry ≡
 is_entered None end none some = absurd (some refl)
 is_entered (Some x) end none some = rw none refl
 
-module _ (u : List Label) (c : Configuration) (path : List ℕ) where
+module _ (s : Space) (c : Configuration) (path : List ℕ) where
   -- the tests of the first choices
   abbrev ends_there : List ℕ → Bool
-  ends_there choice = list_any (λ end. same_text end path) (ends (label_set_of u choice) c)
+  ends_there choice = list_any (λ end. same_text end path) (ends (label_set_of s.labels choice) c)
 
   abbrev enters : List ℕ → Bool
-  enters choice = list_any (leads_through path) (ends (label_set_of u choice) c)
+  enters choice = list_any (leads_through path) (ends (label_set_of s.labels choice) c)
 
-  pub no_end : IsDead u c path → first_end u c path ≡ None
+  pub no_end : IsDead s c path → first_end s c path ≡ None
   no_end dead =
-      finds_none (sizes u) ends_there (λ choice whole h.
-      dead choice whole (end_from_test path (ends (label_set_of u choice) c) h))
+      finds_none s ends_there (λ choice possible h.
+      dead choice possible (end_from_test path (ends (label_set_of s.labels choice) c) h))
 
-  is_dead : first_end u c path ≡ None → IsDead u c path
-  is_dead e choice whole h =
-      none_whole (sizes u) ends_there choice e whole
-      (test_from_end path (ends (label_set_of u choice) c) h)
+  is_dead : first_end s c path ≡ None → IsDead s c path
+  is_dead e choice possible h =
+      none_choice s ends_there choice e possible
+      (test_from_end path (ends (label_set_of s.labels choice) c) h)
 
-  no_entry : IsNeverEntered u c path → first_entry u c path ≡ None
+  no_entry : IsNeverEntered s c path → first_entry s c path ≡ None
   no_entry never =
-      finds_none (sizes u) enters (λ choice whole h.
-      let r = entry_from_test path (ends (label_set_of u choice) c) h in
-      never choice r.0 whole r.1 r.2)
+      finds_none s enters (λ choice possible h.
+      let r = entry_from_test path (ends (label_set_of s.labels choice) c) h in
+      never choice r.0 possible r.1 r.2)
 
-  is_never_entered : first_entry u c path ≡ None → IsNeverEntered u c path
-  is_never_entered e choice end whole h through =
-      none_whole (sizes u) enters choice e whole
-      (test_from_entry path end (ends (label_set_of u choice) c) h through)
+  is_never_entered : first_entry s c path ≡ None → IsNeverEntered s c path
+  is_never_entered e choice end possible h through =
+      none_choice s enters choice e possible
+      (test_from_entry path end (ends (label_set_of s.labels choice) c) h through)
 
   -- where none ends at the route or below it, none ends there
-  pub dead_from_never : IsNeverEntered u c path → IsDead u c path
-  dead_from_never never choice whole h = never choice path whole h (through_itself path)
+  pub dead_from_never : IsNeverEntered s c path → IsDead s c path
+  dead_from_never never choice possible h = never choice path possible h (through_itself path)
 
-  pub live_ends : (choice : List ℕ) → route_coverage u c path ≡ route_is.Live choice
-      → IsWhole (sizes u) choice × Contains (ends (label_set_of u choice) c) path
+  pub live_ends : (choice : List ℕ) → route_coverage s c path ≡ route_is.Live choice
+      → IsChoiceOf s choice × Contains (ends (label_set_of s.labels choice) c) path
   live_ends choice e =
-      let first = live_is (first_entry u c path) (first_end u c path) choice e in
-      let r = found_whole (sizes u) ends_there choice first in
-      (r.0, end_from_test path (ends (label_set_of u choice) c) r.1)
+      let first = live_is (first_entry s c path) (first_end s c path) choice e in
+      let r = found_choice s ends_there choice first in
+      (r.0, end_from_test path (ends (label_set_of s.labels choice) c) r.1)
 
-  pub live_first : (choice other : List ℕ) → route_coverage u c path ≡ route_is.Live choice
-      → IsWhole (sizes u) other → Contains (ends (label_set_of u other) c) path
+  pub live_first : (choice other : List ℕ) → route_coverage s c path ≡ route_is.Live choice
+      → IsChoiceOf s other → Contains (ends (label_set_of s.labels other) c) path
       → comes_before other choice ≡ false
-  live_first choice other e whole h =
-      let first = live_is (first_entry u c path) (first_end u c path) choice e in
-      first_whole (sizes u) ends_there choice other first whole
-      (test_from_end path (ends (label_set_of u other) c) h)
+  live_first choice other e possible h =
+      let first = live_is (first_entry s c path) (first_end s c path) choice e in
+      first_choice s ends_there choice other first possible
+      (test_from_end path (ends (label_set_of s.labels other) c) h)
 
-  pub live_told : (choice : List ℕ) → IsWhole (sizes u) choice
-      → Contains (ends (label_set_of u choice) c) path
-      → (first : List ℕ) × (route_coverage u c path ≡ route_is.Live first)
-  live_told choice whole h =
-      let r = finds_whole (sizes u) ends_there choice whole
-      (test_from_end path (ends (label_set_of u choice) c) h) in
-      (r.0, ap (live_or (dead_by (first_entry u c path))) r.1)
+  pub live_told : (choice : List ℕ) → IsChoiceOf s choice
+      → Contains (ends (label_set_of s.labels choice) c) path
+      → (first : List ℕ) × (route_coverage s c path ≡ route_is.Live first)
+  live_told choice possible h =
+      let r = finds_choice s ends_there choice possible
+      (test_from_end path (ends (label_set_of s.labels choice) c) h) in
+      (r.0, ap (live_or (dead_by (first_entry s c path))) r.1)
 
-  pub dead_exactly : IsDead u c path
-      ↔ ((choice : List ℕ) → route_coverage u c path ≢ route_is.Live choice)
+  pub dead_exactly : IsDead s c path
+      ↔ ((choice : List ℕ) → route_coverage s c path ≢ route_is.Live choice)
   dead_exactly = (
     λ dead choice e. let r = live_ends choice e in dead choice r.0 r.1,
-    λ none choice whole h. let r = live_told choice whole h in none r.0 r.1,
+    λ none choice possible h. let r = live_told choice possible h in none r.0 r.1,
   )
 
-  pub never_exactly : IsNeverEntered u c path ↔ (route_coverage u c path ≡ route_is.NeverEntered)
+  pub never_exactly : IsNeverEntered s c path ↔ (route_coverage s c path ≡ route_is.NeverEntered)
   never_exactly = (
     λ never.
-        let end : first_end u c path ≡ None = no_end (dead_from_never never) in
-        let entry : first_entry u c path ≡ None = no_entry never in
-        ap (live_or (dead_by (first_entry u c path))) end ∙ ap dead_by entry,
-    λ e. is_never_entered (never_is (first_entry u c path) (first_end u c path) e).1,
+        let end : first_end s c path ≡ None = no_end (dead_from_never never) in
+        let entry : first_entry s c path ≡ None = no_entry never in
+        ap (live_or (dead_by (first_entry s c path))) end ∙ ap dead_by entry,
+    λ e. is_never_entered (never_is (first_entry s c path) (first_end s c path) e).1,
   )
 
-  pub entered_exactly : (IsDead u c path × (IsNeverEntered u c path → ⊥))
-      ↔ (route_coverage u c path ≡ route_is.Entered)
+  pub entered_exactly : (IsDead s c path × (IsNeverEntered s c path → ⊥))
+      ↔ (route_coverage s c path ≡ route_is.Entered)
   entered_exactly = (
     λ h.
-        is_entered (first_entry u c path) (first_end u c path) (no_end h.0)
+        is_entered (first_entry s c path) (first_end s c path) (no_end h.0)
         (λ none. h.1 (is_never_entered none)),
     λ e.
-        let r = entered_is (first_entry u c path) (first_end u c path) e in (
+        let r = entered_is (first_entry s c path) (first_end s c path) e in (
           is_dead r.0,
           λ never. let both : None ≡ Some r.1.0 = sym (no_entry never) ∙ r.1.1 in cc,
         ),

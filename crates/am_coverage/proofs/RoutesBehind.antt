@@ -9,10 +9,11 @@ use Rattle.std.proofs.lemmas.Bool.{cases_Bool, false≢true}
 use Rattle.std.proofs.lemmas.List.{drop-map, length-map}
 use Rattle.std.proofs.lemmas.List.Sums.{take_while-cons}
 use Rattle.std.proofs.lemmas.Option.{slice_get_read, get_or_from_slice_get}
-use Rattle.am_universe.specs.Universe.{Label, sizes}
+use Rattle.am_universe.specs.Universe.{sizes}
 use Rattle.am_universe.specs.LabelSet.{label_set_of}
 use Rattle.am_universe.specs.Text.{same_text}
 use Rattle.am_universe.proofs.ListLemmas.{IsIn}
+use Rattle.am_labels.specs.Space.{Space}
 use Rattle.am_files.specs.ConfigFile.{Configuration}
 use Rattle.am_files.specs.Path.{leads_through}
 use Rattle.am_eval.specs.RoutePaths.{paths_of}
@@ -27,7 +28,7 @@ use Rattle.am_coverage.specs.CoverageView.{end_view, is_live_below, IsShownRoute
 use Rattle.am_coverage.specs.FirstEnds.{earliest}
 use Rattle.am_coverage.proofs.EntryLaws.{entered_where, dead_by_any}
 use Rattle.am_coverage.proofs.FirstEndLaws.{entry_is_earliest}
-use Rattle.am_coverage.proofs.FirstFound.{found_whole}
+use Rattle.am_coverage.proofs.FirstFound.{found_choice}
 use Rattle.am_coverage.proofs.PathLaws.{paths_ascend}
 
 -- ---- Of paths that ascend, those to which one leads stand right behind it.
@@ -73,13 +74,13 @@ below_in_front p (x ∷ xs) (suc i) s at =
 
 -- ---- What is found of each route, path by path.
 
-module _ (u : List Label) (c : Configuration) where
+module _ (s : Space) (c : Configuration) where
   abbrev made : List ℕ → List ℕ × Option (List ℕ)
-  made path = (path, first_end u c path)
+  made path = (path, first_end s c path)
 
   found_at : (items : List FirstEnd) (paths : List (List ℕ)) (i : ℕ) (end : FirstEnd)
       → map end_view items ≡ map made paths → slice_get items i ≡ Some end
-      → (slice_get paths i ≡ Some end.path) × (end.choice ≡ first_end u c end.path)
+      → (slice_get paths i ≡ Some end.path) × (end.choice ≡ first_end s c end.path)
   found_at [] paths i end found at = absurd (cc)
   found_at (e ∷ items) [] i end found at = absurd (cc)
   found_at (e ∷ items) (path ∷ paths) zero end found at =
@@ -87,7 +88,7 @@ module _ (u : List Label) (c : Configuration) where
       let same : e ≡ end = cc in
       let view : end_view end ≡ made path = ap end_view (sym same) ∙ here in
       let its_path : end.path ≡ path = ap (λ v. v.0) view in
-      (ap (λ p. Some p) (sym its_path), ap (λ v. v.1) view ∙ ap (first_end u c) (sym its_path))
+      (ap (λ p. Some p) (sym its_path), ap (λ v. v.1) view ∙ ap (first_end s c) (sym its_path))
   found_at (e ∷ items) (path ∷ paths) (suc i) end found at =
       let later : map end_view items ≡ map made paths = cc in found_at items paths i end later at
 
@@ -99,7 +100,7 @@ module _ (u : List Label) (c : Configuration) where
   pub path_at : (items : List FirstEnd) (paths : List (List ℕ)) (i : ℕ) (end : FirstEnd)
       → i < length items → end ≡ get_or items i end → map end_view items ≡ map made paths
       → (i < length paths) × (end.path ≡ get_or paths i end.path)
-      × (end.choice ≡ first_end u c end.path)
+      × (end.choice ≡ first_end s c end.path)
   path_at items paths i end lt is found =
       let at = found_at items paths i end found
       (slice_get_read items (length items) i end refl lt is) in (
@@ -112,14 +113,14 @@ module _ (u : List Label) (c : Configuration) where
   live_alike : (p : List ℕ) (items : List FirstEnd) (paths : List (List ℕ))
       → map end_view items ≡ map made paths
       → is_live_below p items
-      ≡ list_any is_some (map (first_end u c) (take_while (leads_through p) paths))
+      ≡ list_any is_some (map (first_end s c) (take_while (leads_through p) paths))
   live_alike p [] [] found = refl
   live_alike p [] (path ∷ paths) found = absurd (cc)
   live_alike p (e ∷ items) [] found = absurd (cc)
   live_alike p (e ∷ items) (path ∷ paths) found =
       let here : end_view e ≡ made path = cc in
       let its_path : e.path ≡ path = ap (λ v. v.0) here in
-      let its_choice : e.choice ≡ first_end u c path = ap (λ v. v.1) here in
+      let its_choice : e.choice ≡ first_end s c path = ap (λ v. v.1) here in
       let later : map end_view items ≡ map made paths = cc in
       let more = live_alike p items paths later in
       elim (cases_Bool (leads_through p path)) [
@@ -131,7 +132,7 @@ module _ (u : List Label) (c : Configuration) where
               so,
               below,
               its_choice,
-            ) (ap (λ b. is_some (first_end u c path) || b) more)
+            ) (ap (λ b. is_some (first_end s c path) || b) more)
         | inr beside ↦
             let so : leads_through p e.path ≡ false = ap (leads_through p) its_path ∙ beside in
             rw (
@@ -153,7 +154,7 @@ module _ (u : List Label) (c : Configuration) where
   pub route_covered : (items : List FirstEnd) (i : ℕ) (end : FirstEnd) → i < length items
       → end ≡ get_or items i end → map end_view items ≡ map made (paths_of c)
       → live_or (entered_where (is_live_below end.path (drop (i + 1) items))) end.choice
-      ≡ route_coverage u c end.path
+      ≡ route_coverage s c end.path
   route_covered items i end lt is found =
       let path = end.path in
       let paths = paths_of c in
@@ -165,21 +166,21 @@ module _ (u : List Label) (c : Configuration) where
       let all : filter (leads_through path) paths ≡ path ∷ below =
       below_in_front path paths i (paths_ascend c.root) at.0 in
       rw (live, at.1)
-      (by_end (first_entry u c path) (first_end u c path)
-      (list_any is_some (map (first_end u c) below)) (λ dead.
-      ap dead_by (entry_is_earliest u c path)
-      ∙ ap (λ some. dead_by (earliest (map (first_end u c) some))) all
-      ∙ dead_by_any (map (first_end u c) (path ∷ below))
-      ∙ ap (λ o. entered_where (is_some o || list_any is_some (map (first_end u c) below))) dead))
+      (by_end (first_entry s c path) (first_end s c path)
+      (list_any is_some (map (first_end s c) below)) (λ dead.
+      ap dead_by (entry_is_earliest s c path)
+      ∙ ap (λ some. dead_by (earliest (map (first_end s c) some))) all
+      ∙ dead_by_any (map (first_end s c) (path ∷ below))
+      ∙ ap (λ o. entered_where (is_some o || list_any is_some (map (first_end s c) below))) dead))
 
   -- and the choice that shows it is whole
-  shown_by : (path : List ℕ) (entry end : Option (List ℕ)) → first_end u c path ≡ end
-      → IsShownRoute (sizes u) (live_or (dead_by entry) end)
+  shown_by : (path : List ℕ) (entry end : Option (List ℕ)) → first_end s c path ≡ end
+      → IsShownRoute (sizes s.labels) (live_or (dead_by entry) end)
   shown_by path None None e = tt
   shown_by path (Some x) None e = tt
   shown_by path entry (Some choice) e =
-      (found_whole (sizes u)
-      (λ other. list_any (λ end. same_text end path) (ends (label_set_of u other) c)) choice e).0
+      (found_choice s
+      (λ other. list_any (λ end. same_text end path) (ends (label_set_of s.labels other) c)) choice e).0.0
 
-  pub route_shown : (path : List ℕ) → IsShownRoute (sizes u) (route_coverage u c path)
-  route_shown path = shown_by path (first_entry u c path) (first_end u c path) refl
+  pub route_shown : (path : List ℕ) → IsShownRoute (sizes s.labels) (route_coverage s c path)
+  route_shown path = shown_by path (first_entry s c path) (first_end s c path) refl

@@ -1,10 +1,9 @@
 -- Coverage: which routes and receivers the label sets of a universe reach.
 use Rattle.std.specs.Prelude.{ℕ, List, Contains, IsTrue, Option, Some, None, ◌==◌}
 use Rattle.std.specs.List.{find, list_any}
-use Rattle.am_universe.specs.Universe.{Label, sizes}
-use Rattle.am_universe.specs.Choice.{choices, IsWhole}
 use Rattle.am_universe.specs.LabelSet.{label_set_of}
 use Rattle.am_universe.specs.Text.{same_text}
+use Rattle.am_labels.specs.Space.{Space, all_choices, IsChoiceOf}
 use Rattle.am_files.specs.ConfigFile.{Configuration}
 use Rattle.am_files.specs.Path.{leads_through}
 use Rattle.am_eval.specs.Routing.{ends, receivers}
@@ -17,49 +16,50 @@ use Rattle.am_coverage.specs.declared.coverage.ReceiverCoverage.TheVariants as r
 
 -- A route is dead: no label set of the universe ends there.
 -- Source: own choice.
--- Example: a route behind a sibling that matches all that it matches, and has no `continue`.
-abbrev pub IsDead : List Label → Configuration → List ℕ → Type 0
-IsDead u c path =
-    (choice : List ℕ) → IsWhole (sizes u) choice
-    → Contains (ends (label_set_of u choice) c) path → ⊥
+-- Example: a route behind a sibling that matches all that it matches, and has no `continue`; and a
+-- route that matches none but impossible label sets.
+abbrev pub IsDead : Space → Configuration → List ℕ → Type 0
+IsDead s c path =
+    (choice : List ℕ) → IsChoiceOf s choice
+    → Contains (ends (label_set_of s.labels choice) c) path → ⊥
 
 -- A route is never entered: no label set of the universe ends there or below it.
 -- Source: own choice.
 -- Example: a route with the matcher `team=ops`, where the universe declares no such value. A route
 -- whose children match all that it matches is entered, and dead.
-abbrev pub IsNeverEntered : List Label → Configuration → List ℕ → Type 0
-IsNeverEntered u c path =
-    (choice end : List ℕ) → IsWhole (sizes u) choice
-    → Contains (ends (label_set_of u choice) c) end → IsTrue (leads_through path end) → ⊥
+abbrev pub IsNeverEntered : Space → Configuration → List ℕ → Type 0
+IsNeverEntered s c path =
+    (choice end : List ℕ) → IsChoiceOf s choice
+    → Contains (ends (label_set_of s.labels choice) c) end → IsTrue (leads_through path end) → ⊥
 
 -- A receiver, by its position, is unmatched: no label set of the universe goes to it.
 -- Source: own choice.
 -- Example: a receiver that no route has, and one all of whose routes are dead.
-abbrev pub IsUnmatched : List Label → Configuration → ℕ → Type 0
-IsUnmatched u c receiver =
-    (choice : List ℕ) → IsWhole (sizes u) choice
-    → Contains (receivers (label_set_of u choice) c) receiver → ⊥
+abbrev pub IsUnmatched : Space → Configuration → ℕ → Type 0
+IsUnmatched s c receiver =
+    (choice : List ℕ) → IsChoiceOf s choice
+    → Contains (receivers (label_set_of s.labels choice) c) receiver → ⊥
 
 -- ---- The first label set that shows the contrary.
 
--- The first choice of the universe, in declared order, whose label set ends at a route; that ends
+-- The first choice of the space, in declared order, whose label set ends at a route; that ends
 -- there or below it; that goes to a receiver.
 -- Source: own choice.
 -- Example: of the choices 0 0, 0 1 and 1 1, which alone end at a route, the first is 0 0.
-abbrev pub first_end : List Label → Configuration → List ℕ → Option (List ℕ)
-first_end u c path =
-    find (λ choice. list_any (λ end. same_text end path) (ends (label_set_of u choice) c))
-    (choices (sizes u))
+abbrev pub first_end : Space → Configuration → List ℕ → Option (List ℕ)
+first_end s c path =
+    find (λ choice. list_any (λ end. same_text end path) (ends (label_set_of s.labels choice) c))
+    (all_choices s)
 
-abbrev pub first_entry : List Label → Configuration → List ℕ → Option (List ℕ)
-first_entry u c path =
-    find (λ choice. list_any (leads_through path) (ends (label_set_of u choice) c))
-    (choices (sizes u))
+abbrev pub first_entry : Space → Configuration → List ℕ → Option (List ℕ)
+first_entry s c path =
+    find (λ choice. list_any (leads_through path) (ends (label_set_of s.labels choice) c))
+    (all_choices s)
 
-abbrev pub first_receipt : List Label → Configuration → ℕ → Option (List ℕ)
-first_receipt u c receiver =
-    find (λ choice. list_any (λ other. other == receiver) (receivers (label_set_of u choice) c))
-    (choices (sizes u))
+abbrev pub first_receipt : Space → Configuration → ℕ → Option (List ℕ)
+first_receipt s c receiver =
+    find (λ choice. list_any (λ other. other == receiver)
+    (receivers (label_set_of s.labels choice) c)) (all_choices s)
 
 -- What becomes of a route: it is live, with the first choice that ends there; or it is dead, and
 -- entered or not. And of a receiver: it is live, with the first choice that goes to it, or
@@ -74,12 +74,12 @@ abbrev pub dead_by : Option (List ℕ) → RouteCoverage
 dead_by None = route_is.NeverEntered
 dead_by (Some choice) = route_is.Entered
 
-abbrev pub route_coverage : List Label → Configuration → List ℕ → RouteCoverage
-route_coverage u c path = live_or (dead_by (first_entry u c path)) (first_end u c path)
+abbrev pub route_coverage : Space → Configuration → List ℕ → RouteCoverage
+route_coverage s c path = live_or (dead_by (first_entry s c path)) (first_end s c path)
 
 abbrev pub live_or_unmatched : Option (List ℕ) → ReceiverCoverage
 live_or_unmatched None = receiver_is.Unmatched
 live_or_unmatched (Some choice) = receiver_is.Live choice
 
-abbrev pub receiver_coverage : List Label → Configuration → ℕ → ReceiverCoverage
-receiver_coverage u c receiver = live_or_unmatched (first_receipt u c receiver)
+abbrev pub receiver_coverage : Space → Configuration → ℕ → ReceiverCoverage
+receiver_coverage s c receiver = live_or_unmatched (first_receipt s c receiver)

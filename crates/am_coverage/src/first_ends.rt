@@ -10,10 +10,10 @@ use crate::route_paths::paths_of;
 use am_cubes::RouteEnds;
 use am_eval::World;
 use am_files::Path;
-use am_labels::{Choice, Universe};
+use am_labels::{Choice, Space};
 use std::alloc::{AllocError, Global};
 
-/// A route, by its path, and the first choice of the universe whose label set ends there, if there
+/// A route, by its path, and the first choice of the space whose label set ends there, if there
 /// is one.
 #[derive(Clone, Copy, Debug)]
 pub struct FirstEnd {
@@ -24,17 +24,13 @@ pub struct FirstEnd {
 /// The first choice that ends at each route of the configuration of a world, in preorder: each
 /// route before those below it, and these before its next sibling. An `Err` only where memory was
 /// refused.
-pub fn first_ends(
-    alloc: Global,
-    universe: &Universe,
-    world: &World,
-) -> Result<Vec<FirstEnd>, AllocError>
+pub fn first_ends(alloc: Global, space: &Space, world: &World) -> Result<Vec<FirstEnd>, AllocError>
     ensures ends { IfOk result (λ found. map end_view found.items
-        ≡ map (λ path. (path, first_end universe.now world.now.config path))
+        ≡ map (λ path. (path, first_end space.now world.now.config path))
         (paths_of world.now.config)) }
 {
     let config = world.config();
-    let ends = RouteEnds::of(alloc, universe, config)?;
+    let ends = RouteEnds::of(alloc, space, config)?;
     let paths = paths_of(alloc, config)?;
     let mut found = Vec::with_capacity(alloc, paths.len())?;
     for path in &paths {

@@ -5,7 +5,7 @@ ghost use Rattle.std.specs.Ordering.{nat_cmp};
 ghost use Rattle.std.specs.Cmp.Lexicographic.{slice_cmp};
 ghost use Rattle.std.specs.List.{filter};
 ghost use Rattle.std.specs.List.Sorted.{IsStrictlySortedBy};
-ghost use Rattle.am_labels.specs.Words.{Label, sizes, IsWhole, label_set_of, quoted_text};
+ghost use Rattle.am_labels.specs.Words.{Space, IsChoiceOf, label_set_of, quoted_text};
 ghost use Rattle.am_files.specs.Words.{Configuration, RouteTree, route_at, receiver_of, path_text};
 ghost use Rattle.am_files.specs.Path.{leads_through};
 ghost use Rattle.am_eval.specs.Conditions.{paths_to};
@@ -25,15 +25,15 @@ ghost use Rattle.am_coverage.specs.Words.{IsRoutesReport, IsReceiversReport};
 /// A route is told as live exactly where some label set of the universe ends there: with the first
 /// choice whose label set does.
 pub fn a_live_route_has_a_label_set()
-    ensures told { (u : List Label) (c : Configuration) (path choice : List ℕ)
-        → IsWhole (sizes u) choice → Contains (ends (label_set_of u choice) c) path
-        → (first : List ℕ) × (route_coverage u c path ≡ route_is.Live first) }
-    ensures ends { (u : List Label) (c : Configuration) (path choice : List ℕ)
-        → route_coverage u c path ≡ route_is.Live choice
-        → IsWhole (sizes u) choice × Contains (ends (label_set_of u choice) c) path }
-    ensures first { (u : List Label) (c : Configuration) (path choice other : List ℕ)
-        → route_coverage u c path ≡ route_is.Live choice → IsWhole (sizes u) other
-        → Contains (ends (label_set_of u other) c) path
+    ensures told { (s : Space) (c : Configuration) (path choice : List ℕ)
+        → IsChoiceOf s choice → Contains (ends (label_set_of s.labels choice) c) path
+        → (first : List ℕ) × (route_coverage s c path ≡ route_is.Live first) }
+    ensures ends { (s : Space) (c : Configuration) (path choice : List ℕ)
+        → route_coverage s c path ≡ route_is.Live choice
+        → IsChoiceOf s choice × Contains (ends (label_set_of s.labels choice) c) path }
+    ensures first { (s : Space) (c : Configuration) (path choice other : List ℕ)
+        → route_coverage s c path ≡ route_is.Live choice → IsChoiceOf s other
+        → Contains (ends (label_set_of s.labels other) c) path
         → comes_before other choice ≡ false }
 {}
 
@@ -41,72 +41,81 @@ pub fn a_live_route_has_a_label_set()
 /// exactly where none ends there or below it, and so as entered exactly where one ends below it and
 /// none there.
 pub fn a_dead_route_has_no_label_set()
-    ensures dead { (u : List Label) (c : Configuration) (path : List ℕ)
-        → IsDead u c path ↔ ((choice : List ℕ) → route_coverage u c path ≢ route_is.Live choice) }
-    ensures never_entered { (u : List Label) (c : Configuration) (path : List ℕ)
-        → IsNeverEntered u c path ↔ (route_coverage u c path ≡ route_is.NeverEntered) }
-    ensures entered { (u : List Label) (c : Configuration) (path : List ℕ)
-        → (IsDead u c path × (IsNeverEntered u c path → ⊥))
-        ↔ (route_coverage u c path ≡ route_is.Entered) }
+    ensures dead { (s : Space) (c : Configuration) (path : List ℕ)
+        → IsDead s c path ↔ ((choice : List ℕ) → route_coverage s c path ≢ route_is.Live choice) }
+    ensures never_entered { (s : Space) (c : Configuration) (path : List ℕ)
+        → IsNeverEntered s c path ↔ (route_coverage s c path ≡ route_is.NeverEntered) }
+    ensures entered { (s : Space) (c : Configuration) (path : List ℕ)
+        → (IsDead s c path × (IsNeverEntered s c path → ⊥))
+        ↔ (route_coverage s c path ≡ route_is.Entered) }
 {}
 
 /// A receiver is told as live exactly where some label set of the universe goes to it: with the
 /// first choice whose label set does.
 pub fn a_live_receiver_has_a_label_set()
-    ensures told { (u : List Label) (c : Configuration) (receiver : ℕ) (choice : List ℕ)
-        → IsWhole (sizes u) choice → Contains (receivers (label_set_of u choice) c) receiver
-        → (first : List ℕ) × (receiver_coverage u c receiver ≡ receiver_is.Live first) }
-    ensures goes { (u : List Label) (c : Configuration) (receiver : ℕ) (choice : List ℕ)
-        → receiver_coverage u c receiver ≡ receiver_is.Live choice → IsWhole (sizes u) choice
-        × Contains (receivers (label_set_of u choice) c) receiver }
-    ensures first { (u : List Label) (c : Configuration) (receiver : ℕ) (choice other : List ℕ)
-        → receiver_coverage u c receiver ≡ receiver_is.Live choice → IsWhole (sizes u) other
-        → Contains (receivers (label_set_of u other) c) receiver
+    ensures told { (s : Space) (c : Configuration) (receiver : ℕ) (choice : List ℕ)
+        → IsChoiceOf s choice → Contains (receivers (label_set_of s.labels choice) c) receiver
+        → (first : List ℕ) × (receiver_coverage s c receiver ≡ receiver_is.Live first) }
+    ensures goes { (s : Space) (c : Configuration) (receiver : ℕ) (choice : List ℕ)
+        → receiver_coverage s c receiver ≡ receiver_is.Live choice → IsChoiceOf s choice
+        × Contains (receivers (label_set_of s.labels choice) c) receiver }
+    ensures first { (s : Space) (c : Configuration) (receiver : ℕ) (choice other : List ℕ)
+        → receiver_coverage s c receiver ≡ receiver_is.Live choice → IsChoiceOf s other
+        → Contains (receivers (label_set_of s.labels other) c) receiver
         → comes_before other choice ≡ false }
 {}
 
 /// A receiver is told as unmatched exactly where no label set of the universe goes to it, which is
 /// exactly where each route that has it is dead.
 pub fn an_unmatched_receiver_has_dead_routes_alone()
-    ensures unmatched { (u : List Label) (c : Configuration) (receiver : ℕ)
-        → IsUnmatched u c receiver ↔ (receiver_coverage u c receiver ≡ receiver_is.Unmatched) }
-    ensures dead_routes { (u : List Label) (c : Configuration) (receiver : ℕ)
-        → IsUnmatched u c receiver
+    ensures unmatched { (s : Space) (c : Configuration) (receiver : ℕ)
+        → IsUnmatched s c receiver ↔ (receiver_coverage s c receiver ≡ receiver_is.Unmatched) }
+    ensures dead_routes { (s : Space) (c : Configuration) (receiver : ℕ)
+        → IsUnmatched s c receiver
         ↔ ((path : List ℕ) (t : RouteTree) → route_at c.root path ≡ Some t
-        → receiver_of t ≡ receiver → IsDead u c path) }
+        → receiver_of t ≡ receiver → IsDead s c path) }
 {}
 
 /// A route is dead exactly where the question whether an alert ends there has no answer, and never
 /// entered exactly where the question whether one enters it has none. A receiver is unmatched
 /// exactly where the question whether an alert goes to it has none.
 pub fn a_dead_routes_question_has_no_answer()
-    ensures dead { (u : List Label) (w : World) (path : List ℕ)
-        → IsDead u w.config path ↔ (answers u w (Part (Ends path)) ≡ []) }
-    ensures never_entered { (u : List Label) (w : World) (path : List ℕ)
-        → IsNeverEntered u w.config path ↔ (answers u w (Part (Enters path)) ≡ []) }
-    ensures unmatched { (u : List Label) (w : World) (receiver : ℕ)
-        → IsUnmatched u w.config receiver ↔ (answers u w (Part (Receiver receiver)) ≡ []) }
+    ensures dead { (s : Space) (w : World) (path : List ℕ)
+        → IsDead s w.config path ↔ (answers s w (Part (Ends path)) ≡ []) }
+    ensures never_entered { (s : Space) (w : World) (path : List ℕ)
+        → IsNeverEntered s w.config path ↔ (answers s w (Part (Enters path)) ≡ []) }
+    ensures unmatched { (s : Space) (w : World) (receiver : ℕ)
+        → IsUnmatched s w.config receiver ↔ (answers s w (Part (Receiver receiver)) ≡ []) }
 {}
 
 /// The first label set that enters a route is the earliest of those that end first at the route and
 /// at each route below it. So a dead route is told as entered exactly where one below it is live.
 pub fn a_dead_route_is_entered_where_one_below_it_is_live()
-    ensures first { (u : List Label) (c : Configuration) (path : List ℕ)
-        → first_entry u c path
-        ≡ earliest (map (first_end u c) (filter (leads_through path) (paths_of c))) }
-    ensures entered { (u : List Label) (c : Configuration) (path : List ℕ) → IsDead u c path
-        → (route_coverage u c path ≡ route_is.Entered)
+    ensures first { (s : Space) (c : Configuration) (path : List ℕ)
+        → first_entry s c path
+        ≡ earliest (map (first_end s c) (filter (leads_through path) (paths_of c))) }
+    ensures entered { (s : Space) (c : Configuration) (path : List ℕ) → IsDead s c path
+        → (route_coverage s c path ≡ route_is.Entered)
         ↔ ((below choice : List ℕ) × Contains (paths_of c) below
         × IsTrue (leads_through path below)
-        × (route_coverage u c below ≡ route_is.Live choice)) }
+        × (route_coverage s c below ≡ route_is.Live choice)) }
 {}
 
 /// The first label set that goes to a receiver is the earliest of those that end first at each
 /// route that has it.
 pub fn a_receiver_is_live_from_the_first_end_of_its_routes()
-    ensures first { (u : List Label) (c : Configuration) (receiver : ℕ)
-        → first_receipt u c receiver
-        ≡ earliest (map (first_end u c) (paths_to receiver c.root)) }
+    ensures first { (s : Space) (c : Configuration) (receiver : ℕ)
+        → first_receipt s c receiver
+        ≡ earliest (map (first_end s c) (paths_to receiver c.root)) }
+{}
+
+/// Where the empty list is impossible, which matches every label set, each route is told as never
+/// entered, and each receiver as unmatched.
+pub fn an_empty_space_reaches_nothing()
+    ensures routes { (s : Space) (c : Configuration) (path : List ℕ) → Contains s.impossible []
+        → route_coverage s c path ≡ route_is.NeverEntered }
+    ensures receivers { (s : Space) (c : Configuration) (receiver : ℕ) → Contains s.impossible []
+        → receiver_coverage s c receiver ≡ receiver_is.Unmatched }
 {}
 
 /// The paths that are reported are exactly those of the routes, in the order of a dictionary, so
@@ -121,27 +130,27 @@ pub fn each_route_is_reported_once()
 /// The line of a route says `dead` exactly where no label set of the universe ends there, and
 /// `dead never-entered` exactly where none ends there or below it.
 pub fn a_line_says_dead_exactly_where_the_route_is()
-    ensures dead { (u : List Label) (c : Configuration) (path line : List ℕ)
-        → IsRouteLine u c path line → IsDead u c path
+    ensures dead { (s : Space) (c : Configuration) (path line : List ℕ)
+        → IsRouteLine s c path line → IsDead s c path
         ↔ ((rest : List ℕ) × (line ≡ path_text path ++ (codes " dead " ++ rest))) }
-    ensures never_entered { (u : List Label) (c : Configuration) (path line : List ℕ)
-        → IsRouteLine u c path line → IsNeverEntered u c path
+    ensures never_entered { (s : Space) (c : Configuration) (path line : List ℕ)
+        → IsRouteLine s c path line → IsNeverEntered s c path
         ↔ (line ≡ path_text path ++ codes " dead never-entered\n") }
 {}
 
 /// The line of a receiver says `unmatched`, behind the name of that receiver, exactly where no
 /// label set of the universe goes to it.
 pub fn a_line_says_unmatched_exactly_where_the_receiver_is()
-    ensures unmatched { (u : List Label) (c : Configuration) (receiver : ℕ) (name line : List ℕ)
-        → slice_get c.receivers receiver ≡ Some name → IsReceiverLine u c receiver line
-        → IsUnmatched u c receiver ↔ (line ≡ quoted_text name ++ codes " unmatched\n") }
+    ensures unmatched { (s : Space) (c : Configuration) (receiver : ℕ) (name line : List ℕ)
+        → slice_get c.receivers receiver ≡ Some name → IsReceiverLine s c receiver line
+        → IsUnmatched s c receiver ↔ (line ≡ quoted_text name ++ codes " unmatched\n") }
 {}
 
 /// A configuration has at most one report of its routes over a universe, and at most one of its
 /// receivers.
 pub fn a_report_is_one_text()
-    ensures routes { (u : List Label) (c : Configuration) (report other : List ℕ)
-        → IsRoutesReport u c report → IsRoutesReport u c other → report ≡ other }
-    ensures receivers { (u : List Label) (c : Configuration) (report other : List ℕ)
-        → IsReceiversReport u c report → IsReceiversReport u c other → report ≡ other }
+    ensures routes { (s : Space) (c : Configuration) (report other : List ℕ)
+        → IsRoutesReport s c report → IsRoutesReport s c other → report ≡ other }
+    ensures receivers { (s : Space) (c : Configuration) (report other : List ℕ)
+        → IsReceiversReport s c report → IsReceiversReport s c other → report ≡ other }
 {}

@@ -11,7 +11,7 @@ ghost use Rattle.am_coverage.specs.Words.{receiver_coverage, IsShownReceiver};
 use crate::coverage::ReceiverCoverage;
 use crate::first_ends::first_ends;
 use am_eval::World;
-use am_labels::{Choice, Universe};
+use am_labels::{Choice, Space};
 use std::alloc::{AllocError, Global};
 
 /// What becomes of each receiver of the configuration of a world, in declared order. An `Err` only
@@ -21,16 +21,16 @@ use std::alloc::{AllocError, Global};
 /// receiver first is the earliest of those of its routes.
 pub fn receivers_covered(
     alloc: Global,
-    universe: &Universe,
+    space: &Space,
     world: &World,
 ) -> Result<Vec<ReceiverCoverage>, AllocError>
     ensures receivers { IfOk result (λ found. found.items
-        ≡ map (receiver_coverage universe.now world.now.config)
+        ≡ map (receiver_coverage space.now world.now.config)
         (range_with_len 0 (length world.now.config.receivers))) }
     ensures shown { IfOk result (λ found.
-        AllByRecursion (IsShownReceiver (sizes universe.now)) found.items) }
+        AllByRecursion (IsShownReceiver (sizes space.now.labels)) found.items) }
 {
-    let ends = first_ends(alloc, universe, world)?;
+    let ends = first_ends(alloc, space, world)?;
     let config = world.config();
     let mut found = vec![in alloc; ReceiverCoverage::Unmatched; config.receivers()]?;
     for end in &ends {

@@ -12,7 +12,7 @@ use crate::coverage::RouteCoverage;
 use crate::first_ends::{FirstEnd, first_ends};
 use am_eval::World;
 use am_files::Path;
-use am_labels::Universe;
+use am_labels::Space;
 use std::alloc::{AllocError, Global};
 
 /// A route, by its path, and what becomes of it.
@@ -31,16 +31,16 @@ pub struct RouteFound {
 /// route is entered follows from those of the routes below it.
 pub fn routes_covered(
     alloc: Global,
-    universe: &Universe,
+    space: &Space,
     world: &World,
 ) -> Result<Vec<RouteFound>, AllocError>
     ensures routes { IfOk result (λ found. map found_view found.items
-        ≡ map (λ path. (path, route_coverage universe.now world.now.config path))
+        ≡ map (λ path. (path, route_coverage space.now world.now.config path))
         (paths_of world.now.config)) }
-    ensures shown { IfOk result (λ found.
-        AllByRecursion (λ route. IsShownRoute (sizes universe.now) route.coverage) found.items) }
+    ensures shown { IfOk result (λ found. AllByRecursion
+        (λ route. IsShownRoute (sizes space.now.labels) route.coverage) found.items) }
 {
-    let ends = first_ends(alloc, universe, world)?;
+    let ends = first_ends(alloc, space, world)?;
     let mut found = Vec::with_capacity(alloc, ends.len())?;
     for (i, end) in ends.iter().enumerate() {
         found.push(RouteFound {

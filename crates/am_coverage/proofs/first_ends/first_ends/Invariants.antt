@@ -7,5 +7,5 @@ use Rattle.am_coverage.proofs.first_ends.first_ends.Given as goal
 abbrev pub invariant-loop-path : goal.invariant-loop-path
 invariant-loop-path l =
     map end_view l.found.items
-    ≡ map (λ path. (path, first_end l.universe l.world.config path))
+    ≡ map (λ path. (path, first_end l.space l.world.config path))
     (take l.path-index l.path-items)

@@ -21,16 +21,16 @@ use Rattle.am_coverage.proofs.receiver_coverage.receivers_covered.Goals.{in-Some
 
 pub loop-end-init : goal.loop-end-init
 loop-end-init c =
-    let u = c.args.universe.now in
+    let s = c.args.space.now in
     let w = c.args.world.now in
     c.in_ok-found.ensures.items_if_clones_equal (λ y h. h)
     ∙ ap (λ n. replicate n Unmatched)
     (c.receivers.ensures.count ∙ ap (λ v. length v.receivers) c.config-config.ensures.config)
-    ∙ replicate_made (covered_by u w.config []) 0 (length w.config.receivers) Unmatched (λ k. refl)
+    ∙ replicate_made (covered_by s w.config []) 0 (length w.config.receivers) Unmatched (λ k. refl)
 
 pub index-requires : goal.index-requires
 index-requires c =
-    let u = c.args.universe.now in
+    let s = c.args.space.now in
     let w = c.args.world.now in
     let paths = take c.loop-end.end-index (paths_of w.config) in
     omega (
@@ -41,12 +41,12 @@ index-requires c =
       ap (λ v. length v.receivers) c.config-config.ensures.config,
       c.loop-end.found.ok.0,
       ap length c.loop-end.invariant,
-      length-map-range_with_len (covered_by u w.config paths) 0 (length w.config.receivers),
+      length-map-range_with_len (covered_by s w.config paths) 0 (length w.config.receivers),
     )
 
 pub index_mut-requires : goal.index_mut-requires
 index_mut-requires c =
-    let u = c.args.universe.now in
+    let s = c.args.space.now in
     let w = c.args.world.now in
     let paths = take c.loop-end.end-index (paths_of w.config) in
     omega (
@@ -57,12 +57,12 @@ index_mut-requires c =
       ap (λ v. length v.receivers) c.config-config.ensures.config,
       c.loop-end.found.ok.0,
       ap length c.loop-end.invariant,
-      length-map-range_with_len (covered_by u w.config paths) 0 (length w.config.receivers),
+      length-map-range_with_len (covered_by s w.config paths) 0 (length w.config.receivers),
     )
 
 pub loop-end-preserved : goal.loop-end-preserved
 loop-end-preserved c =
-    let u = c.args.universe.now in
+    let s = c.args.space.now in
     let w = c.args.world.now in
     let i = c.loop-end.end-index in
     let ends = c.in_ok-ends.ends.items in
@@ -71,7 +71,7 @@ loop-end-preserved c =
     omega (arith, c.loop-end-test.true, ap length c.deref-end-items.ensures.value) in
     let at : end ≡ get_or ends i end =
     c.end-item.is ∙ ap (λ all. get_or all i end) c.deref-end-items.ensures.value in
-    let there = path_at u w.config ends (paths_of w.config) i end lt at c.in_ok-ends.ensures.ends in
+    let there = path_at s w.config ends (paths_of w.config) i end lt at c.in_ok-ends.ensures.ends in
     let paths = take i (paths_of w.config) in
     let n = length w.config.receivers in
     let more : paths ++ end.path ∷ [] ≡ take (i + 1) (paths_of w.config) =
@@ -91,48 +91,48 @@ loop-end-preserved c =
             ap (λ v. length v.receivers) c.config-config.ensures.config,
           ) in
           ap (λ v. v.items) b.found-is
-          ∙ route_counted u w.config paths c.loop-end.found.items end.path
+          ∙ route_counted s w.config paths c.loop-end.found.items end.path
           (route_view b.in-Some.route.now) n b.receiver-receiver.result b.index.result.now
           b.with_route.result c.loop-end.invariant b.receiver-receiver.ensures.receiver declared
           at_route b.index.ensures (λ first known.
           b.with_route.ensures.earlier first known
           ∙ ap (λ choice. live_or_unmatched (earlier first choice)) there.2)
-          ∙ ap (λ some. map (covered_by u w.config some) (range_with_len 0 n)) more
+          ∙ ap (λ some. map (covered_by s w.config some) (range_with_len 0 n)) more
       | in_default b ↦
           let no_route : route_at w.config.root end.path ≡ None =
           ap (λ (v : Configuration). route_at v.root end.path) (sym c.config-config.ensures.config)
           ∙ b.in_default.ensures.none in
           ap (λ v. v.items) b.found-is ∙ c.loop-end.invariant
-          ∙ no_route_counted u w.config paths end.path n no_route
-          ∙ ap (λ some. map (covered_by u w.config some) (range_with_len 0 n)) more
+          ∙ no_route_counted s w.config paths end.path n no_route
+          ∙ ap (λ some. map (covered_by s w.config some) (range_with_len 0 n)) more
     ]
 
 pub returns-clause-receivers : goal.returns-clause-receivers
 returns-clause-receivers c =
-    let u = c.args.universe.now in
+    let s = c.args.space.now in
     let w = c.args.world.now in
     let ends = c.in_ok-ends.ends.items in
     let paths = paths_of w.config in
-    let many = as_many u w.config ends paths c.in_ok-ends.ensures.ends in
+    let many = as_many s w.config ends paths c.in_ok-ends.ensures.ends in
     let all : take c.loop-end.end-index paths ≡ paths = take_all c.loop-end.end-index paths
     (omega (arith, many, c.loop-end-test.false, ap length c.deref-end-items.ensures.value)) in
     c.loop-end.invariant
-    ∙ ap (λ some. map (covered_by u w.config some) (range_with_len 0 (length w.config.receivers))) all
-    ∙ all_made (covered_by u w.config paths) (receiver_coverage u w.config)
-    (length w.config.receivers) (all_counted u w.config)
+    ∙ ap (λ some. map (covered_by s w.config some) (range_with_len 0 (length w.config.receivers))) all
+    ∙ all_made (covered_by s w.config paths) (receiver_coverage s w.config)
+    (length w.config.receivers) (all_counted s w.config)
 
 pub returns-clause-shown : goal.returns-clause-shown
 returns-clause-shown c =
-    let u = c.args.universe.now in
+    let s = c.args.space.now in
     let w = c.args.world.now in
     let ends = c.in_ok-ends.ends.items in
     let paths = paths_of w.config in
-    let many = as_many u w.config ends paths c.in_ok-ends.ensures.ends in
+    let many = as_many s w.config ends paths c.in_ok-ends.ensures.ends in
     let all : take c.loop-end.end-index paths ≡ paths = take_all c.loop-end.end-index paths
     (omega (arith, many, c.loop-end-test.false, ap length c.deref-end-items.ensures.value)) in
-    subst (AllByRecursion (IsShownReceiver (sizes u)))
+    subst (AllByRecursion (IsShownReceiver (sizes s.labels)))
     (sym (c.loop-end.invariant
-    ∙ ap (λ some. map (covered_by u w.config some) (range_with_len 0 (length w.config.receivers))) all
-    ∙ all_made (covered_by u w.config paths) (receiver_coverage u w.config)
-    (length w.config.receivers) (all_counted u w.config)))
-    (all_shown u w.config 0 (length w.config.receivers))
+    ∙ ap (λ some. map (covered_by s w.config some) (range_with_len 0 (length w.config.receivers))) all
+    ∙ all_made (covered_by s w.config paths) (receiver_coverage s w.config)
+    (length w.config.receivers) (all_counted s w.config)))
+    (all_shown s w.config 0 (length w.config.receivers))

@@ -8,5 +8,5 @@ use Rattle.am_coverage.proofs.receiver_coverage.receivers_covered.Given as goal
 abbrev pub invariant-loop-end : goal.invariant-loop-end
 invariant-loop-end l =
     l.found.items
-    ≡ map (covered_by l.universe l.world.config (take l.end-index (paths_of l.world.config)))
+    ≡ map (covered_by l.space l.world.config (take l.end-index (paths_of l.world.config)))
     (range_with_len 0 (length l.world.config.receivers))

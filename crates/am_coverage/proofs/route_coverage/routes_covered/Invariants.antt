@@ -10,7 +10,7 @@ use Rattle.am_coverage.proofs.route_coverage.routes_covered.Given as goal
 abbrev pub invariant-loop-i : goal.invariant-loop-i
 invariant-loop-i l = record {
   routes : map found_view l.found.items
-      ≡ map (λ path. (path, route_coverage l.universe l.world.config path))
+      ≡ map (λ path. (path, route_coverage l.space l.world.config path))
       (take l.i (paths_of l.world.config));
-  shown : AllByRecursion (λ route. IsShownRoute (sizes l.universe) route.coverage) l.found.items;
+  shown : AllByRecursion (λ route. IsShownRoute (sizes l.space.labels) route.coverage) l.found.items;
 }
