@@ -69,6 +69,11 @@ stands for a label that is missing:
     {\"name\": \"severity\", \"values\": [\"critical\", \"warning\"]}
   ]}
 
+It may say which label sets never occur, by lists of matchers beside the labels. A label
+set that matches one of them is left out:
+
+  \"impossible\": [\"team=web,severity=critical\"]
+
 Each label set of it is taken for the labels of an alert, which the configuration of
 --config routes. The configuration is JSON; an alertmanager.yml becomes JSON by
 
@@ -229,7 +234,8 @@ path stands what becomes of the route:
 A route is dead for this universe alone: an alert with other labels or values may end
 there. So declare each label that a route asks about, with every value that matchers name,
 some for each pattern, one that none names, and null where alerts come without it. Labels
-that no route asks about cost no time, and many label sets are no harm.
+that no route asks about cost no time, and many label sets are no harm. Those that never
+occur keep a route alive, unless the universe calls them impossible.
 
 Exit status: 0 done, with dead routes or without, 1 refused input, 2 usage, 3 out of
 memory, 4 the output failed.";

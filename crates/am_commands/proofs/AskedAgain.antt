@@ -5,8 +5,9 @@ use Rattle.std.specs.Prelude.{option_map}
 use Rattle.std.specs.List.{flat_map}
 use Rattle.std.proofs.lemmas.Grind.{flat_map-append}
 use mathlib.Core.List.{append_cancel_right}
-use Rattle.am_universe.specs.Universe.{Label, sizes}
+use Rattle.am_universe.specs.Universe.{sizes}
 use Rattle.am_universe.specs.WrittenLabelSet.{line}
+use Rattle.am_labels.specs.Space.{Space}
 use Rattle.am_eval.specs.World.{World}
 use Rattle.am_eval.specs.Question.{Question, is_answer}
 use Rattle.am_search.specs.declared.start.Start.{Start}
@@ -28,96 +29,96 @@ use Rattle.am_commands.specs.AskOutcome.{IsAskedOf, AreAskedInARow}
 use Rattle.am_commands.proofs.AskedPages.{question_judges, enough_for}
 
 -- the lines of the answers from a start on
-abbrev pub lines_left : List Label → World → Question → Start → List ℕ
-lines_left u w q start = lines_text u (answers_from (sizes u) (is_answer u w q) start)
+abbrev pub lines_left : Space → World → Question → Start → List ℕ
+lines_left s w q start = lines_text s.labels (answers_from (sizes s.labels) (is_answer s w q) start)
 
 -- inputs that are accepted in two ways leave the same lines
-pub same_lines : (inputs : Inputs) (u v : List Label) (w x : World) (q r : Question)
-    (start other : Start) → AcceptsInputs inputs u w q start → AcceptsInputs inputs v x r other
-    → lines_left u w q start ≡ lines_left v x r other
-same_lines inputs u v w x q r start other said again =
-    let same = one_meaning_of_inputs inputs u v w x q r start other said again in
+pub same_lines : (inputs : Inputs) (s t : Space) (w x : World) (q r : Question)
+    (start other : Start) → AcceptsInputs inputs s w q start → AcceptsInputs inputs t x r other
+    → lines_left s w q start ≡ lines_left t x r other
+same_lines inputs s t w x q r start other said again =
+    let same = one_meaning_of_inputs inputs s t w x q r start other said again in
     λ k. lines_left (same.0 k) (same.1 k) (same.2 k) (same.3 k)
 
 -- the inputs with the token of a trailer are accepted, and ask for the start that it leaves
-pub goes_on_at : (inputs : Inputs) (u : List Label) (w : World) (q : Question) (start next : Start)
-    (page : AnswerPage) → AcceptsInputs inputs u w q start
-    → IsSearchPage (sizes u) (verdict_of u w q) start page → start_after page.trailer ≡ Some next
-    → AcceptsInputs (after_token inputs (token_text next)) u w q next
-goes_on_at inputs u w q start next page accepts is ends = record {
+pub goes_on_at : (inputs : Inputs) (s : Space) (w : World) (q : Question) (start next : Start)
+    (page : AnswerPage) → AcceptsInputs inputs s w q start
+    → IsSearchPage (sizes s.labels) (verdict_of s w q) start page → start_after page.trailer ≡ Some next
+    → AcceptsInputs (after_token inputs (token_text next)) s w q next
+goes_on_at inputs s w q start next page accepts is ends = record {
   says_universe = accepts.says_universe;
   accepts_world = accepts.accepts_world;
   reads = accepts.reads;
   starts = (
-    (goes_on (sizes u) (is_answer u w q) (verdict_of u w q) start page
-        (question_judges u w q accepts.says_universe.3.is_universe) is next ends).is_start,
+    (goes_on (sizes s.labels) (is_answer s w q) (verdict_of s w q) start page
+        (question_judges s w q accepts.says_universe.3.is_universe) is next ends).is_start,
     refl,
   );
 }
 
 -- the page of a call is that of a search, under a budget that is enough
 asked_page : (inputs : Inputs) (asked : Asked) (h : IsAskedOf inputs asked)
-    → IsSearchPage (sizes h.2.universe) (verdict_of h.2.universe h.2.world h.2.question) h.2.start
-    (searched_page h.2.universe h.2.world h.2.question h.2.start asked.limit asked.steps)
+    → IsSearchPage (sizes h.2.space.labels) (verdict_of h.2.space h.2.world h.2.question) h.2.start
+    (searched_page h.2.space h.2.world h.2.question h.2.start asked.limit asked.steps)
 asked_page inputs asked h = record {
   limit = asked.limit;
   at_least_one = h.0;
   budget = asked.steps;
-  enough = enough_for (sizes h.2.universe)
-      (sizes_of_universe h.2.universe h.2.accepts.says_universe.3.is_universe) asked.steps h.1;
+  enough = enough_for (sizes h.2.space.labels)
+      (sizes_of_universe h.2.space.labels h.2.accepts.says_universe.3.is_universe) asked.steps h.1;
   from_start = refl;
 }
 
 -- so the inputs with the token of its trailer are accepted
 asked_goes_on : (inputs : Inputs) (asked : Asked) (next : Start) (h : IsAskedOf inputs asked)
     → start_after asked.trailer ≡ Some next
-    → AcceptsInputs (after_token inputs (token_text next)) h.2.universe h.2.world h.2.question next
+    → AcceptsInputs (after_token inputs (token_text next)) h.2.space h.2.world h.2.question next
 asked_goes_on inputs asked next h ends =
-    goes_on_at inputs h.2.universe h.2.world h.2.question h.2.start next
-    (searched_page h.2.universe h.2.world h.2.question h.2.start asked.limit asked.steps)
+    goes_on_at inputs h.2.space h.2.world h.2.question h.2.start next
+    (searched_page h.2.space h.2.world h.2.question h.2.start asked.limit asked.steps)
     h.2.accepts (asked_page inputs asked h) (ap start_after (sym h.2.trailer_is) ∙ ends)
 
 -- what a call has written is the lines of its page
 page_lines : (inputs : Inputs) (asked : Asked) (h : IsAskedOf inputs asked)
     → asked.lines
-    ≡ lines_text h.2.universe
-    (searched_page h.2.universe h.2.world h.2.question h.2.start asked.limit asked.steps).choices
+    ≡ lines_text h.2.space.labels
+    (searched_page h.2.space h.2.world h.2.question h.2.start asked.limit asked.steps).choices
 page_lines inputs asked h =
     let page : AnswerPage =
-    searched_page h.2.universe h.2.world h.2.question h.2.start asked.limit asked.steps in
-    sym (append_cancel_right (lines_text h.2.universe page.choices) asked.lines
+    searched_page h.2.space h.2.world h.2.question h.2.start asked.limit asked.steps in
+    sym (append_cancel_right (lines_text h.2.space.labels page.choices) asked.lines
     (trailer_text asked.trailer)
-    (ap (λ t. lines_text h.2.universe page.choices ++ trailer_text t) h.2.trailer_is ∙ h.2.written))
+    (ap (λ t. lines_text h.2.space.labels page.choices ++ trailer_text t) h.2.trailer_is ∙ h.2.written))
 
 -- the lines of a call, and those of what its trailer leaves, are all from its start on
 lines_and_rest : (inputs : Inputs) (asked : Asked) (h : IsAskedOf inputs asked)
     → asked.lines
-    ++ lines_text h.2.universe
-    (rest_after (sizes h.2.universe) (is_answer h.2.universe h.2.world h.2.question) asked.trailer)
-    ≡ lines_left h.2.universe h.2.world h.2.question h.2.start
+    ++ lines_text h.2.space.labels
+    (rest_after (sizes h.2.space.labels) (is_answer h.2.space h.2.world h.2.question) asked.trailer)
+    ≡ lines_left h.2.space h.2.world h.2.question h.2.start
 lines_and_rest inputs asked h =
-    let u : List Label = h.2.universe in
-    let page : AnswerPage = searched_page u h.2.world h.2.question h.2.start asked.limit asked.steps in
+    let s : Space = h.2.space in
+    let page : AnswerPage = searched_page s h.2.world h.2.question h.2.start asked.limit asked.steps in
     let rest : List (List ℕ) =
-    rest_after (sizes u) (is_answer u h.2.world h.2.question) asked.trailer in
-    ap (λ text. text ++ lines_text u rest) (page_lines inputs asked h)
-    ∙ sym (flat_map-append (line u) page.choices rest) ∙ ap (lines_text u) (sym h.2.rest)
+    rest_after (sizes s.labels) (is_answer s h.2.world h.2.question) asked.trailer in
+    ap (λ text. text ++ lines_text s.labels rest) (page_lines inputs asked h)
+    ∙ sym (flat_map-append (line s.labels) page.choices rest) ∙ ap (lines_text s.labels) (sym h.2.rest)
 
-pub lines_of_row : (inputs : Inputs) (row : List Asked) (u : List Label) (w : World) (q : Question)
-    (start : Start) → AreAskedInARow inputs row → AcceptsInputs inputs u w q start
-    → flat_map (λ (asked : Asked). asked.lines) row ≡ lines_left u w q start
-lines_of_row inputs [] u w q start h accepts = absurd h
-lines_of_row inputs (asked ∷ more) u w q start h accepts =
+pub lines_of_row : (inputs : Inputs) (row : List Asked) (s : Space) (w : World) (q : Question)
+    (start : Start) → AreAskedInARow inputs row → AcceptsInputs inputs s w q start
+    → flat_map (λ (asked : Asked). asked.lines) row ≡ lines_left s w q start
+lines_of_row inputs [] s w q start h accepts = absurd h
+lines_of_row inputs (asked ∷ more) s w q start h accepts =
     ap (λ text. asked.lines ++ text)
     (by (start_after asked.trailer) refl h.1 (λ next ends k. lines_of_row
-    (after_token inputs (token_text next)) more h.0.2.universe h.0.2.world h.0.2.question next k
+    (after_token inputs (token_text next)) more h.0.2.space h.0.2.world h.0.2.question next k
     (asked_goes_on inputs asked next h.0 ends)))
     ∙ lines_and_rest inputs asked h.0
-    ∙ same_lines inputs h.0.2.universe u h.0.2.world w h.0.2.question q h.0.2.start start
+    ∙ same_lines inputs h.0.2.space s h.0.2.world w h.0.2.question q h.0.2.start start
     h.0.2.accepts accepts
   where
     left : Start → List ℕ
-    left next = lines_left h.0.2.universe h.0.2.world h.0.2.question next
+    left next = lines_left h.0.2.space h.0.2.world h.0.2.question next
 
     by : (o : Option Start) → start_after asked.trailer ≡ o
         → MatchOption (option_map token_text o) (more ≡ [])
@@ -126,30 +127,30 @@ lines_of_row inputs (asked ∷ more) u w q start h accepts =
         → AreAskedInARow (after_token inputs (token_text next)) more
         → flat_map (λ (asked : Asked). asked.lines) more ≡ left next)
         → flat_map (λ (asked : Asked). asked.lines) more
-        ≡ lines_text h.0.2.universe
-        (answers_from_any (sizes h.0.2.universe)
-        (is_answer h.0.2.universe h.0.2.world h.0.2.question) o)
+        ≡ lines_text h.0.2.space.labels
+        (answers_from_any (sizes h.0.2.space.labels)
+        (is_answer h.0.2.space h.0.2.world h.0.2.question) o)
     by None ends none goes = ap (flat_map (λ (asked : Asked). asked.lines)) none
     by (Some next) ends again goes = goes next ends again
 
 -- a call without a limit and without a budget writes all answers from its start on
 whole_page : (inputs : Inputs) (asked : Asked) (h : IsAskedOf inputs asked) → asked.limit ≡ None
     → asked.steps ≡ None
-    → searched_page h.2.universe h.2.world h.2.question h.2.start asked.limit asked.steps
-    ≡ answer_page h.2.universe h.2.world h.2.question h.2.start None
+    → searched_page h.2.space h.2.world h.2.question h.2.start asked.limit asked.steps
+    ≡ answer_page h.2.space h.2.world h.2.question h.2.start None
 whole_page inputs asked h unlimited unbudgeted =
-    let u : List Label = h.2.universe in
-    ap (λ limit. searched_page u h.2.world h.2.question h.2.start limit asked.steps) unlimited
-    ∙ ap (searched_page u h.2.world h.2.question h.2.start None) unbudgeted
-    ∙ same_unstopped (sizes u) (is_answer u h.2.world h.2.question)
-    (verdict_of u h.2.world h.2.question) h.2.start
-    (question_judges u h.2.world h.2.question h.2.accepts.says_universe.3.is_universe) None None refl
+    let s : Space = h.2.space in
+    ap (λ limit. searched_page s h.2.world h.2.question h.2.start limit asked.steps) unlimited
+    ∙ ap (searched_page s h.2.world h.2.question h.2.start None) unbudgeted
+    ∙ same_unstopped (sizes s.labels) (is_answer s h.2.world h.2.question)
+    (verdict_of s h.2.world h.2.question) h.2.start
+    (question_judges s h.2.world h.2.question h.2.accepts.says_universe.3.is_universe) None None refl
 
 whole_lines : (inputs : Inputs) (asked : Asked) (h : IsAskedOf inputs asked) → asked.limit ≡ None
-    → asked.steps ≡ None → asked.lines ≡ lines_left h.2.universe h.2.world h.2.question h.2.start
+    → asked.steps ≡ None → asked.lines ≡ lines_left h.2.space h.2.world h.2.question h.2.start
 whole_lines inputs asked h unlimited unbudgeted =
     page_lines inputs asked h
-    ∙ ap (λ page. lines_text h.2.universe page.choices)
+    ∙ ap (λ page. lines_text h.2.space.labels page.choices)
     (whole_page inputs asked h unlimited unbudgeted)
 
 -- the lines of calls in a row are those of the one call without a limit and without a budget
@@ -157,7 +158,7 @@ pub row_is_one_page : (inputs : Inputs) (row : List Asked) (whole : Asked)
     → AreAskedInARow inputs row → IsAskedOf inputs whole → whole.limit ≡ None
     → whole.steps ≡ None → flat_map (λ (asked : Asked). asked.lines) row ≡ whole.lines
 row_is_one_page inputs row whole h one unlimited unbudgeted =
-    lines_of_row inputs row one.2.universe one.2.world one.2.question one.2.start h one.2.accepts
+    lines_of_row inputs row one.2.space one.2.world one.2.question one.2.start h one.2.accepts
     ∙ sym (whole_lines inputs whole one unlimited unbudgeted)
 
 -- a call with the token of a trailer, without a limit and without a budget, writes what that trailer
@@ -175,13 +176,13 @@ pub again_writes : (inputs : Inputs) (first second : Asked) (next : Start)
     → (asked : IsAskedOf inputs first) → start_after first.trailer ≡ Some next
     → IsAskedOf (after_token inputs (token_text next)) second → second.limit ≡ None
     → second.steps ≡ None → second.lines
-    ≡ lines_text asked.2.universe
-    (rest_after (sizes asked.2.universe)
-    (is_answer asked.2.universe asked.2.world asked.2.question) first.trailer)
+    ≡ lines_text asked.2.space.labels
+    (rest_after (sizes asked.2.space.labels)
+    (is_answer asked.2.space asked.2.world asked.2.question) first.trailer)
 again_writes inputs first second next asked ends again unlimited unbudgeted =
     whole_lines (after_token inputs (token_text next)) second again unlimited unbudgeted
-    ∙ same_lines (after_token inputs (token_text next)) again.2.universe asked.2.universe
+    ∙ same_lines (after_token inputs (token_text next)) again.2.space asked.2.space
     again.2.world asked.2.world again.2.question asked.2.question again.2.start next
     again.2.accepts (asked_goes_on inputs first next asked ends)
-    ∙ ap (λ o. lines_text asked.2.universe (answers_from_any (sizes asked.2.universe)
-    (is_answer asked.2.universe asked.2.world asked.2.question) o)) (sym ends)
+    ∙ ap (λ o. lines_text asked.2.space.labels (answers_from_any (sizes asked.2.space.labels)
+    (is_answer asked.2.space asked.2.world asked.2.question) o)) (sym ends)

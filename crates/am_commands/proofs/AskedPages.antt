@@ -8,6 +8,7 @@ use Rattle.am_universe.specs.Universe.{Label, IsUniverse, sizes}
 use Rattle.am_universe.specs.Choice.{admits}
 use Rattle.am_universe.specs.Sink.{Wrote}
 use Rattle.am_universe.specs.WrittenLabelSet.{line}
+use Rattle.am_labels.specs.Space.{Space}
 use Rattle.am_eval.specs.World.{World}
 use Rattle.am_eval.specs.WorldInputs.{WorldInputs}
 use Rattle.am_eval.specs.Question.{Question, is_answer}
@@ -29,27 +30,26 @@ use Rattle.am_search.proofs.SearchChains.{search_chain_joined}
 use Rattle.am_search.proofs.SameVerdicts.{same_page}
 use Rattle.am_cubes.specs.Verdicts.{verdict_of}
 use Rattle.am_cubes.proofs.Soundness.{yes_says_all, no_says_none, never_open}
-use Rattle.am_questions.specs.AskedStart.{AsksStart}
 use Rattle.am_questions.specs.Inputs.{Inputs}
 use Rattle.am_commands.specs.AskOutcome.{AnswersInputs, AnswersInputsUnder, IsAskedOf, answer_page, searched_page}
 
 -- ---- The search for the answers to a question.
 
 -- the verdicts of a question make a judge of its answers
-pub question_judges : (u : List Label) (w : World) (q : Question) → IsUniverse u → IsJudge (sizes u) (is_answer u w q) (verdict_of u w q)
-question_judges u w q is = record {
-  limits = sizes_of_universe u is;
-  yes = λ prefix a e. yes_says_all exactly u w q prefix e;
-  no = λ prefix a e. no_says_none exactly u w q prefix e;
-  whole = λ c whole e. never_open exactly u w q c whole e;
+pub question_judges : (s : Space) (w : World) (q : Question) → IsUniverse s.labels → IsJudge (sizes s.labels) (is_answer s w q) (verdict_of s w q)
+question_judges s w q is = record {
+  limits = sizes_of_universe s.labels is;
+  yes = λ prefix a e. yes_says_all exactly s w q prefix e;
+  no = λ prefix a e. no_says_none exactly s w q prefix e;
+  whole = λ c whole e. never_open exactly s w q c whole e;
 }
 
 -- a judge that has these verdicts at the prefixes of choices finds the same page
-pub page_of_plan : (u : List Label) (w : World) (q : Question) (ns : List ℕ) (verdict : List ℕ → Verdict) (start : Start) (limit steps : Option ℕ)
-    → ns ≡ sizes u → ((prefix : List ℕ) → IsTrue (admits (sizes u) prefix) → verdict prefix ≡ verdict_of u w q prefix)
-    → page_under ns verdict start limit steps ≡ searched_page u w q start limit steps
-page_of_plan u w q ns verdict start limit steps same agrees =
-    ap (λ n. page_under n verdict start limit steps) same ∙ same_page (sizes u) verdict (verdict_of u w q) start agrees limit steps
+pub page_of_plan : (s : Space) (w : World) (q : Question) (ns : List ℕ) (verdict : List ℕ → Verdict) (start : Start) (limit steps : Option ℕ)
+    → ns ≡ sizes s.labels → ((prefix : List ℕ) → IsTrue (admits (sizes s.labels) prefix) → verdict prefix ≡ verdict_of s w q prefix)
+    → page_under ns verdict start limit steps ≡ searched_page s w q start limit steps
+page_of_plan s w q ns verdict start limit steps same agrees =
+    ap (λ n. page_under n verdict start limit steps) same ∙ same_page (sizes s.labels) verdict (verdict_of s w q) start agrees limit steps
 
 -- more steps than a universe may have labels are enough
 pub enough_for : (ns : List ℕ) → AreSizes ns → (steps : Option ℕ) → IfSome steps (λ n. MAX_LABELS < n) → IsEnough ns steps
@@ -57,45 +57,45 @@ enough_for ns are None h = tt
 enough_for ns are (Some n) h = omega (arith, are.labels, h)
 
 -- what is known of the page that a trailer is of
-module _ (u : List Label) (w : World) (q : Question) (start : Start) (limit steps : Option ℕ) (trailer : Trailer) (is : IsUniverse u) (some : IfSome limit (λ n. 0 < n))
-    (ends : trailer ≡ (searched_page u w q start limit steps).trailer) where
+module _ (s : Space) (w : World) (q : Question) (start : Start) (limit steps : Option ℕ) (trailer : Trailer) (is : IsUniverse s.labels) (some : IfSome limit (λ n. 0 < n))
+    (ends : trailer ≡ (searched_page s w q start limit steps).trailer) where
   pub rest_of_page : IfSome steps (λ n. MAX_LABELS < n)
-      → answers_from (sizes u) (is_answer u w q) start ≡ (searched_page u w q start limit steps).choices ++ rest_after (sizes u) (is_answer u w q) trailer
+      → answers_from (sizes s.labels) (is_answer s w q) start ≡ (searched_page s w q start limit steps).choices ++ rest_after (sizes s.labels) (is_answer s w q) trailer
   rest_of_page enough =
-      let law = question_judges u w q is in
-      rest_under (sizes u) (is_answer u w q) (verdict_of u w q) start limit steps law some (enough_for (sizes u) law.limits steps enough)
-      ∙ ap (λ t. (searched_page u w q start limit steps).choices ++ rest_after (sizes u) (is_answer u w q) t) (sym ends)
+      let law = question_judges s w q is in
+      rest_under (sizes s.labels) (is_answer s w q) (verdict_of s w q) start limit steps law some (enough_for (sizes s.labels) law.limits steps enough)
+      ∙ ap (λ t. (searched_page s w q start limit steps).choices ++ rest_after (sizes s.labels) (is_answer s w q) t) (sym ends)
 
-  pub unstopped_page : ((prefix : List ℕ) → trailer ≢ Stopped prefix) → searched_page u w q start limit steps ≡ answer_page u w q start limit
+  pub unstopped_page : ((prefix : List ℕ) → trailer ≢ Stopped prefix) → searched_page s w q start limit steps ≡ answer_page s w q start limit
   unstopped_page runs = by trailer refl
     where
-      by : (t : Trailer) → trailer ≡ t → searched_page u w q start limit steps ≡ answer_page u w q start limit
-      by End e = same_end (sizes u) (is_answer u w q) (verdict_of u w q) start limit steps (question_judges u w q is) some (sym ends ∙ e)
-      by (Next c) e = same_next (sizes u) (is_answer u w q) (verdict_of u w q) start limit steps (question_judges u w q is) some c (sym ends ∙ e)
+      by : (t : Trailer) → trailer ≡ t → searched_page s w q start limit steps ≡ answer_page s w q start limit
+      by End e = same_end (sizes s.labels) (is_answer s w q) (verdict_of s w q) start limit steps (question_judges s w q is) some (sym ends ∙ e)
+      by (Next c) e = same_next (sizes s.labels) (is_answer s w q) (verdict_of s w q) start limit steps (question_judges s w q is) some c (sym ends ∙ e)
       by (Stopped prefix) e = absurd (runs prefix e)
 
   pub stopped_page : (prefix : List ℕ) → trailer ≡ Stopped prefix
-      → (searched_page u w q start limit steps).choices ≡ filter (λ c. comes_before c prefix) (answers_from (sizes u) (is_answer u w q) start)
-  stopped_page prefix e = stopped_before (sizes u) (is_answer u w q) (verdict_of u w q) start limit steps (question_judges u w q is) some prefix (sym ends ∙ e)
+      → (searched_page s w q start limit steps).choices ≡ filter (λ c. comes_before c prefix) (answers_from (sizes s.labels) (is_answer s w q) start)
+  stopped_page prefix e = stopped_before (sizes s.labels) (is_answer s w q) (verdict_of s w q) start limit steps (question_judges s w q is) some prefix (sym ends ∙ e)
 
 -- a call without a budget writes the page of the answers
 pub answers_unlimited : (inputs : Inputs) (limit steps : Option ℕ) (trailer : Trailer) (IsWritten : List ℕ → Type 0) → AnswersInputsUnder inputs limit steps trailer IsWritten → steps ≡ None
     → AnswersInputs inputs limit trailer IsWritten
 answers_unlimited inputs limit steps trailer IsWritten h none =
-    let u : List Label = h.universe in
-    let law = question_judges u h.world h.question h.accepts.says_universe.3.is_universe in
-    let same : searched_page u h.world h.question h.start limit steps ≡ answer_page u h.world h.question h.start limit =
-    ap (searched_page u h.world h.question h.start limit) none
-    ∙ same_unstopped (sizes u) (is_answer u h.world h.question) (verdict_of u h.world h.question) h.start law limit None refl in
+    let s : Space = h.space in
+    let law = question_judges s h.world h.question h.accepts.says_universe.3.is_universe in
+    let same : searched_page s h.world h.question h.start limit steps ≡ answer_page s h.world h.question h.start limit =
+    ap (searched_page s h.world h.question h.start limit) none
+    ∙ same_unstopped (sizes s.labels) (is_answer s h.world h.question) (verdict_of s h.world h.question) h.start law limit None refl in
     record {
-      universe = u;
+      space = s;
       world = h.world;
       question = h.question;
       start = h.start;
       accepts = h.accepts;
-      written = subst (λ (page : AnswerPage). IsWritten (page_text u page)) same h.written;
+      written = subst (λ (page : AnswerPage). IsWritten (page_text s.labels page)) same h.written;
       trailer_is = h.trailer_is ∙ ap (λ page. page.trailer) same;
-      rest = h.rest ∙ ap (λ page. page.choices ++ rest_after (sizes u) (is_answer u h.world h.question) trailer) same;
+      rest = h.rest ∙ ap (λ page. page.choices ++ rest_after (sizes s.labels) (is_answer s h.world h.question) trailer) same;
     }
 
 -- ---- Pages in a row.
@@ -109,16 +109,11 @@ pub lines_of_chain : (u : List Label) (answer : List ℕ → Bool) (start : Star
     → flat_map (λ page. lines_text u page.choices) pages ≡ lines_text u (page_from (sizes u) answer start None).choices
 lines_of_chain u answer start pages h = lines_of_pages u pages ∙ ap (lines_text u) (chain_joined (sizes u) answer start pages h)
 
-pub lines_of_search_chain : (u : List Label) (w : World) (q : Question) (start : Start) (pages : List AnswerPage) → IsUniverse u → IsSearchChain (sizes u) (verdict_of u w q) start pages
-    → flat_map (λ page. lines_text u page.choices) pages ≡ lines_text u (page_from (sizes u) (is_answer u w q) start None).choices
-lines_of_search_chain u w q start pages is h =
-    lines_of_pages u pages
-    ∙ ap (lines_text u) (search_chain_joined (sizes u) (is_answer u w q) (verdict_of u w q) start pages (question_judges u w q is) h)
-
--- the start that is asked for is one over the labels of the universe
-pub asked_is_start : (u : List Label) (after : Option (List ℕ)) (start : Start) → AsksStart u after start → IsStart (sizes u) start
-asked_is_start u None start h = subst (IsStart (sizes u)) (sym h) refl
-asked_is_start u (Some token) start h = h.0
+pub lines_of_search_chain : (s : Space) (w : World) (q : Question) (start : Start) (pages : List AnswerPage) → IsUniverse s.labels → IsSearchChain (sizes s.labels) (verdict_of s w q) start pages
+    → flat_map (λ page. lines_text s.labels page.choices) pages ≡ lines_text s.labels (page_from (sizes s.labels) (is_answer s w q) start None).choices
+lines_of_search_chain s w q start pages is h =
+    lines_of_pages s.labels pages
+    ∙ ap (lines_text s.labels) (search_chain_joined (sizes s.labels) (is_answer s w q) (verdict_of s w q) start pages (question_judges s w q is) h)
 
 -- what follows from two facts of a result follows where there is one
 pub if_both : {T E : Type 0} (result : Result T E) (P Q R : T → Type 0) → ((x : T) → P x → Q x → R x) → IfOk result P → IfOk result Q → IfOk result R
@@ -143,8 +138,8 @@ pub asked_from : {S : Type 0} (taken : S → List ℕ) (failures : S → ℕ) (b
     × (taken after ≡ taken before ++ (lines ++ trailer_text trailer))
 asked_from taken failures before after inputs limit steps trailer some enough answered =
     let page : AnswerPage =
-    searched_page answered.universe answered.world answered.question answered.start limit steps in
-    let lines : List ℕ = lines_text answered.universe page.choices in
+    searched_page answered.space answered.world answered.question answered.start limit steps in
+    let lines : List ℕ = lines_text answered.space.labels page.choices in
     let same : lines ++ trailer_text page.trailer ≡ lines ++ trailer_text trailer =
     ap (λ t. lines ++ trailer_text t) (sym answered.trailer_is) in (
       lines,
@@ -152,7 +147,7 @@ asked_from taken failures before after inputs limit steps trailer some enough an
         some,
         enough,
         record {
-          universe = answered.universe;
+          space = answered.space;
           world = answered.world;
           question = answered.question;
           start = answered.start;

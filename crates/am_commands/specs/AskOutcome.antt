@@ -3,7 +3,8 @@ use Rattle.std.specs.Prelude.{◌≡◌, ◌≢◌, ◌<◌, ℕ, List, [], ◌�
 use Rattle.std.specs.Prelude.{option_map}
 use Rattle.std.specs.List.{filter}
 use Rattle.am_universe.specs.declared.limits.TheConstants.{MAX_LABELS}
-use Rattle.am_universe.specs.Universe.{Label, sizes}
+use Rattle.am_universe.specs.Universe.{sizes}
+use Rattle.am_labels.specs.Space.{Space}
 use Rattle.am_eval.specs.World.{World}
 use Rattle.am_eval.specs.Question.{Question, is_answer}
 use Rattle.am_eval.specs.QuestionView.{question_view}
@@ -20,13 +21,13 @@ use Rattle.am_cubes.specs.Verdicts.{verdict_of}
 use Rattle.am_questions.specs.declared.inputs.AcceptedInputs.{AcceptedInputs}
 use Rattle.am_questions.specs.Inputs.{Inputs, after_token, AcceptsInputs}
 
--- The page of the answers to a question about a world, over a universe: from a start on, and under
--- a limit, if there is one.
+-- The page of the answers to a question about a world, over a space: from a start on, and under a
+-- limit, if there is one.
 -- Source: own choice.
 -- Example: of three answers, the page from the first choice on under the limit 2 is the first two,
 -- and `Next` with the second.
-abbrev pub answer_page : List Label → World → Question → Start → Option ℕ → AnswerPage
-answer_page u w q start limit = page_from (sizes u) (is_answer u w q) start limit
+abbrev pub answer_page : Space → World → Question → Start → Option ℕ → AnswerPage
+answer_page s w q start limit = page_from (sizes s.labels) (is_answer s w q) start limit
 
 -- The page of a search for these answers, under a budget of steps too, if there is one. A step is a
 -- judgement: at a prefix of a choice the search finds the verdict of the question, in the logic of
@@ -34,14 +35,14 @@ answer_page u w q start limit = page_from (sizes u) (is_answer u w q) start limi
 -- Source: own choice.
 -- Example: over the labels `a` and `b`, each with two values, `{b="0"}` is `Open` at the empty
 -- prefix and at 0. Under a budget of 2 the page is empty, and ends with `Stopped` at 0 0.
-abbrev pub searched_page : List Label → World → Question → Start → Option ℕ → Option ℕ → AnswerPage
-searched_page u w q start limit steps =
-    page_under (sizes u) (verdict_of u w q) start limit steps
+abbrev pub searched_page : Space → World → Question → Start → Option ℕ → Option ℕ → AnswerPage
+searched_page s w q start limit steps =
+    page_under (sizes s.labels) (verdict_of s w q) start limit steps
 
--- That page where the question, its world, its universe and its start are what inputs were read as.
+-- That page where the question, its world, its space and its start are what inputs were read as.
 abbrev pub page_of_inputs : AcceptedInputs → Option ℕ → Option ℕ → AnswerPage
 page_of_inputs read limit steps =
-    searched_page read.universe read.world (question_view read.question) read.start limit steps
+    searched_page read.space read.world (question_view read.question) read.start limit steps
 
 -- The inputs are accepted, and the page of their answers, from the start that they ask for and
 -- under this limit, was written, and ends with this trailer. What the trailer leaves is exactly the
@@ -49,16 +50,16 @@ page_of_inputs read limit steps =
 -- trailer's start on.
 pub record AnswersInputs (inputs : Inputs) (limit : Option ℕ) (trailer : Trailer)
     (IsWritten : List ℕ → Type 0) : Type 0 where
-  pub universe : List Label
+  pub space : Space
   pub world : World
   pub question : Question
   pub start : Start
-  pub accepts : AcceptsInputs inputs universe world question start
-  pub written : IsWritten (page_text universe (answer_page universe world question start limit))
-  pub trailer_is : trailer ≡ (answer_page universe world question start limit).trailer
-  pub rest : answers_from (sizes universe) (is_answer universe world question) start
-      ≡ (answer_page universe world question start limit).choices
-      ++ rest_after (sizes universe) (is_answer universe world question) trailer
+  pub accepts : AcceptsInputs inputs space world question start
+  pub written : IsWritten (page_text space.labels (answer_page space world question start limit))
+  pub trailer_is : trailer ≡ (answer_page space world question start limit).trailer
+  pub rest : answers_from (sizes space.labels) (is_answer space world question) start
+      ≡ (answer_page space world question start limit).choices
+      ++ rest_after (sizes space.labels) (is_answer space world question) trailer
 
 -- The same under a budget of steps too, if there is one: the page of a search for the answers was
 -- written, and what its trailer leaves is exactly the rest. Where the search did not stop, it is
@@ -66,36 +67,36 @@ pub record AnswersInputs (inputs : Inputs) (limit : Option ℕ) (trailer : Trail
 -- the start on that come before the prefix, and so before its first completion.
 pub record AnswersInputsUnder (inputs : Inputs) (limit steps : Option ℕ) (trailer : Trailer)
     (IsWritten : List ℕ → Type 0) : Type 0 where
-  pub universe : List Label
+  pub space : Space
   pub world : World
   pub question : Question
   pub start : Start
-  pub accepts : AcceptsInputs inputs universe world question start
+  pub accepts : AcceptsInputs inputs space world question start
   pub written : IsWritten
-      (page_text universe (searched_page universe world question start limit steps))
-  pub trailer_is : trailer ≡ (searched_page universe world question start limit steps).trailer
-  pub rest : answers_from (sizes universe) (is_answer universe world question) start
-      ≡ (searched_page universe world question start limit steps).choices
-      ++ rest_after (sizes universe) (is_answer universe world question) trailer
+      (page_text space.labels (searched_page space world question start limit steps))
+  pub trailer_is : trailer ≡ (searched_page space world question start limit steps).trailer
+  pub rest : answers_from (sizes space.labels) (is_answer space world question) start
+      ≡ (searched_page space world question start limit steps).choices
+      ++ rest_after (sizes space.labels) (is_answer space world question) trailer
   pub unstopped : ((prefix : List ℕ) → trailer ≢ Stopped prefix)
-      → searched_page universe world question start limit steps
-      ≡ answer_page universe world question start limit
+      → searched_page space world question start limit steps
+      ≡ answer_page space world question start limit
   pub stopped : (prefix : List ℕ) → trailer ≡ Stopped prefix
-      → (searched_page universe world question start limit steps).choices
+      → (searched_page space world question start limit steps).choices
       ≡ filter (λ c. comes_before c prefix)
-      (answers_from (sizes universe) (is_answer universe world question) start)
+      (answers_from (sizes space.labels) (is_answer space world question) start)
 
 -- The inputs are accepted, and of the page of a search for their answers this was written, a part
 -- of its text.
 pub record AnswersInputsInPart (inputs : Inputs) (limit steps : Option ℕ)
     (IsWritten : List ℕ → Type 0) : Type 0 where
-  pub universe : List Label
+  pub space : Space
   pub world : World
   pub question : Question
   pub start : Start
-  pub accepts : AcceptsInputs inputs universe world question start
+  pub accepts : AcceptsInputs inputs space world question start
   pub written : IsWritten
-      (page_text universe (searched_page universe world question start limit steps))
+      (page_text space.labels (searched_page space world question start limit steps))
 
 -- ---- Calls in a row.
 

@@ -108,29 +108,24 @@ fn write_answers<W: Sink>(
     out: &mut W,
 ) -> Result<Trailer, Fault>
     requires limit { IfSome limit (λ n. 0 < n) }
-    requires start { IsStart (sizes accepted.now.universe) accepted.now.start }
+    requires start { IsStart (sizes accepted.now.space.labels) accepted.now.start }
     ensures trailer { IfOk result (λ trailer.
         trailer ≡ (page_of_inputs accepted.now limit steps).trailer) }
     ensures written { IfOk result (λ _. Wrote W.taken W.failures out.old out.new
-        (page_text accepted.now.universe (page_of_inputs accepted.now limit steps))) }
+        (page_text accepted.now.space.labels (page_of_inputs accepted.now limit steps))) }
     ensures memory { IfErr result (λ fault. fault.kind ≢ kinds.Write
         → (fault.kind ≡ kinds.Memory) × (fault.place ≡ places.Memory)
         × (string_bytes fault.pointer ≡ []) × (out.new ≡ out.old)) }
     ensures write { IfErr result (λ fault. fault.kind ≡ kinds.Write
         → (fault.place ≡ places.Output) × (string_bytes fault.pointer ≡ [])
         × WroteInPart W.taken W.failures out.old out.new
-        (page_text accepted.now.universe (page_of_inputs accepted.now limit steps))) }
+        (page_text accepted.now.space.labels (page_of_inputs accepted.now limit steps))) }
 {
-    let judge = match Plan::new(
-        alloc,
-        &accepted.universe,
-        &accepted.world,
-        &accepted.question,
-    ) {
+    let judge = match Plan::new(alloc, &accepted.space, &accepted.world, &accepted.question) {
         Ok(judge) => judge,
         Err(_) => return Err(Fault::memory(alloc)),
     };
-    let Ok(mut table) = LineTable::of(alloc, &accepted.universe) else {
+    let Ok(mut table) = LineTable::of(alloc, accepted.space.universe()) else {
         return Err(Fault::memory(alloc));
     };
     let mut answers = Answers::from(&judge, accepted.start, steps);

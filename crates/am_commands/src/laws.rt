@@ -3,7 +3,7 @@ ghost use Rattle.std.specs.Prelude.{◌≡◌, ℕ, List, [], Some, None, Option
 ghost use Rattle.std.specs.List.{flat_map};
 ghost use Rattle.am_universe.specs.declared.kind.Kind.TheVariants as kinds;
 ghost use Rattle.am_universe.specs.declared.place.Place.{Place};
-ghost use Rattle.am_labels.specs.Words.{Label, IsUniverse, sizes};
+ghost use Rattle.am_labels.specs.Words.{Label, IsUniverse, sizes, Space};
 ghost use Rattle.am_json.specs.Words.{Refusal};
 ghost use Rattle.am_files.specs.Words.{Configuration};
 ghost use Rattle.am_eval.specs.Words.{World, Question, is_answer, answers, IsFirstFaultOfCall};
@@ -22,23 +22,23 @@ ghost use Rattle.am_commands.specs.Words.{AcceptsReport, report_stages};
 
 /// The answers from the first choice on are all answers to the question.
 pub fn answers_from_the_first_choice_on_are_all()
-    ensures all { (u : List Label) (w : World) (q : Question)
-        → answers_from (sizes u) (is_answer u w q) (At []) ≡ answers u w q }
+    ensures all { (s : Space) (w : World) (q : Question)
+        → answers_from (sizes s.labels) (is_answer s w q) (At []) ≡ answers s w q }
 {}
 
 /// Where a page ends with `Next`, the same inputs with the token of its choice are accepted, and
 /// they ask for the start after that choice. So it is with `Stopped` and its prefix, where the
 /// budget is enough. The token asks for no other start.
 pub fn a_page_goes_on_at_its_token()
-    ensures accepted { (inputs : Inputs) (u : List Label) (w : World) (q : Question) (start : Start)
-        (page : AnswerPage) (c : List ℕ) → AcceptsInputs inputs u w q start
-        → IsPage (sizes u) (is_answer u w q) start page → page.trailer ≡ Next c
-        → AcceptsInputs (after_token inputs (token_text (After c))) u w q (After c) }
-    ensures under_a_budget { (inputs : Inputs) (u : List Label) (w : World) (q : Question)
-        (start next : Start) (page : AnswerPage) → AcceptsInputs inputs u w q start
-        → IsSearchPage (sizes u) (verdict_of u w q) start page
+    ensures accepted { (inputs : Inputs) (s : Space) (w : World) (q : Question) (start : Start)
+        (page : AnswerPage) (c : List ℕ) → AcceptsInputs inputs s w q start
+        → IsPage (sizes s.labels) (is_answer s w q) start page → page.trailer ≡ Next c
+        → AcceptsInputs (after_token inputs (token_text (After c))) s w q (After c) }
+    ensures under_a_budget { (inputs : Inputs) (s : Space) (w : World) (q : Question)
+        (start next : Start) (page : AnswerPage) → AcceptsInputs inputs s w q start
+        → IsSearchPage (sizes s.labels) (verdict_of s w q) start page
         → start_after page.trailer ≡ Some next
-        → AcceptsInputs (after_token inputs (token_text next)) u w q next }
+        → AcceptsInputs (after_token inputs (token_text next)) s w q next }
     ensures alone { (u : List Label) (next start : Start) → IsUniverse u
         → IsStart (sizes u) next → AsksStart u (Some (token_text next)) start → start ≡ next }
 {}
@@ -46,16 +46,16 @@ pub fn a_page_goes_on_at_its_token()
 /// The lines of pages in a row, joined, are the lines of the one page without a limit from the same
 /// start, also where they have budgets that are enough.
 pub fn pages_in_a_row_have_the_lines_of_one_page()
-    ensures joined { (u : List Label) (w : World) (q : Question) (start : Start)
+    ensures joined { (s : Space) (w : World) (q : Question) (start : Start)
         (pages : List AnswerPage)
-        → IsChain (sizes u) (is_answer u w q) start pages
-        → flat_map (λ page. lines_text u page.choices) pages
-        ≡ lines_text u (page_from (sizes u) (is_answer u w q) start None).choices }
-    ensures under_budgets { (u : List Label) (w : World) (q : Question) (start : Start)
-        (pages : List AnswerPage) → IsUniverse u
-        → IsSearchChain (sizes u) (verdict_of u w q) start pages
-        → flat_map (λ page. lines_text u page.choices) pages
-        ≡ lines_text u (page_from (sizes u) (is_answer u w q) start None).choices }
+        → IsChain (sizes s.labels) (is_answer s w q) start pages
+        → flat_map (λ page. lines_text s.labels page.choices) pages
+        ≡ lines_text s.labels (page_from (sizes s.labels) (is_answer s w q) start None).choices }
+    ensures under_budgets { (s : Space) (w : World) (q : Question) (start : Start)
+        (pages : List AnswerPage) → IsUniverse s.labels
+        → IsSearchChain (sizes s.labels) (verdict_of s w q) start pages
+        → flat_map (λ page. lines_text s.labels page.choices) pages
+        ≡ lines_text s.labels (page_from (sizes s.labels) (is_answer s w q) start None).choices }
 {}
 
 /// Where a call of `ask` ends with a token, the same inputs with that token are accepted, as
@@ -71,8 +71,8 @@ pub fn starting_again_writes_exactly_the_rest()
         → (asked : IsAskedOf inputs first) → start_after first.trailer ≡ Some next
         → IsAskedOf (after_token inputs (token_text next)) second → second.limit ≡ None
         → second.steps ≡ None
-        → second.lines ≡ lines_text asked.2.universe (rest_after (sizes asked.2.universe)
-        (is_answer asked.2.universe asked.2.world asked.2.question) first.trailer) }
+        → second.lines ≡ lines_text asked.2.space.labels (rest_after (sizes asked.2.space.labels)
+        (is_answer asked.2.space asked.2.world asked.2.question) first.trailer) }
 {}
 
 /// Calls of `ask` in a row, whatever their limits and their budgets, each with the token of the
@@ -88,8 +88,8 @@ pub fn pages_asked_in_a_row_are_one_page()
 /// Where the files of a report are accepted, they have no first fault, but for a pattern, which the
 /// engine may refuse.
 pub fn accepted_files_have_no_fault()
-    ensures pattern { (universe_file config_file : List ℕ) (u : List Label) (c : Configuration)
-        (place : Place) (refusal : Refusal) → AcceptsReport universe_file config_file u c
+    ensures pattern { (universe_file config_file : List ℕ) (s : Space) (c : Configuration)
+        (place : Place) (refusal : Refusal) → AcceptsReport universe_file config_file s c
         → IsFirstFaultOfCall (report_stages universe_file config_file) place refusal
         → refusal.kind ≡ kinds.Pattern }
 {}

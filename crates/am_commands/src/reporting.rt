@@ -10,7 +10,7 @@ ghost use Rattle.am_eval.specs.Words.{IsFirstFaultOfCall};
 use am_coverage::{receivers_covered, routes_covered, write_receivers, write_routes};
 use am_eval::World;
 use am_files::{Alerts, Silences, read_config, read_universe};
-use am_labels::{Fault, Place, Sink, Universe};
+use am_labels::{Fault, Place, Sink, Space};
 use std::alloc::Global;
 
 /// Writes a line for each route of a configuration, in preorder, and then `# end`: its path, and
@@ -45,11 +45,11 @@ pub fn dead<W: Sink>(
     ensures untouched { IfErr result (λ fault. fault.kind ≢ kinds.Write → out.new ≡ out.old) }
 {
     let accepted = read_report_inputs(alloc, universe, config)?;
-    let routes = match routes_covered(alloc, &accepted.universe, &accepted.world) {
+    let routes = match routes_covered(alloc, &accepted.space, &accepted.world) {
         Ok(routes) => routes,
         Err(_) => return Err(Fault::memory(alloc)),
     };
-    match write_routes(&accepted.universe, routes.as_slice(), out) {
+    match write_routes(accepted.space.universe(), routes.as_slice(), out) {
         Ok(()) => Ok(()),
         Err(kind) => Err(Fault::of(alloc, kind, Place::Output)),
     }
@@ -79,12 +79,12 @@ pub fn receivers<W: Sink>(
     ensures untouched { IfErr result (λ fault. fault.kind ≢ kinds.Write → out.new ≡ out.old) }
 {
     let accepted = read_report_inputs(alloc, universe, config)?;
-    let found = match receivers_covered(alloc, &accepted.universe, &accepted.world) {
+    let found = match receivers_covered(alloc, &accepted.space, &accepted.world) {
         Ok(found) => found,
         Err(_) => return Err(Fault::memory(alloc)),
     };
     let config = accepted.world.config();
-    match write_receivers(&accepted.universe, config, found.as_slice(), out) {
+    match write_receivers(accepted.space.universe(), config, found.as_slice(), out) {
         Ok(()) => Ok(()),
         Err(kind) => Err(Fault::of(alloc, kind, Place::Output)),
     }
@@ -93,7 +93,7 @@ pub fn receivers<W: Sink>(
 /// What the files of a report say, where they are accepted.
 #[derive(Drop)]
 struct AcceptedFiles {
-    universe: Universe,
+    space: Space,
     /// The configuration, without silences and alerts.
     world: World,
 }
@@ -103,7 +103,7 @@ struct AcceptedFiles {
 /// ran out.
 fn read_report_inputs(alloc: Global, universe: &[u8], config: &[u8]) -> Result<AcceptedFiles, Fault>
     ensures accepts { IfOk result (λ accepted. AcceptsReport universe.now config.now
-        accepted.universe accepted.world.config) }
+        accepted.space accepted.world.config) }
     ensures first { IfErr result (λ fault. fault.kind ≢ kinds.Memory
         → IsFirstFaultOfCall (report_stages universe.now config.now)
         fault.place (refusal_of fault)) }
@@ -111,10 +111,10 @@ fn read_report_inputs(alloc: Global, universe: &[u8], config: &[u8]) -> Result<A
         → (fault.place ≡ places.Memory) × (string_bytes fault.pointer ≡ [])) }
     ensures no_write { IfErr result (λ fault. fault.kind ≢ kinds.Write) }
 {
-    let universe = read_universe(alloc, universe)?;
+    let space = read_universe(alloc, universe)?;
     let config = read_config(alloc, config)?;
     let silences = Silences::none(alloc);
     let alerts = Alerts::none(alloc);
     let world = World::new(alloc, config, silences, alerts, None)?;
-    Ok(AcceptedFiles { universe, world })
+    Ok(AcceptedFiles { space, world })
 }

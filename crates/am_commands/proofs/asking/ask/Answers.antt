@@ -1,15 +1,11 @@
 -- What was read is accepted, and what is written is the page of its answers.
 use Rattle.am_eval.specs.QuestionView.{question_view}
-use Rattle.am_commands.proofs.AskedPages.{rest_of_page, unstopped_page, stopped_page, answers_unlimited, asked_is_start, if_both, if_failed, if_ok, asked_from}
+use Rattle.am_commands.proofs.AskedPages.{rest_of_page, unstopped_page, stopped_page, answers_unlimited, if_both, if_failed, if_ok, asked_from}
 use Rattle.am_commands.proofs.asking.ask.Goals as goal
 
 pub write_answers-requires : goal.write_answers-requires
 write_answers-requires g c =
-    let read = c.in_ok-accepted.accepted in
-    record {
-      limit = c.requires.limit;
-      start = asked_is_start read.universe _ read.start c.in_ok-accepted.ensures.accepts.starts;
-    }
+    record { limit = c.requires.limit; start = c.in_ok-accepted.ensures.start }
 
 pub returns-clause-answered_under : goal.returns-clause-answered_under
 returns-clause-answered_under g c =
@@ -19,18 +15,18 @@ returns-clause-answered_under g c =
     let page = c.args.page.now in
     if_both c.write_answers.result _ _ _
     (λ trailer ends written. record {
-      universe = read.universe;
+      space = read.space;
       world = read.world;
       question = question;
       start = read.start;
       accepts = accepts;
       written = written;
       trailer_is = ends;
-      rest = rest_of_page read.universe read.world question read.start page.limit page.steps trailer
+      rest = rest_of_page read.space read.world question read.start page.limit page.steps trailer
           accepts.says_universe.3.is_universe c.requires.limit ends c.requires.steps;
-      unstopped = unstopped_page read.universe read.world question read.start page.limit page.steps
+      unstopped = unstopped_page read.space read.world question read.start page.limit page.steps
           trailer accepts.says_universe.3.is_universe c.requires.limit ends;
-      stopped = stopped_page read.universe read.world question read.start page.limit page.steps
+      stopped = stopped_page read.space read.world question read.start page.limit page.steps
           trailer accepts.says_universe.3.is_universe c.requires.limit ends;
     })
     c.write_answers.ensures.trailer c.write_answers.ensures.written
@@ -58,7 +54,7 @@ returns-clause-write g c =
       there.0,
       there.1,
       record {
-        universe = read.universe;
+        space = read.space;
         world = read.world;
         question = question_view read.question;
         start = read.start;

@@ -8,11 +8,11 @@ use Rattle.am_commands.proofs.AskedAgain.{goes_on_at}
 use Rattle.am_commands.proofs.laws.a_page_goes_on_at_its_token.Goals as goal
 
 pub returns-clause-accepted : goal.returns-clause-accepted
-returns-clause-accepted c inputs u w q start page d accepts is next = record {
+returns-clause-accepted c inputs s w q start page d accepts is next = record {
   says_universe = accepts.says_universe;
   accepts_world = accepts.accepts_world;
   reads = accepts.reads;
-  starts = (next_is_start (sizes u) d (is_answer u w q) start page is next, refl);
+  starts = (next_is_start (sizes s.labels) d (is_answer s w q) start page is next, refl);
 }
 
 pub returns-clause-under_a_budget : goal.returns-clause-under_a_budget

@@ -4,6 +4,6 @@ use Rattle.am_commands.proofs.laws.pages_in_a_row_have_the_lines_of_one_page.Goa
 
 pub returns : goal.returns
 returns c = record {
-  joined = λ u w q start pages h. lines_of_chain u (is_answer u w q) start pages h;
+  joined = λ s w q start pages h. lines_of_chain s.labels (is_answer s w q) start pages h;
   under_budgets = lines_of_search_chain;
 }
