@@ -47,21 +47,21 @@ const HOURS: [&str; 6] = [
 /// The world of a seed: of 1 to 4 labels with 1 to 3 values each, routes of up to three levels, up
 /// to 3 silences, 2 firing alerts and 2 inhibition rules; and a question of three levels.
 pub fn world_of_seed(alloc: Global, seed: u64) -> Result<SmallWorld, AllocError> {
-    let mut dice = Dice::new(seed);
-    let labels = dice.number_of(&[1, 2, 3, 3, 4, 4]);
-    let mut maker = Maker {
-        alloc,
-        dice,
-        labels,
-        paths: Vec::new(alloc),
-    };
-    Ok(SmallWorld {
-        universe: maker.universe()?,
-        config: maker.config()?,
-        silences: maker.silences()?,
-        alerts: maker.alerts()?,
-        question: maker.question()?,
-    })
+    Maker::of_seed(alloc, seed).world()
+}
+
+/// The world of a seed, over a universe in which up to 3 lists of matchers are impossible. All else
+/// is as [`world_of_seed`] makes it.
+pub fn space_of_seed(alloc: Global, seed: u64) -> Result<SmallWorld, AllocError> {
+    let mut maker = Maker::of_seed(alloc, seed);
+    let mut world = maker.world()?;
+    // The lists are drawn last, so that they change nothing else.
+    let lists = maker.impossible()?;
+    world.universe.pop();
+    world.universe.push_str(",\"impossible\":[")?;
+    world.universe.push_str(lists.as_str())?;
+    world.universe.push_str("]}")?;
+    Ok(world)
 }
 
 /// What makes the texts of a world, one after the other.
@@ -76,6 +76,27 @@ struct Maker {
 }
 
 impl Maker {
+    fn of_seed(alloc: Global, seed: u64) -> Maker {
+        let mut dice = Dice::new(seed);
+        let labels = dice.number_of(&[1, 2, 3, 3, 4, 4]);
+        Maker {
+            alloc,
+            dice,
+            labels,
+            paths: Vec::new(alloc),
+        }
+    }
+
+    fn world(&mut self) -> Result<SmallWorld, AllocError> {
+        Ok(SmallWorld {
+            universe: self.universe()?,
+            config: self.config()?,
+            silences: self.silences()?,
+            alerts: self.alerts()?,
+            question: self.question()?,
+        })
+    }
+
     fn universe(&mut self) -> Result<String, AllocError> {
         let mut text = String::from_str(self.alloc, "{\"labels\":[")?;
         for i in 0..self.labels {
@@ -326,12 +347,31 @@ impl Maker {
 
     fn braces(&mut self) -> Result<String, AllocError> {
         let mut text = String::from_str(self.alloc, "{")?;
+        let list = self.list()?;
+        text.push_str(list.as_str())?;
+        text.push('}')?;
+        Ok(text)
+    }
+
+    /// The matchers of one list, with commas between.
+    fn list(&mut self) -> Result<String, AllocError> {
+        let mut text = String::new(self.alloc);
         for i in 0..self.count_matchers() {
             add_comma(i, &mut text)?;
             let matcher = self.matcher()?;
             text.push_str(matcher.as_str())?;
         }
-        text.push('}')?;
+        Ok(text)
+    }
+
+    /// Up to 3 lists of matchers, each of which is a text.
+    fn impossible(&mut self) -> Result<String, AllocError> {
+        let mut text = String::new(self.alloc);
+        for i in 0..self.dice.number_of(&[0, 1, 1, 2, 2, 3]) {
+            add_comma(i, &mut text)?;
+            let list = self.list()?;
+            add_quoted(list.as_str(), &mut text)?;
+        }
         Ok(text)
     }
 }

@@ -315,8 +315,8 @@ fn yes_or_no(truth: bool) -> &'static str {
 }
 
 fn of_row(alloc: Global, over: &[u8], text: &str) -> Result<Vec<u8>, Problem> {
-    let universe = match read_universe(alloc, over) {
-        Ok(universe) => universe,
+    let space = match read_universe(alloc, over) {
+        Ok(space) => space,
         Err(fault) => return fault_behind(alloc, b"", &fault),
     };
     let list = match parse_matchers(alloc, text) {
@@ -326,8 +326,8 @@ fn of_row(alloc: Global, over: &[u8], text: &str) -> Result<Vec<u8>, Problem> {
     if list.len() != 1 {
         return Err(Problem::said(alloc, "one matcher is wanted"));
     }
-    let row = list.get(0).row(alloc, &universe)?;
-    row_text(alloc, &universe, &row)
+    let row = list.get(0).row(alloc, space.universe())?;
+    row_text(alloc, space.universe(), &row)
 }
 
 fn row_text(alloc: Global, universe: &Universe, row: &Row) -> Result<Vec<u8>, Problem>

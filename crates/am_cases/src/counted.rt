@@ -11,14 +11,14 @@ use std::cell::Cell;
 
 /// A plan that counts how often it is asked.
 #[derive(Drop)]
-pub struct CountedPlan<'a> {
-    plan: &'a Plan<'a>,
+pub struct CountedPlan<'a, 'p> {
+    plan: &'a Plan<'p>,
     asked: Cell<u64>,
 }
 
-impl<'a> CountedPlan<'a> {
+impl<'a, 'p> CountedPlan<'a, 'p> {
     /// A plan that was not asked yet.
-    pub fn of(plan: &'a Plan<'a>) -> CountedPlan<'a>
+    pub fn of(plan: &'a Plan<'p>) -> CountedPlan<'a, 'p>
         ensures plan { result.plan.now ≡ plan.now }
     {
         CountedPlan {
@@ -33,7 +33,7 @@ impl<'a> CountedPlan<'a> {
     }
 }
 
-impl<'a> Judge for CountedPlan<'a> {
+impl<'a, 'p> Judge for CountedPlan<'a, 'p> {
     ghost sizes = { λ counted. plan_sizes counted.plan.now };
 
     ghost truth = { λ counted. plan_truth counted.plan.now };

@@ -5,12 +5,13 @@ ghost use Rattle.std.specs.Prelude.{◌≡◌};
 ghost use Rattle.am_universe.specs.Universe.{sizes};
 
 use crate::calls::{Over, fault_behind, told};
-use crate::judges::{ALL, of_seed, seeds_of};
+use crate::judges::{ALL, made_world, of_seed, seeds_of, with_impossible};
+use crate::possible::{asked_of_whole, question_of};
 use crate::reports::{Report, write_report};
-use am_case_files::{Problem, large_world, split_at_first, utf8, world_of_seed};
+use am_case_files::{Problem, large_world, split_at_first, utf8};
 use am_commands::{Files, ask};
 use am_cubes::Plan;
-use am_eval::{Question, ends};
+use am_eval::ends;
 use am_files::{Config, Path, read_config};
 use am_labels::{Fault, Kind, LabelSet, Out, Universe, parse_set, write_set};
 use am_questions::{AcceptedInputs, read_inputs};
@@ -54,13 +55,14 @@ impl Counts {
 // ---- Small worlds, over which whole choices are looked at one by one.
 
 /// What the reports of the worlds of some seeds tell. The text is the first seed, a blank, and how
-/// many there are.
+/// many there are; and ` impossible` behind it, where some label sets are to be impossible.
 pub fn of_reports(alloc: Global, text: &[u8]) -> Result<Vec<u8>, Problem> {
+    let (text, has_impossible) = with_impossible(text);
     let (seed, count) = seeds_of(alloc, text)?;
     let mut counts = Counts::none();
     for i in 0..count {
         let seed = seed.wrapping_add(i);
-        if let Err(problem) = check_small(alloc, seed, &mut counts) {
+        if let Err(problem) = check_small(alloc, seed, has_impossible, &mut counts) {
             return Err(of_seed(alloc, seed, problem));
         }
     }
@@ -71,8 +73,13 @@ pub fn of_reports(alloc: Global, text: &[u8]) -> Result<Vec<u8>, Problem> {
 
 /// Compares the reports of the world of a seed with what the plans of questions find, and the judge
 /// that looks at whole choices.
-fn check_small(alloc: Global, seed: u64, counts: &mut Counts) -> Result<(), Problem> {
-    let made = world_of_seed(alloc, seed)?;
+fn check_small(
+    alloc: Global,
+    seed: u64,
+    has_impossible: bool,
+    counts: &mut Counts,
+) -> Result<(), Problem> {
+    let made = made_world(alloc, seed, has_impossible)?;
     let (universe, config) = (made.universe.as_bytes(), made.config.as_bytes());
     let inputs = match read_inputs(alloc, universe, &files_of(Some(config)), "any", &ALL) {
         Ok(inputs) => inputs,
@@ -81,16 +88,15 @@ fn check_small(alloc: Global, seed: u64, counts: &mut Counts) -> Result<(), Prob
     let report = report_of(alloc, Report::Routes, universe, config)?;
     for line in report.as_slice().split(|byte| *byte == b'\n') {
         if let Some((path, status)) = split_at_first(line, b" ") {
-            let path = path_of(alloc, path)?;
-            let wanted = status_of_route(alloc, &inputs, path)?;
+            let wanted = status_of_route(alloc, &inputs, utf8(alloc, path)?)?;
             check_status(alloc, line, wanted.as_slice(), status)?;
             counts.count(status);
         }
     }
     let report = report_of(alloc, Report::Receivers, universe, config)?;
-    for (i, line) in report.as_slice().split(|byte| *byte == b'\n').enumerate() {
-        if let Some((_, status)) = split_at_first(line, b" ") {
-            let wanted = status_of_receiver(alloc, &inputs, i)?;
+    for line in report.as_slice().split(|byte| *byte == b'\n') {
+        if let Some((name, status)) = split_at_first(line, b" ") {
+            let wanted = status_of_receiver(alloc, &inputs, utf8(alloc, name)?)?;
             check_status(alloc, line, wanted.as_slice(), status)?;
             counts.count(status);
         }
@@ -106,12 +112,14 @@ fn check_status(alloc: Global, line: &[u8], wanted: &[u8], found: &[u8]) -> Resu
     Err(Problem::differs(alloc, line.as_str(), wanted, found))
 }
 
-fn status_of_route(alloc: Global, inputs: &AcceptedInputs, path: Path) -> Result<Vec<u8>, Problem> {
-    let live = live_status(alloc, inputs, &Question::ends(path))?;
+fn status_of_route(alloc: Global, inputs: &AcceptedInputs, path: &str) -> Result<Vec<u8>, Problem> {
+    let ends = format!(in alloc; "ends {path}")?;
+    let live = live_status(alloc, inputs, ends.as_str())?;
     if !live.is_empty() {
         return Ok(live);
     }
-    let entered = live_status(alloc, inputs, &Question::enters(path))?;
+    let enters = format!(in alloc; "enters {path}")?;
+    let entered = live_status(alloc, inputs, enters.as_str())?;
     told(alloc, dead_status(!entered.is_empty()))
 }
 
@@ -126,9 +134,10 @@ fn dead_status(is_entered: bool) -> &'static str {
 fn status_of_receiver(
     alloc: Global,
     inputs: &AcceptedInputs,
-    receiver: usize,
+    name: &str,
 ) -> Result<Vec<u8>, Problem> {
-    let live = live_status(alloc, inputs, &Question::receiver(receiver))?;
+    let receiver = format!(in alloc; "receiver {name}")?;
+    let live = live_status(alloc, inputs, receiver.as_str())?;
     if live.is_empty() {
         return told(alloc, "unmatched");
     }
@@ -137,14 +146,12 @@ fn status_of_receiver(
 
 /// `live ` and the first label set of which a question is true, as its plan finds it and the judge
 /// that looks at whole choices; empty where it is true of none.
-fn live_status(
-    alloc: Global,
-    inputs: &AcceptedInputs,
-    question: &Question,
-) -> Result<Vec<u8>, Problem> {
-    let universe = &inputs.universe;
-    let plan = Plan::new(alloc, universe, &inputs.world, question)?;
-    let whole = Whole::new(alloc, universe, &inputs.world, question)?;
+fn live_status(alloc: Global, inputs: &AcceptedInputs, text: &str) -> Result<Vec<u8>, Problem> {
+    let universe = inputs.space.universe();
+    let question = question_of(alloc, text, inputs)?;
+    let plan = Plan::new(alloc, &inputs.space, &inputs.world, &question)?;
+    let question = asked_of_whole(alloc, text, inputs)?;
+    let whole = Whole::new(alloc, universe, &inputs.world, &question)?;
     let found = live_status_by(alloc, universe, &plan)?;
     let wanted = live_status_by(alloc, universe, &whole)?;
     check_status(

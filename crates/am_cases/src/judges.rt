@@ -7,9 +7,12 @@ use crate::calls::{Over, fault_behind, told};
 use crate::counted::CountedPlan;
 use crate::coverage::refusal;
 use crate::pages::Asked;
+use crate::possible::asked_of_whole;
 use crate::starts::positions_behind;
 use crate::worlds::text_and_instant;
-use am_case_files::{Problem, SmallWorld, split_at_first, split_at_last, utf8, world_of_seed};
+use am_case_files::{
+    Problem, SmallWorld, space_of_seed, split_at_first, split_at_last, utf8, world_of_seed,
+};
 use am_case_judges::{
     Alike, check_verdict, compare, compare_verdicts, counted_verdict, prefix_of, verdict_at,
     verdict_text,
@@ -22,7 +25,7 @@ use am_labels::{Choice, Fault, Kind};
 use am_questions::{AcceptedInputs, parse_question, read_inputs};
 use am_search::{Answers, Page, Start, State, Verdict, first};
 use am_whole::Whole;
-use std::alloc::Global;
+use std::alloc::{AllocError, Global};
 
 /// Questions out of whose plans others are made: about nothing that a world has, and about all.
 const OTHERS: [&str; 2] = ["any", "ends / or silenced or inhibited"];
@@ -85,30 +88,35 @@ pub fn of_judge(alloc: Global, over: Over<'_>, text: &[u8]) -> Result<Vec<u8>, P
         Ok(inputs) => inputs,
         Err(asking) => return unasked(alloc, asking),
     };
-    let prefix = prefix_of(alloc, &inputs.universe, utf8(alloc, positions)?)?;
-    let plan = Plan::new(alloc, &inputs.universe, &inputs.world, &inputs.question)?;
-    let verdict = verdict_at(alloc, &inputs.universe, &plan, &prefix)?;
-    check_whole(alloc, &inputs, &prefix, verdict)?;
+    let prefix = prefix_of(alloc, inputs.space.universe(), utf8(alloc, positions)?)?;
+    let plan = Plan::new(alloc, &inputs.space, &inputs.world, &inputs.question)?;
+    let verdict = verdict_at(alloc, inputs.space.universe(), &plan, &prefix)?;
+    let (question, _) = text_and_instant(alloc, asked)?;
+    let question = asked_of_whole(alloc, question, &inputs)?;
+    check_whole(alloc, &inputs, &question, &prefix, verdict)?;
     check_others(alloc, &inputs, &prefix, verdict)?;
     check_absent(alloc, &inputs, &prefix, verdict)?;
     told(alloc, verdict_text(verdict))
 }
 
 /// Compares a verdict with the judge that looks at whole choices: at one of them it says the same.
-/// What a list in braces is known to be is all that can be known, and is counted.
+/// What a list in braces is known to be is all that can be known, and is counted, where no label
+/// set is impossible.
 fn check_whole(
     alloc: Global,
     inputs: &AcceptedInputs,
+    question: &Question,
     prefix: &Choice,
     verdict: Verdict,
 ) -> Result<(), Problem> {
-    let universe = &inputs.universe;
-    let whole = Whole::new(alloc, universe, &inputs.world, &inputs.question)?;
+    let universe = inputs.space.universe();
+    let whole = Whole::new(alloc, universe, &inputs.world, question)?;
     if prefix.len() == universe.len() {
         let wanted = verdict_at(alloc, universe, &whole, prefix)?;
         check_verdict(alloc, "judged as a whole choice", wanted, verdict)?;
     }
-    if let Question::Braces(_) = &inputs.question {
+    // Of a list together with impossible ones less may be known than holds.
+    if let Question::Braces(_) = question {
         if let Some(wanted) = counted_verdict(alloc, universe, &whole, prefix)? {
             check_verdict(alloc, "counted", wanted, verdict)?;
         }
@@ -129,9 +137,9 @@ fn check_others(
             Err(Kind::Memory) => return Err(Problem::Memory),
             Err(_) => return Err(Problem::about(alloc, "no question", text.as_bytes())),
         };
-        let plan = Plan::new(alloc, &inputs.universe, &inputs.world, &other)?;
+        let plan = Plan::new(alloc, &inputs.space, &inputs.world, &other)?;
         let plan = plan.about(alloc, &inputs.question)?;
-        let found = verdict_at(alloc, &inputs.universe, &plan, prefix)?;
+        let found = verdict_at(alloc, inputs.space.universe(), &plan, prefix)?;
         check_verdict(alloc, "judged by another plan", verdict, found)?;
     }
     Ok(())
@@ -145,10 +153,10 @@ fn check_absent(
     prefix: &Choice,
     verdict: Verdict,
 ) -> Result<(), Problem> {
-    let universe = &inputs.universe;
+    let universe = inputs.space.universe();
     let absent = Path::root().child(ABSENT);
     let (ends, enters) = (Question::ends(absent), Question::enters(absent));
-    let plan = Plan::new(alloc, universe, &inputs.world, &ends)?;
+    let plan = Plan::new(alloc, &inputs.space, &inputs.world, &ends)?;
     let found = verdict_at(alloc, universe, &plan, prefix)?;
     check_verdict(alloc, "`ends` of no route", Verdict::No, found)?;
     let entering = plan.about(alloc, &enters)?;
@@ -165,8 +173,10 @@ pub fn of_first(alloc: Global, over: Over<'_>, text: &[u8]) -> Result<Vec<u8>, P
         Ok(inputs) => inputs,
         Err(asking) => return unasked(alloc, asking),
     };
-    let plan = Plan::new(alloc, &inputs.universe, &inputs.world, &inputs.question)?;
-    let whole = Whole::new(alloc, &inputs.universe, &inputs.world, &inputs.question)?;
+    let (question, _) = text_and_instant(alloc, text)?;
+    let question = asked_of_whole(alloc, question, &inputs)?;
+    let plan = Plan::new(alloc, &inputs.space, &inputs.world, &inputs.question)?;
+    let whole = Whole::new(alloc, inputs.space.universe(), &inputs.world, &question)?;
     let found = first_text(alloc, first(&plan))?;
     let wanted = first_text(alloc, first(&whole))?;
     if found.as_slice() == wanted.as_slice() {
@@ -198,7 +208,7 @@ pub fn of_count(alloc: Global, over: Over<'_>, text: &[u8]) -> Result<Vec<u8>, P
         Ok(inputs) => inputs,
         Err(fault) => return fault_behind(alloc, b"", &fault),
     };
-    let plan = Plan::new(alloc, &inputs.universe, &inputs.world, &inputs.question)?;
+    let plan = Plan::new(alloc, &inputs.space, &inputs.world, &inputs.question)?;
     let counted = CountedPlan::of(&plan);
     if is_first {
         let given = usize::from(first(&counted).is_some());
@@ -210,7 +220,7 @@ pub fn of_count(alloc: Global, over: Over<'_>, text: &[u8]) -> Result<Vec<u8>, P
 /// Counts what is given from a start on, and how often the plan is asked for it.
 fn count_from(
     alloc: Global,
-    counted: &CountedPlan<'_>,
+    counted: &CountedPlan<'_, '_>,
     start: Start,
     steps: Option<u64>,
 ) -> Result<Vec<u8>, Problem>
@@ -244,7 +254,8 @@ pub fn of_alike(alloc: Global, over: Over<'_>, text: &[u8]) -> Result<Vec<u8>, P
         Ok(inputs) => inputs,
         Err(asking) => return unasked(alloc, asking),
     };
-    let alike = compared(alloc, &inputs)?;
+    let (question, _) = text_and_instant(alloc, text)?;
+    let alike = compared(alloc, &inputs, question)?;
     let (starts, items) = (alike.starts, alike.items);
     let text = format!(in alloc; "ok: {starts} starts, {items} items")?;
     Ok(text.into_bytes())
@@ -252,13 +263,14 @@ pub fn of_alike(alloc: Global, over: Over<'_>, text: &[u8]) -> Result<Vec<u8>, P
 
 /// Compares the plan of a question with the judge that looks at whole choices, and with the plan
 /// that is made out of that of another question.
-fn compared(alloc: Global, inputs: &AcceptedInputs) -> Result<Alike, Problem> {
-    let universe = &inputs.universe;
-    let plan = Plan::new(alloc, universe, &inputs.world, &inputs.question)?;
-    let other = Plan::new(alloc, universe, &inputs.world, &Question::Silenced)?;
+fn compared(alloc: Global, inputs: &AcceptedInputs, question: &str) -> Result<Alike, Problem> {
+    let universe = inputs.space.universe();
+    let plan = Plan::new(alloc, &inputs.space, &inputs.world, &inputs.question)?;
+    let other = Plan::new(alloc, &inputs.space, &inputs.world, &Question::Silenced)?;
     let other = other.about(alloc, &inputs.question)?;
     compare_verdicts(alloc, universe, &other, &plan)?;
-    let whole = Whole::new(alloc, universe, &inputs.world, &inputs.question)?;
+    let question = asked_of_whole(alloc, question, inputs)?;
+    let whole = Whole::new(alloc, universe, &inputs.world, &question)?;
     compare(alloc, universe, &plan, &whole)
 }
 
@@ -271,13 +283,14 @@ struct Sum {
 }
 
 /// What the worlds of some seeds come to. The text is the first seed, a blank, and how many there
-/// are.
+/// are; and ` impossible` behind it, where some label sets are to be impossible.
 pub fn of_generated(alloc: Global, text: &[u8]) -> Result<Vec<u8>, Problem> {
+    let (text, has_impossible) = with_impossible(text);
     let (seed, count) = seeds_of(alloc, text)?;
     let mut sum = Sum { mixed: 0, items: 0 };
     for i in 0..count {
         let seed = seed.wrapping_add(i);
-        match compared_at(alloc, seed) {
+        match compared_at(alloc, seed, has_impossible) {
             Ok(alike) => add_alike(&alike, &mut sum),
             Err(problem) => return Err(of_seed(alloc, seed, problem)),
         }
@@ -287,6 +300,27 @@ pub fn of_generated(alloc: Global, text: &[u8]) -> Result<Vec<u8>, Problem> {
     let rest = format!(in alloc; ", {items} items")?;
     text.push_str(rest.as_str())?;
     Ok(text.into_bytes())
+}
+
+/// A text without the word ` impossible` at its end, and whether it was there.
+pub fn with_impossible(text: &[u8]) -> (&[u8], bool) {
+    match text.strip_suffix(b" impossible") {
+        Some(text) => (text, true),
+        None => (text, false),
+    }
+}
+
+/// The world of a seed, over a universe with impossible label sets where these are wanted.
+pub fn made_world(
+    alloc: Global,
+    seed: u64,
+    has_impossible: bool,
+) -> Result<SmallWorld, AllocError> {
+    if has_impossible {
+        space_of_seed(alloc, seed)
+    } else {
+        world_of_seed(alloc, seed)
+    }
 }
 
 /// A seed, a blank, and a number.
@@ -320,8 +354,8 @@ pub fn of_seed(alloc: Global, seed: u64, problem: Problem) -> Problem {
 }
 
 /// Compares the judges of the world of a seed, whose texts are read as those of files are.
-fn compared_at(alloc: Global, seed: u64) -> Result<Alike, Problem> {
-    let made = world_of_seed(alloc, seed)?;
+fn compared_at(alloc: Global, seed: u64, has_impossible: bool) -> Result<Alike, Problem> {
+    let made = made_world(alloc, seed, has_impossible)?;
     let files = Files {
         config: Some(made.config.as_bytes()),
         silences: Some(made.silences.as_bytes()),
@@ -330,7 +364,7 @@ fn compared_at(alloc: Global, seed: u64) -> Result<Alike, Problem> {
     };
     let universe = made.universe.as_bytes();
     match read_inputs(alloc, universe, &files, made.question.as_str(), &ALL) {
-        Ok(inputs) => compared(alloc, &inputs),
+        Ok(inputs) => compared(alloc, &inputs, made.question.as_str()),
         Err(fault) => Err(refusal(alloc, &fault)),
     }
 }

@@ -17,6 +17,7 @@ mod counted;
 mod coverage;
 mod judges;
 mod pages;
+mod possible;
 mod reports;
 mod script;
 mod silences;

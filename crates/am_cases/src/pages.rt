@@ -273,12 +273,12 @@ fn cut_before(
 
 /// Whether a token is read as this start, and the start is written as the token.
 fn check_token(alloc: Global, over: Over<'_>, token: &str, wanted: Start) -> Result<(), Problem> {
-    let universe = match read_universe(alloc, over.universe) {
-        Ok(universe) => universe,
+    let space = match read_universe(alloc, over.universe) {
+        Ok(space) => space,
         Err(_) => return Err(Problem::Memory),
     };
     let written = token_of(alloc, &wanted)?;
-    match parse_token(token, &universe) {
+    match parse_token(token, space.universe()) {
         Ok(start) if start == wanted && written.as_slice() == token.as_bytes() => Ok(()),
         _ => Err(Problem::about(alloc, "another start", token.as_bytes())),
     }

@@ -10,11 +10,11 @@ use std::alloc::Global;
 
 /// The start that a token says, or the fault. The start has to have just this token.
 pub fn of_token(alloc: Global, universe: &[u8], token: &str) -> Result<Vec<u8>, Problem> {
-    let universe = match read_universe(alloc, universe) {
-        Ok(universe) => universe,
+    let space = match read_universe(alloc, universe) {
+        Ok(space) => space,
         Err(fault) => return fault_behind(alloc, b"", &fault),
     };
-    let start = match parse_token(token, &universe) {
+    let start = match parse_token(token, space.universe()) {
         Ok(start) => start,
         Err(kind) => return fault_behind(alloc, b"", &Fault::of(alloc, kind, Place::Token)),
     };
@@ -52,12 +52,12 @@ pub fn of_cube(alloc: Global, universe: &[u8], text: &[u8]) -> Result<Vec<u8>, P
     let Some((list, positions)) = split_at_last(text, b" on ") else {
         return Err(Problem::said(alloc, "a list, ` on ` and positions are wanted"));
     };
-    let universe = match read_universe(alloc, universe) {
-        Ok(universe) => universe,
+    let space = match read_universe(alloc, universe) {
+        Ok(space) => space,
         Err(fault) => return fault_behind(alloc, b"", &fault),
     };
     match parse_matchers(alloc, utf8(alloc, list)?) {
-        Ok(list) => cube_text(alloc, &universe, &list, utf8(alloc, positions)?),
+        Ok(list) => cube_text(alloc, space.universe(), &list, utf8(alloc, positions)?),
         Err(kind) => refused(alloc, kind),
     }
 }
@@ -65,7 +65,7 @@ pub fn of_cube(alloc: Global, universe: &[u8], text: &[u8]) -> Result<Vec<u8>, P
 /// What a search over a judge that is written here gives and judges.
 pub fn of_search(alloc: Global, universe: &[u8], text: &[u8]) -> Result<Vec<u8>, Problem> {
     match read_universe(alloc, universe) {
-        Ok(universe) => search_text(alloc, &universe, text),
+        Ok(space) => search_text(alloc, space.universe(), text),
         Err(fault) => fault_behind(alloc, b"", &fault),
     }
 }
