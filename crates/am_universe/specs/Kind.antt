@@ -6,10 +6,10 @@ use Rattle.am_universe.specs.declared.kind.Kind.TheVariants.{BadMatcher, Pattern
 use Rattle.am_universe.specs.declared.kind.Kind.TheVariants.{Duplicate, Empty, UndefinedReceiver}
 use Rattle.am_universe.specs.declared.kind.Kind.TheVariants.{RootMatchers, BadTime, Limit}
 use Rattle.am_universe.specs.declared.kind.Kind.TheVariants.{QuestionSyntax, UnknownReceiver}
-use Rattle.am_universe.specs.declared.kind.Kind.TheVariants.{UnknownRoute, BadToken, NeedAt}
-use Rattle.am_universe.specs.declared.kind.Kind.TheVariants.{Write, Memory, Read}
+use Rattle.am_universe.specs.declared.kind.Kind.TheVariants.{UnknownRoute, BadToken, OtherInputs}
+use Rattle.am_universe.specs.declared.kind.Kind.TheVariants.{NeedAt, Write, Memory, Read}
 
--- The number of a kind, 1 to 20.
+-- The number of a kind, 1 to 21.
 abbrev pub kind_number : Kind → ℕ
 kind_number NotJson = 1
 kind_number Shape = 2
@@ -31,6 +31,7 @@ kind_number NeedAt = 17
 kind_number Write = 18
 kind_number Memory = 19
 kind_number Read = 20
+kind_number OtherInputs = 21
 
 -- The word for a kind that the program prints.
 abbrev pub kind_text : Kind → List ℕ
@@ -50,6 +51,7 @@ kind_text QuestionSyntax = codes "question-syntax"
 kind_text UnknownReceiver = codes "unknown-receiver"
 kind_text UnknownRoute = codes "unknown-route"
 kind_text BadToken = codes "bad-token"
+kind_text OtherInputs = codes "other-inputs"
 kind_text NeedAt = codes "need-at"
 kind_text Write = codes "write"
 kind_text Memory = codes "memory"

@@ -5,7 +5,7 @@ use crate::limits::MAX_POSITIONS;
 use std::marker::Model;
 
 /// A position among the values of a label. Positions count from 0.
-pub type Position = u8;
+pub type Position = u16;
 
 /// A list of at most [`MAX_POSITIONS`] positions, one for each label of a universe: a whole choice,
 /// or a prefix of one.
@@ -61,6 +61,8 @@ impl Choice {
         requires { i < length self.now }
         ensures position { result ≡ slice_index self.now i }
     {
+        // What `len` promises tells the proof that the place of the cell fits.
+        prove!(self.len() <= MAX_POSITIONS);
         self.positions[i]
     }
 

@@ -40,6 +40,8 @@ pub enum Kind {
     UnknownRoute,
     /// The token is not one of this universe.
     BadToken,
+    /// The token was made from other inputs.
+    OtherInputs,
     /// Silences were handed in without an instant.
     NeedAt,
     /// The writer failed, or took nothing.
@@ -51,7 +53,7 @@ pub enum Kind {
 }
 
 impl Kind {
-    /// The number of the kind, 1 to 20.
+    /// The number of the kind, 1 to 21.
     pub fn number(self) -> u8
         ensures number { result ≡ kind_number self }
     {
@@ -76,6 +78,7 @@ impl Kind {
             Kind::Write => 18,
             Kind::Memory => 19,
             Kind::Read => 20,
+            Kind::OtherInputs => 21,
         }
     }
 
@@ -100,6 +103,7 @@ impl Kind {
             Kind::UnknownReceiver => "unknown-receiver",
             Kind::UnknownRoute => "unknown-route",
             Kind::BadToken => "bad-token",
+            Kind::OtherInputs => "other-inputs",
             Kind::NeedAt => "need-at",
             Kind::Write => "write",
             Kind::Memory => "memory",

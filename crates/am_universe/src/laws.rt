@@ -13,7 +13,7 @@ ghost use Rattle.am_universe.specs.Words.{choices, IsWhole, value_of, value_at, 
 /// How much there may be: labels of a universe, values of a label, positions of a choice.
 pub fn limits_of_universes()
     ensures labels { MAX_LABELS ≡ 64 }
-    ensures values { MAX_VALUES ≡ 128 }
+    ensures values { MAX_VALUES ≡ 1024 }
     ensures positions { MAX_POSITIONS ≡ 64 }
 {}
 
