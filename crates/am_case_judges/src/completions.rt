@@ -2,7 +2,7 @@
 
 use am_search::Verdict;
 use am_universe::limits::MAX_POSITIONS;
-use am_universe::{Choice, Universe};
+use am_universe::{Choice, Position, Universe};
 
 /// The most completions that are counted.
 const MOST_COUNTED: usize = 100_000;
@@ -26,7 +26,7 @@ pub fn completion(universe: &Universe, prefix: &Choice, number: usize) -> Choice
     for i in prefix.len()..universe.len() {
         let size = universe.size(i);
         if choice.len() < MAX_POSITIONS {
-            choice.push((rest % size) as u8);
+            choice.push((rest % size) as Position);
         }
         rest /= size;
     }

@@ -13,7 +13,8 @@ pub fn prefix_of(alloc: Global, universe: &Universe, positions: &str) -> Result<
     ensures { IfOk result (λ prefix. IsTrue (admits (sizes universe.now) prefix)) }
 {
     let token = format!(in alloc; "s1:{positions}")?;
-    let Ok(start) = parse_token(token.as_str(), universe) else {
+    // A token of this form is read whatever the fingerprint.
+    let Ok(start) = parse_token(token.as_str(), universe, &[0; 16]) else {
         return Err(Problem::about(alloc, "no prefix", positions.as_bytes()));
     };
     match start {

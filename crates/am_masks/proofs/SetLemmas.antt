@@ -1,8 +1,8 @@
 -- Sets of lists, bit by bit.
-use Rattle.std.proofs.Common.{◌≡◌, ℕ, ◌+◌, ◌-◌, ◌*◌, ◌/◌, ◌%◌, ◌^◌, ◌<◌, ◌≤◌, min, Bool, true, false, nat_eq, bit_and, bit_or, refl, ap, sym, ◌∙◌, inl, inr, arith}
-use Rattle.std.specs.Int.{bit_at, trailing_zeros}
+use Rattle.std.proofs.Common.{◌≡◌, ◌≢◌, ℕ, ◌-◌, ◌*◌, ◌%◌, ◌^◌, ◌<◌, ◌≤◌, min, Bool, true, false, nat_eq, bit_and, bit_or, ap, sym, ◌∙◌, inl, inr, arith}
+use Rattle.std.specs.Int.{bit_at, bit_not, trailing_zeros}
 use Rattle.std.proofs.lemmas.Bool.{cases_eq, cases_lt, eqb-true}
-use Rattle.std.proofs.lemmas.Nat.Bits.{bit_at-zero, bit_at-lt, bit_at_and, bit_at_set_same, bit_at_set_other, ones_shl, bit_at_mask_inside, bit_at_mask_below, bit_at-trailing_zeros}
+use Rattle.std.proofs.lemmas.Nat.Bits.{bit_at-zero, bit_at-lt, bit_at_and, bit_at_set_same, bit_at_set_other, bit_at_clear_other, bit_at_ones, ones_shl, bit_at_mask_inside, bit_at_mask_below, bit_at-trailing_zeros}
 use Rattle.std.proofs.lemmas.Nat.{and_le_r}
 use mir.Syntax.{w128}
 use Rattle.am_masks.specs.declared.list_set.TheConstants.{ROOM}
@@ -11,7 +11,7 @@ use Rattle.am_masks.specs.declared.list_set.TheConstants.{ROOM}
 abbrev pub is_in : ℕ → ℕ → Bool
 is_in bits k = nat_eq (bit_at bits k) 1
 
--- ---- One more list, and the lists of two sets.
+-- ---- One more list, or one less, and the lists of two sets.
 
 abbrev pub with_bit : ℕ → ℕ → ℕ
 with_bit bits k = bit_or bits (1 * 2 ^ k % 2 ^ ROOM)
@@ -24,6 +24,12 @@ kept_in bits k i h e = elim (cases_eq i k) [
   | inl same ↦ ap (λ j. is_in (with_bit bits k) j) same ∙ inserted bits k h
   | inr other ↦ ap (λ b. nat_eq b 1) (bit_at_set_other w128 bits k h i other) ∙ e
 ]
+
+pub in_all : (k : ℕ) → k < ROOM → is_in (2 ^ ROOM - 1) k ≡ true
+in_all k h = ap (λ b. nat_eq b 1) (bit_at_ones ROOM k h)
+
+pub still_in : (bits k i : ℕ) → k < ROOM → i < ROOM → i ≢ k → is_in bits i ≡ true → is_in (bit_and bits (bit_not w128 (1 * 2 ^ k % 2 ^ ROOM))) i ≡ true
+still_in bits k i h within other e = ap (λ b. nat_eq b 1) (bit_at_clear_other w128 bits k h i within other) ∙ e
 
 pub in_both : (a b i : ℕ) → is_in a i ≡ true → is_in b i ≡ true → is_in (bit_and a b) i ≡ true
 in_both a b i e f =

@@ -5,7 +5,7 @@ use Rattle.std.specs.Prelude.{slice_get, slice_index_or, Some}
 use Rattle.std.specs.List.{list_all}
 use Rattle.am_masks.specs.declared.block.Block.{Block}
 use Rattle.am_masks.specs.declared.block.Feature.{Feature}
-use Rattle.am_masks.specs.declared.block.Feature.TheVariants.{Matched, Within, Permits}
+use Rattle.am_masks.specs.declared.block.Feature.TheVariants.{Matched, Within}
 use Rattle.am_masks.specs.declared.block.LabelRows.{LabelRows}
 use Rattle.am_masks.specs.declared.list_set.ListSet.{ListSet}
 use Rattle.am_masks.specs.Cube.{MaskedLabels}
@@ -24,13 +24,17 @@ permits_position cube label position =
 abbrev pub has_feature : Feature → MaskedLabels → Bool
 has_feature Matched cube = not cube.empty
 has_feature (Within len) cube = not cube.empty && is_within cube len
-has_feature (Permits label position) cube = permits_position cube label position
 
--- The cube at a place is in the row of each position that it permits.
+-- The cube at a place is in the row of a position, where there is one.
+abbrev pub IsInRow : List ListSet → ℕ → ℕ → Type 0
+IsInRow rows position k =
+    (row : ListSet) → slice_get rows position ≡ Some row → IsTrue (has row k)
+
+-- It is in the row of each position that it permits.
 abbrev pub IsInRows : ℕ → MaskedLabels → LabelRows → Type 0
 IsInRows k cube rows =
-    (position : ℕ) (row : ListSet) → slice_get rows.rows.items position ≡ Some row
-    → IsTrue (permits_position cube rows.label position) → IsTrue (has row k)
+    (position : ℕ) → IsTrue (permits_position cube rows.label position)
+    → IsInRow rows.rows.items position k
 
 -- It is in the set of each number of labels that is not below all of its masks.
 abbrev pub AreWithin : ℕ → MaskedLabels → List ListSet → Type 0

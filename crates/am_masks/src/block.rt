@@ -1,13 +1,16 @@
 //! A few cubes side by side, of which it is asked at once which may pass.
 
-ghost use Rattle.std.specs.Prelude.{◌≡◌, ℕ, ◌<◌, ◌≤◌, length, slice_get, Some, IfOk, IsTrue};
+ghost use Rattle.std.specs.Prelude.{◌≡◌, ℕ, ◌<◌, ◌≤◌, length, slice_get, slice_index_or};
+ghost use Rattle.std.specs.Prelude.{Some, IfOk, IsTrue, false};
 ghost use Rattle.am_masks.specs.ListSetView.{has};
 ghost use Rattle.am_masks.specs.Modality.{passes};
 ghost use Rattle.am_masks.specs.Cube.{MaskedLabels, verdict_at, may_at};
-ghost use Rattle.am_masks.specs.BlockView.{has_feature, IsAt, IsInRows, AreInRows, AreWithin};
+ghost use Rattle.am_masks.specs.BlockView.{has_feature, IsAt, IsInRow, IsInRows, AreInRows};
+ghost use Rattle.am_masks.specs.BlockView.{AreWithin};
 
 use crate::cube::Cube;
 use crate::list_set::{ListSet, ROOM};
+use crate::mask::Mask;
 use crate::modality::Modality;
 use am_labels::{Choice, Universe};
 use std::alloc::{AllocError, Global};
@@ -19,8 +22,6 @@ enum Feature {
     Matched,
     /// The labels that have a mask are among so many first ones.
     Within(usize),
-    /// A position of a label is permitted.
-    Permits { label: usize, position: usize },
 }
 
 impl Feature {
@@ -31,7 +32,6 @@ impl Feature {
         match self {
             Feature::Matched => !cube.is_empty(),
             Feature::Within(len) => !cube.is_empty() && cube.is_within(len),
-            Feature::Permits { label, position } => cube.permits(label, position),
         }
     }
 
@@ -60,14 +60,18 @@ struct LabelRows {
 
 impl LabelRows {
     /// The rows of a label of some size. An `Err` only where memory was refused.
+    ///
+    /// A cube without a mask of the label stays in each row, so only the masks are gone through.
     fn of(alloc: Global, cubes: &[Cube], label: usize, size: usize) -> Result<LabelRows, AllocError>
         requires { length cubes.now ≤ ROOM }
         ensures { IfOk result (λ rows. (k : ℕ) (cube : MaskedLabels)
             → slice_get cubes.now k ≡ Some cube → IsInRows k cube rows) }
     {
-        let mut rows = Vec::with_capacity(alloc, size)?;
-        for position in 0..size {
-            rows.push(Feature::Permits { label, position }.places(cubes))?;
+        let mut rows = rows_of_all(alloc, size)?;
+        for k in 0..cubes.len() {
+            if let Some(mask) = cubes[k].mask_of(label) {
+                take_out(&mut rows, k, mask);
+            }
         }
         Ok(LabelRows { label, rows })
     }
@@ -186,4 +190,29 @@ fn rows_of_labels(
         }
     }
     Ok(labels)
+}
+
+/// So many rows, each of which has every cube.
+fn rows_of_all(alloc: Global, size: usize) -> Result<Vec<ListSet>, AllocError>
+    ensures { IfOk result (λ rows. (position k : ℕ) → k < ROOM → IsInRow rows.items position k) }
+{
+    let mut rows = Vec::with_capacity(alloc, size)?;
+    for _ in 0..size {
+        rows.push(ListSet::all())?;
+    }
+    Ok(rows)
+}
+
+/// Takes the cube at a place out of the rows of the positions that its mask does not permit.
+fn take_out(rows: &mut Vec<ListSet>, place: usize, mask: &Mask)
+    requires { place < ROOM }
+    ensures { (position k : ℕ) → k < ROOM
+        → (k ≡ place → IsTrue (slice_index_or mask.now position false))
+        → IsInRow rows.old.items position k → IsInRow rows.new.items position k }
+{
+    for position in 0..rows.len() {
+        if !mask.contains(position) {
+            rows[position].remove(place);
+        }
+    }
 }

@@ -1,5 +1,5 @@
 ghost use Rattle.std.specs.Prelude.{◌≡◌, ◌<◌, ℕ, List, map, false, not, IfOk, IfErr, OnOk, OnErr};
-ghost use Rattle.std.specs.Prelude.{IfSome, IfNone, IsTrue};
+ghost use Rattle.std.specs.Prelude.{slice_index_or, IfSome, IfNone, IsTrue};
 ghost use Rattle.std.specs.List.{list_any, AllByRecursion};
 ghost use Rattle.am_masks.specs.Rows.{is_never_true, is_any_of};
 ghost use Rattle.am_search.specs.declared.verdict.Verdict.TheVariants.{Yes, No};
@@ -127,13 +127,18 @@ impl Cube {
         self.reach <= len
     }
 
-    /// Whether a position of a label is permitted.
-    pub(crate) fn permits(&self, label: usize, position: usize) -> bool
-        ensures { result ≡ permits_position self.now label position }
+    /// The mask of a label, if it has one: where the cube permits a position, the mask does.
+    pub(crate) fn mask_of(&self, label: usize) -> Option<&Mask>
+        ensures { IfSome result (λ mask. (position : ℕ)
+            → IsTrue (permits_position self.now label position)
+            → IsTrue (slice_index_or mask.now position false)) }
     {
-        self.masks
-            .iter()
-            .all(|m| m.label != label || m.mask.contains(position))
+        for m in &self.masks {
+            if m.label == label {
+                return Some(&m.mask);
+            }
+        }
+        None
     }
 
     /// Whether a label has a mask.

@@ -1,6 +1,6 @@
 //! Sets of a few lists.
 
-ghost use Rattle.std.specs.Prelude.{◌≡◌, ℕ, ◌<◌, ◌≤◌, IfSome, IfNone, IsTrue, true, false};
+ghost use Rattle.std.specs.Prelude.{◌≡◌, ◌≢◌, ℕ, ◌<◌, ◌≤◌, IfSome, IfNone, IsTrue, true, false};
 ghost use Rattle.am_masks.specs.ListSetView.{has};
 
 /// How many lists a set has room for.
@@ -19,6 +19,13 @@ impl ListSet {
         ListSet { bits: 0 }
     }
 
+    /// The set of all lists for which there is room.
+    pub(crate) fn all() -> ListSet
+        ensures all { (k : ℕ) → k < ROOM → IsTrue (has result k) }
+    {
+        ListSet { bits: u128::MAX }
+    }
+
     /// Puts in the list at a place.
     pub(crate) fn insert(&mut self, place: usize)
         requires { place < ROOM }
@@ -26,6 +33,15 @@ impl ListSet {
         ensures others { (k : ℕ) → IsTrue (has self.old k) → IsTrue (has self.new k) }
     {
         self.bits |= 1u128 << place;
+    }
+
+    /// Takes out the list at a place.
+    pub(crate) fn remove(&mut self, place: usize)
+        requires { place < ROOM }
+        ensures others { (k : ℕ) → k < ROOM → k ≢ place
+            → IsTrue (has self.old k) → IsTrue (has self.new k) }
+    {
+        self.bits &= !(1u128 << place);
     }
 
     /// The lists that are in both sets.

@@ -1,33 +1,35 @@
-ghost use Rattle.std.specs.Prelude.{◌≡◌, ℕ, ◌<◌, ◌≤◌, ◌++◌, ◌&&◌, false, length, Some};
-ghost use Rattle.std.specs.Prelude.{slice_index_or, nat_lt, IfOk, IfSome, IsTrue, All};
+ghost use Rattle.std.specs.Prelude.{◌≡◌, ◌≢◌, ℕ, ◌+◌, ◌-◌, ◌*◌, ◌^◌, ◌<◌, ◌≤◌, ◌++◌, ◌∷◌, ◌&&◌};
+ghost use Rattle.std.specs.Prelude.{false, length, min, slice_index, slice_index_or, nat_lt};
+ghost use Rattle.std.specs.Prelude.{Some, IfOk, IfSome, IsTrue, All};
 ghost use Rattle.am_labels.specs.Words.{truth_at};
 ghost use Rattle.am_masks.specs.Rows.{all_allow};
 ghost use Rattle.am_masks.specs.CubeView.{permits_none, permits_all};
 
 use am_labels::Row;
 use am_universe::Position;
-use am_universe::limits::MAX_VALUES;
 use std::alloc::{AllocError, Global};
 use std::marker::Model;
 
-/// How many positions a mask has room for.
-const ROOM: usize = 128;
-
-const _: () = prove!(MAX_VALUES <= ROOM);
+/// How many positions a word has room for.
+const WORD: usize = 64;
 
 /// Which positions of a label are permitted. How they are kept is known in this file alone.
 #[derive(Drop)]
 pub(crate) struct Mask {
-    bits: u128,
+    /// The bits of the first positions. They stand in the mask itself, since most labels have no
+    /// more: such a mask takes no memory, and is read at once.
+    first: u64,
+    /// The words behind the first, as many as the label's size needs.
+    more: Vec<u64>,
 }
 
 impl Model for Mask {
-    ghost use Rattle.std.specs.Prelude.{List, Bool};
+    ghost use Rattle.std.specs.Prelude.{List, ◌∷◌, Bool};
     ghost use Rattle.am_masks.specs.MaskView.{permitted_of};
 
     ghost Value = { List Bool };
 
-    ghost view = { λ m. permitted_of m.bits };
+    ghost view = { λ m. permitted_of (m.first ∷ m.more.items) };
 }
 
 impl Mask {
@@ -40,7 +42,6 @@ impl Mask {
         label: usize,
         size: usize,
     ) -> Result<Mask, AllocError>
-        requires size { size ≤ MAX_VALUES }
         requires rows { All (λ row. row.label ≡ Some label → length row.truths ≡ size) rows.now }
         requires more { All (λ row. row.label ≡ Some label → length row.truths ≡ size) more.now }
         ensures permitted { IfOk result (λ mask. (j : ℕ) → j < size
@@ -52,23 +53,18 @@ impl Mask {
         Ok(mask)
     }
 
-    /// All positions of a label of this size. The bits stand in the mask itself, so no memory is
-    /// taken; callers hand in the allocator all the same, and allow for an `Err`.
-    fn full(_alloc: Global, size: usize) -> Result<Mask, AllocError>
-        requires { size ≤ MAX_VALUES }
+    /// All positions of a label of this size. An `Err` only where memory was refused.
+    fn full(alloc: Global, size: usize) -> Result<Mask, AllocError>
         ensures { IfOk result (λ mask. (j : ℕ) → slice_index_or mask j false ≡ nat_lt j size) }
     {
-        let bits = if size == 0 {
-            0
-        } else {
-            u128::MAX >> (ROOM - size)
-        };
-        Ok(Mask { bits })
+        Ok(Mask {
+            first: ones(size),
+            more: words_behind_first(alloc, size)?,
+        })
     }
 
     /// Takes out the positions of a label of this size at which some row of that label is false.
     fn narrow_by_rows(&mut self, rows: &[Row], label: usize, size: usize)
-        requires size { size ≤ MAX_VALUES }
         requires rows { All (λ row. row.label ≡ Some label → length row.truths ≡ size) rows.now }
         ensures permitted { (j : ℕ) → j < size → slice_index_or self.new j false
             ≡ (slice_index_or self.old j false && all_allow rows.now label j) }
@@ -82,15 +78,29 @@ impl Mask {
 
     /// Takes out the positions below a size at which a row is false.
     fn narrow(&mut self, row: &Row, size: usize)
-        requires size { size ≤ MAX_VALUES }
         requires row { IfSome row.now.label (λ _. size ≤ length row.now.truths) }
         ensures permitted { (j : ℕ) → j < size → slice_index_or self.new j false
             ≡ (slice_index_or self.old j false && truth_at row.now j) }
     {
         for j in 0..size {
             if !row.holds(j) {
-                self.bits &= !(1u128 << j);
+                self.take_out(j);
             }
+        }
+    }
+
+    /// Takes out a position.
+    fn take_out(&mut self, j: usize)
+        ensures gone { slice_index_or self.new j false ≡ false }
+        ensures others { (k : ℕ) → k ≢ j
+            → slice_index_or self.new k false ≡ slice_index_or self.old k false }
+    {
+        let others = !(1u64 << (j % WORD));
+        let i = j / WORD;
+        if i == 0 {
+            self.first &= others;
+        } else if i <= self.more.len() {
+            self.more[i - 1] &= others;
         }
     }
 
@@ -105,7 +115,7 @@ impl Mask {
     pub(crate) fn is_same(&self, other: &Mask) -> bool
         ensures same { IsTrue result → self.now ≡ other.now }
     {
-        self.bits == other.bits
+        self.first == other.first && self.more == other.more
     }
 
     /// Whether no position of a label of this size is permitted.
@@ -122,10 +132,47 @@ impl Mask {
         (0..size).all(|j| self.contains(j))
     }
 
-    /// Whether the position `j` is permitted. One for which there is no room is not.
+    /// Whether the position `j` is permitted. One for which there is no word is not.
     pub(crate) fn contains(&self, j: usize) -> bool
         ensures { result ≡ slice_index_or self.now j false }
     {
-        j < ROOM && (self.bits >> j) & 1 == 1
+        (word_at(self.first, self.more.as_slice(), j / WORD) >> (j % WORD)) & 1 == 1
+    }
+}
+
+/// The word at `i`, of a first one and of those behind it; past the last a word without bits.
+fn word_at(first: u64, more: &[u64], i: usize) -> u64
+    ensures { result ≡ slice_index (first ∷ more.now) i }
+{
+    if i == 0 {
+        return first;
+    }
+    match more.get(i - 1) {
+        Some(word) => *word,
+        None => 0,
+    }
+}
+
+/// The words behind the first of all positions of a label of this size.
+fn words_behind_first(alloc: Global, size: usize) -> Result<Vec<u64>, AllocError>
+    ensures { IfOk result (λ words. (i : ℕ)
+        → slice_index words.items i ≡ 2 ^ min (size - WORD * (i + 1)) WORD - 1) }
+{
+    let count = size.saturating_sub(1) / WORD;
+    let mut words = Vec::with_capacity(alloc, count)?;
+    for i in 0..count {
+        words.push(ones(size - WORD * (i + 1)))?;
+    }
+    Ok(words)
+}
+
+/// A word with so many bits at its front, or with all that it has room for.
+fn ones(count: usize) -> u64
+    ensures { result ≡ 2 ^ min count WORD - 1 }
+{
+    if count < WORD {
+        (1u64 << count) - 1
+    } else {
+        u64::MAX
     }
 }

@@ -1,4 +1,4 @@
-use Rattle.std.proofs.Common.{◌≡◌, ℕ, length, get_or, refl, sym, ap, ◌∙◌, subst, IsTrue, arith}
+use Rattle.std.proofs.Common.{◌≡◌, length, get_or, sym, ◌∙◌, subst, IsTrue, arith}
 use Rattle.std.proofs.lemmas.Option.{slice_get_read}
 use Rattle.am_masks.specs.BlockView.{permits_position}
 use Rattle.am_masks.proofs.BlockLemmas.{permits_prefix}
@@ -13,4 +13,4 @@ returns c = λ k cube there may here.
     let row = slice_get_read rows.rows.items c.len-2.result position c.index.result.now count c.if-position-len.false c.index.ensures in
     let permits = permits_prefix cube c.args.prefix.now rows.label (omega (arith, c.if-self-len.false, c.len.ensures.len)) may in
     c.and.ensures.both k here
-    (there position c.index.result.now row (subst (λ p. IsTrue (permits_position cube rows.label p)) (sym is) permits))
+    (there position (subst (λ p. IsTrue (permits_position cube rows.label p)) (sym is) permits) c.index.result.now row)

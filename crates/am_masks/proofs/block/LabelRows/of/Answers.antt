@@ -1,21 +1,22 @@
-use Rattle.std.proofs.Common.{◌+◌, ◌++◌, ◌∷◌, [], length, subst, sym, ◌∙◌, ap, IsTrue, arith}
-use Rattle.std.proofs.lemmas.List.{length-append}
-use Rattle.am_masks.specs.ListSetView.{has}
+use Rattle.std.proofs.Common.{◌≡◌, ◌<◌, get_or, sym, ap, subst, ◌∙◌, IsTrue, arith}
+use Rattle.std.proofs.lemmas.Option.{slice_get_within, get_or_from_slice_get}
+use Rattle.am_masks.specs.declared.list_set.TheConstants.{ROOM}
 use Rattle.am_masks.specs.BlockView.{permits_position}
-use Rattle.am_masks.proofs.BlockLemmas.{each_place_pushed}
 use Rattle.am_masks.proofs.block.LabelRows.of.Goals as goal
+use Rattle.am_masks.proofs.block.LabelRows.of.Goals.{in-Some, in_default}
 
-pub loop-position-preserved : goal.loop-position-preserved
-loop-position-preserved c =
-    let rows = c.loop-position.rows.items in
-    let so_far = c.loop-position.invariant in (
-      ap length c.in_ok-push.ensures.items ∙ length-append rows (c.places.result ∷ []) ∙ ap (λ n. n + 1) so_far.0,
-      λ k cube at.
-          rw c.in_ok-push.ensures.items
-          (each_place_pushed (λ position row. IsTrue (permits_position cube c.args.label position) → IsTrue (has row k))
-          rows c.places.result (so_far.1 k cube at)
-          (λ permits. c.places.ensures k cube at (subst (λ position. IsTrue (permits_position cube c.args.label position)) so_far.0 permits))),
-    )
-
-pub returns : goal.returns
-returns c = λ k cube at. c.loop-position.invariant.1 k cube at
+pub loop-k-preserved : goal.loop-k-preserved
+loop-k-preserved c = λ i cube at position permits.
+    let cubes = c.args.cubes.now in
+    let here = c.index-cubes-k.result in
+    let room : i < ROOM = omega (arith, slice_get_within cubes i cube at, c.requires) in
+    let so_far = c.loop-k.invariant i cube at position permits in
+    elim c.match-mask_of.branch [
+      | in-Some w ↦ rw w.rows-is
+          (w.take_out.ensures position i room
+          (λ same.
+          let is : here ≡ cube = c.index-cubes-k.is ∙ ap (λ n. get_or cubes n here) (sym same) ∙ get_or_from_slice_get cubes i cube here at in
+          w.in-Some.ensures position (subst (λ x. IsTrue (permits_position x c.args.label position)) (sym is) permits))
+          so_far)
+      | in_default w ↦ rw w.rows-is so_far
+    ]

@@ -1,13 +1,10 @@
-use Rattle.std.proofs.Common.{false, get_or, ap, sym, ◌∙◌}
-use Rattle.std.proofs.lemmas.Bool.{le-ltb}
-use Rattle.am_masks.proofs.BitLemmas.{tested, permitted_past}
-use Rattle.am_masks.specs.declared.mask.TheConstants.{ROOM}
+use Rattle.std.proofs.Common.{◌/◌, ◌∷◌, false, get_or, ap, ◌∙◌}
+use Rattle.am_masks.specs.declared.mask.TheConstants.{WORD}
+use Rattle.am_masks.proofs.BitLemmas.{tested}
 use Rattle.am_masks.proofs.mask.Mask.contains.Goals as goal
 
-pub returns-then-j-lt-ROOM : goal.returns-then-j-lt-ROOM
-returns-then-j-lt-ROOM c = tested c.self.inside.bits c.args.j c.if-j-lt-ROOM.true ∙ ap (λ p. get_or p c.args.j false) c.self.view_is
-
-pub returns-else-j-lt-ROOM : goal.returns-else-j-lt-ROOM
-returns-else-j-lt-ROOM c =
-    le-ltb c.args.j ROOM c.if-j-lt-ROOM.false
-    ∙ sym (permitted_past c.self.inside.bits c.args.j c.if-j-lt-ROOM.false) ∙ ap (λ p. get_or p c.args.j false) c.self.view_is
+pub returns : goal.returns
+returns c =
+    let inside = c.self.inside in
+    let word = c.word_at.ensures ∙ ap (λ more. get_or (inside.first ∷ more) (c.args.j / WORD) 0) c.as_slice.ensures.value in
+    tested (inside.first ∷ inside.more.items) c.args.j c.word_at.result word ∙ ap (λ p. get_or p c.args.j false) c.self.view_is

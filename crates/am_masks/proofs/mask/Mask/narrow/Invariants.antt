@@ -3,4 +3,4 @@ use Rattle.am_masks.proofs.BitLemmas.{IsNarrowed}
 use Rattle.am_masks.proofs.mask.Mask.narrow.Given as goal
 
 abbrev pub invariant-loop-j : goal.invariant-loop-j
-invariant-loop-j l = IsNarrowed (truth_at l.row) l.initial.self-inside.bits l.self-inside.bits l.j
+invariant-loop-j l = IsNarrowed (truth_at l.row) l.initial.self l.self l.j
