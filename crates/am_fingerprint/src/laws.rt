@@ -1,0 +1,31 @@
+//! Facts about the definitions alone: each is the contract of a function with an empty body.
+ghost use Rattle.std.specs.Prelude.{slice_index, ◌<◌};
+ghost use Rattle.std.specs.Prelude.{◌≡◌, ℕ, List, [], ◌∷◌, ◌++◌, length, Option, Some, None, codes};
+ghost use Rattle.am_fingerprint.specs.declared.limits.TheConstants.{FINGERPRINT_BYTES};
+ghost use Rattle.am_fingerprint.specs.Words.{AreParts, joined_parts, fingerprint_of};
+
+/// How long a fingerprint is, and that it is one of bytes.
+pub fn fingerprints_have_a_length()
+    ensures bytes { FINGERPRINT_BYTES ≡ 16 }
+    ensures length { (parts : List (Option (List ℕ)))
+        → length (fingerprint_of parts) ≡ FINGERPRINT_BYTES }
+    ensures below { (parts : List (Option (List ℕ))) (i : ℕ)
+        → slice_index (fingerprint_of parts) i < 256 }
+{}
+
+/// Different parts have different joined bytes: one list of parts has these bytes.
+pub fn one_list_of_parts_has_these_bytes()
+    ensures same_parts { (first second : List (Option (List ℕ))) → AreParts first → AreParts second
+        → joined_parts first ≡ joined_parts second → first ≡ second }
+{}
+
+/// The joined bytes of an example: the universe file `{"labels":[]}` and the question `any`, and
+/// nothing else.
+pub fn an_example_of_joined_parts()
+    ensures joined { joined_parts (Some (codes "{\"labels\":[]}") ∷ None ∷ None ∷ None ∷ None
+        ∷ Some (codes "any") ∷ [])
+        ≡ 1 ∷ 0 ∷ 0 ∷ 0 ∷ 0 ∷ 0 ∷ 0 ∷ 0 ∷ 13 ∷ (codes "{\"labels\":[]}"
+        ++ (0 ∷ 0 ∷ 0 ∷ 0 ∷ 1 ∷ 0 ∷ 0 ∷ 0 ∷ 0 ∷ 0 ∷ 0 ∷ 0 ∷ 3 ∷ codes "any")) }
+    ensures length { length (joined_parts (Some (codes "{\"labels\":[]}") ∷ None ∷ None ∷ None
+        ∷ None ∷ Some (codes "any") ∷ [])) ≡ 38 }
+{}
