@@ -12,6 +12,7 @@ pub mod WalkSteps
 pub mod WalkBudgets
 pub mod Positions
 pub mod TokenTexts
+pub mod TokenForms
 pub mod Pages
 pub mod PageLines
 pub mod LabelBits

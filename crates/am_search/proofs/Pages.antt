@@ -269,23 +269,23 @@ limit_reached ns c truth start n = by (nat_lt n (length xs)) refl
 
 -- ---- Trailers.
 
-pub trailer_next : (c : List ℕ) (start : Start) → start_after (Next c) ≡ Some start
-    → trailer_text (Next c) ≡ codes "# next " ++ (token_text start ++ codes "\n")
-trailer_next c start e =
+pub trailer_next : (fingerprint c : List ℕ) (start : Start) → start_after (Next c) ≡ Some start
+    → trailer_text fingerprint (Next c) ≡ codes "# next " ++ (token_text fingerprint start ++ codes "\n")
+trailer_next fingerprint c start e =
     let same : After c ≡ start = cc in
-    ap (λ s. codes "# next " ++ (token_text s ++ codes "\n")) same
+    ap (λ s. codes "# next " ++ (token_text fingerprint s ++ codes "\n")) same
 
-pub trailer_stopped : (prefix : List ℕ) (start : Start) → start_after (Stopped prefix) ≡ Some start
-    → trailer_text (Stopped prefix) ≡ codes "# stopped " ++ (token_text start ++ codes "\n")
-trailer_stopped prefix start e =
+pub trailer_stopped : (fingerprint prefix : List ℕ) (start : Start) → start_after (Stopped prefix) ≡ Some start
+    → trailer_text fingerprint (Stopped prefix) ≡ codes "# stopped " ++ (token_text fingerprint start ++ codes "\n")
+trailer_stopped fingerprint prefix start e =
     let same : At prefix ≡ start = cc in
-    ap (λ s. codes "# stopped " ++ (token_text s ++ codes "\n")) same
+    ap (λ s. codes "# stopped " ++ (token_text fingerprint s ++ codes "\n")) same
 
-pub trailer_end : (trailer : Trailer) → start_after trailer ≡ None
-    → trailer_text trailer ≡ codes "# end\n"
-trailer_end End e = refl
-trailer_end (Next c) e = absurd (cc)
-trailer_end (Stopped prefix) e = absurd (cc)
+pub trailer_end : (fingerprint : List ℕ) (trailer : Trailer) → start_after trailer ≡ None
+    → trailer_text fingerprint trailer ≡ codes "# end\n"
+trailer_end fingerprint End e = refl
+trailer_end fingerprint (Next c) e = absurd (cc)
+trailer_end fingerprint (Stopped prefix) e = absurd (cc)
 
 -- ---- Pages in a row.
 

@@ -1,6 +1,5 @@
 -- A list of positions read piece by piece, under the sizes of a universe.
-use Rattle.std.proofs.Common.{◌≡◌, ℕ, ◌<◌, ◌≤◌, true, List, [], ◌∷◌, ◌++◌, length, map, slice_index, nat_lt, Option, Some, None, MatchOption, Ok, Bor, sym, ap, subst, ◌∙◌, arith, append-nil, append_assoc, length-append, get_or, drop}
-use Rattle.std.specs.Prelude.{codes, ok_or}
+use Rattle.std.proofs.Common.{◌≡◌, ℕ, ◌<◌, ◌≤◌, true, List, [], ◌∷◌, ◌++◌, length, map, slice_index, nat_lt, Option, Some, None, Bor, sym, ap, ◌∙◌, arith, append-nil, append_assoc, length-append, get_or, drop}
 use Rattle.std.specs.Str.Pattern.{StripsPrefix, FindsTextPrefix}
 use Rattle.std.specs.Iterator.{AlwaysYields}
 use Rattle.std.specs.List.{AllByRecursion, join_with_byte}
@@ -9,16 +8,13 @@ use Rattle.std.proofs.lemmas.Bool.{and_parts}
 use Rattle.std.proofs.lemmas.Bool.Decides.{nat_tests}
 use Rattle.std.proofs.lemmas.List.{map-append}
 use Rattle.std.proofs.lemmas.List.Splits.{join_with_byte-slice_split}
-use Rattle.am_universe.specs.Choice.{admits, IsWhole}
+use Rattle.am_universe.specs.Choice.{admits}
 use Rattle.am_universe.specs.Universe.{Label, IsLabel, IsUniverse, sizes}
 use Rattle.am_universe.specs.declared.limits.TheConstants.{MAX_VALUES}
 use Rattle.am_universe.proofs.CompletionLemmas.{admits_next}
 use Rattle.am_search.specs.Judge.{AreSizes}
-use Rattle.am_search.specs.declared.start.Start.{Start}
-use Rattle.am_search.specs.declared.start.Start.TheVariants.{At, After}
-use Rattle.am_search.specs.Start.{IsStart}
-use Rattle.am_search.specs.Token.{positions_text, token_text}
-use Rattle.am_search.proofs.Positions.{AreSmall, pieces_of, pieces_of_joined, joined-injective}
+use Rattle.am_search.specs.Token.{positions_text}
+use Rattle.am_search.proofs.Positions.{AreSmall, pieces_of, pieces_of_joined}
 use Rattle.std.proofs.lemmas.List.{length-map}
 
 -- ---- The sizes of a universe.
@@ -115,23 +111,6 @@ module _ {S : Type 0} (steps : S → Option (Bor (List ℕ)) → S → Type 0) w
       → admits ns c ≡ true → positions_text c ≡ text → IsAtSeam ns c front piece
   seam ns text front piece c t h some next a e =
       at_seam ns c front piece next.rest h a (sym (pieces_are text c some (small_positions ns c h a) e) ∙ next.all)
-
--- ---- One start a token.
-
-pub same_start : (ns : List ℕ) (s t : Start) → AreSizes ns → IsStart ns s → IsStart ns t → token_text s ≡ token_text t → s ≡ t
-same_start ns (At c) (At d) h a b e = ap At (joined-injective c d (small_positions ns c h.values a) (small_positions ns d h.values b) (ap (drop 3) e))
-same_start ns (At c) (After d) h a b e = absurd (omega (arith, ap (λ t. get_or t 0 0) e))
-same_start ns (After c) (At d) h a b e = absurd (omega (arith, ap (λ t. get_or t 0 0) e))
-same_start ns (After c) (After d) h a b e = ap After (joined-injective c d (small_positions ns c h.values a.0) (small_positions ns d h.values b.0) (ap (drop 3) e))
-
-pub no_token : (ns text : List ℕ) → ((rest : List ℕ) → text ≡ codes "s1:" ++ rest → ⊥) → ((d : List ℕ) → IsWhole ns d → codes "t1:" ++ positions_text d ≡ text → ⊥)
-    → (start : Start) → IsStart ns start → token_text start ≡ text → ⊥
-no_token ns text s t (At prefix) is e = s (positions_text prefix) (sym e)
-no_token ns text s t (After d) is e = t d is e
-
-pub ok_or_gives : {E : Type 0} (N : Type 0) (Q : List ℕ → Type 0) (r : Option (List ℕ)) (k : E) (x : List ℕ) → MatchOption r N Q → ok_or r k ≡ Ok x → Q x
-ok_or_gives N Q None k x h e = cc
-ok_or_gives N Q (Some y) k x h e = let same : y ≡ x = cc in subst Q same h
 
 -- what `strip_prefix` says of a text that it has cut
 pub cut : (prefix text rest : List ℕ) → StripsPrefix (FindsTextPrefix prefix) text rest → text ≡ prefix ++ rest

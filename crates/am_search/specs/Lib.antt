@@ -4,6 +4,7 @@ pub mod ExactJudge
 pub mod Start
 pub mod Page
 pub mod Token
+pub mod TokenParts
 pub mod Visits
 pub mod VisitsExample
 pub mod BudgetPage

@@ -6,11 +6,15 @@ use Rattle.am_search.specs.declared.trailer.Trailer.TheVariants.{End, Next, Stop
 use Rattle.am_search.specs.Token.{token_text}
 
 -- A trailer and its line feed. Where more may follow it has the token of the next page, which
--- begins after the last choice of this one, or at the prefix at which the search stopped.
+-- begins after the last choice of this one, or at the prefix at which the search stopped. The token
+-- is the one that is written for inputs with this fingerprint.
 -- Source: own choice.
--- Example: after the choice 0 12, where more follow, it is `# next t1:0.12`. Where the search
--- stopped at the prefix 0 it is `# stopped s1:0`.
-abbrev pub trailer_text : Trailer → List ℕ
-trailer_text End = codes "# end\n"
-trailer_text (Next c) = codes "# next " ++ (token_text (After c) ++ codes "\n")
-trailer_text (Stopped prefix) = codes "# stopped " ++ (token_text (At prefix) ++ codes "\n")
+-- Example: after the choice 0 12, where more follow, it is `# next t2:`, the 32 digits of the
+-- fingerprint, and `:0.12`. Where the search stopped at the prefix 0 it is `# stopped s2:`, the
+-- digits, and `:0`.
+abbrev pub trailer_text : List ℕ → Trailer → List ℕ
+trailer_text fingerprint End = codes "# end\n"
+trailer_text fingerprint (Next c) =
+    codes "# next " ++ (token_text fingerprint (After c) ++ codes "\n")
+trailer_text fingerprint (Stopped prefix) =
+    codes "# stopped " ++ (token_text fingerprint (At prefix) ++ codes "\n")

@@ -7,7 +7,8 @@ pub use Rattle.am_search.specs.Page.{AnswerPage, page_ending, page_of, page_from
 pub use Rattle.am_search.specs.Page.{start_after, rest_after, IsPage, IsChain, all_choices_of}
 pub use Rattle.am_search.specs.BudgetPage.{stop_of, trailer_at, page_under}
 pub use Rattle.am_search.specs.BudgetPage.{IsEnough, IsSearchPage, IsSearchChain, BeginsLater}
-pub use Rattle.am_search.specs.Token.{token_text}
+pub use Rattle.am_search.specs.Token.{IsFingerprint, token_text, old_token_text}
+pub use Rattle.am_search.specs.Token.{ReadsToken, IsNoToken, IsTokenOfOthers, RefusesToken}
 pub use Rattle.am_search.specs.Visits.{all_prefixes, proper_fronts, is_visited, visited}
 pub use Rattle.am_search.specs.Visits.{completions_from, given_at, given_by}
 pub use Rattle.am_search.specs.Visits.{visited_under, given_under}

@@ -1,5 +1,6 @@
 //! Facts about the definitions alone: each is the contract of a function with an empty body.
 ghost use Rattle.std.specs.Prelude.{◌≡◌, ◌↔◌, ◌<◌, ◌≤◌, ℕ, ◌+◌, ◌*◌, List, [], ◌∷◌, ◌++◌, length};
+ghost use Rattle.std.specs.Prelude.{◌≢◌, ◌⊎◌};
 ghost use Rattle.std.specs.Prelude.{Bool, not, false, Option, Some, None, IfSome, IsTrue, Contains};
 ghost use Rattle.std.specs.Prelude.{codes};
 ghost use Rattle.std.specs.Ordering.{nat_cmp};
@@ -8,6 +9,7 @@ ghost use Rattle.std.specs.List.{filter, sum, AllByRecursion};
 ghost use Rattle.std.specs.List.Sorted.{IsStrictlySortedBy};
 ghost use Rattle.am_universe.specs.Words.{Label, IsUniverse, sizes, admits, choices, IsWhole};
 ghost use Rattle.am_universe.specs.Words.{completions};
+ghost use Rattle.am_universe.specs.declared.kind.Kind.{Kind};
 ghost use Rattle.am_search.specs.declared.labels.Labels.{Labels};
 ghost use Rattle.am_search.specs.declared.start.Start.{Start};
 ghost use Rattle.am_search.specs.declared.start.Start.TheVariants.{At, After};
@@ -16,6 +18,7 @@ ghost use Rattle.am_search.specs.declared.trailer.Trailer.TheVariants.{End, Next
 ghost use Rattle.am_search.specs.Words.{AreSizes, comes_before, IsStart, first_of_start};
 ghost use Rattle.am_search.specs.Words.{choices_from, answers_from, AnswerPage, page_from};
 ghost use Rattle.am_search.specs.Words.{rest_after, IsPage, IsChain, all_choices_of, token_text};
+ghost use Rattle.am_search.specs.Words.{old_token_text, IsFingerprint, ReadsToken, RefusesToken};
 ghost use Rattle.am_search.specs.Words.{start_after, trailer_text};
 ghost use Rattle.am_search.specs.Words.{IsJudge, IsExactJudge, is_yes};
 ghost use Rattle.am_search.specs.Words.{all_prefixes, visited, given_under};
@@ -90,13 +93,15 @@ pub fn a_page_keeps_its_limit()
 /// The text of a trailer behind which a page begins is `# next` or `# stopped` and the token of the
 /// start of that page; that of a trailer behind which none does is `# end`.
 pub fn a_trailer_has_the_token_of_its_start()
-    ensures next { (c : List ℕ) (start : Start) → start_after (Next c) ≡ Some start
-        → trailer_text (Next c) ≡ codes "# next " ++ (token_text start ++ codes "\n") }
-    ensures stopped { (prefix : List ℕ) (start : Start) → start_after (Stopped prefix) ≡ Some start
-        → trailer_text (Stopped prefix)
-        ≡ codes "# stopped " ++ (token_text start ++ codes "\n") }
-    ensures end { (trailer : Trailer) → start_after trailer ≡ None
-        → trailer_text trailer ≡ codes "# end\n" }
+    ensures next { (fingerprint c : List ℕ) (start : Start) → start_after (Next c) ≡ Some start
+        → trailer_text fingerprint (Next c)
+        ≡ codes "# next " ++ (token_text fingerprint start ++ codes "\n") }
+    ensures stopped { (fingerprint prefix : List ℕ) (start : Start)
+        → start_after (Stopped prefix) ≡ Some start
+        → trailer_text fingerprint (Stopped prefix)
+        ≡ codes "# stopped " ++ (token_text fingerprint start ++ codes "\n") }
+    ensures end { (fingerprint : List ℕ) (trailer : Trailer) → start_after trailer ≡ None
+        → trailer_text fingerprint trailer ≡ codes "# end\n" }
 {}
 
 /// A page has the answers from its start on up to the choice of its trailer, that one included, or
@@ -201,10 +206,42 @@ pub fn pages_in_a_row_are_the_answers()
         → IsChain ns truth start pages → all_choices_of pages ≡ answers_from ns truth start }
 {}
 
-/// Two different starts over the same sizes have different tokens.
+/// Two different starts over the same sizes have different tokens, of the old form as of the other,
+/// and a token that is written is made under one fingerprint alone. So a text is read as one start
+/// at most, whatever the inputs.
 pub fn one_start_a_token()
-    ensures same_start { (ns : List ℕ) (s t : Start) → AreSizes ns → IsStart ns s → IsStart ns t
-        → token_text s ≡ token_text t → s ≡ t }
+    ensures old { (ns : List ℕ) (s t : Start) → AreSizes ns → IsStart ns s → IsStart ns t
+        → old_token_text s ≡ old_token_text t → s ≡ t }
+    ensures written { (ns h k : List ℕ) (s t : Start) → AreSizes ns → IsStart ns s → IsStart ns t
+        → IsFingerprint h → IsFingerprint k → token_text h s ≡ token_text k t
+        → (s ≡ t) × (h ≡ k) }
+    ensures same_start { (ns h k text : List ℕ) (s t : Start) → AreSizes ns
+        → IsFingerprint h → IsFingerprint k
+        → ReadsToken ns h text s → ReadsToken ns k text t → s ≡ t }
+{}
+
+/// A start has two tokens for inputs with a fingerprint: the one that is written, and another, that
+/// of the old form. Both are read as the start, and no other text is.
+pub fn two_tokens_a_start()
+    ensures written { (ns fingerprint : List ℕ) (start : Start) → IsStart ns start
+        → ReadsToken ns fingerprint (token_text fingerprint start) start }
+    ensures old { (ns fingerprint : List ℕ) (start : Start) → IsStart ns start
+        → ReadsToken ns fingerprint (old_token_text start) start }
+    ensures no_other { (ns fingerprint text : List ℕ) (start : Start)
+        → ReadsToken ns fingerprint text start
+        → (text ≡ token_text fingerprint start) ⊎ (text ≡ old_token_text start) }
+    ensures different { (fingerprint : List ℕ) (s t : Start)
+        → token_text fingerprint s ≢ old_token_text t }
+{}
+
+/// A text that is read as a start is not refused, and one that is refused is so for one cause.
+pub fn one_answer_a_token()
+    ensures not_refused { (ns fingerprint text : List ℕ) (start : Start) (kind : Kind)
+        → AreSizes ns → IsFingerprint fingerprint → ReadsToken ns fingerprint text start
+        → RefusesToken ns fingerprint text kind → ⊥ }
+    ensures one_cause { (ns fingerprint text : List ℕ) (first second : Kind)
+        → RefusesToken ns fingerprint text first → RefusesToken ns fingerprint text second
+        → first ≡ second }
 {}
 
 /// All prefixes are those that the sizes admit.

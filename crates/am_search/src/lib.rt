@@ -4,8 +4,8 @@
 //! its completions. [`Answers`] are the true choices from a [`Start`] on, in declared order, and
 //! [`first`] is the first of all. Where nothing but the first is wanted, a [`Refuter`] says why no
 //! completion of a prefix is true, and [`first_by_jumps`] skips what fails for the same reason. A
-//! start is written as a token, by which a page says where the
-//! next one begins: [`write_token`] and [`parse_token`].
+//! start is written as a token, by which a page says where the next one begins, and from which
+//! inputs it was made: [`write_token`] and [`parse_token`].
 #![tactic(auto)]
 
 // What a search asks.
@@ -44,6 +44,7 @@ mod page;
 pub use page::Page;
 
 // Starts as texts.
+mod digits;
 mod token;
 
 pub use token::{parse_token, write_token};

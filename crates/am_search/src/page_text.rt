@@ -12,12 +12,14 @@ use am_universe::{Choice, Kind, LineTable, Sink};
 /// Writes a page of the answers that are left: a line for each, up to a limit, and then the
 /// trailer, which is the answer. Where there are more answers than the limit, that is `Next`; else
 /// it says whether the search stopped. The table is that of the universe whose choices the answers
-/// are. The only `Err` is `Kind::Write`, after a part of the page from its front. Each line is
-/// written before the next answer is looked for. No memory is taken.
+/// are. The fingerprint is that of the inputs, and stands in the token of the trailer. The only
+/// `Err` is `Kind::Write`, after a part of the page from its front. Each line is written before the
+/// next answer is looked for. No memory is taken.
 pub fn write_page<J: Judge, W: Sink>(
     table: &mut LineTable,
     answers: &mut Answers<'_, J>,
     limit: Option<u64>,
+    fingerprint: &[u8; 16],
     out: &mut W,
 ) -> Result<Trailer, Kind>
     requires sizes { J.sizes (answers_judge answers.old) ≡ sizes table.old }
@@ -25,10 +27,10 @@ pub fn write_page<J: Judge, W: Sink>(
     ensures trailer { IfOk result (λ trailer.
         trailer ≡ (answers_page answers.old limit).trailer) }
     ensures written { Writes W.taken W.failures out.old out.new
-        (page_text table.old (answers_page answers.old limit)) result }
+        (page_text table.old fingerprint.now (answers_page answers.old limit)) result }
 {
     let trailer = write_lines(table, answers, limit, out)?;
-    write_trailer(&trailer, out)?;
+    write_trailer(&trailer, fingerprint, out)?;
     Ok(trailer)
 }
 

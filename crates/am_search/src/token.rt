@@ -1,36 +1,81 @@
-ghost use Rattle.std.specs.Prelude.{◌≡◌, ◌≢◌, ◌<◌, ◌^◌, ◌++◌, ℕ, List};
-ghost use Rattle.std.specs.Prelude.{IfOk, IfErr, MatchOption, IsTrue};
+ghost use Rattle.std.specs.Prelude.{◌≡◌, ◌≢◌, ◌<◌, ◌^◌, ◌++◌, ℕ, List, Option};
+ghost use Rattle.std.specs.Prelude.{IfOk, IfErr, IfSome, MatchOption, IsTrue, codes};
 ghost use Rattle.std.specs.Fmt.{decimal};
-ghost use Rattle.am_universe.specs.declared.kind.Kind.TheVariants as kinds;
-ghost use Rattle.am_universe.specs.Words.{Writes, sizes, admits};
+ghost use Rattle.hex.specs.Hex.{encode_lower};
+ghost use Rattle.am_universe.specs.Words.{Writes, sizes, admits, IsWhole};
 ghost use Rattle.am_search.specs.declared.start.Start.{Start};
 ghost use Rattle.am_search.specs.Words.{IsStart, token_text};
+ghost use Rattle.am_search.specs.Words.{IsFingerprint, ReadsToken, IsNoToken, RefusesToken};
 ghost use Rattle.am_search.specs.Token.{positions_text};
+ghost use Rattle.am_search.specs.TokenParts.{form_text, spelled_text};
 
 use crate::Start;
+use crate::digits::{digits_of, parse_digits};
 use am_universe::{Choice, Kind, Position, Sink, Universe, put_all, put_str};
 
-/// The start of the universe with this token: `t1:` and the positions of a whole choice, or `s1:`
-/// and those of a prefix, joined by `.`, in decimal with no zero in front.
+/// The start of the universe with this token: `t2:` and the positions of a whole choice, or `s2:`
+/// and those of a prefix, joined by `.`, in decimal with no zero in front. Between stand the digits
+/// of the fingerprint of the inputs that the token was made from, and `:`. A token of the old form,
+/// `t1:` or `s1:` and positions, says nothing of inputs, and is read for all.
 ///
-/// `BadToken` where no start of the universe has this token. No memory is taken.
-pub fn parse_token(text: &str, universe: &Universe) -> Result<Start, Kind>
-    ensures ok { IfOk result (λ start.
-        IsStart (sizes universe.now) start × (token_text start ≡ text.now)) }
-    ensures refused { IfErr result (λ kind. (kind ≡ kinds.BadToken)
-        × ((start : Start) → IsStart (sizes universe.now) start → token_text start ≢ text.now)) }
+/// `BadToken` where the text is no token of the universe, whatever the inputs; `OtherInputs` where
+/// it is one that was written under another fingerprint than this one. No memory is taken.
+pub fn parse_token(text: &str, universe: &Universe, fingerprint: &[u8; 16]) -> Result<Start, Kind>
+    ensures ok { IfOk result (ReadsToken (sizes universe.now) fingerprint.now text.now) }
+    ensures refused { IfErr result (RefusesToken (sizes universe.now) fingerprint.now text.now) }
 {
-    if let Some(positions) = text.strip_prefix("s1:") {
-        let prefix = parse_positions(positions, universe).ok_or(Kind::BadToken)?;
-        return Ok(Start::At(prefix));
+    let (start, made_from) = parse_spelled(text, universe).ok_or(Kind::BadToken)?;
+    match made_from {
+        Some(other) if other != *fingerprint => Err(Kind::OtherInputs),
+        _ => Ok(start),
     }
-    if let Some(positions) = text.strip_prefix("t1:") {
-        let choice = parse_positions(positions, universe).ok_or(Kind::BadToken)?;
-        if choice.len() == universe.len() {
-            return Ok(Start::After(choice));
-        }
+}
+
+/// The start of the universe with this token, and the fingerprint that the token has, if it is not
+/// of the old form.
+fn parse_spelled(text: &str, universe: &Universe) -> Option<(Start, Option<[u8; 16]>)>
+    ensures { MatchOption result (IsNoToken (sizes universe.now) text.now)
+        (λ (start, form). IsStart (sizes universe.now) start × IfSome form IsFingerprint
+        × (spelled_text form start ≡ text.now)) }
+{
+    if let Some(rest) = text.strip_prefix('s') {
+        let (form, positions) = parse_form(rest)?;
+        let prefix = parse_positions(positions, universe)?;
+        return Some((Start::At(prefix), form));
     }
-    Err(Kind::BadToken)
+    let (form, positions) = parse_form(text.strip_prefix('t')?)?;
+    let choice = parse_whole(positions, universe)?;
+    Some((Start::After(choice), form))
+}
+
+/// What stands behind the letter of a token: the fingerprint, if the form is not the old one, and
+/// the text of the positions.
+fn parse_form(text: &str) -> Option<(Option<[u8; 16]>, &str)>
+    ensures { MatchOption result
+        ((form : Option (List ℕ)) (positions : List ℕ) → IfSome form IsFingerprint
+        → form_text form positions ≢ text.now)
+        (λ (form, positions). IfSome form IsFingerprint
+        × (form_text form positions.now ≡ text.now)) }
+{
+    if let Some(positions) = text.strip_prefix("1:") {
+        return Some((None, positions));
+    }
+    let (digits, positions) = text.strip_prefix("2:")?.split_once(':')?;
+    Some((Some(parse_digits(digits)?), positions))
+}
+
+/// The whole choice of these positions that the universe admits, if there is one.
+fn parse_whole(text: &str, universe: &Universe) -> Option<Choice>
+    ensures { MatchOption result
+        ((c : List ℕ) → IsWhole (sizes universe.now) c → positions_text c ≢ text.now)
+        (λ c. IsWhole (sizes universe.now) c × (positions_text c ≡ text.now)) }
+{
+    let choice = parse_positions(text, universe)?;
+    if choice.len() == universe.len() {
+        Some(choice)
+    } else {
+        None
+    }
 }
 
 /// The choice of these positions that the universe admits, if there is one.
@@ -58,7 +103,7 @@ fn parse_positions(text: &str, universe: &Universe) -> Option<Choice>
 
 /// The position that the text is in decimal, if it is one.
 fn parse_position(text: &str) -> Option<Position>
-    ensures { MatchOption result ((n : ℕ) → n < 2 ^ 8 → decimal n ≢ text.now)
+    ensures { MatchOption result ((n : ℕ) → n < 2 ^ 16 → decimal n ≢ text.now)
         (λ position. decimal position ≡ text.now) }
 {
     let Ok(position) = text.parse::<Position>() else {
@@ -72,21 +117,33 @@ fn parse_position(text: &str) -> Option<Position>
     }
 }
 
-/// Writes the token of a start. The only `Err` is `Kind::Write`, after a part of it from its front.
-/// No memory is taken.
-pub fn write_token<W: Sink>(start: &Start, out: &mut W) -> Result<(), Kind>
-    ensures written { Writes W.taken W.failures out.old out.new (token_text start.now) result }
+/// Writes the token of a start, for inputs with this fingerprint. The only `Err` is `Kind::Write`,
+/// after a part of it from its front. No memory is taken.
+pub fn write_token<W: Sink>(start: &Start, fingerprint: &[u8; 16], out: &mut W) -> Result<(), Kind>
+    ensures written { Writes W.taken W.failures out.old out.new
+        (token_text fingerprint.now start.now) result }
 {
     match start {
         Start::At(prefix) => {
-            put_str(out, "s1:")?;
+            put_str(out, "s2:")?;
+            write_digits(fingerprint, out)?;
             write_positions(prefix, out)
         }
         Start::After(choice) => {
-            put_str(out, "t1:")?;
+            put_str(out, "t2:")?;
+            write_digits(fingerprint, out)?;
             write_positions(choice, out)
         }
     }
+}
+
+/// Writes the digits of a fingerprint, and what separates them from the positions.
+fn write_digits<W: Sink>(fingerprint: &[u8; 16], out: &mut W) -> Result<(), Kind>
+    ensures { Writes W.taken W.failures out.old out.new
+        (encode_lower fingerprint.now ++ codes ":") result }
+{
+    put_all(out, digits_of(fingerprint).as_slice())?;
+    put_all(out, b":")
 }
 
 /// Writes positions with a `.` between two.

@@ -6,21 +6,26 @@ use crate::token::write_token;
 use crate::trailer::Trailer;
 use am_universe::{Kind, Sink, put_all};
 
-/// Writes the line of a trailer. The only `Err` is `Kind::Write`, after a part of it from its
-/// front.
-pub fn write_trailer<W: Sink>(trailer: &Trailer, out: &mut W) -> Result<(), Kind>
-    ensures written { Writes W.taken W.failures out.old out.new (trailer_text trailer.now) result }
+/// Writes the line of a trailer, for inputs with this fingerprint. The only `Err` is `Kind::Write`,
+/// after a part of it from its front.
+pub fn write_trailer<W: Sink>(
+    trailer: &Trailer,
+    fingerprint: &[u8; 16],
+    out: &mut W,
+) -> Result<(), Kind>
+    ensures written { Writes W.taken W.failures out.old out.new
+        (trailer_text fingerprint.now trailer.now) result }
 {
     match trailer {
         Trailer::End => put_all(out, b"# end\n"),
         Trailer::Next(choice) => {
             put_all(out, b"# next ")?;
-            write_token(&Start::After(*choice), out)?;
+            write_token(&Start::After(*choice), fingerprint, out)?;
             put_all(out, b"\n")
         }
         Trailer::Stopped(prefix) => {
             put_all(out, b"# stopped ")?;
-            write_token(&Start::At(*prefix), out)?;
+            write_token(&Start::At(*prefix), fingerprint, out)?;
             put_all(out, b"\n")
         }
     }

@@ -8,10 +8,10 @@ returns-in_err-trailer-clause-written g c = fails _ c.from_residual.ensures c.in
 
 pub returns-in_err-write_trailer-clause-written : goal.returns-in_err-write_trailer-clause-written
 returns-in_err-write_trailer-clause-written g c =
-    writes_as (trailer_as _ c.in_ok-trailer.ensures.trailer)
+    writes_as (trailer_as c.args.fingerprint.now _ c.in_ok-trailer.ensures.trailer)
     (c.in_ok-trailer.ensures.written.ok ⟩ writes_as (append-nil _) (fails _ c.from_residual-in_err-write_trailer.ensures c.in_err-write_trailer.ensures.written))
 
 pub returns-clause-written : goal.returns-clause-written
 returns-clause-written g c =
-    writes_as (trailer_as _ c.in_ok-trailer.ensures.trailer)
+    writes_as (trailer_as c.args.fingerprint.now _ c.in_ok-trailer.ensures.trailer)
     (c.in_ok-trailer.ensures.written.ok ⟩ ends _ c.in_ok-write_trailer.ensures.written.ok)
