@@ -1,7 +1,9 @@
 -- The inputs of a question that are accepted have no first fault, but for the patterns that the
 -- engine may refuse.
-use Rattle.std.proofs.Common.{◌≡◌, [], ◌∷◌, ◌++◌, subst}
+use Rattle.std.proofs.Common.{◌≡◌, ℕ, List, [], ◌∷◌, ◌++◌, Option, None, Some, subst}
+use Rattle.am_universe.specs.declared.kind.Kind.{Kind}
 use Rattle.am_universe.specs.declared.kind.Kind.TheVariants as kinds
+use Rattle.am_universe.specs.Universe.{Label, IsUniverse, sizes}
 use Rattle.am_universe.specs.declared.place.Place.{Place}
 use Rattle.am_labels.specs.Space.{Space}
 use Rattle.am_json.specs.Pointer.{Refusal}
@@ -17,10 +19,13 @@ use Rattle.am_eval.proofs.AcceptedInputs.{by_stage, world_accepted, universe_acc
 use Rattle.am_eval.proofs.AcceptedInputs.{one_configuration}
 use Rattle.am_search.specs.declared.start.Start.{Start}
 use Rattle.am_questions.specs.QuestionText.{QuestionRefusedFor}
-use Rattle.am_questions.specs.AskedStart.{AsksStart}
+use Rattle.am_search.proofs.TokenTexts.{sizes_of_universe}
+use Rattle.am_search.proofs.TokenForms.{not_refused}
+use Rattle.am_questions.specs.AskedStart.{AsksStart, StartRefusedFor}
 use Rattle.am_questions.specs.QuestionStages.{QuestionStageRefusedFor, TokenRefusedFor}
 use Rattle.am_questions.specs.QuestionStages.{question_stage, token_stage}
-use Rattle.am_questions.specs.Inputs.{Inputs, AcceptsInputs, ask_stages}
+use Rattle.am_questions.specs.Inputs.{Inputs, inputs_fingerprint, AcceptsInputs, ask_stages}
+use Rattle.am_questions.proofs.HasFingerprint.{has_fingerprint}
 use Rattle.am_questions.proofs.QuestionRefusals.{question_accepted}
 
 question_stage_accepted : (inputs : Inputs) (s : Space) (w : World) (q : Question)
@@ -34,21 +39,32 @@ question_stage_accepted inputs s w q start r accepts refused =
     accepts.accepts_world.says_config)
     refused.2)
 
+-- a token that asks for a start is not refused
+asked_and_refused : (u : List Label) (inputs : Inputs) (after : Option (List ℕ)) (start : Start)
+    (kind : Kind) → IsUniverse u → AsksStart u (inputs_fingerprint inputs) after start
+    → StartRefusedFor u (inputs_fingerprint inputs) after kind → ⊥
+asked_and_refused u inputs None start kind is asks refused = refused
+asked_and_refused u inputs (Some token) start kind is asks refused =
+    not_refused (sizes u) (inputs_fingerprint inputs) token start kind (sizes_of_universe u is)
+    (has_fingerprint inputs) asks refused
+
 token_stage_accepted : (inputs : Inputs) (s : Space) (w : World) (q : Question)
     (start : Start) (r : Refusal) → AcceptsInputs inputs s w q start
-    → TokenRefusedFor inputs.universe inputs.after r → ⊥
+    → TokenRefusedFor inputs.universe (inputs_fingerprint inputs) inputs.after r → ⊥
 token_stage_accepted inputs s w q start r accepts refused =
-    refused.2 start
-    (subst (λ (t : Space). AsksStart t.labels inputs.after start)
+    asked_and_refused refused.0.labels inputs inputs.after start r.kind
+    refused.1.3.is_universe
+    (subst (λ (t : Space). AsksStart t.labels (inputs_fingerprint inputs) inputs.after start)
     (says_one (universe_file.file_decides inputs.universe) s refused.0 accepts.says_universe
     refused.1)
     accepts.starts)
+    refused.2
 
 pub asked_accepted : (inputs : Inputs) (s : Space) (w : World) (q : Question) (start : Start)
     (place : Place) (r : Refusal) → AcceptsInputs inputs s w q start
     → IsFirstFaultOfCall (ask_stages inputs) place r → r.kind ≡ kinds.Pattern
 asked_accepted inputs s w q start place r accepts =
-    let last = token_stage inputs.universe inputs.after ∷ [] in
+    let last = token_stage inputs.universe (inputs_fingerprint inputs) inputs.after ∷ [] in
     let asked = question_stage (config_of inputs.world.config) inputs.question in
     by_stage (r.kind ≡ kinds.Pattern) (universe_stage inputs.universe)
     (world_stages inputs.world ++ asked ∷ last) place r
@@ -57,6 +73,6 @@ asked_accepted inputs s w q start place r accepts =
     accepts.accepts_world (λ pattern. pattern)
     (by_stage (r.kind ≡ kinds.Pattern) asked last place r
     (λ refused. question_stage_accepted inputs s w q start r accepts refused)
-    (by_stage (r.kind ≡ kinds.Pattern) (token_stage inputs.universe inputs.after) [] place r
+    (by_stage (r.kind ≡ kinds.Pattern) (token_stage inputs.universe (inputs_fingerprint inputs) inputs.after) [] place r
     (λ refused. absurd (token_stage_accepted inputs s w q start r accepts refused))
     (λ none. absurd none))))

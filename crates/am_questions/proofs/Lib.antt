@@ -10,5 +10,6 @@ pub mod TreeSeen
 pub mod OneMeaning
 pub mod OneInputs
 pub mod QuestionRefusals
+pub mod HasFingerprint
 pub mod AcceptedAsk
 pub mod PartsInOrder

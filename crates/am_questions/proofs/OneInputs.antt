@@ -14,10 +14,12 @@ use Rattle.am_eval.specs.WorldInputs.{WorldInputs, AcceptsWorld}
 use Rattle.am_eval.specs.Question.{Question}
 use Rattle.am_eval.proofs.AcceptedInputs.{one_configuration, alerts_once}
 use Rattle.am_search.specs.declared.start.Start.{Start}
-use Rattle.am_search.proofs.TokenTexts.{sizes_of_universe, same_start}
+use Rattle.am_search.proofs.TokenTexts.{sizes_of_universe}
+use Rattle.am_search.proofs.TokenForms.{same_start}
 use Rattle.am_questions.specs.QuestionText.{ReadsQuestion}
 use Rattle.am_questions.specs.AskedStart.{AsksStart}
-use Rattle.am_questions.specs.Inputs.{Inputs, AcceptsInputs}
+use Rattle.am_questions.specs.Inputs.{Inputs, inputs_fingerprint, AcceptsInputs}
+use Rattle.am_questions.proofs.HasFingerprint.{has_fingerprint}
 use Rattle.am_questions.proofs.OneMeaning.{one_question}
 
 one_space : (bytes : List ℕ) (s t : Space) → FileSaysUniverse bytes s → FileSaysUniverse bytes t
@@ -47,11 +49,14 @@ one_world inputs w x said again =
       instant = instant k;
     }
 
-one_start : (u : List Label) (after : Option (List ℕ)) (start other : Start) → IsUniverse u
-    → AsksStart u after start → AsksStart u after other → start ≡ other
-one_start u None start other is asks also = asks ∙ sym also
-one_start u (Some token) start other is asks also =
-    same_start (sizes u) start other (sizes_of_universe u is) asks.0 also.0 (asks.1 ∙ sym also.1)
+pub one_start : (u : List Label) (inputs : Inputs) (after : Option (List ℕ)) (start other : Start)
+    → IsUniverse u → AsksStart u (inputs_fingerprint inputs) after start
+    → AsksStart u (inputs_fingerprint inputs) after other → start ≡ other
+one_start u inputs None start other is asks also = asks ∙ sym also
+one_start u inputs (Some token) start other is asks also =
+    let has = has_fingerprint inputs in
+    let h : List ℕ = inputs_fingerprint inputs in
+    same_start (sizes u) h h token start other (sizes_of_universe u is) has has asks also
 
 pub one_meaning_of_inputs : (inputs : Inputs) (s t : Space) (w x : World) (q r : Question)
     (start other : Start) → AcceptsInputs inputs s w q start → AcceptsInputs inputs t x r other
@@ -62,8 +67,8 @@ one_meaning_of_inputs inputs s t w x q r start other said again =
     let question : q ≡ r = one_question x.config inputs.question q r
     (subst (λ (y : World). ReadsQuestion y.config inputs.question q) world said.reads)
     again.reads in
-    let starts : start ≡ other = one_start t.labels inputs.after start other
+    let starts : start ≡ other = one_start t.labels inputs inputs.after start other
     again.says_universe.3.is_universe
-    (subst (λ (y : Space). AsksStart y.labels inputs.after start) space said.starts)
+    (subst (λ (y : Space). AsksStart y.labels (inputs_fingerprint inputs) inputs.after start) space said.starts)
     again.starts in
     (space, world, question, starts)

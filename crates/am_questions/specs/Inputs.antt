@@ -11,6 +11,7 @@ use Rattle.am_eval.specs.World.{World}
 use Rattle.am_eval.specs.WorldInputs.{WorldInputs, world_inputs_of, AcceptsWorld, world_stages}
 use Rattle.am_eval.specs.Question.{Question}
 use Rattle.am_eval.specs.Faults.{Stage, universe_stage}
+use Rattle.am_fingerprint.specs.Fingerprint.{fingerprint_of}
 use Rattle.am_questions.specs.QuestionText.{ReadsQuestion}
 use Rattle.am_questions.specs.AskedStart.{AsksStart}
 use Rattle.am_questions.specs.QuestionStages.{question_stage, token_stage}
@@ -41,6 +42,22 @@ after_token inputs token = record {
   after = Some token;
 }
 
+-- The fingerprint of a universe file, of what a world is made of, as far as it is given, and of the
+-- text of a question.
+abbrev pub files_fingerprint : List ℕ → WorldInputs → List ℕ → List ℕ
+files_fingerprint universe world question =
+    fingerprint_of (Some universe
+    ∷ world.config
+    ∷ world.silences
+    ∷ world.alerts
+    ∷ world.at
+    ∷ Some question
+    ∷ [])
+
+-- The fingerprint of the inputs. The token is no part of it, nor how much of the answers is wanted.
+abbrev pub inputs_fingerprint : Inputs → List ℕ
+inputs_fingerprint inputs = files_fingerprint inputs.universe inputs.world inputs.question
+
 -- The inputs are accepted: the universe file says the space, the world is accepted, the text is
 -- read as the question about its configuration, and the start is the one that is asked for over the
 -- labels of the space. A token may name a choice that is impossible.
@@ -49,7 +66,7 @@ pub record AcceptsInputs (inputs : Inputs) (space : Space) (world : World)
   pub says_universe : FileSaysUniverse inputs.universe space
   pub accepts_world : AcceptsWorld inputs.world world
   pub reads : ReadsQuestion world.config inputs.question question
-  pub starts : AsksStart space.labels inputs.after start
+  pub starts : AsksStart space.labels (inputs_fingerprint inputs) inputs.after start
 
 -- The stages of `ask`, in order: the universe file, those of the world, the question, the token.
 -- Source: own choice.
@@ -62,5 +79,5 @@ ask_stages inputs =
     universe_stage inputs.universe
     ∷ (world_stages inputs.world
     ++ question_stage (config_of inputs.world.config) inputs.question
-    ∷ token_stage inputs.universe inputs.after
+    ∷ token_stage inputs.universe (inputs_fingerprint inputs) inputs.after
     ∷ [])

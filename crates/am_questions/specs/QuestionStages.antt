@@ -1,16 +1,15 @@
 -- The stages of a call that asks a question, behind those of its files. (This project's own.)
 use Rattle.std.specs.Prelude.{◌≡◌, ℕ, List, [], Option}
-use Rattle.am_universe.specs.declared.kind.Kind.TheVariants as kinds
 use Rattle.am_universe.specs.declared.place.Place.TheVariants as places
 use Rattle.am_labels.specs.Space.{Space}
-use Rattle.am_json.specs.Pointer.{Refusal, refusal_here}
+use Rattle.am_json.specs.Pointer.{Refusal}
 use Rattle.am_records.specs.UniverseFile.{FileSaysUniverse}
 use Rattle.am_files.specs.ConfigFile.{Configuration, FileSaysConfig}
 use Rattle.am_search.specs.declared.start.Start.{Start}
 use Rattle.am_eval.specs.Question.{Question}
 use Rattle.am_eval.specs.Faults.{Stage}
 use Rattle.am_questions.specs.QuestionText.{ReadsQuestion, QuestionRefusedFor}
-use Rattle.am_questions.specs.AskedStart.{AsksStart}
+use Rattle.am_questions.specs.AskedStart.{AsksStart, StartRefusedFor}
 
 -- The text is a question about the configuration that the bytes of a file say.
 abbrev pub ReadsSomeQuestion : List ℕ → List ℕ → Type 0
@@ -25,18 +24,19 @@ QuestionStageRefusedFor bytes text r =
     (configuration : Configuration) × FileSaysConfig bytes configuration
     × QuestionRefusedFor configuration text r.kind × (r.pointer ≡ [])
 
--- The token, if there is one, asks for a start over the labels that the bytes of a file say.
-abbrev pub HasSomeStart : List ℕ → Option (List ℕ) → Type 0
-HasSomeStart bytes after =
+-- The token, if there is one, asks for a start over the labels that the bytes of a file say, for
+-- inputs with this fingerprint.
+abbrev pub HasSomeStart : List ℕ → List ℕ → Option (List ℕ) → Type 0
+HasSomeStart bytes fingerprint after =
     (space : Space) × FileSaysUniverse bytes space
-    × (start : Start) × AsksStart space.labels after start
+    × (start : Start) × AsksStart space.labels fingerprint after start
 
--- The token asks for none. Such a fault stands at no part of a file.
-abbrev pub TokenRefusedFor : List ℕ → Option (List ℕ) → Refusal → Type 0
-TokenRefusedFor bytes after r =
+-- Why the token is refused over these labels, for inputs with this fingerprint. Such a fault stands
+-- at no part of a file.
+abbrev pub TokenRefusedFor : List ℕ → List ℕ → Option (List ℕ) → Refusal → Type 0
+TokenRefusedFor bytes fingerprint after r =
     (space : Space) × FileSaysUniverse bytes space
-    × ((start : Start) → AsksStart space.labels after start → ⊥)
-    × (r ≡ refusal_here kinds.BadToken)
+    × StartRefusedFor space.labels fingerprint after r.kind × (r.pointer ≡ [])
 
 -- The text of the question about the configuration of a file.
 abbrev pub question_stage : List ℕ → List ℕ → Stage
@@ -46,10 +46,11 @@ question_stage bytes text = record {
   refuses = QuestionStageRefusedFor bytes text;
 }
 
--- The token of a page, if there is one, beside the bytes of the universe file.
-abbrev pub token_stage : List ℕ → Option (List ℕ) → Stage
-token_stage bytes after = record {
+-- The token of a page, if there is one, beside the bytes of the universe file and the fingerprint
+-- of all inputs.
+abbrev pub token_stage : List ℕ → List ℕ → Option (List ℕ) → Stage
+token_stage bytes fingerprint after = record {
   place = places.Token;
-  accepts = HasSomeStart bytes after;
-  refuses = TokenRefusedFor bytes after;
+  accepts = HasSomeStart bytes fingerprint after;
+  refuses = TokenRefusedFor bytes fingerprint after;
 }

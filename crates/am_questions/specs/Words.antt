@@ -14,6 +14,7 @@ pub use Rattle.am_questions.specs.GrammarExamples.{any_word, not_word, and_word,
 pub use Rattle.am_questions.specs.QuestionText.{ReadsQuestion, QuestionRefusedFor, TreeMeans}
 pub use Rattle.am_questions.specs.QuestionText.{PartsRefusedFor, PartRefusedFor, IsPathOfRoute}
 pub use Rattle.am_questions.specs.QuestionText.{parts_of}
-pub use Rattle.am_questions.specs.AskedStart.{AsksStart}
+pub use Rattle.am_questions.specs.AskedStart.{AsksStart, StartRefusedFor}
 pub use Rattle.am_questions.specs.Inputs.{Inputs, inputs_of, after_token, AcceptsInputs}
+pub use Rattle.am_questions.specs.Inputs.{files_fingerprint, inputs_fingerprint}
 pub use Rattle.am_questions.specs.Inputs.{ask_stages}

@@ -2,17 +2,18 @@ ghost use Rattle.std.specs.Prelude.{◌≡◌, ◌≢◌, [], option_copied};
 ghost use Rattle.std.specs.Prelude.{IfOk, IfErr, string_bytes};
 ghost use Rattle.am_universe.specs.declared.kind.Kind.TheVariants as kinds;
 ghost use Rattle.am_universe.specs.declared.place.Place.TheVariants as places;
-ghost use Rattle.am_json.specs.Words.{refusal_of, refusal_here};
+ghost use Rattle.am_json.specs.Words.{refusal_of};
 ghost use Rattle.am_labels.specs.Words.{sizes};
-ghost use Rattle.am_search.specs.declared.start.Start.{Start};
 ghost use Rattle.am_search.specs.Words.{IsStart};
 ghost use Rattle.am_eval.specs.Words.{question_view, IsFirstFaultOfCall};
 ghost use Rattle.am_questions.specs.Words.{inputs_of, AcceptsInputs, ask_stages, AsksStart};
+ghost use Rattle.am_questions.specs.Words.{StartRefusedFor, inputs_fingerprint};
 
+use crate::fingerprints::fingerprint;
 use crate::names::parse_question;
 use am_eval::{Files, Question, World, read_world};
 use am_files::read_universe;
-use am_labels::{Choice, Fault, Place, Space, Universe, fault_at};
+use am_labels::{Choice, Fault, Place, Space, fault_at};
 use am_search::{Page, Start, parse_token};
 use std::alloc::Global;
 
@@ -23,6 +24,8 @@ pub struct AcceptedInputs {
     pub world: World,
     pub question: Question,
     pub start: Start,
+    /// The fingerprint of the inputs, which the token of a later page has.
+    pub fingerprint: [u8; 16],
 }
 
 /// Reads the inputs of a question: the universe file, the world, the question, and then the token
@@ -41,6 +44,8 @@ pub fn read_inputs(
         accepted.space accepted.world (question_view accepted.question) accepted.start) }
     ensures start { IfOk result (λ accepted.
         IsStart (sizes accepted.space.labels) accepted.start) }
+    ensures fingerprint { IfOk result (λ accepted. accepted.fingerprint
+        ≡ inputs_fingerprint (inputs_of universe.now files.now question.now page.now)) }
     ensures first { IfErr result (λ fault. fault.kind ≢ kinds.Memory
         → IsFirstFaultOfCall (ask_stages (inputs_of universe.now files.now question.now page.now))
         fault.place (refusal_of fault)) }
@@ -48,33 +53,44 @@ pub fn read_inputs(
         → (fault.place ≡ places.Memory) × (string_bytes fault.pointer ≡ [])) }
     ensures no_write { IfErr result (λ fault. fault.kind ≢ kinds.Write) }
 {
+    let fingerprint = fingerprint(universe, files, question);
     let space = read_universe(alloc, universe)?;
     let world = read_world(alloc, files)?;
     let question = match parse_question(alloc, question, world.config()) {
         Ok(question) => question,
         Err(kind) => return Err(fault_at(alloc, kind, Place::Question)),
     };
-    let start = read_start(alloc, page.after, space.universe())?;
+    let start = read_start(alloc, page.after, &space, &fingerprint)?;
     Ok(AcceptedInputs {
         space,
         world,
         question,
         start,
+        fingerprint,
     })
 }
 
-/// The start that a token asks for, and that of all choices without one. `BadToken`, at `Token`,
-/// where it asks for none. No memory is taken.
-fn read_start(alloc: Global, after: Option<&str>, universe: &Universe) -> Result<Start, Fault>
-    ensures starts { IfOk result (AsksStart universe.now (option_copied after.entry)) }
+/// The start that a token asks for, and that of all choices without one. At `Token`, `BadToken`
+/// where it asks for none, and `OtherInputs` where it was made from other inputs. No memory is
+/// taken.
+fn read_start(
+    alloc: Global,
+    after: Option<&str>,
+    space: &Space,
+    fingerprint: &[u8; 16],
+) -> Result<Start, Fault>
+    ensures starts { IfOk result
+        (AsksStart space.now.labels fingerprint.now (option_copied after.entry)) }
     ensures refused { IfErr result (λ fault. (fault.place ≡ places.Token)
-        × ((start : Start) → AsksStart universe.now (option_copied after.entry) start → ⊥)
-        × (refusal_of fault ≡ refusal_here kinds.BadToken)) }
+        × StartRefusedFor space.now.labels fingerprint.now (option_copied after.entry) fault.kind
+        × (string_bytes fault.pointer ≡ [])) }
+    ensures kind { IfErr result (λ fault. (fault.kind ≢ kinds.Memory)
+        × (fault.kind ≢ kinds.Write)) }
 {
     let Some(token) = after else {
         return Ok(Start::At(Choice::empty()));
     };
-    match parse_token(token, universe) {
+    match parse_token(token, space.universe(), fingerprint) {
         Ok(start) => Ok(start),
         Err(kind) => Err(fault_at(alloc, kind, Place::Token)),
     }

@@ -16,8 +16,10 @@ pub use am_eval::Question;
 pub use names::parse_question;
 
 // The inputs of a call that asks a question.
+mod fingerprints;
 mod inputs;
 
+pub use fingerprints::fingerprint;
 pub use inputs::{AcceptedInputs, read_inputs};
 
 // What holds of the definitions by themselves.

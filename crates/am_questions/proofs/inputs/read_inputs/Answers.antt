@@ -8,9 +8,10 @@ use Rattle.am_questions.specs.QuestionText.{QuestionRefusedFor, ReadsQuestion}
 use Rattle.am_eval.specs.Faults.{IsFirstFaultOfCall}
 use Rattle.am_questions.specs.QuestionStages.{question_stage, token_stage}
 use Rattle.am_eval.specs.Files.{config_of}
-use Rattle.am_questions.specs.Inputs.{inputs_of, ask_stages}
+use Rattle.am_questions.specs.Inputs.{inputs_of, inputs_fingerprint, ask_stages}
 use Rattle.am_eval.specs.WorldInputs.{world_stages}
 use Rattle.am_eval.proofs.FirstFaults.{first_of_more, first_behind_world, handed_on}
+use Rattle.am_questions.proofs.HasFingerprint.{asked_is_start}
 use Rattle.am_questions.proofs.inputs.read_inputs.Goals as goal
 
 pub returns-in_err-world-clause-first : goal.returns-in_err-world-clause-first
@@ -26,7 +27,7 @@ returns-in_err-world-clause-first c =
       (c.in_ok-space.space, c.in_ok-space.ensures.says),
       first_of_more (world_stages inputs.world)
           (question_stage (config_of inputs.world.config) inputs.question
-          ∷ token_stage inputs.universe inputs.after ∷ [])
+          ∷ token_stage inputs.universe (inputs_fingerprint inputs) inputs.after ∷ [])
           fault.place (refusal_of fault) (c.in_err-world.ensures.first remembered),
     ))
 
@@ -43,7 +44,7 @@ returns-in-Err-clause-first c = λ remembered.
       (c.in_ok-space.space, c.in_ok-space.ensures.says),
       first_behind_world inputs.world world
           (question_stage (config_of inputs.world.config) inputs.question
-          ∷ token_stage inputs.universe inputs.after ∷ [])
+          ∷ token_stage inputs.universe (inputs_fingerprint inputs) inputs.after ∷ [])
           c.fault_at.result.place (refusal_of c.fault_at.result) accepts (inl (
             c.fault_at.ensures.place given,
             (world.config, accepts.says_config, refused, c.fault_at.ensures.pointer),
@@ -59,7 +60,7 @@ returns-in_err-start-clause-first c =
     let accepts = c.in_ok-world.ensures.accepts in
     let reads : ReadsQuestion world.config inputs.question (question_view c.in-Ok.question) =
     rw (← c.config.ensures.config) c.in-Ok.ensures.read in
-    let refused = rw c.universe.ensures.labels at c.in_err-start.ensures.refused in
+    let refused = rw c.fingerprint-fingerprint.ensures.fingerprint at c.in_err-start.ensures.refused in
     handed_on
     (λ (f : Fault). f.kind ≢ kinds.Memory
     → IsFirstFaultOfCall (ask_stages inputs) f.place (refusal_of f))
@@ -68,7 +69,7 @@ returns-in_err-start-clause-first c =
       (c.in_ok-space.space, c.in_ok-space.ensures.says),
       first_behind_world inputs.world world
           (question_stage (config_of inputs.world.config) inputs.question
-          ∷ token_stage inputs.universe inputs.after ∷ [])
+          ∷ token_stage inputs.universe (inputs_fingerprint inputs) inputs.after ∷ [])
           fault.place (refusal_of fault) accepts (inr (
             (world.config, accepts.says_config, question_view c.in-Ok.question, reads),
             inl (
@@ -77,3 +78,14 @@ returns-in_err-start-clause-first c =
             ),
           )),
     ))
+
+pub returns-clause-accepts : goal.returns-clause-accepts
+returns-clause-accepts c = record {
+  says_universe = c.in_ok-space.ensures.says;
+  accepts_world = c.in_ok-world.ensures.accepts;
+  reads = rw (← c.config.ensures.config) c.in-Ok.ensures.read;
+  starts = rw (← c.fingerprint-fingerprint.ensures.fingerprint) c.in_ok-start.ensures.starts;
+}
+
+pub returns-clause-start : goal.returns-clause-start
+returns-clause-start c = asked_is_start _ _ _ _ c.in_ok-start.ensures.starts
