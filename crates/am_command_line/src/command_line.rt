@@ -166,12 +166,14 @@ writes those that no firing alert inhibits.
 writes the first answer alone. Where there are more, the last line has a token:
 
   {team=\"db\",severity=\"critical\"}
-  # next t1:0.0
+  # next t2:05333def3ae3b054572609919ffa7605:0.0
 
 The same command with --after and that token goes on after it; without --limit it writes
-all that is left. Change neither files nor question between two pages.
+all that is left. The 32 digits stand for the bytes of the files, the time and the
+question: where one of them has changed, the token is refused.
 
-  amcover ask --universe u.json --limit 1 --after t1:0.0 '{team=\"db\"}'
+  amcover ask --universe u.json --limit 1 \\
+    --after t2:05333def3ae3b054572609919ffa7605:0.0 '{team=\"db\"}'
 
   {team=\"db\",severity=\"warning\"}
   # end
@@ -184,11 +186,12 @@ with these values are answers, that none is, or that more labels have to be look
 
 over seven labels a to g, each with the values 0 and 1, writes 16 label sets, and then
 
-  # stopped s1:0.1
+  # stopped s2:f8767580b17370ba6de9d23d71956bec:0.1
 
 Up to there the answer is complete. The same command with --after and that token goes on:
 
-  amcover ask --universe switches.json --steps 65 --after s1:0.1 '{g=\"0\"}'
+  amcover ask --universe switches.json --steps 65 \\
+    --after s2:f8767580b17370ba6de9d23d71956bec:0.1 '{g=\"0\"}'
 
 A page may stop without a line, and still have answers behind it: go on until `# end`.
 With --steps 1000000 a page ends after a million steps at most.
@@ -394,7 +397,7 @@ fn ask_command<'a>(alloc: Global) -> Result<Command<'a>, AllocError> {
     let after = Arg::new(alloc, "after")
         .long("after")
         .value_name("TOKEN")
-        .help("Go on after the page that ended with this token, as t1:0.0");
+        .help("Go on after the page of the same inputs that ended with this token");
     let question = Arg::new(alloc, "question")
         .value_name("QUESTION")
         .required(true)

@@ -1,5 +1,5 @@
 -- Calls of `ask` in a row: what each writes is what the one before it left.
-use Rattle.std.proofs.Common.{◌≡◌, ℕ, ◌<◌, List, [], ◌∷◌, ◌++◌, Option, None, Some, IfSome}
+use Rattle.std.proofs.Common.{◌≡◌, inr, ℕ, ◌<◌, List, [], ◌∷◌, ◌++◌, Option, None, Some, IfSome}
 use Rattle.std.proofs.Common.{MatchOption, ap, sym, subst, ◌∙◌, refl, append-nil}
 use Rattle.std.specs.Prelude.{option_map}
 use Rattle.std.specs.List.{flat_map}
@@ -22,7 +22,7 @@ use Rattle.am_search.proofs.TokenTexts.{sizes_of_universe}
 use Rattle.am_search.proofs.BudgetPages.{same_unstopped}
 use Rattle.am_search.proofs.SearchChains.{goes_on}
 use Rattle.am_cubes.specs.Verdicts.{verdict_of}
-use Rattle.am_questions.specs.Inputs.{Inputs, after_token, AcceptsInputs}
+use Rattle.am_questions.specs.Inputs.{Inputs, inputs_fingerprint, after_token, AcceptsInputs}
 use Rattle.am_questions.proofs.OneInputs.{one_meaning_of_inputs}
 use Rattle.am_commands.specs.AskOutcome.{AnswersInputsUnder, answer_page, searched_page, Asked}
 use Rattle.am_commands.specs.AskOutcome.{IsAskedOf, AreAskedInARow}
@@ -44,7 +44,7 @@ same_lines inputs s t w x q r start other said again =
 pub goes_on_at : (inputs : Inputs) (s : Space) (w : World) (q : Question) (start next : Start)
     (page : AnswerPage) → AcceptsInputs inputs s w q start
     → IsSearchPage (sizes s.labels) (verdict_of s w q) start page → start_after page.trailer ≡ Some next
-    → AcceptsInputs (after_token inputs (token_text next)) s w q next
+    → AcceptsInputs (after_token inputs (token_text (inputs_fingerprint inputs) next)) s w q next
 goes_on_at inputs s w q start next page accepts is ends = record {
   says_universe = accepts.says_universe;
   accepts_world = accepts.accepts_world;
@@ -52,7 +52,7 @@ goes_on_at inputs s w q start next page accepts is ends = record {
   starts = (
     (goes_on (sizes s.labels) (is_answer s w q) (verdict_of s w q) start page
         (question_judges s w q accepts.says_universe.3.is_universe) is next ends).is_start,
-    refl,
+    inr refl,
   );
 }
 
@@ -72,7 +72,7 @@ asked_page inputs asked h = record {
 -- so the inputs with the token of its trailer are accepted
 asked_goes_on : (inputs : Inputs) (asked : Asked) (next : Start) (h : IsAskedOf inputs asked)
     → start_after asked.trailer ≡ Some next
-    → AcceptsInputs (after_token inputs (token_text next)) h.2.space h.2.world h.2.question next
+    → AcceptsInputs (after_token inputs (token_text (inputs_fingerprint inputs) next)) h.2.space h.2.world h.2.question next
 asked_goes_on inputs asked next h ends =
     goes_on_at inputs h.2.space h.2.world h.2.question h.2.start next
     (searched_page h.2.space h.2.world h.2.question h.2.start asked.limit asked.steps)
@@ -87,8 +87,8 @@ page_lines inputs asked h =
     let page : AnswerPage =
     searched_page h.2.space h.2.world h.2.question h.2.start asked.limit asked.steps in
     sym (append_cancel_right (lines_text h.2.space.labels page.choices) asked.lines
-    (trailer_text asked.trailer)
-    (ap (λ t. lines_text h.2.space.labels page.choices ++ trailer_text t) h.2.trailer_is ∙ h.2.written))
+    (trailer_text (inputs_fingerprint inputs) asked.trailer)
+    (ap (λ t. lines_text h.2.space.labels page.choices ++ trailer_text (inputs_fingerprint inputs) t) h.2.trailer_is ∙ h.2.written))
 
 -- the lines of a call, and those of what its trailer leaves, are all from its start on
 lines_and_rest : (inputs : Inputs) (asked : Asked) (h : IsAskedOf inputs asked)
@@ -111,7 +111,7 @@ lines_of_row inputs [] s w q start h accepts = absurd h
 lines_of_row inputs (asked ∷ more) s w q start h accepts =
     ap (λ text. asked.lines ++ text)
     (by (start_after asked.trailer) refl h.1 (λ next ends k. lines_of_row
-    (after_token inputs (token_text next)) more h.0.2.space h.0.2.world h.0.2.question next k
+    (after_token inputs (token_text (inputs_fingerprint inputs) next)) more h.0.2.space h.0.2.world h.0.2.question next k
     (asked_goes_on inputs asked next h.0 ends)))
     ∙ lines_and_rest inputs asked h.0
     ∙ same_lines inputs h.0.2.space s h.0.2.world w h.0.2.question q h.0.2.start start
@@ -121,10 +121,10 @@ lines_of_row inputs (asked ∷ more) s w q start h accepts =
     left next = lines_left h.0.2.space h.0.2.world h.0.2.question next
 
     by : (o : Option Start) → start_after asked.trailer ≡ o
-        → MatchOption (option_map token_text o) (more ≡ [])
+        → MatchOption (option_map (token_text (inputs_fingerprint inputs)) o) (more ≡ [])
         (λ token. AreAskedInARow (after_token inputs token) more)
         → ((next : Start) → start_after asked.trailer ≡ Some next
-        → AreAskedInARow (after_token inputs (token_text next)) more
+        → AreAskedInARow (after_token inputs (token_text (inputs_fingerprint inputs) next)) more
         → flat_map (λ (asked : Asked). asked.lines) more ≡ left next)
         → flat_map (λ (asked : Asked). asked.lines) more
         ≡ lines_text h.0.2.space.labels
@@ -165,23 +165,23 @@ row_is_one_page inputs row whole h one unlimited unbudgeted =
 -- left
 pub again_ends : (inputs : Inputs) (first second : Asked) (next : Start) → IsAskedOf inputs first
     → start_after first.trailer ≡ Some next
-    → IsAskedOf (after_token inputs (token_text next)) second → second.limit ≡ None
+    → IsAskedOf (after_token inputs (token_text (inputs_fingerprint inputs) next)) second → second.limit ≡ None
     → second.steps ≡ None → second.trailer ≡ End
 again_ends inputs first second next asked ends again unlimited unbudgeted =
     again.2.trailer_is
     ∙ ap (λ page. page.trailer)
-    (whole_page (after_token inputs (token_text next)) second again unlimited unbudgeted)
+    (whole_page (after_token inputs (token_text (inputs_fingerprint inputs) next)) second again unlimited unbudgeted)
 
 pub again_writes : (inputs : Inputs) (first second : Asked) (next : Start)
     → (asked : IsAskedOf inputs first) → start_after first.trailer ≡ Some next
-    → IsAskedOf (after_token inputs (token_text next)) second → second.limit ≡ None
+    → IsAskedOf (after_token inputs (token_text (inputs_fingerprint inputs) next)) second → second.limit ≡ None
     → second.steps ≡ None → second.lines
     ≡ lines_text asked.2.space.labels
     (rest_after (sizes asked.2.space.labels)
     (is_answer asked.2.space asked.2.world asked.2.question) first.trailer)
 again_writes inputs first second next asked ends again unlimited unbudgeted =
-    whole_lines (after_token inputs (token_text next)) second again unlimited unbudgeted
-    ∙ same_lines (after_token inputs (token_text next)) again.2.space asked.2.space
+    whole_lines (after_token inputs (token_text (inputs_fingerprint inputs) next)) second again unlimited unbudgeted
+    ∙ same_lines (after_token inputs (token_text (inputs_fingerprint inputs) next)) again.2.space asked.2.space
     again.2.world asked.2.world again.2.question asked.2.question again.2.start next
     again.2.accepts (asked_goes_on inputs first next asked ends)
     ∙ ap (λ o. lines_text asked.2.space.labels (answers_from_any (sizes asked.2.space.labels)

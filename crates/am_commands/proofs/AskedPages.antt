@@ -30,7 +30,7 @@ use Rattle.am_search.proofs.SearchChains.{search_chain_joined}
 use Rattle.am_search.proofs.SameVerdicts.{same_page}
 use Rattle.am_cubes.specs.Verdicts.{verdict_of}
 use Rattle.am_cubes.proofs.Soundness.{yes_says_all, no_says_none, never_open}
-use Rattle.am_questions.specs.Inputs.{Inputs}
+use Rattle.am_questions.specs.Inputs.{Inputs, inputs_fingerprint}
 use Rattle.am_commands.specs.AskOutcome.{AnswersInputs, AnswersInputsUnder, IsAskedOf, answer_page, searched_page}
 
 -- ---- The search for the answers to a question.
@@ -93,7 +93,7 @@ answers_unlimited inputs limit steps trailer IsWritten h none =
       question = h.question;
       start = h.start;
       accepts = h.accepts;
-      written = subst (λ (page : AnswerPage). IsWritten (page_text s.labels page)) same h.written;
+      written = subst (λ (page : AnswerPage). IsWritten (page_text s.labels (inputs_fingerprint inputs) page)) same h.written;
       trailer_is = h.trailer_is ∙ ap (λ page. page.trailer) same;
       rest = h.rest ∙ ap (λ page. page.choices ++ rest_after (sizes s.labels) (is_answer s h.world h.question) trailer) same;
     }
@@ -135,13 +135,14 @@ pub asked_from : {S : Type 0} (taken : S → List ℕ) (failures : S → ℕ) (b
     → AnswersInputsUnder inputs limit steps trailer (Wrote taken failures before after)
     → (lines : List ℕ)
     × IsAskedOf inputs (record { limit = limit; steps = steps; lines = lines; trailer = trailer })
-    × (taken after ≡ taken before ++ (lines ++ trailer_text trailer))
+    × (taken after ≡ taken before ++ (lines ++ trailer_text (inputs_fingerprint inputs) trailer))
 asked_from taken failures before after inputs limit steps trailer some enough answered =
     let page : AnswerPage =
     searched_page answered.space answered.world answered.question answered.start limit steps in
     let lines : List ℕ = lines_text answered.space.labels page.choices in
-    let same : lines ++ trailer_text page.trailer ≡ lines ++ trailer_text trailer =
-    ap (λ t. lines ++ trailer_text t) (sym answered.trailer_is) in (
+    let h : List ℕ = inputs_fingerprint inputs in
+    let same : lines ++ trailer_text h page.trailer ≡ lines ++ trailer_text h trailer =
+    ap (λ t. lines ++ trailer_text h t) (sym answered.trailer_is) in (
       lines,
       (
         some,

@@ -19,7 +19,7 @@ use Rattle.am_search.specs.Token.{token_text}
 use Rattle.am_search.specs.TrailerText.{trailer_text}
 use Rattle.am_cubes.specs.Verdicts.{verdict_of}
 use Rattle.am_questions.specs.declared.inputs.AcceptedInputs.{AcceptedInputs}
-use Rattle.am_questions.specs.Inputs.{Inputs, after_token, AcceptsInputs}
+use Rattle.am_questions.specs.Inputs.{Inputs, inputs_fingerprint, after_token, AcceptsInputs}
 
 -- The page of the answers to a question about a world, over a space: from a start on, and under a
 -- limit, if there is one.
@@ -55,7 +55,8 @@ pub record AnswersInputs (inputs : Inputs) (limit : Option ℕ) (trailer : Trail
   pub question : Question
   pub start : Start
   pub accepts : AcceptsInputs inputs space world question start
-  pub written : IsWritten (page_text space.labels (answer_page space world question start limit))
+  pub written : IsWritten (page_text space.labels (inputs_fingerprint inputs)
+      (answer_page space world question start limit))
   pub trailer_is : trailer ≡ (answer_page space world question start limit).trailer
   pub rest : answers_from (sizes space.labels) (is_answer space world question) start
       ≡ (answer_page space world question start limit).choices
@@ -73,7 +74,8 @@ pub record AnswersInputsUnder (inputs : Inputs) (limit steps : Option ℕ) (trai
   pub start : Start
   pub accepts : AcceptsInputs inputs space world question start
   pub written : IsWritten
-      (page_text space.labels (searched_page space world question start limit steps))
+      (page_text space.labels (inputs_fingerprint inputs)
+      (searched_page space world question start limit steps))
   pub trailer_is : trailer ≡ (searched_page space world question start limit steps).trailer
   pub rest : answers_from (sizes space.labels) (is_answer space world question) start
       ≡ (searched_page space world question start limit steps).choices
@@ -96,7 +98,8 @@ pub record AnswersInputsInPart (inputs : Inputs) (limit steps : Option ℕ)
   pub start : Start
   pub accepts : AcceptsInputs inputs space world question start
   pub written : IsWritten
-      (page_text space.labels (searched_page space world question start limit steps))
+      (page_text space.labels (inputs_fingerprint inputs)
+      (searched_page space world question start limit steps))
 
 -- ---- Calls in a row.
 
@@ -114,21 +117,22 @@ IsAskedOf inputs asked =
     IfSome asked.limit (λ n. 0 < n)
     × IfSome asked.steps (λ n. MAX_LABELS < n)
     × AnswersInputsUnder inputs asked.limit asked.steps asked.trailer
-    (λ text. text ≡ asked.lines ++ trailer_text asked.trailer)
+    (λ text. text ≡ asked.lines ++ trailer_text (inputs_fingerprint inputs) asked.trailer)
 
--- The token in the text of a trailer, if it has one.
-abbrev pub token_after : Trailer → Option (List ℕ)
-token_after trailer = option_map token_text (start_after trailer)
+-- The token in the text of a trailer, if it has one, as it is written for inputs with this
+-- fingerprint.
+abbrev pub token_after : List ℕ → Trailer → Option (List ℕ)
+token_after fingerprint trailer = option_map (token_text fingerprint) (start_after trailer)
 
 -- Calls in a row, at least one: each under a limit and a budget of its own, the first with these
 -- inputs, each later one with the same inputs but the token of the trailer before it, and the last
 -- with `End`.
 -- Source: own choice.
--- Example: a call that ends with `# next t1:0.1`, and one with `--after t1:0.1` that ends with
--- `# end`.
+-- Example: a call that ends with `# next` and a token, and one with that token behind `--after`
+-- that ends with `# end`.
 abbrev pub AreAskedInARow : Inputs → List Asked → Type 0
 AreAskedInARow inputs [] = ⊥
 AreAskedInARow inputs (asked ∷ more) =
     IsAskedOf inputs asked
-    × MatchOption (token_after asked.trailer) (more ≡ [])
+    × MatchOption (token_after (inputs_fingerprint inputs) asked.trailer) (more ≡ [])
     (λ token. AreAskedInARow (after_token inputs token) more)

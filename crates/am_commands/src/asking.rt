@@ -5,7 +5,7 @@ ghost use Rattle.am_universe.specs.declared.limits.TheConstants.{MAX_LABELS};
 ghost use Rattle.am_universe.specs.declared.place.Place.TheVariants as places;
 ghost use Rattle.am_labels.specs.Words.{sizes, Wrote, WroteInPart};
 ghost use Rattle.am_json.specs.Words.{refusal_of};
-ghost use Rattle.am_questions.specs.Words.{inputs_of, ask_stages};
+ghost use Rattle.am_questions.specs.Words.{inputs_of, ask_stages, inputs_fingerprint};
 ghost use Rattle.am_eval.specs.Words.{IsFirstFaultOfCall};
 ghost use Rattle.am_search.specs.Words.{IsStart, page_text, trailer_text};
 ghost use Rattle.am_commands.specs.Words.{AnswersInputs, AnswersInputsUnder};
@@ -76,7 +76,8 @@ pub fn ask<W: Sink>(
           lines = lines;
           trailer = trailer;
         })
-        × (W.taken out.new ≡ W.taken out.old ++ (lines ++ trailer_text trailer))) }
+        × (W.taken out.new ≡ W.taken out.old ++ (lines ++ trailer_text (inputs_fingerprint
+        (inputs_of universe.now files.now question.now page.now)) trailer))) }
 
     // No other fault of the inputs comes before the one that is answered, and the pointer is that
     // of the part at fault.
@@ -112,14 +113,16 @@ fn write_answers<W: Sink>(
     ensures trailer { IfOk result (λ trailer.
         trailer ≡ (page_of_inputs accepted.now limit steps).trailer) }
     ensures written { IfOk result (λ _. Wrote W.taken W.failures out.old out.new
-        (page_text accepted.now.space.labels (page_of_inputs accepted.now limit steps))) }
+        (page_text accepted.now.space.labels accepted.now.fingerprint
+        (page_of_inputs accepted.now limit steps))) }
     ensures memory { IfErr result (λ fault. fault.kind ≢ kinds.Write
         → (fault.kind ≡ kinds.Memory) × (fault.place ≡ places.Memory)
         × (string_bytes fault.pointer ≡ []) × (out.new ≡ out.old)) }
     ensures write { IfErr result (λ fault. fault.kind ≡ kinds.Write
         → (fault.place ≡ places.Output) × (string_bytes fault.pointer ≡ [])
         × WroteInPart W.taken W.failures out.old out.new
-        (page_text accepted.now.space.labels (page_of_inputs accepted.now limit steps))) }
+        (page_text accepted.now.space.labels accepted.now.fingerprint
+        (page_of_inputs accepted.now limit steps))) }
 {
     let judge = match Plan::new(alloc, &accepted.space, &accepted.world, &accepted.question) {
         Ok(judge) => judge,
@@ -129,7 +132,7 @@ fn write_answers<W: Sink>(
         return Err(Fault::memory(alloc));
     };
     let mut answers = Answers::from(&judge, accepted.start, steps);
-    match write_page(&mut table, &mut answers, limit, out) {
+    match write_page(&mut table, &mut answers, limit, &accepted.fingerprint, out) {
         Ok(trailer) => Ok(trailer),
         Err(kind) => Err(Fault::of(alloc, kind, Place::Output)),
     }

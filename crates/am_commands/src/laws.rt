@@ -16,6 +16,7 @@ ghost use Rattle.am_search.specs.Words.{token_text, rest_after, start_after, IsS
 ghost use Rattle.am_search.specs.Words.{IsSearchPage, IsSearchChain};
 ghost use Rattle.am_cubes.specs.Words.{verdict_of};
 ghost use Rattle.am_questions.specs.Words.{Inputs, AcceptsInputs, AsksStart, after_token};
+ghost use Rattle.am_questions.specs.Words.{inputs_fingerprint};
 ghost use Rattle.am_search.specs.Words.{lines_text};
 ghost use Rattle.am_commands.specs.Words.{Asked, IsAskedOf, AreAskedInARow};
 ghost use Rattle.am_commands.specs.Words.{AcceptsReport, report_stages};
@@ -33,14 +34,17 @@ pub fn a_page_goes_on_at_its_token()
     ensures accepted { (inputs : Inputs) (s : Space) (w : World) (q : Question) (start : Start)
         (page : AnswerPage) (c : List ℕ) → AcceptsInputs inputs s w q start
         → IsPage (sizes s.labels) (is_answer s w q) start page → page.trailer ≡ Next c
-        → AcceptsInputs (after_token inputs (token_text (After c))) s w q (After c) }
+        → AcceptsInputs (after_token inputs (token_text (inputs_fingerprint inputs)
+        (After c))) s w q (After c) }
     ensures under_a_budget { (inputs : Inputs) (s : Space) (w : World) (q : Question)
         (start next : Start) (page : AnswerPage) → AcceptsInputs inputs s w q start
         → IsSearchPage (sizes s.labels) (verdict_of s w q) start page
         → start_after page.trailer ≡ Some next
-        → AcceptsInputs (after_token inputs (token_text next)) s w q next }
-    ensures alone { (u : List Label) (next start : Start) → IsUniverse u
-        → IsStart (sizes u) next → AsksStart u (Some (token_text next)) start → start ≡ next }
+        → AcceptsInputs (after_token inputs (token_text (inputs_fingerprint inputs) next))
+        s w q next }
+    ensures alone { (inputs : Inputs) (u : List Label) (next start : Start) → IsUniverse u
+        → IsStart (sizes u) next → AsksStart u (inputs_fingerprint inputs)
+        (Some (token_text (inputs_fingerprint inputs) next)) start → start ≡ next }
 {}
 
 /// The lines of pages in a row, joined, are the lines of the one page without a limit from the same
@@ -65,11 +69,13 @@ pub fn pages_in_a_row_have_the_lines_of_one_page()
 pub fn starting_again_writes_exactly_the_rest()
     ensures ends { (inputs : Inputs) (first second : Asked) (next : Start)
         → IsAskedOf inputs first → start_after first.trailer ≡ Some next
-        → IsAskedOf (after_token inputs (token_text next)) second → second.limit ≡ None
+        → IsAskedOf (after_token inputs (token_text (inputs_fingerprint inputs) next)) second
+        → second.limit ≡ None
         → second.steps ≡ None → second.trailer ≡ End }
     ensures rest { (inputs : Inputs) (first second : Asked) (next : Start)
         → (asked : IsAskedOf inputs first) → start_after first.trailer ≡ Some next
-        → IsAskedOf (after_token inputs (token_text next)) second → second.limit ≡ None
+        → IsAskedOf (after_token inputs (token_text (inputs_fingerprint inputs) next)) second
+        → second.limit ≡ None
         → second.steps ≡ None
         → second.lines ≡ lines_text asked.2.space.labels (rest_after (sizes asked.2.space.labels)
         (is_answer asked.2.space asked.2.world asked.2.question) first.trailer) }

@@ -20,7 +20,7 @@ returns-clause-answered_under g c =
       question = question;
       start = read.start;
       accepts = accepts;
-      written = written;
+      written = rw (← c.in_ok-accepted.ensures.fingerprint) written;
       trailer_is = ends;
       rest = rest_of_page read.space read.world question read.start page.limit page.steps trailer
           accepts.says_universe.3.is_universe c.requires.limit ends c.requires.steps;
@@ -59,7 +59,7 @@ returns-clause-write g c =
         question = question_view read.question;
         start = read.start;
         accepts = c.in_ok-accepted.ensures.accepts;
-        written = there.2;
+        written = rw (← c.in_ok-accepted.ensures.fingerprint) there.2;
       },
     ))
     c.write_answers.ensures.write

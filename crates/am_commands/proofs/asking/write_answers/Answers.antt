@@ -31,7 +31,7 @@ returns-in-Ok-write_page-clause-written g c =
     let same : answers_page c.from-answers.result c.args.limit ≡ page_of_inputs read c.args.limit c.args.steps =
     page_is c.from-answers.result judge read.start c.args.limit c.args.steps c.from-answers.ensures.judge c.from-answers.ensures.start c.from-answers.ensures.budget c.from-answers.ensures.left_under
     ∙ page_of_plan read.space read.world question (plan_sizes judge) (plan_verdict judge) read.start c.args.limit c.args.steps (ap (λ (s : Space). sizes s.labels) c.in-Ok.ensures.space) c.in-Ok.ensures.verdict in
-    wrote_as (ap (λ u. page_text u (answers_page c.from-answers.result c.args.limit)) (c.in-Ok-of.ensures.universe ∙ c.universe.ensures.labels) ∙ ap (page_text read.space.labels) same)
+    wrote_as (ap (λ u. page_text u read.fingerprint (answers_page c.from-answers.result c.args.limit)) (c.in-Ok-of.ensures.universe ∙ c.universe.ensures.labels) ∙ ap (page_text read.space.labels read.fingerprint) same)
     c.in-Ok-write_page.ensures.written.ok
 
 pub returns-clause-write : goal.returns-clause-write
@@ -42,7 +42,7 @@ returns-clause-write g c = λ failed.
     let same : answers_page c.from-answers.result c.args.limit ≡ page_of_inputs read c.args.limit c.args.steps =
     page_is c.from-answers.result judge read.start c.args.limit c.args.steps c.from-answers.ensures.judge c.from-answers.ensures.start c.from-answers.ensures.budget c.from-answers.ensures.left_under
     ∙ page_of_plan read.space read.world question (plan_sizes judge) (plan_verdict judge) read.start c.args.limit c.args.steps (ap (λ (s : Space). sizes s.labels) c.in-Ok.ensures.space) c.in-Ok.ensures.verdict in
-    let text = ap (λ u. page_text u (answers_page c.from-answers.result c.args.limit)) (c.in-Ok-of.ensures.universe ∙ c.universe.ensures.labels) ∙ ap (page_text read.space.labels) same in (
+    let text = ap (λ u. page_text u read.fingerprint (answers_page c.from-answers.result c.args.limit)) (c.in-Ok-of.ensures.universe ∙ c.universe.ensures.labels) ∙ ap (page_text read.space.labels read.fingerprint) same in (
       c.of-in-Err-write_page.ensures.place,
       c.of-in-Err-write_page.ensures.pointer,
       subst (λ (t : List ℕ). WroteInPart g.W.Sink.taken g.W.Sink.failures c.args.out.now c.write_page.new.out t) text c.in-Err-write_page.ensures.written.err.1,
