@@ -429,7 +429,7 @@ fn fault_parts(alloc: Global, text: &[u8]) -> Result<(Kind, Place, &str), Proble
     Err(Problem::about(alloc, "a refusal's word and a place are wanted", text))
 }
 
-const KINDS: [Kind; 20] = [
+const KINDS: [Kind; 21] = [
     Kind::NotJson,
     Kind::Shape,
     Kind::UnknownField,
@@ -446,6 +446,7 @@ const KINDS: [Kind; 20] = [
     Kind::UnknownReceiver,
     Kind::UnknownRoute,
     Kind::BadToken,
+    Kind::OtherInputs,
     Kind::NeedAt,
     Kind::Write,
     Kind::Memory,

@@ -1,5 +1,6 @@
 //! Commands: a command line, and what it must write and answer.
 
+use crate::digits::{digits_of_command, has_own_token, with_digits};
 use crate::shelf::Shelf;
 use am_case_files::{
     Item, Line, Manner, Named, Problem, Stop, Writer, filled, number, split_at_first, utf8, words,
@@ -188,9 +189,40 @@ impl Command {
         }
     }
 
-    /// Whether the run is as it is said to be.
-    pub fn check(&self, host: &HostRuntime, files: &[Named]) -> Result<(), Problem> {
+    /// Puts the digits of the command's own inputs in the place of each `H` of a token.
+    fn put_digits(&mut self, host: &HostRuntime, files: &[Named]) -> Result<(), Problem> {
         let alloc = host.alloc();
+        let is_wanted = match &self.out {
+            Some(Wanted::Whole(text) | Wanted::Has(text)) => has_own_token(text.as_slice()),
+            _ => false,
+        };
+        if !is_wanted && !self.words.iter().any(|word| has_own_token(word.as_bytes())) {
+            return Ok(());
+        }
+        let digits = digits_of_command(host, files, self.words.as_slice())?;
+        let digits = digits.as_str();
+        let mut words = Vec::new(alloc);
+        for word in &self.words {
+            let word = with_digits(alloc, word.as_bytes(), digits)?;
+            words.push(String::from_str(alloc, utf8(alloc, word.as_slice())?)?)?;
+        }
+        self.words = words;
+        self.out = match self.out.take() {
+            Some(Wanted::Whole(text)) => {
+                Some(Wanted::Whole(with_digits(alloc, text.as_slice(), digits)?))
+            }
+            Some(Wanted::Has(text)) => {
+                Some(Wanted::Has(with_digits(alloc, text.as_slice(), digits)?))
+            }
+            other => other,
+        };
+        Ok(())
+    }
+
+    /// Whether the run is as it is said to be.
+    pub fn check(&mut self, host: &HostRuntime, files: &[Named]) -> Result<(), Problem> {
+        let alloc = host.alloc();
+        self.put_digits(host, files)?;
         if self.out.is_none() && self.err.is_none() && self.status.is_none() {
             return Err(Problem::said(alloc, "a case without an expectation"));
         }

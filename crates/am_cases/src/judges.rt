@@ -6,6 +6,7 @@ ghost use Rattle.am_search.specs.Words.{IsStart};
 use crate::calls::{Over, fault_behind, told};
 use crate::counted::CountedPlan;
 use crate::coverage::refusal;
+use crate::digits::with_own_digits;
 use crate::pages::Asked;
 use crate::possible::asked_of_whole;
 use crate::starts::positions_behind;
@@ -201,7 +202,8 @@ pub fn of_count(alloc: Global, over: Over<'_>, text: &[u8]) -> Result<Vec<u8>, P
         Some(text) => (text, true),
         None => (text, false),
     };
-    let asked = Asked::of(alloc, text)?;
+    let (text, _) = with_own_digits(alloc, over, text)?;
+    let asked = Asked::of(alloc, text.as_slice())?;
     let page = asked.page();
     let files = over.files(None);
     let inputs = match read_inputs(alloc, over.universe, &files, asked.question, &page) {

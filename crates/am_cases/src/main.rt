@@ -15,6 +15,7 @@ mod calls;
 mod commands;
 mod counted;
 mod coverage;
+mod digits;
 mod judges;
 mod pages;
 mod possible;

@@ -5,12 +5,14 @@ ghost use Rattle.std.specs.Prelude.{◌<◌, IfSome};
 ghost use Rattle.am_universe.specs.declared.limits.TheConstants.{MAX_LABELS};
 
 use crate::calls::{Over, fault_behind, on_one_line, told};
+use crate::digits::{with_own_digits, without_digits};
 use crate::starts::token_of;
 use am_case_files::{Problem, split_at_last, utf8};
 use am_command_line::Steps;
 use am_commands::{Page, Trailer, ask};
 use am_files::read_universe;
 use am_labels::{Fault, Kind, Out, Sink};
+use am_questions::fingerprint;
 use am_search::{Start, parse_token};
 use std::alloc::Global;
 use std::num::NonZeroU64;
@@ -114,10 +116,14 @@ fn steps_of(alloc: Global, text: &[u8]) -> Result<Steps, Problem> {
 
 /// The page that a line asks for, its lines with a blank between, or the fault.
 pub fn of_ask(alloc: Global, over: Over<'_>, text: &[u8]) -> Result<Vec<u8>, Problem> {
-    let asked = Asked::of(alloc, text)?;
+    let (text, digits) = with_own_digits(alloc, over, text)?;
+    let asked = Asked::of(alloc, text.as_slice())?;
     let mut out = Out::new(told(alloc, "ok: ")?);
     match write_asked(alloc, over, asked, &mut out) {
-        Ok(_) => Ok(on_one_line(out.into_inner())),
+        Ok(_) => {
+            let page = on_one_line(out.into_inner());
+            Ok(without_digits(alloc, page.as_slice(), digits.as_str())?)
+        }
         Err(fault) if fault.kind == Kind::Write => Err(Problem::Memory),
         Err(fault) => fault_behind(alloc, b"", &fault),
     }
@@ -134,7 +140,8 @@ struct Part {
 
 /// The lines of all answers that a line asks for.
 pub fn all_lines(alloc: Global, over: Over<'_>, text: &[u8]) -> Result<Vec<u8>, Problem> {
-    let asked = Asked::of(alloc, text)?;
+    let (own, _) = with_own_digits(alloc, over, text)?;
+    let asked = Asked::of(alloc, own.as_slice())?;
     if asked.limit.is_some() || asked.steps.is_some() {
         return Err(Problem::about(alloc, "neither a limit nor a budget is wanted here", text));
     }
@@ -157,7 +164,8 @@ pub fn check_pages(
     steps: Option<u64>,
     lines: &[u8],
 ) -> Result<bool, Problem> {
-    let asked = Asked::of(alloc, text)?;
+    let (text, _) = with_own_digits(alloc, over, text)?;
+    let asked = Asked::of(alloc, text.as_slice())?;
     let asked = Asked {
         question: asked.question,
         limit: limit.and_then(NonZeroU64::new),
@@ -218,7 +226,10 @@ fn check_length(alloc: Global, part: &Part, limit: Option<NonZeroU64>) -> Result
 fn part_of(alloc: Global, over: Over<'_>, asked: Asked<'_, '_>) -> Result<Part, Problem> {
     let mut out = Out::new(Vec::new(alloc));
     match write_asked(alloc, over, asked, &mut out) {
-        Ok(trailer) => cut(alloc, over, out.into_inner().as_slice(), trailer),
+        Ok(trailer) => {
+            let own = fingerprint(over.universe, &over.files(None), asked.question);
+            cut(alloc, over, &own, out.into_inner().as_slice(), trailer)
+        }
         Err(fault) if fault.kind == Kind::Write => Err(Problem::Memory),
         Err(fault) => {
             let fault = fault_behind(alloc, b"", &fault)?;
@@ -227,13 +238,19 @@ fn part_of(alloc: Global, over: Over<'_>, asked: Asked<'_, '_>) -> Result<Part, 
     }
 }
 
-/// Cuts a page, whose last line has to be that of the trailer.
-fn cut(alloc: Global, over: Over<'_>, page: &[u8], trailer: Trailer) -> Result<Part, Problem> {
+/// Cuts a page, whose last line has to be that of the trailer, with the fingerprint of its inputs.
+fn cut(
+    alloc: Global,
+    over: Over<'_>,
+    own: &[u8; 16],
+    page: &[u8],
+    trailer: Trailer,
+) -> Result<Part, Problem> {
     match trailer {
         Trailer::End => cut_last(alloc, page),
-        Trailer::Next(last) => cut_before(alloc, over, page, b"# next ", Start::After(last)),
+        Trailer::Next(last) => cut_before(alloc, over, own, page, b"# next ", Start::After(last)),
         Trailer::Stopped(prefix) => {
-            cut_before(alloc, over, page, b"# stopped ", Start::At(prefix))
+            cut_before(alloc, over, own, page, b"# stopped ", Start::At(prefix))
         }
     }
 }
@@ -255,6 +272,7 @@ fn cut_last(alloc: Global, page: &[u8]) -> Result<Part, Problem> {
 fn cut_before(
     alloc: Global,
     over: Over<'_>,
+    own: &[u8; 16],
     page: &[u8],
     words: &[u8],
     start: Start,
@@ -263,7 +281,7 @@ fn cut_before(
         return Err(Problem::about(alloc, "no token of the next page", page));
     };
     let token = utf8(alloc, behind.strip_suffix(b"\n").unwrap_or(behind))?;
-    check_token(alloc, over, token, start)?;
+    check_token(alloc, over, own, token, start)?;
     Ok(Part {
         lines: Vec::from_slice(alloc, lines)?,
         next: Some(String::from_str(alloc, token)?),
@@ -272,13 +290,19 @@ fn cut_before(
 }
 
 /// Whether a token is read as this start, and the start is written as the token.
-fn check_token(alloc: Global, over: Over<'_>, token: &str, wanted: Start) -> Result<(), Problem> {
+fn check_token(
+    alloc: Global,
+    over: Over<'_>,
+    own: &[u8; 16],
+    token: &str,
+    wanted: Start,
+) -> Result<(), Problem> {
     let space = match read_universe(alloc, over.universe) {
         Ok(space) => space,
         Err(_) => return Err(Problem::Memory),
     };
-    let written = token_of(alloc, &wanted)?;
-    match parse_token(token, space.universe()) {
+    let written = token_of(alloc, &wanted, own)?;
+    match parse_token(token, space.universe(), own) {
         Ok(start) if start == wanted && written.as_slice() == token.as_bytes() => Ok(()),
         _ => Err(Problem::about(alloc, "another start", token.as_bytes())),
     }

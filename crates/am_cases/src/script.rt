@@ -177,7 +177,7 @@ impl<'a> Script<'a> {
     /// Runs what is not run yet.
     fn run_pending(&mut self, host: &HostRuntime, tally: &mut Tally) -> Result<(), Problem> {
         let alloc = host.alloc();
-        if let Some(command) = self.command.take() {
+        if let Some(mut command) = self.command.take() {
             if tally.is_asked_for(command.line) {
                 let outcome = command.check(host, self.files.as_slice());
                 tally.count(command.line, outcome)?;

@@ -1,26 +1,34 @@
 //! The search: what it gives of tokens, cubes and judges that are written in a case, as a text.
 
-use crate::calls::{fault_behind, refused};
+use crate::calls::{Over, fault_behind, refused};
+use crate::digits::{digits_of, old_token, with_digits};
 use am_case_files::{Problem, split_at_last, utf8};
 use am_case_judges::{add_positions, cube_text, search_text};
 use am_files::read_universe;
 use am_labels::{Choice, Fault, Out, Place, parse_matchers};
+use am_questions::fingerprint;
 use am_search::{Start, parse_token, write_token};
 use std::alloc::Global;
 
-/// The start that a token says, or the fault. The start has to have just this token.
+/// The start that a token says, or the fault, where the universe alone is given and `any` is asked.
+/// The start has to have just this token, or this one in the old form.
 pub fn of_token(alloc: Global, universe: &[u8], token: &str) -> Result<Vec<u8>, Problem> {
+    let none = Over::universe(universe).files(None);
+    let own = fingerprint(universe, &none, "any");
+    let digits = digits_of(alloc, universe, &none, "any")?;
+    let token = with_digits(alloc, token.as_bytes(), digits.as_str())?;
     let space = match read_universe(alloc, universe) {
         Ok(space) => space,
         Err(fault) => return fault_behind(alloc, b"", &fault),
     };
-    let start = match parse_token(token, space.universe()) {
+    let start = match parse_token(utf8(alloc, token.as_slice())?, space.universe(), &own) {
         Ok(start) => start,
         Err(kind) => return fault_behind(alloc, b"", &Fault::of(alloc, kind, Place::Token)),
     };
-    let written = token_of(alloc, &start)?;
-    if written.as_slice() != token.as_bytes() {
-        return Err(Problem::differs(alloc, "token", token.as_bytes(), written.as_slice()));
+    let written = token_of(alloc, &start, &own)?;
+    let old = old_token(alloc, written.as_slice(), digits.as_str())?;
+    if token.as_slice() != written.as_slice() && token.as_slice() != old.as_slice() {
+        return Err(Problem::differs(alloc, "token", token.as_slice(), written.as_slice()));
     }
     match start {
         Start::At(prefix) => positions_behind(alloc, "ok: at", &prefix),
@@ -28,10 +36,10 @@ pub fn of_token(alloc: Global, universe: &[u8], token: &str) -> Result<Vec<u8>, 
     }
 }
 
-/// The token of a start.
-pub fn token_of(alloc: Global, start: &Start) -> Result<Vec<u8>, Problem> {
+/// The token of a start, under a fingerprint.
+pub fn token_of(alloc: Global, start: &Start, own: &[u8; 16]) -> Result<Vec<u8>, Problem> {
     let mut out = Out::new(Vec::new(alloc));
-    match write_token(start, &mut out) {
+    match write_token(start, own, &mut out) {
         Ok(()) => Ok(out.into_inner()),
         Err(_) => Err(Problem::Memory),
     }

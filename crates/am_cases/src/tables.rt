@@ -1,6 +1,7 @@
 //! Tables: a call, and a line for each text that it is handed and what it gives there.
 
 use crate::calls::{Call, Over, call_named, given};
+use crate::digits::with_own_digits;
 use crate::pages::{Asked, all_lines, check_pages, count_lines, write_asked};
 use crate::reports::{Report, write_report};
 use crate::worlds::text_and_instant;
@@ -458,7 +459,8 @@ fn fault_over(
     let over = heading.over();
     match heading.call {
         Call::Ask => {
-            let asked = Asked::of(alloc, text)?;
+            let (text, _) = with_own_digits(alloc, over, text)?;
+            let asked = Asked::of(alloc, text.as_slice())?;
             Ok(write_asked(alloc, over, asked, out).err())
         }
         Call::Dead => Ok(write_report(alloc, Report::Routes, over, text, out).err()),
