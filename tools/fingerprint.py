@@ -1,0 +1,45 @@
+"""The fingerprint of what a run is given, by which a token knows its inputs, and the tokens with
+one."""
+import hashlib
+import re
+
+# A token up to its positions, with its digits as a group.
+TOKEN = re.compile("[ts]2:([0-9a-f]{32}):")
+# The options whose values are parts, in the order in which these are joined. The question is last.
+FILES = ["--universe", "--config", "--silences", "--alerts"]
+INSTANT = "--at"
+
+
+def joined(parts):
+    """Joins six parts: universe, configuration, silences, alerts, instant and question. A part that
+    is absent is None."""
+    texts = [b"\0" if it is None else b"\1" + len(it).to_bytes(8, "big") + it for it in parts]
+    return b"".join(texts)
+
+
+def fingerprint(parts):
+    """Returns the 32 digits of six parts."""
+    return hashlib.sha256(joined(parts)).digest()[:16].hex()
+
+
+def options_of(words):
+    """Returns the values of the options of a command line of `ask`, without the words `amcover ask`,
+    and its question, or None where it has none."""
+    values, question, rest = {}, None, list(words)
+    while rest:
+        word = rest.pop(0)
+        if word == "--":
+            return values, rest[0] if rest else question
+        if word.startswith("--"):
+            name, sign, value = word.partition("=")
+            values[name] = value if sign else rest.pop(0)
+        else:
+            question = word
+    return values, question
+
+
+def parts_of(values, question, read):
+    """Returns the six parts of such a command line, of which `read` gives a file's bytes."""
+    parts = [read(values[it]) if it in values else None for it in FILES]
+    texts = [values.get(INSTANT), question]
+    return parts + [None if it is None else it.encode() for it in texts]
