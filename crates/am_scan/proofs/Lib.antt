@@ -1,0 +1,5 @@
+mod KindLemmas
+mod ClosureLemmas
+mod StepLemmas
+mod CompiledLemmas
+mod AlikeLemmas

@@ -1,0 +1,76 @@
+-- Which states of a compiled pattern lead to a match from a position of a text.
+use Rattle.std.specs.Prelude.{◌≡◌, ℕ, ◌<◌, Bool, true, false, ◌&&◌, ◌||◌, List, length, All}
+use Rattle.std.specs.Prelude.{Option, None, is_some, vec_len, slice_index_or, if◌then◌else◌}
+use Rattle.regex_hir.specs.Re.{Rest}
+use Rattle.regex_hir.specs.Find.{first_between}
+use Rattle.regex_hir.specs.Looks.{holds_between}
+use Rattle.regex_hir.specs.Text.{is_boundary, is_some_and}
+use Rattle.regex_nfa.specs.Run.{run, state_of}
+use Rattle.regex_nfa.specs.States.{next_on, read}
+use Rattle.regex_nfa.specs.declared.nfa.Nfa.{Nfa}
+use Rattle.regex_nfa.specs.declared.state.State.{State}
+use Rattle.regex_nfa.specs.declared.state.State.TheVariants.{ByteRange, Sparse, Split}
+use Rattle.regex_nfa.specs.declared.state.State.TheVariants.{Save, Look, Match, Fail}
+use Rattle.am_labels.specs.Words.{finds}
+
+-- The first match from the start of the compiled pattern at a position where a character begins.
+-- Source: own choice.
+-- Example: inside a character of several bytes there is none.
+abbrev pub start_at : Nfa → List ℕ → Rest
+start_at nfa hay i = if is_boundary hay i then run nfa hay (length hay) nfa.start i else None
+
+-- The compiled pattern matches somewhere in exactly the texts that the pattern finds.
+-- Source: own choice.
+-- Example: what is compiled of `^(?:db)$` is such for `db`.
+abbrev pub IsSearchFor : Nfa → List ℕ → Type 0
+IsSearchFor nfa p =
+    (text : List ℕ) → All (λ b. b < 256) text
+    → is_some (first_between (start_at nfa text) 0 (length text)) ≡ finds p text
+
+-- The state leads to a match from the position.
+-- Source: own choice.
+-- Example: `Match` does from every position.
+abbrev pub leads : Nfa → List ℕ → ℕ → ℕ → Bool
+leads nfa hay q i = is_some (run nfa hay (length hay) q i)
+
+-- Reading the byte at the position leads the state to a match.
+-- Source: own choice.
+-- Example: at the end of a text there is no byte, so no state does.
+abbrev pub leads_on : Nfa → List ℕ → ℕ → ℕ → Bool
+leads_on nfa hay q i =
+    let go = run nfa hay (length hay) in
+    is_some (read nfa.transitions.items hay (length hay) go (state_of nfa q) i)
+
+-- Whether a state leads to a match, by which states do; `reads` says whether reading a byte does,
+-- and `after` and `before` which kinds of bytes stand beside the position.
+-- Source: own choice.
+-- Example: a split does where one of its two targets does.
+abbrev pub accepts : Option ℕ → Option ℕ → List Bool → Bool → State → Bool
+accepts after before accepted reads (ByteRange t) = reads
+accepts after before accepted reads (Sparse from to) = reads
+accepts after before accepted reads (Split first second) =
+    slice_index_or accepted first false || slice_index_or accepted second false
+accepts after before accepted reads (Save slot next) = slice_index_or accepted next false
+accepts after before accepted reads (Look l next) =
+    holds_between l (record { byte = before; char = None }) (record { byte = after; char = None })
+    && slice_index_or accepted next false
+accepts after before accepted reads Match = true
+accepts after before accepted reads Fail = false
+
+-- Each state is accepted exactly where it leads to a match by those that are accepted.
+-- Source: own choice.
+-- Example: without `Match` among those that are accepted it is not so.
+pub record IsClosed (nfa : Nfa) (after before : Option ℕ) (reads accepted : List Bool)
+    : Type 0 where
+  pub len : length accepted ≡ vec_len nfa.states
+  pub each : (q : ℕ) → q < vec_len nfa.states
+      → slice_index_or accepted q false
+      ≡ accepts after before accepted (slice_index_or reads q false) (state_of nfa q)
+
+-- Reading the byte leads the state to one that is accepted.
+-- Source: own choice.
+-- Example: a state that reads no byte goes nowhere.
+abbrev pub goes_on : Nfa → List Bool → ℕ → ℕ → Bool
+goes_on nfa accepted q byte =
+    is_some_and (next_on nfa.transitions.items (state_of nfa q) byte)
+    (λ r. slice_index_or accepted r false)

@@ -1,0 +1,7 @@
+//! The most that there may be of what this crate counts.
+
+/// The most states of a compiled pattern that is followed.
+pub const MAX_STATES: usize = 16_384;
+
+/// The most bytes that the tables of a compiled pattern may take.
+pub const MAX_TABLE_BYTES: usize = 1_048_576;
