@@ -1,0 +1,94 @@
+-- The values of matchers, with one matcher more.
+use Rattle.std.proofs.Common.{◌≡◌, ℕ, List, [], ◌∷◌, ◌++◌, Bool, Some, slice_get, length, inl, inr, ap, sym, ◌∙◌, ◌⊎◌}
+use Rattle.std.specs.List.{list_any}
+use Rattle.std.specs.Str.{bytes_eq}
+use Rattle.std.proofs.Common.{true, zero, suc}
+use Rattle.std.proofs.lemmas.Bool.{or_cases, or_left, or_right, cases_Bool}
+use Rattle.std.proofs.lemmas.Slice.Eq.{bytes_eq-Decides}
+use Rattle.std.proofs.lemmas.Option.{same_Some}
+use Rattle.am_labels.specs.Matcher.{Condition, takes_pattern}
+use Rattle.am_classes.specs.Asked.{AreValues}
+use Rattle.am_classes.proofs.Places.{get_pushed, get_kept, get_last}
+
+-- What one matcher more is from stays what it is from.
+from_kept : (ms : List Condition) (m : Condition) (t : Bool) (vs : List (List ℕ)) → AreValues ms t vs
+    → (j : ℕ) (value : List ℕ) → slice_get vs j ≡ Some value
+    → (k : ℕ) × (n : Condition) × (slice_get (ms ++ m ∷ []) k ≡ Some n) × (takes_pattern n.op ≡ t)
+    × (n.value ≡ value)
+from_kept ms m t vs h j value e =
+    let f = h.from j value e in (f.0, f.1, get_kept ms (m ∷ []) f.1 f.0 f.2, f.3, f.4)
+
+-- A matcher of the other kind of operator adds no value.
+pub values_skip : (ms : List Condition) (m : Condition) (t : Bool) (vs : List (List ℕ))
+    → AreValues ms t vs → (takes_pattern m.op ≡ t → ⊥) → AreValues (ms ++ m ∷ []) t vs
+values_skip ms m t vs h other = record {
+  each = λ k n e takes. elim (get_pushed ms m n k e) [
+    | inl a ↦ h.each k n a takes
+    | inr b ↦ absurd (other (ap (λ x. takes_pattern x.op) b.1 ∙ takes))
+  ];
+  from = from_kept ms m t vs h;
+  once = h.once;
+}
+
+-- Nor does one whose value is there already.
+pub values_same : (ms : List Condition) (m : Condition) (t : Bool) (vs : List (List ℕ))
+    → AreValues ms t vs → (j : ℕ) → slice_get vs j ≡ Some m.value → AreValues (ms ++ m ∷ []) t vs
+values_same ms m t vs h j there = record {
+  each = λ k n e takes. elim (get_pushed ms m n k e) [
+    | inl a ↦ h.each k n a takes
+    | inr b ↦ (j, there ∙ ap (λ x. Some x.value) b.1)
+  ];
+  from = from_kept ms m t vs h;
+  once = h.once;
+}
+
+-- A new value is added.
+pub values_push : (ms : List Condition) (m : Condition) (t : Bool) (vs : List (List ℕ))
+    → AreValues ms t vs → takes_pattern m.op ≡ t → ((j : ℕ) → slice_get vs j ≡ Some m.value → ⊥)
+    → AreValues (ms ++ m ∷ []) t (vs ++ m.value ∷ [])
+values_push ms m t vs h takes new = record {
+  each = λ k n e also. elim (get_pushed ms m n k e) [
+    | inl a ↦ (let f = h.each k n a also in (f.0, get_kept vs (m.value ∷ []) n.value f.0 f.1))
+    | inr b ↦ (length vs, get_last vs m.value ∙ ap (λ x. Some x.value) b.1)
+  ];
+  from = λ j value e. elim (get_pushed vs m.value value j e) [
+    | inl a ↦ from_kept ms m t vs h j value a
+    | inr b ↦ (length ms, m, get_last ms m, takes, b.1)
+  ];
+  once = λ i j value x y. elim (get_pushed vs m.value value i x) [
+    | inl a ↦ elim (get_pushed vs m.value value j y) [
+      | inl b ↦ h.once i j value a b
+      | inr b ↦ absurd (new i (a ∙ ap Some (sym b.1)))
+    ]
+    | inr a ↦ elim (get_pushed vs m.value value j y) [
+      | inl b ↦ absurd (new j (b ∙ ap Some (sym a.1)))
+      | inr b ↦ a.0 ∙ sym b.0
+    ]
+  ];
+}
+
+-- A text that a test of each finds is at a place.
+pub among_place : (xs : List (List ℕ)) (text : List ℕ) → list_any (λ x. bytes_eq x text) xs ≡ true
+    → (k : ℕ) × (slice_get xs k ≡ Some text)
+among_place [] text e = absurd cc
+among_place (x ∷ xs) text e = elim (or_cases (bytes_eq x text) (list_any (λ y. bytes_eq y text) xs) e) [
+  | inl a ↦ (0, ap Some ((bytes_eq-Decides x text).0 a))
+  | inr b ↦ (let r = among_place xs text b in (suc r.0, r.1))
+]
+
+-- A text that is at a place is found.
+pub among_found : (xs : List (List ℕ)) (text : List ℕ) (k : ℕ) → slice_get xs k ≡ Some text
+    → list_any (λ x. bytes_eq x text) xs ≡ true
+among_found [] text k e = absurd cc
+among_found (x ∷ xs) text zero e =
+    or_left (bytes_eq x text) (list_any (λ y. bytes_eq y text) xs) ((bytes_eq-Decides x text).1 (same_Some x text e))
+among_found (x ∷ xs) text (suc k) e =
+    or_right (bytes_eq x text) (list_any (λ y. bytes_eq y text) xs) (among_found xs text k e)
+
+-- A text is at some place, or at none.
+pub among_cases : (xs : List (List ℕ)) (text : List ℕ)
+    → ((k : ℕ) × (slice_get xs k ≡ Some text)) ⊎ ((k : ℕ) → slice_get xs k ≡ Some text → ⊥)
+among_cases xs text = elim (cases_Bool (list_any (λ x. bytes_eq x text) xs)) [
+  | inl found ↦ inl (among_place xs text found)
+  | inr missed ↦ inr (λ k e. let found = among_found xs text k e in absurd cc)
+]

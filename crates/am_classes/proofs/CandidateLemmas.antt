@@ -1,0 +1,80 @@
+-- Candidates: with one more, and for all texts.
+use Rattle.std.proofs.Common.{◌≡◌, ℕ, zero, suc, refl, List, [], ◌∷◌, ◌++◌, Some, slice_get, string_bytes, inl, inr, subst, sym, ap, ◌∙◌}
+use Rattle.std.proofs.lemmas.Option.{same_Some}
+use Rattle.am_classes.specs.declared.questions.Questions.{Questions}
+use Rattle.am_classes.specs.declared.label_state.LabelState.{LabelState}
+use Rattle.am_classes.specs.declared.listed.Listed.{Listed}
+use Rattle.am_classes.specs.declared.candidate.Candidate.{Candidate}
+use Rattle.am_classes.specs.declared.tail.Tail.TheVariants.{Whole}
+use Rattle.am_classes.specs.Scans.{found_by}
+use Rattle.am_classes.specs.State.{IsNamed}
+use Rattle.am_classes.specs.Exploration.{IsClosed}
+use Rattle.am_classes.specs.Candidates.{IsCandidate, HasFound, GrowsCandidates, AreApartCandidates, Represents, AreCandidates}
+use Rattle.am_classes.proofs.Places.{get_pushed}
+use Rattle.am_classes.proofs.Utf8Lemmas.{text_whole}
+use Rattle.am_classes.proofs.ExplorationLemmas.{some_follows}
+
+-- What represents a state still does with more candidates.
+pub represents_kept : (q : Questions) (old new : List Candidate) (state : LabelState)
+    → GrowsCandidates old new → Represents q old state → Represents q new state
+represents_kept q old new state grows represents = λ text follows whole unnamed.
+    let has = represents text follows whole unnamed in (has.0, has.1, grows has.0 has.1 has.2, has.3)
+
+-- One candidate more is apart, if it is found by other patterns.
+pub apart_pushed : (q : Questions) (old : List Candidate) (x : Candidate) → AreApartCandidates q old
+    → IsCandidate q x → (HasFound old x.found.items → ⊥) → AreApartCandidates q (old ++ x ∷ [])
+apart_pushed q old x h own new = record {
+  own = λ k y at. elim (get_pushed old x y k at) [
+    | inl before ↦ h.own k y before
+    | inr here ↦ subst (IsCandidate q) here.1 own
+  ];
+  apart = λ i j y z at also same. elim (get_pushed old x y i at) [
+    | inl a ↦ elim (get_pushed old x z j also) [
+      | inl b ↦ h.apart i j y z a b same
+      | inr b ↦ absurd (new (i, y, a, same ∙ ap (λ w. w.found.items) (sym b.1)))
+    ]
+    | inr a ↦ elim (get_pushed old x z j also) [
+      | inl b ↦ absurd (new (j, z, b, sym same ∙ ap (λ w. w.found.items) (sym a.1)))
+      | inr b ↦ a.0 ∙ sym b.0
+    ]
+  ];
+}
+
+-- Candidates for all states are candidates for all texts.
+pub candidates_of_all : (q : Questions) (listed : List Listed) (cs : List Candidate)
+    → IsClosed q listed → AreApartCandidates q cs
+    → ((k : ℕ) (item : Listed) → slice_get listed k ≡ Some item → Represents q cs item.state)
+    → AreCandidates q cs
+candidates_of_all q listed cs closed distinct represents = record {
+  distinct = distinct;
+  all = λ text utf8 unnamed.
+      let whole = text_whole text utf8 in
+      let here = some_follows q listed closed text Whole whole in
+      represents here.0 here.1 here.2 text here.3 (same_Some here.1.state.tail Whole (sym here.3.tail ∙ whole)) unnamed;
+}
+
+-- Where there is no pattern, one text that is not named stands for all of these.
+pub one_candidate : (q : Questions) (cs : List Candidate) (x : Candidate) → cs ≡ x ∷ []
+    → q.scans.items ≡ [] → x.found.items ≡ [] → (IsNamed q (string_bytes x.text) → ⊥)
+    → AreCandidates q cs
+one_candidate q cs x is scans found unnamed =
+    let none : (text : List ℕ) → x.found.items ≡ found_by q.scans.items text = λ text. found ∙ sym (ap (λ ss. found_by ss text) scans) in
+    let all : AreCandidates q (x ∷ []) = record {
+      distinct = record {
+        own = only_own q x (none (string_bytes x.text), unnamed);
+        apart = only_apart x;
+      };
+      all = λ text utf8 missed. (0, x, refl, none text);
+    } in
+    subst (AreCandidates q) (sym is) all
+  where
+    only_own : (q : Questions) (x : Candidate) → IsCandidate q x → (k : ℕ) (y : Candidate)
+        → slice_get (x ∷ []) k ≡ Some y → IsCandidate q y
+    only_own q x own zero y at = subst (IsCandidate q) (same_Some x y at) own
+    only_own q x own (suc k) y at = absurd cc
+
+    only_apart : (x : Candidate) (i j : ℕ) (y z : Candidate) → slice_get (x ∷ []) i ≡ Some y
+        → slice_get (x ∷ []) j ≡ Some z → y.found.items ≡ z.found.items → i ≡ j
+    only_apart x zero zero y z at also same = refl
+    only_apart x zero (suc j) y z at also same = absurd cc
+    only_apart x (suc i) j y z at also same = absurd cc

@@ -1,0 +1,184 @@
+-- The named texts and those of the candidates stand for all classes, and no two for one.
+use Rattle.std.proofs.Common.{◌≡◌, ℕ, zero, suc, ◌+◌, Bool, true, false, not, List, [], ◌∷◌, ◌++◌, Some, slice_get, length, map, string_bytes, inl, inr, refl, subst, sym, ap, ◌∙◌, arith}
+use Rattle.std.specs.Option.{option_map}
+use Rattle.std.proofs.lemmas.Bool.{false_from_ne_true}
+use Rattle.std.proofs.lemmas.Slice.Eq.{bytes_eq-Decides}
+use Rattle.std.proofs.lemmas.Option.{same_Some, slice_get-map}
+use Rattle.am_universe.specs.Text.{same_text}
+use Rattle.am_labels.specs.declared.op.Op.{Op}
+use Rattle.am_labels.specs.declared.op.Op.TheVariants.{Equal, NotEqual, Matches, NotMatches}
+use Rattle.am_labels.specs.Matcher.{Condition, holds, takes_pattern}
+use Rattle.am_labels.specs.Pattern.{finds}
+use Rattle.am_scan.specs.Words.{pattern_of}
+use Rattle.am_classes.specs.declared.questions.Questions.{Questions}
+use Rattle.am_classes.specs.declared.candidate.Candidate.{Candidate}
+use Rattle.am_classes.specs.Alike.{AreAlike, Covers, AreApart}
+use Rattle.am_classes.specs.Asked.{AreAsked}
+use Rattle.am_classes.specs.Scans.{found_by}
+use Rattle.am_classes.specs.State.{named_texts, patterns_of, IsNamed}
+use Rattle.am_classes.specs.Candidates.{AreCandidates}
+use Rattle.am_classes.proofs.AskedLemmas.{among_cases}
+use Rattle.am_classes.proofs.Places.{get_append, get_kept, get_behind, contains_from_get, all_from_places, all_at_place, map_same}
+
+-- The same answers to the questions of matchers.
+record SameAnswers (q : Questions) (x y : List ℕ) : Type 0 where
+  texts : (k : ℕ) (named : List ℕ) → slice_get (named_texts q) k ≡ Some named → same_text x named ≡ same_text y named
+  patterns : (k : ℕ) (pattern : List ℕ) → slice_get (patterns_of q) k ≡ Some pattern → finds pattern x ≡ finds pattern y
+
+not_same : (a b : Bool) → not a ≡ not b → a ≡ b
+not_same true true e = refl
+not_same true false e = absurd cc
+not_same false true e = absurd cc
+not_same false false e = refl
+
+-- An operator is as true of one text as of another where its question has the same answer.
+holds_same : (op : Op) (value x y : List ℕ)
+    → (takes_pattern op ≡ false → same_text x value ≡ same_text y value)
+    → (takes_pattern op ≡ true → finds value x ≡ finds value y) → holds op value x ≡ holds op value y
+holds_same Equal value x y a b = a refl
+holds_same NotEqual value x y a b = ap not (a refl)
+holds_same Matches value x y a b = b refl
+holds_same NotMatches value x y a b = ap not (b refl)
+
+text_answer : (op : Op) (value x y : List ℕ) → takes_pattern op ≡ false
+    → holds op value x ≡ holds op value y → same_text x value ≡ same_text y value
+text_answer Equal value x y e h = h
+text_answer NotEqual value x y e h = not_same (same_text x value) (same_text y value) h
+text_answer Matches value x y e h = absurd cc
+text_answer NotMatches value x y e h = absurd cc
+
+pattern_answer : (op : Op) (value x y : List ℕ) → takes_pattern op ≡ true
+    → holds op value x ≡ holds op value y → finds value x ≡ finds value y
+pattern_answer Equal value x y e h = absurd cc
+pattern_answer NotEqual value x y e h = absurd cc
+pattern_answer Matches value x y e h = h
+pattern_answer NotMatches value x y e h = not_same (finds value x) (finds value y) h
+
+-- Texts with the same answers are alike.
+alike_from : (ms : List Condition) (q : Questions) → AreAsked ms q → (x y : List ℕ)
+    → SameAnswers q x y → AreAlike ms x y
+alike_from ms q asked x y same =
+    all_from_places (λ m. holds m.op m.value x ≡ holds m.op m.value y) ms
+    (λ k m at. holds_same m.op m.value x y
+    (λ text. let place = asked.texts.each k m at text in same.texts place.0 m.value place.1)
+    (λ pattern. let place = asked.patterns.each k m at pattern in same.patterns place.0 m.value place.1))
+
+-- Alike texts have the same answers.
+answers_from : (ms : List Condition) (q : Questions) → AreAsked ms q → (x y : List ℕ)
+    → AreAlike ms x y → SameAnswers q x y
+answers_from ms q asked x y alike = record {
+  texts = λ k named at.
+      let from = asked.texts.from k named at in
+      let here = all_at_place (λ m. holds m.op m.value x ≡ holds m.op m.value y) ms from.0 from.1 alike from.2 in
+      subst (λ v. same_text x v ≡ same_text y v) from.4 (text_answer from.1.op from.1.value x y from.3 here);
+  patterns = λ k pattern at.
+      let from = asked.patterns.from k pattern at in
+      let here = all_at_place (λ m. holds m.op m.value x ≡ holds m.op m.value y) ms from.0 from.1 alike from.2 in
+      subst (λ v. finds v x ≡ finds v y) from.4 (pattern_answer from.1.op from.1.value x y from.3 here);
+}
+
+-- What is at a place under a function is of what is at the place.
+get_mapped : {X Y : Type 0} (f : X → Y) (xs : List X) (k : ℕ) (y : Y) → slice_get (map f xs) k ≡ Some y
+    → (x : X) × (slice_get xs k ≡ Some x) × (f x ≡ y)
+get_mapped f [] k y e = absurd cc
+get_mapped f (x ∷ xs) zero y e = (x, refl, same_Some (f x) y e)
+get_mapped f (x ∷ xs) (suc k) y e = get_mapped f xs k y e
+
+get_under : {X Y : Type 0} (f : X → Y) (xs : List X) (k : ℕ) (x : X) → slice_get xs k ≡ Some x
+    → slice_get (map f xs) k ≡ Some (f x)
+get_under f xs k x e = slice_get-map f xs k ∙ ap (option_map f) e
+
+-- The same patterns find both: pattern by pattern, and as lists.
+patterns_from_found : (q : Questions) (x y : List ℕ)
+    → found_by q.scans.items x ≡ found_by q.scans.items y → (k : ℕ) (pattern : List ℕ)
+    → slice_get (patterns_of q) k ≡ Some pattern → finds pattern x ≡ finds pattern y
+patterns_from_found q x y same k pattern at =
+    let scan = get_mapped pattern_of q.scans.items k pattern at in
+    let ofx = get_under (λ s. finds (pattern_of s) x) q.scans.items k scan.0 scan.1 in
+    let ofy = get_under (λ s. finds (pattern_of s) y) q.scans.items k scan.0 scan.1 in
+    let one = same_Some (finds (pattern_of scan.0) x) (finds (pattern_of scan.0) y) (sym ofx ∙ ap (λ l. slice_get l k) same ∙ ofy) in
+    subst (λ p. finds p x ≡ finds p y) scan.2 one
+
+found_from_patterns : (q : Questions) (x y : List ℕ)
+    → ((k : ℕ) (pattern : List ℕ) → slice_get (patterns_of q) k ≡ Some pattern → finds pattern x ≡ finds pattern y)
+    → found_by q.scans.items x ≡ found_by q.scans.items y
+found_from_patterns q x y each =
+    map_same (λ s. finds (pattern_of s) x) (λ s. finds (pattern_of s) y) q.scans.items
+    (λ k s at. each k (pattern_of s) (get_under pattern_of q.scans.items k s at))
+
+-- A text that is not named is none of those that are.
+unnamed_differs : (q : Questions) (x : List ℕ) → (IsNamed q x → ⊥) → (k : ℕ) (named : List ℕ)
+    → slice_get (named_texts q) k ≡ Some named → same_text x named ≡ false
+unnamed_differs q x unnamed k named at =
+    false_from_ne_true (same_text x named)
+    (λ same. unnamed (k, at ∙ ap Some (sym ((bytes_eq-Decides x named).0 same))))
+
+-- The texts of the classes.
+abbrev pub class_texts : Questions → List Candidate → List (List ℕ)
+class_texts q cs = named_texts q ++ map (λ c. string_bytes c.text) cs
+
+pub classes_cover : (ms : List Condition) (q : Questions) (cs : List Candidate) → AreAsked ms q
+    → AreCandidates q cs → Covers ms (class_texts q cs)
+classes_cover ms q cs asked candidates = λ text utf8.
+    elim (among_cases (named_texts q) text) [
+      | inl named ↦ (
+        text,
+        contains_from_get (class_texts q cs) text named.0 (get_kept (named_texts q) (map (λ c. string_bytes c.text) cs) text named.0 named.1),
+        alike_from ms q asked text text (record { texts = λ k v at. refl; patterns = λ k p at. refl }),
+      )
+      | inr missed ↦
+          let has = candidates.all text utf8 (λ named. missed named.0 named.1) in
+          let x = string_bytes has.1.text in
+          let own = candidates.distinct.own has.0 has.1 has.2 in
+          let behind = get_behind (named_texts q) (map (λ c. string_bytes c.text) cs) x has.0 (get_under (λ c. string_bytes c.text) cs has.0 has.1 has.2) in (
+            x,
+            contains_from_get (class_texts q cs) x (length (named_texts q) + has.0) behind,
+            alike_from ms q asked x text (record {
+              texts = λ k v at. unnamed_differs q x own.1 k v at ∙ sym (unnamed_differs q text (λ named. missed named.0 named.1) k v at);
+              patterns = patterns_from_found q x text (sym own.0 ∙ has.3);
+            }),
+          )
+    ]
+
+-- A named text has no other beside it in its class.
+named_is_alone : (q : Questions) (x y : List ℕ) (k : ℕ) → slice_get (named_texts q) k ≡ Some x
+    → SameAnswers q x y → y ≡ x
+named_is_alone q x y k at same =
+    (bytes_eq-Decides y x).0 (sym (same.texts k x at) ∙ (bytes_eq-Decides x x).1 refl)
+
+same_answers_sym : (q : Questions) (x y : List ℕ) → SameAnswers q x y → SameAnswers q y x
+same_answers_sym q x y same = record {
+  texts = λ k v at. sym (same.texts k v at);
+  patterns = λ k p at. sym (same.patterns k p at);
+}
+
+pub classes_apart : (ms : List Condition) (q : Questions) (cs : List Candidate) → AreAsked ms q
+    → AreCandidates q cs → AreApart ms (class_texts q cs)
+classes_apart ms q cs asked candidates = λ i j x y at also alike.
+    let same = answers_from ms q asked x y alike in
+    elim (get_append (named_texts q) (map (λ c. string_bytes c.text) cs) x i at) [
+      | inl a ↦
+          let y_is : y ≡ x = named_is_alone q x y i a same in
+          elim (get_append (named_texts q) (map (λ c. string_bytes c.text) cs) y j also) [
+            | inl b ↦ asked.texts.once i j x a (b ∙ ap Some y_is)
+            | inr b ↦
+                let c = get_mapped (λ c. string_bytes c.text) cs b.0 y b.2 in
+                absurd ((candidates.distinct.own b.0 c.0 c.1).1 (i, a ∙ ap Some (sym (c.2 ∙ y_is))))
+          ]
+      | inr a ↦
+          let c = get_mapped (λ c. string_bytes c.text) cs a.0 x a.2 in
+          let own = candidates.distinct.own a.0 c.0 c.1 in
+          elim (get_append (named_texts q) (map (λ c. string_bytes c.text) cs) y j also) [
+            | inl b ↦
+                let x_is : x ≡ y = named_is_alone q y x j b (same_answers_sym q x y same) in
+                absurd (own.1 (j, b ∙ ap Some (sym (c.2 ∙ x_is))))
+            | inr b ↦
+                let d = get_mapped (λ c. string_bytes c.text) cs b.0 y b.2 in
+                let other = candidates.distinct.own b.0 d.0 d.1 in
+                let found : found_by q.scans.items x ≡ found_by q.scans.items y = found_from_patterns q x y same.patterns in
+                let ofx : c.0.found.items ≡ found_by q.scans.items x = own.0 ∙ ap (found_by q.scans.items) c.2 in
+                let ofy : d.0.found.items ≡ found_by q.scans.items y = other.0 ∙ ap (found_by q.scans.items) d.2 in
+                let place = candidates.distinct.apart a.0 b.0 c.0 d.0 c.1 d.1 (ofx ∙ found ∙ sym ofy) in
+                omega (arith, a.1, b.1, place)
+          ]
+    ]

@@ -1,0 +1,110 @@
+-- Listed states: with more listed, and each text that leads to one.
+use Rattle.std.specs.declared.alloc.Global.{Global}
+use Rattle.std.proofs.lemmas.Bool.{cases_lt}
+use Rattle.std.proofs.Common.{◌≡◌, ◌≢◌, ◌<◌, ◌+◌, Vec, vec_len, ℕ, Bool, true, false, Result, Ok, Err, IfOk, IsTrue, ◌⊎◌, List, [], ◌∷◌, ◌++◌, Some, slice_get, length, refl, inl, inr, subst, sym, ◌∙◌, arith}
+use Rattle.std.proofs.lemmas.Option.{option_and_then_some, same_Some, slice_get_within}
+use Rattle.am_classes.specs.declared.questions.Questions.{Questions}
+use Rattle.am_classes.specs.declared.label_state.LabelState.{LabelState}
+use Rattle.am_classes.specs.declared.listed.Listed.{Listed}
+use Rattle.am_classes.specs.declared.tail.Tail.{Tail}
+use Rattle.am_classes.specs.Utf8.{tail_step, tail_of}
+use Rattle.am_classes.specs.State.{FollowsLabel}
+use Rattle.am_classes.specs.Exploration.{AreListed, Grows, LeadsOn, LeadsWithin, IsClosed}
+use Rattle.am_classes.proofs.Places.{get_pushed, get_kept, get_last, get_within}
+use Rattle.am_classes.proofs.TailLemmas.{step_byte}
+
+-- What leads to a listed state still does when more is listed.
+pub leads_kept : (q : Questions) (old new : List Listed) (state : LabelState) (byte : ℕ)
+    → Grows old new → LeadsOn q old state byte → LeadsOn q new state byte
+leads_kept q old new state byte grows leads = λ tail step.
+    let to = leads tail step in (to.0, to.1, grows to.0 to.1 to.2, to.3)
+
+-- More is listed with one state more.
+pub grows_pushed : (old new : List Listed) (item : Listed) → new ≡ old ++ item ∷ [] → Grows old new
+grows_pushed old new item is = λ k x at.
+    subst (λ xs. slice_get xs k ≡ Some x) (sym is) (get_kept old (item ∷ []) x k at)
+
+-- Each state is that of the text beside it, with one state more.
+pub listed_pushed : (q : Questions) (old new : List Listed) (item : Listed)
+    → new ≡ old ++ item ∷ [] → AreListed q old → FollowsLabel q item.state item.text.items
+    → AreListed q new
+listed_pushed q old new item is own follows = λ k x at.
+    elim (get_pushed old item x k (subst (λ xs. slice_get xs k ≡ Some x) is at)) [
+      | inl before ↦ own k x before
+      | inr here ↦ subst (λ y. FollowsLabel q y.state y.text.items) here.1 follows
+    ]
+
+-- One state more is one that a byte may lead to.
+pub leads_pushed : (q : Questions) (old new : List Listed) (item : Listed) (state : LabelState)
+    (byte : ℕ) (tail : Tail) → new ≡ old ++ item ∷ [] → tail_step state.tail byte ≡ Some tail
+    → ((text : List ℕ) → FollowsLabel q state text → FollowsLabel q item.state (byte ∷ text))
+    → LeadsOn q new state byte
+leads_pushed q old new item state byte tail is step follows = λ last _.
+    (length old, item, subst (λ xs. slice_get xs (length old) ≡ Some item) (sym is) (get_last old item), follows)
+
+-- Each text leads to a listed state, if it is the end of one in UTF-8.
+pub some_follows : (q : Questions) (listed : List Listed) → IsClosed q listed → (text : List ℕ)
+    (tail : Tail) → tail_of text ≡ Some tail
+    → (k : ℕ) × (item : Listed) × (slice_get listed k ≡ Some item) × FollowsLabel q item.state text
+some_follows q listed closed [] tail e = closed.first
+some_follows q listed closed (b ∷ text) tail e =
+    option_and_then_some (λ last. tail_step last b) (tail_of text) tail e
+    (λ last before step.
+    let here = some_follows q listed closed text last before in
+    let same : last ≡ here.1.state.tail = same_Some last here.1.state.tail (sym before ∙ here.3.tail) in
+    let leads = closed.leads here.0 here.1 here.2 b (omega arith) (step_byte last tail b step) tail (subst (λ t. tail_step t b ≡ Some tail) same step) in
+    (leads.0, leads.1, leads.2, leads.3 text here.3))
+
+-- What is listed is one state more, or the same.
+pub pushed_or_kept : {E : Type 0} (r : Result Bool E) (old new : List Listed) (item : Listed)
+    → IfOk r (λ done. IsTrue done → new ≡ old ++ item ∷ []) → (r ≢ Ok true → new ≡ old)
+    → (new ≡ old ++ item ∷ []) ⊎ (new ≡ old)
+pushed_or_kept (Ok true) old new item pushed kept = inl (pushed refl)
+pushed_or_kept (Ok false) old new item pushed kept = inr (kept (λ e. absurd cc))
+pushed_or_kept (Err e) old new item pushed kept = inr (kept (λ e. absurd cc))
+
+-- What follows where a state was listed.
+pub where_done : {E P Q : Type 0} (r : Result Bool E) → IfOk r (λ done. IsTrue done → P) → (P → Q)
+    → IfOk r (λ done. IsTrue done → Q)
+where_done (Ok done) h f = λ yes'. f (h yes')
+where_done (Err e) h f = tt
+
+-- A place that was within is.
+pub grows_within : (old new : List Listed) (k : ℕ) → Grows old new → k < length old → k < length new
+grows_within old new k grows h =
+    let there = get_within old k h in slice_get_within new k there.0 (grows k there.0 there.1)
+
+pub place_within : (old new : Vec Listed Global) (at : ℕ) → Grows old.items new.items → at < vec_len old
+    → at < vec_len new
+place_within old new at grows h =
+    let place = grows_within old.items new.items at grows (omega (arith, old.ok.0)) in omega (arith, new.ok.0)
+
+-- What is at a place that was within was there.
+pub grown_back : (old new : List Listed) (k : ℕ) (item : Listed) → Grows old new → k < length old
+    → slice_get new k ≡ Some item → slice_get old k ≡ Some item
+grown_back old new k item grows h at =
+    let there = get_within old k h in there.1 ∙ sym (grows k there.0 there.1) ∙ at
+
+-- One byte more leads to what is listed.
+pub leads_more : (q : Questions) (old new : List Listed) (state : LabelState) (first byte : ℕ)
+    → Grows old new → LeadsWithin q old state first byte → LeadsOn q new state byte
+    → LeadsWithin q new state first (byte + 1)
+leads_more q old new state first byte grows leads here = λ b low high.
+    elim (cases_lt b byte) [
+      | inl below ↦ leads_kept q old new state b grows (leads b low below)
+      | inr above ↦ (let same : byte ≡ b = omega arith in subst (LeadsOn q new state) same here)
+    ]
+
+pub leads_within_kept : (q : Questions) (old new : List Listed) (state : LabelState) (first last : ℕ)
+    → Grows old new → LeadsWithin q old state first last → LeadsWithin q new state first last
+leads_within_kept q old new state first last grows leads = λ b low high.
+    leads_kept q old new state b grows (leads b low high)
+
+-- Two ranges in a row.
+pub leads_joined : (q : Questions) (listed : List Listed) (state : LabelState) (a b d : ℕ)
+    → LeadsWithin q listed state a b → LeadsWithin q listed state b d → LeadsWithin q listed state a d
+leads_joined q listed state a b d low high = λ byte from below.
+    elim (cases_lt byte b) [
+      | inl before ↦ low byte from before
+      | inr behind ↦ high byte behind below
+    ]

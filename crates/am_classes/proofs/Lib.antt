@@ -1,0 +1,10 @@
+pub mod BoolLemmas
+pub mod Places
+pub mod TailLemmas
+pub mod Utf8Lemmas
+pub mod ScanLemmas
+pub mod StateLemmas
+pub mod AskedLemmas
+pub mod ExplorationLemmas
+pub mod CandidateLemmas
+pub mod ClassLemmas

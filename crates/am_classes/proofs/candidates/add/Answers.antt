@@ -1,0 +1,67 @@
+use Rattle.std.proofs.Common.{◌≡◌, [], ◌∷◌, Some, slice_get, length, string_bytes, sym, ap, ◌∙◌, subst}
+use Rattle.am_classes.specs.declared.candidate.Candidate.{Candidate}
+use Rattle.am_classes.specs.declared.tail.Tail.TheVariants.{Whole}
+use Rattle.am_classes.specs.Scans.{found_by}
+use Rattle.am_classes.specs.State.{IsNamed}
+use Rattle.am_classes.specs.Candidates.{AreApartCandidates, IsCandidate, HasFound}
+use Rattle.am_classes.proofs.Places.{get_kept, get_last}
+use Rattle.am_classes.proofs.TailLemmas.{whole_from}
+use Rattle.am_classes.proofs.StateLemmas.{only_named}
+use Rattle.am_classes.proofs.CandidateLemmas.{apart_pushed}
+use Rattle.am_classes.proofs.candidates.add.Goals as goal
+
+pub returns-then-names-clause-added : goal.returns-then-names-clause-added
+returns-then-names-clause-added c = λ _ text follows whole unnamed.
+    let q = c.args.questions.now in
+    let named : IsNamed q c.args.item.now.text.items = subst (IsNamed q) c.as_slice.ensures.value (c.names.ensures.0 c.if-names.true) in
+    let same = only_named q c.args.item.now.state c.args.item.now.text.items text named c.requires.follows follows in
+    absurd (unnamed (subst (IsNamed q) same named))
+
+pub returns-then-has_found-clause-added : goal.returns-then-has_found-clause-added
+returns-then-has_found-clause-added c =
+    let has = c.has_found.ensures.yes c.if-has_found.true in
+    let found = rw c.in-Some.is at c.in_ok-found.ensures in
+    λ _ text follows whole unnamed. (
+      has.0,
+      has.1,
+      subst (λ cs. slice_get cs has.0 ≡ Some has.1) c.as_slice-2.ensures.value has.2,
+      has.3 ∙ c.as_slice-3.ensures.value ∙ found text follows whole,
+    )
+
+pub returns-clause-distinct : goal.returns-clause-distinct
+returns-clause-distinct c =
+    let q = c.args.questions.now in
+    let x : Candidate = record { text = c.in_ok-text.text; found = c.in-Some.found } in
+    let found = rw c.in-Some.is at c.in_ok-found.ensures in
+    let bytes : string_bytes c.in_ok-text.text ≡ c.args.item.now.text.items = c.in_ok-text.ensures.ok ∙ c.in-Ok.ensures.cases.0 ∙ c.as_slice-4.ensures.value in
+    let whole : c.args.item.now.state.tail ≡ Whole = whole_from c.args.item.now.state.tail (sym c.is_whole.ensures ∙ c.if-not-is_whole.false) in
+    let own : IsCandidate q x = (
+      found c.args.item.now.text.items c.requires.follows whole ∙ ap (found_by q.scans.items) (sym bytes),
+      λ named.
+          let named' = c.names.ensures.1 (subst (IsNamed q) (bytes ∙ sym c.as_slice.ensures.value) named) in
+          let missed = c.if-names.false in
+          absurd cc,
+    ) in
+    let new : HasFound c.args.candidates.now.items c.in-Some.found.items → ⊥ = λ has.
+    c.has_found.ensures.no c.if-has_found.false (
+      has.0,
+      has.1,
+      subst (λ cs. slice_get cs has.0 ≡ Some has.1) (sym c.as_slice-2.ensures.value) has.2,
+      has.3 ∙ sym c.as_slice-3.ensures.value,
+    ) in
+    subst (AreApartCandidates q) (sym c.in_ok-push.ensures.items) (apart_pushed q c.args.candidates.now.items x c.requires.distinct own new)
+
+pub returns-clause-grows : goal.returns-clause-grows
+returns-clause-grows c = λ k x at.
+    subst (λ cs. slice_get cs k ≡ Some x) (sym c.in_ok-push.ensures.items) (get_kept c.args.candidates.now.items (_ ∷ []) x k at)
+
+pub returns-clause-added : goal.returns-clause-added
+returns-clause-added c =
+    let x : Candidate = record { text = c.in_ok-text.text; found = c.in-Some.found } in
+    let found = rw c.in-Some.is at c.in_ok-found.ensures in
+    λ _ text follows whole unnamed. (
+      length c.args.candidates.now.items,
+      x,
+      subst (λ cs. slice_get cs (length c.args.candidates.now.items) ≡ Some x) (sym c.in_ok-push.ensures.items) (get_last c.args.candidates.now.items x),
+      found text follows whole,
+    )

@@ -1,0 +1,30 @@
+-- Texts that some matchers cannot tell apart. Here the matchers are those of one label, and each is
+-- asked of a text whatever its name is.
+use Rattle.std.specs.Prelude.{◌≡◌, ℕ, List, Some, slice_get, Contains}
+use Rattle.std.specs.List.{AllByRecursion}
+use Rattle.std.specs.Str.{IsUtf8}
+use Rattle.am_labels.specs.Matcher.{Condition, holds}
+
+-- Two texts are alike to matchers: each matcher has the same truth on both.
+-- Source: own choice; the term is that of Myhill and Nerode, who call two texts equivalent where no
+-- test tells them apart.
+-- Example: to `team=~"db.*"` and `team!="web"` the texts `db` and `db2` are alike, and `db` and
+-- `web` are not.
+abbrev pub AreAlike : List Condition → List ℕ → List ℕ → Type 0
+AreAlike ms x y = AllByRecursion (λ m. holds m.op m.value x ≡ holds m.op m.value y) ms
+
+-- One of some texts is alike to a text.
+abbrev pub HasAlikeIn : List Condition → List (List ℕ) → List ℕ → Type 0
+HasAlikeIn ms texts text = (x : List ℕ) × Contains texts x × AreAlike ms x text
+
+-- Some texts cover all: whatever text there is, one of them is alike to it.
+-- Source: own choice.
+-- Example: to `team="db"` alone, `db` and the empty text cover all.
+abbrev pub Covers : List Condition → List (List ℕ) → Type 0
+Covers ms texts = (text : List ℕ) → IsUtf8 text → HasAlikeIn ms texts text
+
+-- No two of some texts are alike.
+abbrev pub AreApart : List Condition → List (List ℕ) → Type 0
+AreApart ms texts =
+    (i j : ℕ) (x y : List ℕ) → slice_get texts i ≡ Some x → slice_get texts j ≡ Some y
+    → AreAlike ms x y → i ≡ j

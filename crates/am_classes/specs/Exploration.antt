@@ -1,0 +1,44 @@
+-- States of a label that have been listed, each with a text that leads to it.
+use Rattle.std.specs.Prelude.{◌≡◌, ◌<◌, ◌≤◌, ℕ, List, [], ◌∷◌, Some, slice_get}
+use Rattle.am_classes.specs.declared.questions.Questions.{Questions}
+use Rattle.am_classes.specs.declared.label_state.LabelState.{LabelState}
+use Rattle.am_classes.specs.declared.listed.Listed.{Listed}
+use Rattle.am_classes.specs.declared.tail.Tail.{Tail}
+use Rattle.am_classes.specs.Utf8.{tail_step}
+use Rattle.am_classes.specs.State.{FollowsLabel}
+
+-- Each state is that of the text beside it.
+abbrev pub AreListed : Questions → List Listed → Type 0
+AreListed q listed =
+    (k : ℕ) (item : Listed) → slice_get listed k ≡ Some item
+    → FollowsLabel q item.state item.text.items
+
+-- What was listed stays in its place.
+abbrev pub Grows : List Listed → List Listed → Type 0
+Grows old new =
+    (k : ℕ) (item : Listed) → slice_get old k ≡ Some item → slice_get new k ≡ Some item
+
+-- A byte in front of a text that a state follows leads to a listed state, unless UTF-8 has no such
+-- byte there.
+-- Source: own choice.
+-- Example: where the states of `a` and `ba` are listed as one, `b` leads from it to itself.
+abbrev pub LeadsOn : Questions → List Listed → LabelState → ℕ → Type 0
+LeadsOn q listed state byte =
+    (tail : Tail) → tail_step state.tail byte ≡ Some tail
+    → (k : ℕ) × (item : Listed) × (slice_get listed k ≡ Some item)
+    × ((text : List ℕ) → FollowsLabel q state text → FollowsLabel q item.state (byte ∷ text))
+
+-- Each byte from the first on and below the last does.
+abbrev pub LeadsWithin : Questions → List Listed → LabelState → ℕ → ℕ → Type 0
+LeadsWithin q listed state first last =
+    (byte : ℕ) → first ≤ byte → byte < last → LeadsOn q listed state byte
+
+-- No text leads out of what is listed.
+-- Source: own choice; the term is that of finite automata, whose states are closed under steps.
+-- Example: where nothing is asked of a text, one state for each thing that UTF-8 allows in front.
+pub record IsClosed (q : Questions) (listed : List Listed) : Type 0 where
+  pub own : AreListed q listed
+  pub first : (k : ℕ) × (item : Listed) × (slice_get listed k ≡ Some item)
+      × FollowsLabel q item.state []
+  pub leads : (k : ℕ) (item : Listed) → slice_get listed k ≡ Some item
+      → LeadsWithin q listed item.state 0 256

@@ -1,0 +1,9 @@
+pub mod Alike
+pub mod Words
+pub mod Utf8
+pub mod Scans
+pub mod Rest
+pub mod State
+pub mod Asked
+pub mod Exploration
+pub mod Candidates

@@ -1,0 +1,46 @@
+-- The ends of texts in UTF-8, read byte by byte from the last.
+use Rattle.std.specs.Prelude.{ℕ, Bool, true, false, List, [], ◌∷◌, if◌then◌else◌, nat_lt, ◌==◌}
+use Rattle.std.specs.Prelude.{Option, Some, None, option_and_then}
+use Rattle.am_classes.specs.declared.tail.Tail.{Tail}
+use Rattle.am_classes.specs.declared.tail.Tail.TheVariants.{Whole, One, TwoLow, TwoHigh}
+use Rattle.am_classes.specs.declared.tail.Tail.TheVariants.{ThreeLow, ThreeHigh}
+
+-- What stands at the front with one byte more before it, where UTF-8 has such a byte there.
+-- Source: The Unicode Standard, table 3-7, "Well-Formed UTF-8 Byte Sequences", read from the right.
+-- Example: before a byte `A9` alone stand `C2` to `DF`, or another byte of the same character.
+abbrev pub tail_step : Tail → ℕ → Option Tail
+tail_step Whole b =
+    if nat_lt b 0x80 then Some Whole else if nat_lt b 0xC0 then Some One else None
+tail_step One b =
+    if nat_lt b 0x80 then None else if nat_lt b 0xA0 then Some TwoLow
+    else if nat_lt b 0xC0 then Some TwoHigh else if nat_lt b 0xC2 then None
+    else if nat_lt b 0xE0 then Some Whole else None
+tail_step TwoLow b =
+    if nat_lt b 0x80 then None else if nat_lt b 0x90 then Some ThreeLow
+    else if nat_lt b 0xC0 then Some ThreeHigh else if nat_lt b 0xE1 then None
+    else if nat_lt b 0xF0 then Some Whole else None
+tail_step TwoHigh b =
+    if nat_lt b 0x80 then None else if nat_lt b 0x90 then Some ThreeLow
+    else if nat_lt b 0xC0 then Some ThreeHigh else if nat_lt b 0xE0 then None
+    else if b == 0xED then None else if nat_lt b 0xF0 then Some Whole else None
+tail_step ThreeLow b =
+    if nat_lt b 0xF1 then None else if nat_lt b 0xF5 then Some Whole else None
+tail_step ThreeHigh b =
+    if nat_lt b 0xF0 then None else if nat_lt b 0xF4 then Some Whole else None
+
+-- What stands at the front of bytes, where UTF-8 has texts that end with them.
+-- Source: The Unicode Standard, table 3-7, "Well-Formed UTF-8 Byte Sequences".
+-- Example: `C3 A9` is whole, `A9` has one byte of a character that begins further in front, and
+-- `C3` is at the end of no text.
+abbrev pub tail_of : List ℕ → Option Tail
+tail_of [] = Some Whole
+tail_of (b ∷ text) = option_and_then (λ tail. tail_step tail b) (tail_of text)
+
+-- A character begins at the front, or the text ends there.
+abbrev pub is_whole : Tail → Bool
+is_whole Whole = true
+is_whole One = false
+is_whole TwoLow = false
+is_whole TwoHigh = false
+is_whole ThreeLow = false
+is_whole ThreeHigh = false

@@ -1,0 +1,6 @@
+/// A text that no matcher names, and which of the patterns find it.
+#[derive(Drop)]
+pub(crate) struct Candidate {
+    pub(crate) text: String,
+    pub(crate) found: Vec<bool>,
+}

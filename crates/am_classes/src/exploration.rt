@@ -1,0 +1,176 @@
+ghost use Rattle.std.specs.Prelude.{◌≡◌, ◌≢◌, ◌<◌, ◌+◌, ◌∷◌, ◌++◌, ℕ, List, [], Some, true};
+ghost use Rattle.std.specs.Prelude.{IfOk, IfSome, IsTrue, slice_get, vec_len};
+ghost use Rattle.am_classes.specs.declared.questions.Questions.{Questions};
+ghost use Rattle.am_classes.specs.declared.listed.Listed.{Listed};
+ghost use Rattle.am_classes.specs.State.{FollowsLabel};
+ghost use Rattle.am_classes.specs.Exploration.{AreListed, Grows, LeadsOn, LeadsWithin, IsClosed};
+
+use crate::label_state::LabelState;
+use crate::limits::MAX_STATES;
+use crate::listed::Listed;
+use crate::questions::Questions;
+use std::alloc::{AllocError, Global};
+use std::collections::HashMap;
+
+/// Lists states of a label until each that a text leads to is there, the shortest text first.
+/// `None` where they are too many, or one cannot be computed.
+pub(crate) fn explored(
+    alloc: Global,
+    questions: &Questions,
+) -> Result<Option<Vec<Listed>>, AllocError>
+    ensures { IfOk result (λ found. IfSome found (λ listed.
+        IsClosed questions.now listed.items)) }
+{
+    let mut exploration = Exploration::new(alloc, questions)?;
+    for at in 0..MAX_STATES {
+        if at == exploration.listed.len() {
+            return Ok(Some(exploration.listed));
+        }
+        if !exploration.explore(alloc, questions, at)? {
+            return Ok(None);
+        }
+    }
+    Ok(None)
+}
+
+/// The states of a label that have been listed so far.
+#[derive(Drop)]
+struct Exploration {
+    listed: Vec<Listed>,
+    // Where the state of a hash is listed, so that most states are looked up and not sought.
+    places: HashMap<u64, usize>,
+}
+
+impl Exploration {
+    /// The state of the empty text alone.
+    fn new(alloc: Global, questions: &Questions) -> Result<Exploration, AllocError>
+        ensures own { IfOk result (λ e. AreListed questions.now e.listed.items) }
+        ensures first { IfOk result (λ e. (item : Listed)
+            → slice_get e.listed.items 0 ≡ Some item → FollowsLabel questions.now item.state []) }
+        ensures some { IfOk result (λ e. vec_len e.listed ≡ 1) }
+    {
+        let state = questions.end(alloc)?;
+        let text = Vec::new(alloc);
+        Ok(Exploration {
+            listed: vec![in alloc; Listed { state, text }]?,
+            places: HashMap::new(alloc),
+        })
+    }
+
+    /// Lists the states to which a byte leads from a listed state. Bytes that are printed well come
+    /// first, so that texts are read well.
+    fn explore(
+        &mut self,
+        alloc: Global,
+        questions: &Questions,
+        at: usize,
+    ) -> Result<bool, AllocError>
+        requires at { at < vec_len self.old.listed }
+        requires own { AreListed questions.now self.old.listed.items }
+        ensures own { AreListed questions.now self.new.listed.items }
+        ensures grows { Grows self.old.listed.items self.new.listed.items }
+        ensures leads { IfOk result (λ done. IsTrue done → (item : Listed)
+            → slice_get self.old.listed.items at ≡ Some item
+            → LeadsWithin questions.now self.new.listed.items item.state 0 256) }
+    {
+        if !self.explore_bytes(alloc, questions, at, b'a', 126)? {
+            return Ok(false);
+        }
+        if !self.explore_bytes(alloc, questions, at, b' ', 96)? {
+            return Ok(false);
+        }
+        if !self.explore_bytes(alloc, questions, at, 0, 31)? {
+            return Ok(false);
+        }
+        self.explore_bytes(alloc, questions, at, 127, 255)
+    }
+
+    /// Lists the states to which a byte of this range leads from a listed state. `false` where
+    /// there are too many states, or one cannot be computed.
+    fn explore_bytes(
+        &mut self,
+        alloc: Global,
+        questions: &Questions,
+        at: usize,
+        first: u8,
+        last: u8,
+    ) -> Result<bool, AllocError>
+        requires at { at < vec_len self.old.listed }
+        requires own { AreListed questions.now self.old.listed.items }
+        ensures own { AreListed questions.now self.new.listed.items }
+        ensures grows { Grows self.old.listed.items self.new.listed.items }
+        ensures leads { IfOk result (λ done. IsTrue done → (item : Listed)
+            → slice_get self.old.listed.items at ≡ Some item
+            → LeadsWithin questions.now self.new.listed.items item.state first (last + 1)) }
+    {
+        for byte in first..=last {
+            if !self.explore_byte(alloc, questions, at, byte)? {
+                return Ok(false);
+            }
+        }
+        Ok(true)
+    }
+
+    /// Lists the state to which a byte leads from a listed state, unless it is listed already.
+    /// `false` where there are too many states, or it cannot be computed.
+    fn explore_byte(
+        &mut self,
+        alloc: Global,
+        questions: &Questions,
+        at: usize,
+        byte: u8,
+    ) -> Result<bool, AllocError>
+        requires at { at < vec_len self.old.listed }
+        requires own { AreListed questions.now self.old.listed.items }
+        ensures own { AreListed questions.now self.new.listed.items }
+        ensures grows { Grows self.old.listed.items self.new.listed.items }
+        ensures leads { IfOk result (λ done. IsTrue done → (item : Listed)
+            → slice_get self.old.listed.items at ≡ Some item
+            → LeadsOn questions.now self.new.listed.items item.state byte) }
+    {
+        let item = &self.listed[at];
+        let Some(tail) = item.state.tail.step(byte) else {
+            return Ok(true);
+        };
+        let Some(state) = questions.step(alloc, &item.state, byte, tail)? else {
+            return Ok(false);
+        };
+        if self.has(&state) {
+            return Ok(true);
+        }
+        let mut text = vec![in alloc; byte]?;
+        text.extend_from_slice(item.text.as_slice())?;
+        self.list(Listed { state, text })
+    }
+
+    /// Whether a state that serves for this one is found among the listed ones.
+    fn has(&self, state: &LabelState) -> bool
+        ensures { IsTrue result → (k : ℕ) × (item : Listed)
+            × (slice_get self.now.listed.items k ≡ Some item)
+            × ((questions : Questions) (text : List ℕ) → FollowsLabel questions state.now text
+            → FollowsLabel questions item.state text) }
+    {
+        let Some(place) = self.places.get(&state.hash()) else {
+            return false;
+        };
+        match self.listed.get(*place) {
+            Some(item) => state.same(&item.state),
+            None => false,
+        }
+    }
+
+    /// Lists a state. `false`, and nothing is listed, where there are too many.
+    fn list(&mut self, item: Listed) -> Result<bool, AllocError>
+        ensures listed { IfOk result (λ done. IsTrue done
+            → self.new.listed.items ≡ self.old.listed.items ++ item ∷ []) }
+        ensures kept { result ≢ Ok true → self.new.listed.items ≡ self.old.listed.items }
+    {
+        let place = self.listed.len();
+        if place >= MAX_STATES {
+            return Ok(false);
+        }
+        self.places.insert(item.state.hash(), place)?;
+        self.listed.push(item)?;
+        Ok(true)
+    }
+}

@@ -1,0 +1,67 @@
+ghost use Rattle.std.specs.Prelude.{◌≡◌, ℕ, List, IsTrue};
+ghost use Rattle.am_classes.specs.Rest.{rest_bytes};
+
+use crate::scans::same_states;
+use crate::tail::Tail;
+use am_scan::{PatternState, hash_with};
+
+/// All that matters to the matchers of a label of a text of which only the end has been read.
+#[derive(Drop)]
+pub(crate) struct LabelState {
+    /// What UTF-8 allows in front.
+    pub(crate) tail: Tail,
+    /// What was read, as long as a text that the matchers name ends with it.
+    pub(crate) rest: Option<Vec<u8>>,
+    /// What each pattern makes of it.
+    pub(crate) patterns: Vec<PatternState>,
+}
+
+impl LabelState {
+    ghost use Rattle.am_classes.specs.declared.questions.Questions.{Questions};
+    ghost use Rattle.am_classes.specs.State.{FollowsLabel};
+
+    /// Whether two states are the same. Only `true` promises something: each text that has led to
+    /// one may as well have led to the other.
+    pub(crate) fn same(&self, other: &LabelState) -> bool
+        ensures { IsTrue result → (questions : Questions) (text : List ℕ)
+            → FollowsLabel questions self.now text → FollowsLabel questions other.now text }
+    {
+        if self.tail != other.tail {
+            return false;
+        }
+        same_rest(&self.rest, &other.rest)
+            && same_states(self.patterns.as_slice(), other.patterns.as_slice())
+    }
+
+    /// A number by which states are told apart fast. Nothing is promised of it.
+    pub(crate) fn hash(&self) -> u64 {
+        let mut hash = match &self.rest {
+            Some(rest) => hash_of(rest.as_slice()),
+            None => 0,
+        };
+        for pattern in &self.patterns {
+            hash = hash_with(hash, pattern.hash());
+        }
+        hash_with(hash, self.tail as u64)
+    }
+}
+
+/// Whether two texts that are kept are the same.
+fn same_rest(rest: &Option<Vec<u8>>, other: &Option<Vec<u8>>) -> bool
+    ensures { IsTrue result → rest_bytes rest.now ≡ rest_bytes other.now }
+{
+    match (rest, other) {
+        (Some(rest), Some(other)) => rest.as_slice() == other.as_slice(),
+        (None, None) => true,
+        _ => false,
+    }
+}
+
+/// A number for a text.
+fn hash_of(text: &[u8]) -> u64 {
+    let mut hash = 1;
+    for byte in text {
+        hash = hash_with(hash, u64::from(*byte));
+    }
+    hash
+}

@@ -1,0 +1,28 @@
+//! Texts that stand for all: one of each class of texts that a label's matchers cannot tell apart.
+//!
+//! [`classes`] gives them. Where a matcher takes a pattern, all texts are explored from their ends:
+//! what matters of an end is one of finitely many states, and each byte in front of it leads from
+//! one state to another.
+#![tactic(auto)]
+
+// How much there may be.
+pub mod limits;
+
+// What the matchers of a label ask of a text.
+mod questions;
+mod scans;
+
+// What matters of a text of which only the end has been read.
+mod label_state;
+mod tail;
+
+// The states that texts lead to.
+mod exploration;
+mod listed;
+
+// The texts of which one stands for each class.
+mod candidate;
+mod candidates;
+mod class_texts;
+
+pub use class_texts::classes;

@@ -1,0 +1,167 @@
+ghost use Rattle.std.specs.Prelude.{◌≡◌, ◌↔◌, ◌∷◌, [], ℕ, List, Some, false, IsTrue, map};
+ghost use Rattle.std.specs.Prelude.{IfOk, IfSome, string_bytes, slice_get};
+ghost use Rattle.am_labels.specs.Words.{takes_pattern};
+ghost use Rattle.am_classes.specs.declared.tail.Tail.TheVariants.{Whole};
+ghost use Rattle.am_classes.specs.Utf8.{tail_step};
+ghost use Rattle.am_classes.specs.State.{FollowsLabel, IsNamed, named_texts};
+ghost use Rattle.am_classes.specs.Rest.{IsNoEnd, RestFollows, rest_bytes};
+ghost use Rattle.am_classes.specs.Scans.{found_by};
+ghost use Rattle.am_classes.specs.Asked.{AreValues, AreAsked};
+
+use crate::label_state::LabelState;
+use crate::scans::{end_states, found_patterns, next_states, scans_of};
+use crate::tail::Tail;
+use am_labels::{Matcher, Op};
+use am_scan::PatternScan;
+use std::alloc::{AllocError, Global};
+
+/// What the matchers of a label ask of a text: whether it is one of some texts, and which of some
+/// patterns find it. None stands there twice.
+#[derive(Drop)]
+pub(crate) struct Questions {
+    pub(crate) texts: Vec<String>,
+    pub(crate) scans: Vec<PatternScan>,
+}
+
+impl Questions {
+    /// What matchers ask. `None` where a pattern cannot be followed.
+    pub(crate) fn of(alloc: Global, matchers: &[&Matcher]) -> Result<Option<Questions>, AllocError>
+        ensures { IfOk result (λ found. IfSome found (λ questions.
+            AreAsked (map (λ m. m.now) matchers.now) questions)) }
+    {
+        let texts = values(alloc, matchers, false)?;
+        let patterns = values(alloc, matchers, true)?;
+        let Some(scans) = scans_of(alloc, patterns.as_slice())? else {
+            return Ok(None);
+        };
+        Ok(Some(Questions { texts, scans }))
+    }
+
+    /// Whether a text is one of those that are named.
+    pub(crate) fn names(&self, text: &[u8]) -> bool
+        ensures { IsTrue result ↔ IsNamed self.now text.now }
+    {
+        is_among(self.texts.as_slice(), text)
+    }
+
+    /// The state of the empty text.
+    pub(crate) fn end(&self, alloc: Global) -> Result<LabelState, AllocError>
+        ensures { IfOk result (λ state. FollowsLabel self.now state []) }
+    {
+        Ok(LabelState {
+            tail: Tail::Whole,
+            rest: Some(Vec::new(alloc)),
+            patterns: end_states(alloc, self.scans.as_slice())?,
+        })
+    }
+
+    /// The state of a text with one byte more in front, where UTF-8 allows it and has this tail
+    /// then. `None` where what a pattern makes of it cannot be computed.
+    pub(crate) fn step(
+        &self,
+        alloc: Global,
+        state: &LabelState,
+        byte: u8,
+        tail: Tail,
+    ) -> Result<Option<LabelState>, AllocError>
+        ensures { IfOk result (λ found. IfSome found (λ next. (text : List ℕ)
+            → FollowsLabel self.now state.now text → tail_step state.now.tail byte ≡ Some tail
+            → FollowsLabel self.now next (byte ∷ text))) }
+    {
+        let scans = self.scans.as_slice();
+        let starts = state.tail.is_whole();
+        let Some(patterns) = next_states(alloc, scans, state.patterns.as_slice(), starts, byte)?
+        else {
+            return Ok(None);
+        };
+        let rest = self.rest(alloc, &state.rest, byte)?;
+        Ok(Some(LabelState {
+            tail,
+            rest,
+            patterns,
+        }))
+    }
+
+    /// What was read with one byte more in front, as long as a named text ends with it.
+    fn rest(
+        &self,
+        alloc: Global,
+        rest: &Option<Vec<u8>>,
+        byte: u8,
+    ) -> Result<Option<Vec<u8>>, AllocError>
+        ensures { IfOk result (λ next. (text : List ℕ)
+            → RestFollows (named_texts self.now) (rest_bytes rest.now) text
+            → RestFollows (named_texts self.now) (rest_bytes next) (byte ∷ text)) }
+    {
+        let Some(rest) = rest else {
+            return Ok(None);
+        };
+        let mut longer = vec![in alloc; byte]?;
+        longer.extend_from_slice(rest.as_slice())?;
+        if is_end(self.texts.as_slice(), longer.as_slice()) {
+            Ok(Some(longer))
+        } else {
+            Ok(None)
+        }
+    }
+
+    /// Which patterns find the texts that a state follows. `None` where this cannot be computed.
+    pub(crate) fn found(
+        &self,
+        alloc: Global,
+        state: &LabelState,
+    ) -> Result<Option<Vec<bool>>, AllocError>
+        ensures { IfOk result (λ found. IfSome found (λ answers. (text : List ℕ)
+            → FollowsLabel self.now state.now text → state.now.tail ≡ Whole
+            → answers.items ≡ found_by self.now.scans.items text)) }
+    {
+        found_patterns(alloc, self.scans.as_slice(), state.patterns.as_slice())
+    }
+}
+
+/// Whether a text is one of those.
+fn is_among(texts: &[String], text: &[u8]) -> bool
+    ensures { IsTrue result
+        ↔ ((k : ℕ) × (slice_get (map string_bytes texts.now) k ≡ Some text.now)) }
+{
+    texts.iter().any(|other| other.as_bytes() == text)
+}
+
+/// Whether one of some texts ends with this.
+fn is_end(texts: &[String], end: &[u8]) -> bool
+    ensures { result ≡ false → IsNoEnd (map string_bytes texts.now) end.now }
+{
+    for text in texts {
+        if text.as_bytes().ends_with(end) {
+            return true;
+        }
+    }
+    false
+}
+
+/// The values of the matchers whose operator takes a pattern, or of those whose operator takes
+/// none, each once.
+fn values(alloc: Global, matchers: &[&Matcher], patterns: bool) -> Result<Vec<String>, AllocError>
+    ensures { IfOk result (λ values.
+        AreValues (map (λ m. m.now) matchers.now) patterns (map string_bytes values.items)) }
+{
+    let mut values: Vec<String> = Vec::new(alloc);
+    for matcher in matchers {
+        if takes_pattern(matcher.op()) != patterns {
+            continue;
+        }
+        let value = matcher.value();
+        if is_among(values.as_slice(), value.as_bytes()) {
+            continue;
+        }
+        values.push(String::from_str(alloc, value)?)?;
+    }
+    Ok(values)
+}
+
+/// Whether an operator takes its value as a pattern.
+fn takes_pattern(op: Op) -> bool
+    ensures { result ≡ takes_pattern op }
+{
+    matches!(op, Op::Matches | Op::NotMatches)
+}
