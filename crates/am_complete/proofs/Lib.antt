@@ -1,0 +1,14 @@
+pub mod Alike
+pub mod LabelTexts
+pub mod StandingChoice
+pub mod Completeness
+pub mod AmongMatchers
+pub mod UniverseAlerts
+pub mod SameFate
+pub mod SpaceAlerts
+pub mod CompleteExample
+pub mod OptionParts
+pub mod JsonTexts
+pub mod JsonTokens
+pub mod JsonGrammar
+pub mod JsonData

@@ -1,0 +1,103 @@
+-- Which matchers decide what becomes of an alert.
+use Rattle.std.specs.Prelude.{◌≡◌, ℕ, List, [], ◌++◌, map}
+use Rattle.std.specs.List.{flat_map, filter}
+use Rattle.am_universe.specs.LabelSet.{LabelMap}
+use Rattle.am_labels.specs.Matcher.{Condition, all_hold}
+use Rattle.am_labels.specs.Space.{Space}
+use Rattle.am_records.specs.SilencesFile.{Silence}
+use Rattle.am_files.specs.ConfigFile.{RouteTree, Routes, route, no_routes, next_route, Rule}
+use Rattle.am_files.specs.ConfigFile.{Configuration}
+use Rattle.am_eval.specs.World.{World}
+use Rattle.am_eval.specs.Conditions.{same_value}
+use Rattle.am_eval.specs.Routing.{ends, receivers}
+use Rattle.am_eval.specs.Silencing.{is_silenced}
+use Rattle.am_eval.specs.Inhibition.{is_inhibited}
+use Rattle.am_eval.specs.Tree.{Part, Not, And, Or}
+use Rattle.am_eval.specs.Question.{Question, Simple, Any, Silenced, Inhibited, Receiver, Ends}
+use Rattle.am_eval.specs.Question.{Enters, Braces}
+
+-- The matchers of a route and of all routes below it, in preorder; and those of some children.
+abbrev mutual
+  pub route_conditions : RouteTree → List Condition
+  route_conditions (route settings children) = settings.matchers ++ routes_conditions children
+
+  pub routes_conditions : Routes → List Condition
+  routes_conditions no_routes = []
+  routes_conditions (next_route t ts) = route_conditions t ++ routes_conditions ts
+
+-- The matchers of both sides of inhibition rules, rule by rule.
+abbrev pub rule_conditions : List Rule → List Condition
+rule_conditions rules = flat_map (λ rule. rule.source ++ rule.target) rules
+
+-- What `equal` asks, written as matchers: for each rule, each alert that its source side matches
+-- and each name in `equal`, that the label has the value that it has in that alert.
+-- Source: Alertmanager configuration reference 0.25, "<inhibit_rule>": `equal`.
+-- Example: where `equal` has `team`, and an alert of the team `db` fires that the source side
+-- matches, it is `team="db"`.
+abbrev pub equal_to_alert : List (List ℕ) → LabelMap → List Condition
+equal_to_alert names a = map (same_value a) names
+
+abbrev pub equal_conditions : List Rule → List LabelMap → List Condition
+equal_conditions rules alerts =
+    flat_map
+    (λ rule. flat_map (equal_to_alert rule.equal) (filter (λ a. all_hold a rule.source) alerts))
+    rules
+
+-- The matchers of silences, whatever the instant.
+abbrev pub silence_conditions : List Silence → List Condition
+silence_conditions silences = flat_map (λ silence. silence.matchers) silences
+
+-- The matchers of impossible lists.
+abbrev pub impossible_conditions : List (List Condition) → List Condition
+impossible_conditions lists = flat_map (λ ms. ms) lists
+
+-- All matchers that decide where an alert ends in a world, and what silences or inhibits it: those
+-- of the routes, of the rules, of `equal`, and of the silences.
+-- Source: own choice.
+-- Example: in a world with one route, no rule and no silence there are none.
+abbrev pub world_conditions : World → List Condition
+world_conditions w =
+    route_conditions w.config.root
+    ++ (rule_conditions w.config.rules
+    ++ (equal_conditions w.config.rules w.alerts ++ silence_conditions w.silences))
+
+-- The matchers that decide which label sets end at a route or go to a receiver, and are possible:
+-- those of the routes, and of the impossible lists.
+-- Source: own choice.
+-- Example: where nothing is impossible they are those of the routes.
+abbrev pub coverage_conditions : Space → Configuration → List Condition
+coverage_conditions s c = route_conditions c.root ++ impossible_conditions s.impossible
+
+-- The matchers that a question has itself: those in its braces.
+abbrev pub simple_conditions : Simple → List Condition
+simple_conditions Any = []
+simple_conditions Silenced = []
+simple_conditions Inhibited = []
+simple_conditions (Receiver receiver) = []
+simple_conditions (Ends path) = []
+simple_conditions (Enters path) = []
+simple_conditions (Braces matchers) = matchers
+
+abbrev pub question_conditions : Question → List Condition
+question_conditions (Part simple) = simple_conditions simple
+question_conditions (Not q) = question_conditions q
+question_conditions (And q r) = question_conditions q ++ question_conditions r
+question_conditions (Or q r) = question_conditions q ++ question_conditions r
+
+-- The matchers that decide whether a label set satisfies a question and is possible: those of the
+-- world, of the question, and of the impossible lists.
+-- Source: own choice.
+-- Example: for the question `any`, where nothing is impossible, they are those of the world.
+abbrev pub asked_conditions : Space → World → Question → List Condition
+asked_conditions s w q =
+    world_conditions w ++ (question_conditions q ++ impossible_conditions s.impossible)
+
+-- Two label sets have the same fate in a world: they end at the same routes, go to the same
+-- receivers, and are silenced, and inhibited, both or neither.
+-- Source: own choice.
+-- Example: where no matcher and no `equal` names `env`, `{env="dev"}` and `{}` have the same fate.
+pub record HaveTheSameFate (w : World) (s t : LabelMap) : Type 0 where
+  pub same_ends : ends s w.config ≡ ends t w.config
+  pub same_receivers : receivers s w.config ≡ receivers t w.config
+  pub same_silenced : is_silenced w s ≡ is_silenced w t
+  pub same_inhibited : is_inhibited w s ≡ is_inhibited w t

@@ -1,0 +1,74 @@
+-- Complete universes: those that stand for every alert. Whatever labels an alert has, some choice
+-- of a universe that is complete for some matchers meets exactly the same of them.
+use Rattle.std.specs.Prelude.{◌≡◌, ℕ, List, [], ◌∷◌, map, Option, Some, None, unwrap_or, IsTrue}
+use Rattle.std.specs.Prelude.{Contains, IfSome}
+use Rattle.std.specs.List.{filter, find, AllByRecursion}
+use Rattle.std.specs.FinMap.{get}
+use Rattle.std.specs.Str.{IsUtf8}
+use Rattle.am_universe.specs.Text.{same_text}
+use Rattle.am_universe.specs.Universe.{Label, is_label_name}
+use Rattle.am_universe.specs.LabelSet.{LabelMap}
+use Rattle.am_labels.specs.Matcher.{Condition, condition_holds}
+use Rattle.am_labels.specs.Space.{Space, is_possible}
+use Rattle.am_classes.specs.Alike.{HasAlikeIn}
+
+-- The matchers on one label, in order.
+abbrev pub about : List ℕ → List Condition → List Condition
+about name ms = filter (λ m. same_text m.name name) ms
+
+-- The texts that a label has in the label sets of a universe: its values, absence being the empty
+-- text; and the empty text alone where the label is not declared.
+abbrev pub texts_of_label : Option Label → List (List ℕ)
+texts_of_label None = [] ∷ []
+texts_of_label (Some label) = map (λ v. unwrap_or v []) label.values
+
+abbrev pub label_texts : List Label → List ℕ → List (List ℕ)
+label_texts u name = texts_of_label (find (λ l. same_text l.name name) u)
+
+-- A text of a label has one alike in the universe, to the matchers on that label.
+abbrev pub HasAlike : List Label → List Condition → List ℕ → List ℕ → Type 0
+HasAlike u ms name text = HasAlikeIn (about name ms) (label_texts u name) text
+
+-- A universe is complete at a label, for some matchers: whatever text the label has, one of the
+-- universe is alike to it.
+-- Source: own choice.
+-- Example: for `team=~"db|web"` alone, a universe is complete at `team` with the values `db` and
+-- absence; it is not with `db` and `web`.
+abbrev pub IsCompleteAt : List Label → List Condition → List ℕ → Type 0
+IsCompleteAt u ms name = (text : List ℕ) → IsUtf8 text → HasAlike u ms name text
+
+-- A universe is complete for some matchers: it is at each label that an alert may have.
+-- Source: own choice.
+-- Example: for no matchers every universe is complete, the one without labels too.
+abbrev pub IsComplete : List Label → List Condition → Type 0
+IsComplete u ms = (name : List ℕ) → IsTrue (is_label_name name) → IsCompleteAt u ms name
+
+-- Each of some matchers is one of others.
+abbrev pub AreAmong : List Condition → List Condition → Type 0
+AreAmong ns ms = AllByRecursion (Contains ms) ns
+
+-- A label set that an alert may have: its names are label names, and its values are UTF-8.
+-- Source: Prometheus data model, "Metric names and labels". Own choice: an alert may have no label.
+-- Example: `{team="db"}` is one; a label set with the name `job-name` is none.
+abbrev pub IsAlert : LabelMap → Type 0
+IsAlert s =
+    (name text : List ℕ) → get s name ≡ Some text → IsTrue (is_label_name name) × IsUtf8 text
+
+-- An alert of a space: no list that is impossible matches it. Its labels need not be declared.
+-- Source: own choice.
+-- Example: where `env=prod,team=""` is impossible, `{env="dev"}` is one, and
+-- `{env="prod"}` is none.
+abbrev pub IsAlertOf : Space → LabelMap → Type 0
+IsAlertOf s alert = IsAlert alert × IsTrue (is_possible s.impossible alert)
+
+-- The texts that the labels of a universe may have are UTF-8.
+-- Source: RFC 8259, section 8.1: so is JSON text, which says them.
+-- Example: in a universe where each label is always absent, they are.
+abbrev pub HasUtf8Texts : List Label → Type 0
+HasUtf8Texts u = AllByRecursion (λ l. AllByRecursion (λ v. IfSome v IsUtf8) l.values) u
+
+-- Two label sets meet the same of some matchers: each matcher has the same truth on both.
+-- Source: own choice.
+-- Example: `{team="db"}` and `{team="web"}` meet the same of `team!="ops"`.
+abbrev pub MeetsTheSame : List Condition → LabelMap → LabelMap → Type 0
+MeetsTheSame ms s t = AllByRecursion (λ m. condition_holds s m ≡ condition_holds t m) ms

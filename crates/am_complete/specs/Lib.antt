@@ -1,0 +1,4 @@
+pub mod Complete
+pub mod CompleteExample
+pub mod Asked
+pub mod Words
