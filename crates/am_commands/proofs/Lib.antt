@@ -1,3 +1,4 @@
 pub mod AskedPages
 pub mod AskedAgain
 pub mod AcceptedReport
+pub mod EveryAlert

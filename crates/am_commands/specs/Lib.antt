@@ -2,3 +2,4 @@ pub mod Words
 pub mod AskOutcome
 pub mod Reports
 pub mod Done
+pub mod EveryAlert

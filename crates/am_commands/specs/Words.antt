@@ -4,3 +4,4 @@ pub use Rattle.am_commands.specs.AskOutcome.{page_of_inputs, Asked, IsAskedOf, A
 pub use Rattle.am_commands.specs.Reports.{AcceptsReport, ReportsFiles, report_stages}
 pub use Rattle.am_commands.specs.Done.{bytes_if_any, universe_bytes, world_inputs}
 pub use Rattle.am_commands.specs.Done.{IsDone, IsDoneInPart, request_stages}
+pub use Rattle.am_commands.specs.EveryAlert.{NoAlertEndsAt, NoAlertEnters, NoAlertGoesTo}

@@ -1,11 +1,13 @@
 //! Facts about the definitions alone: each is the contract of a function with an empty body.
-ghost use Rattle.std.specs.Prelude.{◌≡◌, ℕ, List, [], Some, None, Option};
+ghost use Rattle.std.specs.Prelude.{◌≡◌, ◌↔◌, ℕ, List, [], Some, None, Option, Contains, IsTrue};
 ghost use Rattle.std.specs.List.{flat_map};
 ghost use Rattle.am_universe.specs.declared.kind.Kind.TheVariants as kinds;
 ghost use Rattle.am_universe.specs.declared.place.Place.{Place};
-ghost use Rattle.am_labels.specs.Words.{Label, IsUniverse, sizes, Space};
+ghost use Rattle.am_labels.specs.Words.{Label, IsUniverse, sizes, Space, LabelMap};
 ghost use Rattle.am_json.specs.Words.{Refusal};
 ghost use Rattle.am_files.specs.Words.{Configuration};
+ghost use Rattle.am_files.specs.Path.{leads_through};
+ghost use Rattle.am_eval.specs.Words.{ends, receivers};
 ghost use Rattle.am_eval.specs.Words.{World, Question, is_answer, answers, IsFirstFaultOfCall};
 ghost use Rattle.am_search.specs.declared.start.Start.{Start};
 ghost use Rattle.am_search.specs.declared.start.Start.TheVariants.{At, After};
@@ -19,7 +21,14 @@ ghost use Rattle.am_questions.specs.Words.{Inputs, AcceptsInputs, AsksStart, aft
 ghost use Rattle.am_questions.specs.Words.{inputs_fingerprint};
 ghost use Rattle.am_search.specs.Words.{lines_text};
 ghost use Rattle.am_commands.specs.Words.{Asked, IsAskedOf, AreAskedInARow};
+ghost use Rattle.am_complete.specs.Words.{IsComplete, coverage_conditions, HasUtf8Texts};
+ghost use Rattle.am_complete.specs.Words.{IsAlertOf};
+ghost use Rattle.am_coverage.specs.declared.coverage.RouteCoverage.TheVariants as route_is;
+ghost use Rattle.am_coverage.specs.declared.coverage.ReceiverCoverage.TheVariants as receiver_is;
+ghost use Rattle.am_coverage.specs.Words.{IsDead, IsNeverEntered, IsUnmatched};
+ghost use Rattle.am_coverage.specs.Words.{route_coverage, receiver_coverage};
 ghost use Rattle.am_commands.specs.Words.{AcceptsReport, report_stages};
+ghost use Rattle.am_commands.specs.Words.{NoAlertEndsAt, NoAlertEnters, NoAlertGoesTo};
 
 /// The answers from the first choice on are all answers to the question.
 pub fn answers_from_the_first_choice_on_are_all()
@@ -98,4 +107,53 @@ pub fn accepted_files_have_no_fault()
         (place : Place) (refusal : Refusal) → AcceptsReport universe_file config_file s c
         → IsFirstFaultOfCall (report_stages universe_file config_file) place refusal
         → refusal.kind ≡ kinds.Pattern }
+{}
+
+/// Over a universe that is complete for the matchers of the routes and of what is impossible, no
+/// alert at all ends at a route that is dead, none ends at or below one that is never entered, and
+/// none goes to a receiver that is unmatched.
+pub fn a_dead_route_of_a_complete_universe_has_no_alert()
+    ensures dead { (s : Space) (c : Configuration) (path : List ℕ) → IsUniverse s.labels
+        → IsComplete s.labels (coverage_conditions s c)
+        → IsDead s c path → NoAlertEndsAt s c path }
+    ensures never_entered { (s : Space) (c : Configuration) (path : List ℕ) → IsUniverse s.labels
+        → IsComplete s.labels (coverage_conditions s c)
+        → IsNeverEntered s c path → NoAlertEnters s c path }
+    ensures unmatched { (s : Space) (c : Configuration) (receiver : ℕ) → IsUniverse s.labels
+        → IsComplete s.labels (coverage_conditions s c)
+        → IsUnmatched s c receiver → NoAlertGoesTo s c receiver }
+{}
+
+/// Over any universe, complete or not, some alert ends at each route that is told as live, some
+/// ends below each that is told as entered, and some goes to each receiver that is told as live.
+pub fn a_route_is_live_in_any_universe()
+    ensures live { (s : Space) (c : Configuration) (path choice : List ℕ) → IsUniverse s.labels
+        → HasUtf8Texts s.labels → route_coverage s c path ≡ route_is.Live choice
+        → (alert : LabelMap) × IsAlertOf s alert × Contains (ends alert c) path }
+    ensures entered { (s : Space) (c : Configuration) (path : List ℕ) → IsUniverse s.labels
+        → HasUtf8Texts s.labels → route_coverage s c path ≡ route_is.Entered
+        → (alert : LabelMap) × (end : List ℕ) × IsAlertOf s alert × Contains (ends alert c) end
+        × IsTrue (leads_through path end) }
+    ensures receiver { (s : Space) (c : Configuration) (receiver : ℕ) (choice : List ℕ)
+        → IsUniverse s.labels → HasUtf8Texts s.labels
+        → receiver_coverage s c receiver ≡ receiver_is.Live choice
+        → (alert : LabelMap) × IsAlertOf s alert × Contains (receivers alert c) receiver }
+{}
+
+/// So over a universe file that is complete a route is dead exactly where no alert at all ends
+/// there, it is never entered exactly where none ends there or below it, and a receiver is
+/// unmatched exactly where none goes to it.
+pub fn over_a_complete_universe_dead_is_exact()
+    ensures dead { (universe_file config_file path : List ℕ) (s : Space) (c : Configuration)
+        → AcceptsReport universe_file config_file s c
+        → IsComplete s.labels (coverage_conditions s c)
+        → (IsDead s c path ↔ NoAlertEndsAt s c path) }
+    ensures never_entered { (universe_file config_file path : List ℕ) (s : Space)
+        (c : Configuration) → AcceptsReport universe_file config_file s c
+        → IsComplete s.labels (coverage_conditions s c)
+        → (IsNeverEntered s c path ↔ NoAlertEnters s c path) }
+    ensures unmatched { (universe_file config_file : List ℕ) (s : Space) (c : Configuration)
+        (receiver : ℕ) → AcceptsReport universe_file config_file s c
+        → IsComplete s.labels (coverage_conditions s c)
+        → (IsUnmatched s c receiver ↔ NoAlertGoesTo s c receiver) }
 {}
