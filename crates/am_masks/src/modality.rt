@@ -38,6 +38,7 @@ impl Modality {
     }
 
     /// Whether the verdict of a list passes at a prefix.
+    #[inline(always)]
     pub fn holds<L: JudgedList>(self, list: &L, prefix: &Choice) -> bool
         ensures verdict { result ≡ passes self (L.verdict list.now prefix.now) }
     {

@@ -28,17 +28,21 @@ pub page_of_all : (ending : Trailer) (xs : List (List ℕ)) (limit : Option ℕ)
 page_of_all ending xs None h = refl
 page_of_all ending xs (Some n) h = ap (λ b. cond b (part_page xs n) (all_page ending xs)) (le-ltb n (length xs) h)
 
--- ---- How far it has come: `done` are written, the last of them is `last`, there is room for so many more under the limit.
+-- ---- How far it has come: `done` are written, there is room for so many more under the limit, and where there is one, the last of them is `last`.
 pub record IsSoFar (xs : List (List ℕ)) (limit : Option ℕ) (IsWritten : List (List ℕ) → Type 0) (left : List (List ℕ)) (room : Option ℕ) (last : List ℕ) : Type 0 where
   pub done : List (List ℕ)
   pub all : xs ≡ done ++ left
   pub limit_is : limit ≡ option_map (λ r. length done + r) room
-  pub last_is : last ≡ get_or done (length done - 1) []
+  pub last_is : IfSome room (λ _. last ≡ get_or done (length done - 1) [])
   pub written : IsWritten done
 
 pub begun : (xs : List (List ℕ)) (limit : Option ℕ) (IsWritten : List (List ℕ) → Type 0) (last : List ℕ) → last ≡ [] → IsWritten [] → IsSoFar xs limit IsWritten xs limit last
-begun xs limit IsWritten last e w = record { done = []; all = refl; limit_is = by limit; last_is = e; written = w }
+begun xs limit IsWritten last e w = record { done = []; all = refl; limit_is = by limit; last_is = here limit; written = w }
   where
+    here : (o : Option ℕ) → IfSome o (λ _. last ≡ [])
+    here None = tt
+    here (Some n) = e
+
     by : (o : Option ℕ) → o ≡ option_map (λ r. 0 + r) o
     by None = refl
     by (Some n) = ap Some (omega arith)
@@ -68,7 +72,7 @@ module _ {xs : List (List ℕ)} {limit : Option ℕ} {IsWritten : List (List ℕ
       ap (page_ending ending xs) is ∙ page_of_part ending xs n (omega (arith, ap length same, length-append done (c ∷ rest)))
       ∙ ap (λ l. part_page l n) same
       ∙ ap (λ (l : List (List ℕ)). record { choices = l; trailer = Next (get_or (done ++ c ∷ rest) (n - 1) []) }) (take-append_seam done (c ∷ rest))
-      ∙ ap (λ (l : List ℕ). record { choices = done; trailer = Next l }) (get_or_append_left done (c ∷ rest) [] (n - 1) (omega (arith, positive)) ∙ sym so_far.last_is)
+      ∙ ap (λ (l : List ℕ). record { choices = done; trailer = Next l }) (get_or_append_left done (c ∷ rest) [] (n - 1) (omega (arith, positive)) ∙ sym (subst (λ r. IfSome r (λ _. last ≡ get_or done (n - 1) [])) e so_far.last_is))
 
   -- the next answer is written: the page has it behind the others
   pub through : (c : List ℕ) (rest : List (List ℕ)) → left ≡ c ∷ rest → room ≢ Some 0 → (more : List (List ℕ)) × ((page_ending ending xs limit).choices ≡ so_far.done ++ c ∷ more)
@@ -94,15 +98,19 @@ module _ {xs : List (List ℕ)} {limit : Option ℕ} {IsWritten : List (List ℕ
           under false h = (rest, ap (λ l. (page_ending ending xs l).choices) is ∙ ap (λ b. (cond b (part_page xs n) (all_page ending xs)).choices) h ∙ same)
 
 module _ {xs : List (List ℕ)} {limit : Option ℕ} {IsWritten : List (List ℕ) → Type 0} {left : List (List ℕ)} {room : Option ℕ} {last : List ℕ} (so_far : IsSoFar xs limit IsWritten left room last) where
-  pub one_more : {IsWrittenNow : List (List ℕ) → Type 0} (c : List ℕ) (rest : List (List ℕ)) (after : Option ℕ) → left ≡ c ∷ rest → room ≡ option_map (λ r. r + 1) after → IsWrittenNow (so_far.done ++ c ∷ []) → IsSoFar xs limit IsWrittenNow rest after c
-  one_more c rest after found less w = record {
+  pub one_more : {IsWrittenNow : List (List ℕ) → Type 0} (c : List ℕ) (rest : List (List ℕ)) (after : Option ℕ) (now : List ℕ) → left ≡ c ∷ rest → room ≡ option_map (λ r. r + 1) after → IfSome after (λ _. now ≡ c) → IsWrittenNow (so_far.done ++ c ∷ []) → IsSoFar xs limit IsWrittenNow rest after now
+  one_more c rest after now found less is_last w = record {
     done = so_far.done ++ c ∷ [];
     all = so_far.all ∙ ap (λ l. so_far.done ++ l) found ∙ sym (append_assoc so_far.done (c ∷ []) rest);
     limit_is = so_far.limit_is ∙ ap (option_map (λ r. length so_far.done + r)) less ∙ by after;
-    last_is = sym (ap (λ n. get_or (so_far.done ++ c ∷ []) n []) (omega (arith, length-append so_far.done (c ∷ []))) ∙ get_or-append_seam so_far.done c [] []);
+    last_is = last_is_now after is_last;
     written = w;
   }
     where
+      last_is_now : (o : Option ℕ) → IfSome o (λ _. now ≡ c) → IfSome o (λ _. now ≡ get_or (so_far.done ++ c ∷ []) (length (so_far.done ++ c ∷ []) - 1) [])
+      last_is_now None h = tt
+      last_is_now (Some n) h = h ∙ sym (ap (λ n. get_or (so_far.done ++ c ∷ []) n []) (omega (arith, length-append so_far.done (c ∷ []))) ∙ get_or-append_seam so_far.done c [] [])
+
       by : (o : Option ℕ) → option_map (λ r. length so_far.done + r) (option_map (λ r. r + 1) o) ≡ option_map (λ r. length (so_far.done ++ c ∷ []) + r) o
       by None = refl
       by (Some n) = ap Some (omega (arith, length-append so_far.done (c ∷ [])))

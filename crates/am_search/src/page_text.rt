@@ -55,8 +55,9 @@ fn write_lines<J: Judge, W: Sink>(
             return Ok(Trailer::Next(last));
         }
         table.write_line(&choice, out)?;
-        last = choice;
+        // Without a limit no trailer names a choice.
         if let Some(lines) = room {
+            last = choice;
             room = Some(lines - 1);
         }
     }

@@ -1,4 +1,4 @@
-use Rattle.std.proofs.Common.{◌≡◌, ◌≢◌, Some, ap, refl, sym, subst, ◌∙◌}
+use Rattle.std.proofs.Common.{◌≡◌, ◌≢◌, Some, IfSome, ap, refl, sym, subst, ◌∙◌}
 use Rattle.std.proofs.lemmas.Result.{IfOk-from_err}
 use Rattle.std.specs.List.{flat_map}
 use Rattle.am_universe.specs.Universe.{sizes}
@@ -51,7 +51,7 @@ loop-choice-preserved-in-Some-room-whole g c =
     let so_far = c.loop-choice.invariant.0 in
     let less = less_by_one _ (one_less _ _ c.in-Some-room.is (some_room _ c.if-eq.ensures)) in
     let written = wrote_as (lines_more (line c.args.table.now) so_far.done c.in-Some.choice) (wrote_then so_far.written (wrote_as (ap (λ u. line u c.in-Some.choice) c.loop-choice.invariant.2) c.in_ok-write_line.ensures.written.ok)) in
-    let more = one_more so_far _ _ _ c.in-Some.ensures.first (c.in-Some-room.is ∙ less) written in
+    let more = one_more so_far _ _ _ c.in-Some.choice c.in-Some.ensures.first (c.in-Some-room.is ∙ less) refl written in
     (more, c.in-Some.ensures.judge ∙ c.loop-choice.invariant.1, c.in_ok-write_line.ensures.same ∙ c.loop-choice.invariant.2, same_stop c.next.new.self c.loop-choice.answers c.in-Some.ensures.judge c.in-Some.ensures.start c.in-Some.ensures.budget ∙ c.loop-choice.invariant.3)
 
 pub loop-choice-smaller : goal.loop-choice-smaller
@@ -61,7 +61,8 @@ pub loop-choice-preserved-whole : goal.loop-choice-preserved-whole
 loop-choice-preserved-whole g c =
     let so_far = c.loop-choice.invariant.0 in
     let written = wrote_as (lines_more (line c.args.table.now) so_far.done c.in-Some.choice) (wrote_then so_far.written (wrote_as (ap (λ u. line u c.in-Some.choice) c.loop-choice.invariant.2) c.in_ok-write_line.ensures.written.ok)) in
-    let more = one_more so_far _ _ _ c.in-Some.ensures.first (no_limit _ c.in_default-room.is) written in
+    let none = c.in_default-room.is in
+    let more = one_more so_far _ _ _ c.loop-choice.last c.in-Some.ensures.first (no_limit _ none) (subst (λ r. IfSome r (λ _. c.loop-choice.last ≡ c.in-Some.choice)) (sym none) tt) written in
     (more, c.in-Some.ensures.judge ∙ c.loop-choice.invariant.1, c.in_ok-write_line.ensures.same ∙ c.loop-choice.invariant.2, same_stop c.next.new.self c.loop-choice.answers c.in-Some.ensures.judge c.in-Some.ensures.start c.in-Some.ensures.budget ∙ c.loop-choice.invariant.3)
 
 pub returns-clause-trailer : goal.returns-clause-trailer
