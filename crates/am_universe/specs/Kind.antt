@@ -7,9 +7,9 @@ use Rattle.am_universe.specs.declared.kind.Kind.TheVariants.{Duplicate, Empty, U
 use Rattle.am_universe.specs.declared.kind.Kind.TheVariants.{RootMatchers, BadTime, Limit}
 use Rattle.am_universe.specs.declared.kind.Kind.TheVariants.{QuestionSyntax, UnknownReceiver}
 use Rattle.am_universe.specs.declared.kind.Kind.TheVariants.{UnknownRoute, BadToken, OtherInputs}
-use Rattle.am_universe.specs.declared.kind.Kind.TheVariants.{NeedAt, Write, Memory, Read}
+use Rattle.am_universe.specs.declared.kind.Kind.TheVariants.{NeedAt, Write, Memory, Read, Unproved}
 
--- The number of a kind, 1 to 21.
+-- The number of a kind, 1 to 22.
 abbrev pub kind_number : Kind → ℕ
 kind_number NotJson = 1
 kind_number Shape = 2
@@ -32,6 +32,7 @@ kind_number Write = 18
 kind_number Memory = 19
 kind_number Read = 20
 kind_number OtherInputs = 21
+kind_number Unproved = 22
 
 -- The word for a kind that the program prints.
 abbrev pub kind_text : Kind → List ℕ
@@ -56,3 +57,4 @@ kind_text NeedAt = codes "need-at"
 kind_text Write = codes "write"
 kind_text Memory = codes "memory"
 kind_text Read = codes "read"
+kind_text Unproved = codes "unproved"

@@ -50,10 +50,12 @@ pub enum Kind {
     Memory,
     /// A file could not be read.
     Read,
+    /// It was not found which values of a label its matchers tell apart.
+    Unproved,
 }
 
 impl Kind {
-    /// The number of the kind, 1 to 21.
+    /// The number of the kind, 1 to 22.
     pub fn number(self) -> u8
         ensures number { result ≡ kind_number self }
     {
@@ -79,6 +81,7 @@ impl Kind {
             Kind::Memory => 19,
             Kind::Read => 20,
             Kind::OtherInputs => 21,
+            Kind::Unproved => 22,
         }
     }
 
@@ -108,6 +111,7 @@ impl Kind {
             Kind::Write => "write",
             Kind::Memory => "memory",
             Kind::Read => "read",
+            Kind::Unproved => "unproved",
         }
     }
 }
