@@ -36,8 +36,9 @@ pub fn read_world(alloc: Global, files: &Files<'_>) -> Result<World, Fault>
     World::new(alloc, config, silences, alerts, instant)
 }
 
-/// The silences of a file. Without one there are none.
-fn read_silences_if_any(alloc: Global, file: Option<&[u8]>) -> Result<Silences, Fault>
+/// The silences of a file; without one there are none. A fault is at `Silences`, as
+/// `read_silences` has it; or `Memory`, at `Memory`.
+pub fn read_silences_if_any(alloc: Global, file: Option<&[u8]>) -> Result<Silences, Fault>
     ensures says { IfOk result (SaysSilencesIfAny (option_copied file.entry)) }
     ensures first { IfErr result (λ fault. fault.kind ≢ kinds.Memory
         → (fault.place ≡ places.Silences)
@@ -52,8 +53,9 @@ fn read_silences_if_any(alloc: Global, file: Option<&[u8]>) -> Result<Silences, 
     }
 }
 
-/// The alerts of a file. Without one there are none.
-fn read_alerts_if_any(alloc: Global, file: Option<&[u8]>) -> Result<Alerts, Fault>
+/// The alerts of a file; without one there are none. A fault is at `Alerts`, as `read_alerts` has
+/// it; or `Memory`, at `Memory`.
+pub fn read_alerts_if_any(alloc: Global, file: Option<&[u8]>) -> Result<Alerts, Fault>
     ensures says { IfOk result (SaysAlertsIfAny (option_copied file.entry)) }
     ensures first { IfErr result (λ fault. fault.kind ≢ kinds.Memory
         → (fault.place ≡ places.Alerts)
