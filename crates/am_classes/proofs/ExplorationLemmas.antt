@@ -1,7 +1,8 @@
 -- Listed states: with more listed, and each text that leads to one.
 use Rattle.std.specs.declared.alloc.Global.{Global}
 use Rattle.std.proofs.lemmas.Bool.{cases_lt}
-use Rattle.std.proofs.Common.{◌≡◌, ◌≢◌, ◌<◌, ◌+◌, Vec, vec_len, ℕ, Bool, true, false, Result, Ok, Err, IfOk, IsTrue, ◌⊎◌, List, [], ◌∷◌, ◌++◌, Some, slice_get, length, refl, inl, inr, subst, sym, ◌∙◌, arith}
+use Rattle.std.specs.Option.{is_some}
+use Rattle.std.proofs.Common.{◌≡◌, ◌≢◌, ◌<◌, ◌+◌, Vec, vec_len, ℕ, Bool, true, Option, None, Result, Ok, Err, IfOk, IfSome, IsTrue, ◌⊎◌, List, [], ◌∷◌, ◌++◌, Some, slice_get, length, refl, inl, inr, subst, sym, ◌∙◌, arith}
 use Rattle.std.proofs.lemmas.Option.{option_and_then_some, same_Some, slice_get_within}
 use Rattle.am_classes.specs.declared.questions.Questions.{Questions}
 use Rattle.am_classes.specs.declared.label_state.LabelState.{LabelState}
@@ -9,7 +10,8 @@ use Rattle.am_classes.specs.declared.listed.Listed.{Listed}
 use Rattle.am_classes.specs.declared.tail.Tail.{Tail}
 use Rattle.am_classes.specs.Utf8.{tail_step, tail_of}
 use Rattle.am_classes.specs.State.{FollowsLabel}
-use Rattle.am_classes.specs.Exploration.{AreListed, Grows, LeadsOn, LeadsWithin, IsClosed}
+use Rattle.am_classes.specs.Scans.{FollowEach, MakeSame}
+use Rattle.am_classes.specs.Exploration.{AreListed, Grows, LeadsOn, LeadsTo, LeadsFrom, LeadsBefore, LeadsWithin, IsClosed}
 use Rattle.am_classes.proofs.Places.{get_pushed, get_kept, get_last, get_within}
 use Rattle.am_classes.proofs.TailLemmas.{step_byte}
 
@@ -36,11 +38,46 @@ listed_pushed q old new item is own follows = λ k x at.
 
 -- One state more is one that a byte may lead to.
 pub leads_pushed : (q : Questions) (old new : List Listed) (item : Listed) (state : LabelState)
-    (byte : ℕ) (tail : Tail) → new ≡ old ++ item ∷ [] → tail_step state.tail byte ≡ Some tail
+    (byte place : ℕ) → place ≡ length old → new ≡ old ++ item ∷ []
     → ((text : List ℕ) → FollowsLabel q state text → FollowsLabel q item.state (byte ∷ text))
-    → LeadsOn q new state byte
-leads_pushed q old new item state byte tail is step follows = λ last _.
-    (length old, item, subst (λ xs. slice_get xs (length old) ≡ Some item) (sym is) (get_last old item), follows)
+    → LeadsTo q new state byte place
+leads_pushed q old new item state byte place here is follows = λ tail _.
+    let last = subst (λ xs. slice_get xs (length old) ≡ Some item) (sym is) (get_last old item) in
+    (item, subst (λ k. slice_get new k ≡ Some item) (sym here) last, follows)
+
+-- A byte that leads to the state at a place leads on.
+pub leads_on : (q : Questions) (listed : List Listed) (at byte : ℕ) (item : Listed)
+    (found : Option ℕ) → is_some found ≡ true → slice_get listed at ≡ Some item
+    → IfSome found (λ place. LeadsFrom q listed at byte place) → LeadsOn q listed item.state byte
+leads_on q listed at byte item (Some place) some here leads = λ tail step.
+    let to = leads item here tail step in (place, to.0, to.1, to.2)
+leads_on q listed at byte item None some here leads = absurd cc
+
+-- It is the byte before the next.
+pub leads_next : (q : Questions) (listed : List Listed) (at byte : ℕ) (found : Option ℕ)
+    → IfSome found (λ place. LeadsFrom q listed at byte place)
+    → IfSome found (λ place. LeadsBefore q listed at (byte + 1) place)
+leads_next q listed at byte (Some place) leads = (byte, refl, leads)
+leads_next q listed at byte None leads = tt
+
+-- A byte leads where the byte before it led, if it does so for UTF-8, for what is kept of a text,
+-- and for the patterns.
+pub leads_again : (q : Questions) (listed : List Listed) (state : LabelState) (next : Listed)
+    (one byte place : ℕ) → slice_get listed place ≡ Some next
+    → tail_step state.tail one ≡ tail_step state.tail byte → MakeSame q.scans.items one byte
+    → ((text : List ℕ) → FollowsLabel q state text → FollowsLabel q next.state (one ∷ text)
+    → FollowEach q.scans.items next.state.patterns.items (byte ∷ text)
+    → FollowsLabel q next.state (byte ∷ text))
+    → LeadsTo q listed state one place → LeadsTo q listed state byte place
+leads_again q listed state next one byte place at tails alike again leads = λ tail step.
+    let to = leads tail (tails ∙ step) in
+    let same : to.0 ≡ next = same_Some to.0 next (sym to.1 ∙ at) in (
+      next,
+      at,
+      λ text own.
+          let before = subst (λ x. FollowsLabel q x.state (one ∷ text)) same (to.2 text own) in
+          again text own before (alike next.state.patterns.items text before.patterns),
+    )
 
 -- Each text leads to a listed state, if it is the end of one in UTF-8.
 pub some_follows : (q : Questions) (listed : List Listed) → IsClosed q listed → (text : List ℕ)
@@ -56,18 +93,33 @@ some_follows q listed closed (b ∷ text) tail e =
     (leads.0, leads.1, leads.2, leads.3 text here.3))
 
 -- What is listed is one state more, or the same.
-pub pushed_or_kept : {E : Type 0} (r : Result Bool E) (old new : List Listed) (item : Listed)
-    → IfOk r (λ done. IsTrue done → new ≡ old ++ item ∷ []) → (r ≢ Ok true → new ≡ old)
-    → (new ≡ old ++ item ∷ []) ⊎ (new ≡ old)
-pushed_or_kept (Ok true) old new item pushed kept = inl (pushed refl)
-pushed_or_kept (Ok false) old new item pushed kept = inr (kept (λ e. absurd cc))
-pushed_or_kept (Err e) old new item pushed kept = inr (kept (λ e. absurd cc))
+pub pushed_or_kept : {E : Type 0} (r : Result (Option ℕ) E) (n : ℕ) (old new : List Listed)
+    (item : Listed)
+    → IfOk r (λ found. IfSome found (λ place. (place ≡ n) × (new ≡ old ++ item ∷ [])))
+    → (((place : ℕ) → r ≢ Ok (Some place)) → new ≡ old) → (new ≡ old ++ item ∷ []) ⊎ (new ≡ old)
+pushed_or_kept (Ok (Some place)) n old new item pushed kept = inl pushed.1
+pushed_or_kept (Ok None) n old new item pushed kept = inr (kept (λ place e. absurd cc))
+pushed_or_kept (Err e) n old new item pushed kept = inr (kept (λ place e. absurd cc))
 
--- What follows where a state was listed.
+-- What follows where a place was found.
+pub where_found : {E : Type 0} {P Q : ℕ → Type 0} (r : Result (Option ℕ) E)
+    → IfOk r (λ found. IfSome found P) → ((place : ℕ) → P place → Q place)
+    → IfOk r (λ found. IfSome found Q)
+where_found (Ok (Some place)) h f = f place h
+where_found (Ok None) h f = tt
+where_found (Err e) h f = tt
+
+-- What follows where something was done.
 pub where_done : {E P Q : Type 0} (r : Result Bool E) → IfOk r (λ done. IsTrue done → P) → (P → Q)
     → IfOk r (λ done. IsTrue done → Q)
 where_done (Ok done) h f = λ yes'. f (h yes')
 where_done (Err e) h f = tt
+
+-- What follows from two facts where something was done.
+pub where_both : {E P R Q : Type 0} (r : Result Bool E) → IfOk r (λ done. IsTrue done → P)
+    → IfOk r (λ done. IsTrue done → R) → (P → R → Q) → IfOk r (λ done. IsTrue done → Q)
+where_both (Ok done) h k f = λ yes'. f (h yes') (k yes')
+where_both (Err e) h k f = tt
 
 -- A place that was within is.
 pub grows_within : (old new : List Listed) (k : ℕ) → Grows old new → k < length old → k < length new

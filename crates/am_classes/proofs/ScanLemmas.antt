@@ -1,11 +1,11 @@
 -- Many patterns, with one more.
-use Rattle.std.proofs.Common.{◌≡◌, ℕ, ◌+◌, ◌<◌, Bool, List, [], ◌∷◌, ◌++◌, length, take, get_or, refl, sym, ap, ◌∙◌, inl, inr, subst, arith, length-append}
+use Rattle.std.proofs.Common.{◌≡◌, ℕ, ◌+◌, ◌<◌, Bool, true, IsTrue, Some, slice_get, List, [], ◌∷◌, ◌++◌, length, take, get_or, refl, sym, ap, ◌∙◌, inl, inr, subst, arith, length-append}
 use Rattle.std.proofs.lemmas.Option.{slice_get_within}
 use Rattle.am_labels.specs.Pattern.{finds}
 use Rattle.am_scan.specs.Words.{Follows, pattern_of}
 use Rattle.am_scan.specs.declared.pattern_scan.PatternScan.{PatternScan}
 use Rattle.am_scan.specs.declared.pattern_state.PatternState.{PatternState}
-use Rattle.am_classes.specs.Scans.{FollowEach, found_by}
+use Rattle.am_classes.specs.Scans.{FollowEach, MakeSame, AreRepeated, found_by}
 use Rattle.am_classes.proofs.Places.{get_pushed, take_front, map_front}
 
 -- No states follow, where there is no pattern.
@@ -52,3 +52,17 @@ found_more scans i scan answers all answer text below is more before here =
     more ∙ ap (λ found. found ++ answer ∷ []) before
     ∙ ap (λ found. found_by (take i scans) text ++ found ∷ []) here
     ∙ sym (map_front (λ s. finds (pattern_of s) text) scans i scan below is)
+
+-- It is said of one byte more.
+pub repeated_more : (scans : List PatternScan) (repeated all : List Bool) (alike : Bool) (last : ℕ)
+    → length repeated ≡ last + 1 → all ≡ repeated ++ alike ∷ []
+    → (IsTrue alike → MakeSame scans last (last + 1)) → AreRepeated scans repeated
+    → AreRepeated scans all
+repeated_more scans repeated all alike last count is make said = λ one byte next at.
+    elim (get_pushed repeated alike true byte (subst (λ bs. slice_get bs byte ≡ Some true) is at)) [
+      | inl before ↦ said one byte next before
+      | inr here ↦
+          let low : last ≡ one = omega (arith, count, here.0, next) in
+          let high : last + 1 ≡ byte = omega (arith, count, here.0) in
+          subst (λ b. MakeSame scans one b) high (subst (λ o. MakeSame scans o (last + 1)) low (make here.1))
+    ]

@@ -14,6 +14,8 @@ abbrev pub AreAlike : List Condition → List ℕ → List ℕ → Type 0
 AreAlike ms x y = AllByRecursion (λ m. holds m.op m.value x ≡ holds m.op m.value y) ms
 
 -- One of some texts is alike to a text.
+-- Source: own choice.
+-- Example: to `team="db"` alone, one of `db` and `web` is alike to `ops`: it is `web`.
 abbrev pub HasAlikeIn : List Condition → List (List ℕ) → List ℕ → Type 0
 HasAlikeIn ms texts text = (x : List ℕ) × Contains texts x × AreAlike ms x text
 
@@ -24,6 +26,8 @@ abbrev pub Covers : List Condition → List (List ℕ) → Type 0
 Covers ms texts = (text : List ℕ) → IsUtf8 text → HasAlikeIn ms texts text
 
 -- No two of some texts are alike.
+-- Source: own choice.
+-- Example: to `team="db"` alone, `db` and `web` are apart; `db`, `web` and `ops` are not.
 abbrev pub AreApart : List Condition → List (List ℕ) → Type 0
 AreApart ms texts =
     (i j : ℕ) (x y : List ℕ) → slice_get texts i ≡ Some x → slice_get texts j ≡ Some y

@@ -1,5 +1,5 @@
 -- States of a label that have been listed, each with a text that leads to it.
-use Rattle.std.specs.Prelude.{◌≡◌, ◌<◌, ◌≤◌, ℕ, List, [], ◌∷◌, Some, slice_get}
+use Rattle.std.specs.Prelude.{◌≡◌, ◌<◌, ◌≤◌, ◌+◌, ℕ, List, [], ◌∷◌, Some, slice_get}
 use Rattle.am_classes.specs.declared.questions.Questions.{Questions}
 use Rattle.am_classes.specs.declared.label_state.LabelState.{LabelState}
 use Rattle.am_classes.specs.declared.listed.Listed.{Listed}
@@ -27,6 +27,25 @@ LeadsOn q listed state byte =
     (tail : Tail) → tail_step state.tail byte ≡ Some tail
     → (k : ℕ) × (item : Listed) × (slice_get listed k ≡ Some item)
     × ((text : List ℕ) → FollowsLabel q state text → FollowsLabel q item.state (byte ∷ text))
+
+-- A byte leads to the state at this place, unless UTF-8 has no such byte there.
+-- Source: own choice.
+-- Example: where the state of `a` is listed second, `a` leads to place 1 from that of no bytes.
+abbrev pub LeadsTo : Questions → List Listed → LabelState → ℕ → ℕ → Type 0
+LeadsTo q listed state byte place =
+    (tail : Tail) → tail_step state.tail byte ≡ Some tail
+    → (item : Listed) × (slice_get listed place ≡ Some item)
+    × ((text : List ℕ) → FollowsLabel q state text → FollowsLabel q item.state (byte ∷ text))
+
+-- It does so from the state at another place.
+abbrev pub LeadsFrom : Questions → List Listed → ℕ → ℕ → ℕ → Type 0
+LeadsFrom q listed at byte place =
+    (item : Listed) → slice_get listed at ≡ Some item → LeadsTo q listed item.state byte place
+
+-- The byte before this one does.
+abbrev pub LeadsBefore : Questions → List Listed → ℕ → ℕ → ℕ → Type 0
+LeadsBefore q listed at byte place =
+    (one : ℕ) × (one + 1 ≡ byte) × LeadsFrom q listed at one place
 
 -- Each byte from the first on and below the last does.
 abbrev pub LeadsWithin : Questions → List Listed → LabelState → ℕ → ℕ → Type 0

@@ -1,5 +1,5 @@
 -- Many patterns at once.
-use Rattle.std.specs.Prelude.{◌≡◌, ℕ, List, length, map, Bool, Some, slice_get}
+use Rattle.std.specs.Prelude.{◌≡◌, ◌+◌, ◌∷◌, ℕ, List, length, map, Bool, true, Some, slice_get}
 use Rattle.am_labels.specs.Words.{finds}
 use Rattle.am_scan.specs.Words.{Follows, pattern_of}
 use Rattle.am_scan.specs.declared.pattern_scan.PatternScan.{PatternScan}
@@ -13,6 +13,23 @@ pub record FollowEach
   pub count : length states ≡ length scans
   pub each : (k : ℕ) (scan : PatternScan) (state : PatternState) → slice_get scans k ≡ Some scan
       → slice_get states k ≡ Some state → Follows scan state text
+
+-- Patterns make the same of two bytes: the states of a text with one of them in front are those of
+-- the text with the other.
+-- Source: own choice.
+-- Example: `db.*` makes the same of `x` and `y`, and not of `d` and `b`.
+abbrev pub MakeSame : List PatternScan → ℕ → ℕ → Type 0
+MakeSame scans one other =
+    (states : List PatternState) (text : List ℕ) → FollowEach scans states (one ∷ text)
+    → FollowEach scans states (other ∷ text)
+
+-- Of each byte it is said whether patterns make the same of it as of the byte before it.
+-- Source: own choice.
+-- Example: to `db.*` the bytes `c` and `d` do not repeat the byte before them, and `y` does.
+abbrev pub AreRepeated : List PatternScan → List Bool → Type 0
+AreRepeated scans repeated =
+    (one byte : ℕ) → one + 1 ≡ byte → slice_get repeated byte ≡ Some true
+    → MakeSame scans one byte
 
 -- Which patterns find a text.
 -- Source: own choice.

@@ -3,7 +3,9 @@ ghost use Rattle.std.specs.Prelude.{IfOk, IfSome, IsTrue, slice_get, vec_len};
 ghost use Rattle.am_classes.specs.declared.questions.Questions.{Questions};
 ghost use Rattle.am_classes.specs.declared.listed.Listed.{Listed};
 ghost use Rattle.am_classes.specs.State.{FollowsLabel};
-ghost use Rattle.am_classes.specs.Exploration.{AreListed, Grows, LeadsOn, LeadsWithin, IsClosed};
+ghost use Rattle.am_classes.specs.Scans.{AreRepeated};
+ghost use Rattle.am_classes.specs.Exploration.{AreListed, Grows, LeadsFrom, LeadsBefore};
+ghost use Rattle.am_classes.specs.Exploration.{LeadsWithin, IsClosed};
 
 use crate::label_state::LabelState;
 use crate::limits::MAX_STATES;
@@ -21,12 +23,13 @@ pub(crate) fn explored(
     ensures { IfOk result (λ found. IfSome found (λ listed.
         IsClosed questions.now listed.items)) }
 {
+    let repeated = questions.repeated_bytes(alloc)?;
     let mut exploration = Exploration::new(alloc, questions)?;
     for at in 0..MAX_STATES {
         if at == exploration.listed.len() {
             return Ok(Some(exploration.listed));
         }
-        if !exploration.explore(alloc, questions, at)? {
+        if !exploration.explore(alloc, questions, repeated.as_slice(), at)? {
             return Ok(None);
         }
     }
@@ -63,26 +66,28 @@ impl Exploration {
         &mut self,
         alloc: Global,
         questions: &Questions,
+        repeated: &[bool],
         at: usize,
     ) -> Result<bool, AllocError>
         requires at { at < vec_len self.old.listed }
         requires own { AreListed questions.now self.old.listed.items }
+        requires repeated { AreRepeated questions.now.scans.items repeated.now }
         ensures own { AreListed questions.now self.new.listed.items }
         ensures grows { Grows self.old.listed.items self.new.listed.items }
         ensures leads { IfOk result (λ done. IsTrue done → (item : Listed)
             → slice_get self.old.listed.items at ≡ Some item
             → LeadsWithin questions.now self.new.listed.items item.state 0 256) }
     {
-        if !self.explore_bytes(alloc, questions, at, b'a', 126)? {
+        if !self.explore_bytes(alloc, questions, repeated, at, b'a', 126)? {
             return Ok(false);
         }
-        if !self.explore_bytes(alloc, questions, at, b' ', 96)? {
+        if !self.explore_bytes(alloc, questions, repeated, at, b' ', 96)? {
             return Ok(false);
         }
-        if !self.explore_bytes(alloc, questions, at, 0, 31)? {
+        if !self.explore_bytes(alloc, questions, repeated, at, 0, 31)? {
             return Ok(false);
         }
-        self.explore_bytes(alloc, questions, at, 127, 255)
+        self.explore_bytes(alloc, questions, repeated, at, 127, 255)
     }
 
     /// Lists the states to which a byte of this range leads from a listed state. `false` where
@@ -91,86 +96,134 @@ impl Exploration {
         &mut self,
         alloc: Global,
         questions: &Questions,
+        repeated: &[bool],
         at: usize,
         first: u8,
         last: u8,
     ) -> Result<bool, AllocError>
         requires at { at < vec_len self.old.listed }
         requires own { AreListed questions.now self.old.listed.items }
+        requires repeated { AreRepeated questions.now.scans.items repeated.now }
         ensures own { AreListed questions.now self.new.listed.items }
         ensures grows { Grows self.old.listed.items self.new.listed.items }
         ensures leads { IfOk result (λ done. IsTrue done → (item : Listed)
             → slice_get self.old.listed.items at ≡ Some item
             → LeadsWithin questions.now self.new.listed.items item.state first (last + 1)) }
     {
+        let mut place = None;
         for byte in first..=last {
-            if !self.explore_byte(alloc, questions, at, byte)? {
+            place = self.explore_byte(alloc, questions, repeated, at, byte, place)?;
+            if place.is_none() {
                 return Ok(false);
             }
         }
         Ok(true)
     }
 
-    /// Lists the state to which a byte leads from a listed state, unless it is listed already.
-    /// `false` where there are too many states, or it cannot be computed.
+    /// Lists the state to which a byte leads from a listed state, unless it is listed already, and
+    /// answers its place. `before` is that of the byte before. `None` where there are too many
+    /// states, or it cannot be computed.
     fn explore_byte(
         &mut self,
         alloc: Global,
         questions: &Questions,
+        repeated: &[bool],
         at: usize,
         byte: u8,
-    ) -> Result<bool, AllocError>
+        before: Option<usize>,
+    ) -> Result<Option<usize>, AllocError>
         requires at { at < vec_len self.old.listed }
         requires own { AreListed questions.now self.old.listed.items }
+        requires repeated { AreRepeated questions.now.scans.items repeated.now }
+        requires before { IfSome before
+            (λ place. LeadsBefore questions.now self.old.listed.items at byte place) }
         ensures own { AreListed questions.now self.new.listed.items }
         ensures grows { Grows self.old.listed.items self.new.listed.items }
-        ensures leads { IfOk result (λ done. IsTrue done → (item : Listed)
-            → slice_get self.old.listed.items at ≡ Some item
-            → LeadsOn questions.now self.new.listed.items item.state byte) }
+        ensures leads { IfOk result (λ found. IfSome found
+            (λ place. LeadsFrom questions.now self.new.listed.items at byte place)) }
     {
         let item = &self.listed[at];
         let Some(tail) = item.state.tail.step(byte) else {
-            return Ok(true);
+            // No text has this byte there, so any place will do.
+            return Ok(Some(at));
         };
+        if self.repeats(alloc, questions, repeated, at, byte, before)? {
+            return Ok(before);
+        }
         let Some(state) = questions.step(alloc, &item.state, byte, tail)? else {
-            return Ok(false);
+            return Ok(None);
         };
-        if self.has(&state) {
-            return Ok(true);
+        if let Some(place) = self.place_of(&state) {
+            return Ok(Some(place));
         }
         let mut text = vec![in alloc; byte]?;
         text.extend_from_slice(item.text.as_slice())?;
         self.list(Listed { state, text })
     }
 
-    /// Whether a state that serves for this one is found among the listed ones.
-    fn has(&self, state: &LabelState) -> bool
-        ensures { IsTrue result → (k : ℕ) × (item : Listed)
-            × (slice_get self.now.listed.items k ≡ Some item)
-            × ((questions : Questions) (text : List ℕ) → FollowsLabel questions state.now text
-            → FollowsLabel questions item.state text) }
+    /// Whether a byte leads from a listed state to the place to which the byte before it led. Most
+    /// bytes do and need no step, since steps are slow where there are many patterns. Only `true`
+    /// promises something.
+    fn repeats(
+        &self,
+        alloc: Global,
+        questions: &Questions,
+        repeated: &[bool],
+        at: usize,
+        byte: u8,
+        before: Option<usize>,
+    ) -> Result<bool, AllocError>
+        requires at { at < vec_len self.now.listed }
+        requires repeated { AreRepeated questions.now.scans.items repeated.now }
+        requires before { IfSome before
+            (λ place. LeadsBefore questions.now self.now.listed.items at byte place) }
+        ensures { IfOk result (λ repeats. IsTrue repeats → IfSome before
+            (λ place. LeadsFrom questions.now self.now.listed.items at byte place)) }
     {
-        let Some(place) = self.places.get(&state.hash()) else {
-            return false;
+        let Some(place) = before else {
+            return Ok(false);
         };
-        match self.listed.get(*place) {
-            Some(item) => state.same(&item.state),
-            None => false,
+        let Some(true) = repeated.get(usize::from(byte)) else {
+            return Ok(false);
+        };
+        let Some(next) = self.listed.get(place) else {
+            return Ok(false);
+        };
+        let state = &self.listed[at].state;
+        questions.lead_alike(alloc, state, byte - 1, byte, &next.state)
+    }
+
+    /// The place of a listed state that serves for this one, where one is found.
+    fn place_of(&self, state: &LabelState) -> Option<usize>
+        ensures { IfSome result (λ place. (item : Listed)
+            × (slice_get self.now.listed.items place ≡ Some item)
+            × ((questions : Questions) (text : List ℕ) → FollowsLabel questions state.now text
+            → FollowsLabel questions item.state text)) }
+    {
+        let place = *self.places.get(&state.hash())?;
+        let item = self.listed.get(place)?;
+        if state.same(&item.state) {
+            Some(place)
+        } else {
+            None
         }
     }
 
-    /// Lists a state. `false`, and nothing is listed, where there are too many.
-    fn list(&mut self, item: Listed) -> Result<bool, AllocError>
-        ensures listed { IfOk result (λ done. IsTrue done
-            → self.new.listed.items ≡ self.old.listed.items ++ item ∷ []) }
-        ensures kept { result ≢ Ok true → self.new.listed.items ≡ self.old.listed.items }
+    /// Lists a state, and answers its place. `None`, and nothing is listed, where there are too
+    /// many.
+    fn list(&mut self, item: Listed) -> Result<Option<usize>, AllocError>
+        ensures listed { IfOk result (λ found. IfSome found (λ place.
+            (place ≡ vec_len self.old.listed)
+            × (self.new.listed.items ≡ self.old.listed.items ++ item ∷ []))) }
+        ensures kept { ((place : ℕ) → result ≢ Ok (Some place))
+            → self.new.listed.items ≡ self.old.listed.items }
     {
         let place = self.listed.len();
         if place >= MAX_STATES {
-            return Ok(false);
+            return Ok(None);
         }
         self.places.insert(item.state.hash(), place)?;
         self.listed.push(item)?;
-        Ok(true)
+        Ok(Some(place))
     }
 }

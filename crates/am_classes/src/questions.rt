@@ -5,11 +5,11 @@ ghost use Rattle.am_classes.specs.declared.tail.Tail.TheVariants.{Whole};
 ghost use Rattle.am_classes.specs.Utf8.{tail_step};
 ghost use Rattle.am_classes.specs.State.{FollowsLabel, IsNamed, named_texts};
 ghost use Rattle.am_classes.specs.Rest.{IsNoEnd, RestFollows, rest_bytes};
-ghost use Rattle.am_classes.specs.Scans.{found_by};
+ghost use Rattle.am_classes.specs.Scans.{FollowEach, AreRepeated, found_by};
 ghost use Rattle.am_classes.specs.Asked.{AreValues, AreAsked};
 
 use crate::label_state::LabelState;
-use crate::scans::{end_states, found_patterns, next_states, scans_of};
+use crate::scans::{are_alike, end_states, found_patterns, next_states, scans_of};
 use crate::tail::Tail;
 use am_labels::{Matcher, Op};
 use am_scan::PatternScan;
@@ -103,6 +103,42 @@ impl Questions {
         } else {
             Ok(None)
         }
+    }
+
+    /// Of each byte, whether the patterns make the same of it as of the byte before it.
+    pub(crate) fn repeated_bytes(&self, alloc: Global) -> Result<Vec<bool>, AllocError>
+        ensures { IfOk result (λ repeated. AreRepeated self.now.scans.items repeated.items) }
+    {
+        let scans = self.scans.as_slice();
+        let mut repeated = vec![in alloc; false]?;
+        for byte in 0..u8::MAX {
+            repeated.push(are_alike(scans, byte, byte + 1))?;
+        }
+        Ok(repeated)
+    }
+
+    /// Whether the state to which one byte leads serves for another byte, if the patterns make the
+    /// same of both. Only `true` promises something.
+    pub(crate) fn lead_alike(
+        &self,
+        alloc: Global,
+        state: &LabelState,
+        one: u8,
+        other: u8,
+        next: &LabelState,
+    ) -> Result<bool, AllocError>
+        ensures tails { IfOk result (λ alike. IsTrue alike
+            → tail_step state.now.tail one ≡ tail_step state.now.tail other) }
+        ensures follows { IfOk result (λ alike. IsTrue alike → (text : List ℕ)
+            → FollowsLabel self.now state.now text → FollowsLabel self.now next.now (one ∷ text)
+            → FollowEach self.now.scans.items next.now.patterns.items (other ∷ text)
+            → FollowsLabel self.now next.now (other ∷ text)) }
+    {
+        if next.rest.is_some() || state.tail.step(one) != state.tail.step(other) {
+            return Ok(false);
+        }
+        let rest = self.rest(alloc, &state.rest, other)?;
+        Ok(rest.is_none())
     }
 
     /// Which patterns find the texts that a state follows. `None` where this cannot be computed.

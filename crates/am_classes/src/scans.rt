@@ -3,7 +3,7 @@ ghost use Rattle.std.specs.Prelude.{◌≡◌, ℕ, ◌∷◌, [], List, map, Al
 ghost use Rattle.std.specs.Prelude.{IfOk, IfSome, IsTrue, string_bytes};
 ghost use Rattle.regex_hir.specs.Text.{is_boundary};
 ghost use Rattle.am_scan.specs.Words.{pattern_of};
-ghost use Rattle.am_classes.specs.Scans.{FollowEach, found_by, SameStates};
+ghost use Rattle.am_classes.specs.Scans.{FollowEach, found_by, MakeSame, SameStates};
 
 use am_scan::{PatternScan, PatternState};
 use std::alloc::{AllocError, Global};
@@ -64,6 +64,18 @@ pub(crate) fn next_states(
         nexts.push(next)?;
     }
     Ok(Some(nexts))
+}
+
+/// Whether each pattern makes the same of two bytes. Only `true` promises something.
+pub(crate) fn are_alike(scans: &[PatternScan], one: u8, other: u8) -> bool
+    ensures { IsTrue result → MakeSame scans.now one other }
+{
+    for scan in scans {
+        if !scan.are_alike(one, other) {
+            return false;
+        }
+    }
+    true
 }
 
 /// Which patterns find the text that was read. `None` where this cannot be computed.

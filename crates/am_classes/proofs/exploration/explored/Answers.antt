@@ -1,9 +1,14 @@
-use Rattle.std.proofs.Common.{◌≡◌, ◌<◌, Some, length, slice_get, inl, inr, subst, arith}
+use Rattle.std.proofs.Common.{◌≡◌, ◌<◌, Some, length, slice_get, inl, inr, subst, sym, arith}
 use Rattle.std.proofs.lemmas.Bool.{cases_lt}
 use Rattle.std.proofs.lemmas.Option.{slice_get_within}
+use Rattle.am_classes.specs.Scans.{AreRepeated}
 use Rattle.am_classes.proofs.Places.{get_within}
 use Rattle.am_classes.proofs.ExplorationLemmas.{leads_within_kept, grows_within, grown_back}
 use Rattle.am_classes.proofs.exploration.explored.Goals as goal
+
+pub explore-requires-clause-repeated : goal.explore-requires-clause-repeated
+explore-requires-clause-repeated c =
+    subst (AreRepeated c.args.questions.now.scans.items) (sym c.as_slice.ensures.value) c.in_ok-repeated.ensures
 
 pub loop-at-init : goal.loop-at-init
 loop-at-init c =
