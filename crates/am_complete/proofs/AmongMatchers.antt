@@ -12,7 +12,7 @@ use Rattle.am_complete.specs.Asked.{route_conditions, rule_conditions, equal_con
 use Rattle.am_complete.specs.Asked.{silence_conditions, impossible_conditions, world_conditions}
 use Rattle.am_complete.specs.Asked.{coverage_conditions}
 use Rattle.am_complete.proofs.Alike.{is_among}
-use Rattle.am_complete.proofs.Completeness.{complete_for_some}
+use Rattle.am_complete.proofs.CompleteUniverses.{complete_for_some}
 
 among_by : (ns ms : List Condition) → ((m : Condition) → IsIn ns m → IsIn ms m) → AreAmong ns ms
 among_by ns ms each =

@@ -10,7 +10,7 @@ use Rattle.am_universe.proofs.ListLemmas.{IsIn-from_Contains, Contains-from_IsIn
 use Rattle.am_eval.specs.RoutingExamples.{team_db}
 use Rattle.am_complete.specs.Complete.{HasAlike, IsCompleteAt, IsComplete}
 use Rattle.am_complete.specs.CompleteExample.{team_universe, db_or_absent, db_alone}
-use Rattle.am_complete.proofs.Completeness.{complete_by_names}
+use Rattle.am_complete.proofs.CompleteUniverses.{complete_by_names}
 
 team_is_universe : IsUniverse (team_universe db_or_absent)
 unfolding IsDistinct

@@ -1,7 +1,12 @@
+pub mod GatheringLemmas
+pub mod PlacedSteps
+pub mod PlacedConditions
+pub mod AskedLemmas
+pub mod EqualMatchers
 pub mod Alike
 pub mod LabelTexts
 pub mod StandingChoice
-pub mod Completeness
+pub mod CompleteUniverses
 pub mod AmongMatchers
 pub mod UniverseAlerts
 pub mod SameFate
@@ -12,3 +17,8 @@ pub mod JsonTexts
 pub mod JsonTokens
 pub mod JsonGrammar
 pub mod JsonData
+pub mod MadeUniverses
+pub mod TestedTruths
+pub mod ChosenTexts
+pub mod OkClauses
+pub mod LabelStates

@@ -15,7 +15,7 @@ use Rattle.am_complete.specs.Complete.{IsComplete, IsAlertOf}
 use Rattle.am_complete.specs.Asked.{route_conditions, impossible_conditions, world_conditions}
 use Rattle.am_complete.specs.Asked.{coverage_conditions, question_conditions, asked_conditions}
 use Rattle.am_complete.specs.Asked.{HaveTheSameFate}
-use Rattle.am_complete.proofs.Completeness.{alert_choice}
+use Rattle.am_complete.proofs.CompleteUniverses.{alert_choice}
 use Rattle.am_complete.proofs.SameFate.{front_met, rest_met, same_ends, same_receivers}
 use Rattle.am_complete.proofs.SameFate.{same_possible, same_fate, same_truth}
 

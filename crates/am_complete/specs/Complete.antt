@@ -13,11 +13,16 @@ use Rattle.am_labels.specs.Space.{Space, is_possible}
 use Rattle.am_classes.specs.Alike.{HasAlikeIn}
 
 -- The matchers on one label, in order.
+-- Source: own choice.
+-- Example: of `team="db"`, `env="prod"` and `team!="web"` those on `team` are the first and the
+-- last.
 abbrev pub about : List ℕ → List Condition → List Condition
 about name ms = filter (λ m. same_text m.name name) ms
 
 -- The texts that a label has in the label sets of a universe: its values, absence being the empty
 -- text; and the empty text alone where the label is not declared.
+-- Source: own choice; that a missing label is the empty one is the reference's.
+-- Example: where `team` may be `db` or absent, its texts are `db` and the empty text.
 abbrev pub texts_of_label : Option Label → List (List ℕ)
 texts_of_label None = [] ∷ []
 texts_of_label (Some label) = map (λ v. unwrap_or v []) label.values
@@ -26,6 +31,8 @@ abbrev pub label_texts : List Label → List ℕ → List (List ℕ)
 label_texts u name = texts_of_label (find (λ l. same_text l.name name) u)
 
 -- A text of a label has one alike in the universe, to the matchers on that label.
+-- Source: own choice.
+-- Example: for `team="db"` alone, `ops` has one where `team` may be `db` or absent: absence.
 abbrev pub HasAlike : List Label → List Condition → List ℕ → List ℕ → Type 0
 HasAlike u ms name text = HasAlikeIn (about name ms) (label_texts u name) text
 

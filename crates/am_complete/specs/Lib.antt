@@ -1,4 +1,11 @@
 pub mod Complete
 pub mod CompleteExample
 pub mod Asked
+pub mod AskedLabel
+pub mod Placed
+pub mod Gathering
+pub mod Covering
+pub mod Truths
+pub mod LabelState
+pub mod FoundState
 pub mod Words

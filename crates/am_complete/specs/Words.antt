@@ -5,6 +5,15 @@ pub use Rattle.am_complete.specs.Complete.{IsAlert, IsAlertOf, MeetsTheSame, Are
 pub use Rattle.am_complete.specs.Complete.{HasUtf8Texts}
 pub use Rattle.am_complete.specs.Asked.{route_conditions, routes_conditions, silence_conditions}
 pub use Rattle.am_complete.specs.Asked.{rule_conditions, equal_conditions, impossible_conditions}
+pub use Rattle.am_complete.specs.AskedLabel.{AskedLabel, asked_names, with_asked, asked_labels}
+pub use Rattle.am_complete.specs.AskedLabel.{IsAskedOf}
+pub use Rattle.am_complete.specs.Placed.{placed_at, placed_in_route, placed_in_routes}
+pub use Rattle.am_complete.specs.Placed.{placed_in_rules, placed_in_equal, placed_by_pair}
+pub use Rattle.am_complete.specs.Placed.{placed_in_silences, placed_in_lists, placed_in_world}
 pub use Rattle.am_complete.specs.Asked.{world_conditions, coverage_conditions, question_conditions}
 pub use Rattle.am_complete.specs.Asked.{asked_conditions, HaveTheSameFate}
 pub use Rattle.am_complete.specs.CompleteExample.{team_universe, db_or_absent, db_alone}
+pub use Rattle.am_complete.specs.Covering.{StandForAll, StandsForEachBut}
+pub use Rattle.am_complete.specs.LabelState.{HasClasses, IsSoAt, is_settled, reported_names}
+pub use Rattle.am_complete.specs.LabelState.{is_declared}
+pub use Rattle.am_complete.specs.FoundState.{is_unseen}

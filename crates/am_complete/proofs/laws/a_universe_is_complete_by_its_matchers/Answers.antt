@@ -1,5 +1,5 @@
-use Rattle.am_complete.proofs.Completeness.{complete_by_names, complete_for_some}
-use Rattle.am_complete.proofs.Completeness.{complete_at_for_some}
+use Rattle.am_complete.proofs.CompleteUniverses.{complete_by_names, complete_for_some}
+use Rattle.am_complete.proofs.CompleteUniverses.{complete_at_for_some}
 use Rattle.am_complete.proofs.laws.a_universe_is_complete_by_its_matchers.Goals as goal
 
 pub returns : goal.returns

@@ -1,7 +1,7 @@
 use Rattle.std.proofs.Common.{refl}
 use Rattle.am_universe.specs.LabelSet.{label_set_of}
 use Rattle.am_complete.specs.Asked.{world_conditions}
-use Rattle.am_complete.proofs.Completeness.{alert_choice}
+use Rattle.am_complete.proofs.CompleteUniverses.{alert_choice}
 use Rattle.am_complete.proofs.SameFate.{same_fate}
 use Rattle.am_complete.proofs.laws.every_alert_has_the_fate_of_a_choice.Goals as goal
 

@@ -1,0 +1,203 @@
+-- The labels that matchers ask of, and the position of each by its name, with one matcher more.
+use Rattle.std.proofs.Common.{◌≡◌, ◌⊎◌, ℕ, zero, suc, ◌<◌, Bool, true, cond, List, [], ◌∷◌}
+use Rattle.std.proofs.Common.{◌++◌, length, map, set, Some, None, refl, sym, ap}
+use Rattle.std.proofs.Common.{◌∙◌, subst, inl, inr, arith, Bor, bytes_eq, ◌↔◌}
+use Rattle.std.specs.Prelude.{slice_get}
+use Rattle.std.specs.BTreeMap.{BTreeMap}
+use Rattle.std.specs.Map.{update}
+use Rattle.std.specs.List.{list_any}
+use Rattle.std.specs.Cmp.Lexicographic.{bytes_decides}
+use Rattle.std.proofs.lemmas.Bool.{cases_Bool}
+use Rattle.std.proofs.lemmas.List.{map-append, length-map}
+use Rattle.std.proofs.lemmas.Option.{slice_get_within}
+use Rattle.am_universe.specs.Text.{same_text}
+use Rattle.am_labels.specs.Matcher.{Condition}
+use Rattle.am_labels.proofs.Passing.{any_in, in_any}
+use Rattle.am_eval.proofs.Members.{at_in, in_at}
+use Rattle.am_complete.specs.declared.origin.Origin.{Origin}
+use Rattle.am_complete.specs.AskedLabel.{AskedLabel, asked_names, and_asked, label_of, with_asked}
+use Rattle.am_complete.specs.Gathering.{position_in, IsIndexed}
+
+-- ---- What stands where in a list with one more behind it.
+
+got_front : {X : Type 0} (xs ys : List X) (i : ℕ) (x : X) → slice_get xs i ≡ Some x
+    → slice_get (xs ++ ys) i ≡ Some x
+got_front [] ys i x h = absurd (cc)
+got_front (y ∷ xs) ys zero x h = h
+got_front (y ∷ xs) ys (suc i) x h = got_front xs ys i x h
+
+got_last : {X : Type 0} (xs : List X) (y : X) → slice_get (xs ++ y ∷ []) (length xs) ≡ Some y
+got_last [] y = refl
+got_last (x ∷ xs) y = got_last xs y
+
+got_either : {X : Type 0} (xs : List X) (y x : X) (i : ℕ) → slice_get (xs ++ y ∷ []) i ≡ Some x
+    → (slice_get xs i ≡ Some x) ⊎ ((i ≡ length xs) × (y ≡ x))
+got_either [] y x zero h = inr (refl, cc)
+got_either [] y x (suc i) h = absurd (cc)
+got_either (z ∷ xs) y x zero h = inl h
+got_either (z ∷ xs) y x (suc i) h = elim (got_either xs y x i h) [
+  | inl a ↦ inl a
+  | inr b ↦ inr (ap suc b.0, b.1)
+]
+
+-- the name of the label at a position
+name_at : (labels : List AskedLabel) (i : ℕ) (l : AskedLabel) (name : List ℕ)
+    → slice_get labels i ≡ Some l → l.name ≡ name
+    → slice_get (asked_names labels) i ≡ Some name
+name_at [] i l name h e = absurd (cc)
+name_at (x ∷ labels) zero l name h e =
+    let same : x ≡ l = cc in ap (λ y. Some y.name) same ∙ ap Some e
+name_at (x ∷ labels) (suc i) l name h e = name_at labels i l name h e
+
+-- ---- A label that was not asked of before.
+
+-- the map with the position of one label more
+pub indexed_push : (before after : BTreeMap (Bor (List ℕ)) ℕ) (labels : List AskedLabel)
+    (label : AskedLabel) (key : List ℕ) (n : ℕ) → IsIndexed before labels → label.name ≡ key
+    → position_in before key ≡ None → n ≡ length labels
+    → ((q : List ℕ) → position_in after q ≡ update bytes_eq (position_in before) key (Some n) q)
+    → IsIndexed after (labels ++ label ∷ [])
+indexed_push before after labels label key n indexed named absent counted updates q i =
+    let names = asked_names labels in
+    let P : List (List ℕ) → Type 0 =
+    λ ns. (position_in after q ≡ Some i ↔ (slice_get ns i ≡ Some q)) in
+    let more : names ++ label.name ∷ [] ≡ asked_names (labels ++ label ∷ []) =
+    sym (map-append (λ l. l.name) labels (label ∷ [])) in
+    let long : length names ≡ n = length-map labels (λ l. l.name) ∙ sym counted in
+    subst P more (elim (cases_Bool (bytes_eq key q)) [
+      | inl same ↦
+          let is : key ≡ q = (bytes_decides key q).0 same in
+          let at : position_in after q ≡ Some n =
+          updates q ∙ ap (λ b. cond b (Some n) (position_in before q)) same in
+          let last : slice_get (names ++ label.name ∷ []) n ≡ Some q =
+          subst (λ (k : ℕ). slice_get (names ++ label.name ∷ []) k ≡ Some q) long
+          (got_last names label.name ∙ ap Some (named ∙ is)) in (
+            λ h. let e : n ≡ i = cc in
+                subst (λ (k : ℕ). slice_get (names ++ label.name ∷ []) k ≡ Some q) e last,
+            λ h. elim (got_either names label.name q i h) [
+              | inl a ↦ let b = (indexed q i).1 a in
+                  let none : position_in before q ≡ None =
+                  ap (position_in before) (sym is) ∙ absent in absurd (cc)
+              | inr b ↦ at ∙ ap Some (sym (b.0 ∙ long))
+            ],
+          )
+      | inr other ↦
+          let at : position_in after q ≡ position_in before q =
+          updates q ∙ ap (λ b. cond b (Some n) (position_in before q)) other in (
+            λ h. got_front names (label.name ∷ []) i q ((indexed q i).0 (sym at ∙ h)),
+            λ h. elim (got_either names label.name q i h) [
+              | inl a ↦ at ∙ (indexed q i).1 a
+              | inr b ↦
+                  let same = (bytes_decides key q).1 (sym named ∙ b.1) in absurd (cc)
+            ],
+          )
+    ])
+
+-- where no label has the name, the label comes behind the others
+pub asked_first : (positions : BTreeMap (Bor (List ℕ)) ℕ) (labels : List AskedLabel)
+    (origin : Origin) (m : Condition) → IsIndexed positions labels
+    → position_in positions m.name ≡ None
+    → labels ++ label_of (origin, m) ∷ [] ≡ with_asked labels (origin, m)
+asked_first positions labels origin m indexed absent =
+    let test : AskedLabel → Bool = λ l. same_text l.name m.name in
+    elim (cases_Bool (list_any test labels)) [
+      | inl some ↦
+          let found = any_in test labels some in
+          let at = at_in labels found.0 found.1 in
+          let is = (bytes_decides found.0.name m.name).0 found.2 in
+          let there = (indexed m.name at.0).1 (name_at labels at.0 found.0 m.name at.1 is) in
+          absurd (cc)
+      | inr none ↦ sym (ap (λ b. cond b (map (and_asked m) labels)
+          (labels ++ label_of (origin, m) ∷ [])) none)
+    ]
+
+-- ---- A label that was asked of before.
+
+-- the label that stands where a name does has that name
+pub named_at : (labels : List AskedLabel) (i : ℕ) (l : AskedLabel) (name : List ℕ)
+    → slice_get labels i ≡ Some l → slice_get (asked_names labels) i ≡ Some name → l.name ≡ name
+named_at [] i l name h there = absurd (cc)
+named_at (x ∷ labels) zero l name h there =
+    let same : x ≡ l = cc in let is : x.name ≡ name = cc in ap (λ y. y.name) (sym same) ∙ is
+named_at (x ∷ labels) (suc i) l name h there = named_at labels i l name h there
+
+-- a label in the place of one with the same name
+names_set : (labels : List AskedLabel) (i : ℕ) (l next : AskedLabel) → slice_get labels i ≡ Some l
+    → next.name ≡ l.name → asked_names labels ≡ asked_names (set labels i next)
+names_set [] i l next h same = absurd (cc)
+names_set (x ∷ labels) zero l next h same =
+    let is : x ≡ l = cc in
+    ap (λ n. n ∷ asked_names labels) (ap (λ y. y.name) is ∙ sym same)
+names_set (x ∷ labels) (suc i) l next h same =
+    ap (λ ns. x.name ∷ ns) (names_set labels i l next h same)
+
+none_gain : (m : Condition) (labels : List AskedLabel)
+    → ((j : ℕ) → slice_get (asked_names labels) j ≡ Some m.name → ⊥)
+    → labels ≡ map (and_asked m) labels
+none_gain m [] none = refl
+none_gain m (x ∷ labels) none =
+    let later = none_gain m labels (λ j h. none (suc j) h) in
+    elim (cases_Bool (same_text x.name m.name)) [
+      | inl same ↦ absurd (none 0 (ap Some ((bytes_decides x.name m.name).0 same)))
+      | inr other ↦
+          let here : and_asked m x ≡ x =
+          ap (λ b. cond b (record x { matchers = x.matchers ++ m ∷ [] }) x) other in
+          λ i. sym here i ∷ later i
+    ]
+
+one_gains : (m : Condition) (labels : List AskedLabel) (i : ℕ) (l : AskedLabel)
+    → slice_get labels i ≡ Some l → l.name ≡ m.name
+    → ((j : ℕ) → slice_get (asked_names labels) j ≡ Some m.name → j ≡ i)
+    → set labels i (record l { matchers = l.matchers ++ m ∷ [] }) ≡ map (and_asked m) labels
+one_gains m [] i l h named alone = absurd (cc)
+one_gains m (x ∷ labels) zero l h named alone =
+    let is : l ≡ x = cc in
+    let same : same_text l.name m.name ≡ true = (bytes_decides l.name m.name).1 named in
+    let here : and_asked m x ≡ record l { matchers = l.matchers ++ m ∷ [] } =
+    ap (and_asked m) (sym is)
+    ∙ ap (λ b. cond b (record l { matchers = l.matchers ++ m ∷ [] }) l) same in
+    let later = none_gain m labels (λ j at. absurd (omega (arith, alone (suc j) at))) in
+    λ k. sym here k ∷ later k
+one_gains m (x ∷ labels) (suc i) l h named alone =
+    let later = one_gains m labels i l h named (λ j at.
+    let e = alone (suc j) at in omega (arith, e)) in
+    elim (cases_Bool (same_text x.name m.name)) [
+      | inl same ↦
+          let e = alone 0 (ap Some ((bytes_decides x.name m.name).0 same)) in absurd (omega (arith, e))
+      | inr other ↦
+          let here : and_asked m x ≡ x =
+          ap (λ b. cond b (record x { matchers = x.matchers ++ m ∷ [] }) x) other in
+          λ k. sym here k ∷ later k
+    ]
+
+-- where a label has the name, that label has one matcher more, and is the only one
+pub asked_again : (positions : BTreeMap (Bor (List ℕ)) ℕ) (labels : List AskedLabel)
+    (origin : Origin) (m : Condition) (i : ℕ) (l : AskedLabel) → IsIndexed positions labels
+    → position_in positions m.name ≡ Some i → slice_get labels i ≡ Some l
+    → set labels i (record l { matchers = l.matchers ++ m ∷ [] }) ≡ with_asked labels (origin, m)
+asked_again positions labels origin m i l indexed at there =
+    let name = named_at labels i l m.name there ((indexed m.name i).0 at) in
+    let test : AskedLabel → Bool = λ x. same_text x.name m.name in
+    let some : list_any test labels ≡ true =
+    in_any test labels l (in_at labels i l there) ((bytes_decides l.name m.name).1 name) in
+    one_gains m labels i l there name (λ j h.
+    let other = (indexed m.name j).1 h in
+    let same : Some j ≡ Some i = sym other ∙ at in cc)
+    ∙ sym (ap (λ b. cond b (map (and_asked m) labels) (labels ++ label_of (origin, m) ∷ [])) some)
+
+-- and the names stay where they are
+pub indexed_again : (positions : BTreeMap (Bor (List ℕ)) ℕ) (labels : List AskedLabel)
+    (i : ℕ) (l next : AskedLabel) → IsIndexed positions labels → slice_get labels i ≡ Some l
+    → next.name ≡ l.name → IsIndexed positions (set labels i next)
+indexed_again positions labels i l next indexed there same q j =
+    let P : List (List ℕ) → Type 0 =
+    λ ns. (position_in positions q ≡ Some j ↔ (slice_get ns j ≡ Some q)) in
+    subst P (names_set labels i l next there same) (indexed q j)
+
+-- a label stands where the map says
+pub within : (positions : BTreeMap (Bor (List ℕ)) ℕ) (labels : List AskedLabel) (name : List ℕ)
+    (i : ℕ) → IsIndexed positions labels → position_in positions name ≡ Some i
+    → i < length labels
+within positions labels name i indexed at =
+    let there = slice_get_within (asked_names labels) i name ((indexed name i).0 at) in
+    omega (arith, there, length-map labels (λ l. l.name))

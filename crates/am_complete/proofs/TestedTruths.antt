@@ -1,0 +1,131 @@
+-- The truths of matchers on texts, as the rows of a universe of one label.
+use Rattle.std.proofs.Common.{◌≡◌, ◌<◌, ◌+◌, ℕ, Bool, true, false, List, [], ◌∷◌, ◌++◌, length}
+use Rattle.std.proofs.Common.{map, take, get_or, Option, Some, None, option_map, unwrap_or, refl, sym}
+use Rattle.std.proofs.Common.{ap, ◌∙◌, subst, arith, slice_get, not, IfSome}
+use mathlib.Core.Bool.{beq}
+use Rattle.std.specs.List.{AllByRecursion}
+use Rattle.std.specs.Cmp.Lexicographic.{bytes_decides}
+use Rattle.std.proofs.lemmas.List.{get_or-map, length-map, take_more}
+use Rattle.std.proofs.lemmas.Option.{slice_get-map, slice_get_read, slice_get_within}
+use Rattle.std.proofs.lemmas.Option.{get_or_from_slice_get}
+use Rattle.am_universe.specs.Text.{same_text}
+use Rattle.am_universe.specs.Universe.{Label, label_position}
+use Rattle.am_universe.proofs.DistinctLists.{all_push}
+use Rattle.am_universe.proofs.ListLemmas.{AllByRecursion-at}
+use Rattle.am_labels.specs.Matcher.{Condition, holds}
+use Rattle.am_labels.specs.Row.{TruthRow, truth_on_value, truths_of, truth_at, row_of}
+use Rattle.am_eval.proofs.Members.{in_at}
+use Rattle.am_classes.specs.Alike.{AreAlike}
+use Rattle.am_complete.specs.Covering.{IsWithLabel}
+use Rattle.am_complete.specs.Truths.{truth_row}
+
+-- ---- The rows.
+
+on_values : (m : Condition) (values : List (Option (List ℕ)))
+    → map (truth_on_value m) values ≡ map (holds m.op m.value) (map (λ v. unwrap_or v []) values)
+on_values m [] = refl
+on_values m (v ∷ values) = ap (λ rest. truth_on_value m v ∷ rest) (on_values m values)
+
+row_is : (trial : List Label) (name : List ℕ) (texts : List (List ℕ)) (m : Condition)
+    → IsWithLabel [] trial name texts → m.name ≡ name → row_of trial m ≡ truth_row texts m
+row_is trial name texts m lone named =
+    let l : Label = lone.0 in
+    let same : same_text l.name m.name ≡ true =
+    (bytes_decides l.name m.name).1 (lone.2 ∙ sym named) in
+    let first : label_position (l ∷ []) m.name ≡ Some 0 = rw same refl in
+    let truths : truths_of (l ∷ []) m (Some 0) ≡ map (holds m.op m.value) texts =
+    on_values m l.values ∙ ap (map (holds m.op m.value)) lone.3 in
+    ap (λ u. row_of u m) lone.1
+    ∙ ap (λ o. record { label = o; truths = truths_of (l ∷ []) m o }) first
+    ∙ ap (λ ts. record { label = Some 0; truths = ts }) truths
+
+pub rows_are : (trial : List Label) (name : List ℕ) (texts : List (List ℕ)) (ms : List Condition)
+    → IsWithLabel [] trial name texts → AllByRecursion (λ m. m.name ≡ name) ms
+    → map (row_of trial) ms ≡ map (truth_row texts) ms
+rows_are trial name texts [] lone on = refl
+rows_are trial name texts (m ∷ ms) lone on =
+    λ i. row_is trial name texts m lone on.0 i ∷ rows_are trial name texts ms lone on.1 i
+
+-- ---- One row.
+
+-- the matcher whose row stands at a position
+pub row_at : (rows : List TruthRow) (texts : List (List ℕ)) (ms : List Condition) (i : ℕ)
+    (row : TruthRow) → rows ≡ map (truth_row texts) ms → i < length rows
+    → row ≡ get_or rows i row
+    → (m : Condition) × (slice_get ms i ≡ Some m) × (row ≡ truth_row texts m)
+row_at rows texts ms i row are lt is =
+    let there : slice_get rows i ≡ Some row =
+    slice_get_read rows (length rows) i row refl lt is in
+    let mapped : option_map (truth_row texts) (slice_get ms i) ≡ Some row =
+    sym (slice_get-map (truth_row texts) ms i)
+    ∙ ap (λ rs. slice_get rs i) (sym are) ∙ there in
+    by (slice_get ms i) refl mapped
+  where
+    by : (o : Option Condition) → slice_get ms i ≡ o
+        → option_map (truth_row texts) o ≡ Some row
+        → (m : Condition) × (slice_get ms i ≡ Some m) × (row ≡ truth_row texts m)
+    by None e h = absurd (cc)
+    by (Some m) e h = (m, e, sym (cc))
+
+-- its truth at a text
+pub truth_is : (texts : List (List ℕ)) (m : Condition) (row : TruthRow) (k : ℕ) (x : List ℕ)
+    → row ≡ truth_row texts m → slice_get texts k ≡ Some x
+    → truth_at row k ≡ holds m.op m.value x
+truth_is texts m row k x is there =
+    ap (λ r. truth_at r k) is
+    ∙ get_or-map (holds m.op m.value) texts k [] false (slice_get_within texts k x there)
+    ∙ ap (holds m.op m.value) (get_or_from_slice_get texts k x [] there)
+
+-- it has a truth at each text
+pub readable : (texts : List (List ℕ)) (m : Condition) (row : TruthRow) (k : ℕ)
+    → row ≡ truth_row texts m → k < length texts
+    → IfSome row.label (λ _. k < length row.truths)
+readable texts m row k is lt =
+    let long : k < length (map (holds m.op m.value) texts) =
+    omega (arith, length-map texts (holds m.op m.value), lt) in
+    subst (λ (r : TruthRow). IfSome r.label (λ _. k < length r.truths)) (sym is) long
+
+-- two truths that a test finds unequal, or equal
+pub unequal_truths : (a b : Bool) → not (beq a b) ≡ true → a ≡ b → ⊥
+unequal_truths true true h e = cc
+unequal_truths true false h e = cc
+unequal_truths false true h e = cc
+unequal_truths false false h e = cc
+
+pub equal_truths : (a b : Bool) → not (beq a b) ≡ false → a ≡ b
+equal_truths true true h = refl
+equal_truths true false h = absurd (cc)
+equal_truths false true h = absurd (cc)
+equal_truths false false h = refl
+
+-- ---- Texts that are alike.
+
+pub one_more_alike : (ms : List Condition) (i : ℕ) (m : Condition) (x y : List ℕ)
+    → slice_get ms i ≡ Some m → AreAlike (take i ms) x y
+    → holds m.op m.value x ≡ holds m.op m.value y → AreAlike (take (i + 1) ms) x y
+one_more_alike ms i m x y there before here =
+    let lt = slice_get_within ms i m there in
+    let longer : take i ms ++ m ∷ [] ≡ take (i + 1) ms =
+    ap (λ z. take i ms ++ z ∷ []) (sym (get_or_from_slice_get ms i m m there))
+    ∙ sym (take_more ms i m lt) in
+    subst (λ (ns : List Condition). AreAlike ns x y) longer
+    (all_push (λ n. holds n.op n.value x ≡ holds n.op n.value y) (take i ms) m before here)
+
+pub alike_at : (ms : List Condition) (i : ℕ) (m : Condition) (x y : List ℕ)
+    → slice_get ms i ≡ Some m → AreAlike ms x y → holds m.op m.value x ≡ holds m.op m.value y
+alike_at ms i m x y there alike =
+    AllByRecursion-at (λ n. holds n.op n.value x ≡ holds n.op n.value y) ms m alike
+    (in_at ms i m there)
+
+pub same_length : (rows others : List TruthRow) (texts texts' : List (List ℕ))
+    (ms ns : List Condition) → rows ≡ map (truth_row texts) ms
+    → others ≡ map (truth_row texts') ns → ms ≡ ns → length rows ≡ length others
+same_length rows others texts texts' ms ns are are' same =
+    ap length are ∙ length-map ms (truth_row texts) ∙ ap length same
+    ∙ sym (length-map ns (truth_row texts')) ∙ sym (ap length are')
+
+-- both rows at a position are of one matcher
+pub same_matcher : (ms ns : List Condition) (i : ℕ) (m n : Condition) → ms ≡ ns
+    → slice_get ms i ≡ Some m → slice_get ns i ≡ Some n → m ≡ n
+same_matcher ms ns i m n same at_m at_n =
+    let both : Some m ≡ Some n = sym at_m ∙ ap (λ xs. slice_get xs i) same ∙ at_n in cc

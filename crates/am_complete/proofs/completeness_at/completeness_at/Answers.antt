@@ -1,0 +1,10 @@
+use Rattle.std.proofs.Common.{List, map, string_bytes, subst}
+use Rattle.am_labels.specs.Matcher.{Condition}
+use Rattle.am_complete.specs.Covering.{StandForAll}
+use Rattle.am_complete.proofs.completeness_at.completeness_at.Goals as goal
+
+pub completeness_by-requires-clause-stand : goal.completeness_by-requires-clause-stand
+completeness_by-requires-clause-stand c =
+    let texts = map string_bytes c.in-Some.texts.items in
+    subst (λ (ms : List Condition). StandForAll ms texts) c.matchers.ensures.matchers
+    (rw c.in-Some.is at c.in_ok-texts.ensures.covers, rw c.in-Some.is at c.in_ok-texts.ensures.apart)

@@ -1,0 +1,24 @@
+use Rattle.std.proofs.Common.{◌≡◌, ◌<◌, ◌+◌, [], ◌∷◌, ◌++◌, length, map, take, get_or, string_bytes, sym, ap}
+use Rattle.std.proofs.Common.{◌∙◌, List, ℕ, subst, arith}
+use Rattle.std.proofs.lemmas.List.{map-append, take_more}
+use Rattle.std.proofs.lemmas.Option.{slice_get-get_or}
+use Rattle.am_complete.specs.Truths.{AreAlikeEach}
+use Rattle.am_complete.proofs.ChosenTexts.{one_more_each}
+use Rattle.am_complete.proofs.representatives.chosen_texts.Goals as goal
+
+pub loop-j-preserved : goal.loop-j-preserved
+loop-j-preserved c =
+    let ms = c.args.wanted.now.matchers in
+    let wanted = c.args.wanted.now.texts in
+    let j = c.loop-j.j in
+    let text = c.in_ok-chosen_text.field-0 in
+    let before = map string_bytes c.loop-j.chosen.items in
+    let inside : j < length wanted = omega (arith, c.loop-j-test.true, c.len-j-end.ensures) in
+    let y = get_or wanted j [] in
+    let here = c.in_ok-chosen_text.ensures y (slice_get-get_or wanted j [] inside) in
+    let texts : map string_bytes c.push.new.self.items ≡ before ++ string_bytes text ∷ [] =
+    ap (map string_bytes) c.in_ok-push.ensures.items
+    ∙ map-append string_bytes c.loop-j.chosen.items (text ∷ []) in
+    subst (λ (xs : List (List ℕ)). AreAlikeEach ms xs (take (j + 1) wanted)) (sym texts)
+    (subst (AreAlikeEach ms (before ++ string_bytes text ∷ [])) (sym (take_more wanted j [] inside))
+    (one_more_each ms before (take j wanted) (string_bytes text) y c.loop-j.invariant here))

@@ -1,0 +1,31 @@
+use Rattle.std.proofs.Common.{option_map}
+use Rattle.am_eval.proofs.Members.{in_at}
+use Rattle.am_complete.proofs.LabelStates.{on_label, stands_at, state_names, states_so}
+use Rattle.am_complete.proofs.states_of_labels.add_undeclared.Goals as goal
+
+pub add_if_undeclared-requires : goal.add_if_undeclared-requires
+add_if_undeclared-requires c =
+    let asked = c.args.asked.now in
+    let i = c.loop-label.label-index in
+    let l = c.label-item.result in
+    let there = in_at asked i l (stands_at asked i l c.loop-label-test.true c.label-item.is) in
+    record { on = on_label asked c.requires.0 l c.requires.1 there }
+
+pub loop-label-preserved : goal.loop-label-preserved
+loop-label-preserved c =
+    let u = c.args.universe.now in
+    let asked = c.args.asked.now in
+    let i = c.loop-label.label-index in
+    let l = c.label-item.result in
+    let alerts = option_map (λ a. a.now) c.args.alerts in
+    let before = c.loop-label.states.items in
+    let after = c.add_if_undeclared.new.states.items in
+    record {
+      names = state_names u asked i l alerts c.args.states.now.items before after
+          c.loop-label-test.true c.label-item.is c.loop-label.invariant.names
+          c.in_ok-add_if_undeclared.ensures;
+      each = λ first.
+          states_so u asked l alerts before after
+          (in_at asked i l (stands_at asked i l c.loop-label-test.true c.label-item.is))
+          c.in_ok-add_if_undeclared.ensures (c.loop-label.invariant.each first);
+    }

@@ -1,0 +1,14 @@
+use am_files::Path;
+
+/// Where a matcher stands.
+#[derive(Clone, Copy, Debug)]
+pub enum Origin {
+    /// At the route of this path.
+    Route(Path),
+    /// On a side of the inhibition rule at this position, or in its `equal`.
+    Rule(usize),
+    /// In the silence at this position.
+    Silence(usize),
+    /// In the impossible list at this position.
+    Impossible(usize),
+}

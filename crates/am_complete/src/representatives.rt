@@ -1,0 +1,115 @@
+//! Which text stands for each class of a label's texts.
+
+ghost use Rattle.std.specs.Prelude.{◌≡◌, ◌<◌, ℕ, List, Some, IfOk, length, map};
+ghost use Rattle.std.specs.Prelude.{slice_get, string_bytes};
+ghost use Rattle.std.specs.List.{AllByRecursion};
+ghost use Rattle.am_labels.specs.Words.{Condition};
+ghost use Rattle.am_complete.specs.Words.{AreAlike, StandForAll};
+ghost use Rattle.am_complete.specs.Truths.{AreAlikeEach};
+
+use crate::AskedLabel;
+use crate::truths::Truths;
+use crate::usual_texts::usual_texts;
+use am_files::Alerts;
+use std::alloc::{AllocError, Global};
+
+/// Texts that stand for the classes of a label's texts, as `texts` do, but chosen and put in order
+/// for a reader. A text that no matcher names gives way to a usual one of its class: to that which
+/// most of the alerts have, or else to `other`. Absence stands behind the others, and texts with a
+/// line feed last.
+pub(crate) fn representatives(
+    alloc: Global,
+    label: &AskedLabel<'_>,
+    alerts: Option<&Alerts>,
+    texts: Vec<String>,
+) -> Result<Vec<String>, AllocError>
+    requires on { AllByRecursion (λ m. m.name ≡ label.now.name) label.now.matchers }
+    requires stand { StandForAll label.now.matchers (map string_bytes texts.items) }
+    ensures { IfOk result (λ chosen.
+        StandForAll label.now.matchers (map string_bytes chosen.items)) }
+{
+    let mut chosen = usual_where_alike(alloc, label, alerts, texts)?;
+    put_in_order(&mut chosen)?;
+    Ok(chosen)
+}
+
+/// The texts, of which those that no matcher names give way to usual ones.
+fn usual_where_alike(
+    alloc: Global,
+    label: &AskedLabel<'_>,
+    alerts: Option<&Alerts>,
+    texts: Vec<String>,
+) -> Result<Vec<String>, AllocError>
+    requires on { AllByRecursion (λ m. m.name ≡ label.now.name) label.now.matchers }
+    requires stand { StandForAll label.now.matchers (map string_bytes texts.items) }
+    ensures { IfOk result (λ chosen.
+        StandForAll label.now.matchers (map string_bytes chosen.items)) }
+{
+    let (name, matchers) = (label.name(), label.matchers());
+    let usual = usual_texts(alloc, alerts, name)?;
+    let Some(usual) = Truths::of(alloc, name, matchers, usual.as_slice())? else {
+        return Ok(texts);
+    };
+    let Some(wanted) = Truths::of(alloc, name, matchers, texts.as_slice())? else {
+        return Ok(texts);
+    };
+    chosen_texts(alloc, &wanted, &usual)
+}
+
+/// A text for each of the wanted ones, alike to it.
+fn chosen_texts(
+    alloc: Global,
+    wanted: &Truths<'_>,
+    usual: &Truths<'_>,
+) -> Result<Vec<String>, AllocError>
+    requires { usual.now.matchers ≡ wanted.now.matchers }
+    ensures { IfOk result (λ chosen.
+        AreAlikeEach wanted.now.matchers (map string_bytes chosen.items) wanted.now.texts) }
+{
+    let mut chosen = Vec::with_capacity(alloc, wanted.len())?;
+    for j in 0..wanted.len() {
+        chosen.push(chosen_text(alloc, wanted, usual, j)?)?;
+    }
+    Ok(chosen)
+}
+
+/// A text for the wanted one at `j`, alike to it.
+fn chosen_text(
+    alloc: Global,
+    wanted: &Truths<'_>,
+    usual: &Truths<'_>,
+    j: usize,
+) -> Result<String, AllocError>
+    requires same { usual.now.matchers ≡ wanted.now.matchers }
+    requires there { j < length wanted.now.texts }
+    ensures { IfOk result (λ text. (y : List ℕ) → slice_get wanted.now.texts j ≡ Some y
+        → AreAlike wanted.now.matchers (string_bytes text) y) }
+{
+    let text = wanted.text(j);
+    if text.is_empty() || wanted.names(text) {
+        return String::from_str(alloc, text);
+    }
+    match usual.first_alike(wanted, j) {
+        Some(k) => String::from_str(alloc, usual.text(k)),
+        None => String::from_str(alloc, text),
+    }
+}
+
+/// Puts the texts of a label in order: absence behind the others, and texts with a line feed last.
+pub(crate) fn put_in_order(texts: &mut Vec<String>) -> Result<(), AllocError>
+    ensures { (ms : List Condition) → StandForAll ms (map string_bytes texts.old.items)
+        → StandForAll ms (map string_bytes texts.new.items) }
+{
+    texts.sort_by_key(|text| rank_of(text.as_str()))
+}
+
+/// Where a text stands among those of its label: texts that lie lower come first.
+fn rank_of(text: &str) -> u8 {
+    if text.contains('\n') {
+        2
+    } else if text.is_empty() {
+        1
+    } else {
+        0
+    }
+}

@@ -1,0 +1,198 @@
+//! How a universe stands at each label.
+
+ghost use Rattle.std.specs.Prelude.{◌≡◌, ◌≢◌, ◌++◌, [], List, IfOk, OnOk, IsTrue, map, not};
+ghost use Rattle.std.specs.Prelude.{string_bytes, option_map, slice_get, Some, IfSome, IfNone};
+ghost use Rattle.std.specs.Prelude.{Contains};
+ghost use Rattle.std.specs.List.{AllByRecursion, filter, list_all, list_any};
+ghost use Rattle.am_labels.specs.Words.{Condition, names, IsUniverse, is_label_name};
+ghost use Rattle.am_complete.specs.Words.{IsAskedOf, asked_names, IsSoAt, is_settled};
+ghost use Rattle.am_complete.specs.Words.{reported_names, is_declared, IsComplete, is_unseen};
+ghost use Rattle.am_complete.specs.FoundState.{has_label, IsSoOfName, IsSoOfAsked};
+ghost use Rattle.am_complete.specs.FoundState.{IsWithState};
+
+use crate::completeness_at::completeness_at;
+use crate::{AskedLabel, Completeness, LabelState};
+use am_files::Alerts;
+use am_labels::{LabelSet, Universe};
+use std::alloc::{AllocError, Global};
+
+/// How a universe stands at each of its labels, in declared order, and then at each label that is
+/// asked of and not declared, in the order in which they are first asked of. With alerts, each
+/// state says too whether none of them has the label. An `Err` only where memory was refused.
+pub fn label_states(
+    alloc: Global,
+    universe: &Universe,
+    asked: &[AskedLabel<'_>],
+    alerts: Option<&Alerts>,
+) -> Result<Vec<LabelState>, AllocError>
+    requires { (ms : List Condition) × IsAskedOf asked.now ms }
+    ensures names { IfOk result (λ states. map (λ s. string_bytes s.name) states.items
+        ≡ reported_names universe.now asked.now) }
+    ensures each { IfOk result (λ states. (ms : List Condition) → IsAskedOf asked.now ms
+        → AllByRecursion
+        (λ s. IsSoAt universe.now ms asked.now (string_bytes s.name) s.completeness)
+        states.items) }
+    ensures complete { IfOk result (λ states. (ms : List Condition) → IsAskedOf asked.now ms
+        → IsTrue (list_all (λ s. is_settled s.completeness) states.items)
+        → IsComplete universe.now ms) }
+    ensures unseen { IfOk result (λ states. AllByRecursion
+        (λ s. s.unseen ≡ is_unseen (option_map (λ a. a.now) alerts.entry) (string_bytes s.name))
+        states.items) }
+{
+    let mut states = declared_states(alloc, universe, asked, alerts)?;
+    add_undeclared(alloc, universe, asked, alerts, &mut states)?;
+    Ok(states)
+}
+
+/// How a universe stands at each of its labels.
+fn declared_states(
+    alloc: Global,
+    universe: &Universe,
+    asked: &[AskedLabel<'_>],
+    alerts: Option<&Alerts>,
+) -> Result<Vec<LabelState>, AllocError>
+    requires { (ms : List Condition) × IsAskedOf asked.now ms }
+    ensures universe { OnOk result (IsUniverse universe.now) }
+    ensures names { IfOk result (λ states.
+        map (λ s. string_bytes s.name) states.items ≡ names universe.now) }
+    ensures each { IfOk result (λ states. AllByRecursion
+        (IsSoOfName universe.now asked.now (option_map (λ a. a.now) alerts.entry)) states.items) }
+{
+    let mut states = Vec::with_capacity(alloc, universe.len())?;
+    for i in 0..universe.len() {
+        states.push(declared_state(alloc, universe, asked, alerts, universe.name(i))?)?;
+    }
+    Ok(states)
+}
+
+/// How a universe stands at its label of this name.
+fn declared_state(
+    alloc: Global,
+    universe: &Universe,
+    asked: &[AskedLabel<'_>],
+    alerts: Option<&Alerts>,
+    name: &str,
+) -> Result<LabelState, AllocError>
+    requires asked { (ms : List Condition) × IsAskedOf asked.now ms }
+    requires named { name.now ≢ [] }
+    ensures name { IfOk result (λ state. string_bytes state.name ≡ name.now) }
+    ensures so { IfOk result (IsSoOfName universe.now asked.now
+        (option_map (λ a. a.now) alerts.entry)) }
+{
+    match position_of(asked, name) {
+        Some(i) => asked_state(alloc, universe, &asked[i], alerts),
+        None => Ok(LabelState {
+            name: String::from_str(alloc, name)?,
+            completeness: Completeness::Unasked,
+            unseen: is_unseen(alerts, name),
+        }),
+    }
+}
+
+/// The position of a label of this name among those that are asked of, if there is one.
+fn position_of(asked: &[AskedLabel<'_>], name: &str) -> Option<usize>
+    ensures found { IfSome result (λ i.
+        slice_get (asked_names asked.now) i ≡ Some name.now) }
+    ensures none { IfNone result (¬ Contains (asked_names asked.now) name.now) }
+{
+    for (i, label) in asked.iter().enumerate() {
+        if label.name() == name {
+            return Some(i);
+        }
+    }
+    None
+}
+
+/// Adds how a universe stands at each label that is asked of and not declared.
+fn add_undeclared(
+    alloc: Global,
+    universe: &Universe,
+    asked: &[AskedLabel<'_>],
+    alerts: Option<&Alerts>,
+    states: &mut Vec<LabelState>,
+) -> Result<(), AllocError>
+    requires { (ms : List Condition) × IsAskedOf asked.now ms }
+    ensures names { OnOk result (map (λ s. string_bytes s.name) states.new.items
+        ≡ map (λ s. string_bytes s.name) states.old.items
+        ++ filter (λ name. not (is_declared universe.now name)) (asked_names asked.now)) }
+    ensures each { OnOk result (AllByRecursion
+        (IsSoOfName universe.now asked.now (option_map (λ a. a.now) alerts.entry)) states.old.items
+        → AllByRecursion
+        (IsSoOfName universe.now asked.now (option_map (λ a. a.now) alerts.entry))
+        states.new.items) }
+{
+    for label in asked {
+        add_if_undeclared(alloc, universe, label, alerts, states)?;
+    }
+    Ok(())
+}
+
+/// Adds how a universe stands at a label that is asked of, where that is not declared.
+fn add_if_undeclared(
+    alloc: Global,
+    universe: &Universe,
+    label: &AskedLabel<'_>,
+    alerts: Option<&Alerts>,
+    states: &mut Vec<LabelState>,
+) -> Result<(), AllocError>
+    requires on { IsTrue (is_label_name label.now.name)
+        → AllByRecursion (λ m. m.name ≡ label.now.name) label.now.matchers }
+    ensures { OnOk result (IsWithState universe.now label.now
+        (option_map (λ a. a.now) alerts.entry) states.old.items states.new.items) }
+{
+    match universe.position(label.name()) {
+        Some(_) => Ok(()),
+        None => {
+            states.push(asked_state(alloc, universe, label, alerts)?)?;
+            Ok(())
+        }
+    }
+}
+
+/// How a universe stands at a label that is asked of.
+fn asked_state(
+    alloc: Global,
+    universe: &Universe,
+    label: &AskedLabel<'_>,
+    alerts: Option<&Alerts>,
+) -> Result<LabelState, AllocError>
+    requires on { IsTrue (is_label_name label.now.name)
+        → AllByRecursion (λ m. m.name ≡ label.now.name) label.now.matchers }
+    ensures { IfOk result (IsSoOfAsked universe.now label.now
+        (option_map (λ a. a.now) alerts.entry)) }
+{
+    Ok(LabelState {
+        name: String::from_str(alloc, label.name())?,
+        completeness: completeness_at(alloc, universe, label, alerts)?,
+        unseen: is_unseen(alerts, label.name()),
+    })
+}
+
+/// Whether there are alerts, and none of them has the label of this name.
+fn is_unseen(alerts: Option<&Alerts>, name: &str) -> bool
+    ensures { result ≡ is_unseen (option_map (λ a. a.now) alerts.entry) name.now }
+{
+    match alerts {
+        Some(alerts) => !is_seen(alerts, name),
+        None => false,
+    }
+}
+
+/// Whether some alert has the label of this name.
+fn is_seen(alerts: &Alerts, name: &str) -> bool
+    ensures { result ≡ list_any (has_label name.now) alerts.now }
+{
+    for i in 0..alerts.len() {
+        if has_label(alerts.get(i), name) {
+            return true;
+        }
+    }
+    false
+}
+
+/// Whether an alert has the label of this name.
+fn has_label(alert: &LabelSet, name: &str) -> bool
+    ensures { result ≡ has_label name.now alert.now }
+{
+    !alert.get(name).is_empty()
+}

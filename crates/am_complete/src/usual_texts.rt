@@ -1,0 +1,63 @@
+//! The texts that alerts have for a label.
+
+use am_files::Alerts;
+use am_universe::limits::MAX_VALUES;
+use std::alloc::{AllocError, Global};
+use std::collections::HashMap;
+
+/// The usual texts of a label: those that alerts have, but absence, the text of most alerts first,
+/// and of those that as many have the one that comes first; and then `other`. No text stands there
+/// twice, and there are at most as many as a label may have values.
+pub(crate) fn usual_texts(
+    alloc: Global,
+    alerts: Option<&Alerts>,
+    name: &str,
+) -> Result<Vec<String>, AllocError> {
+    let mut texts = Vec::new(alloc);
+    if let Some(alerts) = alerts {
+        for (text, _) in counted_texts(alloc, alerts, name)? {
+            push_new(alloc, &mut texts, text)?;
+        }
+    }
+    push_new(alloc, &mut texts, "other")?;
+    Ok(texts)
+}
+
+/// Adds a text, unless it is there, or there is no room for one more value of a label.
+pub(crate) fn push_new(
+    alloc: Global,
+    texts: &mut Vec<String>,
+    text: &str,
+) -> Result<(), AllocError> {
+    if texts.len() < MAX_VALUES && !texts.iter().any(|other| other.as_str() == text) {
+        texts.push(String::from_str(alloc, text)?)?;
+    }
+    Ok(())
+}
+
+/// The texts that alerts have for the label of this name, each with the number of those alerts,
+/// which falls.
+fn counted_texts<'a>(
+    alloc: Global,
+    alerts: &'a Alerts,
+    name: &str,
+) -> Result<Vec<(&'a str, usize)>, AllocError> {
+    let mut counted: Vec<(&str, usize)> = Vec::new(alloc);
+    let mut places: HashMap<&str, usize> = HashMap::new(alloc);
+    for i in 0..alerts.len() {
+        let text = alerts.get(i).get(name);
+        if text.is_empty() {
+            continue;
+        }
+        if let Some(place) = places.get(text) {
+            if let Some(pair) = counted.get_mut(*place) {
+                pair.1 = pair.1.saturating_add(1);
+            }
+        } else {
+            places.insert(text, counted.len())?;
+            counted.push((text, 1))?;
+        }
+    }
+    counted.sort_by_key(|pair| usize::MAX - pair.1)?;
+    Ok(counted)
+}
