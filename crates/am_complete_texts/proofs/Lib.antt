@@ -1,0 +1,5 @@
+pub mod TextTokens
+pub mod SaidByText
+pub mod TextSteps
+pub mod Escapes
+pub mod LabelSets

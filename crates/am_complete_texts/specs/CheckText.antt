@@ -1,0 +1,81 @@
+-- What is written of a universe that is checked. (This project's own.)
+use Rattle.std.specs.Prelude.{ℕ, ◌*◌, ◌^◌, List, [], ◌∷◌, ◌++◌, Bool, if◌then◌else◌, codes, decimal}
+use Rattle.std.specs.Prelude.{string_bytes, nat_lt}
+use Rattle.std.specs.List.{flat_map, list_all}
+use Rattle.am_universe.specs.Text.{quoted_text}
+use Rattle.am_universe.specs.Universe.{is_label_name}
+use Rattle.am_complete.specs.declared.label_state.Completeness.{Completeness}
+use Rattle.am_complete.specs.declared.label_state.Completeness.TheVariants as state_is
+use Rattle.am_complete.specs.declared.label_state.LabelState.{LabelState}
+use Rattle.am_complete.specs.declared.origin.Origin.{Origin}
+use Rattle.am_complete.specs.declared.origin.Origin.TheVariants as origin_is
+use Rattle.am_complete.specs.LabelState.{is_settled}
+
+-- The pointer to what a matcher stands in, in its file: a route, a rule, a silence, or an
+-- impossible list.
+-- Source: RFC 6901, over the forms of the files.
+-- Example: that of the second child of the first child of the top-level route is
+-- `/route/routes/0/routes/1`, and that of the third rule `/inhibit_rules/2`.
+abbrev pub child_pointer : ℕ → List ℕ
+child_pointer position = codes "/routes/" ++ decimal position
+
+abbrev pub origin_pointer : Origin → List ℕ
+origin_pointer (origin_is.Route path) = codes "/route" ++ flat_map child_pointer path
+origin_pointer (origin_is.Rule position) = codes "/inhibit_rules/" ++ decimal position
+origin_pointer (origin_is.Silence position) = codes "/" ++ decimal position
+origin_pointer (origin_is.Impossible position) = codes "/impossible/" ++ decimal position
+
+-- The name of a label: as it stands where it is a label name, and else in quotes. And a text that
+-- it lacks: in quotes, or `absent` for the empty text.
+abbrev pub name_text : List ℕ → List ℕ
+name_text name = if is_label_name name then name else quoted_text name
+
+abbrev pub lacking_text : List ℕ → List ℕ
+lacking_text [] = codes "absent"
+lacking_text (c ∷ cs) = quoted_text (c ∷ cs)
+
+-- How a universe stands at a label, in words.
+abbrev pub state_text : Completeness → List ℕ
+state_text (state_is.Complete classes) = codes "complete " ++ decimal classes
+state_text (state_is.Lacks text) = codes "lacks " ++ lacking_text (string_bytes text)
+state_text state_is.Unasked = codes "unasked"
+state_text state_is.Undeclarable = codes "undeclarable"
+state_text (state_is.Unproved origin) = codes "unproved " ++ origin_pointer origin
+
+abbrev pub unseen_text : Bool → List ℕ
+unseen_text unseen = if unseen then codes " unseen" else []
+
+-- The line of a label.
+-- Source: own choice.
+-- Example: `team complete 3`, `severity lacks absent unseen` and `"a/b" undeclarable` are three.
+abbrev pub state_line : LabelState → List ℕ
+state_line state =
+    name_text (string_bytes state.name)
+    ++ (codes " " ++ (state_text state.completeness
+    ++ (unseen_text state.unseen ++ codes "\n")))
+
+-- How many label sets there are where the labels have so many values, impossible ones included; and
+-- the line that says it. From 2^64 on it is not counted.
+-- Source: own choice.
+-- Example: of three labels with 3, 3 and 10 values there are 90, and the line is `90 label sets`.
+abbrev pub label_sets : List ℕ → ℕ
+label_sets [] = 1
+label_sets (size ∷ sizes) = size * label_sets sizes
+
+abbrev pub count_text : ℕ → List ℕ
+count_text count =
+    if nat_lt count (2 ^ 64) then decimal count ++ codes " label sets\n"
+    else codes "more than 18446744073709551615 label sets\n"
+
+-- The last line: whether nothing is missing.
+abbrev pub verdict_text : List LabelState → List ℕ
+verdict_text states =
+    if list_all (λ state. is_settled state.completeness) states then codes "# complete\n"
+    else codes "# incomplete\n"
+
+-- The whole: a line for each label, the number of label sets, and the verdict.
+-- Source: own choice.
+-- Example: of a universe without labels that nothing asks of it is `1 label sets` and `# complete`.
+abbrev pub check_text : List ℕ → List LabelState → List ℕ
+check_text sizes states =
+    flat_map state_line states ++ (count_text (label_sets sizes) ++ verdict_text states)

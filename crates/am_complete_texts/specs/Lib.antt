@@ -1,0 +1,3 @@
+pub mod UniverseText
+pub mod CheckText
+pub mod Words

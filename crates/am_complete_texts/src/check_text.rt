@@ -1,0 +1,220 @@
+//! What is written of a universe that is checked.
+
+ghost use Rattle.std.specs.Prelude.{◌≡◌, ◌≤◌, ◌^◌, ◌++◌, string_bytes, encode_utf8, decimal, codes};
+ghost use Rattle.std.specs.Prelude.{MatchOption, IfOk, OnOk};
+ghost use Rattle.std.specs.List.{flat_map, list_all};
+ghost use Rattle.am_labels.specs.Words.{sizes, quoted_text, label_value_escape, is_label_name};
+ghost use Rattle.am_labels.specs.Words.{begins_label_name, continues_label_name};
+ghost use Rattle.am_complete.specs.Words.{is_settled};
+ghost use Rattle.am_complete_texts.specs.Words.{check_text, state_line, state_text, name_text};
+ghost use Rattle.am_complete_texts.specs.Words.{lacking_text, unseen_text, label_sets, count_text};
+ghost use Rattle.am_complete_texts.specs.Words.{verdict_text};
+
+use crate::pointer_to;
+use am_complete::{Completeness, LabelState};
+use am_labels::Universe;
+use am_universe::{begins_label_name, continues_label_name};
+use std::alloc::{AllocError, Global};
+
+/// How a universe stands, as a text: a line for each label, the number of its label sets, and
+/// whether nothing is missing. An `Err` only where memory was refused.
+pub fn text_of_check(
+    alloc: Global,
+    universe: &Universe,
+    states: &[LabelState],
+) -> Result<String, AllocError>
+    ensures text { IfOk result (λ text.
+        string_bytes text ≡ check_text (sizes universe.now) states.now) }
+{
+    let mut text = String::new(alloc);
+    for state in states {
+        push_state(alloc, &mut text, state)?;
+    }
+    push_count(alloc, &mut text, universe)?;
+    text.push_str(verdict_text(states))?;
+    Ok(text)
+}
+
+/// Adds the line of a label.
+fn push_state(alloc: Global, text: &mut String, state: &LabelState) -> Result<(), AllocError>
+    ensures { OnOk result (string_bytes text.new ≡ string_bytes text.old ++ state_line state.now) }
+{
+    push_name(text, state.name.as_str())?;
+    text.push_str(" ")?;
+    push_completeness(alloc, text, &state.completeness)?;
+    text.push_str(unseen_text(state.unseen))?;
+    text.push_str("\n")?;
+    Ok(())
+}
+
+/// Adds the name of a label, in quotes where it is no label name.
+fn push_name(text: &mut String, name: &str) -> Result<(), AllocError>
+    ensures { OnOk result (string_bytes text.new ≡ string_bytes text.old ++ name_text name.now) }
+{
+    if is_label_name(name.as_bytes()) {
+        text.push_str(name)
+    } else {
+        push_quoted(text, name)
+    }
+}
+
+/// Whether the text is a label name.
+fn is_label_name(name: &[u8]) -> bool
+    ensures { result ≡ is_label_name name.now }
+{
+    match name.split_first() {
+        Some((first, rest)) => begins_label_name(*first) && all_continue_label_name(rest),
+        None => false,
+    }
+}
+
+fn all_continue_label_name(bytes: &[u8]) -> bool
+    ensures { result ≡ list_all continues_label_name bytes.now }
+{
+    bytes.iter().all(|byte| continues_label_name(*byte))
+}
+
+/// Adds how the universe stands at a label.
+fn push_completeness(
+    alloc: Global,
+    text: &mut String,
+    completeness: &Completeness,
+) -> Result<(), AllocError>
+    ensures { OnOk result (string_bytes text.new
+        ≡ string_bytes text.old ++ state_text completeness.now) }
+{
+    match completeness {
+        Completeness::Complete(classes) => push_complete(alloc, text, *classes),
+        Completeness::Lacks(lacking) => push_lacking(text, lacking.as_str()),
+        Completeness::Unasked => text.push_str("unasked"),
+        Completeness::Undeclarable => text.push_str("undeclarable"),
+        Completeness::Unproved(origin) => {
+            let pointer = pointer_to(alloc, origin)?;
+            push_unproved(text, pointer.as_str())
+        }
+    }
+}
+
+fn push_complete(alloc: Global, text: &mut String, classes: usize) -> Result<(), AllocError>
+    ensures { OnOk result (string_bytes text.new
+        ≡ string_bytes text.old ++ (codes "complete " ++ decimal classes)) }
+{
+    let number = format!(in alloc; "complete {classes}")?;
+    text.push_str(number.as_str())
+}
+
+fn push_unproved(text: &mut String, pointer: &str) -> Result<(), AllocError>
+    ensures { OnOk result (string_bytes text.new
+        ≡ string_bytes text.old ++ (codes "unproved " ++ pointer.now)) }
+{
+    text.push_str("unproved ")?;
+    text.push_str(pointer)
+}
+
+/// Adds a text that is missing; the empty one is absence.
+fn push_lacking(text: &mut String, lacking: &str) -> Result<(), AllocError>
+    ensures { OnOk result (string_bytes text.new
+        ≡ string_bytes text.old ++ (codes "lacks " ++ lacking_text lacking.now)) }
+{
+    text.push_str("lacks ")?;
+    if lacking.is_empty() {
+        text.push_str("absent")
+    } else {
+        push_quoted(text, lacking)
+    }
+}
+
+/// Adds a text between quotes, with `\` as `\\`, `"` as `\"` and a line feed as `\n`.
+fn push_quoted(text: &mut String, quoted: &str) -> Result<(), AllocError>
+    ensures { OnOk result (string_bytes text.new
+        ≡ string_bytes text.old ++ quoted_text quoted.now) }
+{
+    text.push_str("\"")?;
+    push_escaped(text, quoted)?;
+    text.push_str("\"")?;
+    Ok(())
+}
+
+fn push_escaped(text: &mut String, quoted: &str) -> Result<(), AllocError>
+    ensures { OnOk result (string_bytes text.new
+        ≡ string_bytes text.old ++ flat_map label_value_escape quoted.now) }
+{
+    for character in quoted.chars() {
+        push_escaped_character(text, character)?;
+    }
+    Ok(())
+}
+
+fn push_escaped_character(text: &mut String, character: char) -> Result<(), AllocError>
+    ensures { OnOk result (string_bytes text.new ≡ string_bytes text.old
+        ++ flat_map label_value_escape (encode_utf8 character)) }
+{
+    if character == '\\' {
+        text.push_str("\\\\")
+    } else if character == '"' {
+        text.push_str("\\\"")
+    } else if character == '\n' {
+        text.push_str("\\n")
+    } else {
+        text.push(character)
+    }
+}
+
+fn unseen_text(unseen: bool) -> &'static str
+    ensures { result.now ≡ unseen_text unseen }
+{
+    if unseen { " unseen" } else { "" }
+}
+
+/// Adds how many label sets a universe has, impossible ones included.
+fn push_count(alloc: Global, text: &mut String, universe: &Universe) -> Result<(), AllocError>
+    ensures { OnOk result (string_bytes text.new
+        ≡ string_bytes text.old ++ count_text (label_sets (sizes universe.now))) }
+{
+    match label_sets(universe) {
+        Some(count) => {
+            let line = format!(in alloc; "{count} label sets\n")?;
+            text.push_str(line.as_str())
+        }
+        None => text.push_str("more than 18446744073709551615 label sets\n"),
+    }
+}
+
+/// How many label sets a universe has; `None` where they are more than a `u64` counts.
+fn label_sets(universe: &Universe) -> Option<u64>
+    ensures { MatchOption result (2 ^ 64 ≤ label_sets (sizes universe.now))
+        (λ count. count ≡ label_sets (sizes universe.now)) }
+{
+    let mut count: u64 = 1;
+    for i in 0..universe.len() {
+        count = count.checked_mul(universe.size(i) as u64)?;
+    }
+    Some(count)
+}
+
+/// Whether nothing is missing.
+fn verdict_text(states: &[LabelState]) -> &'static str
+    ensures { result.now ≡ verdict_text states.now }
+{
+    if are_settled(states) {
+        "# complete\n"
+    } else {
+        "# incomplete\n"
+    }
+}
+
+fn are_settled(states: &[LabelState]) -> bool
+    ensures { result ≡ list_all (λ state. is_settled state.completeness) states.now }
+{
+    states.iter().all(|state| is_settled(state))
+}
+
+/// Whether nothing is missing at a label.
+fn is_settled(state: &LabelState) -> bool
+    ensures { result ≡ is_settled state.now.completeness }
+{
+    match state.completeness {
+        Completeness::Complete(_) | Completeness::Unasked | Completeness::Undeclarable => true,
+        Completeness::Lacks(_) | Completeness::Unproved(_) => false,
+    }
+}

@@ -1,0 +1,20 @@
+//! The texts of `amcover universe`: a universe file, and what a universe lacks.
+#![tactic(auto)]
+
+// A universe file.
+mod universe_file;
+
+pub use universe_file::universe_text;
+
+// Where a matcher stands.
+mod origin_pointer;
+
+pub use origin_pointer::pointer_to;
+
+// How a universe stands.
+mod check_text;
+
+pub use check_text::text_of_check;
+
+// What holds of the definitions by themselves.
+pub mod laws;

@@ -1,0 +1,98 @@
+//! The text of a universe file.
+
+ghost use Rattle.std.specs.Prelude.{◌≡◌, ◌<◌, ◌++◌, length, slice_get, slice_index, Some};
+ghost use Rattle.std.specs.Prelude.{string_bytes, option_map, IfOk, OnOk};
+ghost use Rattle.json.specs.Print.{quoted};
+ghost use Rattle.am_labels.specs.Words.{Label};
+ghost use Rattle.am_complete_texts.specs.Words.{universe_text, label_text, values_text, value_text};
+ghost use Rattle.am_complete_texts.specs.Words.{gap_before_label, gap_before_value};
+
+use am_labels::Universe;
+use serde_json::Value;
+use std::alloc::{AllocError, Global};
+
+/// The text of the universe file that says a universe: JSON, with one label a line. It is read back
+/// as the universe, as long as it has no more than `MAX_FILE_BYTES` bytes. An `Err` only where
+/// memory was refused.
+pub fn universe_text(alloc: Global, universe: &Universe) -> Result<String, AllocError>
+    ensures text { IfOk result (λ text. string_bytes text ≡ universe_text universe.now) }
+{
+    let mut text = String::from_str(alloc, "{\"labels\": [")?;
+    for i in 0..universe.len() {
+        text.push_str(gap_before_label(i))?;
+        push_label(alloc, &mut text, universe, i)?;
+    }
+    text.push_str("\n]}\n")?;
+    Ok(text)
+}
+
+/// Adds the label at `i`, in one line.
+fn push_label(
+    alloc: Global,
+    text: &mut String,
+    universe: &Universe,
+    i: usize,
+) -> Result<(), AllocError>
+    requires { i < length universe.now }
+    ensures { OnOk result ((label : Label) → slice_get universe.now i ≡ Some label
+        → string_bytes text.new ≡ string_bytes text.old ++ label_text label) }
+{
+    text.push_str("{\"name\": ")?;
+    push_quoted(alloc, text, universe.name(i))?;
+    text.push_str(", \"values\": [")?;
+    push_values(alloc, text, universe, i)?;
+    text.push_str("]}")?;
+    Ok(())
+}
+
+/// Adds the values of the label at `i`, between commas.
+fn push_values(
+    alloc: Global,
+    text: &mut String,
+    universe: &Universe,
+    i: usize,
+) -> Result<(), AllocError>
+    requires { i < length universe.now }
+    ensures { OnOk result ((label : Label) → slice_get universe.now i ≡ Some label
+        → string_bytes text.new ≡ string_bytes text.old ++ values_text label.values) }
+{
+    for j in 0..universe.size(i) {
+        text.push_str(gap_before_value(j))?;
+        push_value(alloc, text, universe.value(i, j))?;
+    }
+    Ok(())
+}
+
+/// Adds a value: a text in quotes, or `null` for absence.
+fn push_value(alloc: Global, text: &mut String, value: Option<&str>) -> Result<(), AllocError>
+    ensures { OnOk result (string_bytes text.new
+        ≡ string_bytes text.old ++ value_text (option_map (λ t. t.now) value.entry)) }
+{
+    match value {
+        Some(value) => push_quoted(alloc, text, value),
+        None => text.push_str("null"),
+    }
+}
+
+/// Adds a text in quotes, with the escapes of JSON.
+fn push_quoted(alloc: Global, text: &mut String, value: &str) -> Result<(), AllocError>
+    ensures { OnOk result (string_bytes text.new ≡ string_bytes text.old ++ quoted value.now) }
+{
+    let value = Value::String(String::from_str(alloc, value)?);
+    let quoted = value.to_string(alloc)?;
+    text.push_str(quoted.as_str())
+}
+
+/// What stands before the label at `i`.
+fn gap_before_label(i: usize) -> &'static str
+    ensures { result.now ≡ gap_before_label i }
+{
+    if i == 0 { "\n  " } else { ",\n  " }
+}
+
+/// What stands before the value at `j`.
+fn gap_before_value(j: usize) -> &'static str
+    ensures { result.now ≡ gap_before_value j }
+{
+    if j == 0 { "" } else { ", " }
+}
