@@ -1,0 +1,2 @@
+pub mod UniverseStages
+pub mod CheckFacts

@@ -1,0 +1,209 @@
+-- What `universe` makes, and what it says of a universe. (This project's own.)
+use Rattle.std.specs.Prelude.{◌≡◌, ◌≤◌, ℕ, List, [], ◌∷◌, ◌++◌, length, map, Bool, false, ⊤, IsTrue}
+use Rattle.std.specs.Prelude.{Contains, string_bytes, if◌then◌else◌, Option, Some, None, is_some}
+use Rattle.std.specs.List.{AllByRecursion, list_all}
+use Rattle.am_universe.specs.declared.kind.Kind.TheVariants as kinds
+use Rattle.am_universe.specs.declared.place.Place.{Place}
+use Rattle.am_universe.specs.declared.place.Place.TheVariants as places
+use Rattle.am_universe.specs.LabelSet.{LabelMap}
+use Rattle.am_universe.specs.Universe.{Label, sizes}
+use Rattle.am_labels.specs.Matcher.{Condition}
+use Rattle.am_labels.specs.Space.{Space}
+use Rattle.am_json.specs.Pointer.{Refusal, refusal_here}
+use Rattle.am_records.specs.UniverseFile.{FileSaysUniverse}
+use Rattle.am_files.specs.ConfigFile.{FileSaysConfig}
+use Rattle.am_eval.specs.declared.limits.TheConstants.{MAX_PAIRS}
+use Rattle.am_eval.specs.World.{World}
+use Rattle.am_eval.specs.Pairs.{pairs_of}
+use Rattle.am_eval.specs.Files.{config_of, SaysSilencesIfAny, SaysAlertsIfAny}
+use Rattle.am_eval.specs.Faults.{Stage, universe_stage, config_stage, silences_stage, alerts_stage}
+use Rattle.am_eval.specs.Faults.{pairs_stage}
+use Rattle.am_eval.specs.WorldInputs.{WorldInputs}
+use Rattle.am_complete.specs.declared.label_state.LabelState.{LabelState}
+use Rattle.am_complete.specs.declared.origin.Origin.{Origin}
+use Rattle.am_complete.specs.declared.origin.Origin.TheVariants as origin_is
+use Rattle.am_complete.specs.Complete.{IsComplete}
+use Rattle.am_complete.specs.Asked.{route_conditions, world_conditions, impossible_conditions}
+use Rattle.am_complete.specs.AskedLabel.{AskedLabel, asked_labels}
+use Rattle.am_complete.specs.Placed.{placed_in_route, placed_in_world, placed_in_lists}
+use Rattle.am_complete.specs.LabelState.{IsSoAt, is_settled, reported_names}
+use Rattle.am_complete.specs.FoundState.{is_unseen}
+use Rattle.am_complete_texts.specs.CheckText.{check_text, origin_pointer}
+use Rattle.am_universe_command.specs.declared.universe_form.UniverseForm.{UniverseForm}
+
+-- ---- What is asked.
+
+-- The matchers that decide: those of the routes alone, or all of a world.
+-- Source: own choice.
+-- Example: with `--routes` those of silences are not among them.
+abbrev pub deciding_conditions : Bool → World → List Condition
+deciding_conditions routes w =
+    if routes then route_conditions w.config.root else world_conditions w
+
+-- The labels that these ask of, and then those that impossible lists ask of, each with where it is
+-- first asked of, in the order of the files.
+-- Source: own choice.
+-- Example: where a route asks of `team`, a rule of `env`, and a silence of `team`, they are `team`,
+-- first asked of at the route, and `env`, at the rule.
+abbrev pub deciding_labels : Bool → World → List (List Condition) → List AskedLabel
+deciding_labels routes w impossible =
+    asked_labels ((if routes then placed_in_route [] w.config.root else placed_in_world w)
+    ++ placed_in_lists impossible)
+
+-- The files are accepted: they say the world's configuration, silences and alerts, and there are
+-- not too many pairs of a rule and an alert that its source side matches. An instant is not looked
+-- at, since each silence counts.
+-- Source: own choice.
+-- Example: without files of silences and of alerts, the world has none.
+pub record AcceptsDeciding (inputs : WorldInputs) (world : World) : Type 0 where
+  pub says_config : FileSaysConfig (config_of inputs.config) world.config
+  pub says_silences : SaysSilencesIfAny inputs.silences world.silences
+  pub says_alerts : SaysAlertsIfAny inputs.alerts world.alerts
+  pub few_pairs : length (pairs_of world.config.rules world.alerts) ≤ MAX_PAIRS
+
+-- Their stages, in order: the configuration file or what stands in for it, the file of silences,
+-- the file of alerts, the pairs.
+abbrev pub deciding_stages : WorldInputs → List Stage
+deciding_stages inputs =
+    config_stage (config_of inputs.config)
+    ∷ silences_stage inputs.silences
+    ∷ alerts_stage inputs.alerts
+    ∷ pairs_stage (config_of inputs.config) inputs.alerts
+    ∷ []
+
+-- ---- A universe that is made.
+
+-- The text is that of a universe file made for a world. It says a universe of which nothing is
+-- impossible, and this is complete for the matchers that decide, unless it may be open.
+-- Source: own choice.
+-- Example: for a world whose one matcher is `team="db"` it says `team` with `db` and absence.
+pub record IsMadeUniverse (w : World) (form : UniverseForm) (text : List ℕ) : Type 0 where
+  pub labels : List Label
+  pub says : FileSaysUniverse text (record { labels = labels; impossible = [] })
+  pub complete : form.open ≡ false → IsComplete labels (deciding_conditions form.routes w)
+
+-- The files are accepted, and this holds of the text of a universe file that is made for the world
+-- that they say: that it was written, all of it or a part.
+-- Source: own choice.
+-- Example: where `universe` is done, the whole of the text was written.
+pub record MakesUniverse (inputs : WorldInputs) (form : UniverseForm)
+    (IsWritten : List ℕ → Type 0) : Type 0 where
+  pub world : World
+  pub accepts : AcceptsDeciding inputs world
+  pub text : List ℕ
+  pub made : IsMadeUniverse world form text
+  pub written : IsWritten text
+
+-- The file in which a matcher stands.
+abbrev pub origin_place : Origin → Place
+origin_place (origin_is.Route path) = places.Config
+origin_place (origin_is.Rule position) = places.Config
+origin_place (origin_is.Silence position) = places.Silences
+origin_place (origin_is.Impossible position) = places.Universe
+
+-- No universe is made, since the classes of the texts of a label could not be computed. The first
+-- matcher that asks of the label stands in this file, and there the refusal points to it.
+-- Source: own choice.
+-- Example: where the first child of the top-level route has `team=~"\bdb"`, and no matcher before
+-- it is on `team`, the pointer is `/route/routes/0`.
+pub record UnprovedFor (inputs : WorldInputs) (form : UniverseForm) (place : Place)
+    (r : Refusal) : Type 0 where
+  pub world : World
+  pub accepts : AcceptsDeciding inputs world
+  pub closed : form.open ≡ false
+  pub label : AskedLabel
+  pub asked : Contains (deciding_labels form.routes world []) label
+  pub stands : place ≡ origin_place label.first
+  pub refusal : r ≡ record { kind = kinds.Unproved; pointer = origin_pointer label.first }
+
+-- No universe is made, since there is no room for it: it has more labels than a universe may have,
+-- or more values of one; or, what is found last, its file is too long.
+pub record NoRoomFor (inputs : WorldInputs) (r : Refusal) : Type 0 where
+  pub world : World
+  pub accepts : AcceptsDeciding inputs world
+  pub refusal : r ≡ refusal_here kinds.Limit
+
+-- The stages of making one, which may be refused at any of the files; and all stages of the call.
+-- Source: own choice.
+-- Example: where the file of alerts is `{}` and a label is unproved, the first fault is the `shape`
+-- of the alerts.
+abbrev pub unproved_stage : WorldInputs → UniverseForm → Place → Stage
+unproved_stage inputs form place = record {
+  place = place;
+  accepts = ⊤;
+  refuses = UnprovedFor inputs form place;
+}
+
+abbrev pub room_stage : WorldInputs → Stage
+room_stage inputs = record {
+  place = places.Universe;
+  accepts = ⊤;
+  refuses = NoRoomFor inputs;
+}
+
+abbrev pub made_stages : WorldInputs → UniverseForm → List Stage
+made_stages inputs form =
+    room_stage inputs
+    ∷ unproved_stage inputs form places.Config
+    ∷ unproved_stage inputs form places.Silences
+    ∷ unproved_stage inputs form places.Universe
+    ∷ room_stage inputs
+    ∷ []
+
+abbrev pub making_stages : WorldInputs → UniverseForm → List Stage
+making_stages inputs form = deciding_stages inputs ++ made_stages inputs form
+
+-- ---- A universe that is checked.
+
+-- The matchers that decide in a world, and those that say what is impossible.
+-- Source: own choice.
+-- Example: with `--routes`, where nothing is impossible, they are those of the routes.
+abbrev pub checked_conditions : Bool → World → Space → List Condition
+checked_conditions routes w s = deciding_conditions routes w ++ impossible_conditions s.impossible
+
+-- The alerts of a world, where they are handed in.
+abbrev pub alerts_if_any : Bool → World → Option (List LabelMap)
+alerts_if_any has_alerts w = if has_alerts then Some w.alerts else None
+
+-- The text says how a space stands in a world: of each label that the space declares, and then of
+-- each other one that is asked of, what is so, and where there are alerts whether none has the
+-- label. Where nothing is missing, the space is complete.
+-- Source: own choice.
+-- Example: of a space with `team` alone, whose values are `db` and `web`, and a world whose one
+-- matcher is `team="db"`, it says `team complete 2`, `2 label sets` and `# complete`.
+pub record IsCheckOf (s : Space) (w : World) (has_alerts routes : Bool) (report : List ℕ) :
+    Type 0 where
+  pub states : List LabelState
+  pub names : map (λ state. string_bytes state.name) states
+      ≡ reported_names s.labels (deciding_labels routes w s.impossible)
+  pub each : AllByRecursion
+      (λ state. IsSoAt s.labels (checked_conditions routes w s)
+      (deciding_labels routes w s.impossible) (string_bytes state.name) state.completeness)
+      states
+  pub unseen : AllByRecursion
+      (λ state. state.unseen ≡ is_unseen (alerts_if_any has_alerts w) (string_bytes state.name))
+      states
+  pub complete : IsTrue (list_all (λ state. is_settled state.completeness) states)
+      → IsComplete s.labels (checked_conditions routes w s)
+  pub text : report ≡ check_text (sizes s.labels) states
+
+-- The files are accepted, and this holds of the text that says how the space of the universe file
+-- stands in the world that the others say: that it was written, all of it or a part.
+-- Source: own choice.
+-- Example: where `check_universe` is done, the whole of the text was written.
+pub record ChecksUniverse (universe_file : List ℕ) (inputs : WorldInputs) (routes : Bool)
+    (IsWritten : List ℕ → Type 0) : Type 0 where
+  pub space : Space
+  pub world : World
+  pub says_universe : FileSaysUniverse universe_file space
+  pub accepts : AcceptsDeciding inputs world
+  pub report : List ℕ
+  pub checked : IsCheckOf space world (is_some inputs.alerts) routes report
+  pub written : IsWritten report
+
+-- The stages of the call, in order: the universe file, and then the files that decide.
+-- Source: own choice.
+-- Example: where the universe file is `{}` and the configuration is no JSON, the first fault is the
+-- `shape` of the universe.
+abbrev pub checking_stages : List ℕ → WorldInputs → List Stage
+checking_stages universe_file inputs = universe_stage universe_file ∷ deciding_stages inputs

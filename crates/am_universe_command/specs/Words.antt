@@ -1,0 +1,7 @@
+-- The words of clauses: what the contracts of this crate, and of those above it, cite.
+pub use Rattle.am_universe_command.specs.Universes.{deciding_conditions, deciding_labels}
+pub use Rattle.am_universe_command.specs.Universes.{AcceptsDeciding, deciding_stages}
+pub use Rattle.am_universe_command.specs.Universes.{IsMadeUniverse, MakesUniverse, making_stages}
+pub use Rattle.am_universe_command.specs.Universes.{made_stages, origin_place, UnprovedFor}
+pub use Rattle.am_universe_command.specs.Universes.{NoRoomFor, checked_conditions, IsCheckOf}
+pub use Rattle.am_universe_command.specs.Universes.{ChecksUniverse, checking_stages}
