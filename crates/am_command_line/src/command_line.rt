@@ -1,7 +1,7 @@
 use crate::steps::{MIN_STEPS, Steps};
 use clap::builder::ValueParser;
 use clap::error::ErrorKind;
-use clap::{Arg, ArgMatches, Command, Error};
+use clap::{Arg, ArgAction, ArgMatches, Command, Error};
 use std::alloc::{AllocError, Global};
 use std::num::NonZeroU64;
 
@@ -30,6 +30,16 @@ pub enum Request<'a> {
     Explain {
         set: &'a str,
     },
+    /// A universe that stands for every alert: of the routes alone, and also where it cannot be
+    /// proved of a label.
+    Universe {
+        routes: bool,
+        open: bool,
+    },
+    /// What a universe lacks to stand for every alert.
+    CheckUniverse {
+        routes: bool,
+    },
 }
 
 /// The input files, and the time that is asked about, as far as they are given. `F` is what stands
@@ -51,8 +61,9 @@ const ABOUT: &str = "Decides where Alertmanager routes alerts, and what silences
 const EXAMPLE: &str = "\
 Example:
 
-  amcover ask --universe u.json '{team=\"db\"}'
+  amcover universe --config alertmanager.json > u.json
   amcover dead --universe u.json --config alertmanager.json
+  amcover ask --universe u.json '{team=\"db\"}'
   amcover receivers --universe u.json --config alertmanager.json
   amcover explain --config alertmanager.json 'team=db,severity=warning'
 
@@ -235,10 +246,10 @@ path stands what becomes of the route:
                        universe does not declare
 
 A route is dead for this universe alone: an alert with other labels or values may end
-there. So declare each label that a route asks about, with every value that matchers name,
-some for each pattern, one that none names, and null where alerts come without it. Labels
-that no route asks about cost no time, and many label sets are no harm. Those that never
-occur keep a route alive, unless the universe calls them impossible.
+there, unless the universe stands for every alert. `amcover universe` makes such a one, and
+`amcover universe --check` says what another lacks. Labels that no route asks about cost no
+time, and many label sets are no harm. Those that never occur keep a route alive, unless
+the universe calls them impossible.
 
 Exit status: 0 done, with dead routes or without, 1 refused input, 2 usage, 3 out of
 memory, 4 the output failed.";
@@ -272,7 +283,7 @@ The label set is the first of the universe that goes to db-pager. None goes to d
 route has that receiver, or each that has it is dead, as `amcover dead` shows.
 
 A receiver is unmatched for this universe alone: an alert with other labels or values may
-go there. `amcover dead --help` says what to declare.
+go there, unless the universe stands for every alert, as one of `amcover universe` does.
 
 Exit status: 0 done, with unmatched receivers or without, 1 refused input, 2 usage, 3 out
 of memory, 4 the output failed.";
@@ -316,6 +327,75 @@ out hides nothing, and time intervals are not looked at.
 
 Exit status: 0 done, 1 refused input, 2 usage, 3 out of memory, 4 the output failed.";
 
+const UNIVERSE_ABOUT: &str = "Write a universe that stands for every alert, or what one lacks";
+
+const UNIVERSE_HELP: &str = "\
+The configuration is JSON; an alertmanager.yml becomes JSON by
+
+  yq -o=json . alertmanager.yml > alertmanager.json
+
+Example:
+
+  amcover universe --config alertmanager.json > u.json
+
+writes a universe file, with one label a line, for example
+
+  {\"labels\": [
+    {\"name\": \"team\", \"values\": [\"db\", \"web\", null]},
+    {\"name\": \"severity\", \"values\": [\"critical\", \"other\", null]}
+  ]}
+
+Each label that a matcher asks of has one value for each class of texts that its matchers
+cannot tell apart; null stands for a label that is missing. So whatever labels an alert
+has, some label set of this universe ends at the same routes. What `amcover dead` calls
+dead over it, no alert can be reaching.
+
+The matchers are those of the routes and of the inhibition rules. Those of --silences count
+too, whatever the time, and with --alerts what `equal` asks where one of these alerts
+fires. The files are those that amtool writes:
+
+  amtool silence query -o json > silences.json
+  amtool alert query -a -s -i -u -o json > alerts.json
+
+With --alerts a class without a text that a matcher names has, of its values, the one that
+most of these alerts have. For `amcover dead` and `amcover receivers` --routes is enough:
+it leaves out all but the matchers of routes, and the universe is smaller.
+
+Of some patterns it cannot be found which texts they tell apart, as of those with \\b. Then
+nothing is written, and the fault says which route, rule or silence it is:
+
+  amcover: config: /route/routes/0: unproved
+
+With --open a universe is written all the same. Such a label has the values that were
+found, and classes may be missing, so nothing is promised of that universe.
+
+  amcover universe --check u.json --config alertmanager.json
+
+writes how a universe stands: a line for each of its labels, and then for each other label
+that a matcher asks of; how many label sets there are; and `# complete` or `# incomplete`.
+The lines are for example
+
+  team complete 3
+  severity lacks absent
+  service lacks \"basket\"
+  rack unasked
+  30 label sets
+  # incomplete
+
+Behind the name stands
+
+  complete N           there is a value of each of the N classes
+  lacks VALUE          no value is alike to this one; absent is a missing label
+  unasked              no matcher asks of it: it multiplies the label sets, and is no harm
+  undeclarable         the name is no label name, so no universe can declare it
+  unproved POINTER     it could not be found which texts the matchers tell apart
+
+and with --alerts `unseen` where none of these alerts has the label. The matchers of
+the universe's impossible lists count too.
+
+Exit status: 0 done, complete or not, 1 refused input, 2 usage, 3 out of memory, 4 the
+output failed.";
+
 /// Reads a command line, its first word the program's name. An `Err` has the text to show: of a
 /// usage fault, of help or of the version.
 pub fn parse_command_line<'a>(
@@ -353,7 +433,20 @@ fn request_of<'a>(name: &str, matches: &ArgMatches<'a>) -> Option<Request<'a>> {
             let set = matches.get_str("set")?;
             Some(Request::Explain { set })
         }
+        "universe" => Some(universe_request(matches)),
         _ => None,
+    }
+}
+
+/// What `universe` asks for: one that is made, or what the one of `--check` lacks.
+fn universe_request<'a>(matches: &ArgMatches<'a>) -> Request<'a> {
+    let routes = matches.get_flag("routes");
+    if matches.get_str("universe").is_some() {
+        return Request::CheckUniverse { routes };
+    }
+    Request::Universe {
+        routes,
+        open: matches.get_flag("open"),
     }
 }
 
@@ -380,7 +473,8 @@ fn command<'a>(alloc: Global) -> Result<Command<'a>, AllocError> {
         .subcommand(ask_command(alloc)?)?
         .subcommand(coverage_command(alloc, "dead", DEAD_ABOUT, DEAD_HELP)?)?
         .subcommand(coverage_command(alloc, "receivers", RECEIVERS_ABOUT, RECEIVERS_HELP)?)?
-        .subcommand(explain_command(alloc)?)
+        .subcommand(explain_command(alloc)?)?
+        .subcommand(universe_command(alloc)?)
 }
 
 fn ask_command<'a>(alloc: Global) -> Result<Command<'a>, AllocError> {
@@ -442,6 +536,31 @@ fn explain_command<'a>(alloc: Global) -> Result<Command<'a>, AllocError> {
         .arg(alerts_arg(alloc))?
         .arg(at_arg(alloc))?
         .arg(set)
+}
+
+fn universe_command<'a>(alloc: Global) -> Result<Command<'a>, AllocError> {
+    let check = Arg::new(alloc, "universe")
+        .long("check")
+        .value_name("UNIVERSE")
+        .help("Say what this universe lacks, a JSON file, and make none");
+    let routes = Arg::new(alloc, "routes")
+        .long("routes")
+        .action(ArgAction::SetTrue)
+        .help("Let the matchers of routes count alone");
+    let open = Arg::new(alloc, "open")
+        .long("open")
+        .action(ArgAction::SetTrue)
+        .conflicts_with("universe")?
+        .help("Write the universe also where it cannot be proved of a label");
+    Command::new(alloc, "universe")
+        .about(UNIVERSE_ABOUT)
+        .after_help(UNIVERSE_HELP)
+        .arg(check)?
+        .arg(config_arg(alloc).required(true))?
+        .arg(routes)?
+        .arg(silences_arg(alloc))?
+        .arg(alerts_arg(alloc))?
+        .arg(open)
 }
 
 fn universe_arg<'a>(alloc: Global) -> Arg<'a> {

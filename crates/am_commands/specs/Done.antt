@@ -15,6 +15,8 @@ use Rattle.am_questions.specs.Inputs.{Inputs, ask_stages}
 use Rattle.am_coverage.specs.Report.{IsRoutesReport, IsReceiversReport}
 use Rattle.am_commands.specs.AskOutcome.{AnswersInputsUnder, AnswersInputsInPart}
 use Rattle.am_commands.specs.Reports.{ReportsFiles, report_stages}
+use Rattle.am_universe_command.specs.Universes.{MakesUniverse, making_stages}
+use Rattle.am_universe_command.specs.Universes.{ChecksUniverse, checking_stages}
 
 -- The bytes of a file that may be left out; those of the universe file, of which there are none
 -- without one; those of the configuration file, or of what stands in for it; and what a world is
@@ -47,9 +49,9 @@ ask_inputs files question after = record {
 
 -- What is asked for is done, and this holds of what is written: for `ask` the page of the answers
 -- to that question, from that token on and under that limit and that budget, which ends with some
--- trailer; for
--- `dead` the report of routes; for `receivers` that of receivers; for `explain` the explanation of
--- that set. And of this a part is written.
+-- trailer; for `dead` the report of routes; for `receivers` that of receivers; for `explain` the
+-- explanation of that set; for `universe` a universe in that form, or how the one that is to be
+-- checked stands. And of this a part is written.
 abbrev pub IsDone : Request → InputFiles (Vec ℕ) → (List ℕ → Type 0) → Type 0
 IsDone (requests.Ask question after limit steps) files IsWritten =
     (trailer : Trailer)
@@ -61,6 +63,10 @@ IsDone requests.Receivers files IsWritten =
     ReportsFiles (universe_bytes files) (config_bytes files) IsReceiversReport IsWritten
 IsDone (requests.Explain set) files IsWritten =
     ExplainsSet (world_inputs files) set.now IsWritten
+IsDone (requests.Universe routes open_form) files IsWritten =
+    MakesUniverse (world_inputs files) (record { routes = routes; «open» = open_form }) IsWritten
+IsDone (requests.CheckUniverse routes) files IsWritten =
+    ChecksUniverse (universe_bytes files) (world_inputs files) routes IsWritten
 
 abbrev pub IsDoneInPart : Request → InputFiles (Vec ℕ) → (List ℕ → Type 0) → Type 0
 IsDoneInPart (requests.Ask question after limit steps) files IsWritten =
@@ -70,6 +76,10 @@ IsDoneInPart requests.Dead files IsWritten = IsDone requests.Dead files IsWritte
 IsDoneInPart requests.Receivers files IsWritten = IsDone requests.Receivers files IsWritten
 IsDoneInPart (requests.Explain set) files IsWritten =
     ExplainsSet (world_inputs files) set.now IsWritten
+IsDoneInPart (requests.Universe routes open_form) files IsWritten =
+    IsDone (requests.Universe routes open_form) files IsWritten
+IsDoneInPart (requests.CheckUniverse routes) files IsWritten =
+    IsDone (requests.CheckUniverse routes) files IsWritten
 
 -- The stages of what is asked for.
 abbrev pub request_stages : Request → InputFiles (Vec ℕ) → List Stage
@@ -79,3 +89,7 @@ request_stages requests.Dead files = report_stages (universe_bytes files) (confi
 request_stages requests.Receivers files =
     report_stages (universe_bytes files) (config_bytes files)
 request_stages (requests.Explain set) files = explain_stages (world_inputs files) set.now
+request_stages (requests.Universe routes open_form) files =
+    making_stages (world_inputs files) (record { routes = routes; «open» = open_form })
+request_stages (requests.CheckUniverse routes) files =
+    checking_stages (universe_bytes files) (world_inputs files)

@@ -16,6 +16,7 @@ use crate::reporting::{dead, receivers};
 use am_command_line::{CommandLine, InputFiles, Request, Steps, parse_command_line};
 use am_labels::{Fault, Kind, Out, Place, Sink, fault_at, report};
 use am_search::Page;
+use am_universe_command::UniverseForm;
 use clap::Error;
 use clap::error::ErrorKind;
 use std::alloc::Global;
@@ -157,6 +158,12 @@ fn make_call<W: Sink>(
         Request::Dead => dead(alloc, universe, world.config(), out),
         Request::Receivers => receivers(alloc, universe, world.config(), out),
         Request::Explain { set } => explain(alloc, &world, set, out),
+        Request::Universe { routes, open } => {
+            am_universe_command::universe(alloc, &world, UniverseForm { routes, open }, out)
+        }
+        Request::CheckUniverse { routes } => {
+            am_universe_command::check_universe(alloc, universe, &world, routes, out)
+        }
     }
 }
 

@@ -10,6 +10,8 @@ use Rattle.am_eval.specs.WorldInputs.{WorldInputs, world_inputs_of}
 use Rattle.am_eval.specs.Explanation.{explain_stages}
 use Rattle.am_questions.specs.Inputs.{ask_stages}
 use Rattle.am_commands.specs.Done.{IsDone, request_stages, world_inputs}
+use Rattle.am_universe_command.specs.declared.universe_form.UniverseForm.{UniverseForm}
+use Rattle.am_universe_command.specs.Universes.{making_stages, checking_stages}
 use Rattle.am_commands.proofs.AskedPages.{if_failed, answered_as}
 use Rattle.am_commands.proofs.program.make_call.Goals as goal
 
@@ -69,3 +71,47 @@ returns-in-Explain-clause-first g c =
     fault.place (refusal_of fault))
     c.world_files-world.ensures (told written remembered)))
     c.explain.ensures.first
+
+pub returns-in-Universe-clause-first : goal.returns-in-Universe-clause-first
+returns-in-Universe-clause-first g c =
+    let form : UniverseForm = record { routes = c.in-Universe.routes; «open» = c.in-Universe.open } in
+    if_failed c.universe.result
+    (λ (fault : Fault). fault.kind ≢ kinds.Write → fault.kind ≢ kinds.Memory
+    → IsFirstFaultOfCall (making_stages (world_inputs_of c.world_files-world.result) form)
+    fault.place (refusal_of fault))
+    (λ (fault : Fault). fault.kind ≢ kinds.Write → fault.kind ≢ kinds.Memory
+    → IsFirstFaultOfCall (request_stages c.args.request c.args.files.now) fault.place
+    (refusal_of fault))
+    (λ fault told written remembered. subst
+    (λ (request : Request). IsFirstFaultOfCall (request_stages request c.args.files.now) fault.place
+    (refusal_of fault))
+    (sym c.in-Universe.is)
+    (subst
+    (λ (world : WorldInputs). IsFirstFaultOfCall (making_stages world form) fault.place
+    (refusal_of fault))
+    c.world_files-world.ensures (told written remembered)))
+    c.universe.ensures.first
+
+pub returns-in-CheckUniverse-clause-first : goal.returns-in-CheckUniverse-clause-first
+returns-in-CheckUniverse-clause-first g c =
+    let bytes = c.universe_of-universe.result.now in
+    if_failed c.check_universe.result
+    (λ (fault : Fault). fault.kind ≢ kinds.Write → fault.kind ≢ kinds.Memory
+    → IsFirstFaultOfCall (checking_stages bytes (world_inputs_of c.world_files-world.result))
+    fault.place (refusal_of fault))
+    (λ (fault : Fault). fault.kind ≢ kinds.Write → fault.kind ≢ kinds.Memory
+    → IsFirstFaultOfCall (request_stages c.args.request c.args.files.now) fault.place
+    (refusal_of fault))
+    (λ fault told written remembered. subst
+    (λ (request : Request). IsFirstFaultOfCall (request_stages request c.args.files.now) fault.place
+    (refusal_of fault))
+    (sym c.in-CheckUniverse.is)
+    (subst
+    (λ (universe : List ℕ). IsFirstFaultOfCall
+    (checking_stages universe (world_inputs c.args.files.now)) fault.place (refusal_of fault))
+    c.universe_of-universe.ensures
+    (subst
+    (λ (world : WorldInputs). IsFirstFaultOfCall (checking_stages bytes world) fault.place
+    (refusal_of fault))
+    c.world_files-world.ensures (told written remembered))))
+    c.check_universe.ensures.first
