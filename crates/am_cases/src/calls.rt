@@ -4,13 +4,16 @@ ghost use Rattle.std.specs.Prelude.{◌≡◌, Some, IfSome, length, slice_get};
 ghost use Rattle.am_universe.specs.Universe.{sizes};
 
 use crate::alerts::of_alerts;
+use crate::classes::of_classes;
 use crate::coverage::{of_large, of_reports};
+use crate::fates::of_fates;
 use crate::judges::{of_alike, of_count, of_first, of_generated, of_judge};
 use crate::pages::of_ask;
 use crate::reports::{Report, of_report};
 use crate::silences::{of_instant, of_silences};
 use crate::starts::{of_cube, of_search, of_token};
 use crate::trees::config_text;
+use crate::universes::{Universes, made, of_universes};
 use crate::worlds::{of_explain, of_inhibited, of_pairs, of_silenced};
 use am_case_files::{Problem, split_at_first, split_at_last, utf8};
 use am_commands::{Files, status, write_fault};
@@ -53,6 +56,13 @@ pub enum Call {
     Dead,
     Receivers,
     Explain,
+    Classes,
+    Made,
+    MadeByRoutes,
+    MadeOpen,
+    Checked,
+    CheckedByRoutes,
+    Fates,
     Fault,
 }
 
@@ -121,6 +131,13 @@ pub fn call_named(name: &[u8]) -> Option<Call> {
         b"dead" => Some(Call::Dead),
         b"receivers" => Some(Call::Receivers),
         b"explain" => Some(Call::Explain),
+        b"classes" => Some(Call::Classes),
+        b"made" => Some(Call::Made),
+        b"made-by-routes" => Some(Call::MadeByRoutes),
+        b"made-open" => Some(Call::MadeOpen),
+        b"checked" => Some(Call::Checked),
+        b"checked-by-routes" => Some(Call::CheckedByRoutes),
+        b"fates" => Some(Call::Fates),
         b"fault" => Some(Call::Fault),
         _ => None,
     }
@@ -164,6 +181,13 @@ pub fn given(
         Call::Dead => of_report(alloc, Report::Routes, over, text),
         Call::Receivers => of_report(alloc, Report::Receivers, over, text),
         Call::Explain => of_explain(alloc, over, text),
+        Call::Classes => of_classes(alloc, utf8(alloc, text)?),
+        Call::Made => of_universes(alloc, made(false, false), over, text),
+        Call::MadeByRoutes => of_universes(alloc, made(true, false), over, text),
+        Call::MadeOpen => of_universes(alloc, made(false, true), over, text),
+        Call::Checked => of_universes(alloc, Universes::Checked(false), over, text),
+        Call::CheckedByRoutes => of_universes(alloc, Universes::Checked(true), over, text),
+        Call::Fates => of_fates(alloc, text),
         Call::Fault => of_fault(alloc, text),
     }
 }
@@ -429,7 +453,7 @@ fn fault_parts(alloc: Global, text: &[u8]) -> Result<(Kind, Place, &str), Proble
     Err(Problem::about(alloc, "a refusal's word and a place are wanted", text))
 }
 
-const KINDS: [Kind; 21] = [
+const KINDS: [Kind; 22] = [
     Kind::NotJson,
     Kind::Shape,
     Kind::UnknownField,
@@ -451,6 +475,7 @@ const KINDS: [Kind; 21] = [
     Kind::Write,
     Kind::Memory,
     Kind::Read,
+    Kind::Unproved,
 ];
 
 fn kind_named(name: &[u8]) -> Option<Kind> {

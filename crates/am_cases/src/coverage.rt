@@ -374,7 +374,8 @@ fn path_of(alloc: Global, text: &[u8]) -> Result<Path, Problem> {
     }
 }
 
-fn set_of_text(alloc: Global, text: &[u8]) -> Result<LabelSet, Problem> {
+/// The label set that a text is.
+pub fn set_of_text(alloc: Global, text: &[u8]) -> Result<LabelSet, Problem> {
     match parse_set(alloc, utf8(alloc, text)?) {
         Ok(set) => Ok(set),
         Err(Kind::Memory) => Err(Problem::Memory),

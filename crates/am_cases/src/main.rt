@@ -12,10 +12,12 @@ mod shelf;
 // What is run.
 mod alerts;
 mod calls;
+mod classes;
 mod commands;
 mod counted;
 mod coverage;
 mod digits;
+mod fates;
 mod judges;
 mod pages;
 mod possible;
@@ -25,6 +27,7 @@ mod silences;
 mod starts;
 mod tables;
 mod trees;
+mod universes;
 mod worlds;
 
 use crate::script::{count_texts, run_file};

@@ -4,6 +4,7 @@ use crate::calls::{Call, Over, call_named, given};
 use crate::digits::with_own_digits;
 use crate::pages::{Asked, all_lines, check_pages, count_lines, write_asked};
 use crate::reports::{Report, write_report};
+use crate::universes::{Universes, made, write_universes};
 use crate::worlds::text_and_instant;
 use am_case_files::{
     Line, Manner, Named, Problem, Stop, Tally, Writer, filled, split_at_first, split_at_last,
@@ -468,6 +469,11 @@ fn fault_over(
         Call::Explain => {
             let (set, at) = text_and_instant(alloc, text)?;
             Ok(explain(alloc, &over.files(at), set, out).err())
+        }
+        Call::Made => Ok(write_universes(alloc, made(false, false), over, text, out).err()),
+        Call::MadeByRoutes => Ok(write_universes(alloc, made(true, false), over, text, out).err()),
+        Call::Checked => {
+            Ok(write_universes(alloc, Universes::Checked(false), over, text, out).err())
         }
         _ => Err(Problem::said(alloc, "this table writes to no writer")),
     }
