@@ -17,7 +17,7 @@ use Rattle.am_labels.specs.Row.{TruthRow, truth_on_value, truths_of, truth_at, r
 use Rattle.am_eval.proofs.Members.{in_at}
 use Rattle.am_classes.specs.Alike.{AreAlike}
 use Rattle.am_complete.specs.Covering.{IsWithLabel}
-use Rattle.am_complete.specs.Truths.{truth_row}
+use Rattle.am_complete.specs.Truths.{TestedTexts, truth_row}
 
 -- ---- The rows.
 
@@ -98,6 +98,48 @@ equal_truths true false h = absurd (cc)
 equal_truths false true h = absurd (cc)
 equal_truths false false h = refl
 
+pub same_length : (rows others : List TruthRow) (texts texts' : List (List ℕ))
+    (ms ns : List Condition) → rows ≡ map (truth_row texts) ms
+    → others ≡ map (truth_row texts') ns → ms ≡ ns → length rows ≡ length others
+same_length rows others texts texts' ms ns are are' same =
+    ap length are ∙ length-map ms (truth_row texts) ∙ ap length same
+    ∙ sym (length-map ns (truth_row texts')) ∙ sym (ap length are')
+
+-- both rows at a position are of one matcher
+pub same_matcher : (ms ns : List Condition) (i : ℕ) (m n : Condition) → ms ≡ ns
+    → slice_get ms i ≡ Some m → slice_get ns i ≡ Some n → m ≡ n
+same_matcher ms ns i m n same at_m at_n =
+    let both : Some m ≡ Some n = sym at_m ∙ ap (λ xs. slice_get xs i) same ∙ at_n in cc
+
+-- the rows at a position of two lists, which are of the same matchers: each is that of the matcher
+-- there, on its own texts
+pub record BothRows (t o : TestedTexts) (i : ℕ) (row other : TruthRow) : Type 0 where
+  pub matcher : Condition
+  pub at : slice_get t.matchers i ≡ Some matcher
+  pub row_is : row ≡ truth_row t.texts matcher
+  pub other_is : other ≡ truth_row o.texts matcher
+
+pub both_rows : (s t s' o : TestedTexts) (rows others : List TruthRow) (i : ℕ)
+    (row other : TruthRow) → rows ≡ map (truth_row s.texts) s.matchers → s ≡ t
+    → others ≡ map (truth_row s'.texts) s'.matchers → s' ≡ o → t.matchers ≡ o.matchers
+    → i < length rows → row ≡ get_or rows i row → other ≡ get_or others i other
+    → BothRows t o i row other
+both_rows s t s' o rows others i row other are seen are' seen' same lt is is' =
+    let mine : rows ≡ map (truth_row t.texts) t.matchers =
+    are ∙ ap (λ (v : TestedTexts). map (truth_row v.texts) v.matchers) seen in
+    let theirs : others ≡ map (truth_row o.texts) o.matchers =
+    are' ∙ ap (λ (v : TestedTexts). map (truth_row v.texts) v.matchers) seen' in
+    let long = same_length rows others t.texts o.texts t.matchers o.matchers mine theirs same in
+    let at = row_at rows t.texts t.matchers i row mine lt is in
+    let at' = row_at others o.texts o.matchers i other theirs (omega (arith, long, lt)) is' in
+    let one = same_matcher t.matchers o.matchers i at.0 at'.0 same at.1 at'.1 in
+    record {
+      matcher = at.0;
+      at = at.1;
+      row_is = at.2;
+      other_is = at'.2 ∙ ap (truth_row o.texts) (sym one);
+    }
+
 -- ---- Texts that are alike.
 
 pub one_more_alike : (ms : List Condition) (i : ℕ) (m : Condition) (x y : List ℕ)
@@ -116,16 +158,3 @@ pub alike_at : (ms : List Condition) (i : ℕ) (m : Condition) (x y : List ℕ)
 alike_at ms i m x y there alike =
     AllByRecursion-at (λ n. holds n.op n.value x ≡ holds n.op n.value y) ms m alike
     (in_at ms i m there)
-
-pub same_length : (rows others : List TruthRow) (texts texts' : List (List ℕ))
-    (ms ns : List Condition) → rows ≡ map (truth_row texts) ms
-    → others ≡ map (truth_row texts') ns → ms ≡ ns → length rows ≡ length others
-same_length rows others texts texts' ms ns are are' same =
-    ap length are ∙ length-map ms (truth_row texts) ∙ ap length same
-    ∙ sym (length-map ns (truth_row texts')) ∙ sym (ap length are')
-
--- both rows at a position are of one matcher
-pub same_matcher : (ms ns : List Condition) (i : ℕ) (m n : Condition) → ms ≡ ns
-    → slice_get ms i ≡ Some m → slice_get ns i ≡ Some n → m ≡ n
-same_matcher ms ns i m n same at_m at_n =
-    let both : Some m ≡ Some n = sym at_m ∙ ap (λ xs. slice_get xs i) same ∙ at_n in cc
