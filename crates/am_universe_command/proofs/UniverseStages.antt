@@ -6,9 +6,9 @@ use Rattle.am_universe.specs.declared.place.Place.{Place}
 use Rattle.am_universe.specs.declared.place.Place.TheVariants as places
 use Rattle.am_json.specs.Pointer.{Refusal}
 use Rattle.am_eval.specs.World.{World}
-use Rattle.am_eval.specs.Files.{config_of}
-use Rattle.am_eval.specs.Faults.{Stage, IsFirstFaultOfCall, SaysFewPairs}
+use Rattle.am_eval.specs.Faults.{Stage, IsFirstFaultOfCall}
 use Rattle.am_eval.specs.WorldInputs.{WorldInputs}
+use Rattle.am_eval.proofs.FirstFaults.{says_few}
 use Rattle.am_complete.specs.declared.origin.Origin.{Origin}
 use Rattle.am_complete.specs.declared.origin.Origin.TheVariants as origin_is
 use Rattle.am_complete.specs.AskedLabel.{AskedLabel}
@@ -24,13 +24,7 @@ pub first_behind_deciding : (inputs : WorldInputs) (world : World) (later : List
     → IsFirstFaultOfCall later place r
     → IsFirstFaultOfCall (deciding_stages inputs ++ later) place r
 first_behind_deciding inputs world later place r h behind =
-    let few : SaysFewPairs (config_of inputs.config) inputs.alerts = record {
-      configuration = world.config;
-      says_config = h.says_config;
-      alerts = world.alerts;
-      says_alerts = h.says_alerts;
-      few = h.few_pairs;
-    } in
+    let few = says_few inputs world h.says_config h.says_alerts h.few_pairs in
     inr (
       (world.config, h.says_config),
       inr ((world.silences, h.says_silences), inr ((world.alerts, h.says_alerts), inr (few, behind))),
