@@ -83,7 +83,7 @@ pub fn digits_of_command(
     let Ok(line) = parse_command_line(alloc, words) else {
         return Err(Problem::said(alloc, "a fingerprint of no command"));
     };
-    let Request::Ask { question, .. } = line.request else {
+    let Request::Ask { question, .. } = &line.request else {
         return Err(Problem::said(alloc, "a fingerprint of a command that asks nothing"));
     };
     let read = read_files(host, files, &line.files)?;
@@ -94,7 +94,7 @@ pub fn digits_of_command(
         alerts: read.alerts.as_ref().map(|file| file.as_slice()),
         at: read.at,
     };
-    Ok(digits_of(alloc, universe.unwrap_or(b""), &beside, question)?)
+    Ok(digits_of(alloc, universe.unwrap_or(b""), &beside, *question)?)
 }
 
 /// The files that a command line names.

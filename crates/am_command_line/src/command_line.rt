@@ -13,7 +13,7 @@ pub struct CommandLine<'a> {
 }
 
 /// What is asked for.
-#[derive(Clone, Copy)]
+#[derive(Drop)]
 pub enum Request<'a> {
     /// The label sets of a universe that satisfy a question.
     Ask {
@@ -26,9 +26,9 @@ pub enum Request<'a> {
     Dead,
     /// Which receivers no label set of a universe goes to.
     Receivers,
-    /// Why a label set goes where it goes.
+    /// Why a label set goes where it goes: one word is its text, and each of several a matcher.
     Explain {
-        set: &'a str,
+        set: Vec<&'a str>,
     },
     /// A universe that stands for every alert: of the routes alone, and also where it cannot be
     /// proved of a label.
@@ -292,7 +292,9 @@ const EXPLAIN_ABOUT: &str = "Write why a label set goes where it goes";
 
 const EXPLAIN_HELP: &str = "\
 The label set is that of one alert: matchers in the classic syntax of Alertmanager, each
-with =, as in team=db,severity=warning. It need not be in any universe.
+with =. One word is a list of them, as team=db,severity=warning. Of several words each is
+one matcher, as amtool config routes test takes them: team=db severity=warning. The label
+set need not be in any universe.
 
 The configuration is JSON; an alertmanager.yml becomes JSON by
 
@@ -405,7 +407,7 @@ pub fn parse_command_line<'a>(
     let mut command = command(alloc)?;
     let matches = command.try_get_matches_from_mut(words)?;
     if let Some((name, matches)) = matches.subcommand()
-        && let Some(request) = request_of(name, matches)
+        && let Some(request) = request_of(alloc, name, matches)?
     {
         return Ok(CommandLine {
             request,
@@ -416,25 +418,43 @@ pub fn parse_command_line<'a>(
 }
 
 /// What the command of this name asks for.
-fn request_of<'a>(name: &str, matches: &ArgMatches<'a>) -> Option<Request<'a>> {
+fn request_of<'a>(
+    alloc: Global,
+    name: &str,
+    matches: &ArgMatches<'a>,
+) -> Result<Option<Request<'a>>, AllocError> {
     match name {
-        "ask" => {
-            let question = matches.get_str("question")?;
-            Some(Request::Ask {
-                question,
-                after: matches.get_str("after"),
-                limit: matches.get_one::<u64>("limit").and_then(NonZeroU64::new),
-                steps: matches.get_one::<u64>("steps").and_then(Steps::new),
-            })
+        "ask" => Ok(ask_request(matches)),
+        "dead" => Ok(Some(Request::Dead)),
+        "receivers" => Ok(Some(Request::Receivers)),
+        "explain" => explain_request(alloc, matches),
+        "universe" => Ok(Some(universe_request(matches))),
+        _ => Ok(None),
+    }
+}
+
+/// What `ask` asks for.
+fn ask_request<'a>(matches: &ArgMatches<'a>) -> Option<Request<'a>> {
+    let question = matches.get_str("question")?;
+    Some(Request::Ask {
+        question,
+        after: matches.get_str("after"),
+        limit: matches.get_one::<u64>("limit").and_then(NonZeroU64::new),
+        steps: matches.get_one::<u64>("steps").and_then(Steps::new),
+    })
+}
+
+/// What `explain` asks for.
+fn explain_request<'a>(
+    alloc: Global,
+    matches: &ArgMatches<'a>,
+) -> Result<Option<Request<'a>>, AllocError> {
+    match matches.get_strs("set") {
+        Some(words) => {
+            let set = Vec::from_slice(alloc, words)?;
+            Ok(Some(Request::Explain { set }))
         }
-        "dead" => Some(Request::Dead),
-        "receivers" => Some(Request::Receivers),
-        "explain" => {
-            let set = matches.get_str("set")?;
-            Some(Request::Explain { set })
-        }
-        "universe" => Some(universe_request(matches)),
-        _ => None,
+        None => Ok(None),
     }
 }
 
@@ -527,7 +547,9 @@ fn explain_command<'a>(alloc: Global) -> Result<Command<'a>, AllocError> {
     let set = Arg::new(alloc, "set")
         .value_name("SET")
         .required(true)
-        .help("The label set, as team=db,severity=warning");
+        .num_args(1..)
+        .action(ArgAction::Append)
+        .help("The label set, as team=db,severity=warning or team=db severity=warning");
     Command::new(alloc, "explain")
         .about(EXPLAIN_ABOUT)
         .after_help(EXPLAIN_HELP)

@@ -1,5 +1,5 @@
 -- What is done for a request, over the bytes of the input files. (This project's own.)
-use Rattle.std.specs.Prelude.{ℕ, List, [], Option, option_map, option_copied, unwrap_or}
+use Rattle.std.specs.Prelude.{ℕ, List, [], map, Option, option_map, option_copied, unwrap_or}
 use Rattle.std.specs.Global.{Vec}
 use Rattle.std.specs.Int.NonZero.{non_zero_u64_get}
 use Rattle.am_command_line.specs.Words.{step_count}
@@ -62,7 +62,7 @@ IsDone requests.Dead files IsWritten =
 IsDone requests.Receivers files IsWritten =
     ReportsFiles (universe_bytes files) (config_bytes files) IsReceiversReport IsWritten
 IsDone (requests.Explain set) files IsWritten =
-    ExplainsSet (world_inputs files) set.now IsWritten
+    ExplainsSet (world_inputs files) (map (λ word. word.now) set.items) IsWritten
 IsDone (requests.Universe routes open_form) files IsWritten =
     MakesUniverse (world_inputs files) (record { routes = routes; «open» = open_form }) IsWritten
 IsDone (requests.CheckUniverse routes) files IsWritten =
@@ -75,7 +75,7 @@ IsDoneInPart (requests.Ask question after limit steps) files IsWritten =
 IsDoneInPart requests.Dead files IsWritten = IsDone requests.Dead files IsWritten
 IsDoneInPart requests.Receivers files IsWritten = IsDone requests.Receivers files IsWritten
 IsDoneInPart (requests.Explain set) files IsWritten =
-    ExplainsSet (world_inputs files) set.now IsWritten
+    ExplainsSet (world_inputs files) (map (λ word. word.now) set.items) IsWritten
 IsDoneInPart (requests.Universe routes open_form) files IsWritten =
     IsDone (requests.Universe routes open_form) files IsWritten
 IsDoneInPart (requests.CheckUniverse routes) files IsWritten =
@@ -88,7 +88,8 @@ request_stages (requests.Ask question after limit steps) files =
 request_stages requests.Dead files = report_stages (universe_bytes files) (config_bytes files)
 request_stages requests.Receivers files =
     report_stages (universe_bytes files) (config_bytes files)
-request_stages (requests.Explain set) files = explain_stages (world_inputs files) set.now
+request_stages (requests.Explain set) files =
+    explain_stages (world_inputs files) (map (λ word. word.now) set.items)
 request_stages (requests.Universe routes open_form) files =
     making_stages (world_inputs files) (record { routes = routes; «open» = open_form })
 request_stages (requests.CheckUniverse routes) files =

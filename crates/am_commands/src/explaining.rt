@@ -1,4 +1,4 @@
-ghost use Rattle.std.specs.Prelude.{◌≡◌, ◌≢◌, [], IfOk, IfErr, string_bytes};
+ghost use Rattle.std.specs.Prelude.{◌≡◌, ◌≢◌, [], ◌∷◌, map, IfOk, IfErr, string_bytes};
 ghost use Rattle.am_universe.specs.declared.kind.Kind.TheVariants as kinds;
 ghost use Rattle.am_universe.specs.declared.place.Place.TheVariants as places;
 ghost use Rattle.am_labels.specs.Words.{Wrote, WroteInPart};
@@ -32,26 +32,52 @@ pub fn explain<W: Sink>(
     out: &mut W,
 ) -> Result<(), Fault>
     // The text is exactly that of the ends, the silences and the rules and alerts of the set.
-    ensures explained { IfOk result (λ _. ExplainsSet (world_inputs_of files.now) set.now
+    ensures explained { IfOk result (λ _. ExplainsSet (world_inputs_of files.now) (set.now ∷ [])
         (Wrote W.taken W.failures out.old out.new)) }
 
     // No other fault of the inputs comes before the one that is answered, and the pointer is that
     // of the part at fault.
     ensures first { IfErr result (λ fault. fault.kind ≢ kinds.Write → fault.kind ≢ kinds.Memory
-        → IsFirstFaultOfCall (explain_stages (world_inputs_of files.now) set.now)
+        → IsFirstFaultOfCall (explain_stages (world_inputs_of files.now) (set.now ∷ []))
         fault.place (refusal_of fault)) }
     ensures memory { IfErr result (λ fault. fault.kind ≡ kinds.Memory
         → (fault.place ≡ places.Memory) × (string_bytes fault.pointer ≡ [])) }
     ensures write { IfErr result (λ fault. fault.kind ≡ kinds.Write
         → (fault.place ≡ places.Output) × (string_bytes fault.pointer ≡ [])
-        × ExplainsSet (world_inputs_of files.now) set.now
+        × ExplainsSet (world_inputs_of files.now) (set.now ∷ [])
         (WroteInPart W.taken W.failures out.old out.new)) }
 
     // Nothing is written after a refusal.
     ensures untouched { IfErr result (λ fault. fault.kind ≢ kinds.Write → out.new ≡ out.old) }
 {
+    explain_words(alloc, files, &[set], out)
+}
+
+/// Writes why a label set goes where it goes, as `explain` does, where the set is given in words:
+/// one word is read as the text of `explain`, and each of several is one matcher with `=`, whose
+/// value may have commas. The faults of the words are those of `parse_set_words`, at `Set`.
+pub fn explain_words<W: Sink>(
+    alloc: Global,
+    files: &Files<'_>,
+    words: &[&str],
+    out: &mut W,
+) -> Result<(), Fault>
+    ensures explained { IfOk result (λ _. ExplainsSet (world_inputs_of files.now)
+        (map (λ word. word.now) words.now) (Wrote W.taken W.failures out.old out.new)) }
+    ensures first { IfErr result (λ fault. fault.kind ≢ kinds.Write → fault.kind ≢ kinds.Memory
+        → IsFirstFaultOfCall
+        (explain_stages (world_inputs_of files.now) (map (λ word. word.now) words.now))
+        fault.place (refusal_of fault)) }
+    ensures memory { IfErr result (λ fault. fault.kind ≡ kinds.Memory
+        → (fault.place ≡ places.Memory) × (string_bytes fault.pointer ≡ [])) }
+    ensures write { IfErr result (λ fault. fault.kind ≡ kinds.Write
+        → (fault.place ≡ places.Output) × (string_bytes fault.pointer ≡ [])
+        × ExplainsSet (world_inputs_of files.now) (map (λ word. word.now) words.now)
+        (WroteInPart W.taken W.failures out.old out.new)) }
+    ensures untouched { IfErr result (λ fault. fault.kind ≢ kinds.Write → out.new ≡ out.old) }
+{
     let world = read_world(alloc, files)?;
-    let set = read_set(alloc, set)?;
+    let set = read_set(alloc, words)?;
     let explanation = match explanation_of(alloc, &world, &set) {
         Ok(explanation) => explanation,
         Err(_) => return Err(Fault::memory(alloc)),

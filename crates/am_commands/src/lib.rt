@@ -4,10 +4,11 @@
 //! [`ask`] writes the label sets of a universe that satisfy a question about a configuration,
 //! silences and firing alerts, all of them or one [`Page`] after another. [`dead`] writes which
 //! routes no label set of a universe ends at, [`receivers`] which receivers none goes to, and
-//! [`explain`] why one label set goes where it goes. [`universe`](universe()) makes a universe that
-//! stands for every alert, and [`check_universe`] says what another one lacks. [`run`] reads a
-//! command line and the files that it names, calls the command and answers the exit status; the
-//! program `amcover` is that call and no more.
+//! [`explain`] why one label set goes where it goes, or [`explain_words`] where the set is given in
+//! words. [`universe`](universe()) makes a universe that stands for every alert, and
+//! [`check_universe`] says what another one lacks. [`run`] reads a command line and the files that
+//! it names, calls the command and answers the exit status; the program `amcover` is that call and
+//! no more.
 #![tactic(auto)]
 
 // The layers below: what goes in, how a page ends, and how a fault is written.
@@ -22,7 +23,7 @@ mod reporting;
 
 pub use am_universe_command::{UniverseForm, check_universe, universe};
 pub use asking::ask;
-pub use explaining::explain;
+pub use explaining::{explain, explain_words};
 pub use reporting::{dead, receivers};
 
 // The program's run.

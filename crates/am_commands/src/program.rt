@@ -10,7 +10,7 @@ ghost use Rattle.am_commands.specs.Words.{IsDone, IsDoneInPart, request_stages};
 ghost use Rattle.am_commands.specs.Words.{universe_bytes, world_inputs, bytes_if_any};
 
 use crate::asking::ask;
-use crate::explaining::explain;
+use crate::explaining::explain_words;
 use crate::read_file::read_file;
 use crate::reporting::{dead, receivers};
 use am_command_line::{CommandLine, InputFiles, Request, Steps, parse_command_line};
@@ -69,7 +69,7 @@ fn run_line<R: Files + AllocGlobal, W: Write + Drop>(
     out: &mut W,
 ) -> Result<u8, Fault> {
     let files = read_files(rt, &line.files)?;
-    call_buffered(rt.alloc(), line.request, &files, out)
+    call_buffered(rt.alloc(), &line.request, &files, out)
 }
 
 /// The bytes of the files of these paths, which are read in the order in which commands look at
@@ -94,7 +94,7 @@ fn read_files<'a, R: Files + AllocGlobal>(
 /// Calls the command over a buffer of the output, which is flushed at the end.
 fn call_buffered<W: Write + Drop>(
     alloc: Global,
-    request: Request<'_>,
+    request: &Request<'_>,
     files: &InputFiles<'_, Vec<u8>>,
     out: &mut W,
 ) -> Result<u8, Fault> {
@@ -122,17 +122,17 @@ fn call_buffered<W: Write + Drop>(
 /// Makes the call that does what is asked for, over the bytes of the files.
 fn make_call<W: Sink>(
     alloc: Global,
-    request: Request<'_>,
+    request: &Request<'_>,
     files: &InputFiles<'_, Vec<u8>>,
     out: &mut W,
 ) -> Result<(), Fault>
-    ensures done { IfOk result (λ _. IsDone request.entry files.now
+    ensures done { IfOk result (λ _. IsDone request.now files.now
         (Wrote W.taken W.failures out.old out.new)) }
     ensures first { IfErr result (λ fault. fault.kind ≢ kinds.Write → fault.kind ≢ kinds.Memory
-        → IsFirstFaultOfCall (request_stages request.entry files.now)
+        → IsFirstFaultOfCall (request_stages request.now files.now)
         fault.place (refusal_of fault)) }
     ensures write { IfErr result (λ fault. fault.kind ≡ kinds.Write
-        → IsDoneInPart request.entry files.now
+        → IsDoneInPart request.now files.now
         (WroteInPart W.taken W.failures out.old out.new)) }
     ensures untouched { IfErr result (λ fault. fault.kind ≢ kinds.Write → out.new ≡ out.old) }
 {
@@ -146,9 +146,9 @@ fn make_call<W: Sink>(
             steps,
         } => {
             let page = Page {
-                after,
-                limit: limit_of(limit),
-                steps: steps_of(steps),
+                after: *after,
+                limit: limit_of(*limit),
+                steps: steps_of(*steps),
             };
             match ask(alloc, universe, &world, question, &page, out) {
                 Ok(_) => Ok(()),
@@ -157,12 +157,16 @@ fn make_call<W: Sink>(
         }
         Request::Dead => dead(alloc, universe, world.config(), out),
         Request::Receivers => receivers(alloc, universe, world.config(), out),
-        Request::Explain { set } => explain(alloc, &world, set, out),
+        Request::Explain { set } => explain_words(alloc, &world, set.as_slice(), out),
         Request::Universe { routes, open } => {
-            am_universe_command::universe(alloc, &world, UniverseForm { routes, open }, out)
+            let form = UniverseForm {
+                routes: *routes,
+                open: *open,
+            };
+            am_universe_command::universe(alloc, &world, form, out)
         }
         Request::CheckUniverse { routes } => {
-            am_universe_command::check_universe(alloc, universe, &world, routes, out)
+            am_universe_command::check_universe(alloc, universe, &world, *routes, out)
         }
     }
 }

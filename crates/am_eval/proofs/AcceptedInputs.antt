@@ -4,7 +4,7 @@ use Rattle.std.proofs.Common.{Result, Ok, Err, refl, sym, ap, ◌∙◌, ◌⊎�
 use Rattle.am_universe.specs.declared.kind.Kind.TheVariants as kinds
 use Rattle.am_universe.specs.declared.place.Place.{Place}
 use Rattle.am_universe.specs.LabelSet.{LabelMap}
-use Rattle.am_labels.specs.ParsedLabelSet.{SpellsSet}
+use Rattle.am_labels.specs.ParsedLabelSet.{WordsSpellSet}
 use Rattle.am_labels.specs.Space.{Space}
 use Rattle.am_json.specs.Json.{json_of}
 use Rattle.am_json.specs.Pointer.{Refusal}
@@ -159,11 +159,11 @@ world_accepted P inputs w later place r accepts pattern behind =
     silences
 
 -- nothing is the first fault of no stage
-pub explained_accepted : (inputs : WorldInputs) (text : List ℕ) (w : World) (s : LabelMap)
-    (place : Place) (r : Refusal) → AcceptsWorld inputs w → SpellsSet text s
-    → IsFirstFaultOfCall (explain_stages inputs text) place r → r.kind ≡ kinds.Pattern
-explained_accepted inputs text w s place r accepts spelled =
-    world_accepted (r.kind ≡ kinds.Pattern) inputs w (set_stage text ∷ []) place r accepts
+pub explained_accepted : (inputs : WorldInputs) (words : List (List ℕ)) (w : World) (s : LabelMap)
+    (place : Place) (r : Refusal) → AcceptsWorld inputs w → WordsSpellSet words s
+    → IsFirstFaultOfCall (explain_stages inputs words) place r → r.kind ≡ kinds.Pattern
+explained_accepted inputs words w s place r accepts spelled =
+    world_accepted (r.kind ≡ kinds.Pattern) inputs w (set_stage words ∷ []) place r accepts
     (λ pattern. pattern)
-    (by_stage (r.kind ≡ kinds.Pattern) (set_stage text) [] place r
-    (λ refused. absurd (set_accepted text s r.kind spelled refused.0)) (λ none. absurd none))
+    (by_stage (r.kind ≡ kinds.Pattern) (set_stage words) [] place r
+    (λ refused. absurd (set_accepted words s r.kind spelled refused.0)) (λ none. absurd none))

@@ -1,5 +1,5 @@
--- A matcher text, and the text of a label set, is read or refused, never both, and refused with one
--- kind; but for the patterns that the engine may refuse.
+-- Words, as a list of matchers and as a label set, are read or refused, never both, and refused with
+-- one kind; but for the patterns that the engine may refuse.
 use Rattle.std.proofs.Common.{◌≡◌, ◌≢◌, ◌≤◌, ℕ, List, [], ◌∷◌, ◌++◌, length, Bool, true, false}
 use Rattle.std.proofs.Common.{refl, sym, ap, subst, ◌∙◌, inl, inr, arith}
 use Rattle.std.specs.Prelude.{IsTrue, not, ◌&&◌, ◌||◌, if◌then◌else◌}
@@ -13,13 +13,13 @@ use Rattle.am_labels.specs.declared.op.Op.TheVariants.{Equal, NotEqual, Matches,
 use Rattle.am_labels.specs.Pattern.{is_pattern}
 use Rattle.am_labels.specs.PatternCut.{in_profile}
 use Rattle.am_labels.specs.Matcher.{Condition, takes_pattern}
-use Rattle.am_labels.specs.MatcherText.{Spells}
+use Rattle.am_labels.specs.MatcherText.{WordsSpell}
 use Rattle.am_labels.specs.MatcherRefusals.{has_valid_pattern, have_valid_patterns}
 use Rattle.am_labels.specs.MatcherRefusals.{ValueRefusedFor, PatternsRefusedFor}
-use Rattle.am_labels.specs.MatcherRefusals.{ListRefusedFor, TextRefusedFor}
-use Rattle.am_labels.specs.ParsedLabelSet.{is_equality, are_equalities, repeats_name, SpellsSet}
-use Rattle.am_labels.specs.ParsedLabelSet.{SetRefusedFor, SetTextRefusedFor}
-use Rattle.am_labels.proofs.MatcherTextWhole.{one_list}
+use Rattle.am_labels.specs.MatcherRefusals.{ListRefusedFor, WordsRefusedFor}
+use Rattle.am_labels.specs.ParsedLabelSet.{is_equality, are_equalities, repeats_name}
+use Rattle.am_labels.specs.ParsedLabelSet.{WordsSpellSet, SetRefusedFor, SetWordsRefusedFor}
+use Rattle.am_labels.proofs.MatcherTextWhole.{one_list_of_words}
 
 -- ---- Patterns.
 
@@ -64,22 +64,22 @@ profile_kind : (ms : List Condition) (kind : Kind) → PatternsRefusedFor ms kin
 profile_kind ms kind refused other =
     refusal_is (in_profile refused.refused.value) kind refused.value.kind_is other
 
--- ---- Lists, and their texts.
+-- ---- Lists, and their words.
 
 list_within : (ms : List Condition) (kind : Kind) → length ms ≤ MAX_MATCHERS
     → have_valid_patterns ms ≡ true → ListRefusedFor ms kind → kind ≡ kinds.Pattern
 list_within ms kind few valid (inl many) = absurd (omega (arith, few, many.0))
 list_within ms kind few valid (inr patterns) = valid_list ms kind valid patterns.1
 
--- a text that is read is refused at most for a pattern
-pub text_accepted : (text : List ℕ) (ms : List Condition) (kind : Kind) → Spells text ms
-    → length ms ≤ MAX_MATCHERS → IsTrue (have_valid_patterns ms) → TextRefusedFor text kind
+-- words that are read are refused at most for a pattern
+pub words_accepted : (words : List (List ℕ)) (ms : List Condition) (kind : Kind) → WordsSpell words ms
+    → length ms ≤ MAX_MATCHERS → IsTrue (have_valid_patterns ms) → WordsRefusedFor words kind
     → kind ≡ kinds.Pattern
-text_accepted text ms kind spelled few valid (inl none) = absurd (none.1 ms spelled)
-text_accepted text ms kind spelled few valid (inr list) =
+words_accepted words ms kind spelled few valid (inl none) = absurd (none.1 ms spelled)
+words_accepted words ms kind spelled few valid (inr list) =
     list_within ms kind few valid
     (subst (λ (l : List Condition). ListRefusedFor l kind)
-    (one_list text list.list ms list.spelled spelled) list.refused)
+    (one_list_of_words words list.list ms list.spelled spelled) list.refused)
 
 list_kind : (ms : List Condition) (kind other : Kind) → ListRefusedFor ms kind
     → ListRefusedFor ms other → kind ≢ kinds.Pattern → other ≢ kinds.Pattern → kind ≡ other
@@ -89,16 +89,16 @@ list_kind ms kind other (inr patterns) (inl many) h k = absurd (omega (arith, ma
 list_kind ms kind other (inr patterns) (inr again) h k =
     profile_kind ms kind patterns.1 h ∙ sym (profile_kind ms other again.1 k)
 
--- a text is refused with one kind
-pub text_kind : (text : List ℕ) (kind other : Kind) → TextRefusedFor text kind
-    → TextRefusedFor text other → kind ≢ kinds.Pattern → other ≢ kinds.Pattern → kind ≡ other
-text_kind text kind other (inl none) (inl nothing) h k = none.0 ∙ sym nothing.0
-text_kind text kind other (inl none) (inr list) h k = absurd (none.1 list.list list.spelled)
-text_kind text kind other (inr list) (inl none) h k = absurd (none.1 list.list list.spelled)
-text_kind text kind other (inr list) (inr again) h k =
+-- words are refused with one kind
+pub words_kind : (words : List (List ℕ)) (kind other : Kind) → WordsRefusedFor words kind
+    → WordsRefusedFor words other → kind ≢ kinds.Pattern → other ≢ kinds.Pattern → kind ≡ other
+words_kind words kind other (inl none) (inl nothing) h k = none.0 ∙ sym nothing.0
+words_kind words kind other (inl none) (inr list) h k = absurd (none.1 list.list list.spelled)
+words_kind words kind other (inr list) (inl none) h k = absurd (none.1 list.list list.spelled)
+words_kind words kind other (inr list) (inr again) h k =
     list_kind again.list kind other
     (subst (λ (l : List Condition). ListRefusedFor l kind)
-    (one_list text list.list again.list list.spelled again.spelled) list.refused)
+    (one_list_of_words words list.list again.list list.spelled again.spelled) list.refused)
     again.refused h k
 
 -- ---- Label sets.
@@ -135,18 +135,18 @@ set_list_refused : (ms : List Condition) (kind : Kind) → are_equalities ms ≡
 set_list_refused ms kind e distinct (inl other) = false≢true (sym other.0 ∙ e)
 set_list_refused ms kind e distinct (inr twice) = false≢true (sym distinct ∙ twice.1)
 
--- the text of a label set is not refused
-pub set_accepted : (text : List ℕ) (set : LabelMap) (kind : Kind) → SpellsSet text set
-    → SetTextRefusedFor text kind → ⊥
-set_accepted text set kind set_text (inl (inl none)) = none.1 set_text.list set_text.spelled
-set_accepted text set kind set_text (inl (inr list)) =
+-- the words of a label set are not refused
+pub set_accepted : (words : List (List ℕ)) (set : LabelMap) (kind : Kind) → WordsSpellSet words set
+    → SetWordsRefusedFor words kind → ⊥
+set_accepted words set kind set_text (inl (inl none)) = none.1 set_text.list set_text.spelled
+set_accepted words set kind set_text (inl (inr list)) =
     equalities_refused set_text.list kind set_text.at_most set_text.equalities
     (subst (λ (l : List Condition). ListRefusedFor l kind)
-    (one_list text list.list set_text.list list.spelled set_text.spelled) list.refused)
-set_accepted text set kind set_text (inr gives) =
+    (one_list_of_words words list.list set_text.list list.spelled set_text.spelled) list.refused)
+set_accepted words set kind set_text (inr gives) =
     set_list_refused set_text.list kind set_text.equalities set_text.distinct
     (subst (λ (l : List Condition). SetRefusedFor l kind)
-    (one_list text gives.list set_text.list gives.spelled set_text.spelled) gives.refused)
+    (one_list_of_words words gives.list set_text.list gives.spelled set_text.spelled) gives.refused)
 
 set_list_kind : (ms : List Condition) (kind other : Kind) → SetRefusedFor ms kind
     → SetRefusedFor ms other → kind ≡ other
@@ -155,18 +155,18 @@ set_list_kind ms kind other (inl one) (inr twice) = absurd (false≢true (sym on
 set_list_kind ms kind other (inr twice) (inl one) = absurd (false≢true (sym one.0 ∙ twice.0))
 set_list_kind ms kind other (inr twice) (inr also) = twice.2 ∙ sym also.2
 
--- and is refused with one kind
-pub set_kind : (text : List ℕ) (kind other : Kind) → SetTextRefusedFor text kind
-    → SetTextRefusedFor text other → kind ≢ kinds.Pattern → other ≢ kinds.Pattern → kind ≡ other
-set_kind text kind other (inl refused) (inl again) h k = text_kind text kind other refused again h k
-set_kind text kind other (inl refused) (inr gives) h k =
-    absurd (h (text_accepted text gives.list kind gives.spelled gives.at_most gives.valid_patterns
+-- and are refused with one kind
+pub set_kind : (words : List (List ℕ)) (kind other : Kind) → SetWordsRefusedFor words kind
+    → SetWordsRefusedFor words other → kind ≢ kinds.Pattern → other ≢ kinds.Pattern → kind ≡ other
+set_kind words kind other (inl refused) (inl again) h k = words_kind words kind other refused again h k
+set_kind words kind other (inl refused) (inr gives) h k =
+    absurd (h (words_accepted words gives.list kind gives.spelled gives.at_most gives.valid_patterns
     refused))
-set_kind text kind other (inr gives) (inl refused) h k =
-    absurd (k (text_accepted text gives.list other gives.spelled gives.at_most gives.valid_patterns
+set_kind words kind other (inr gives) (inl refused) h k =
+    absurd (k (words_accepted words gives.list other gives.spelled gives.at_most gives.valid_patterns
     refused))
-set_kind text kind other (inr gives) (inr also) h k =
+set_kind words kind other (inr gives) (inr also) h k =
     set_list_kind also.list kind other
     (subst (λ (l : List Condition). SetRefusedFor l kind)
-    (one_list text gives.list also.list gives.spelled also.spelled) gives.refused)
+    (one_list_of_words words gives.list also.list gives.spelled also.spelled) gives.refused)
     also.refused

@@ -5,7 +5,7 @@ use Rattle.std.specs.List.{flat_map}
 use Rattle.am_universe.specs.LabelSet.{LabelMap}
 use Rattle.am_universe.specs.Text.{quoted_text}
 use Rattle.am_universe.specs.WrittenLabelSet.{map_text}
-use Rattle.am_labels.specs.ParsedLabelSet.{SpellsSet}
+use Rattle.am_labels.specs.ParsedLabelSet.{WordsSpellSet}
 use Rattle.am_files.specs.ConfigFile.{Configuration}
 use Rattle.am_files.specs.Path.{path_text}
 use Rattle.am_eval.specs.World.{World}
@@ -48,22 +48,22 @@ explanation_text c set ends silencers inhibitors =
     map_text set ++ (codes "\n" ++ (flat_map (end_line c) ends
     ++ (flat_map silenced_line silencers ++ flat_map inhibited_line inhibitors)))
 
--- The stages of `explain`, in order: those of the world, the text of the label set.
+-- The stages of `explain`, in order: those of the world, the words of the label set.
 -- Source: own choice.
 -- Example: where the configuration is accepted, there are no silences, the file of alerts is `{}`
--- and the text of the set is `a!=b`, the first fault is the `shape` of the alerts; without that
+-- and the one word of the set is `a!=b`, the first fault is the `shape` of the alerts; without that
 -- file it is the `bad-matcher` of the set.
-abbrev pub explain_stages : WorldInputs → List ℕ → List Stage
-explain_stages inputs set = world_stages inputs ++ set_stage set ∷ []
+abbrev pub explain_stages : WorldInputs → List (List ℕ) → List Stage
+explain_stages inputs words = world_stages inputs ++ set_stage words ∷ []
 
--- The world is accepted, the text is that of the label set, and this holds of the text that
+-- The world is accepted, the words are those of the label set, and this holds of the text that
 -- explains the set by all its ends in the world, all silences that hide it there, and all rules and
 -- alerts that inhibit it there: that it was written, all of it or a part.
-pub record ExplainsSet (inputs : WorldInputs) (text : List ℕ) (IsWritten : List ℕ → Type 0)
-    : Type 0 where
+pub record ExplainsSet (inputs : WorldInputs) (words : List (List ℕ))
+    (IsWritten : List ℕ → Type 0) : Type 0 where
   pub world : World
   pub set : LabelMap
   pub accepts : AcceptsWorld inputs world
-  pub spelled : SpellsSet text set
+  pub spelled : WordsSpellSet words set
   pub explanation : IsWritten (explanation_text world.config set
       (ends set world.config) (silencers world set) (inhibitors world set))

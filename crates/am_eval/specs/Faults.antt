@@ -4,7 +4,7 @@ use Rattle.am_universe.specs.declared.kind.Kind.TheVariants as kinds
 use Rattle.am_universe.specs.declared.place.Place.{Place}
 use Rattle.am_universe.specs.declared.place.Place.TheVariants as places
 use Rattle.am_universe.specs.LabelSet.{LabelMap}
-use Rattle.am_labels.specs.ParsedLabelSet.{SpellsSet, SetTextRefusedFor}
+use Rattle.am_labels.specs.ParsedLabelSet.{WordsSpellSet, SetWordsRefusedFor}
 use Rattle.am_labels.specs.Space.{Space}
 use Rattle.am_json.specs.Pointer.{Refusal, refusal_here}
 use Rattle.am_records.specs.UniverseFile.{FileSaysUniverse}
@@ -88,13 +88,13 @@ pub record PairsRefusedFor (config : List ℕ) (file : Option (List ℕ)) (r : R
   pub many : MAX_PAIRS < length (pairs_of configuration.rules alerts)
   pub refusal : r ≡ refusal_here kinds.Limit
 
--- The text is that of a label set.
-abbrev pub SpellsSomeSet : List ℕ → Type 0
-SpellsSomeSet text = (set : LabelMap) × SpellsSet text set
+-- The words are those of a label set.
+abbrev pub WordsSpellSomeSet : List (List ℕ) → Type 0
+WordsSpellSomeSet words = (set : LabelMap) × WordsSpellSet words set
 
--- Why the text is refused as that of a label set; its faults stand at no part of a file.
-abbrev pub SetStageRefusedFor : List ℕ → Refusal → Type 0
-SetStageRefusedFor text r = SetTextRefusedFor text r.kind × (r.pointer ≡ [])
+-- Why the words are refused as those of a label set; their faults stand at no part of a file.
+abbrev pub SetStageRefusedFor : List (List ℕ) → Refusal → Type 0
+SetStageRefusedFor words r = SetWordsRefusedFor words r.kind × (r.pointer ≡ [])
 
 -- The universe file.
 abbrev pub universe_stage : List ℕ → Stage
@@ -144,10 +144,10 @@ pairs_stage config file = record {
   refuses = PairsRefusedFor config file;
 }
 
--- The text of a label set.
-abbrev pub set_stage : List ℕ → Stage
-set_stage text = record {
+-- The words of a label set.
+abbrev pub set_stage : List (List ℕ) → Stage
+set_stage words = record {
   place = places.Set;
-  accepts = SpellsSomeSet text;
-  refuses = SetStageRefusedFor text;
+  accepts = WordsSpellSomeSet words;
+  refuses = SetStageRefusedFor words;
 }

@@ -12,8 +12,8 @@ ghost use Rattle.am_labels.specs.Words.{Space, IsChoiceOf};
 ghost use Rattle.am_universe.specs.declared.kind.Kind.{Kind};
 ghost use Rattle.am_universe.specs.declared.kind.Kind.TheVariants as kinds;
 ghost use Rattle.am_universe.specs.declared.place.Place.{Place};
-ghost use Rattle.am_labels.specs.Words.{Condition, condition_holds, value_of, SpellsSet};
-ghost use Rattle.am_labels.specs.Words.{SetTextRefusedFor};
+ghost use Rattle.am_labels.specs.Words.{Condition, condition_holds, value_of};
+ghost use Rattle.am_labels.specs.Words.{WordsSpellSet, SetWordsRefusedFor};
 ghost use Rattle.am_json.specs.Words.{Refusal};
 ghost use Rattle.am_files.specs.Words.{RouteTree, Configuration, IsConfig, matchers_of, route_at};
 ghost use Rattle.am_files.specs.Words.{children_of, continues_of, receiver_of, list_of};
@@ -318,22 +318,22 @@ pub fn answers_ascend()
         → IsStrictlySortedBy (slice_cmp nat_cmp) (answers s w question) }
 {}
 
-/// A text that is that of a label set is not refused as one. A text that is refused is refused with
-/// one kind, but for the patterns that the engine may refuse.
+/// Words that are those of a label set are not refused as one. Words that are refused are refused
+/// with one kind, but for the patterns that the engine may refuse.
 pub fn a_set_is_not_read_and_refused()
-    ensures accepted { (text : List ℕ) (set : LabelMap) (kind : Kind) → SpellsSet text set
-        → SetTextRefusedFor text kind → ⊥ }
-    ensures one { (text : List ℕ) (kind other : Kind) → SetTextRefusedFor text kind
-        → SetTextRefusedFor text other → kind ≢ kinds.Pattern → other ≢ kinds.Pattern
+    ensures accepted { (words : List (List ℕ)) (set : LabelMap) (kind : Kind)
+        → WordsSpellSet words set → SetWordsRefusedFor words kind → ⊥ }
+    ensures one { (words : List (List ℕ)) (kind other : Kind) → SetWordsRefusedFor words kind
+        → SetWordsRefusedFor words other → kind ≢ kinds.Pattern → other ≢ kinds.Pattern
         → kind ≡ other }
 {}
 
 /// Where the inputs of `explain` are accepted, they have no first fault, but for a pattern, which
 /// the engine may refuse.
 pub fn accepted_inputs_of_explain_have_no_fault()
-    ensures pattern { (inputs : WorldInputs) (text : List ℕ) (w : World) (s : LabelMap)
-        (place : Place) (refusal : Refusal) → AcceptsWorld inputs w → SpellsSet text s
-        → IsFirstFaultOfCall (explain_stages inputs text) place refusal
+    ensures pattern { (inputs : WorldInputs) (words : List (List ℕ)) (w : World) (s : LabelMap)
+        (place : Place) (refusal : Refusal) → AcceptsWorld inputs w → WordsSpellSet words s
+        → IsFirstFaultOfCall (explain_stages inputs words) place refusal
         → refusal.kind ≡ kinds.Pattern }
 {}
 

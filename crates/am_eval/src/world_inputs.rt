@@ -1,8 +1,8 @@
-ghost use Rattle.std.specs.Prelude.{◌≡◌, ◌≢◌, [], None, option_map, option_copied};
+ghost use Rattle.std.specs.Prelude.{◌≡◌, ◌≢◌, [], None, map, option_map, option_copied};
 ghost use Rattle.std.specs.Prelude.{IfOk, IfErr, string_bytes};
 ghost use Rattle.am_universe.specs.declared.kind.Kind.TheVariants as kinds;
 ghost use Rattle.am_universe.specs.declared.place.Place.TheVariants as places;
-ghost use Rattle.am_labels.specs.Words.{SpellsSet};
+ghost use Rattle.am_labels.specs.Words.{WordsSpellSet};
 ghost use Rattle.am_json.specs.Words.{refusal_of};
 ghost use Rattle.am_eval.specs.Words.{world_inputs_of, AcceptsWorld, world_stages};
 ghost use Rattle.am_eval.specs.Words.{IsFirstFaultOfCall, SaysSilencesIfAny, SilencesRefusedFor};
@@ -12,7 +12,7 @@ ghost use Rattle.am_eval.specs.Words.{instant_fault, InstantRefusedFor, SetStage
 use crate::files::Files;
 use crate::world::World;
 use am_files::{Alerts, Silences, parse_instant, read_alerts, read_config, read_silences};
-use am_labels::{Fault, Kind, LabelSet, Place, fault_at, parse_set};
+use am_labels::{Fault, Kind, LabelSet, Place, fault_at, parse_set_words};
 use jiff::Timestamp;
 use std::alloc::Global;
 
@@ -97,16 +97,17 @@ fn read_instant_for(alloc: Global, files: &Files<'_>) -> Result<Option<Timestamp
     }
 }
 
-/// Reads the text of a label set. Its faults stand at `Set`.
-pub fn read_set(alloc: Global, text: &str) -> Result<LabelSet, Fault>
-    ensures spelled { IfOk result (SpellsSet text.now) }
+/// Reads the words of a label set, as `parse_set_words` does. Their faults stand at `Set`.
+pub fn read_set(alloc: Global, words: &[&str]) -> Result<LabelSet, Fault>
+    ensures spelled { IfOk result (WordsSpellSet (map (λ word. word.now) words.now)) }
     ensures refused { IfErr result (λ fault. fault.kind ≢ kinds.Memory
-        → (fault.place ≡ places.Set) × SetStageRefusedFor text.now (refusal_of fault)) }
+        → (fault.place ≡ places.Set)
+        × SetStageRefusedFor (map (λ word. word.now) words.now) (refusal_of fault)) }
     ensures memory { IfErr result (λ fault. fault.kind ≡ kinds.Memory
         → (fault.place ≡ places.Memory) × (string_bytes fault.pointer ≡ [])) }
     ensures no_write { IfErr result (λ fault. fault.kind ≢ kinds.Write) }
 {
-    match parse_set(alloc, text) {
+    match parse_set_words(alloc, words) {
         Ok(set) => Ok(set),
         Err(kind) => Err(fault_at(alloc, kind, Place::Set)),
     }

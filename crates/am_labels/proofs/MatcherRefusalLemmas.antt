@@ -4,9 +4,9 @@ use Rattle.std.specs.List.{All}
 use Rattle.am_universe.specs.declared.kind.Kind.{Kind}
 use Rattle.am_universe.specs.declared.kind.Kind.TheVariants as kinds
 use Rattle.am_labels.specs.declared.limits.TheConstants.{MAX_MATCHERS}
-use Rattle.am_labels.specs.MatcherText.{Spells}
+use Rattle.am_labels.specs.MatcherText.{WordsSpell}
 use Rattle.am_labels.specs.Matcher.{Condition}
-use Rattle.am_labels.specs.MatcherRefusals.{have_valid_patterns, MatcherRefusedFor, PatternsRefusedFor, TextRefusedFor}
+use Rattle.am_labels.specs.MatcherRefusals.{have_valid_patterns, MatcherRefusedFor, PatternsRefusedFor, WordsRefusedFor}
 
 -- what is said of all elements is said of one behind others
 all_at : {X : Type 0} (P : X → Type 0) (xs : List X) (x : X) (rest : List X) → All P (xs ++ x ∷ rest) → P x
@@ -31,13 +31,13 @@ refused_at before x after list kind e named valid_patterns refused =
       }
     ]
 
--- a text that spells a list is refused where the list is, unless that is too long
-pub text_refused : {X : Type 0} (r : Result X Kind) (text : List ℕ) (list : List Condition)
-    → Spells text list → length list ≤ MAX_MATCHERS
+-- words that spell a list are refused where the list is, unless that is too long
+pub words_refused : {X : Type 0} (r : Result X Kind) (words : List (List ℕ)) (list : List Condition)
+    → WordsSpell words list → length list ≤ MAX_MATCHERS
     → IfErr r (λ kind. kind ≢ kinds.Memory → PatternsRefusedFor list kind)
-    → IfErr r (λ kind. kind ≢ kinds.Memory → TextRefusedFor text kind)
-text_refused (Ok x) text list spelled few refused = tt
-text_refused (Err kind) text list spelled few refused = λ other. inr (record {
+    → IfErr r (λ kind. kind ≢ kinds.Memory → WordsRefusedFor words kind)
+words_refused (Ok x) words list spelled few refused = tt
+words_refused (Err kind) words list spelled few refused = λ other. inr (record {
   list = list;
   spelled = spelled;
   refused = inr (few, refused other);

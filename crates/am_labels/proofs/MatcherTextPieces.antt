@@ -1,12 +1,13 @@
 -- The pieces that are left at a place, and the list that is read so far.
-use Rattle.std.proofs.Common.{◌≡◌, refl, sym, ◌∙◌, ap, inl, inr, ℕ, suc, ◌+◌, ◌-◌, ◌<◌, ◌≤◌, List, [], ◌∷◌, ◌++◌, length, drop, true, false, cond, arith, Option, Some, None}
+use Rattle.std.proofs.Common.{◌≡◌, ◌≢◌, refl, sym, ◌∙◌, ap, inl, inr, ℕ, suc, ◌+◌, ◌-◌, ◌<◌, ◌≤◌, List, [], ◌∷◌, ◌++◌, length, get_or, map, drop, true, false, cond, arith, Option, Some, None, Result}
 use Rattle.std.specs.Prelude.{slice_range}
 use Rattle.std.specs.List.{filter, range_with_len}
-use Rattle.std.proofs.lemmas.List.{append-nil, append_assoc}
+use Rattle.std.proofs.lemmas.List.{append-nil, append_assoc, at_drop_more}
+use Rattle.std.proofs.Math.ListN.{drop_of_length-le}
 use Rattle.am_universe.specs.declared.kind.Kind.{Kind}
 use Rattle.am_labels.specs.Matcher.{Condition}
-use Rattle.am_labels.specs.MatcherText.{is_blank, is_separator, separators, pieces_from, without_blank_last, matcher_pieces}
-use Rattle.am_labels.specs.MatcherReading.{IsReadFailure, ◌>>=◌, read_piece, read_each_piece}
+use Rattle.am_labels.specs.MatcherText.{is_blank, is_separator, separators, pieces_from, without_blank_last, matcher_pieces, without_opening, without_closing, pieces_of_words}
+use Rattle.am_labels.specs.MatcherReading.{IsReadFailure, ReturnsReading, ◌>>=◌, read_piece, read_each_piece, read_list, read_words}
 
 -- what is read, behind a front that was read before
 abbrev pub after : List Condition → Option (List Condition) → Option (List Condition)
@@ -109,3 +110,57 @@ pub told_at_blank : (text : List ℕ) (start i : ℕ) (last : List ℕ) (ss : Li
 told_at_blank text start i last ss all l e b told =
     let b' = rw e at b in
     sym told ∙ rw (left_at_end text start i l, b') (after_all ss)
+
+-- ---- the same where each word is a piece
+
+next_word : {X : Type 0} (text : X → List ℕ) (ws : List X) (i : ℕ) (d : X) (piece : List ℕ)
+    (front : List Condition) → i < length ws → piece ≡ text (get_or ws i d)
+    → after front (read_each_piece (map text (drop i ws)))
+    ≡ after front (read_each_piece (piece ∷ map text (drop (i + 1) ws)))
+next_word text ws i d piece front l e =
+    at_drop_more (λ rest. after front (read_each_piece (map text rest))) ws i d l
+    ∙ ap (λ x. after front (read_each_piece (x ∷ map text (drop (i + 1) ws)))) (sym e)
+
+pub told_at_word : {X : Type 0} (text : X → List ℕ) (ws : List X) (i : ℕ) (d : X) (piece : List ℕ)
+    (ss : List Condition) (m : Condition) (all : Option (List Condition)) → i < length ws
+    → piece ≡ text (get_or ws i d) → read_piece piece ≡ Some m
+    → after ss (read_each_piece (map text (drop i ws))) ≡ all
+    → after (ss ++ m ∷ []) (read_each_piece (map text (drop (i + 1) ws))) ≡ all
+told_at_word text ws i d piece ss m all l e r told =
+    sym (read_next ss piece (map text (drop (i + 1) ws)) m r)
+    ∙ sym (next_word text ws i d piece ss l e) ∙ told
+
+pub refused_at_word : {X : Type 0} (kind : Kind) (text : X → List ℕ) (ws : List X) (i : ℕ) (d : X)
+    (piece : List ℕ) (ss : List Condition) (all : Option (List Condition)) → i < length ws
+    → piece ≡ text (get_or ws i d) → IsReadFailure kind (read_piece piece)
+    → after ss (read_each_piece (map text (drop i ws))) ≡ all → IsReadFailure kind all
+refused_at_word kind text ws i d piece ss all l e r told =
+    rw (← told, next_word text ws i d piece ss l e)
+    (read_none kind ss piece (map text (drop (i + 1) ws)) r)
+
+pub told_past_words : {X : Type 0} (text : X → List ℕ) (ws : List X) (i : ℕ) (ss : List Condition)
+    (all : Option (List Condition)) → length ws ≤ i
+    → after ss (read_each_piece (map text (drop i ws))) ≡ all → all ≡ Some ss
+told_past_words text ws i ss all l told =
+    sym told ∙ ap (λ rest. after ss (read_each_piece (map text rest))) (drop_of_length-le ws l)
+    ∙ after_all ss
+
+-- one word is read as a text, and of others each is a piece
+
+pub read_one_word : {X Y : Type 0} (text : X → List ℕ) (ws : List X) (d : X)
+    (view : Y → List Condition) (r : Result Y Kind) → length ws ≡ 1
+    → ReturnsReading view r (read_list (text (get_or ws 0 d)))
+    → ReturnsReading view r (read_words (map text ws))
+unfolding read_words read_list
+read_one_word text [] d view r one told = absurd (omega (arith, one))
+read_one_word text (w ∷ []) d view r one told = told
+read_one_word text (w ∷ v ∷ more) d view r one told = absurd (omega (arith, one))
+
+pub read_other_words : {X Y : Type 0} (text : X → List ℕ) (ws : List X)
+    (view : Y → List Condition) (r : Result Y Kind) → length ws ≢ 1
+    → ReturnsReading view r (read_each_piece (map text ws))
+    → ReturnsReading view r (read_words (map text ws))
+unfolding read_words
+read_other_words text [] view r other told = told
+read_other_words text (w ∷ []) view r other told = absurd (other refl)
+read_other_words text (w ∷ v ∷ more) view r other told = told

@@ -13,8 +13,8 @@ use Rattle.am_universe.specs.declared.kind.Kind.TheVariants.{Memory, BadMatcher}
 use Rattle.am_labels.specs.declared.op.Op.{Op}
 use Rattle.am_labels.specs.declared.op.Op.TheVariants.{Equal, NotEqual, Matches, NotMatches}
 use Rattle.am_labels.specs.Matcher.{Condition}
-use Rattle.am_labels.specs.MatcherText.{is_space, is_blank, begins_name, continues_name, is_name, operator_text, unescaped_text, is_trimmed, SpellsOne, Spells, matcher_pieces, without_opening, without_closing}
-use Rattle.am_labels.specs.MatcherReading.{ReturnsReading, read_body, read_operator, read_name, read_piece, read_each_piece, read_list, without_leading_blanks, without_trailing_blanks, ◌>>=◌}
+use Rattle.am_labels.specs.MatcherText.{is_space, is_blank, begins_name, continues_name, is_name, operator_text, unescaped_text, is_trimmed, SpellsOne, Spells, matcher_pieces, without_opening, without_closing, pieces_of_words, WordsSpell}
+use Rattle.am_labels.specs.MatcherReading.{ReturnsReading, read_body, read_operator, read_name, read_piece, read_each_piece, read_list, read_words, without_leading_blanks, without_trailing_blanks, ◌>>=◌}
 use Rattle.am_labels.proofs.MatcherTextSteps.{whole_piece}
 use Rattle.am_labels.proofs.MatcherTextLists.{drop_prefix, take_prefix, all_of_prefix, first_after_prefix, all_append, all_of_suffix, last_before_suffix, take_before_suffix}
 use Rattle.am_labels.proofs.MatcherTextBodies.{body_is_read, read_is_body}
@@ -248,23 +248,38 @@ pub list_is_spelled : (text : List ℕ) (ms : List Condition) → read_list text
 unfolding read_list
 list_is_spelled text ms e = each_is_spelled (matcher_pieces (without_closing (without_opening text))) ms e
 
+pub words_are_read : (words : List (List ℕ)) (ms : List Condition) → WordsSpell words ms
+    → read_words words ≡ Some ms
+unfolding read_words
+words_are_read words ms s = each_is_read (pieces_of_words words) ms s
+
+words_are_spelled : (words : List (List ℕ)) (ms : List Condition) → read_words words ≡ Some ms
+    → WordsSpell words ms
+unfolding read_words
+words_are_spelled words ms e = each_is_spelled (pieces_of_words words) ms e
+
+pub one_list_of_words : (words : List (List ℕ)) (ms ns : List Condition) → WordsSpell words ms
+    → WordsSpell words ns → ms ≡ ns
+one_list_of_words words ms ns s t =
+    same_Some ms ns (sym (words_are_read words ms s) ∙ words_are_read words ns t)
+
 pub one_list : (text : List ℕ) (ms ns : List Condition) → Spells text ms → Spells text ns → ms ≡ ns
 one_list text ms ns s t = same_Some ms ns (sym (list_is_read text ms s) ∙ list_is_read text ns t)
 
 -- ---- an answer of the reader
 
-pub ok_is_spelled : {X : Type 0} (view : X → List Condition) (text : List ℕ) (r : Result X Kind) → ReturnsReading view r (read_list text) → IfOk r (λ x. Spells text (view x))
-ok_is_spelled view text (Ok x) g = list_is_spelled text (view x) g
-ok_is_spelled view text (Err kind) g = tt
+pub ok_is_spelled : {X : Type 0} (view : X → List Condition) (words : List (List ℕ)) (r : Result X Kind) → ReturnsReading view r (read_words words) → IfOk r (λ x. WordsSpell words (view x))
+ok_is_spelled view words (Ok x) g = words_are_spelled words (view x) g
+ok_is_spelled view words (Err kind) g = tt
 
-pub ok_is_only : {X : Type 0} (view : X → List Condition) (text : List ℕ) (r : Result X Kind) → ReturnsReading view r (read_list text) → (ms : List Condition) → Spells text ms → IfOk r (λ x. view x ≡ ms)
-ok_is_only view text (Ok x) g ms s = same_Some (view x) ms (sym g ∙ list_is_read text ms s)
-ok_is_only view text (Err kind) g ms s = tt
+pub ok_is_only : {X : Type 0} (view : X → List Condition) (words : List (List ℕ)) (r : Result X Kind) → ReturnsReading view r (read_words words) → (ms : List Condition) → WordsSpell words ms → IfOk r (λ x. view x ≡ ms)
+ok_is_only view words (Ok x) g ms s = same_Some (view x) ms (sym g ∙ words_are_read words ms s)
+ok_is_only view words (Err kind) g ms s = tt
 
-pub refused_is_none : {X : Type 0} (view : X → List Condition) (text : List ℕ) (r : Result X Kind) → ReturnsReading view r (read_list text) → IfErr r (λ kind. kind ≢ Memory → (kind ≡ BadMatcher) × ((ms : List Condition) → Spells text ms → ⊥))
-refused_is_none view text (Ok x) g = tt
-refused_is_none view text (Err kind) (inl memory) = λ other. absurd (other memory)
-refused_is_none view text (Err kind) (inr none) = λ other. (none.0, λ ms s. none-some ms (sym none.1 ∙ list_is_read text ms s))
+pub refused_is_none : {X : Type 0} (view : X → List Condition) (words : List (List ℕ)) (r : Result X Kind) → ReturnsReading view r (read_words words) → IfErr r (λ kind. kind ≢ Memory → (kind ≡ BadMatcher) × ((ms : List Condition) → WordsSpell words ms → ⊥))
+refused_is_none view words (Ok x) g = tt
+refused_is_none view words (Err kind) (inl memory) = λ other. absurd (other memory)
+refused_is_none view words (Err kind) (inr none) = λ other. (none.0, λ ms s. none-some ms (sym none.1 ∙ words_are_read words ms s))
 
 name_is_some : (name : List ℕ) → is_name name ≡ true → name ≢ []
 name_is_some name h e = false≢true (rw e at h)
@@ -274,7 +289,7 @@ each_named ps [] h = tt
 each_named [] (s ∷ ss) h = absurd h
 each_named (p ∷ ps) (s ∷ ss) h = (name_is_some (s.name) h.0.name, each_named ps ss h.1)
 
-pub ok_is_named : (text : List ℕ) (r : Result (Vec Condition Global) Kind) → ReturnsReading (λ (list : Vec Condition Global). list.items) r (read_list text) → IfOk r (λ list. All (λ s. s.name ≢ []) list.items)
-ok_is_named text (Ok list) g =
-    All-from_recursion (λ (s : Condition). s.name ≢ []) list.items (each_named (matcher_pieces (without_closing (without_opening text))) list.items (list_is_spelled text list.items g))
-ok_is_named text (Err kind) g = tt
+pub ok_is_named : (words : List (List ℕ)) (r : Result (Vec Condition Global) Kind) → ReturnsReading (λ (list : Vec Condition Global). list.items) r (read_words words) → IfOk r (λ list. All (λ s. s.name ≢ []) list.items)
+ok_is_named words (Ok list) g =
+    All-from_recursion (λ (s : Condition). s.name ≢ []) list.items (each_named (pieces_of_words words) list.items (words_are_spelled words list.items g))
+ok_is_named words (Err kind) g = tt

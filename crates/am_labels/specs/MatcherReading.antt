@@ -12,7 +12,7 @@ use Rattle.am_labels.specs.declared.op.Op.TheVariants.{Equal, NotEqual, Matches,
 use Rattle.am_labels.specs.Matcher.{Condition}
 use Rattle.am_labels.specs.MatcherText.{is_space, begins_name, continues_name, is_quote}
 use Rattle.am_labels.specs.MatcherText.{unescaped_text, matcher_pieces}
-use Rattle.am_labels.specs.MatcherText.{without_opening, without_closing}
+use Rattle.am_labels.specs.MatcherText.{without_opening, without_closing, pieces_of_words}
 
 infixl 10 ◌>>=◌
 -- What is read next, given what was read first; nothing where either reads nothing.
@@ -85,3 +85,7 @@ read_each_piece (piece ∷ more) = do
 -- The list that a text spells.
 unfoldable pub read_list : List ℕ → Option (List Condition)
 read_list text = read_each_piece (matcher_pieces (without_closing (without_opening text)))
+
+-- The list that words spell.
+unfoldable pub read_words : List (List ℕ) → Option (List Condition)
+read_words words = read_each_piece (pieces_of_words words)

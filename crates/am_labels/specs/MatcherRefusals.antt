@@ -1,5 +1,5 @@
--- Why a matcher, a list of matchers or a text of one is refused. That memory ran out is no part of
--- it.
+-- Why a matcher, a list of matchers or the words of a list are refused. That memory ran out is no
+-- part of it.
 use Rattle.std.specs.Prelude.{◌≡◌, ◌≢◌, ℕ, ◌<◌, ◌≤◌, List, [], ◌∷◌, ◌++◌, length, Bool, not}
 use Rattle.std.specs.Prelude.{◌&&◌, ◌||◌, if◌then◌else◌, IsTrue, ◌⊎◌}
 use Rattle.std.specs.List.{list_all}
@@ -9,7 +9,7 @@ use Rattle.am_labels.specs.Pattern.{is_pattern}
 use Rattle.am_labels.specs.PatternCut.{in_profile}
 use Rattle.am_labels.specs.declared.limits.TheConstants.{MAX_MATCHERS}
 use Rattle.am_labels.specs.Matcher.{Condition, takes_pattern}
-use Rattle.am_labels.specs.MatcherText.{Spells}
+use Rattle.am_labels.specs.MatcherText.{WordsSpell}
 
 -- The value of a matcher, if it is a pattern, is of the profile, and the grammar reads it; and so
 -- that of each matcher of a list.
@@ -51,14 +51,18 @@ ListRefusedFor ms kind =
     ((MAX_MATCHERS < length ms) × (kind ≡ kinds.Limit))
     ⊎ ((length ms ≤ MAX_MATCHERS) × PatternsRefusedFor ms kind)
 
--- A text spells a list that is refused.
-pub record SpellsListRefusedFor (text : List ℕ) (kind : Kind) : Type 0 where
+-- Words spell a list that is refused.
+pub record WordsSpellListRefusedFor (words : List (List ℕ)) (kind : Kind) : Type 0 where
   pub list : List Condition
-  pub spelled : Spells text list
+  pub spelled : WordsSpell words list
   pub refused : ListRefusedFor list kind
 
--- A text is refused: for `BadMatcher`, it spells no list; or else the list that it spells.
+-- Words are refused: for `BadMatcher`, they spell no list; or else the list that they spell. A text
+-- is refused as the one word that it is.
+abbrev pub WordsRefusedFor : List (List ℕ) → Kind → Type 0
+WordsRefusedFor words kind =
+    ((kind ≡ kinds.BadMatcher) × ((ms : List Condition) → WordsSpell words ms → ⊥))
+    ⊎ WordsSpellListRefusedFor words kind
+
 abbrev pub TextRefusedFor : List ℕ → Kind → Type 0
-TextRefusedFor text kind =
-    ((kind ≡ kinds.BadMatcher) × ((ms : List Condition) → Spells text ms → ⊥))
-    ⊎ SpellsListRefusedFor text kind
+TextRefusedFor text kind = WordsRefusedFor (text ∷ []) kind

@@ -164,3 +164,20 @@ pub record SpellsOne (piece : List ℕ) (m : Condition) : Type 0 where
 -- list.
 abbrev pub Spells : List ℕ → List Condition → Type 0
 Spells text ms = AllZip SpellsOne (matcher_pieces (without_closing (without_opening text))) ms
+
+-- ---- Words.
+
+-- The pieces of words. One word is the text of a list, and has its pieces. Of several words each
+-- is a piece by itself: it is not cut at its commas, and it has no braces to take off.
+abbrev pub pieces_of_words : List (List ℕ) → List (List ℕ)
+pieces_of_words [] = []
+pieces_of_words (text ∷ []) = matcher_pieces (without_closing (without_opening text))
+pieces_of_words (word ∷ next ∷ more) = word ∷ next ∷ more
+
+-- Words spell the list whose conditions their pieces spell one by one. So one word spells what it
+-- spells as a text, and each of several spells one condition.
+-- Source: amtool 0.25, "config routes test": each label is a word of its own; one word: own choice.
+-- Example: `team=db` and `note=a,b` spell two conditions, the second with the value `a,b`;
+-- `{team=db` and `note=a}` spell none.
+abbrev pub WordsSpell : List (List ℕ) → List Condition → Type 0
+WordsSpell words ms = AllZip SpellsOne (pieces_of_words words) ms

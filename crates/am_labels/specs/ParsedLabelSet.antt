@@ -1,4 +1,4 @@
--- What label set a matcher text gives, and why it gives none.
+-- What label set the words of a list of matchers give, and why they give none.
 use Rattle.std.specs.Prelude.{◌≡◌, ℕ, ◌≤◌, List, [], ◌∷◌, length, Bool, true, false, ◌||◌}
 use Rattle.std.specs.Prelude.{fold, IsTrue, ◌⊎◌}
 use Rattle.std.specs.List.{list_all, list_any}
@@ -11,8 +11,8 @@ use Rattle.am_universe.specs.Text.{same_text}
 use Rattle.am_universe.specs.LabelSet.{LabelMap, with_value}
 use Rattle.am_labels.specs.declared.limits.TheConstants.{MAX_MATCHERS}
 use Rattle.am_labels.specs.Matcher.{Condition}
-use Rattle.am_labels.specs.MatcherText.{Spells}
-use Rattle.am_labels.specs.MatcherRefusals.{have_valid_patterns, TextRefusedFor}
+use Rattle.am_labels.specs.MatcherText.{WordsSpell}
+use Rattle.am_labels.specs.MatcherRefusals.{have_valid_patterns, WordsRefusedFor}
 
 -- An operator is `=`; and each operator of a list is.
 abbrev pub is_equality : Op → Bool
@@ -34,13 +34,14 @@ repeats_name (m ∷ ms) =
 abbrev pub set_of_list : List Condition → LabelMap
 set_of_list ms = fold (λ s m. with_value s m.name m.value) finite.empty ms
 
--- A text gives a set: that of the list that it spells, of at most `MAX_MATCHERS`, each with `=`, no
+-- Words give a set: that of the list that they spell, of at most `MAX_MATCHERS`, each with `=`, no
 -- name twice.
 -- Source: own choice.
--- Example: `team="db",severity=""` gives the set with `team` alone.
-pub record SpellsSet (text : List ℕ) (set : LabelMap) : Type 0 where
+-- Example: the one word `team="db",severity=""` gives the set with `team` alone, and so do the two
+-- words `team=db` and `severity=`.
+pub record WordsSpellSet (words : List (List ℕ)) (set : LabelMap) : Type 0 where
   pub list : List Condition
-  pub spelled : Spells text list
+  pub spelled : WordsSpell words list
   pub at_most : length list ≤ MAX_MATCHERS
   pub equalities : IsTrue (are_equalities list)
   pub distinct : repeats_name list ≡ false
@@ -53,14 +54,14 @@ SetRefusedFor ms kind =
     ((are_equalities ms ≡ false) × (kind ≡ kinds.BadMatcher))
     ⊎ ((are_equalities ms ≡ true) × (repeats_name ms ≡ true) × (kind ≡ kinds.Duplicate))
 
--- A text spells a list that is not refused by itself, and gives no set.
-pub record SpellsSetRefusedFor (text : List ℕ) (kind : Kind) : Type 0 where
+-- Words spell a list that is not refused by itself, and gives no set.
+pub record WordsSpellSetRefusedFor (words : List (List ℕ)) (kind : Kind) : Type 0 where
   pub list : List Condition
-  pub spelled : Spells text list
+  pub spelled : WordsSpell words list
   pub at_most : length list ≤ MAX_MATCHERS
   pub valid_patterns : IsTrue (have_valid_patterns list)
   pub refused : SetRefusedFor list kind
 
--- A text is refused as a label set: as a list of matchers, or else because that list gives no set.
-abbrev pub SetTextRefusedFor : List ℕ → Kind → Type 0
-SetTextRefusedFor text kind = TextRefusedFor text kind ⊎ SpellsSetRefusedFor text kind
+-- Words are refused as a label set: as a list of matchers, or else because that list gives no set.
+abbrev pub SetWordsRefusedFor : List (List ℕ) → Kind → Type 0
+SetWordsRefusedFor words kind = WordsRefusedFor words kind ⊎ WordsSpellSetRefusedFor words kind

@@ -28,16 +28,18 @@ pub use Rattle.am_labels.specs.MatcherText.{Spells, is_blank, begins_name, conti
 pub use Rattle.am_labels.specs.MatcherText.{is_quote, is_quoted, unescaped_text}
 pub use Rattle.am_labels.specs.MatcherText.{has_escape, byte_of_escape}
 pub use Rattle.am_labels.specs.MatcherText.{matcher_pieces, without_opening, without_closing}
+pub use Rattle.am_labels.specs.MatcherText.{WordsSpell, pieces_of_words}
 pub use Rattle.am_labels.specs.QuoteState.{IsStateAt}
 pub use Rattle.am_labels.specs.MatcherReading.{ReturnsReading, first_quote}
 pub use Rattle.am_labels.specs.MatcherReading.{without_leading_blanks, without_trailing_blanks}
 unfoldable pub use Rattle.am_labels.specs.MatcherReading.{read_body, read_operator, read_name}
 unfoldable pub use Rattle.am_labels.specs.MatcherReading.{read_piece, read_each_piece, read_list}
+unfoldable pub use Rattle.am_labels.specs.MatcherReading.{read_words}
 pub use Rattle.am_labels.specs.MatcherRefusals.{has_valid_pattern, have_valid_patterns}
 pub use Rattle.am_labels.specs.MatcherRefusals.{MatcherRefusedFor, PatternsRefusedFor}
-pub use Rattle.am_labels.specs.MatcherRefusals.{TextRefusedFor}
+pub use Rattle.am_labels.specs.MatcherRefusals.{ListRefusedFor, WordsRefusedFor, TextRefusedFor}
 pub use Rattle.am_labels.specs.ParsedLabelSet.{is_equality, are_equalities, repeats_name}
-pub use Rattle.am_labels.specs.ParsedLabelSet.{set_of_list, SpellsSet, SetTextRefusedFor}
+pub use Rattle.am_labels.specs.ParsedLabelSet.{set_of_list, WordsSpellSet, SetWordsRefusedFor}
 pub use Rattle.am_labels.specs.BraceToken.{first_closing, brace_len}
 pub use Rattle.am_labels.specs.Row.{TruthRow, row_of, truth_at, truth_on_value}
 pub use Rattle.am_labels.specs.Row.{row_holds, rows_hold}

@@ -1,13 +1,13 @@
-//! Reading the text of a label set.
+//! Reading a label set from the text of a list of matchers, or from words.
 
-ghost use Rattle.std.specs.Prelude.{◌≡◌, ◌≢◌, IfOk, IfErr};
+ghost use Rattle.std.specs.Prelude.{◌≡◌, ◌≢◌, [], ◌∷◌, map, IfOk, IfErr};
 ghost use Rattle.std.specs.List.{list_any};
 ghost use Rattle.am_labels.specs.Words.{same_text, are_equalities, repeats_name, set_of_list};
-ghost use Rattle.am_labels.specs.Words.{SpellsSet, SetTextRefusedFor};
+ghost use Rattle.am_labels.specs.Words.{WordsSpellSet, SetWordsRefusedFor};
 ghost use Rattle.am_universe.specs.declared.kind.Kind.TheVariants as kinds;
 
 use crate::Matcher;
-use crate::matcher_text::parse_matchers;
+use crate::matcher_text::parse_words;
 use am_universe::{Kind, LabelSet};
 use std::alloc::{AllocError, Global};
 
@@ -18,10 +18,26 @@ use std::alloc::{AllocError, Global};
 /// `Duplicate`, a name stands twice, also where a value is empty. `Memory` comes wherever memory
 /// ran out.
 pub fn parse_set(alloc: Global, text: &str) -> Result<LabelSet, Kind>
-    ensures spelled { IfOk result (λ set. SpellsSet text.now set) }
-    ensures refused { IfErr result (λ kind. kind ≢ kinds.Memory → SetTextRefusedFor text.now kind) }
+    ensures spelled { IfOk result (λ set. WordsSpellSet (text.now ∷ []) set) }
+    ensures refused { IfErr result (λ kind. kind ≢ kinds.Memory
+        → SetWordsRefusedFor (text.now ∷ []) kind) }
 {
-    let matchers = parse_matchers(alloc, text)?;
+    parse_set_words(alloc, &[text])
+}
+
+/// Reads a label set from words, each with `=`. One word is read as `parse_set` reads it, and each
+/// of several is one matcher, whose value may have commas, as `note=a,b`.
+///
+/// The first of: `BadMatcher`, one of several words is no matcher; `Limit`, they are more than
+/// `MAX_MATCHERS`; the refusals of their patterns, as `parse_matchers` has them; and then those of
+/// `parse_set`. `Memory` comes wherever memory ran out.
+pub fn parse_set_words(alloc: Global, words: &[&str]) -> Result<LabelSet, Kind>
+    ensures spelled { IfOk result (λ set.
+        WordsSpellSet (map (λ word. word.now) words.now) set) }
+    ensures refused { IfErr result (λ kind. kind ≢ kinds.Memory
+        → SetWordsRefusedFor (map (λ word. word.now) words.now) kind) }
+{
+    let matchers = parse_words(alloc, words)?;
     if !are_equalities(matchers.as_slice()) {
         return Err(Kind::BadMatcher);
     }

@@ -1,5 +1,6 @@
 //! Facts about the definitions alone: each is the contract of a function with an empty body.
-ghost use Rattle.std.specs.Prelude.{◌≡◌, ◌↔◌, ℕ, List, [], Some, map, false, IsTrue, Contains};
+ghost use Rattle.std.specs.Prelude.{◌≡◌, ◌↔◌, ℕ, List, [], ◌∷◌, Some, map, false};
+ghost use Rattle.std.specs.Prelude.{IsTrue, Contains};
 ghost use Rattle.std.specs.List.Sorted.{IsStrictlySortedBy};
 ghost use Rattle.std.specs.Ordering.{nat_cmp};
 ghost use Rattle.std.specs.Cmp.Lexicographic.{slice_cmp};
@@ -9,6 +10,7 @@ ghost use Rattle.am_labels.specs.declared.limits.TheConstants.{MAX_MATCHERS, MAX
 ghost use Rattle.am_labels.specs.Words.{Condition, condition_holds, all_hold};
 ghost use Rattle.am_labels.specs.Words.{Piece, IsJoinOf, IsInProfile, in_profile};
 ghost use Rattle.am_labels.specs.Words.{row_of, row_holds, rows_hold, Spells, read_list};
+ghost use Rattle.am_labels.specs.Words.{WordsSpell};
 ghost use Rattle.am_labels.specs.Words.{repeats_name, set_of_list};
 
 pub use am_universe::laws::{
@@ -42,6 +44,14 @@ pub fn the_profile_is_decided()
 pub fn one_list_a_text()
     ensures same_list { (text : List ℕ) (ms ns : List Condition)
         → Spells text ms → Spells text ns → ms ≡ ns }
+{}
+
+/// Words spell at most one list of matchers, and one word spells what it spells as a text.
+pub fn one_list_of_words()
+    ensures same_list { (words : List (List ℕ)) (ms ns : List Condition)
+        → WordsSpell words ms → WordsSpell words ns → ms ≡ ns }
+    ensures one_word { (text : List ℕ) (ms : List Condition)
+        → WordsSpell (text ∷ []) ms ↔ Spells text ms }
 {}
 
 /// A text spells a list exactly where reading it step by step gives that list.

@@ -45,7 +45,7 @@ mod label_set_text;
 mod matcher_text;
 mod quotes;
 
-pub use label_set_text::parse_set;
+pub use label_set_text::{parse_set, parse_set_words};
 pub use matcher_text::parse_matchers;
 
 // Where a text of matchers ends in a question.

@@ -1,18 +1,20 @@
 //! Reading the text of a list of matchers.
 
-ghost use Rattle.std.specs.Prelude.{◌≡◌, ◌≢◌, ◌≤◌, List, [], length, IsTrue, IfOk, IfErr, IsOk};
+ghost use Rattle.std.specs.Prelude.{◌≡◌, ◌≢◌, ◌≤◌, List, [], length, map};
+ghost use Rattle.std.specs.Prelude.{IsTrue, IfOk, IfErr, IsOk};
 ghost use Rattle.std.specs.Prelude.{string_bytes};
 ghost use Rattle.std.specs.Str.{IsUtf8, IsAscii};
 ghost use Rattle.std.specs.List.{All, prefix_len};
 ghost use Rattle.am_universe.specs.declared.kind.Kind.TheVariants as kinds;
 ghost use Rattle.am_labels.specs.Words as spec;
-ghost use Rattle.am_labels.specs.Words.{have_valid_patterns, PatternsRefusedFor, TextRefusedFor};
-ghost use Rattle.am_labels.specs.Words.{Spells, ReturnsReading, is_blank, begins_name};
+ghost use Rattle.am_labels.specs.Words.{have_valid_patterns, PatternsRefusedFor};
+ghost use Rattle.am_labels.specs.Words.{WordsRefusedFor, TextRefusedFor};
+ghost use Rattle.am_labels.specs.Words.{Spells, WordsSpell, ReturnsReading, is_blank, begins_name};
 ghost use Rattle.am_labels.specs.Words.{continues_name, unescaped_text, matcher_pieces};
 ghost use Rattle.am_labels.specs.Words.{without_opening, without_closing};
 ghost use Rattle.am_labels.specs.Words.{without_leading_blanks, without_trailing_blanks};
 ghost use Rattle.am_labels.specs.Words.{first_quote, read_body, read_operator, read_name};
-ghost use Rattle.am_labels.specs.Words.{read_piece, read_each_piece, read_list};
+ghost use Rattle.am_labels.specs.Words.{read_piece, read_each_piece, read_list, read_words};
 
 use crate::limits::MAX_MATCHERS;
 use crate::quotes::QuoteState;
@@ -52,7 +54,19 @@ pub fn parse_matchers(alloc: Global, text: &str) -> Result<Matchers, Kind>
     ensures valid_patterns { IfOk result (λ ms. IsTrue (have_valid_patterns ms)) }
     ensures refused { IfErr result (λ kind. kind ≢ kinds.Memory → TextRefusedFor text.now kind) }
 {
-    let list = read_list(alloc, text)?;
+    parse_words(alloc, &[text])
+}
+
+/// Reads a list of matchers from words: one word is the text of a list, and each of several is one
+/// matcher. They are refused as texts are, for `BadMatcher` where they spell no list.
+pub(crate) fn parse_words(alloc: Global, words: &[&str]) -> Result<Matchers, Kind>
+    ensures spelled { IfOk result (λ ms. WordsSpell (map (λ word. word.now) words.now) ms) }
+    ensures at_most { IfOk result (λ ms. length ms ≤ MAX_MATCHERS) }
+    ensures valid_patterns { IfOk result (λ ms. IsTrue (have_valid_patterns ms)) }
+    ensures refused { IfErr result (λ kind. kind ≢ kinds.Memory
+        → WordsRefusedFor (map (λ word. word.now) words.now) kind) }
+{
+    let list = read_list(alloc, words)?;
     if list.len() > MAX_MATCHERS {
         return Err(Kind::Limit);
     }
@@ -75,20 +89,45 @@ fn matchers_of(alloc: Global, list: Vec<Condition>) -> Result<Matchers, Kind>
     Ok(matchers)
 }
 
-/// The list of matchers that a text spells, however long. `BadMatcher` where it spells none;
+/// The list of matchers that words spell, however long. `BadMatcher` where they spell none;
 /// `Memory`.
-fn read_list(alloc: Global, text: &str) -> Result<Vec<Condition>, Kind>
-    ensures spelled { IfOk result (λ list. Spells text.now list.items) }
-    ensures only { (ms : List spec.Condition) → Spells text.now ms
+fn read_list(alloc: Global, words: &[&str]) -> Result<Vec<Condition>, Kind>
+    ensures spelled { IfOk result (λ list.
+        WordsSpell (map (λ word. word.now) words.now) list.items) }
+    ensures only { (ms : List spec.Condition) → WordsSpell (map (λ word. word.now) words.now) ms
         → IfOk result (λ list. list.items ≡ ms) }
     ensures named { IfOk result (λ list. All (λ m. m.name ≢ []) list.items) }
     ensures refused { IfErr result (λ kind. kind ≢ kinds.Memory → (kind ≡ kinds.BadMatcher)
-        × ((ms : List spec.Condition) → Spells text.now ms → ⊥)) }
+        × ((ms : List spec.Condition) → WordsSpell (map (λ word. word.now) words.now) ms → ⊥)) }
 {
-    read_text(alloc, text)
+    read_words(alloc, words)
 }
 
-// The same. Its contract names the function that is computed, and the one above what a text spells.
+// The same. Its contract names the function that is computed, and the one above what words spell.
+fn read_words(alloc: Global, words: &[&str]) -> Result<Vec<Condition>, Kind>
+    ensures { ReturnsReading (λ list. list.items) result
+        (read_words (map (λ word. word.now) words.now)) }
+{
+    if words.len() == 1 {
+        read_text(alloc, words[0])
+    } else {
+        read_each_word(alloc, words)
+    }
+}
+
+/// Reads each word as one piece.
+fn read_each_word(alloc: Global, words: &[&str]) -> Result<Vec<Condition>, Kind>
+    ensures { ReturnsReading (λ list. list.items) result
+        (read_each_piece (map (λ word. word.now) words.now)) }
+{
+    let mut list = Vec::new(alloc);
+    for word in words {
+        list.push(read_piece(alloc, word.as_bytes())?)?;
+    }
+    Ok(list)
+}
+
+/// Reads the text of a list.
 #[tactic(auto, unfolding(crate::specs::MatcherReading::read_list))]
 fn read_text(alloc: Global, text: &str) -> Result<Vec<Condition>, Kind>
     ensures { ReturnsReading (λ list. list.items) result (read_list text.now) }

@@ -8,7 +8,7 @@ use Rattle.am_universe.specs.declared.kind.Kind.TheVariants as kinds
 use Rattle.am_files.specs.ConfigFile.{Configuration}
 use Rattle.am_eval.specs.Tree.{Tree, Part, Not, And, Or}
 use Rattle.am_eval.specs.Question.{Question}
-use Rattle.am_eval.proofs.SetRefusals.{text_accepted, text_kind}
+use Rattle.am_eval.proofs.SetRefusals.{words_accepted, words_kind}
 use Rattle.am_questions.specs.declared.limits.TheConstants.{MAX_TOKENS}
 use Rattle.am_questions.specs.Tokens.{Token}
 use Rattle.am_questions.specs.Grammar.{Written, WrittenAny, WrittenSilenced, WrittenInhibited}
@@ -34,7 +34,7 @@ part_meant c (WrittenReceiver name) kind meant refused =
 part_meant c (WrittenEnds text) kind meant refused = absurd (refused.1 meant.1.0 meant.1.1)
 part_meant c (WrittenEnters text) kind meant refused = absurd (refused.1 meant.1.0 meant.1.1)
 part_meant c (WrittenBraces text) kind meant refused =
-    text_accepted text meant.1.0 kind meant.1.1 meant.1.2 meant.1.3 refused
+    words_accepted (text ∷ []) meant.1.0 kind meant.1.1 meant.1.2 meant.1.3 refused
 
 part_kind : (c : Configuration) (w : Written) (kind other : Kind) → PartRefusedFor c w kind
     → PartRefusedFor c w other → kind ≢ kinds.Pattern → other ≢ kinds.Pattern → kind ≡ other
@@ -45,7 +45,7 @@ part_kind c (WrittenReceiver name) kind other refused again h k = refused.0 ∙ 
 part_kind c (WrittenEnds text) kind other refused again h k = refused.0 ∙ sym again.0
 part_kind c (WrittenEnters text) kind other refused again h k = refused.0 ∙ sym again.0
 part_kind c (WrittenBraces text) kind other refused again h k =
-    text_kind text kind other refused again h k
+    words_kind (text ∷ []) kind other refused again h k
 
 -- ---- Lists of parts.
 

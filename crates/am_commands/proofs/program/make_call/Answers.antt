@@ -1,5 +1,5 @@
 -- The first fault of a call over the bytes of files is that of the request.
-use Rattle.std.proofs.Common.{◌≢◌, ℕ, List, sym, subst, option_copied}
+use Rattle.std.proofs.Common.{◌≢◌, ℕ, List, map, ap, sym, subst, option_copied}
 use Rattle.am_universe.specs.declared.fault.Fault.{Fault}
 use Rattle.am_universe.specs.declared.kind.Kind.TheVariants as kinds
 use Rattle.am_universe.specs.Sink.{Wrote}
@@ -55,22 +55,27 @@ returns-in-Ok-clause-done g c =
 
 pub returns-in-Explain-clause-first : goal.returns-in-Explain-clause-first
 returns-in-Explain-clause-first g c =
-    if_failed c.explain.result
+    let given : List (List ℕ) = map (λ word. word.now) c.as_slice.result.now in
+    if_failed c.explain_words.result
     (λ (fault : Fault). fault.kind ≢ kinds.Write → fault.kind ≢ kinds.Memory
-    → IsFirstFaultOfCall (explain_stages (world_inputs_of c.world_files-world.result)
-    c.in-Explain.set.now) fault.place (refusal_of fault))
+    → IsFirstFaultOfCall (explain_stages (world_inputs_of c.world_files-world.result) given)
+    fault.place (refusal_of fault))
     (λ (fault : Fault). fault.kind ≢ kinds.Write → fault.kind ≢ kinds.Memory
-    → IsFirstFaultOfCall (request_stages c.args.request c.args.files.now) fault.place
+    → IsFirstFaultOfCall (request_stages c.args.request.now c.args.files.now) fault.place
     (refusal_of fault))
     (λ fault told written remembered. subst
     (λ (request : Request). IsFirstFaultOfCall (request_stages request c.args.files.now) fault.place
     (refusal_of fault))
     (sym c.in-Explain.is)
     (subst
-    (λ (world : WorldInputs). IsFirstFaultOfCall (explain_stages world c.in-Explain.set.now)
-    fault.place (refusal_of fault))
-    c.world_files-world.ensures (told written remembered)))
-    c.explain.ensures.first
+    (λ (words : List (List ℕ)). IsFirstFaultOfCall
+    (explain_stages (world_inputs c.args.files.now) words) fault.place (refusal_of fault))
+    (ap (map (λ word. word.now)) c.as_slice.ensures.value)
+    (subst
+    (λ (world : WorldInputs). IsFirstFaultOfCall (explain_stages world given) fault.place
+    (refusal_of fault))
+    c.world_files-world.ensures (told written remembered))))
+    c.explain_words.ensures.first
 
 pub returns-in-Universe-clause-first : goal.returns-in-Universe-clause-first
 returns-in-Universe-clause-first g c =
@@ -80,7 +85,7 @@ returns-in-Universe-clause-first g c =
     → IsFirstFaultOfCall (making_stages (world_inputs_of c.world_files-world.result) form)
     fault.place (refusal_of fault))
     (λ (fault : Fault). fault.kind ≢ kinds.Write → fault.kind ≢ kinds.Memory
-    → IsFirstFaultOfCall (request_stages c.args.request c.args.files.now) fault.place
+    → IsFirstFaultOfCall (request_stages c.args.request.now c.args.files.now) fault.place
     (refusal_of fault))
     (λ fault told written remembered. subst
     (λ (request : Request). IsFirstFaultOfCall (request_stages request c.args.files.now) fault.place
@@ -100,7 +105,7 @@ returns-in-CheckUniverse-clause-first g c =
     → IsFirstFaultOfCall (checking_stages bytes (world_inputs_of c.world_files-world.result))
     fault.place (refusal_of fault))
     (λ (fault : Fault). fault.kind ≢ kinds.Write → fault.kind ≢ kinds.Memory
-    → IsFirstFaultOfCall (request_stages c.args.request c.args.files.now) fault.place
+    → IsFirstFaultOfCall (request_stages c.args.request.now c.args.files.now) fault.place
     (refusal_of fault))
     (λ fault told written remembered. subst
     (λ (request : Request). IsFirstFaultOfCall (request_stages request c.args.files.now) fault.place

@@ -1,5 +1,5 @@
 -- What was read is accepted, and what is written is what was found about it.
-use Rattle.std.proofs.Common.{◌≡◌, ◌≢◌, ℕ, List, [], ◌∷◌, inl, subst}
+use Rattle.std.proofs.Common.{◌≡◌, ◌≢◌, ℕ, List, [], ◌∷◌, map, inl, subst}
 use Rattle.am_universe.specs.declared.fault.Fault.{Fault}
 use Rattle.am_universe.specs.declared.kind.Kind.TheVariants as kinds
 use Rattle.am_universe.specs.LabelSet.{LabelMap}
@@ -17,7 +17,7 @@ use Rattle.am_eval.specs.Faults.{IsFirstFaultOfCall, set_stage}
 use Rattle.am_eval.specs.WorldInputs.{world_inputs_of, world_stages}
 use Rattle.am_eval.specs.Explanation.{explain_stages}
 use Rattle.am_eval.proofs.FirstFaults.{first_of_more, first_behind_world, handed_on}
-use Rattle.am_commands.proofs.explaining.explain.Goals as goal
+use Rattle.am_commands.proofs.explaining.explain_words.Goals as goal
 
 -- the text of what was found
 text_of_found : (w : World) (s : LabelMap) (config : Configuration) (paths : List (List ℕ))
@@ -32,23 +32,25 @@ pub returns-in_err-world-clause-first : goal.returns-in_err-world-clause-first
 returns-in_err-world-clause-first g c =
     let fault = c.in_err-world.field-0.0 in
     let inputs = world_inputs_of c.args.files.now in
+    let words : List (List ℕ) = map (λ word. word.now) c.args.words.now in
     handed_on
     (λ (f : Fault). f.kind ≢ kinds.Write → f.kind ≢ kinds.Memory
-    → IsFirstFaultOfCall (explain_stages inputs c.args.set.now) f.place (refusal_of f))
+    → IsFirstFaultOfCall (explain_stages inputs words) f.place (refusal_of f))
     fault c.from_residual.result c.from_residual.ensures.1
-    (λ written remembered. first_of_more (world_stages inputs) (set_stage c.args.set.now ∷ [])
+    (λ written remembered. first_of_more (world_stages inputs) (set_stage words ∷ [])
     fault.place (refusal_of fault) (c.in_err-world.ensures.first remembered))
 
 pub returns-in_err-set-clause-first : goal.returns-in_err-set-clause-first
 returns-in_err-set-clause-first g c =
     let fault = c.in_err-set.field-0.0 in
     let inputs = world_inputs_of c.args.files.now in
+    let words : List (List ℕ) = map (λ word. word.now) c.args.words.now in
     handed_on
     (λ (f : Fault). f.kind ≢ kinds.Write → f.kind ≢ kinds.Memory
-    → IsFirstFaultOfCall (explain_stages inputs c.args.set.now) f.place (refusal_of f))
+    → IsFirstFaultOfCall (explain_stages inputs words) f.place (refusal_of f))
     fault c.from_residual-in_err-set.result c.from_residual-in_err-set.ensures.1
     (λ written remembered. first_behind_world inputs c.in_ok-world.world
-    (set_stage c.args.set.now ∷ []) fault.place (refusal_of fault) c.in_ok-world.ensures.accepts
+    (set_stage words ∷ []) fault.place (refusal_of fault) c.in_ok-world.ensures.accepts
     (inl (c.in_err-set.ensures.refused remembered)))
 
 pub returns-in-Ok-write_explanation-clause-explained : goal.returns-in-Ok-write_explanation-clause-explained
