@@ -56,7 +56,8 @@ one_start u inputs None start other is asks also = asks ∙ sym also
 one_start u inputs (Some token) start other is asks also =
     let has = has_fingerprint inputs in
     let h : List ℕ = inputs_fingerprint inputs in
-    same_start (sizes u) h h token start other (sizes_of_universe u is) has has asks also
+    let are = sizes_of_universe u is in
+    same_start (sizes u) (sizes u) h h token start other are are has has asks also
 
 pub one_meaning_of_inputs : (inputs : Inputs) (s t : Space) (w x : World) (q r : Question)
     (start other : Start) → AcceptsInputs inputs s w q start → AcceptsInputs inputs t x r other

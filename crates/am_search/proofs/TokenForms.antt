@@ -9,6 +9,7 @@ use Rattle.hex.specs.Hex.{decode_of, decode_sized, encode_lower, is_hex_digit, l
 use Rattle.hex.specs.declared.error.FromHexError.{FromHexError}
 use Rattle.hex.proofs.HexLemmas.{length-encode_with, decode_of-encode_lower, decode_of-ok, decode_of-same, decode_sized-encode_lower, decode_sized-ok, decode_sized-twice}
 use Rattle.am_universe.specs.declared.kind.Kind.{Kind}
+use Rattle.am_universe.specs.declared.kind.Kind.TheVariants.{BadToken, OtherInputs}
 use Rattle.am_universe.specs.Choice.{admits, IsWhole}
 use Rattle.am_search.specs.Judge.{AreSizes}
 use Rattle.am_search.specs.declared.start.Start.{Start}
@@ -114,13 +115,13 @@ same_parts (At c) (After d) l e = absurd (omega (arith, l))
 same_parts (After c) (At d) l e = absurd (omega (arith, l))
 same_parts (After c) (After d) l e = ap After e
 
--- the start and the form are known from the text
-pub same_spelled : (ns : List ℕ) (f g : Option (List ℕ)) (s t : Start) → AreSizes ns → IsStart ns s → IsStart ns t → IsForm f → IsForm g
+-- the start and the form are known from the text, whatever the sizes are
+pub same_spelled : (ns ms : List ℕ) (f g : Option (List ℕ)) (s t : Start) → AreSizes ns → AreSizes ms → IsStart ns s → IsStart ms t → IsForm f → IsForm g
     → spelled_text f s ≡ spelled_text g t → (s ≡ t) × (f ≡ g)
-same_spelled ns f g s t sizes a b h k e =
+same_spelled ns ms f g s t sizes also a b h k e =
     let parts : letter s ∷ form_text f (positions_text (positions s)) ≡ letter t ∷ form_text g (positions_text (positions t)) = sym (spelled_parts f s) ∙ e ∙ spelled_parts g t in
     let forms = same_form f g (positions_text (positions s)) (positions_text (positions t)) h k (ap (drop 1) parts) in
-    let same = joined-injective (positions s) (positions t) (small_positions ns (positions s) sizes.values (start_positions ns s a)) (small_positions ns (positions t) sizes.values (start_positions ns t b)) forms.1 in
+    let same = joined-injective (positions s) (positions t) (small_positions ns (positions s) sizes.values (start_positions ns s a)) (small_positions ms (positions t) also.values (start_positions ms t b)) forms.1 in
     (same_parts s t (ap (λ l. get_or l 0 0) parts) same, forms.0)
 
 -- ---- What is read and what is refused.
@@ -146,20 +147,20 @@ no_token ns text none h start is reads =
     let s = spelled_read ns h text start reads in
     none s.form start (form_of h s.form is s.of) reads.0 s.is
 
-pub same_start : (ns h k text : List ℕ) (s t : Start) → AreSizes ns → IsFingerprint h → IsFingerprint k
-    → ReadsToken ns h text s → ReadsToken ns k text t → s ≡ t
-same_start ns h k text s t sizes is it reads also =
+pub same_start : (ns ms h k text : List ℕ) (s t : Start) → AreSizes ns → AreSizes ms → IsFingerprint h → IsFingerprint k
+    → ReadsToken ns h text s → ReadsToken ms k text t → s ≡ t
+same_start ns ms h k text s t sizes others is it reads also =
     let a = spelled_read ns h text s reads in
-    let b = spelled_read ns k text t also in
-    (same_spelled ns a.form b.form s t sizes reads.0 also.0 (form_of h a.form is a.of) (form_of k b.form it b.of) (a.is ∙ sym b.is)).0
+    let b = spelled_read ms k text t also in
+    (same_spelled ns ms a.form b.form s t sizes others reads.0 also.0 (form_of h a.form is a.of) (form_of k b.form it b.of) (a.is ∙ sym b.is)).0
 
-pub same_old : (ns : List ℕ) (s t : Start) → AreSizes ns → IsStart ns s → IsStart ns t → old_token_text s ≡ old_token_text t → s ≡ t
-same_old ns s t sizes a b e = (same_spelled ns None None s t sizes a b tt tt e).0
+pub same_old : (ns ms : List ℕ) (s t : Start) → AreSizes ns → AreSizes ms → IsStart ns s → IsStart ms t → old_token_text s ≡ old_token_text t → s ≡ t
+same_old ns ms s t sizes others a b e = (same_spelled ns ms None None s t sizes others a b tt tt e).0
 
-pub same_written : (ns h k : List ℕ) (s t : Start) → AreSizes ns → IsStart ns s → IsStart ns t → IsFingerprint h → IsFingerprint k
+pub same_written : (ns ms h k : List ℕ) (s t : Start) → AreSizes ns → AreSizes ms → IsStart ns s → IsStart ms t → IsFingerprint h → IsFingerprint k
     → token_text h s ≡ token_text k t → (s ≡ t) × (h ≡ k)
-same_written ns h k s t sizes a b is it e =
-    let same = same_spelled ns (Some h) (Some k) s t sizes a b is it e in
+same_written ns ms h k s t sizes others a b is it e =
+    let same = same_spelled ns ms (Some h) (Some k) s t sizes others a b is it e in
     (same.0, some_same h k same.1)
 
 pub different : (h : List ℕ) (s t : Start) → token_text h s ≢ old_token_text t
@@ -176,7 +177,7 @@ not_refused ns h text start kind sizes is reads (inl none) = none.1 h start is r
 not_refused ns h text start kind sizes is (at, inl old) (inr others) = different others.1.other others.1.start start (others.1.is_written ∙ sym old)
 not_refused ns h text start kind sizes is (at, inr written) (inr others) =
     let o = others.1 in
-    o.differs (same_written ns o.other h o.start start sizes o.is_start at o.is_fingerprint is (o.is_written ∙ sym written)).1
+    o.differs (same_written ns ns o.other h o.start start sizes sizes o.is_start at o.is_fingerprint is (o.is_written ∙ sym written)).1
 
 no_token_of_others : (ns h text : List ℕ) → IsNoToken ns text → IsTokenOfOthers ns h text → ⊥
 no_token_of_others ns h text none o = none o.other o.start o.is_fingerprint (o.is_start, inr o.is_written)
@@ -186,6 +187,26 @@ one_cause ns h text a b (inl x) (inl y) = x.0 ∙ sym y.0
 one_cause ns h text a b (inl x) (inr y) = absurd (no_token_of_others ns h text x.1 y.1)
 one_cause ns h text a b (inr x) (inl y) = absurd (no_token_of_others ns h text y.1 x.1)
 one_cause ns h text a b (inr x) (inr y) = x.0 ∙ sym y.0
+
+-- ---- Two universes.
+
+-- a token of the old form is told from one that is written, so a written one has one fingerprint
+pub same_fingerprint : (ns ms h k text : List ℕ) (s t : Start) → AreSizes ns → AreSizes ms → IsFingerprint h → IsFingerprint k
+    → ReadsToken ns h text s → ReadsToken ms k text t → (text ≡ old_token_text s) ⊎ (h ≡ k)
+same_fingerprint ns ms h k text s t sizes others is it (a, inl old) also = inl (sym old)
+same_fingerprint ns ms h k text s t sizes others is it (a, inr written) (b, inl old) = absurd (different h s t (written ∙ sym old))
+same_fingerprint ns ms h k text s t sizes others is it (a, inr written) (b, inr too) =
+    inr (same_written ns ms h k s t sizes others a b is it (written ∙ sym too)).1
+
+-- a text that is read as a start over some sizes is no token over sizes of which that is no start
+pub no_start_there : (ns ms h k text : List ℕ) (start : Start) → AreSizes ns → AreSizes ms → IsFingerprint h → ReadsToken ns h text start → (IsStart ms start → ⊥)
+    → RefusesToken ms k text BadToken
+no_start_there ns ms h k text start sizes others is reads none =
+    inl (refl, λ other t it also. none (subst (IsStart ms) (sym (same_start ns ms h other text start t sizes others is it reads also)) also.0))
+
+pub of_other_inputs : (ms h k : List ℕ) (start : Start) → IsStart ms start → IsFingerprint h → h ≢ k → RefusesToken ms k (token_text h start) OtherInputs
+of_other_inputs ms h k start at is differs =
+    inr (refl, record { start = start; other = h; is_start = at; is_fingerprint = is; is_written = refl; differs = differs })
 
 -- ---- For the readers.
 

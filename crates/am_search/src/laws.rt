@@ -10,6 +10,7 @@ ghost use Rattle.std.specs.List.Sorted.{IsStrictlySortedBy};
 ghost use Rattle.am_universe.specs.Words.{Label, IsUniverse, sizes, admits, choices, IsWhole};
 ghost use Rattle.am_universe.specs.Words.{completions};
 ghost use Rattle.am_universe.specs.declared.kind.Kind.{Kind};
+ghost use Rattle.am_universe.specs.declared.kind.Kind.TheVariants as kinds;
 ghost use Rattle.am_search.specs.declared.labels.Labels.{Labels};
 ghost use Rattle.am_search.specs.declared.start.Start.{Start};
 ghost use Rattle.am_search.specs.declared.start.Start.TheVariants.{At, After};
@@ -206,18 +207,33 @@ pub fn pages_in_a_row_are_the_answers()
         → IsChain ns truth start pages → all_choices_of pages ≡ answers_from ns truth start }
 {}
 
-/// Two different starts over the same sizes have different tokens, of the old form as of the other,
-/// and a token that is written is made under one fingerprint alone. So a text is read as one start
-/// at most, whatever the inputs.
+/// Two different starts have different tokens, of the old form as of the other, also where they are
+/// starts over different sizes, and a token that is written is made under one fingerprint alone. So
+/// a text is read as one start at most, whatever the inputs and whatever their labels.
 pub fn one_start_a_token()
-    ensures old { (ns : List ℕ) (s t : Start) → AreSizes ns → IsStart ns s → IsStart ns t
-        → old_token_text s ≡ old_token_text t → s ≡ t }
-    ensures written { (ns h k : List ℕ) (s t : Start) → AreSizes ns → IsStart ns s → IsStart ns t
-        → IsFingerprint h → IsFingerprint k → token_text h s ≡ token_text k t
-        → (s ≡ t) × (h ≡ k) }
-    ensures same_start { (ns h k text : List ℕ) (s t : Start) → AreSizes ns
+    ensures old { (ns ms : List ℕ) (s t : Start) → AreSizes ns → AreSizes ms
+        → IsStart ns s → IsStart ms t → old_token_text s ≡ old_token_text t → s ≡ t }
+    ensures written { (ns ms h k : List ℕ) (s t : Start) → AreSizes ns → AreSizes ms
+        → IsStart ns s → IsStart ms t → IsFingerprint h → IsFingerprint k
+        → token_text h s ≡ token_text k t → (s ≡ t) × (h ≡ k) }
+    ensures same_start { (ns ms h k text : List ℕ) (s t : Start) → AreSizes ns → AreSizes ms
         → IsFingerprint h → IsFingerprint k
-        → ReadsToken ns h text s → ReadsToken ns k text t → s ≡ t }
+        → ReadsToken ns h text s → ReadsToken ms k text t → s ≡ t }
+    ensures same_fingerprint { (ns ms h k text : List ℕ) (s t : Start) → AreSizes ns → AreSizes ms
+        → IsFingerprint h → IsFingerprint k → ReadsToken ns h text s → ReadsToken ms k text t
+        → (text ≡ old_token_text s) ⊎ (h ≡ k) }
+{}
+
+/// A token of a start over some sizes is no token over other sizes of which that is no start,
+/// whatever the inputs are. Where it is a start over these too, a token that was written for it is
+/// refused under any other fingerprint.
+pub fn a_token_of_another_universe_is_refused()
+    ensures no_start_there { (ns ms h k text : List ℕ) (start : Start) → AreSizes ns → AreSizes ms
+        → IsFingerprint h → ReadsToken ns h text start → (IsStart ms start → ⊥)
+        → RefusesToken ms k text kinds.BadToken }
+    ensures other_inputs { (ms h k : List ℕ) (start : Start) → IsStart ms start
+        → IsFingerprint h → h ≢ k
+        → RefusesToken ms k (token_text h start) kinds.OtherInputs }
 {}
 
 /// A start has two tokens for inputs with a fingerprint: the one that is written, and another, that
