@@ -92,7 +92,11 @@ alerts_accepted (Some bytes) alerts r said first =
     not_both (read_alerts_file bytes).result alerts r ((alerts_file_decides bytes).reads alerts said)
     ((alerts_file_first bytes r).1 first)
 
--- a file says one configuration, and one list of alerts
+-- a file says one space, one configuration, one list of alerts, and one of silences
+pub one_space : (bytes : List ℕ) (s t : Space) → FileSaysUniverse bytes s
+    → FileSaysUniverse bytes t → s ≡ t
+one_space bytes s t = says_one (universe_file.file_decides bytes) s t
+
 pub one_configuration : (bytes : List ℕ) (c d : Configuration) → FileSaysConfig bytes c
     → FileSaysConfig bytes d → c ≡ d
 one_configuration bytes c d = says_one (config_file.file_decides bytes) c d
@@ -103,7 +107,31 @@ alerts_once None alerts others said again = said ∙ sym again
 alerts_once (Some bytes) alerts others said again =
     says_one (alerts_file_decides bytes) alerts others said again
 
+silences_once : (file : Option (List ℕ)) (silences others : List Silence)
+    → SaysSilencesIfAny file silences → SaysSilencesIfAny file others → silences ≡ others
+silences_once None silences others said again = said ∙ sym again
+silences_once (Some bytes) silences others said again =
+    says_one (silences_file_decides bytes) silences others said again
+
 -- ---- Worlds.
+
+-- the inputs of a world are accepted as one world
+pub one_world : (inputs : WorldInputs) (w x : World) → AcceptsWorld inputs w
+    → AcceptsWorld inputs x → w ≡ x
+one_world inputs w x said again =
+    let config : w.config ≡ x.config = one_configuration (config_of inputs.config) w.config x.config
+    said.says_config again.says_config in
+    let silences : w.silences ≡ x.silences = silences_once inputs.silences w.silences x.silences
+    said.says_silences again.says_silences in
+    let alerts : w.alerts ≡ x.alerts = alerts_once inputs.alerts w.alerts x.alerts said.says_alerts
+    again.says_alerts in
+    let instant : w.instant ≡ x.instant = said.asks_instant ∙ sym again.asks_instant in
+    λ k. record {
+      config = config k;
+      silences = silences k;
+      alerts = alerts k;
+      instant = instant k;
+    }
 
 instant_accepted : (silences at : Option (List ℕ)) (r : Refusal)
     → instant_fault silences at ≡ None → InstantRefusedFor silences at r → ⊥

@@ -19,6 +19,7 @@ pub mod SimpleParts
 pub mod SiblingLaws
 pub mod SetRefusals
 pub mod AcceptedInputs
+pub mod OneExplanation
 pub mod SomeWay
 pub mod RoutePathLaws
 pub mod RouteConditions

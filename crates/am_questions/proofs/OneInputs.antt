@@ -3,16 +3,9 @@
 use Rattle.std.proofs.Common.{◌≡◌, ℕ, List, Option, Some, None, sym, subst, ◌∙◌}
 use Rattle.am_universe.specs.Universe.{Label, IsUniverse, sizes}
 use Rattle.am_labels.specs.Space.{Space}
-use Rattle.am_json.proofs.Readings.{says_one}
-use Rattle.am_records.specs.UniverseFile.{FileSaysUniverse}
-use Rattle.am_records.specs.SilencesFile.{Silence}
-use Rattle.am_records.proofs.UniverseSays as universe_file
-use Rattle.am_records.proofs.SilencesSays.{silences_file_decides}
 use Rattle.am_eval.specs.World.{World}
-use Rattle.am_eval.specs.Files.{config_of, SaysSilencesIfAny}
-use Rattle.am_eval.specs.WorldInputs.{WorldInputs, AcceptsWorld}
 use Rattle.am_eval.specs.Question.{Question}
-use Rattle.am_eval.proofs.AcceptedInputs.{one_configuration, alerts_once}
+use Rattle.am_eval.proofs.AcceptedInputs.{one_space, one_world}
 use Rattle.am_search.specs.declared.start.Start.{Start}
 use Rattle.am_search.proofs.TokenTexts.{sizes_of_universe}
 use Rattle.am_search.proofs.TokenForms.{same_start}
@@ -21,33 +14,6 @@ use Rattle.am_questions.specs.AskedStart.{AsksStart}
 use Rattle.am_questions.specs.Inputs.{Inputs, inputs_fingerprint, AcceptsInputs}
 use Rattle.am_questions.proofs.HasFingerprint.{has_fingerprint}
 use Rattle.am_questions.proofs.OneMeaning.{one_question}
-
-one_space : (bytes : List ℕ) (s t : Space) → FileSaysUniverse bytes s → FileSaysUniverse bytes t
-    → s ≡ t
-one_space bytes s t = says_one (universe_file.file_decides bytes) s t
-
-silences_once : (file : Option (List ℕ)) (silences others : List Silence)
-    → SaysSilencesIfAny file silences → SaysSilencesIfAny file others → silences ≡ others
-silences_once None silences others said again = said ∙ sym again
-silences_once (Some bytes) silences others said again =
-    says_one (silences_file_decides bytes) silences others said again
-
-pub one_world : (inputs : WorldInputs) (w x : World) → AcceptsWorld inputs w
-    → AcceptsWorld inputs x → w ≡ x
-one_world inputs w x said again =
-    let config : w.config ≡ x.config = one_configuration (config_of inputs.config) w.config x.config
-    said.says_config again.says_config in
-    let silences : w.silences ≡ x.silences = silences_once inputs.silences w.silences x.silences
-    said.says_silences again.says_silences in
-    let alerts : w.alerts ≡ x.alerts = alerts_once inputs.alerts w.alerts x.alerts said.says_alerts
-    again.says_alerts in
-    let instant : w.instant ≡ x.instant = said.asks_instant ∙ sym again.asks_instant in
-    λ k. record {
-      config = config k;
-      silences = silences k;
-      alerts = alerts k;
-      instant = instant k;
-    }
 
 pub one_start : (u : List Label) (inputs : Inputs) (after : Option (List ℕ)) (start other : Start)
     → IsUniverse u → AsksStart u (inputs_fingerprint inputs) after start

@@ -1,0 +1,35 @@
+-- Words are those of one label set, and inputs that are accepted explain it in one way.
+use Rattle.std.proofs.Common.{◌≡◌, ℕ, List, ap, sym, ◌∙◌}
+use Rattle.am_universe.specs.LabelSet.{LabelMap}
+use Rattle.am_labels.specs.ParsedLabelSet.{WordsSpellSet, set_of_list}
+use Rattle.am_labels.proofs.MatcherTextWhole.{one_list_of_words}
+use Rattle.am_eval.specs.World.{World}
+use Rattle.am_eval.specs.Routing.{ends}
+use Rattle.am_eval.specs.Silencing.{silencers}
+use Rattle.am_eval.specs.Inhibition.{inhibitors}
+use Rattle.am_eval.specs.WorldInputs.{WorldInputs}
+use Rattle.am_eval.specs.Explanation.{ExplainsSet, explanation_text}
+use Rattle.am_eval.proofs.AcceptedInputs.{one_world}
+
+pub one_set : (words : List (List ℕ)) (s t : LabelMap) → WordsSpellSet words s
+    → WordsSpellSet words t → s ≡ t
+one_set words s t spelled again =
+    spelled.set_is
+    ∙ ap set_of_list (one_list_of_words words spelled.list again.list spelled.spelled again.spelled)
+    ∙ sym again.set_is
+
+-- what a label set is explained by in a world
+abbrev explained_in : World → LabelMap → List ℕ
+explained_in w s = explanation_text w.config s (ends s w.config) (silencers w s) (inhibitors w s)
+
+pub one_explanation : (inputs : WorldInputs) (words : List (List ℕ)) (explanation other : List ℕ)
+    → ExplainsSet inputs words (λ written. written ≡ explanation)
+    → ExplainsSet inputs words (λ written. written ≡ other) → explanation ≡ other
+one_explanation inputs words explanation other said again =
+    let world : said.world ≡ again.world =
+    one_world inputs said.world again.world said.accepts again.accepts in
+    let set : said.set ≡ again.set = one_set words said.set again.set said.spelled again.spelled in
+    sym said.explanation
+    ∙ ap (λ (w : World). explained_in w said.set) world
+    ∙ ap (explained_in again.world) set
+    ∙ again.explanation
