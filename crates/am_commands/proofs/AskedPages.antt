@@ -1,9 +1,12 @@
 -- Pages of the answers to a question.
 use Rattle.std.proofs.Common.{◌≡◌, ◌≢◌, ℕ, ◌<◌, Bool, List, [], ◌∷◌, ◌++◌, Option, None, Some, IfSome, Result, Ok, Err, IfOk, IfErr, ap, sym, subst, ◌∙◌, refl, arith}
-use Rattle.std.specs.Prelude.{IsTrue}
+use Rattle.std.specs.Prelude.{IsTrue, string_bytes}
 use Rattle.std.specs.List.{filter, flat_map}
 use Rattle.std.proofs.lemmas.Grind.{flat_map-append}
+use Rattle.am_universe.specs.declared.fault.Fault.{Fault}
+use Rattle.am_universe.specs.declared.kind.Kind.TheVariants as kinds
 use Rattle.am_universe.specs.declared.limits.TheConstants.{MAX_LABELS}
+use Rattle.am_universe.specs.declared.place.Place.TheVariants as places
 use Rattle.am_universe.specs.Universe.{Label, IsUniverse, sizes}
 use Rattle.am_universe.specs.Choice.{admits}
 use Rattle.am_universe.specs.Sink.{Wrote}
@@ -31,7 +34,8 @@ use Rattle.am_search.proofs.SameVerdicts.{same_page}
 use Rattle.am_cubes.specs.Verdicts.{verdict_of}
 use Rattle.am_cubes.proofs.Soundness.{yes_says_all, no_says_none, never_open}
 use Rattle.am_questions.specs.Inputs.{Inputs, inputs_fingerprint}
-use Rattle.am_commands.specs.AskOutcome.{AnswersInputs, AnswersInputsUnder, IsAskedOf, answer_page, searched_page}
+use Rattle.am_commands.specs.AskOutcome.{AnswersInputs, AnswersInputsUnder, AnswersInputsInPart, AnswersInputsInPartUnder}
+use Rattle.am_commands.specs.AskOutcome.{IsAskedOf, answer_page, searched_page}
 
 -- ---- The search for the answers to a question.
 
@@ -78,15 +82,19 @@ module _ (s : Space) (w : World) (q : Question) (start : Start) (limit steps : O
       → (searched_page s w q start limit steps).choices ≡ filter (λ c. comes_before c prefix) (answers_from (sizes s.labels) (is_answer s w q) start)
   stopped_page prefix e = stopped_before (sizes s.labels) (is_answer s w q) (verdict_of s w q) start limit steps (question_judges s w q is) some prefix (sym ends ∙ e)
 
+-- without a budget the page of the search is that of the answers
+page_unlimited : (s : Space) (w : World) (q : Question) (start : Start) (limit steps : Option ℕ) → IsUniverse s.labels → steps ≡ None
+    → searched_page s w q start limit steps ≡ answer_page s w q start limit
+page_unlimited s w q start limit steps is none =
+    ap (searched_page s w q start limit) none
+    ∙ same_unstopped (sizes s.labels) (is_answer s w q) (verdict_of s w q) start (question_judges s w q is) limit None refl
+
 -- a call without a budget writes the page of the answers
 pub answers_unlimited : (inputs : Inputs) (limit steps : Option ℕ) (trailer : Trailer) (IsWritten : List ℕ → Type 0) → AnswersInputsUnder inputs limit steps trailer IsWritten → steps ≡ None
     → AnswersInputs inputs limit trailer IsWritten
 answers_unlimited inputs limit steps trailer IsWritten h none =
     let s : Space = h.space in
-    let law = question_judges s h.world h.question h.accepts.says_universe.3.is_universe in
-    let same : searched_page s h.world h.question h.start limit steps ≡ answer_page s h.world h.question h.start limit =
-    ap (searched_page s h.world h.question h.start limit) none
-    ∙ same_unstopped (sizes s.labels) (is_answer s h.world h.question) (verdict_of s h.world h.question) h.start law limit None refl in
+    let same = page_unlimited s h.world h.question h.start limit steps h.accepts.says_universe.3.is_universe none in
     record {
       space = s;
       world = h.world;
@@ -97,6 +105,30 @@ answers_unlimited inputs limit steps trailer IsWritten h none =
       trailer_is = h.trailer_is ∙ ap (λ page. page.trailer) same;
       rest = h.rest ∙ ap (λ page. page.choices ++ rest_after (sizes s.labels) (is_answer s h.world h.question) trailer) same;
     }
+
+-- and a part of it, where a write failed
+part_unlimited : (inputs : Inputs) (limit steps : Option ℕ) (IsWritten : List ℕ → Type 0) → AnswersInputsInPartUnder inputs limit steps IsWritten → steps ≡ None
+    → AnswersInputsInPart inputs limit IsWritten
+part_unlimited inputs limit steps IsWritten h none =
+    let s : Space = h.space in
+    let same = page_unlimited s h.world h.question h.start limit steps h.accepts.says_universe.3.is_universe none in
+    record {
+      space = s;
+      world = h.world;
+      question = h.question;
+      start = h.start;
+      accepts = h.accepts;
+      written = subst (λ (page : AnswerPage). IsWritten (page_text s.labels (inputs_fingerprint inputs) page)) same h.written;
+    }
+
+-- so what is told of a failed write under a budget is so without one
+pub write_unlimited : (result : Result Trailer Fault) (inputs : Inputs) (limit steps : Option ℕ) (IsWritten : List ℕ → Type 0) → steps ≡ None
+    → IfErr result (λ fault. fault.kind ≡ kinds.Write → (fault.place ≡ places.Output) × (string_bytes fault.pointer ≡ []) × AnswersInputsInPartUnder inputs limit steps IsWritten)
+    → IfErr result (λ fault. fault.kind ≡ kinds.Write → (fault.place ≡ places.Output) × (string_bytes fault.pointer ≡ []) × AnswersInputsInPart inputs limit IsWritten)
+write_unlimited (Ok trailer) inputs limit steps IsWritten none told = tt
+write_unlimited (Err fault) inputs limit steps IsWritten none told = λ failed.
+    let there = told failed in
+    (there.0, there.1, part_unlimited inputs limit steps IsWritten there.2 none)
 
 -- ---- Pages in a row.
 

@@ -88,9 +88,21 @@ pub record AnswersInputsUnder (inputs : Inputs) (limit steps : Option ℕ) (trai
       ≡ filter (λ c. comes_before c prefix)
       (answers_from (sizes space.labels) (is_answer space world question) start)
 
--- The inputs are accepted, and of the page of a search for their answers this was written, a part
--- of its text.
-pub record AnswersInputsInPart (inputs : Inputs) (limit steps : Option ℕ)
+-- The inputs are accepted, and of the page of their answers, from the start that they ask for and
+-- under this limit, this was written, a part of its text.
+pub record AnswersInputsInPart (inputs : Inputs) (limit : Option ℕ)
+    (IsWritten : List ℕ → Type 0) : Type 0 where
+  pub space : Space
+  pub world : World
+  pub question : Question
+  pub start : Start
+  pub accepts : AcceptsInputs inputs space world question start
+  pub written : IsWritten (page_text space.labels (inputs_fingerprint inputs)
+      (answer_page space world question start limit))
+
+-- The same under a budget of steps too, if there is one: a part of the page of a search for the
+-- answers was written.
+pub record AnswersInputsInPartUnder (inputs : Inputs) (limit steps : Option ℕ)
     (IsWritten : List ℕ → Type 0) : Type 0 where
   pub space : Space
   pub world : World

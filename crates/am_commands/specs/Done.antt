@@ -13,7 +13,7 @@ use Rattle.am_eval.specs.Explanation.{ExplainsSet, explain_stages}
 use Rattle.am_eval.specs.Faults.{Stage}
 use Rattle.am_questions.specs.Inputs.{Inputs, ask_stages}
 use Rattle.am_coverage.specs.Report.{IsRoutesReport, IsReceiversReport}
-use Rattle.am_commands.specs.AskOutcome.{AnswersInputsUnder, AnswersInputsInPart}
+use Rattle.am_commands.specs.AskOutcome.{AnswersInputsUnder, AnswersInputsInPartUnder}
 use Rattle.am_commands.specs.Reports.{ReportsFiles, report_stages}
 use Rattle.am_universe_command.specs.Universes.{MakesUniverse, making_stages}
 use Rattle.am_universe_command.specs.Universes.{ChecksUniverse, checking_stages}
@@ -70,7 +70,7 @@ IsDone (requests.CheckUniverse routes) files IsWritten =
 
 abbrev pub IsDoneInPart : Request → InputFiles (Vec ℕ) → (List ℕ → Type 0) → Type 0
 IsDoneInPart (requests.Ask question after limit steps) files IsWritten =
-    AnswersInputsInPart (ask_inputs files question.now (option_copied after))
+    AnswersInputsInPartUnder (ask_inputs files question.now (option_copied after))
     (option_map non_zero_u64_get limit) (option_map step_count steps) IsWritten
 IsDoneInPart requests.Dead files IsWritten = IsDone requests.Dead files IsWritten
 IsDoneInPart requests.Receivers files IsWritten = IsDone requests.Receivers files IsWritten

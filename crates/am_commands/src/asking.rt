@@ -9,7 +9,8 @@ ghost use Rattle.am_questions.specs.Words.{inputs_of, ask_stages, inputs_fingerp
 ghost use Rattle.am_eval.specs.Words.{IsFirstFaultOfCall};
 ghost use Rattle.am_search.specs.Words.{IsStart, page_text, trailer_text};
 ghost use Rattle.am_commands.specs.Words.{AnswersInputs, AnswersInputsUnder};
-ghost use Rattle.am_commands.specs.Words.{AnswersInputsInPart, page_of_inputs, IsAskedOf};
+ghost use Rattle.am_commands.specs.Words.{AnswersInputsInPart, AnswersInputsInPartUnder};
+ghost use Rattle.am_commands.specs.Words.{page_of_inputs, IsAskedOf};
 
 use am_cubes::Plan;
 use am_eval::Files;
@@ -86,9 +87,17 @@ pub fn ask<W: Sink>(
         fault.place (refusal_of fault)) }
     ensures memory { IfErr result (λ fault. fault.kind ≡ kinds.Memory
         → (fault.place ≡ places.Memory) × (string_bytes fault.pointer ≡ [])) }
-    ensures write { IfErr result (λ fault. fault.kind ≡ kinds.Write
+
+    // What went out before a write failed is a part, from its front, of what `answered` tells.
+    ensures write { page.now.steps ≡ None → IfErr result (λ fault. fault.kind ≡ kinds.Write
         → (fault.place ≡ places.Output) × (string_bytes fault.pointer ≡ [])
         × AnswersInputsInPart (inputs_of universe.now files.now question.now page.now)
+        page.now.limit (WroteInPart W.taken W.failures out.old out.new)) }
+
+    // The same under a budget, of what `answered_under` tells.
+    ensures write_under { IfErr result (λ fault. fault.kind ≡ kinds.Write
+        → (fault.place ≡ places.Output) × (string_bytes fault.pointer ≡ [])
+        × AnswersInputsInPartUnder (inputs_of universe.now files.now question.now page.now)
         page.now.limit page.now.steps (WroteInPart W.taken W.failures out.old out.new)) }
 
     // Nothing is written after a refusal.

@@ -1,6 +1,6 @@
 -- What was read is accepted, and what is written is the page of its answers.
 use Rattle.am_eval.specs.QuestionView.{question_view}
-use Rattle.am_commands.proofs.AskedPages.{rest_of_page, unstopped_page, stopped_page, answers_unlimited, if_both, if_failed, if_ok, asked_from}
+use Rattle.am_commands.proofs.AskedPages.{rest_of_page, unstopped_page, stopped_page, answers_unlimited, write_unlimited, if_both, if_failed, if_ok, asked_from}
 use Rattle.am_commands.proofs.asking.ask.Goals as goal
 
 pub write_answers-requires : goal.write_answers-requires
@@ -45,8 +45,8 @@ returns-clause-asked g c =
     c.args.page.now.limit c.args.page.now.steps trailer c.requires.limit c.requires.steps answered)
     (returns-clause-answered_under g c)
 
-pub returns-clause-write : goal.returns-clause-write
-returns-clause-write g c =
+pub returns-clause-write_under : goal.returns-clause-write_under
+returns-clause-write_under g c =
     let read = c.in_ok-accepted.accepted in
     if_failed c.write_answers.result _ _
     (λ fault told failed.
@@ -63,3 +63,8 @@ returns-clause-write g c =
       },
     ))
     c.write_answers.ensures.write
+
+pub returns-clause-write : goal.returns-clause-write
+returns-clause-write g c = λ none.
+    write_unlimited c.write_answers.result _ c.args.page.now.limit c.args.page.now.steps _ none
+    (returns-clause-write_under g c)
