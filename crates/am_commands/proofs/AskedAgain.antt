@@ -57,7 +57,7 @@ goes_on_at inputs s w q start next page accepts is ends = record {
 }
 
 -- the page of a call is that of a search, under a budget that is enough
-asked_page : (inputs : Inputs) (asked : Asked) (h : IsAskedOf inputs asked)
+pub asked_page : (inputs : Inputs) (asked : Asked) (h : IsAskedOf inputs asked)
     → IsSearchPage (sizes h.2.space.labels) (verdict_of h.2.space h.2.world h.2.question) h.2.start
     (searched_page h.2.space h.2.world h.2.question h.2.start asked.limit asked.steps)
 asked_page inputs asked h = record {
@@ -70,7 +70,7 @@ asked_page inputs asked h = record {
 }
 
 -- so the inputs with the token of its trailer are accepted
-asked_goes_on : (inputs : Inputs) (asked : Asked) (next : Start) (h : IsAskedOf inputs asked)
+pub asked_goes_on : (inputs : Inputs) (asked : Asked) (next : Start) (h : IsAskedOf inputs asked)
     → start_after asked.trailer ≡ Some next
     → AcceptsInputs (after_token inputs (token_text (inputs_fingerprint inputs) next)) h.2.space h.2.world h.2.question next
 asked_goes_on inputs asked next h ends =

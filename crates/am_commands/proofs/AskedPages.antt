@@ -21,7 +21,7 @@ use Rattle.am_search.specs.declared.trailer.Trailer.{Trailer}
 use Rattle.am_search.specs.declared.trailer.Trailer.TheVariants.{End, Next, Stopped}
 use Rattle.am_search.specs.declared.verdict.Verdict.{Verdict}
 use Rattle.am_search.specs.Judge.{AreSizes, IsJudge}
-use Rattle.am_search.specs.Start.{comes_before, IsStart, answers_from}
+use Rattle.am_search.specs.Start.{comes_before, answers_from}
 use Rattle.am_search.specs.Page.{AnswerPage, page_from, rest_after, IsChain, all_choices_of}
 use Rattle.am_search.specs.BudgetPage.{page_under, IsEnough, IsSearchChain}
 use Rattle.am_search.specs.PageText.{lines_text, page_text}

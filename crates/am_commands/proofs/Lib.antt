@@ -1,4 +1,6 @@
 pub mod AskedPages
 pub mod AskedAgain
+pub mod AskedToTheEnd
 pub mod AcceptedReport
+pub mod OneText
 pub mod EveryAlert

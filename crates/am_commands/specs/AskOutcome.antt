@@ -1,6 +1,6 @@
 -- What `ask` answers. (This project's own.)
 use Rattle.std.specs.Prelude.{◌≡◌, ◌≢◌, ◌<◌, ℕ, List, [], ◌∷◌, ◌++◌, Option, IfSome, MatchOption}
-use Rattle.std.specs.Prelude.{option_map}
+use Rattle.std.specs.Prelude.{option_map, ⊤}
 use Rattle.std.specs.List.{filter}
 use Rattle.am_universe.specs.declared.limits.TheConstants.{MAX_LABELS}
 use Rattle.am_universe.specs.Universe.{sizes}
@@ -148,3 +148,14 @@ AreAskedInARow inputs (asked ∷ more) =
     IsAskedOf inputs asked
     × MatchOption (token_after (inputs_fingerprint inputs) asked.trailer) (more ≡ [])
     (λ token. AreAskedInARow (after_token inputs token) more)
+
+-- Calls in a row, as far as they have come: as above, but the last may end with a token too, behind
+-- which no call was made yet.
+-- Source: own choice.
+-- Example: one call that ends with `# next` and a token; and no call at all.
+abbrev pub AreAskedSoFar : Inputs → List Asked → Type 0
+AreAskedSoFar inputs [] = ⊤
+AreAskedSoFar inputs (asked ∷ more) =
+    IsAskedOf inputs asked
+    × MatchOption (token_after (inputs_fingerprint inputs) asked.trailer) (more ≡ [])
+    (λ token. AreAskedSoFar (after_token inputs token) more)

@@ -1,10 +1,12 @@
 //! Facts about the definitions alone: each is the contract of a function with an empty body.
 ghost use Rattle.std.specs.Prelude.{◌≡◌, ◌↔◌, ℕ, List, [], Some, None, Option, Contains, IsTrue};
+ghost use Rattle.std.specs.Prelude.{◌≤◌, length};
 ghost use Rattle.std.specs.List.{flat_map};
 ghost use Rattle.am_universe.specs.declared.kind.Kind.TheVariants as kinds;
 ghost use Rattle.am_universe.specs.declared.place.Place.{Place};
-ghost use Rattle.am_labels.specs.Words.{Label, IsUniverse, sizes, Space, LabelMap};
+ghost use Rattle.am_labels.specs.Words.{Label, IsUniverse, sizes, choices, Space, LabelMap};
 ghost use Rattle.am_json.specs.Words.{Refusal};
+ghost use Rattle.am_records.specs.UniverseFile.{FileSaysUniverse};
 ghost use Rattle.am_files.specs.Words.{Configuration};
 ghost use Rattle.am_files.specs.Path.{leads_through};
 ghost use Rattle.am_eval.specs.Words.{ends, receivers};
@@ -15,18 +17,20 @@ ghost use Rattle.am_search.specs.declared.trailer.Trailer.{Trailer};
 ghost use Rattle.am_search.specs.declared.trailer.Trailer.TheVariants.{End, Next};
 ghost use Rattle.am_search.specs.Words.{answers_from, AnswerPage, page_from, IsPage, IsChain};
 ghost use Rattle.am_search.specs.Words.{token_text, rest_after, start_after, IsStart};
-ghost use Rattle.am_search.specs.Words.{IsSearchPage, IsSearchChain};
+ghost use Rattle.am_search.specs.Words.{IsSearchPage, IsSearchChain, BeginsLater, IsJudge};
 ghost use Rattle.am_cubes.specs.Words.{verdict_of};
 ghost use Rattle.am_questions.specs.Words.{Inputs, AcceptsInputs, AsksStart, after_token};
 ghost use Rattle.am_questions.specs.Words.{inputs_fingerprint};
 ghost use Rattle.am_search.specs.Words.{lines_text};
-ghost use Rattle.am_commands.specs.Words.{Asked, IsAskedOf, AreAskedInARow};
+ghost use Rattle.am_commands.specs.Words.{Asked, IsAskedOf, AreAskedInARow, AreAskedSoFar};
+ghost use Rattle.am_commands.specs.Words.{AnswersInputsUnder, ReportsFiles};
 ghost use Rattle.am_complete.specs.Words.{IsComplete, coverage_conditions, HasUtf8Texts};
 ghost use Rattle.am_complete.specs.Words.{IsAlertOf};
 ghost use Rattle.am_coverage.specs.declared.coverage.RouteCoverage.TheVariants as route_is;
 ghost use Rattle.am_coverage.specs.declared.coverage.ReceiverCoverage.TheVariants as receiver_is;
 ghost use Rattle.am_coverage.specs.Words.{IsDead, IsNeverEntered, IsUnmatched};
 ghost use Rattle.am_coverage.specs.Words.{route_coverage, receiver_coverage};
+ghost use Rattle.am_coverage.specs.Words.{IsRoutesReport, IsReceiversReport};
 ghost use Rattle.am_commands.specs.Words.{AcceptsReport, report_stages};
 ghost use Rattle.am_commands.specs.Words.{NoAlertEndsAt, NoAlertEnters, NoAlertGoesTo};
 
@@ -98,6 +102,49 @@ pub fn pages_asked_in_a_row_are_one_page()
         → AreAskedInARow inputs row → IsAskedOf inputs whole → whole.limit ≡ None
         → whole.steps ≡ None
         → flat_map (λ (asked : Asked). asked.lines) row ≡ whole.lines }
+{}
+
+/// Calls of `ask` in a row come to an end, whatever their limits and their budgets are. The call
+/// with the token of another begins later. So there are no more calls in a row than the labels of
+/// the universe have choices; and where there are so many, the last has ended with `# end`.
+pub fn calls_in_a_row_come_to_an_end()
+    ensures later { (inputs : Inputs) (first second : Asked) (next : Start)
+        → (asked : IsAskedOf inputs first) → start_after first.trailer ≡ Some next
+        → (again : IsAskedOf (after_token inputs (token_text (inputs_fingerprint inputs) next))
+        second)
+        → BeginsLater (sizes asked.2.space.labels) asked.2.start again.2.start }
+    ensures at_most { (inputs : Inputs) (s : Space) (row : List Asked)
+        → FileSaysUniverse inputs.universe s → AreAskedSoFar inputs row
+        → length row ≤ length (choices (sizes s.labels)) }
+    ensures ended { (inputs : Inputs) (s : Space) (row : List Asked)
+        → FileSaysUniverse inputs.universe s → AreAskedSoFar inputs row
+        → length (choices (sizes s.labels)) ≤ length row → AreAskedInARow inputs row }
+{}
+
+/// The verdicts of a question are a judge of its answers: `Yes` only where every completion of a
+/// prefix is an answer, `No` only where none is, and never `Open` at a whole choice. So all that is
+/// said of judges and of their searches is so of the pages of `ask`.
+pub fn the_verdicts_of_a_question_judge_its_answers()
+    ensures judge { (s : Space) (w : World) (q : Question) → IsUniverse s.labels
+        → IsJudge (sizes s.labels) (is_answer s w q) (verdict_of s w q) }
+{}
+
+/// What `ask` writes under a limit and a budget, what `dead` writes and what `receivers` writes is
+/// one text for the same inputs.
+pub fn what_is_written_is_one_text()
+    ensures ask { (inputs : Inputs) (limit steps : Option ℕ) (page other : List ℕ)
+        (trailer again : Trailer)
+        → AnswersInputsUnder inputs limit steps trailer (λ written. written ≡ page)
+        → AnswersInputsUnder inputs limit steps again (λ written. written ≡ other)
+        → (page ≡ other) × (trailer ≡ again) }
+    ensures dead { (universe_file config_file report other : List ℕ)
+        → ReportsFiles universe_file config_file IsRoutesReport (λ written. written ≡ report)
+        → ReportsFiles universe_file config_file IsRoutesReport (λ written. written ≡ other)
+        → report ≡ other }
+    ensures receivers { (universe_file config_file report other : List ℕ)
+        → ReportsFiles universe_file config_file IsReceiversReport (λ written. written ≡ report)
+        → ReportsFiles universe_file config_file IsReceiversReport (λ written. written ≡ other)
+        → report ≡ other }
 {}
 
 /// Where the files of a report are accepted, they have no first fault, but for a pattern, which the

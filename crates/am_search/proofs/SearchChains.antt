@@ -9,7 +9,7 @@ use Rattle.am_search.specs.declared.start.Start.{Start}
 use Rattle.am_search.specs.declared.start.Start.TheVariants.{At, After}
 use Rattle.am_search.specs.declared.trailer.Trailer.TheVariants.{End}
 use Rattle.am_search.specs.declared.verdict.Verdict.{Verdict}
-use Rattle.am_search.specs.Judge.{IsJudge}
+use Rattle.am_search.specs.Judge.{AreSizes, IsJudge}
 use Rattle.am_search.specs.Start.{comes_before, IsStart, first_of_start, at_or_after, choices_from, answers_from}
 use Rattle.am_search.specs.Visits.{visited}
 use Rattle.am_search.specs.Page.{AnswerPage, page_from, rest_after, IsPage, start_after, answers_from_any, all_choices_of}
@@ -111,7 +111,7 @@ at_later ns f p start some begins a less =
     }
 
 -- fewer choices are left from there on
-later_fewer : (ns : List ℕ) (start next : Start) → BeginsLater ns start next → length (choices_from ns next) < length (choices_from ns start)
+pub later_fewer : (ns : List ℕ) (start next : Start) → BeginsLater ns start next → length (choices_from ns next) < length (choices_from ns start)
 later_fewer ns start next h =
     let f : List ℕ = h.first in
     let d : List ℕ = h.next_first in
@@ -125,7 +125,7 @@ later_fewer ns start next h =
           (in_choices ns f (first_is_whole ns start f h.begins)) (ap not h.later) (ap not (not_itself f)),
     )
 
-later_some : (ns : List ℕ) (start next : Start) → BeginsLater ns start next → 0 < length (choices_from ns next)
+pub later_some : (ns : List ℕ) (start next : Start) → BeginsLater ns start next → 0 < length (choices_from ns next)
 later_some ns start next h = omega (arith, ap length (begins_with ns h.next_first next h.next_begins).1)
 
 -- ---- The start behind a page.
@@ -225,19 +225,22 @@ filtered_at_most test (x ∷ xs) = by (test x) (filtered_at_most test xs)
     by true h = omega arith
     by false h = omega arith
 
+pub from_at_most : (ns : List ℕ) (start : Start) → length (choices_from ns start) ≤ length (choices ns)
+from_at_most ns start = by (first_of_start ns start)
+  where
+    by : (o : Option (List ℕ)) → length (at_or_after o (choices ns)) ≤ length (choices ns)
+    by None = omega arith
+    by (Some f) = filtered_at_most (λ c. not (comes_before c f)) (choices ns)
+
+pub some_choice : (ns : List ℕ) → AreSizes ns → 0 < length (choices ns)
+some_choice ns are =
+    let is = first_completion_is ns [] (positive ns are.values) refl in
+    let c : List ℕ = filled ns [] in
+    member_some (choices ns) c (in_filter (λ d. starts_with nat_eq d []) (choices ns) c (got_at (completions ns []) 0 c is)).0
+
 pub search_chain_ends : (ns : List ℕ) (truth : List ℕ → Bool) (verdict : List ℕ → Verdict) (start : Start) (pages : List AnswerPage) → IsJudge ns truth verdict → IsSearchChain ns verdict start pages
     → length pages ≤ length (choices ns)
 search_chain_ends ns truth verdict start pages law h = elim (at_most_from ns truth verdict start pages law h) [
-  | inl one ↦ omega (arith, one, some)
-  | inr most ↦ omega (arith, most, within (first_of_start ns start))
+  | inl one ↦ omega (arith, one, some_choice ns law.limits)
+  | inr most ↦ omega (arith, most, from_at_most ns start)
 ]
-  where
-    within : (o : Option (List ℕ)) → length (at_or_after o (choices ns)) ≤ length (choices ns)
-    within None = omega arith
-    within (Some f) = filtered_at_most (λ c. not (comes_before c f)) (choices ns)
-
-    some : 0 < length (choices ns)
-    some =
-        let is = first_completion_is ns [] (positive ns law.limits.values) refl in
-        let c : List ℕ = filled ns [] in
-        member_some (choices ns) c (in_filter (λ d. starts_with nat_eq d []) (choices ns) c (got_at (completions ns []) 0 c is)).0
