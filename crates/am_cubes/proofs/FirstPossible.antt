@@ -1,6 +1,6 @@
--- The first choice of a space that passes a test.
-use Rattle.std.proofs.Common.{◌≡◌, ℕ, List, [], ◌∷◌, Bool, true, false, ◌&&◌, Option, Some, None}
-use Rattle.std.proofs.Common.{IfSome, refl, sym, ap, ◌∙◌, inl, inr}
+-- The first choice of a space, and the first that passes a test.
+use Rattle.std.proofs.Common.{◌≡◌, ◌↔◌, ℕ, List, [], ◌∷◌, Bool, true, false, ◌&&◌, Option, Some, None}
+use Rattle.std.proofs.Common.{IfSome, slice_get, refl, sym, ap, ◌∙◌, inl, inr}
 use Rattle.std.specs.List.{find, filter}
 use Rattle.std.proofs.lemmas.Bool.{cases_Bool}
 use Rattle.am_universe.proofs.ListLemmas.{IsIn, Contains-from_IsIn}
@@ -36,3 +36,30 @@ found_of_space s test None e = tt
 found_of_space s test (Some c) e =
     let all = all_choices s in
     (space_choices s c).0 (Contains-from_IsIn all c (is_found test all c (sym e)).0)
+
+-- ---- Without a test.
+
+-- the first that a test finds is the first of those that it keeps
+pub find_first : {X : Type 0} (keep : X → Bool) (xs : List X)
+    → find keep xs ≡ slice_get (filter keep xs) 0
+find_first keep [] = refl
+find_first keep (x ∷ xs) = step (keep x) refl (find_first keep xs)
+  where
+    step : (b : Bool) → keep x ≡ b → find keep xs ≡ slice_get (filter keep xs) 0
+        → find keep (x ∷ xs) ≡ slice_get (filter keep (x ∷ xs)) 0
+    step true e later = rw e refl
+    step false e later = rw e later
+
+-- there is none exactly where the list is empty
+pub no_first : {X : Type 0} (xs : List X) (first : Option X) → first ≡ slice_get xs 0
+    → first ≡ None ↔ xs ≡ []
+no_first [] first e = (λ none. refl, λ empty. e)
+no_first (x ∷ xs) first e = (λ none. cc, λ empty. cc)
+
+pub first_of_space : (s : Space) (first : Option (List ℕ)) → first ≡ slice_get (all_choices s) 0
+    → IfSome first (IsChoiceOf s)
+first_of_space s first e = found_of_space s (λ c. true) first (e ∙ any (all_choices s))
+  where
+    any : (xs : List (List ℕ)) → slice_get xs 0 ≡ find (λ c. true) xs
+    any [] = refl
+    any (c ∷ cs) = refl

@@ -120,3 +120,12 @@ pub conflict_if_any : (ns : List ℕ) (test truth : List ℕ → Bool) (prefix :
 conflict_if_any ns test truth prefix None admitted from reason = tt
 conflict_if_any ns test truth prefix (Some labels) admitted from reason =
     conflict ns test truth labels prefix admitted from reason
+
+-- what is a conflict is one too where nothing is true that was not
+pub narrower : (ns : List ℕ) (other truth : List ℕ → Bool) (labels : Labels) (prefix : List ℕ)
+    → ((c : List ℕ) → other c ≡ false → truth c ≡ false)
+    → IsConflict ns other labels prefix → IsConflict ns truth labels prefix
+narrower ns other truth labels prefix from reason = record {
+  within = reason.within;
+  none_true = λ c whole agrees. from c (reason.none_true c whole agrees);
+}

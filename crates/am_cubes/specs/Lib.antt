@@ -16,5 +16,6 @@ pub mod Words
 pub mod ChoiceEnds
 pub mod RouteWays
 pub mod ImpossibleCubes
+pub mod PossibleRefuter
 pub mod PathRefuter
 pub mod RouteEnds

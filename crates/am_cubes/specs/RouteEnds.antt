@@ -5,7 +5,7 @@ use Rattle.am_cubes.specs.declared.route_ends.RouteEnds.{RouteEnds}
 
 -- The space and the configuration.
 abbrev pub ends_space : RouteEnds → Space
-ends_space routes = routes.space.now
+ends_space routes = routes.possible.space.now
 
 abbrev pub ends_config : RouteEnds → Configuration
 ends_config routes = config_view routes.config.now

@@ -33,10 +33,12 @@ mod plan;
 pub use am_masks::{Cube, Group, JudgedList, Modality};
 pub use plan::Plan;
 
-// The first label set that ends at a route.
+// The first label set of a space, and the first that ends at a route.
+mod possible_choices;
 mod route_ends;
 mod route_ways;
 
+pub use possible_choices::first_possible;
 pub use route_ends::RouteEnds;
 
 // What holds of the definitions by themselves.

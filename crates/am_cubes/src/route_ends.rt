@@ -3,34 +3,29 @@
 ghost use Rattle.std.specs.Prelude.{◌≡◌, IfOk, IfSome};
 ghost use Rattle.std.specs.List.{find};
 ghost use Rattle.std.proofs.Props.{props};
-ghost use Rattle.am_labels.specs.Words.{sizes, all_choices, IsChoiceOf};
+ghost use Rattle.am_labels.specs.Words.{all_choices, IsChoiceOf};
 ghost use Rattle.am_files.specs.Words.{config_view};
-ghost use Rattle.am_search.specs.Words.{AreSizes};
 ghost use Rattle.am_cubes.specs.ChoiceEnds.{is_end_at};
-ghost use Rattle.am_cubes.specs.ImpossibleCubes.{KnowsPossible};
 ghost use Rattle.am_cubes.specs.RouteWays.{KnowsEnds};
 
-use crate::impossible::{impossible_cubes, why_impossible};
+use crate::possible_choices::PossibleRefuter;
 use crate::route_lists::RouteLists;
 use crate::route_ways::{why_not_free, why_not_matched};
 use am_files::{Config, Path};
 use am_labels::{Choice, Space};
 use am_masks::Cube;
 use am_search::{Labels, Refuter, first_by_jumps};
-use am_universe::limits::MAX_LABELS;
 use std::alloc::{AllocError, Global};
 
 /// The routes of a configuration, over a space: each may be asked for the first label set of the
 /// space that ends there.
 #[derive(Drop)]
 pub struct RouteEnds<'a> {
-    space: &'a Space,
+    possible: PossibleRefuter<'a>,
     config: &'a Config,
     routes: RouteLists<Cube>,
-    impossible: Vec<Cube>,
-    ghost are_sizes: { AreSizes (sizes space.now.labels) } by { Prim.hlevel props },
-    ghost knows_ends: { KnowsEnds space.now.labels config.now routes } by { Prim.hlevel props },
-    ghost knows_possible: { KnowsPossible space.now impossible.items } by { Prim.hlevel props },
+    ghost knows_ends: { KnowsEnds possible.space.now.labels
+        config.now routes } by { Prim.hlevel props },
 }
 
 impl<'a> RouteEnds<'a> {
@@ -46,16 +41,12 @@ impl<'a> RouteEnds<'a> {
         ensures space { IfOk result (λ routes. ends_space routes ≡ space.now) }
         ensures config { IfOk result (λ routes. ends_config routes ≡ config_view config.now) }
     {
-        let universe = space.universe();
-        // What `len` promises tells the proof that the sizes are such as a refuter may have.
-        prove!(universe.len() <= MAX_LABELS);
-        let routes = RouteLists::of(alloc, universe, config.root())?;
-        let impossible = impossible_cubes(alloc, space)?;
+        let possible = PossibleRefuter::of(alloc, space)?;
+        let routes = RouteLists::of(alloc, space.universe(), config.root())?;
         Ok(RouteEnds {
-            space,
+            possible,
             config,
             routes,
-            impossible,
         })
     }
 
@@ -67,9 +58,8 @@ impl<'a> RouteEnds<'a> {
         ensures possible { IfSome result (IsChoiceOf (ends_space self.now)) }
     {
         let refuter = PathRefuter {
-            space: self.space,
+            possible: &self.possible,
             routes: &self.routes,
-            impossible: self.impossible.as_slice(),
             path: path.steps(),
         };
         first_by_jumps(&refuter)
@@ -79,11 +69,9 @@ impl<'a> RouteEnds<'a> {
 /// What refutes prefixes none of whose completions is possible and ends at the route at a path.
 #[derive(Drop)]
 struct PathRefuter<'a> {
-    space: &'a Space,
+    possible: &'a PossibleRefuter<'a>,
     routes: &'a RouteLists<Cube>,
-    impossible: &'a [Cube],
     path: &'a [u16],
-    ghost are_sizes: { AreSizes (sizes space.now.labels) } by { Prim.hlevel props },
 }
 
 impl<'a> Refuter for PathRefuter<'a> {
@@ -96,11 +84,11 @@ impl<'a> Refuter for PathRefuter<'a> {
     ghost laws = { refuter_are_sizes };
 
     fn labels(&self) -> usize {
-        self.space.universe().len()
+        self.possible.labels()
     }
 
     fn size(&self, i: usize) -> usize {
-        self.space.universe().size(i)
+        self.possible.size(i)
     }
 
     // The routes on the way come first: one that fails names a single label, so that the search
@@ -109,7 +97,7 @@ impl<'a> Refuter for PathRefuter<'a> {
         if let Some(labels) = why_not_matched(self.routes, self.path, prefix) {
             return Some(labels);
         }
-        if let Some(labels) = why_impossible(self.impossible, prefix) {
+        if let Some(labels) = self.possible.refute(prefix) {
             return Some(labels);
         }
         why_not_free(self.routes, self.path, prefix)
