@@ -6,14 +6,15 @@
 //! routes no label set of a universe ends at, [`receivers`] which receivers none goes to, and
 //! [`explain`] why one label set goes where it goes, or [`explain_words`] where the set is given in
 //! words. [`universe`](universe()) makes a universe that stands for every alert, and
-//! [`check_universe`] says what another one lacks. [`run`] reads a command line and the files that
-//! it names, calls the command and answers the exit status; the program `amcover` is that call and
-//! no more.
+//! [`check_universe`] says what another one lacks. [`fingerprint`] is what a page's token knows of
+//! the inputs. [`run`] reads a command line and the files that it names, calls the command and
+//! answers the exit status; the program `amcover` is that call and no more.
 #![tactic(auto)]
 
 // The layers below: what goes in, how a page ends, and how a fault is written.
 pub use am_eval::Files;
 pub use am_labels::{status, write_fault};
+pub use am_questions::fingerprint;
 pub use am_search::{Page, Trailer};
 
 // The commands.

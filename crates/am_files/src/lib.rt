@@ -6,13 +6,14 @@
 //! faults.
 //!
 //! The public names of the crate `am_records` that callers need are given again here: the readers
-//! of the other input files, and what they answer.
+//! of the other input files, and what they answer. So is [`Space`], what a universe file says.
 #![tactic(auto)]
 
 // How much there may be.
 pub mod limits;
 
-// The layer below: universe files, instants, silences and alerts.
+// The layers below: universe files and what they say, instants, silences and alerts.
+pub use am_labels::Space;
 pub use am_records::{
     Alerts, Silence, Silences, parse_instant, read_alerts, read_silences, read_universe,
 };
