@@ -37,6 +37,7 @@ pub enum Call {
     Pairs,
     Inhibited,
     Matchers,
+    Matcher,
     Set,
     Pattern,
     Match,
@@ -112,6 +113,7 @@ pub fn call_named(name: &[u8]) -> Option<Call> {
         b"pairs" => Some(Call::Pairs),
         b"inhibited" => Some(Call::Inhibited),
         b"matchers" => Some(Call::Matchers),
+        b"matcher" => Some(Call::Matcher),
         b"set" => Some(Call::Set),
         b"pattern" => Some(Call::Pattern),
         b"match" => Some(Call::Match),
@@ -162,6 +164,7 @@ pub fn given(
         Call::Pairs => of_pairs(alloc, over.with, text, brief),
         Call::Inhibited => of_inhibited(alloc, &over.files(None), utf8(alloc, text)?),
         Call::Matchers => of_matchers(alloc, utf8(alloc, text)?),
+        Call::Matcher => of_matcher(alloc, text),
         Call::Set => of_set(alloc, utf8(alloc, text)?),
         Call::Pattern => of_pattern(alloc, utf8(alloc, text)?),
         Call::Match => of_match(alloc, text),
@@ -291,6 +294,35 @@ fn operator_text(op: Op) -> &'static str {
         Op::Matches => "=~",
         Op::NotMatches => "!~",
     }
+}
+
+/// The matcher that is made of a name, an operator and a value, with blanks between.
+fn of_matcher(alloc: Global, text: &[u8]) -> Result<Vec<u8>, Problem> {
+    if let Some((name, rest)) = split_at_first(text, b" ")
+        && let Some((operator, value)) = split_at_first(rest, b" ")
+        && let Some(op) = operator_named(operator)
+    {
+        let name = String::from_str(alloc, utf8(alloc, name)?)?;
+        let value = String::from_str(alloc, utf8(alloc, value)?)?;
+        return match Matcher::new(alloc, name, op, value) {
+            Ok(matcher) => {
+                let mut text = told(alloc, "ok: ")?;
+                text.extend_from_slice(matcher_text(alloc, &matcher)?.as_slice())?;
+                Ok(text)
+            }
+            Err(kind) => refused(alloc, kind),
+        };
+    }
+    Err(Problem::about(alloc, "a name, an operator and a value are wanted", text))
+}
+
+fn operator_named(text: &[u8]) -> Option<Op> {
+    for op in [Op::Equal, Op::NotEqual, Op::Matches, Op::NotMatches] {
+        if operator_text(op).as_bytes() == text {
+            return Some(op);
+        }
+    }
+    None
 }
 
 fn of_set(alloc: Global, text: &str) -> Result<Vec<u8>, Problem> {

@@ -100,9 +100,9 @@ pub fn of_judge(alloc: Global, over: Over<'_>, text: &[u8]) -> Result<Vec<u8>, P
     told(alloc, verdict_text(verdict))
 }
 
-/// Compares a verdict with the judge that looks at whole choices: at one of them it says the same.
-/// What a list in braces is known to be is all that can be known, and is counted, where no label
-/// set is impossible.
+/// Compares a verdict with the judge that looks at whole choices: at one of them it says the same,
+/// and before that it is open. What a list in braces is known to be is all that can be known, and
+/// is counted, where no label set is impossible.
 fn check_whole(
     alloc: Global,
     inputs: &AcceptedInputs,
@@ -112,9 +112,16 @@ fn check_whole(
 ) -> Result<(), Problem> {
     let universe = inputs.space.universe();
     let whole = Whole::new(alloc, universe, &inputs.world, question)?;
+    let found = verdict_at(alloc, universe, &whole, prefix)?;
     if prefix.len() == universe.len() {
-        let wanted = verdict_at(alloc, universe, &whole, prefix)?;
-        check_verdict(alloc, "judged as a whole choice", wanted, verdict)?;
+        check_verdict(alloc, "judged as a whole choice", found, verdict)?;
+    } else {
+        check_verdict(
+            alloc,
+            "judged before a choice is whole",
+            Verdict::Open,
+            found,
+        )?;
     }
     // Of a list together with impossible ones less may be known than holds.
     if let Question::Braces(_) = question {
@@ -196,11 +203,16 @@ fn first_text(alloc: Global, choice: Option<Choice>) -> Result<Vec<u8>, Problem>
 
 /// How many choices a search over the plan of a question gives, how often the plan is asked for it,
 /// and where the search stops, if it does; or the fault. The text is a page, as of `ask`, or a
-/// question and ` first`, for the first answer alone.
+/// question and ` first`, for the first answer alone. Behind a page without ` steps ` may stand
+/// ` within ` and a budget, also one that is too small for a page.
 pub fn of_count(alloc: Global, over: Over<'_>, text: &[u8]) -> Result<Vec<u8>, Problem> {
     let (text, is_first) = match text.strip_suffix(b" first") {
         Some(text) => (text, true),
         None => (text, false),
+    };
+    let (text, budget) = match split_at_last(text, b" within ") {
+        Some((text, budget)) => (text, Some(budget_of(alloc, budget)?)),
+        None => (text, None),
     };
     let (text, _) = with_own_digits(alloc, over, text)?;
     let asked = Asked::of(alloc, text.as_slice())?;
@@ -216,7 +228,14 @@ pub fn of_count(alloc: Global, over: Over<'_>, text: &[u8]) -> Result<Vec<u8>, P
         let given = usize::from(first(&counted).is_some());
         return count_text(alloc, given, counted.asked(), State::Ended);
     }
-    count_from(alloc, &counted, inputs.start, page.steps)
+    count_from(alloc, &counted, inputs.start, budget.or(page.steps))
+}
+
+fn budget_of(alloc: Global, text: &[u8]) -> Result<u64, Problem> {
+    match utf8(alloc, text)?.parse::<u64>() {
+        Ok(budget) => Ok(budget),
+        Err(_) => Err(Problem::about(alloc, "no budget of a search", text)),
+    }
 }
 
 /// Counts what is given from a start on, and how often the plan is asked for it.
