@@ -1,14 +1,14 @@
 -- Complete universes: those that stand for every alert. Whatever labels an alert has, some choice
 -- of a universe that is complete for some matchers meets exactly the same of them.
-use Rattle.std.specs.Prelude.{◌≡◌, ℕ, List, [], ◌∷◌, map, Option, Some, None, unwrap_or, IsTrue}
-use Rattle.std.specs.Prelude.{Contains, IfSome}
-use Rattle.std.specs.List.{filter, find, AllByRecursion}
+use Rattle.std.specs.Prelude.{◌≡◌, ◌≢◌, ℕ, List, [], ◌∷◌, map, Option, Some, None, unwrap_or}
+use Rattle.std.specs.Prelude.{Contains, IfSome, IsTrue, Bool, not, ◌&&◌}
+use Rattle.std.specs.List.{filter, find, AllByRecursion, list_all, list_any}
 use Rattle.std.specs.FinMap.{get}
 use Rattle.std.specs.Str.{IsUtf8}
 use Rattle.am_universe.specs.Text.{same_text}
-use Rattle.am_universe.specs.Universe.{Label, is_label_name}
+use Rattle.am_universe.specs.Universe.{Label}
 use Rattle.am_universe.specs.LabelSet.{LabelMap}
-use Rattle.am_labels.specs.Matcher.{Condition, condition_holds}
+use Rattle.am_labels.specs.Matcher.{Condition, holds, condition_holds}
 use Rattle.am_labels.specs.Space.{Space, is_possible}
 use Rattle.am_classes.specs.Alike.{HasAlikeIn}
 
@@ -44,22 +44,59 @@ HasAlike u ms name text = HasAlikeIn (about name ms) (label_texts u name) text
 abbrev pub IsCompleteAt : List Label → List Condition → List ℕ → Type 0
 IsCompleteAt u ms name = (text : List ℕ) → IsUtf8 text → HasAlike u ms name text
 
--- A universe is complete for some matchers: it is at each label that an alert may have.
+-- A universe is complete for some matchers: it is at each label that an alert may have, whatever
+-- its name is.
 -- Source: own choice.
--- Example: for no matchers every universe is complete, the one without labels too.
+-- Example: for no matchers every universe is complete, the one without labels too. For
+-- `a:b="x"` none is: no universe can declare `a:b`.
 abbrev pub IsComplete : List Label → List Condition → Type 0
-IsComplete u ms = (name : List ℕ) → IsTrue (is_label_name name) → IsCompleteAt u ms name
+IsComplete u ms = (name : List ℕ) → name ≢ [] → IsCompleteAt u ms name
+
+-- An impossible list asks of one label alone.
+-- Source: own choice.
+-- Example: `team!~"db|web"` asks of `team` alone; `env=prod,team=""` does not.
+abbrev pub asks_only_of : List ℕ → List Condition → Bool
+asks_only_of name list = list_all (λ m. same_text m.name name) list
+
+-- A list of matchers on one label matches a text of that label.
+abbrev pub matches_text : List ℕ → List Condition → Bool
+matches_text text list = list_all (λ m. holds m.op m.value text) list
+
+-- A label may have a text, as far as the impossible lists say that ask of this label alone: none of
+-- them matches the text. What other lists say depends on the other labels too.
+-- Source: own choice.
+-- Example: where `team!~"db|web"` and `env=prod,team=web` are impossible, `team` may be `db` or
+-- `web`, and not `ops`.
+abbrev pub may_have : List (List Condition) → List ℕ → List ℕ → Bool
+may_have impossible name text =
+    not (list_any (λ list. asks_only_of name list && matches_text text list) impossible)
+
+-- A space is complete at a label, for some matchers: whatever text the label may have, one of the
+-- universe is alike to it.
+-- Source: own choice.
+-- Example: for `team="db"` and `team!~"db|web"`, where the latter is impossible, a space is complete
+-- at `team` with the values `db` and `web`, since no alert has another text there.
+abbrev pub IsSpaceCompleteAt : Space → List Condition → List ℕ → Type 0
+IsSpaceCompleteAt s ms name =
+    (text : List ℕ) → IsUtf8 text → IsTrue (may_have s.impossible name text)
+    → HasAlike s.labels ms name text
+
+-- A space is complete for some matchers: it is at each label that an alert may have.
+-- Source: own choice.
+-- Example: where nothing is impossible, it is where its universe is complete.
+abbrev pub IsSpaceComplete : Space → List Condition → Type 0
+IsSpaceComplete s ms = (name : List ℕ) → name ≢ [] → IsSpaceCompleteAt s ms name
 
 -- Each of some matchers is one of others.
 abbrev pub AreAmong : List Condition → List Condition → Type 0
 AreAmong ns ms = AllByRecursion (Contains ms) ns
 
--- A label set that an alert may have: its names are label names, and its values are UTF-8.
--- Source: Prometheus data model, "Metric names and labels". Own choice: an alert may have no label.
--- Example: `{team="db"}` is one; a label set with the name `job-name` is none.
+-- A label set that an alert may have: no name is the empty text, and the values are UTF-8.
+-- Source: Prometheus data model, "Metric names and labels", which since version 3 allows any UTF-8
+-- in names. Own choices: an alert may have no label, and names need not be UTF-8 here.
+-- Example: `{team="db"}` is one, and so is a label set with the name `job-name`.
 abbrev pub IsAlert : LabelMap → Type 0
-IsAlert s =
-    (name text : List ℕ) → get s name ≡ Some text → IsTrue (is_label_name name) × IsUtf8 text
+IsAlert s = (name text : List ℕ) → get s name ≡ Some text → (name ≢ []) × IsUtf8 text
 
 -- An alert of a space: no list that is impossible matches it. Its labels need not be declared.
 -- Source: own choice.

@@ -2,6 +2,7 @@
 pub use Rattle.am_classes.specs.Words.{AreAlike, HasAlikeIn, Covers, AreApart}
 pub use Rattle.am_complete.specs.Complete.{about, label_texts, HasAlike, IsCompleteAt, IsComplete}
 pub use Rattle.am_complete.specs.Complete.{IsAlert, IsAlertOf, MeetsTheSame, AreAmong}
+pub use Rattle.am_complete.specs.Complete.{may_have, IsSpaceCompleteAt, IsSpaceComplete}
 pub use Rattle.am_complete.specs.Complete.{HasUtf8Texts}
 pub use Rattle.am_complete.specs.Asked.{route_conditions, routes_conditions, silence_conditions}
 pub use Rattle.am_complete.specs.Asked.{rule_conditions, equal_conditions, impossible_conditions}
