@@ -1,5 +1,5 @@
 -- The values of matchers, with one matcher more.
-use Rattle.std.proofs.Common.{◌≡◌, ℕ, List, [], ◌∷◌, ◌++◌, Bool, Some, slice_get, length, inl, inr, ap, sym, ◌∙◌, ◌⊎◌}
+use Rattle.std.proofs.Common.{◌≡◌, ◌+◌, ◌<◌, ◌≤◌, ℕ, List, [], ◌∷◌, ◌++◌, Bool, Some, slice_get, length, inl, inr, refl, ap, sym, ◌∙◌, ◌⊎◌, arith}
 use Rattle.std.specs.List.{list_any}
 use Rattle.std.specs.Str.{bytes_eq}
 use Rattle.std.proofs.Common.{true, zero, suc}
@@ -7,8 +7,9 @@ use Rattle.std.proofs.lemmas.Bool.{or_cases, or_left, or_right, cases_Bool}
 use Rattle.std.proofs.lemmas.Slice.Eq.{bytes_eq-Decides}
 use Rattle.std.proofs.lemmas.Option.{same_Some}
 use Rattle.am_labels.specs.Matcher.{Condition, takes_pattern}
+use Rattle.am_classes.specs.Alike.{HasPattern}
 use Rattle.am_classes.specs.Asked.{AreValues}
-use Rattle.am_classes.proofs.Places.{get_pushed, get_kept, get_last}
+use Rattle.am_classes.proofs.Places.{get_pushed, get_kept, get_last, contains_from_get}
 
 -- What one matcher more is from stays what it is from.
 from_kept : (ms : List Condition) (m : Condition) (t : Bool) (vs : List (List ℕ)) → AreValues ms t vs
@@ -92,3 +93,23 @@ among_cases xs text = elim (cases_Bool (list_any (λ x. bytes_eq x text) xs)) [
   | inl found ↦ inl (among_place xs text found)
   | inr missed ↦ inr (λ k e. let found = among_found xs text k e in absurd cc)
 ]
+
+-- How long texts are together; none of them is longer.
+abbrev pub length_of_all : List (List ℕ) → ℕ
+length_of_all [] = 0
+length_of_all (x ∷ xs) = length x + length_of_all xs
+
+pub one_of_all : (xs : List (List ℕ)) (text : List ℕ) (k : ℕ) → slice_get xs k ≡ Some text
+    → length text ≤ length_of_all xs
+one_of_all [] text k e = absurd cc
+one_of_all (x ∷ xs) text zero e =
+    let same : length x ≡ length text = ap length (same_Some x text e) in omega (arith, same)
+one_of_all (x ∷ xs) text (suc k) e =
+    let rest = one_of_all xs text k e in omega (arith, rest)
+
+-- Where a pattern is asked for, a matcher takes it.
+pub has_pattern : (ms : List Condition) (values : List (List ℕ)) → AreValues ms true values
+    → 0 < length values → HasPattern ms
+has_pattern ms [] h some = absurd (omega (arith, some))
+has_pattern ms (value ∷ values) h some =
+    let from = h.from 0 value refl in (from.1, contains_from_get ms from.1 from.0 from.2, from.3)

@@ -1,2 +1,2 @@
 -- The words of clauses: what the contracts of this crate, and of those above it, cite.
-pub use Rattle.am_classes.specs.Alike.{AreAlike, HasAlikeIn, Covers, AreApart}
+pub use Rattle.am_classes.specs.Alike.{AreAlike, HasAlikeIn, Covers, AreApart, HasPattern}

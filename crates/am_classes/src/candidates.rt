@@ -1,5 +1,6 @@
-ghost use Rattle.std.specs.Prelude.{◌≡◌, [], false, IsTrue, IfOk, IfSome};
-ghost use Rattle.am_classes.specs.State.{FollowsLabel};
+ghost use Rattle.std.specs.Prelude.{◌≡◌, ◌<◌, [], false, IsTrue, IfOk, IfSome, IfNone};
+ghost use Rattle.std.specs.Prelude.{length, string_bytes};
+ghost use Rattle.am_classes.specs.State.{FollowsLabel, IsNamed};
 ghost use Rattle.am_classes.specs.Exploration.{IsClosed};
 ghost use Rattle.am_classes.specs.Candidates.{AreCandidates, AreApartCandidates, Represents};
 ghost use Rattle.am_classes.specs.Candidates.{GrowsCandidates, HasFound};
@@ -12,16 +13,17 @@ use std::alloc::{AllocError, Global};
 use std::str::from_utf8;
 
 /// Texts that no matcher names, one for each set of patterns that may find such a text. `None`
-/// where this cannot be computed.
+/// where this cannot be computed, and never where there is no pattern.
 pub(crate) fn candidates(
     alloc: Global,
     questions: &Questions,
 ) -> Result<Option<Vec<Candidate>>, AllocError>
-    ensures { IfOk result (λ found. IfSome found (λ candidates.
+    ensures some { IfOk result (λ found. IfSome found (λ candidates.
         AreCandidates questions.now candidates.items)) }
+    ensures none { IfOk result (λ found. IfNone found (0 < length questions.now.scans.items)) }
 {
     if questions.scans.is_empty() {
-        return other_text(alloc, questions);
+        return Ok(Some(other_candidate(alloc, questions)?));
     }
     let Some(listed) = explored(alloc, questions)? else {
         return Ok(None);
@@ -29,22 +31,26 @@ pub(crate) fn candidates(
     candidates_of(alloc, questions, listed.as_slice())
 }
 
-/// A text that is not named, where there is no pattern: the empty one, which stands for absence, or
-/// `other`, and so on. `None` is never answered in fact, since more texts are tried than are named.
-fn other_text(alloc: Global, questions: &Questions) -> Result<Option<Vec<Candidate>>, AllocError>
+/// A text that is not named, where there is no pattern.
+fn other_candidate(alloc: Global, questions: &Questions) -> Result<Vec<Candidate>, AllocError>
     requires { questions.now.scans.items ≡ [] }
-    ensures { IfOk result (λ found. IfSome found (λ candidates.
-        AreCandidates questions.now candidates.items)) }
+    ensures { IfOk result (λ candidates. AreCandidates questions.now candidates.items) }
+{
+    let text = other_text(alloc, questions)?;
+    let found = Vec::new(alloc);
+    Ok(vec![in alloc; Candidate { text, found }]?)
+}
+
+/// A text that is not named: the empty one, which stands for absence, or `other`, and so on. There
+/// is one, since sooner or later the text is longer than each that is named.
+fn other_text(alloc: Global, questions: &Questions) -> Result<String, AllocError>
+    ensures { IfOk result (λ text. ¬ IsNamed questions.now (string_bytes text)) }
 {
     let mut text = String::new(alloc);
-    for _ in 0..=questions.texts.len() {
-        if !questions.names(text.as_bytes()) {
-            let found = Vec::new(alloc);
-            return Ok(Some(vec![in alloc; Candidate { text, found }]?));
-        }
+    while questions.names(text.as_bytes()) {
         text.push_str("other")?;
     }
-    Ok(None)
+    Ok(text)
 }
 
 /// Candidates from the texts of all states that there are.

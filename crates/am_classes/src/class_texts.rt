@@ -1,5 +1,5 @@
-ghost use Rattle.std.specs.Prelude.{◌≡◌, ◌++◌, map, IfOk, IfSome, string_bytes};
-ghost use Rattle.am_classes.specs.Words.{Covers, AreApart};
+ghost use Rattle.std.specs.Prelude.{◌≡◌, ◌++◌, map, IfOk, IfSome, IfNone, string_bytes};
+ghost use Rattle.am_classes.specs.Words.{Covers, AreApart, HasPattern};
 
 use crate::candidate::Candidate;
 use crate::candidates::candidates;
@@ -9,13 +9,15 @@ use std::alloc::{AllocError, Global};
 
 /// One text for each class of texts that matchers cannot tell apart, whatever their names are.
 /// `None` where this cannot be computed: a pattern cannot be followed, or there are too many
-/// states. Texts that a matcher names come first, in the order of the matchers. An `Err` only where
-/// memory was refused.
+/// states. Where no matcher takes a pattern, it always can. Texts that a matcher names come first,
+/// in the order of the matchers. An `Err` only where memory was refused.
 pub fn classes(alloc: Global, matchers: &[&Matcher]) -> Result<Option<Vec<String>>, AllocError>
     ensures covers { IfOk result (λ found. IfSome found (λ texts.
         Covers (map (λ m. m.now) matchers.now) (map string_bytes texts.items))) }
     ensures apart { IfOk result (λ found. IfSome found (λ texts.
         AreApart (map (λ m. m.now) matchers.now) (map string_bytes texts.items))) }
+    ensures none { IfOk result (λ found. IfNone found
+        (HasPattern (map (λ m. m.now) matchers.now))) }
 {
     let Some(questions) = Questions::of(alloc, matchers)? else {
         return Ok(None);

@@ -1,11 +1,12 @@
 ghost use Rattle.std.specs.Prelude.{◌≡◌, ◌↔◌, ◌∷◌, [], ℕ, List, Some, false, IsTrue, map};
-ghost use Rattle.std.specs.Prelude.{IfOk, IfSome, string_bytes, slice_get};
+ghost use Rattle.std.specs.Prelude.{IfOk, IfSome, IfNone, string_bytes, slice_get};
 ghost use Rattle.am_labels.specs.Words.{takes_pattern};
 ghost use Rattle.am_classes.specs.declared.tail.Tail.TheVariants.{Whole};
 ghost use Rattle.am_classes.specs.Utf8.{tail_step};
 ghost use Rattle.am_classes.specs.State.{FollowsLabel, IsNamed, named_texts};
 ghost use Rattle.am_classes.specs.Rest.{IsNoEnd, RestFollows, rest_bytes};
 ghost use Rattle.am_classes.specs.Scans.{FollowEach, AreRepeated, found_by};
+ghost use Rattle.am_classes.specs.Words.{HasPattern};
 ghost use Rattle.am_classes.specs.Asked.{AreValues, AreAsked};
 
 use crate::label_state::LabelState;
@@ -26,8 +27,10 @@ pub(crate) struct Questions {
 impl Questions {
     /// What matchers ask. `None` where a pattern cannot be followed.
     pub(crate) fn of(alloc: Global, matchers: &[&Matcher]) -> Result<Option<Questions>, AllocError>
-        ensures { IfOk result (λ found. IfSome found (λ questions.
+        ensures some { IfOk result (λ found. IfSome found (λ questions.
             AreAsked (map (λ m. m.now) matchers.now) questions)) }
+        ensures none { IfOk result (λ found. IfNone found
+            (HasPattern (map (λ m. m.now) matchers.now))) }
     {
         let texts = values(alloc, matchers, false)?;
         let patterns = values(alloc, matchers, true)?;

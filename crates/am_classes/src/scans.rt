@@ -1,6 +1,6 @@
 //! Many patterns at once.
 ghost use Rattle.std.specs.Prelude.{◌≡◌, ℕ, ◌∷◌, [], List, map, All, ◌<◌, true};
-ghost use Rattle.std.specs.Prelude.{IfOk, IfSome, IsTrue, string_bytes};
+ghost use Rattle.std.specs.Prelude.{IfOk, IfSome, IfNone, IsTrue, length, string_bytes};
 ghost use Rattle.regex_hir.specs.Text.{is_boundary};
 ghost use Rattle.am_scan.specs.Words.{pattern_of};
 ghost use Rattle.am_classes.specs.Scans.{FollowEach, found_by, MakeSame, SameStates};
@@ -13,8 +13,9 @@ pub(crate) fn scans_of(
     alloc: Global,
     patterns: &[String],
 ) -> Result<Option<Vec<PatternScan>>, AllocError>
-    ensures { IfOk result (λ found. IfSome found (λ scans.
+    ensures some { IfOk result (λ found. IfSome found (λ scans.
         map pattern_of scans.items ≡ map string_bytes patterns.now)) }
+    ensures none { IfOk result (λ found. IfNone found (0 < length patterns.now)) }
 {
     let mut scans = Vec::with_capacity(alloc, patterns.len())?;
     for pattern in patterns {

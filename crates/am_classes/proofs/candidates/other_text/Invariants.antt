@@ -1,4 +1,11 @@
+use Rattle.std.proofs.Common.{◌-◌, ◌+◌, length, string_bytes}
+use Rattle.am_classes.specs.State.{named_texts}
+use Rattle.am_classes.proofs.AskedLemmas.{length_of_all}
 use Rattle.am_classes.proofs.candidates.other_text.Given as goal
 
-abbrev pub invariant-loop : goal.invariant-loop
-invariant-loop l = Unit {0}
+abbrev pub invariant-loop-text : goal.invariant-loop-text
+invariant-loop-text l = Unit {0}
+
+-- a text that is named is no longer than all of these together
+abbrev pub decreases-loop-text : goal.decreases-loop-text
+decreases-loop-text l = length_of_all (named_texts l.questions) + 1 - length (string_bytes l.text)

@@ -1,0 +1,7 @@
+use Rattle.am_classes.proofs.CandidateLemmas.{one_candidate}
+use Rattle.am_classes.proofs.candidates.other_candidate.Goals as goal
+
+pub returns : goal.returns
+returns c =
+    one_candidate c.args.questions.now c.in_ok-vec.field-0.items _ c.in_ok-vec.ensures.items c.requires
+    c.new-found.ensures.items c.in_ok-text.ensures
