@@ -85,7 +85,7 @@ each_of_all P texts n all each =
 -- ---- Another order.
 
 -- whether texts are alike
-abbrev alike : List Condition → List ℕ → List ℕ → Bool
+abbrev pub alike : List Condition → List ℕ → List ℕ → Bool
 alike [] x y = true
 alike (m ∷ ms) x y = beq (holds m.op m.value x) (holds m.op m.value y) && alike ms x y
 
@@ -107,22 +107,22 @@ truths_turned true false = refl
 truths_turned false true = refl
 truths_turned false false = refl
 
-alike_is : (ms : List Condition) (x y : List ℕ) → AreAlike ms x y → alike ms x y ≡ true
+pub alike_is : (ms : List Condition) (x y : List ℕ) → AreAlike ms x y → alike ms x y ≡ true
 alike_is [] x y h = refl
 alike_is (m ∷ ms) x y h =
     λ i. same_truths (holds m.op m.value x) (holds m.op m.value y) h.0 i && alike_is ms x y h.1 i
 
-is_alike : (ms : List Condition) (x y : List ℕ) → alike ms x y ≡ true → AreAlike ms x y
+pub is_alike : (ms : List Condition) (x y : List ℕ) → alike ms x y ≡ true → AreAlike ms x y
 is_alike [] x y h = tt
 is_alike (m ∷ ms) x y h =
     let both = and_parts _ _ h in (one_truth _ _ both.0, is_alike ms x y both.1)
 
-turned : (ms : List Condition) (x y : List ℕ) → alike ms x y ≡ alike ms y x
+pub turned : (ms : List Condition) (x y : List ℕ) → alike ms x y ≡ alike ms y x
 turned [] x y = refl
 turned (m ∷ ms) x y =
     λ i. truths_turned (holds m.op m.value x) (holds m.op m.value y) i && turned ms x y i
 
-distinct_from_apart : (ms : List Condition) (xs : List (List ℕ)) → AreApart ms xs
+pub distinct_from_apart : (ms : List Condition) (xs : List (List ℕ)) → AreApart ms xs
     → IsDistinct (alike ms) xs
 distinct_from_apart ms xs apart =
     IsDistinct-from_apart (alike ms) xs (λ i j d before inside.
@@ -147,8 +147,8 @@ apart_before ms xs i j x y distinct at_x at_y h before =
     ∙ ap (alike ms x) (get_or_from_slice_get xs j y x at_y) ∙ alike_is ms x y h in
     let both : true ≡ false = sym same ∙ differs in cc
 
-apart_from_distinct_texts : (ms : List Condition) (xs : List (List ℕ)) → IsDistinct (alike ms) xs
-    → AreApart ms xs
+pub apart_from_distinct_texts : (ms : List Condition) (xs : List (List ℕ))
+    → IsDistinct (alike ms) xs → AreApart ms xs
 apart_from_distinct_texts ms xs distinct i j x y at_x at_y h =
     elim (cases_lt i j) [
       | inl before ↦ absurd (apart_before ms xs i j x y distinct at_x at_y h before)

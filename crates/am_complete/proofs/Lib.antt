@@ -17,8 +17,11 @@ pub mod JsonTexts
 pub mod JsonTokens
 pub mod JsonGrammar
 pub mod JsonData
+pub mod DeclaredLabels
 pub mod MadeUniverses
+pub mod RoomLemmas
 pub mod TestedTruths
 pub mod ChosenTexts
+pub mod ApartTexts
 pub mod OkClauses
 pub mod LabelStates

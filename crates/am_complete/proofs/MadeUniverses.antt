@@ -1,20 +1,21 @@
 -- Universes that are made label by label of what matchers ask.
 use Rattle.std.proofs.Common.{◌≡◌, ◌≢◌, ◌⊎◌, ◌<◌, ◌≤◌, ◌+◌, ℕ, zero, suc, List, [], ◌∷◌, ◌++◌, length}
 use Rattle.std.proofs.Common.{take, drop, get_or, Option, Some, None, Contains, true, false, refl, sym, ap}
-use Rattle.std.proofs.Common.{◌∙◌, subst, inl, inr, arith}
+use Rattle.std.proofs.Common.{◌∙◌, subst, inl, inr, arith, map, String, string_bytes}
 use Rattle.std.specs.Prelude.{IsTrue, slice_get}
-use Rattle.std.specs.List.{find, IsDistinct, list_any}
+use Rattle.std.specs.List.{find, AllByRecursion, IsDistinct, list_any}
 use Rattle.std.specs.Cmp.Lexicographic.{bytes_decides}
+use Rattle.std.specs.declared.alloc.Global.{Global}
 use Rattle.std.proofs.lemmas.Bool.{cases_Bool}
 use Rattle.std.proofs.lemmas.Str.{IsUtf8-nil}
-use Rattle.std.proofs.lemmas.List.{map-append, take_more, length-take-le, length-append}
+use Rattle.std.proofs.lemmas.List.{map-append, length-map, take_more, length-take-le, length-append}
 use Rattle.std.proofs.lemmas.List.{take-append-drop}
 use Rattle.am_universe.specs.Text.{same_text}
-use Rattle.am_universe.specs.Universe.{Label, IsUniverse, names, is_label_name}
+use Rattle.am_universe.specs.Universe.{Label, IsLabel, IsUniverse, names, is_label_name}
 use Rattle.am_universe.proofs.ListLemmas.{IsIn, IsIn-left, IsIn-right, IsIn-split, IsIn-map}
 use Rattle.am_universe.proofs.ListLemmas.{IsIn-unmap, IsIn-from_Contains, Contains-from_IsIn}
-use Rattle.am_universe.proofs.ListLemmas.{AllByRecursion-at}
-use Rattle.am_universe.proofs.DistinctLists.{distinct_pushed, distinct_front}
+use Rattle.am_universe.proofs.ListLemmas.{AllByRecursion-at, AllByRecursion-each}
+use Rattle.am_universe.proofs.DistinctLists.{all_push, distinct_push, distinct_pushed, distinct_front}
 use Rattle.am_labels.specs.Matcher.{Condition}
 use Rattle.am_labels.proofs.Passing.{any_in, in_any}
 use Rattle.am_classes.specs.Alike.{AreAlike, Covers, AreApart}
@@ -22,8 +23,13 @@ use Rattle.am_eval.proofs.Members.{in_at, at_in}
 use Rattle.am_complete.specs.Complete.{about, label_texts, texts_of_label, IsComplete, IsCompleteAt}
 use Rattle.am_complete.specs.AskedLabel.{AskedLabel, asked_names, IsAskedOf}
 use Rattle.am_complete.specs.Covering.{StandForAll, StandsForEachBut, IsWithAtMost, IsWithLabel}
+use Rattle.am_complete.specs.Covering.{HasApartValues}
+use Rattle.am_complete.specs.Room.{HasMoreClasses, NeedsMoreValues, HaveNoRoom, MayBeUnproved}
+use Rattle.am_complete.specs.Room.{AreUnproved, IsFullFor, HasNoRoomIn, IsSettled}
 use Rattle.am_complete.proofs.Alike.{alike_joined, alike_turned}
 use Rattle.am_complete.proofs.CompleteUniverses.{complete_without_matchers}
+use Rattle.am_complete.proofs.ApartTexts.{utf8_texts}
+use Rattle.am_complete.proofs.DeclaredLabels.{no_such_name}
 use Rattle.am_complete.proofs.LabelTexts.{has_name, found_in, declared_texts}
 
 -- ---- The texts of one label.
@@ -53,12 +59,13 @@ other_found (m ∷ u) l name apart = elim (cases_Bool (has_name name m)) [
   | inr differs ↦ rw differs (other_found u l name apart)
 ]
 
-other_texts : (u v : List Label) (name other : List ℕ) → IsWithAtMost u v name
-    → (name ≡ other → ⊥) → label_texts v other ≡ label_texts u other
-other_texts u v name other (inl same) apart = ap (λ w. label_texts w other) same
-other_texts u v name other (inr more) apart =
-    ap (λ w. label_texts w other) more.1
-    ∙ ap texts_of_label (other_found u more.0 other (λ e. apart (sym more.2 ∙ e)))
+other_texts : (u v : List Label) (l : AskedLabel) (other : List ℕ) → IsWithAtMost u v l
+    → (l.name ≡ other → ⊥) → label_texts v other ≡ label_texts u other
+other_texts u v l other (inl same) apart = ap (λ w. label_texts w other) same
+other_texts u v l other (inr more) apart =
+    let label : Label = more.1.0 in
+    ap (λ w. label_texts w other) more.1.1
+    ∙ ap texts_of_label (other_found u label other (λ e. apart (sym more.1.2 ∙ e)))
 
 -- one text alone may be the empty one
 lone_covers : (ms : List Condition) (texts : List (List ℕ)) → length texts ≤ 1
@@ -95,32 +102,44 @@ stands_undeclared u name ms texts fresh few covers =
     (lone_covers ms texts few covers, one_apart ms [])
 
 -- and one that is declared has the texts that it is declared with
+texts_declared : (u v : List Label) (name : List ℕ) (texts : List (List ℕ)) → IsUniverse v
+    → IsWithLabel u v name texts → label_texts v name ≡ texts
+texts_declared u v name texts universe more =
+    let l = more.0 in
+    let there : IsIn v l =
+    subst (λ w. IsIn w l) (sym more.1) (IsIn-right u (l ∷ []) l (inl refl)) in
+    ap (label_texts v) (sym more.2) ∙ declared_texts v l universe there ∙ more.3
+
 pub stands_declared : (u v : List Label) (name : List ℕ) (ms : List Condition)
     (texts : List (List ℕ)) → IsUniverse v → IsWithLabel u v name texts → Covers ms texts
     → AreApart ms texts → StandForAll ms (label_texts v name)
 stands_declared u v name ms texts universe more covers apart =
-    let l = more.0 in
-    let there : IsIn v l =
-    subst (λ w. IsIn w l) (sym more.1) (IsIn-right u (l ∷ []) l (inl refl)) in
-    let are : label_texts v name ≡ texts =
-    ap (label_texts v) (sym more.2) ∙ declared_texts v l universe there ∙ more.3 in
-    subst (StandForAll ms) (sym are) (covers, apart)
+    subst (StandForAll ms) (sym (texts_declared u v name texts universe more)) (covers, apart)
 
 -- ---- One label after another.
+
+-- a declared label is asked of; it has values that are apart, and needs more than one
+abbrev pub IsDeclaredFor : List Label → List AskedLabel → List ℕ → Type 0
+IsDeclaredFor u asked name =
+    (l : AskedLabel) × IsIn asked l × (l.name ≡ name) × AreApart l.matchers (label_texts u name)
+    × HasMoreClasses 1 l.matchers
 
 -- what is kept of a universe that is made of some labels that are asked of
 pub record IsMadeOf (u : List Label) (asked : List AskedLabel) (unproved : List ℕ) : Type 0 where
   pub universe : IsUniverse u
-  pub named : (name : List ℕ) → IsIn (names u) name → IsIn (asked_names asked) name
+  pub named : (name : List ℕ) → IsIn (names u) name → IsDeclaredFor u asked name
   pub stands : StandsForEachBut u asked unproved
   pub within : (k : ℕ) → Contains unproved k → k < length asked
+  pub noted : AreUnproved asked unproved
 
 -- the next label is of none of the names so far
 pub fresh_name : (u : List Label) (asked : List AskedLabel) (l : AskedLabel) (unproved : List ℕ)
     → IsMadeOf u asked unproved → IsDistinct same_text (asked_names (asked ++ l ∷ []))
     → Contains (names u) l.name → ⊥
 fresh_name u asked l unproved made distinct h =
-    let there = made.named l.name (IsIn-from_Contains (names u) l.name h) in
+    let declared = made.named l.name (IsIn-from_Contains (names u) l.name h) in
+    let there = subst (IsIn (asked_names asked)) declared.2
+    (IsIn-map (λ x. x.name) asked declared.0 declared.1) in
     let split = distinct_pushed same_text (asked_names asked) l.name
     (subst (IsDistinct same_text) (map-append (λ x. x.name) asked (l ∷ [])) distinct) in
     let some = in_any (λ z. same_text z l.name) (asked_names asked) l.name there
@@ -137,71 +156,174 @@ got_either (z ∷ xs) y x (suc i) h = elim (got_either xs y x i h) [
   | inr b ↦ inr (ap suc b.0, b.1)
 ]
 
--- one label more
+-- ---- The positions that are noted.
+
+kept_noted : (u : List Label) (l : AskedLabel) (n : ℕ) (before after : List ℕ)
+    → IsSettled u l n before after → (k : ℕ) → Contains before k → Contains after k
+kept_noted u l n before after (inl same) k h = subst (λ (xs : List ℕ). Contains xs k) (sym same.0) h
+kept_noted u l n before after (inr more) k h =
+    subst (λ (xs : List ℕ). Contains xs k) (sym more.0)
+    (Contains-from_IsIn (before ++ n ∷ []) k
+    (IsIn-left before (n ∷ []) k (IsIn-from_Contains before k h)))
+
+alone_noted : (u : List Label) (l : AskedLabel) (n : ℕ) (before after : List ℕ)
+    → IsSettled u l n before after → (k : ℕ) → Contains after k
+    → Contains before k ⊎ ((k ≡ n) × MayBeUnproved l)
+alone_noted u l n before after (inl same) k h =
+    inl (subst (λ (xs : List ℕ). Contains xs k) same.0 h)
+alone_noted u l n before after (inr more) k h =
+    let among = IsIn-from_Contains (before ++ n ∷ []) k
+    (subst (λ (xs : List ℕ). Contains xs k) more.0 h) in
+    elim (IsIn-split before (n ∷ []) k among) [
+      | inl a ↦ inl (Contains-from_IsIn before k a)
+      | inr b ↦ elim b [ inl e ↦ inr (sym e, more.1) | inr none ↦ absurd none ]
+    ]
+
+-- the first of them stays the first
+first_noted : (before : List ℕ) (n : ℕ) → ((k : ℕ) → Contains before k → k < n)
+    → ((i k : ℕ) → slice_get before 0 ≡ Some i → Contains before k → i ≤ k)
+    → (i k : ℕ) → slice_get (before ++ n ∷ []) 0 ≡ Some i → Contains (before ++ n ∷ []) k → i ≤ k
+first_noted [] n within first i k at h =
+    let here : n ≡ i = cc in
+    elim (IsIn-from_Contains (n ∷ []) k h) [
+      | inl e ↦ omega (arith, here, e)
+      | inr none ↦ absurd none
+    ]
+first_noted (b ∷ before) n within first i k at h =
+    let here : slice_get (b ∷ before) 0 ≡ Some i = at in
+    let is : b ≡ i = cc in
+    elim (IsIn-split (b ∷ before) (n ∷ []) k (IsIn-from_Contains (b ∷ before ++ n ∷ []) k h)) [
+      | inl a ↦ first i k here (Contains-from_IsIn (b ∷ before) k a)
+      | inr c ↦ elim c [
+        | inl e ↦
+            let lt = within b (Contains-from_IsIn (b ∷ before) b (inl refl)) in
+            omega (arith, lt, is, e)
+        | inr none ↦ absurd none
+      ]
+    ]
+
+first_settled : (u : List Label) (l : AskedLabel) (n : ℕ) (before after : List ℕ)
+    → IsSettled u l n before after → ((k : ℕ) → Contains before k → k < n)
+    → ((i k : ℕ) → slice_get before 0 ≡ Some i → Contains before k → i ≤ k)
+    → (i k : ℕ) → slice_get after 0 ≡ Some i → Contains after k → i ≤ k
+first_settled u l n before after (inl same) within first i k at h =
+    first i k (subst (λ (xs : List ℕ). slice_get xs 0 ≡ Some i) same.0 at)
+    (subst (λ (xs : List ℕ). Contains xs k) same.0 h)
+first_settled u l n before after (inr more) within first i k at h =
+    first_noted before n within first i k
+    (subst (λ (xs : List ℕ). slice_get xs 0 ≡ Some i) more.0 at)
+    (subst (λ (xs : List ℕ). Contains xs k) more.0 h)
+
+-- ---- One label more.
+
+-- what is asked at a position stays so
+got_front : {X : Type 0} (xs : List X) (y x : X) (i : ℕ) → slice_get xs i ≡ Some x
+    → slice_get (xs ++ y ∷ []) i ≡ Some x
+got_front [] y x i h = absurd (cc)
+got_front (z ∷ xs) y x zero h = h
+got_front (z ∷ xs) y x (suc i) h = got_front xs y x i h
+
+got_last : {X : Type 0} (xs : List X) (y : X) → slice_get (xs ++ y ∷ []) (length xs) ≡ Some y
+got_last [] y = refl
+got_last (z ∷ xs) y = got_last xs y
+
 pub made_step : (u v : List Label) (asked : List AskedLabel) (l : AskedLabel)
     (unproved next : List ℕ) → IsMadeOf u asked unproved
     → IsDistinct same_text (asked_names (asked ++ l ∷ [])) → IsUniverse v
-    → IsWithAtMost u v l.name
-    → ((i : ℕ) → Contains unproved i → Contains next i)
-    → ((i : ℕ) → Contains next i → Contains unproved i ⊎ (i ≡ length asked))
-    → ((Contains next (length asked) → ⊥) → IsTrue (is_label_name l.name)
-    → StandForAll l.matchers (label_texts v l.name))
+    → IsWithAtMost u v l → IsSettled v l (length asked) unproved next
     → IsMadeOf v (asked ++ l ∷ []) next
-made_step u v asked l unproved next made distinct universe more kept alone here =
-    let fresh = fresh_name u asked l unproved made distinct in
+made_step u v asked l unproved next made distinct universe more settled =
     record {
       universe = universe;
       named = named_step more;
-      stands = λ i x at named proved.
+      stands = λ i x at proved.
           elim (got_either asked l x i at) [
             | inl before ↦
-                let apart : l.name ≡ x.name → ⊥ = λ same. earlier i x before same in
-                subst (StandForAll x.matchers) (sym (other_texts u v l.name x.name more apart))
-                (made.stands i x before named (λ h. proved (kept i h)))
+                let apart : l.name ≡ x.name → ⊥ = λ same. earlier x (in_at asked i x before) same in
+                subst (StandForAll x.matchers) (sym (other_texts u v l x.name more apart))
+                (made.stands i x before
+                (λ h. proved (kept_noted v l (length asked) unproved next settled i h)))
             | inr last ↦
                 subst (λ (y : AskedLabel). StandForAll y.matchers (label_texts v y.name)) last.1
-                (here (λ h. proved (subst (Contains next) (sym last.0) h))
-                (subst (λ (y : AskedLabel). IsTrue (is_label_name y.name)) (sym last.1) named))
+                (here settled (λ h. proved (subst (Contains next) (sym last.0) h)))
           ];
-      within = λ k h. elim (alone k h) [
+      within = λ k h. elim (alone_noted v l (length asked) unproved next settled k h) [
         | inl before ↦
             let lt = made.within k before in omega (arith, lt, length-append asked (l ∷ []))
-        | inr last ↦ omega (arith, last, length-append asked (l ∷ []))
+        | inr last ↦ omega (arith, last.0, length-append asked (l ∷ []))
       ];
+      noted = record {
+        each = λ k h. elim (alone_noted v l (length asked) unproved next settled k h) [
+          | inl before ↦
+              let r = made.noted.each k before in (r.0, got_front asked l r.0 k r.1, r.2)
+          | inr last ↦ (
+            l,
+            subst (λ n. slice_get (asked ++ l ∷ []) n ≡ Some l) (sym last.0) (got_last asked l),
+            last.1,
+          )
+        ];
+        first = first_settled v l (length asked) unproved next settled made.within made.noted.first;
+      };
     }
   where
+    here : IsSettled v l (length asked) unproved next
+        → (Contains next (length asked) → ⊥) → StandForAll l.matchers (label_texts v l.name)
+    here (inl stands) proved = stands.1
+    here (inr noted) proved =
+        absurd (proved (subst (λ (xs : List ℕ). Contains xs (length asked)) (sym noted.0)
+        (Contains-from_IsIn (unproved ++ length asked ∷ []) (length asked)
+        (IsIn-right unproved (length asked ∷ []) (length asked) (inl refl)))))
+
     split : IsDistinct same_text (asked_names asked)
         × (list_any (λ z. same_text z l.name) (asked_names asked) ≡ false)
     split = distinct_pushed same_text (asked_names asked) l.name
         (subst (IsDistinct same_text) (map-append (λ x. x.name) asked (l ∷ [])) distinct)
 
-    earlier : (i : ℕ) (x : AskedLabel) → slice_get asked i ≡ Some x → l.name ≡ x.name → ⊥
-    earlier i x at same =
-        let there = IsIn-map (λ y. y.name) asked x (in_at asked i x at) in
+    earlier : (x : AskedLabel) → IsIn asked x → l.name ≡ x.name → ⊥
+    earlier x among same =
+        let there = IsIn-map (λ y. y.name) asked x among in
         let some = in_any (λ z. same_text z l.name) (asked_names asked) x.name there
         ((bytes_decides x.name l.name).1 (sym same)) in
         let both : true ≡ false = sym some ∙ split.1 in absurd (cc)
 
-    names_more : (asked_names (asked ++ l ∷ [])) ≡ asked_names asked ++ l.name ∷ []
-    names_more = map-append (λ x. x.name) asked (l ∷ [])
+    -- a label that was declared before
+    before : (name : List ℕ) → IsWithAtMost u v l → IsIn (names u) name
+        → IsDeclaredFor v (asked ++ l ∷ []) name
+    before name more h =
+        let r = made.named name h in
+        let apart : l.name ≡ name → ⊥ = λ same. earlier r.0 r.1 (same ∙ sym r.2) in (
+          r.0,
+          IsIn-left asked (l ∷ []) r.0 r.1,
+          r.2,
+          subst (AreApart r.0.matchers) (sym (other_texts u v l name more apart)) r.3,
+          r.4,
+        )
 
-    named_step : IsWithAtMost u v l.name → (name : List ℕ) → IsIn (names v) name
-        → IsIn (asked_names (asked ++ l ∷ [])) name
+    named_step : IsWithAtMost u v l → (name : List ℕ) → IsIn (names v) name
+        → IsDeclaredFor v (asked ++ l ∷ []) name
     named_step (inl same) name h =
-        subst (λ ns. IsIn ns name) (sym names_more)
-        (IsIn-left (asked_names asked) (l.name ∷ []) name
-        (made.named name (subst (λ w. IsIn (names w) name) same h)))
+        before name (inl same) (subst (λ w. IsIn (names w) name) same h)
     named_step (inr more) name h =
-        let among : IsIn (names u ++ more.0.name ∷ []) name =
+        let label : Label = more.1.0 in
+        let among : IsIn (names u ++ label.name ∷ []) name =
         subst (λ ns. IsIn ns name)
-        (ap names more.1 ∙ map-append (λ x. x.name) u (more.0 ∷ [])) h in
-        subst (λ ns. IsIn ns name) (sym names_more) (elim (IsIn-split (names u) (more.0.name ∷ []) name among) [
-          | inl a ↦ IsIn-left (asked_names asked) (l.name ∷ []) name (made.named name a)
-          | inr b ↦ IsIn-right (asked_names asked) (l.name ∷ []) name (elim b [
-            | inl e ↦ inl (sym more.2 ∙ e)
+        (ap names more.1.1 ∙ map-append (λ x. x.name) u (label ∷ [])) h in
+        elim (IsIn-split (names u) (label.name ∷ []) name among) [
+          | inl a ↦ before name (inr more) a
+          | inr b ↦ elim b [
+            | inl e ↦
+                let is : l.name ≡ name = sym more.1.2 ∙ e in (
+                  l,
+                  IsIn-right asked (l ∷ []) l (inl refl),
+                  is,
+                  subst (λ n. AreApart l.matchers (label_texts v n)) is
+                      (subst (AreApart l.matchers)
+                      (sym (texts_declared u v l.name more.0 universe more.1)) more.4),
+                  (more.0, more.2, more.3, more.4),
+                )
             | inr none ↦ absurd none
-          ])
-        ])
+          ]
+        ]
 
 -- the labels up to one that is asked of
 pub up_to : (asked : List AskedLabel) (i : ℕ) (l : AskedLabel) → i < length asked
@@ -223,22 +345,102 @@ distinct_so_far asked i l lt is distinct =
     (asked_names (drop (i + 1) asked)) (subst (IsDistinct same_text) names distinct)
 
 -- so many labels stand before a position
-pub length_so_far : (asked : List AskedLabel) (i : ℕ) (l : AskedLabel) (v : List Label)
-    (noted : List ℕ) → i < length asked
-    → ((Contains noted i → ⊥) → IsTrue (is_label_name l.name)
-    → StandForAll l.matchers (label_texts v l.name))
-    → (Contains noted (length (take i asked)) → ⊥) → IsTrue (is_label_name l.name)
-    → StandForAll l.matchers (label_texts v l.name)
-length_so_far asked i l v noted lt told proved =
+pub settled_so_far : (asked : List AskedLabel) (i : ℕ) (l : AskedLabel) (v : List Label)
+    (unproved noted : List ℕ) → i < length asked → IsSettled v l i unproved noted
+    → IsSettled v l (length (take i asked)) unproved noted
+settled_so_far asked i l v unproved noted lt settled =
     let long : length (take i asked) ≡ i = length-take-le i asked (omega arith) in
-    told (λ h. proved (subst (Contains noted) (sym long) h))
+    subst (λ n. IsSettled v l n unproved noted) (sym long) settled
 
-pub alone_so_far : (asked : List AskedLabel) (i : ℕ) (unproved noted : List ℕ) → i < length asked
-    → ((k : ℕ) → Contains noted k → Contains unproved k ⊎ (k ≡ i))
-    → (k : ℕ) → Contains noted k → Contains unproved k ⊎ (k ≡ length (take i asked))
-alone_so_far asked i unproved noted lt told k h =
-    let long : length (take i asked) ≡ i = length-take-le i asked (omega arith) in
-    elim (told k h) [ inl a ↦ inl a | inr e ↦ inr (e ∙ sym long) ]
+-- ---- No room.
+
+-- the labels that are declared, as they are asked of
+collected : (u : List Label) (asked : List AskedLabel) (ns : List (List ℕ))
+    → ((name : List ℕ) → IsIn ns name → IsTrue (is_label_name name))
+    → ((name : List ℕ) → IsIn ns name → IsDeclaredFor u asked name)
+    → (labels : List AskedLabel) × (asked_names labels ≡ ns)
+    × AllByRecursion (λ l. Contains asked l × NeedsMoreValues 1 l) labels
+collected u asked [] form h = ([], refl, tt)
+collected u asked (n ∷ ns) form h =
+    let r = h n (inl refl) in
+    let rest = collected u asked ns (λ m i. form m (inr i)) (λ m i. h m (inr i)) in (
+      r.0 ∷ rest.0,
+      λ i. r.2 i ∷ rest.1 i,
+      (
+        (
+          Contains-from_IsIn asked r.0 r.1,
+          (subst (λ m. IsTrue (is_label_name m)) (sym r.2) (form n (inl refl)), r.4),
+        ),
+        rest.2,
+      ),
+    )
+
+named_labels : (u : List Label) (name : List ℕ) → IsUniverse u → IsIn (names u) name
+    → IsTrue (is_label_name name)
+named_labels u name h i =
+    let r = IsIn-unmap (λ l. l.name) u name i in
+    subst (λ n. IsTrue (is_label_name n)) r.2
+    ((AllByRecursion-at IsLabel u r.0 h.labels r.1).name)
+
+longer_names : (labels : List AskedLabel) (ns : List (List ℕ)) → asked_names labels ≡ ns
+    → length labels ≡ length ns
+longer_names labels ns are =
+    sym (length-map labels (λ (l : AskedLabel). l.name)) ∙ ap (λ (xs : List (List ℕ)). length xs) are
+
+no_room_at : (u : List Label) (asked : List AskedLabel) (l : AskedLabel) → IsUniverse u
+    → ((name : List ℕ) → IsIn (names u) name → IsDeclaredFor u asked name)
+    → (Contains (names u) l.name → ⊥) → IsIn asked l → HasNoRoomIn u l → HaveNoRoom asked
+no_room_at u asked l h named fresh among (inr many) =
+    inl (l, Contains-from_IsIn asked l among, many)
+no_room_at u asked l h named fresh among (inl full) =
+    let r = collected u asked (names u) (λ n i. named_labels u n h i) named in
+    let are : asked_names (r.0 ++ l ∷ []) ≡ names u ++ l.name ∷ [] =
+    map-append (λ (x : AskedLabel). x.name) r.0 (l ∷ []) ∙ ap (λ ns. ns ++ l.name ∷ []) r.1 in
+    let long = longer_names (r.0 ++ l ∷ []) (names u ++ l.name ∷ []) are in
+    inr (
+      r.0 ++ l ∷ [],
+      omega (
+        arith,
+        long,
+        full.0,
+        length-append (names u) (l.name ∷ []),
+        length-map u (λ (x : Label). x.name),
+      ),
+      all_push (λ x. Contains asked x × NeedsMoreValues 1 x) r.0 l r.2
+          (Contains-from_IsIn asked l among, full.1),
+      subst (IsDistinct same_text) (sym are)
+          (distinct_push same_text (names u) l.name h.distinct
+          (no_such_name (names u) l.name fresh)),
+    )
+
+-- where there is no room for more than one text, no two of which are alike
+pub no_room_for : (u : List Label) (l : AskedLabel) (texts : List (String Global))
+    → IsTrue (is_label_name l.name) → 1 < length texts
+    → AreApart l.matchers (map string_bytes texts) → IsFullFor u (map string_bytes texts)
+    → HasNoRoomIn u l
+no_room_for u l texts named several apart (inl full) =
+    let long : 1 < length (map string_bytes texts) =
+    omega (arith, several, length-map texts (string_bytes {Z = Global})) in
+    inl (full, (named, (map string_bytes texts, long, utf8_texts texts, apart)))
+no_room_for u l texts named several apart (inr many) =
+    inr (named, (map string_bytes texts, many, utf8_texts texts, apart))
+
+-- there is none where a universe has none for the next label
+pub no_room_so_far : (u : List Label) (asked : List AskedLabel) (i : ℕ) (l : AskedLabel)
+    (unproved : List ℕ) → IsMadeOf u (take i asked) unproved
+    → (Contains (names u) l.name → ⊥) → slice_get asked i ≡ Some l → HasNoRoomIn u l
+    → HaveNoRoom asked
+no_room_so_far u asked i l unproved made fresh at full =
+    no_room_at u asked l made.universe
+    (λ name h. let r = made.named name h in (
+      r.0,
+      subst (λ (xs : List AskedLabel). IsIn xs r.0) (take-append-drop i asked)
+          (IsIn-left (take i asked) (drop i asked) r.0 r.1),
+      r.2,
+      r.3,
+      r.4,
+    ))
+    fresh (in_at asked i l at) full
 
 -- ---- All labels.
 
@@ -254,34 +456,37 @@ none_on name (m ∷ ms) none = elim (cases_Bool (same_text m.name name)) [
   | inr differs ↦ rw differs (none_on name ms (λ x i. none x (inr i)))
 ]
 
+pub on_name : (asked : List AskedLabel) (ms : List Condition) (l : AskedLabel) → IsAskedOf asked ms
+    → IsIn asked l → l.name ≢ [] → l.matchers ≡ about l.name ms
+on_name asked ms l asks i some =
+    AllByRecursion-at (λ x. x.name ≢ [] → x.matchers ≡ about x.name ms) asked l asks.matchers i some
+
 complete_at_asked : (u : List Label) (asked : List AskedLabel) (unproved : List ℕ) (l : AskedLabel)
     → StandsForEachBut u asked unproved → unproved ≡ [] → (ms : List Condition)
-    → IsAskedOf asked ms → IsIn asked l → IsTrue (is_label_name l.name)
-    → IsCompleteAt u ms l.name
-complete_at_asked u asked unproved l stands none ms asks i named =
+    → IsAskedOf asked ms → IsIn asked l → l.name ≢ [] → IsCompleteAt u ms l.name
+complete_at_asked u asked unproved l stands none ms asks i some =
     let at = at_in asked l i in
     let proved : Contains unproved at.0 → ⊥ = λ h.
     IsIn-from_Contains [] at.0 (subst (λ (xs : List ℕ). Contains xs at.0) none h) in
-    let covers = (stands at.0 l at.1 named proved).0 in
-    let on = AllByRecursion-at (λ x. x.name ≢ [] → x.matchers ≡ about x.name ms) asked l
-    asks.matchers i (no_name l.name named) in
-    subst (λ (ns : List Condition). Covers ns (label_texts u l.name)) on covers
+    let covers = (stands at.0 l at.1 proved).0 in
+    subst (λ (ns : List Condition). Covers ns (label_texts u l.name)) (on_name asked ms l asks i some)
+    covers
 
 -- where texts stand for all at each label that is asked of, the universe is complete
 pub complete_where_each_stands : (u : List Label) (asked : List AskedLabel) (unproved : List ℕ)
     → IsUniverse u → StandsForEachBut u asked unproved → unproved ≡ []
     → (ms : List Condition) → IsAskedOf asked ms → IsComplete u ms
-complete_where_each_stands u asked unproved universe stands none ms asks name named =
+complete_where_each_stands u asked unproved universe stands none ms asks name some =
     elim (cases_Bool (list_any (λ l. same_text l.name name) asked)) [
-      | inl some ↦
-          let found = any_in (λ l. same_text l.name name) asked some in
+      | inl there ↦
+          let found = any_in (λ l. same_text l.name name) asked there in
           let is = (bytes_decides found.0.name name).0 found.2 in
           subst (IsCompleteAt u ms) is
           (complete_at_asked u asked unproved found.0 stands none ms asks found.1
-          (subst (λ n. IsTrue (is_label_name n)) (sym is) named))
+          (λ empty. some (sym is ∙ empty)))
       | inr absent ↦
           complete_without_matchers u ms name universe (none_on name ms (λ m i e.
-          let is_some : m.name ≡ [] → ⊥ = λ empty. no_name name named (sym e ∙ empty) in
+          let is_some : m.name ≡ [] → ⊥ = λ empty. some (sym e ∙ empty) in
           let there = AllByRecursion-at (λ x. x.name ≢ [] → Contains (asked_names asked) x.name)
           ms m asks.every i is_some in
           let r = IsIn-unmap (λ l. l.name) asked m.name
@@ -290,3 +495,16 @@ complete_where_each_stands u asked unproved universe stands none ms asks name na
           ((bytes_decides r.0.name name).1 (r.2 ∙ e)) in
           let both : true ≡ false = sym passes ∙ absent in absurd (cc)))
     ]
+
+-- and no two values of a label are alike
+pub apart_values : (u : List Label) (asked : List AskedLabel) (unproved : List ℕ)
+    → IsMadeOf u asked unproved → (ms : List Condition) → IsAskedOf asked ms → HasApartValues u ms
+apart_values u asked unproved made ms asks =
+    AllByRecursion-each (λ name. AreApart (about name ms) (label_texts u name)) (names u)
+    (λ name i.
+    let r = made.named name i in
+    let some : r.0.name ≢ [] = λ empty.
+    no_name name (named_labels u name made.universe i) (sym r.2 ∙ empty) in
+    subst (λ n. AreApart (about n ms) (label_texts u name)) r.2
+    (subst (λ (ns : List Condition). AreApart ns (label_texts u name))
+    (on_name asked ms r.0 asks r.1 some) r.3))

@@ -1,12 +1,14 @@
 -- Universes that are made of what matchers ask.
-use Rattle.std.specs.Prelude.{◌≡◌, ◌⊎◌, ℕ, List, [], ◌∷◌, ◌++◌, Some, Contains, IsTrue, slice_get}
-use Rattle.std.specs.Prelude.{map, unwrap_or}
+use Rattle.std.specs.Prelude.{◌≡◌, ◌⊎◌, ◌<◌, ℕ, List, [], ◌∷◌, ◌++◌, Some, Contains, slice_get}
+use Rattle.std.specs.Prelude.{length, map, unwrap_or}
+use Rattle.std.specs.List.{AllByRecursion}
+use Rattle.std.specs.Str.{IsUtf8}
 use Rattle.am_universe.specs.declared.kind.Kind.{Kind}
 use Rattle.am_universe.specs.declared.kind.Kind.TheVariants as kinds
-use Rattle.am_universe.specs.Universe.{Label, is_label_name}
+use Rattle.am_universe.specs.Universe.{Label, names}
 use Rattle.am_labels.specs.Matcher.{Condition}
 use Rattle.am_classes.specs.Alike.{Covers, AreApart}
-use Rattle.am_complete.specs.Complete.{label_texts}
+use Rattle.am_complete.specs.Complete.{about, label_texts}
 use Rattle.am_complete.specs.AskedLabel.{AskedLabel}
 
 -- Some texts stand for all, to matchers, and each of them is needed: whatever text there is, one of
@@ -17,22 +19,37 @@ abbrev pub StandForAll : List Condition → List (List ℕ) → Type 0
 StandForAll ms texts = Covers ms texts × AreApart ms texts
 
 -- In a universe the texts of each label that is asked of stand for all, but for labels at some
--- positions, and for names that are no label names.
+-- positions.
+-- Source: own choice.
+-- Example: where `team="db"` and `a:b="x"` are asked, a universe in which `team` has `db` and
+-- absence does, but for the second label.
 abbrev pub StandsForEachBut : List Label → List AskedLabel → List ℕ → Type 0
 StandsForEachBut u asked unproved =
-    (i : ℕ) (l : AskedLabel) → slice_get asked i ≡ Some l → IsTrue (is_label_name l.name)
+    (i : ℕ) (l : AskedLabel) → slice_get asked i ≡ Some l
     → (Contains unproved i → ⊥) → StandForAll l.matchers (label_texts u l.name)
 
+-- No two values of a label of a universe are alike to the matchers on it.
+-- Source: own choice.
+-- Example: for `team="db"` alone, it is so where `team` has `db` and absence, and not where it has
+-- `web` too.
+abbrev pub HasApartValues : List Label → List Condition → Type 0
+HasApartValues u ms =
+    AllByRecursion (λ name. AreApart (about name ms) (label_texts u name)) (names u)
+
 -- The labels of one universe are those of another, and behind them one with a name and texts,
--- absence being the empty text; and those of the other and at most one more, with a name.
+-- absence being the empty text.
 abbrev pub IsWithLabel : List Label → List Label → List ℕ → List (List ℕ) → Type 0
 IsWithLabel u v name texts =
     (l : Label) × (v ≡ u ++ l ∷ []) × (l.name ≡ name)
     × (map (λ value. unwrap_or value []) l.values ≡ texts)
 
-abbrev pub IsWithAtMost : List Label → List Label → List ℕ → Type 0
-IsWithAtMost u v name =
-    (v ≡ u) ⊎ ((l : Label) × (v ≡ u ++ l ∷ []) × (l.name ≡ name))
+-- Or those of another, and at most one more: that of a label that is asked of, with more than one
+-- text, no two of which are alike to the matchers on it.
+abbrev pub IsWithAtMost : List Label → List Label → AskedLabel → Type 0
+IsWithAtMost u v l =
+    (v ≡ u)
+    ⊎ ((texts : List (List ℕ)) × IsWithLabel u v l.name texts × (1 < length texts)
+    × AllByRecursion IsUtf8 texts × AreApart l.matchers texts)
 
 -- Why no universe is made, or no label is declared: there is no room for it, or no memory.
 abbrev pub IsLimitOrMemory : Kind → Type 0

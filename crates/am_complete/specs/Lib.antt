@@ -5,6 +5,7 @@ pub mod AskedLabel
 pub mod Placed
 pub mod Gathering
 pub mod Covering
+pub mod Room
 pub mod Truths
 pub mod LabelState
 pub mod FoundState

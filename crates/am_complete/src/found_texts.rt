@@ -1,7 +1,9 @@
 //! Texts of a label whose classes could not be computed.
 
-ghost use Rattle.std.specs.Prelude.{◌≡◌};
+ghost use Rattle.std.specs.Prelude.{◌≡◌, ◌≤◌, IfOk, length, map, string_bytes};
 ghost use Rattle.std.specs.List.{AllByRecursion};
+ghost use Rattle.am_universe.specs.declared.limits.TheConstants.{MAX_VALUES};
+ghost use Rattle.am_complete.specs.Words.{AreApart};
 
 use crate::AskedLabel;
 use crate::representatives::put_in_order;
@@ -13,25 +15,40 @@ use std::alloc::{AllocError, Global};
 
 /// Some texts of a label, no two of which are alike to its matchers: of those that matchers name,
 /// absence, the usual ones, and the words of patterns, each that is alike to none before it, in the
-/// order of a label's values. It is not said that they are alike to all texts.
+/// order of a label's values. They need not stand for all texts.
 pub(crate) fn found_texts(
     alloc: Global,
     label: &AskedLabel<'_>,
     alerts: Option<&Alerts>,
 ) -> Result<Vec<String>, AllocError>
     requires on { AllByRecursion (λ m. m.name ≡ label.now.name) label.now.matchers }
+    ensures apart { IfOk result (λ texts.
+        AreApart label.now.matchers (map string_bytes texts.items)) }
+    ensures few { IfOk result (λ texts. length texts.items ≤ MAX_VALUES) }
 {
     let texts = texts_to_try(alloc, label, alerts)?;
-    let mut found = Vec::new(alloc);
     let tried = Truths::of(alloc, label.name(), label.matchers(), texts.as_slice())?;
-    if let Some(tried) = tried {
-        for j in 0..tried.len() {
-            if !tried.is_alike_to_an_earlier_one(j) {
-                found.push(String::from_str(alloc, tried.text(j))?)?;
-            }
-        }
-    }
+    let mut found = match tried {
+        Some(tried) => first_of_each_class(alloc, &tried)?,
+        None => Vec::new(alloc),
+    };
     put_in_order(&mut found)?;
+    Ok(found)
+}
+
+/// Of the texts that are tried those that are alike to none before them.
+fn first_of_each_class(alloc: Global, tried: &Truths<'_>) -> Result<Vec<String>, AllocError>
+    ensures apart { IfOk result (λ texts.
+        AreApart tried.now.matchers (map string_bytes texts.items)) }
+    ensures few { IfOk result (λ texts. length texts.items ≤ length tried.now.texts) }
+{
+    let mut found = Vec::new(alloc);
+    for j in 0..tried.len() {
+        if tried.is_alike_to_an_earlier_one(j) {
+            continue;
+        }
+        found.push(String::from_str(alloc, tried.text(j))?)?;
+    }
     Ok(found)
 }
 

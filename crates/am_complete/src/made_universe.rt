@@ -1,13 +1,19 @@
 //! A universe that is made of what matchers ask.
 
-ghost use Rattle.std.specs.Prelude.{◌≡◌, ◌⊎◌, ◌<◌, ℕ, [], List, length, map, Contains};
+ghost use Rattle.std.specs.Prelude.{◌≡◌, ◌≢◌, ◌++◌, ◌∷◌, ◌<◌, ℕ, [], List, length, map, Contains};
 ghost use Rattle.std.specs.Prelude.{IfOk, IfErr, OnOk, IsTrue, string_bytes, unwrap_or, option_map};
-ghost use Rattle.std.specs.List.{AllByRecursion};
+ghost use Rattle.std.specs.Prelude.{false};
+ghost use Rattle.std.specs.List.{AllByRecursion, IsDistinct};
+ghost use Rattle.am_universe.specs.Text.{same_text};
+ghost use Rattle.am_universe.specs.Universe.{is_empty_text};
+ghost use Rattle.am_universe.specs.declared.kind.Kind.TheVariants as kinds;
 ghost use Rattle.am_labels.specs.Words.{is_label_name, Label, IsUniverse, names};
 ghost use Rattle.am_labels.specs.Words.{texts_of, Condition};
-ghost use Rattle.am_complete.specs.Words.{IsAskedOf, IsComplete, label_texts};
-ghost use Rattle.am_complete.specs.Words.{StandForAll, StandsForEachBut};
+ghost use Rattle.am_complete.specs.Words.{AreApart, Covers, IsAskedOf, IsComplete, label_texts};
+ghost use Rattle.am_complete.specs.Words.{StandForAll, StandsForEachBut, HasApartValues};
+ghost use Rattle.am_complete.specs.Words.{AreUnproved, HaveNoRoom, MayBeUnproved};
 ghost use Rattle.am_complete.specs.Covering.{IsWithAtMost, IsWithLabel, IsLimitOrMemory};
+ghost use Rattle.am_complete.specs.Room.{IsFullFor, HasNoRoomIn, IsSettled};
 
 use crate::AskedLabel;
 use crate::found_texts::found_texts;
@@ -22,16 +28,18 @@ use std::alloc::{AllocError, Global};
 pub struct MadeUniverse {
     /// The labels of which matchers tell texts apart, each with one value for each class of texts.
     pub universe: Universe,
-    /// The positions, among the labels that are asked of, of those whose classes could not be
-    /// computed. They have values that were found, or are not declared.
+    /// The positions, among the labels that are asked of, of those that the universe need not stand
+    /// for, in their order. The classes of such a label could not be computed, and it has values
+    /// that were found, or is not declared; or no universe can declare it, since its name is no
+    /// label name, though it has more than one class.
     pub unproved: Vec<usize>,
 }
 
 /// Why no universe was made.
 #[derive(Clone, Copy, Debug, PartialEq, Eq)]
 pub struct MakingFault {
-    /// `Limit`: a label has more classes than a label may have values, or there are more labels
-    /// than a universe may have; `Memory`.
+    /// `Limit`: a label has more classes than a label may have values, or more labels have to be
+    /// declared than a universe may have; `Memory`.
     pub kind: Kind,
     /// The position of the label that was being declared.
     pub label: usize,
@@ -44,8 +52,8 @@ pub struct MakingFault {
 /// First stand the values that matchers name, in their order; then those of other classes, each
 /// that which most of the alerts have, or else `other`, or else a short one; then absence; and last
 /// values with a line feed. A label whose classes could not be computed has values that were found,
-/// and may lack some. Left out are names that are no label names, which no alert has. `Limit` where
-/// there is no room for a label or its classes; `Memory`.
+/// and may lack some. A name that is no label name is not declared. `Limit` where there is no room
+/// for a label or its classes; `Memory`.
 pub fn universe_of(
     alloc: Global,
     asked: &[AskedLabel<'_>],
@@ -57,9 +65,13 @@ pub fn universe_of(
         StandsForEachBut made.universe asked.now made.unproved.items) }
     ensures within { IfOk result (λ made.
         AllByRecursion (λ i. i < length asked.now) made.unproved.items) }
+    ensures unproved { IfOk result (λ made. AreUnproved asked.now made.unproved.items) }
+    ensures apart { IfOk result (λ made. (ms : List Condition) → IsAskedOf asked.now ms
+        → HasApartValues made.universe ms) }
     ensures complete { IfOk result (λ made. made.unproved.items ≡ []
         → (ms : List Condition) → IsAskedOf asked.now ms → IsComplete made.universe ms) }
     ensures kind { IfErr result (λ fault. IsLimitOrMemory fault.kind) }
+    ensures limit { IfErr result (λ fault. fault.kind ≡ kinds.Limit → HaveNoRoom asked.now) }
 {
     let mut universe = Universe::empty(alloc);
     let mut unproved = Vec::new(alloc);
@@ -69,7 +81,8 @@ pub fn universe_of(
     Ok(MadeUniverse { universe, unproved })
 }
 
-/// Declares the label at a position, or notes the position where its classes cannot be computed.
+/// Declares the label at a position, or notes the position where the universe need not stand for
+/// the label.
 fn add_or_note(
     alloc: Global,
     universe: &mut Universe,
@@ -83,15 +96,12 @@ fn add_or_note(
         → AllByRecursion (λ m. m.name ≡ label.now.name) label.now.matchers }
     requires fresh { ¬ Contains (names universe.old) label.now.name }
     ensures universe { OnOk result (IsUniverse universe.new) }
-    ensures stands { OnOk result ((Contains unproved.new.items position → ⊥)
-        → IsTrue (is_label_name label.now.name)
-        → StandForAll label.now.matchers (label_texts universe.new label.now.name)) }
-    ensures others { OnOk result (IsWithAtMost universe.old universe.new label.now.name) }
-    ensures kept { OnOk result ((other : ℕ)
-        → Contains unproved.old.items other → Contains unproved.new.items other) }
-    ensures alone { OnOk result ((other : ℕ) → Contains unproved.new.items other
-        → Contains unproved.old.items other ⊎ (other ≡ position)) }
+    ensures others { OnOk result (IsWithAtMost universe.old universe.new label.now) }
+    ensures settled { OnOk result (IsSettled universe.new label.now position
+        unproved.old.items unproved.new.items) }
     ensures kind { IfErr result (λ fault. IsLimitOrMemory fault.kind) }
+    ensures limit { IfErr result (λ fault.
+        fault.kind ≡ kinds.Limit → HasNoRoomIn universe.old label.now) }
 {
     match add_label(alloc, universe, label, alerts) {
         Ok(true) => Ok(()),
@@ -105,12 +115,8 @@ fn add_or_note(
 
 /// Adds a position.
 fn note(positions: &mut Vec<usize>, position: usize) -> Result<(), MakingFault>
-    ensures noted { OnOk result (Contains positions.new.items position) }
-    ensures kept { OnOk result ((other : ℕ)
-        → Contains positions.old.items other → Contains positions.new.items other) }
-    ensures alone { OnOk result ((other : ℕ) → Contains positions.new.items other
-        → Contains positions.old.items other ⊎ (other ≡ position)) }
-    ensures kind { IfErr result (λ fault. IsLimitOrMemory fault.kind) }
+    ensures noted { OnOk result (positions.new.items ≡ positions.old.items ++ position ∷ []) }
+    ensures kind { IfErr result (λ fault. fault.kind ≡ kinds.Memory) }
 {
     match positions.push(position) {
         Ok(()) => Ok(()),
@@ -122,7 +128,8 @@ fn note(positions: &mut Vec<usize>, position: usize) -> Result<(), MakingFault>
 }
 
 /// Declares a label, where it has a label name and more than one class of texts. `false` where the
-/// classes cannot be computed; it is declared then with texts that were found.
+/// universe need not stand for it: its classes cannot be computed, or there is more than one and
+/// its name is no label name.
 fn add_label(
     alloc: Global,
     universe: &mut Universe,
@@ -134,44 +141,53 @@ fn add_label(
         → AllByRecursion (λ m. m.name ≡ label.now.name) label.now.matchers }
     requires fresh { ¬ Contains (names universe.old) label.now.name }
     ensures universe { OnOk result (IsUniverse universe.new) }
-    ensures stands { IfOk result (λ proved. IsTrue proved → IsTrue (is_label_name label.now.name)
+    ensures stands { IfOk result (λ proved. IsTrue proved
         → StandForAll label.now.matchers (label_texts universe.new label.now.name)) }
-    ensures others { OnOk result
-        (IsWithAtMost universe.old universe.new label.now.name) }
+    ensures why { IfOk result (λ proved. proved ≡ false → MayBeUnproved label.now) }
+    ensures others { OnOk result (IsWithAtMost universe.old universe.new label.now) }
     ensures kind { IfErr result IsLimitOrMemory }
+    ensures limit { IfErr result (λ kind.
+        kind ≡ kinds.Limit → HasNoRoomIn universe.old label.now) }
 {
-    if !is_label_name(alloc, label.name()) {
-        return Ok(true);
-    }
     let Some(texts) = classes(alloc, label.matchers())? else {
-        let texts = found_texts(alloc, label, alerts)?;
-        declare_found(alloc, universe, label, texts.as_slice())?;
+        add_found(alloc, universe, label, alerts)?;
         return Ok(false);
     };
+    if !is_label_name(alloc, label.name()) {
+        // Absence alone stands for one class.
+        return Ok(texts.len() < 2);
+    }
     let texts = representatives(alloc, label, alerts, texts)?;
     declare_classes(alloc, universe, label, texts.as_slice())?;
     Ok(true)
 }
 
-/// Declares a label with texts that were found, where there is more than one.
-fn declare_found(
+/// Declares a label whose classes cannot be computed with texts that were found, where it has a
+/// label name.
+fn add_found(
     alloc: Global,
     universe: &mut Universe,
     label: &AskedLabel<'_>,
-    texts: &[String],
+    alerts: Option<&Alerts>,
 ) -> Result<(), Kind>
-    requires { IsUniverse universe.old }
+    requires universe { IsUniverse universe.old }
+    requires on { IsTrue (is_label_name label.now.name)
+        → AllByRecursion (λ m. m.name ≡ label.now.name) label.now.matchers }
+    requires fresh { ¬ Contains (names universe.old) label.now.name }
     ensures universe { OnOk result (IsUniverse universe.new) }
-    ensures others { OnOk result (IsWithAtMost universe.old universe.new label.now.name) }
+    ensures others { OnOk result (IsWithAtMost universe.old universe.new label.now) }
     ensures kind { IfErr result IsLimitOrMemory }
+    ensures limit { IfErr result (λ kind.
+        kind ≡ kinds.Limit → HasNoRoomIn universe.old label.now) }
 {
-    if texts.len() < 2 {
+    if !is_label_name(alloc, label.name()) {
         return Ok(());
     }
-    declare(alloc, universe, label.name(), texts)
+    let texts = found_texts(alloc, label, alerts)?;
+    declare_classes(alloc, universe, label, texts.as_slice())
 }
 
-/// Declares a label with these texts, one for each class, where there is more than one.
+/// Declares a label with these texts, each of another class, where there is more than one.
 fn declare_classes(
     alloc: Global,
     universe: &mut Universe,
@@ -179,13 +195,16 @@ fn declare_classes(
     texts: &[String],
 ) -> Result<(), Kind>
     requires universe { IsUniverse universe.old }
+    requires named { IsTrue (is_label_name label.now.name) }
     requires fresh { ¬ Contains (names universe.old) label.now.name }
-    requires stand { StandForAll label.now.matchers (map string_bytes texts.now) }
+    requires apart { AreApart label.now.matchers (map string_bytes texts.now) }
     ensures universe { OnOk result (IsUniverse universe.new) }
-    ensures stands { OnOk result
-        (StandForAll label.now.matchers (label_texts universe.new label.now.name)) }
-    ensures others { OnOk result (IsWithAtMost universe.old universe.new label.now.name) }
+    ensures stands { OnOk result (Covers label.now.matchers (map string_bytes texts.now)
+        → StandForAll label.now.matchers (label_texts universe.new label.now.name)) }
+    ensures others { OnOk result (IsWithAtMost universe.old universe.new label.now) }
     ensures kind { IfErr result IsLimitOrMemory }
+    ensures limit { IfErr result (λ kind.
+        kind ≡ kinds.Limit → HasNoRoomIn universe.old label.now) }
 {
     if texts.len() < 2 {
         return Ok(());
@@ -200,7 +219,8 @@ pub(crate) fn is_label_name(alloc: Global, name: &str) -> bool
     Universe::empty(alloc).name_fault(name).is_none()
 }
 
-/// Declares a label with these texts, the empty one being absence.
+/// Declares a label with these texts, the empty one being absence. `Limit` stands for each fault
+/// but want of memory: for a new label name and distinct texts there is no other.
 pub(crate) fn declare(
     alloc: Global,
     universe: &mut Universe,
@@ -212,6 +232,10 @@ pub(crate) fn declare(
     ensures declared { OnOk result
         (IsWithLabel universe.old universe.new name.now (map string_bytes texts.now)) }
     ensures kind { IfErr result IsLimitOrMemory }
+    ensures limit { IfErr result (λ kind. kind ≡ kinds.Limit → IsTrue (is_label_name name.now)
+        → ¬ Contains (names universe.old) name.now → texts.now ≢ []
+        → IsDistinct same_text (map string_bytes texts.now)
+        → IsFullFor universe.old (map string_bytes texts.now)) }
 {
     let name = String::from_str(alloc, name)?;
     let values = values_of(alloc, texts)?;
@@ -221,10 +245,10 @@ pub(crate) fn declare(
     }
 }
 
-/// `Memory`, or else `Limit`: a label whose name is new, and whose texts differ, is refused for
-/// nothing else.
+/// `Memory`, or else `Limit`.
 fn limit_or_memory(kind: Kind) -> Kind
-    ensures { IsLimitOrMemory result }
+    ensures either { IsLimitOrMemory result }
+    ensures memory { kind ≡ kinds.Memory → result ≡ kinds.Memory }
 {
     if kind == Kind::Memory {
         Kind::Memory
@@ -235,8 +259,10 @@ fn limit_or_memory(kind: Kind) -> Kind
 
 /// Texts as values of a label.
 fn values_of(alloc: Global, texts: &[String]) -> Result<Vec<Option<String>>, AllocError>
-    ensures { IfOk result (λ values. map (λ v. unwrap_or v []) (texts_of values.items)
+    ensures texts { IfOk result (λ values. map (λ v. unwrap_or v []) (texts_of values.items)
         ≡ map string_bytes texts.now) }
+    ensures values { IfOk result (λ values.
+        AllByRecursion (λ v. is_empty_text v ≡ false) (texts_of values.items)) }
 {
     let mut values = Vec::with_capacity(alloc, texts.len())?;
     for text in texts {
@@ -247,7 +273,10 @@ fn values_of(alloc: Global, texts: &[String]) -> Result<Vec<Option<String>>, All
 
 /// A text as a value of a label: the empty one is absence.
 fn value_of(alloc: Global, text: &str) -> Result<Option<String>, AllocError>
-    ensures { IfOk result (λ value. unwrap_or (option_map string_bytes value) [] ≡ text.now) }
+    ensures text { IfOk result (λ value.
+        unwrap_or (option_map string_bytes value) [] ≡ text.now) }
+    ensures value { IfOk result (λ value.
+        is_empty_text (option_map string_bytes value) ≡ false) }
 {
     if text.is_empty() {
         return Ok(None);

@@ -4,7 +4,7 @@ ghost use Rattle.std.specs.Prelude.{◌≡◌, ◌<◌, ℕ, List, Some, IfOk, l
 ghost use Rattle.std.specs.Prelude.{slice_get, string_bytes};
 ghost use Rattle.std.specs.List.{AllByRecursion};
 ghost use Rattle.am_labels.specs.Words.{Condition};
-ghost use Rattle.am_complete.specs.Words.{AreAlike, StandForAll};
+ghost use Rattle.am_complete.specs.Words.{AreAlike, AreApart, StandForAll};
 ghost use Rattle.am_complete.specs.Truths.{AreAlikeEach};
 
 use crate::AskedLabel;
@@ -97,8 +97,11 @@ fn chosen_text(
 
 /// Puts the texts of a label in order: absence behind the others, and texts with a line feed last.
 pub(crate) fn put_in_order(texts: &mut Vec<String>) -> Result<(), AllocError>
-    ensures { (ms : List Condition) → StandForAll ms (map string_bytes texts.old.items)
+    ensures stand { (ms : List Condition) → StandForAll ms (map string_bytes texts.old.items)
         → StandForAll ms (map string_bytes texts.new.items) }
+    ensures apart { (ms : List Condition) → AreApart ms (map string_bytes texts.old.items)
+        → AreApart ms (map string_bytes texts.new.items) }
+    ensures length { length texts.new.items ≡ length texts.old.items }
 {
     texts.sort_by_key(|text| rank_of(text.as_str()))
 }

@@ -1,9 +1,12 @@
 //! The truths of matchers on texts, by which texts are held against each other.
 
-ghost use Rattle.std.specs.Prelude.{◌≡◌, ◌<◌, ◌↔◌, ℕ, List, Some, length, map, slice_get};
+ghost use Rattle.std.specs.Prelude.{◌≡◌, ◌≢◌, ◌<◌, ◌≤◌, ◌↔◌, ℕ, List, [], Some, length, map};
+ghost use Rattle.std.specs.Prelude.{false, slice_get};
 ghost use Rattle.std.specs.Prelude.{IfOk, IfSome, IfNone, IsTrue, string_bytes};
-ghost use Rattle.std.specs.List.{AllByRecursion};
-ghost use Rattle.am_labels.specs.Words.{row_of};
+ghost use Rattle.std.specs.List.{AllByRecursion, IsDistinct};
+ghost use Rattle.am_universe.specs.Text.{same_text};
+ghost use Rattle.am_universe.specs.declared.limits.TheConstants.{MAX_VALUES};
+ghost use Rattle.am_labels.specs.Words.{row_of, is_label_name};
 ghost use Rattle.am_complete.specs.Words.{AreAlike, HasAlikeIn};
 ghost use Rattle.am_complete.specs.Truths.{IsAlikeAt};
 
@@ -37,7 +40,7 @@ impl<'m> Model for Truths<'m> {
 
 impl<'m> Truths<'m> {
     /// The truths of matchers on the label of this name. `None` where a label cannot have the
-    /// texts as its values: where they are too many.
+    /// texts as its values: where they are too many, if it has a label name and they are distinct.
     pub(crate) fn of(
         alloc: Global,
         name: &str,
@@ -49,6 +52,11 @@ impl<'m> Truths<'m> {
             truths.matchers ≡ map (λ m. m.now) matchers.now)) }
         ensures texts { IfOk result (λ found. IfSome found (λ truths.
             truths.texts ≡ map string_bytes texts.now)) }
+        ensures few { IfOk result (λ found. IfSome found (λ truths.
+            length truths.texts ≤ MAX_VALUES)) }
+        ensures none { IfOk result (λ found. IfNone found (IsTrue (is_label_name name.now)
+            → texts.now ≢ [] → IsDistinct same_text (map string_bytes texts.now)
+            → MAX_VALUES < length texts.now)) }
     {
         let mut trial = Universe::empty(alloc);
         match declare(alloc, &mut trial, name, texts) {
@@ -118,6 +126,9 @@ impl<'m> Truths<'m> {
     /// Whether a text before that at `j` is alike to it.
     pub(crate) fn is_alike_to_an_earlier_one(&self, j: usize) -> bool
         requires { j < length self.now.texts }
+        ensures { result ≡ false → (k : ℕ) (x y : List ℕ) → k < j
+            → slice_get self.now.texts k ≡ Some x → slice_get self.now.texts j ≡ Some y
+            → AreAlike self.now.matchers x y → ⊥ }
     {
         for k in 0..j {
             if self.are_alike(k, &*self, j) {

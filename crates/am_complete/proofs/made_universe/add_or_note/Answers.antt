@@ -1,6 +1,7 @@
+use Rattle.std.proofs.Common.{inr}
 use Rattle.std.proofs.lemmas.Result.{on_ok_weaker}
 use Rattle.am_complete.proofs.made_universe.add_or_note.Goals as goal
 
-pub returns-in-Ok-false-clause-stands : goal.returns-in-Ok-false-clause-stands
-returns-in-Ok-false-clause-stands c =
-    on_ok_weaker c.note.result (λ noted. λ none named. absurd (none noted)) c.note.ensures.noted
+pub returns-in-Ok-false-clause-settled : goal.returns-in-Ok-false-clause-settled
+returns-in-Ok-false-clause-settled c =
+    on_ok_weaker c.note.result (λ noted. inr (noted, c.in-Ok-false.ensures.why c.in-Ok-false.field-0-test)) c.note.ensures.noted

@@ -1,0 +1,119 @@
+-- Texts of which no two are alike: in another order, with one more, and how many there are.
+use Rattle.std.proofs.Common.{◌≡◌, ◌<◌, ◌≤◌, ◌⊎◌, ℕ, zero, suc, Bool, true, false, List, [], ◌∷◌, ◌++◌}
+use Rattle.std.proofs.Common.{length, map, String, string_bytes, get_or, Contains, refl, sym, ap, ◌∙◌}
+use Rattle.std.proofs.Common.{subst, inl, inr, arith}
+use Rattle.std.specs.Prelude.{Some, slice_get, IsPermutation}
+use Rattle.std.specs.List.{AllByRecursion, IsDistinct}
+use Rattle.std.specs.Str.{IsUtf8}
+use Rattle.std.specs.declared.alloc.Global.{Global}
+use Rattle.std.specs.Cmp.{IsEquivalence}
+use Rattle.std.specs.Cmp.Lexicographic.{bytes_decides}
+use Rattle.std.proofs.lemmas.Bool.{cases_Bool}
+use Rattle.std.proofs.lemmas.Str.{IsUtf8-string_bytes}
+use Rattle.std.proofs.lemmas.Map.Keys.{IsDistinct-IsPermutation, IsDistinct-from_apart}
+use Rattle.std.proofs.lemmas.Map.Made.{length-le_from_is_member}
+use Rattle.std.proofs.lemmas.Option.{slice_get-get_or, slice_get_within}
+use Rattle.am_universe.specs.Text.{same_text}
+use Rattle.am_universe.proofs.ListLemmas.{IsIn, IsIn-from_Contains}
+use Rattle.am_universe.proofs.ListLemmas.{AllByRecursion-at}
+use Rattle.am_labels.specs.Matcher.{Condition, holds}
+use Rattle.am_labels.proofs.Passing.{any_in, in_any}
+use Rattle.am_eval.proofs.Members.{in_at}
+use Rattle.am_classes.specs.Alike.{AreAlike, AreApart, HasAlikeIn}
+use Rattle.am_complete.proofs.Alike.{alike_itself, alike_turned, alike_joined}
+use Rattle.am_complete.proofs.ChosenTexts.{alike, alike_is, is_alike, turned, distinct_from_apart}
+use Rattle.am_complete.proofs.ChosenTexts.{apart_from_distinct_texts}
+
+-- ---- Texts in memory are UTF-8.
+
+pub utf8_texts : (texts : List (String Global)) → AllByRecursion IsUtf8 (map string_bytes texts)
+utf8_texts [] = tt
+utf8_texts (text ∷ texts) = (IsUtf8-string_bytes text, utf8_texts texts)
+
+-- ---- Another order.
+
+pub apart_moved : (ms : List Condition) (xs ys : List (List ℕ)) → IsPermutation xs ys
+    → AreApart ms xs → AreApart ms ys
+apart_moved ms xs ys moved apart =
+    apart_from_distinct_texts ms ys
+    (IsDistinct-IsPermutation (alike ms) (turned ms) xs ys moved (distinct_from_apart ms xs apart))
+
+-- ---- What is apart is distinct.
+
+pub distinct_where_apart : (ms : List Condition) (xs : List (List ℕ)) → AreApart ms xs
+    → IsDistinct same_text xs
+distinct_where_apart ms xs apart =
+    IsDistinct-from_apart same_text xs (λ i j d before inside.
+    elim (cases_Bool (same_text (get_or xs i d) (get_or xs j d))) [
+      | inl same ↦
+          let at_i = slice_get-get_or xs i d (omega arith) in
+          let at_j = slice_get-get_or xs j d inside in
+          let x = get_or xs i d in
+          let one : x ≡ get_or xs j d = (bytes_decides x (get_or xs j d)).0 same in
+          let e : i ≡ j = apart i j x (get_or xs j d) at_i at_j
+          (subst (AreAlike ms x) one (alike_itself ms x)) in
+          absurd (omega (arith, e, before))
+      | inr differs ↦ differs
+    ])
+
+-- ---- One text more.
+
+got_either : (xs : List (List ℕ)) (y x : List ℕ) (i : ℕ) → slice_get (xs ++ y ∷ []) i ≡ Some x
+    → (slice_get xs i ≡ Some x) ⊎ ((i ≡ length xs) × (y ≡ x))
+got_either [] y x zero h = inr (refl, cc)
+got_either [] y x (suc i) h = absurd (cc)
+got_either (z ∷ xs) y x zero h = inl h
+got_either (z ∷ xs) y x (suc i) h = elim (got_either xs y x i h) [
+  | inl a ↦ inl a
+  | inr b ↦ inr (ap suc b.0, b.1)
+]
+
+pub apart_pushed : (ms : List Condition) (xs : List (List ℕ)) (x : List ℕ) → AreApart ms xs
+    → ((y : List ℕ) → IsIn xs y → AreAlike ms y x → ⊥) → AreApart ms (xs ++ x ∷ [])
+apart_pushed ms xs x apart none i j y z at_y at_z same = elim (got_either xs x y i at_y) [
+  | inl a ↦ elim (got_either xs x z j at_z) [
+    | inl b ↦ apart i j y z a b same
+    | inr b ↦ absurd (none y (in_at xs i y a) (subst (AreAlike ms y) (sym b.1) same))
+  ]
+  | inr a ↦ elim (got_either xs x z j at_z) [
+    | inl b ↦
+        absurd (none z (in_at xs j z b)
+        (alike_turned ms x z (subst (λ (w : List ℕ). AreAlike ms w z) (sym a.1) same)))
+    | inr b ↦ a.0 ∙ sym b.0
+  ]
+]
+
+-- ---- How many there are.
+
+alike_itself_is : (ms : List Condition) (x : List ℕ) → alike ms x x ≡ true
+alike_itself_is ms x = alike_is ms x x (alike_itself ms x)
+
+-- truths are the same where each gives the other
+pub same_where_both : (a b : Bool) → (a ≡ true → b ≡ true) → (b ≡ true → a ≡ true) → a ≡ b
+same_where_both true b f g = sym (f refl)
+same_where_both false true f g = g refl
+same_where_both false false f g = refl
+
+alike_through : (ms : List Condition) (x y z : List ℕ) → alike ms x y ≡ true
+    → alike ms x z ≡ alike ms y z
+alike_through ms x y z e =
+    let xy = is_alike ms x y e in
+    same_where_both (alike ms x z) (alike ms y z)
+    (λ h. alike_is ms y z (alike_joined ms y x z (alike_turned ms x y xy) (is_alike ms x z h)))
+    (λ h. alike_is ms x z (alike_joined ms x y z xy (is_alike ms y z h)))
+
+alike_equivalence : (ms : List Condition) → IsEquivalence (alike ms)
+alike_equivalence ms =
+    record { refl = alike_itself_is ms; symm = turned ms; congr = alike_through ms }
+
+-- texts of which no two are alike are no more than others, where each has one alike among these
+pub apart_are_no_more : (ms : List Condition) (xs ys : List (List ℕ)) → AreApart ms xs
+    → AllByRecursion (HasAlikeIn ms ys) xs → length xs ≤ length ys
+apart_are_no_more ms xs ys apart each =
+    length-le_from_is_member (alike_equivalence ms) xs ys (distinct_from_apart ms xs apart)
+    (λ q h.
+    let x = any_in (alike ms q) xs h in
+    let y = AllByRecursion-at (HasAlikeIn ms ys) xs x.0 each x.1 in
+    in_any (alike ms q) ys y.0 (IsIn-from_Contains ys y.0 y.1)
+    (alike_is ms q y.0
+    (alike_joined ms q x.0 y.0 (is_alike ms q x.0 x.2) (alike_turned ms y.0 x.0 y.2))))

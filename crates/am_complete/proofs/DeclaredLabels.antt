@@ -1,0 +1,121 @@
+-- Why a label is not declared: for a new label name and distinct texts there is no room.
+use Rattle.std.proofs.Common.{◌≡◌, ◌≢◌, ◌<◌, ◌≤◌, ◌+◌, ◌⊎◌, ℕ, List, [], ◌∷◌, ◌++◌, length, map}
+use Rattle.std.proofs.Common.{true, false, refl, sym, ap, ◌∙◌, subst, inl, inr, arith, Some, None}
+use Rattle.std.proofs.Common.{Contains, length-append}
+use Rattle.std.specs.Prelude.{IsTrue, unwrap_or, Option}
+use Rattle.std.specs.List.{AllByRecursion, IsDistinct, list_any}
+use Rattle.std.specs.Cmp.Lexicographic.{bytes_decides}
+use Rattle.std.proofs.lemmas.Bool.{cases_Bool, cases_lt}
+use Rattle.std.proofs.lemmas.List.{length-map, map-append}
+use Rattle.am_universe.specs.declared.kind.Kind.TheVariants as kinds
+use Rattle.am_universe.specs.declared.label_fault.LabelFault.{LabelFault}
+use Rattle.am_universe.specs.declared.limits.TheConstants.{MAX_LABELS, MAX_VALUES}
+use Rattle.am_universe.specs.Text.{same_text}
+use Rattle.am_universe.specs.Universe.{Label, Values, IsLabel, IsUniverse, names, is_label_name}
+use Rattle.am_universe.specs.Universe.{same_value, is_empty_text, label_fault, memory_fault}
+use Rattle.am_universe.proofs.DistinctLists.{all_push, distinct_push}
+use Rattle.am_universe.proofs.LabelFaultLemmas.{universe_was_added}
+use Rattle.am_universe.proofs.ListLemmas.{IsIn, Contains-from_IsIn}
+use Rattle.am_labels.proofs.Passing.{any_in}
+use Rattle.am_complete.specs.Covering.{IsWithLabel}
+use Rattle.am_complete.specs.Room.{IsFullFor}
+
+-- ---- Values with distinct texts are distinct.
+
+differ : (v w : Option (List ℕ)) → same_text (unwrap_or v []) (unwrap_or w []) ≡ false
+    → same_value v w ≡ false
+differ None None h = h
+differ None (Some t) h = refl
+differ (Some s) None h = refl
+differ (Some s) (Some t) h = h
+
+each_differs : (v : Option (List ℕ)) (values : Values)
+    → AllByRecursion (λ t. same_text (unwrap_or v []) t ≡ false) (map (λ w. unwrap_or w []) values)
+    → AllByRecursion (λ w. same_value v w ≡ false) values
+each_differs v [] h = tt
+each_differs v (w ∷ values) h = (differ v w h.0, each_differs v values h.1)
+
+distinct_values : (values : Values) → IsDistinct same_text (map (λ v. unwrap_or v []) values)
+    → IsDistinct same_value values
+unfolding IsDistinct
+distinct_values [] h = tt
+distinct_values (v ∷ values) h = (each_differs v values h.0, distinct_values values h.1)
+
+-- ---- A new name.
+
+pub no_such_name : (ns : List (List ℕ)) (name : List ℕ) → (Contains ns name → ⊥)
+    → list_any (λ n. same_text n name) ns ≡ false
+no_such_name ns name fresh = elim (cases_Bool (list_any (λ n. same_text n name) ns)) [
+  | inl some ↦
+      let found = any_in (λ n. same_text n name) ns some in
+      absurd (fresh (Contains-from_IsIn ns name
+      (subst (IsIn ns) ((bytes_decides found.0 name).0 found.2) found.1)))
+  | inr none ↦ none
+]
+
+some_of : (texts : List (List ℕ)) → texts ≢ [] → 0 < length texts
+some_of [] h = absurd (h refl)
+some_of (t ∷ texts) h = omega arith
+
+-- ---- No other fault.
+
+fits : (u : List Label) (name : List ℕ) (values : Values) (texts : List (List ℕ)) → IsUniverse u
+    → IsTrue (is_label_name name) → (Contains (names u) name → ⊥)
+    → map (λ v. unwrap_or v []) values ≡ texts
+    → AllByRecursion (λ v. is_empty_text v ≡ false) values → texts ≢ []
+    → IsDistinct same_text texts → length u < MAX_LABELS → length texts ≤ MAX_VALUES
+    → label_fault u (record { name = name; values = values }) ≡ None
+fits u name values texts h named fresh are texts_of some distinct room few =
+    let l : Label = record { name = name; values = values } in
+    let long : length texts ≡ length values =
+    ap (λ (xs : List (List ℕ)). length xs) (sym are) ∙ length-map values (λ v. unwrap_or v []) in
+    let positive = some_of texts some in
+    let label : IsLabel l = record {
+      name = named;
+      some_value = omega (arith, long, positive);
+      at_most = omega (arith, long, few);
+      texts = texts_of;
+      distinct = distinct_values values (subst (IsDistinct same_text) (sym are) distinct);
+    } in
+    universe_was_added u l (record {
+      at_most = omega (arith, length-append u (l ∷ []), room);
+      labels = all_push IsLabel u l h.labels label;
+      distinct = subst (IsDistinct same_text) (sym (map-append (λ (x : Label). x.name) u (l ∷ [])))
+          (distinct_push same_text (names u) name h.distinct (no_such_name (names u) name fresh));
+    })
+
+pub full_otherwise : (u : List Label) (name : List ℕ) (values : Values) (texts : List (List ℕ))
+    (fault : LabelFault) → IsUniverse u → map (λ v. unwrap_or v []) values ≡ texts
+    → AllByRecursion (λ v. is_empty_text v ≡ false) values
+    → fault ≡ unwrap_or (label_fault u (record { name = name; values = values })) memory_fault
+    → fault.kind ≢ kinds.Memory
+    → IsTrue (is_label_name name) → (Contains (names u) name → ⊥) → texts ≢ []
+    → IsDistinct same_text texts → IsFullFor u texts
+full_otherwise u name values texts fault h are texts_of first no_memory named fresh some distinct =
+    elim (cases_lt (length u) MAX_LABELS) [
+      | inr full ↦ inl (omega (arith, full, h.at_most))
+      | inl room ↦ elim (cases_lt MAX_VALUES (length texts)) [
+        | inl many ↦ inr many
+        | inr few ↦
+            let none = fits u name values texts h named fresh are texts_of some distinct room few in
+            let is : fault ≡ memory_fault = first ∙ ap (λ o. unwrap_or o memory_fault) none in
+            absurd (no_memory (ap (λ (f : LabelFault). f.kind) is))
+      ]
+    ]
+
+-- a label that was declared has no more texts than a label may have
+pub few_declared : (u v : List Label) (name : List ℕ) (texts : List (List ℕ)) → IsUniverse v
+    → IsWithLabel u v name texts → length texts ≤ MAX_VALUES
+few_declared u v name texts h more =
+    let l = more.0 in
+    let label = last_label u l (subst IsUniverse more.1 h) in
+    let long : length texts ≡ length l.values =
+    ap (λ (xs : List (List ℕ)). length xs) (sym more.3) ∙ length-map l.values (λ v. unwrap_or v []) in
+    omega (arith, long, label.at_most)
+  where
+    last_of : (u : List Label) (l : Label) → AllByRecursion IsLabel (u ++ l ∷ []) → IsLabel l
+    last_of [] l h = h.0
+    last_of (k ∷ u) l h = last_of u l h.1
+
+    last_label : (u : List Label) (l : Label) → IsUniverse (u ++ l ∷ []) → IsLabel l
+    last_label u l h = last_of u l h.labels

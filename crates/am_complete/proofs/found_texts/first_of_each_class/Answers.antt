@@ -1,0 +1,42 @@
+use Rattle.std.proofs.Common.{◌≡◌, ◌<◌, ◌+◌, ℕ, List, [], ◌∷◌, ◌++◌, Some, length, map, string_bytes, sym, ap}
+use Rattle.std.proofs.Common.{◌∙◌, subst, inl, inr, arith, length-append, slice_get}
+use Rattle.std.proofs.lemmas.List.{map-append}
+use Rattle.am_universe.proofs.ListLemmas.{IsIn, IsIn-split}
+use Rattle.am_classes.specs.Alike.{AreApart}
+use Rattle.am_complete.proofs.ApartTexts.{apart_pushed}
+use Rattle.am_complete.proofs.found_texts.first_of_each_class.Goals as goal
+
+-- what is found is of the texts so far
+one_more : (tried before : List (List ℕ)) (j : ℕ) (x : List ℕ) → slice_get tried j ≡ Some x
+    → ((text : List ℕ) → IsIn before text → (k : ℕ) × (k < j) × (slice_get tried k ≡ Some text))
+    → (text : List ℕ) → IsIn (before ++ x ∷ []) text
+    → (k : ℕ) × (k < j + 1) × (slice_get tried k ≡ Some text)
+one_more tried before j x at from text i = elim (IsIn-split before (x ∷ []) text i) [
+  | inl a ↦ let r = from text a in (r.0, omega (arith, r.1), r.2)
+  | inr b ↦ elim b [
+    | inl e ↦ (j, omega arith, at ∙ ap Some e)
+    | inr none ↦ absurd none
+  ]
+]
+
+pub loop-j-preserved : goal.loop-j-preserved
+loop-j-preserved c =
+    let tried = c.args.tried.now in
+    let before = map string_bytes c.loop-j.found.items in
+    let x = string_bytes c.in_ok-from_str.field-0 in
+    let at : slice_get tried.texts c.loop-j.j ≡ Some x =
+    c.text.ensures ∙ ap Some (sym c.in_ok-from_str.ensures.ok) in
+    let texts : map string_bytes c.push.new.self.items ≡ before ++ x ∷ [] =
+    ap (map string_bytes) c.in_ok-push.ensures.items
+    ∙ map-append string_bytes c.loop-j.found.items (c.in_ok-from_str.field-0 ∷ []) in
+    record {
+      apart = subst (AreApart tried.matchers) (sym texts)
+          (apart_pushed tried.matchers before x c.loop-j.invariant.apart (λ y i same.
+          let r = c.loop-j.invariant.from y i in
+          c.is_alike_to_an_earlier_one.ensures c.if-is_alike_to_an_earlier_one.false r.0 y x r.1
+          r.2 at same));
+      from = λ text i.
+          one_more tried.texts before c.loop-j.j x at c.loop-j.invariant.from text
+          (subst (λ (ts : List (List ℕ)). IsIn ts text) texts i);
+      few = omega (arith, c.loop-j.invariant.few, c.in_ok-push.ensures.len);
+    }
