@@ -7,12 +7,12 @@ use Rattle.am_labels.specs.Matcher.{Condition}
 use Rattle.am_labels.specs.Space.{Space}
 use Rattle.am_files.specs.ConfigFile.{Configuration}
 use Rattle.am_eval.specs.World.{World}
-use Rattle.am_complete.specs.Complete.{IsComplete, AreAmong}
+use Rattle.am_complete.specs.Complete.{IsComplete, IsSpaceComplete, AreAmong}
 use Rattle.am_complete.specs.Asked.{route_conditions, rule_conditions, equal_conditions}
 use Rattle.am_complete.specs.Asked.{silence_conditions, impossible_conditions, world_conditions}
 use Rattle.am_complete.specs.Asked.{coverage_conditions}
 use Rattle.am_complete.proofs.Alike.{is_among}
-use Rattle.am_complete.proofs.CompleteUniverses.{complete_for_some}
+use Rattle.am_complete.proofs.CompleteUniverses.{complete_for_some, space_complete_for_some}
 
 among_by : (ns ms : List Condition) → ((m : Condition) → IsIn ns m → IsIn ms m) → AreAmong ns ms
 among_by ns ms each =
@@ -42,13 +42,13 @@ routes_in_world w =
     ++ (equal_conditions w.config.rules w.alerts ++ silence_conditions w.silences))
 
 pub complete_for_routes : (s : Space) (w : World)
-    → IsComplete s.labels (world_conditions w ++ impossible_conditions s.impossible)
-    → IsComplete s.labels (coverage_conditions s w.config)
+    → IsSpaceComplete s (world_conditions w ++ impossible_conditions s.impossible)
+    → IsSpaceComplete s (coverage_conditions s w.config)
 complete_for_routes s w complete =
     let routes = route_conditions w.config.root in
     let world = world_conditions w in
     let lists = impossible_conditions s.impossible in
-    complete_for_some s.labels (coverage_conditions s w.config) (world ++ lists)
+    space_complete_for_some s (coverage_conditions s w.config) (world ++ lists)
     (both_among routes lists (world ++ lists)
     (among_through routes world (world ++ lists) (routes_in_world w) (first_among world lists))
     (last_among world lists))

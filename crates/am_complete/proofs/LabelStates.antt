@@ -25,22 +25,29 @@ use Rattle.am_universe.proofs.ListLemmas.{IsIn-from_Contains, Contains-from_IsIn
 use Rattle.am_universe.proofs.ListLemmas.{AllByRecursion-each, AllByRecursion-at}
 use Rattle.am_universe.proofs.UniverseLemmas.{no_label}
 use Rattle.am_labels.specs.Matcher.{Condition}
+use Rattle.am_labels.specs.Space.{Space}
 use Rattle.am_labels.proofs.Passing.{any_in, in_any, kept_from_passes}
 use Rattle.am_eval.proofs.Members.{in_at}
-use Rattle.am_classes.specs.Alike.{HasAlikeIn, Covers}
+use Rattle.am_classes.specs.Alike.{HasAlikeIn, HasPattern}
 use Rattle.am_complete.specs.declared.label_state.Completeness.{Completeness}
 use Rattle.am_complete.specs.declared.label_state.Completeness.TheVariants as state_is
 use Rattle.am_complete.specs.declared.label_state.LabelState.{LabelState}
-use Rattle.am_complete.specs.Complete.{about, label_texts, texts_of_label, IsComplete, IsCompleteAt}
+use Rattle.am_complete.specs.Complete.{about, label_texts, texts_of_label, asks_only_of, AreAmong}
+use Rattle.am_complete.specs.Complete.{IsSpaceComplete, IsSpaceCompleteAt}
+use Rattle.am_complete.specs.Asked.{impossible_conditions}
 use Rattle.am_complete.specs.AskedLabel.{AskedLabel, asked_names, IsAskedOf}
-use Rattle.am_complete.specs.LabelState.{HasClasses, IsSoAt, is_settled, is_declared, reported_names}
-use Rattle.am_complete.specs.FoundState.{IsFoundAt, IsSoOfAsked, IsSoOfName, IsWithState}
-use Rattle.am_complete.specs.FoundState.{is_unseen}
+use Rattle.am_complete.specs.LabelState.{CoverPossible, HasClasses, IsSoAt, IsSoIfNamed, is_settled}
+use Rattle.am_complete.specs.LabelState.{is_declared, reported_names}
+use Rattle.am_complete.specs.FoundState.{HasThoseOfLists, IsAskedFor, IsFoundAt, IsSoOfAsked}
+use Rattle.am_complete.specs.FoundState.{IsSoOfName, IsWithState, is_unseen}
 use Rattle.am_complete.specs.Placed.{begins}
-use Rattle.am_complete.proofs.Alike.{about_is, alike_joined}
-use Rattle.am_complete.proofs.CompleteUniverses.{complete_without_matchers}
+use Rattle.am_complete.proofs.Alike.{about_is, is_about, is_among, alike_joined}
+use Rattle.am_complete.proofs.AmongMatchers.{first_among, last_among, among_through}
+use Rattle.am_complete.proofs.CompleteUniverses.{space_complete_without_matchers}
+use Rattle.am_complete.proofs.CompleteUniverses.{space_complete_where_asked}
 use Rattle.am_complete.proofs.LabelTexts.{has_name}
-use Rattle.am_complete.proofs.MadeUniverses.{no_name, none_on}
+use Rattle.am_complete.proofs.MadeUniverses.{no_name, none_on, on_name}
+use Rattle.am_complete.proofs.PossibleTexts.{all_pass}
 
 -- ---- The texts of a label, by its position.
 
@@ -78,60 +85,109 @@ texts_more values j texts text before here lt =
 -- ---- At one label.
 
 -- texts that are alike to texts that cover all cover all
-pub covered : (ms : List Condition) (have texts : List (List ℕ)) → Covers ms texts
-    → AllByRecursion (HasAlikeIn ms have) texts → Covers ms have
-covered ms have texts covers each text valid =
-    let one = covers text valid in
+pub covered : (impossible : List (List Condition)) (name : List ℕ) (ms : List Condition)
+    (have texts : List (List ℕ)) → CoverPossible impossible name ms texts
+    → AllByRecursion (HasAlikeIn ms have) texts → CoverPossible impossible name ms have
+covered impossible name ms have texts covers each text valid possible =
+    let one = covers text valid possible in
     let there = AllByRecursion-at (HasAlikeIn ms have) texts one.0 each
     (IsIn-from_Contains texts one.0 one.1) in
     (there.0, there.1, alike_joined ms there.0 one.0 text there.2 one.2)
 
--- the matchers of a label that is asked of, where that is a label name
-the_matchers : (asked : List AskedLabel) (ms : List Condition) (l : AskedLabel)
-    → IsAskedOf asked ms → IsIn asked l → IsTrue (is_label_name l.name)
-    → l.matchers ≡ about l.name ms
-the_matchers asked ms l asks i named =
-    AllByRecursion-at (λ x. x.name ≢ [] → x.matchers ≡ about x.name ms) asked l asks.matchers i
-    (no_name l.name named)
-
--- they are on it
-pub on_label : (asked : List AskedLabel) (ms : List Condition) (l : AskedLabel)
-    → IsAskedOf asked ms → IsIn asked l → IsTrue (is_label_name l.name)
+-- the matchers of a label that is asked of are on it
+on_named : (asked : List AskedLabel) (ms : List Condition) (l : AskedLabel)
+    → IsAskedOf asked ms → IsIn asked l → l.name ≢ []
     → AllByRecursion (λ m. m.name ≡ l.name) l.matchers
-on_label asked ms l asks i named =
+on_named asked ms l asks i some =
     subst (λ (ns : List Condition). AllByRecursion (λ m. m.name ≡ l.name) ns)
-    (sym (the_matchers asked ms l asks i named))
+    (sym (on_name asked ms l asks i some))
     (AllByRecursion-each (λ m. m.name ≡ l.name) (about l.name ms)
     (λ m h. (about_is l.name ms m h).1))
 
-found_is_so : (u : List Label) (asked : List AskedLabel) (ms : List Condition) (l : AskedLabel)
-    (c : Completeness) → IsAskedOf asked ms → IsIn asked l → IsFoundAt u l c
-    → IsSoAt u ms asked l.name c
-found_is_so u asked ms l (state_is.Complete n) asks i h =
-    let on = the_matchers asked ms l asks i h.0 in (
-      subst (λ (ns : List Condition). Covers ns (label_texts u l.name)) on h.1,
-      subst (λ (ns : List Condition). HasClasses ns n) on h.2,
+pub on_label : (asked : List AskedLabel) (ms : List Condition) (l : AskedLabel)
+    → IsAskedOf asked ms → IsIn asked l → IsTrue (is_label_name l.name)
+    → AllByRecursion (λ m. m.name ≡ l.name) l.matchers
+on_label asked ms l asks i named = on_named asked ms l asks i (no_name l.name named)
+
+-- and those of impossible lists that ask of it alone are among them
+all_on : (name : List ℕ) (list : List Condition) → IsTrue (asks_only_of name list)
+    → (m : Condition) → IsIn list m → m.name ≡ name
+all_on name list alone m i =
+    (bytes_decides m.name name).0 (all_pass (λ n. same_text n.name name) list m alone i)
+
+list_among : (ms list : List Condition) (name : List ℕ) → AreAmong list ms
+    → IsTrue (asks_only_of name list) → AreAmong list (about name ms)
+list_among ms list name among alone =
+    AllByRecursion-each (Contains (about name ms)) list (λ m i.
+    Contains-from_IsIn (about name ms) m
+    (is_about name ms m (is_among list ms m among i) (all_on name list alone m i)))
+
+those_of_lists : (ms : List Condition) (l : AskedLabel) (impossible : List (List Condition))
+    → AreAmong (impossible_conditions impossible) ms → l.matchers ≡ about l.name ms
+    → HasThoseOfLists impossible l
+those_of_lists ms l [] among are = tt
+those_of_lists ms l (list ∷ impossible) among are =
+    let rest = impossible_conditions impossible in (
+      λ alone.
+          subst (λ (ns : List Condition). AreAmong list ns) (sym are)
+          (list_among ms list l.name (among_through list (list ++ rest) ms (first_among list rest) among)
+          alone),
+      those_of_lists ms l impossible
+          (among_through rest (list ++ rest) ms (last_among list rest) among) are,
     )
-found_is_so u asked ms l (state_is.Lacks text) asks i h =
-    let on = the_matchers asked ms l asks i h.0 in (
+
+pub asked_for : (impossible : List (List Condition)) (asked : List AskedLabel)
+    (ms : List Condition) (l : AskedLabel) → IsAskedOf asked ms
+    → AreAmong (impossible_conditions impossible) ms → IsIn asked l → l.name ≢ []
+    → IsAskedFor impossible l
+asked_for impossible asked ms l asks among i some = record {
+  on = on_named asked ms l asks i some;
+  lists = those_of_lists ms l impossible among (on_name asked ms l asks i some);
+}
+
+found_is_so : (s : Space) (asked : List AskedLabel) (ms : List Condition) (l : AskedLabel)
+    (c : Completeness) → IsAskedOf asked ms → IsIn asked l → l.name ≢ [] → IsFoundAt s l c
+    → IsSoAt s ms asked l.name c
+found_is_so s asked ms l (state_is.Complete n) asks i some h =
+    let on = on_name asked ms l asks i some in (
+      subst
+          (λ (ns : List Condition). CoverPossible s.impossible l.name ns
+          (label_texts s.labels l.name))
+          on h.0,
+      subst (λ (ns : List Condition). HasClasses s.impossible l.name ns n) on h.1,
+    )
+found_is_so s asked ms l (state_is.Lacks text) asks i some h =
+    let on = on_name asked ms l asks i some in (
+      h.0,
       h.1,
-      λ alike. h.2 (subst
-          (λ (ns : List Condition). HasAlikeIn ns (label_texts u l.name) (string_bytes text))
+      h.2,
+      λ alike. h.3 (subst
+          (λ (ns : List Condition). HasAlikeIn ns (label_texts s.labels l.name)
+          (string_bytes text))
           (sym on) alike),
     )
-found_is_so u asked ms l state_is.Unasked asks i h = absurd h
-found_is_so u asked ms l state_is.Undeclarable asks i h = h
-found_is_so u asked ms l (state_is.Unproved origin) asks i h =
-    (l, Contains-from_IsIn asked l i, refl, h)
+found_is_so s asked ms l state_is.Unasked asks i some h = absurd h
+found_is_so s asked ms l state_is.Undeclarable asks i some h =
+    let on = on_name asked ms l asks i some in (
+      h.0,
+      λ complete. h.1 (subst
+          (λ (ns : List Condition). CoverPossible s.impossible l.name ns
+          (label_texts s.labels l.name))
+          (sym on) complete),
+    )
+found_is_so s asked ms l (state_is.Unproved origin) asks i some h = (
+  (l, Contains-from_IsIn asked l i, refl, h.0),
+  subst (λ (ns : List Condition). HasPattern ns) (on_name asked ms l asks i some) h.1,
+)
 
-pub state_is_so : (u : List Label) (asked : List AskedLabel) (alerts : Option (List LabelMap))
-    (l : AskedLabel) (s : LabelState) → IsIn asked l → IsSoOfAsked u l alerts s
-    → IsSoOfName u asked alerts s
-state_is_so u asked alerts l s i h =
+pub state_is_so : (s : Space) (asked : List AskedLabel) (alerts : Option (List LabelMap))
+    (l : AskedLabel) (state : LabelState) → IsIn asked l → IsSoOfAsked s l alerts state
+    → IsSoOfName s asked alerts state
+state_is_so s asked alerts l state i h =
     record {
       so = λ ms asks.
-          subst (λ (name : List ℕ). IsSoAt u ms asked name s.completeness) (sym h.name)
-          (found_is_so u asked ms l s.completeness asks i h.found);
+          subst (λ (name : List ℕ). IsSoIfNamed s ms asked name state.completeness) (sym h.name)
+          (λ some. found_is_so s asked ms l state.completeness asks i some (h.found some));
       unseen = h.unseen;
     }
 
@@ -226,37 +282,39 @@ each_alike ms ns have texts wanted others e f g h =
     (subst (λ (ks : List Condition). AllByRecursion (HasAlikeIn ks have) wanted) e h))
 
 -- what is so of each state, for some matchers; and which are unseen
-pub each_for : (u : List Label) (asked : List AskedLabel) (alerts : Option (List LabelMap))
-    (states : List LabelState) → AllByRecursion (IsSoOfName u asked alerts) states
+pub each_for : (s : Space) (asked : List AskedLabel) (alerts : Option (List LabelMap))
+    (states : List LabelState) → AllByRecursion (IsSoOfName s asked alerts) states
     → (ms : List Condition) → IsAskedOf asked ms
-    → AllByRecursion (λ s. IsSoAt u ms asked (string_bytes s.name) s.completeness) states
-each_for u asked alerts [] each ms asks = tt
-each_for u asked alerts (s ∷ states) each ms asks =
-    (each.0.so ms asks, each_for u asked alerts states each.1 ms asks)
+    → AllByRecursion
+    (λ state. IsSoIfNamed s ms asked (string_bytes state.name) state.completeness) states
+each_for s asked alerts [] each ms asks = tt
+each_for s asked alerts (state ∷ states) each ms asks =
+    (each.0.so ms asks, each_for s asked alerts states each.1 ms asks)
 
-pub each_unseen : (u : List Label) (asked : List AskedLabel) (alerts : Option (List LabelMap))
-    (states : List LabelState) → AllByRecursion (IsSoOfName u asked alerts) states
-    → AllByRecursion (λ s. s.unseen ≡ is_unseen alerts (string_bytes s.name)) states
-each_unseen u asked alerts [] each = tt
-each_unseen u asked alerts (s ∷ states) each =
-    (each.0.unseen, each_unseen u asked alerts states each.1)
+pub each_unseen : (s : Space) (asked : List AskedLabel) (alerts : Option (List LabelMap))
+    (states : List LabelState) → AllByRecursion (IsSoOfName s asked alerts) states
+    → AllByRecursion
+    (λ state. state.unseen ≡ is_unseen alerts (string_bytes state.name)) states
+each_unseen s asked alerts [] each = tt
+each_unseen s asked alerts (state ∷ states) each =
+    (each.0.unseen, each_unseen s asked alerts states each.1)
 
-pub state_names : (u : List Label) (asked : List AskedLabel) (i : ℕ) (l : AskedLabel)
+pub state_names : (s : Space) (asked : List AskedLabel) (i : ℕ) (l : AskedLabel)
     (alerts : Option (List LabelMap)) (first before after : List LabelState) → i < length asked
     → l ≡ get_or asked i l
-    → map (λ s. string_bytes s.name) before
-    ≡ map (λ s. string_bytes s.name) first
-    ++ filter (λ name. not (is_declared u name)) (asked_names (take i asked))
-    → IsWithState u l alerts before after
-    → map (λ s. string_bytes s.name) after
-    ≡ map (λ s. string_bytes s.name) first
-    ++ filter (λ name. not (is_declared u name)) (asked_names (take (i + 1) asked))
-state_names u asked i l alerts first before after lt is so_far step =
-    let p : List ℕ → Bool = λ name. not (is_declared u name) in
-    let old = map (λ s. string_bytes s.name) first in
+    → map (λ state. string_bytes state.name) before
+    ≡ map (λ state. string_bytes state.name) first
+    ++ filter (λ name. not (is_declared s.labels name)) (asked_names (take i asked))
+    → IsWithState s l alerts before after
+    → map (λ state. string_bytes state.name) after
+    ≡ map (λ state. string_bytes state.name) first
+    ++ filter (λ name. not (is_declared s.labels name)) (asked_names (take (i + 1) asked))
+state_names s asked i l alerts first before after lt is so_far step =
+    let p : List ℕ → Bool = λ name. not (is_declared s.labels name) in
+    let old = map (λ state. string_bytes state.name) first in
     let done = filter p (asked_names (take i asked)) in
-    let one : map (λ s. string_bytes s.name) after
-    ≡ map (λ s. string_bytes s.name) before ++ filter p (l.name ∷ []) = by step in
+    let one : map (λ state. string_bytes state.name) after
+    ≡ map (λ state. string_bytes state.name) before ++ filter p (l.name ∷ []) = by step in
     let longer : done ++ filter p (l.name ∷ []) ≡ filter p (asked_names (take (i + 1) asked)) =
     sym (filter-append p (asked_names (take i asked)) (l.name ∷ []))
     ∙ ap (filter p) (sym (map-append (λ x. x.name) (take i asked) (l ∷ []))
@@ -265,65 +323,50 @@ state_names u asked i l alerts first before after lt is so_far step =
     one ∙ ap (λ xs. xs ++ filter p (l.name ∷ [])) so_far
     ∙ append_assoc old done (filter p (l.name ∷ [])) ∙ ap (λ xs. old ++ xs) longer
   where
-    by : IsWithState u l alerts before after
-        → map (λ s. string_bytes s.name) after
-        ≡ map (λ s. string_bytes s.name) before
-        ++ filter (λ name. not (is_declared u name)) (l.name ∷ [])
+    by : IsWithState s l alerts before after
+        → map (λ state. string_bytes state.name) after
+        ≡ map (λ state. string_bytes state.name) before
+        ++ filter (λ name. not (is_declared s.labels name)) (l.name ∷ [])
     by (inl stays) =
-        let none : filter (λ name. not (is_declared u name)) (l.name ∷ []) ≡ [] =
+        let none : filter (λ name. not (is_declared s.labels name)) (l.name ∷ []) ≡ [] =
         ap (λ b. cond (not b) (l.name ∷ []) []) stays.0 in
-        ap (map (λ s. string_bytes s.name)) stays.1
-        ∙ sym (append-nil (map (λ s. string_bytes s.name) before))
-        ∙ ap (λ xs. map (λ s. string_bytes s.name) before ++ xs) (sym none)
+        ap (map (λ state. string_bytes state.name)) stays.1
+        ∙ sym (append-nil (map (λ state. string_bytes state.name) before))
+        ∙ ap (λ xs. map (λ state. string_bytes state.name) before ++ xs) (sym none)
     by (inr more) =
-        let s : LabelState = more.1.0 in
-        let kept : filter (λ name. not (is_declared u name)) (l.name ∷ []) ≡ l.name ∷ [] =
+        let state : LabelState = more.1.0 in
+        let kept : filter (λ name. not (is_declared s.labels name)) (l.name ∷ []) ≡ l.name ∷ [] =
         ap (λ b. cond (not b) (l.name ∷ []) []) more.0 in
-        ap (map (λ s. string_bytes s.name)) more.1.1
-        ∙ map-append (λ s. string_bytes s.name) before (s ∷ [])
-        ∙ ap (λ n. map (λ s. string_bytes s.name) before ++ n ∷ []) more.1.2.name
-        ∙ ap (λ xs. map (λ s. string_bytes s.name) before ++ xs) (sym kept)
+        ap (map (λ state. string_bytes state.name)) more.1.1
+        ∙ map-append (λ state. string_bytes state.name) before (state ∷ [])
+        ∙ ap (λ n. map (λ state. string_bytes state.name) before ++ n ∷ []) more.1.2.name
+        ∙ ap (λ xs. map (λ state. string_bytes state.name) before ++ xs) (sym kept)
 
-pub states_so : (u : List Label) (asked : List AskedLabel) (l : AskedLabel)
+pub states_so : (s : Space) (asked : List AskedLabel) (l : AskedLabel)
     (alerts : Option (List LabelMap)) (before after : List LabelState) → IsIn asked l
-    → IsWithState u l alerts before after
-    → AllByRecursion (IsSoOfName u asked alerts) before
-    → AllByRecursion (IsSoOfName u asked alerts) after
-states_so u asked l alerts before after i (inl stays) each =
-    subst (λ (xs : List LabelState). AllByRecursion (IsSoOfName u asked alerts) xs) (sym stays.1)
+    → IsWithState s l alerts before after
+    → AllByRecursion (IsSoOfName s asked alerts) before
+    → AllByRecursion (IsSoOfName s asked alerts) after
+states_so s asked l alerts before after i (inl stays) each =
+    subst (λ (xs : List LabelState). AllByRecursion (IsSoOfName s asked alerts) xs) (sym stays.1)
     each
-states_so u asked l alerts before after i (inr more) each =
-    subst (λ (xs : List LabelState). AllByRecursion (IsSoOfName u asked alerts) xs)
+states_so s asked l alerts before after i (inr more) each =
+    subst (λ (xs : List LabelState). AllByRecursion (IsSoOfName s asked alerts) xs)
     (sym more.1.1)
-    (all_push (IsSoOfName u asked alerts) before more.1.0 each
-    (state_is_so u asked alerts l more.1.0 i more.1.2))
+    (all_push (IsSoOfName s asked alerts) before more.1.0 each
+    (state_is_so s asked alerts l more.1.0 i more.1.2))
 
 -- ---- All labels.
 
-all_pass : {X : Type 0} (test : X → Bool) (xs : List X) (x : X) → list_all test xs ≡ true
-    → IsIn xs x → test x ≡ true
-all_pass test [] x h i = absurd i
-all_pass test (y ∷ xs) x h i = elim (cases_Bool (test y)) [
-  | inl passes ↦ elim i [
-    | inl same ↦ ap test (sym same) ∙ passes
-    | inr later ↦ all_pass test xs x (sym (ap (λ b. b && list_all test xs) passes) ∙ h) later
-  ]
-  | inr fails ↦
-      let none : list_all test (y ∷ xs) ≡ false = ap (λ b. b && list_all test xs) fails in
-      let both : true ≡ false = sym h ∙ none in absurd (cc)
-]
-
-settled_complete : (u : List Label) (ms : List Condition) (asked : List AskedLabel)
-    (name : List ℕ) (c : Completeness) → IsUniverse u → IsTrue (is_label_name name)
-    → IsSoAt u ms asked name c → is_settled c ≡ true → IsCompleteAt u ms name
-settled_complete u ms asked name (state_is.Complete n) universe named so settled = so.0
-settled_complete u ms asked name (state_is.Lacks text) universe named so settled = absurd (cc)
-settled_complete u ms asked name state_is.Unasked universe named so settled =
-    complete_without_matchers u ms name universe so
-settled_complete u ms asked name state_is.Undeclarable universe named so settled =
-    let both : true ≡ false = sym named ∙ so in absurd (cc)
-settled_complete u ms asked name (state_is.Unproved origin) universe named so settled =
-    absurd (cc)
+settled_complete : (s : Space) (ms : List Condition) (asked : List AskedLabel)
+    (name : List ℕ) (c : Completeness) → IsUniverse s.labels → IsSoAt s ms asked name c
+    → is_settled c ≡ true → IsSpaceCompleteAt s ms name
+settled_complete s ms asked name (state_is.Complete n) universe so settled = so.0
+settled_complete s ms asked name (state_is.Lacks text) universe so settled = absurd (cc)
+settled_complete s ms asked name state_is.Unasked universe so settled =
+    space_complete_without_matchers s ms name universe so
+settled_complete s ms asked name state_is.Undeclarable universe so settled = absurd (cc)
+settled_complete s ms asked name (state_is.Unproved origin) universe so settled = absurd (cc)
 
 -- each name that is asked of is reported
 reported : (u : List Label) (asked : List AskedLabel) (l : AskedLabel) → IsIn asked l
@@ -340,34 +383,23 @@ reported u asked l i = elim (cases_Bool (is_declared u l.name)) [
       (IsIn-map (λ x. x.name) asked l i) (ap not undeclared))
 ]
 
--- where each state is settled, the universe is complete
-pub complete_where_settled : (u : List Label) (asked : List AskedLabel) (states : List LabelState)
-    → IsUniverse u → map (λ s. string_bytes s.name) states ≡ reported_names u asked
+-- where each state is settled, the space is complete
+pub complete_where_settled : (s : Space) (asked : List AskedLabel) (states : List LabelState)
+    → IsUniverse s.labels
+    → map (λ state. string_bytes state.name) states ≡ reported_names s.labels asked
     → (ms : List Condition) → IsAskedOf asked ms
-    → AllByRecursion (λ s. IsSoAt u ms asked (string_bytes s.name) s.completeness) states
-    → IsTrue (list_all (λ s. is_settled s.completeness) states) → IsComplete u ms
-complete_where_settled u asked states universe are ms asks each settled name named =
-    elim (cases_Bool (list_any (λ l. same_text l.name name) asked)) [
-      | inl some ↦
-          let found = any_in (λ l. same_text l.name name) asked some in
-          let is = (bytes_decides found.0.name name).0 found.2 in
-          let there = subst (λ (xs : List (List ℕ)). IsIn xs found.0.name) (sym are)
-          (reported u asked found.0 found.1) in
-          let s = IsIn-unmap (λ s. string_bytes s.name) states found.0.name there in
-          let so = AllByRecursion-at
-          (λ s. IsSoAt u ms asked (string_bytes s.name) s.completeness) states s.0 each s.1 in
-          let at = all_pass (λ s. is_settled s.completeness) states s.0 settled s.1 in
-          let whole : string_bytes s.0.name ≡ name = s.2 ∙ is in
-          subst (IsCompleteAt u ms) whole
-          (settled_complete u ms asked (string_bytes s.0.name) s.0.completeness universe
-          (subst (λ n. IsTrue (is_label_name n)) (sym whole) named) so at)
-      | inr absent ↦
-          complete_without_matchers u ms name universe
-          (not_asked asked ms name asks (λ h.
-          let r = IsIn-unmap (λ l. l.name) asked name
-          (IsIn-from_Contains (asked_names asked) name h) in
-          let passes = in_any (λ l. same_text l.name name) asked r.0 r.1
-          ((bytes_decides r.0.name name).1 r.2) in
-          let both : true ≡ false = sym passes ∙ absent in absurd (cc))
-          (no_name name named))
-    ]
+    → AllByRecursion
+    (λ state. IsSoIfNamed s ms asked (string_bytes state.name) state.completeness) states
+    → IsTrue (list_all (λ state. is_settled state.completeness) states) → IsSpaceComplete s ms
+complete_where_settled s asked states universe are ms asks each settled =
+    space_complete_where_asked s asked ms universe asks (λ l i some.
+    let there = subst (λ (xs : List (List ℕ)). IsIn xs l.name) (sym are)
+    (reported s.labels asked l i) in
+    let state = IsIn-unmap (λ state. string_bytes state.name) states l.name there in
+    let so = AllByRecursion-at
+    (λ state. IsSoIfNamed s ms asked (string_bytes state.name) state.completeness) states state.0
+    each state.1 in
+    let at = all_pass (λ state. is_settled state.completeness) states state.0 settled state.1 in
+    subst (IsSpaceCompleteAt s ms) state.2
+    (settled_complete s ms asked (string_bytes state.0.name) state.0.completeness universe
+    (so (λ empty. some (sym state.2 ∙ empty))) at))

@@ -24,4 +24,6 @@ pub mod TestedTruths
 pub mod ChosenTexts
 pub mod ApartTexts
 pub mod OkClauses
+pub mod PossibleTexts
 pub mod LabelStates
+pub mod MissingTexts

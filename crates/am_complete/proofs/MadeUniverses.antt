@@ -27,7 +27,7 @@ use Rattle.am_complete.specs.Covering.{HasApartValues}
 use Rattle.am_complete.specs.Room.{HasMoreClasses, NeedsMoreValues, HaveNoRoom, MayBeUnproved}
 use Rattle.am_complete.specs.Room.{AreUnproved, IsFullFor, HasNoRoomIn, IsSettled}
 use Rattle.am_complete.proofs.Alike.{alike_joined, alike_turned}
-use Rattle.am_complete.proofs.CompleteUniverses.{complete_without_matchers}
+use Rattle.am_complete.proofs.CompleteUniverses.{complete_where_asked}
 use Rattle.am_complete.proofs.ApartTexts.{utf8_texts}
 use Rattle.am_complete.proofs.DeclaredLabels.{no_such_name}
 use Rattle.am_complete.proofs.LabelTexts.{has_name, found_in, declared_texts}
@@ -476,25 +476,9 @@ complete_at_asked u asked unproved l stands none ms asks i some =
 pub complete_where_each_stands : (u : List Label) (asked : List AskedLabel) (unproved : List ℕ)
     → IsUniverse u → StandsForEachBut u asked unproved → unproved ≡ []
     → (ms : List Condition) → IsAskedOf asked ms → IsComplete u ms
-complete_where_each_stands u asked unproved universe stands none ms asks name some =
-    elim (cases_Bool (list_any (λ l. same_text l.name name) asked)) [
-      | inl there ↦
-          let found = any_in (λ l. same_text l.name name) asked there in
-          let is = (bytes_decides found.0.name name).0 found.2 in
-          subst (IsCompleteAt u ms) is
-          (complete_at_asked u asked unproved found.0 stands none ms asks found.1
-          (λ empty. some (sym is ∙ empty)))
-      | inr absent ↦
-          complete_without_matchers u ms name universe (none_on name ms (λ m i e.
-          let is_some : m.name ≡ [] → ⊥ = λ empty. some (sym e ∙ empty) in
-          let there = AllByRecursion-at (λ x. x.name ≢ [] → Contains (asked_names asked) x.name)
-          ms m asks.every i is_some in
-          let r = IsIn-unmap (λ l. l.name) asked m.name
-          (IsIn-from_Contains (asked_names asked) m.name there) in
-          let passes = in_any (λ l. same_text l.name name) asked r.0 r.1
-          ((bytes_decides r.0.name name).1 (r.2 ∙ e)) in
-          let both : true ≡ false = sym passes ∙ absent in absurd (cc)))
-    ]
+complete_where_each_stands u asked unproved universe stands none ms asks =
+    complete_where_asked u asked ms universe asks
+    (λ l i some. complete_at_asked u asked unproved l stands none ms asks i some)
 
 -- and no two values of a label are alike
 pub apart_values : (u : List Label) (asked : List AskedLabel) (unproved : List ℕ)

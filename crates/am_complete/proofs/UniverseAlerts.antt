@@ -1,7 +1,7 @@
 -- The label sets of a universe are such as an alert may have.
 use Rattle.std.proofs.Common.{◌≡◌, ◌⊎◌, ℕ, zero, suc, List, [], ◌∷◌, Option, Some, None, true}
 use Rattle.std.proofs.Common.{cond, refl, sym, ap, ◌∙◌, subst, inl, inr}
-use Rattle.std.specs.Prelude.{option_and_then, slice_get, IsTrue, IfSome}
+use Rattle.std.specs.Prelude.{option_and_then, slice_get, IfSome}
 use Rattle.std.specs.Ordering.{nat_cmp}
 use Rattle.std.specs.Cmp.Lexicographic.{slice_cmp, nat_list_cmp_total, bytes_decides}
 use Rattle.std.specs.FinMap.{find, get-from_entries}
@@ -9,12 +9,13 @@ use Rattle.std.specs.List.{AllByRecursion}
 use Rattle.std.specs.Str.{IsUtf8}
 use Rattle.std.proofs.lemmas.Bool.{cases_Bool}
 use Rattle.am_universe.specs.Text.{same_text}
-use Rattle.am_universe.specs.Universe.{Label, Values, IsLabel, IsUniverse, is_label_name}
+use Rattle.am_universe.specs.Universe.{Label, Values, IsLabel, IsUniverse}
 use Rattle.am_universe.specs.LabelSet.{with_label, label_pairs, value_at, label_set_of}
 use Rattle.am_universe.proofs.LabelMapLemmas.{flips}
 use Rattle.am_universe.proofs.LabelPairLemmas.{find_before}
 use Rattle.am_universe.proofs.ListLemmas.{IsIn, AllByRecursion-at}
 use Rattle.am_complete.specs.Complete.{HasUtf8Texts, IsAlert}
+use Rattle.am_complete.proofs.MadeUniverses.{no_name}
 
 abbrev found : List ℕ → List (List ℕ × List ℕ) → Option (List ℕ)
 found name pairs = find (slice_cmp nat_cmp) name pairs
@@ -62,6 +63,6 @@ universe_alert u c h texts name text e =
     let named = (AllByRecursion-at IsLabel u r.0 h.labels r.1).name in
     let values = AllByRecursion-at (λ l. AllByRecursion (λ v. IfSome v IsUtf8) l.values) u r.0
     texts r.1 in (
-      subst (λ n. IsTrue (is_label_name n)) r.2 named,
+      λ empty. no_name r.0.name named (r.2 ∙ empty),
       AllByRecursion-at (λ v. IfSome v IsUtf8) r.0.values (Some text) values r.3,
     )

@@ -74,8 +74,8 @@ may_have impossible name text =
 -- A space is complete at a label, for some matchers: whatever text the label may have, one of the
 -- universe is alike to it.
 -- Source: own choice.
--- Example: for `team="db"` and `team!~"db|web"`, where the latter is impossible, a space is complete
--- at `team` with the values `db` and `web`, since no alert has another text there.
+-- Example: for `team="db"` and `team!~"db|web"`, where the latter is impossible, a space is
+-- complete at `team` with the values `db` and `web`, since no alert has another text there.
 abbrev pub IsSpaceCompleteAt : Space → List Condition → List ℕ → Type 0
 IsSpaceCompleteAt s ms name =
     (text : List ℕ) → IsUtf8 text → IsTrue (may_have s.impossible name text)

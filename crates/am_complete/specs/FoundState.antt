@@ -1,34 +1,52 @@
--- What is found of a universe at one label that is asked of, by that label's matchers.
-use Rattle.std.specs.Prelude.{◌≡◌, ◌⊎◌, ℕ, List, [], ◌∷◌, ◌++◌, Bool, true, false, not}
+-- What is found of a space at one label that is asked of, by that label's matchers.
+use Rattle.std.specs.Prelude.{◌≡◌, ◌≢◌, ◌⊎◌, ℕ, List, [], ◌∷◌, ◌++◌, Bool, true, false, not}
 use Rattle.std.specs.Prelude.{Option, Some, None}
 use Rattle.std.specs.Prelude.{string_bytes, IsTrue}
-use Rattle.std.specs.List.{list_any}
+use Rattle.std.specs.List.{list_any, AllByRecursion}
 use Rattle.std.specs.Str.{IsUtf8}
 use Rattle.am_universe.specs.LabelSet.{LabelMap, value_of}
-use Rattle.am_universe.specs.Universe.{Label, is_label_name}
+use Rattle.am_universe.specs.Universe.{is_label_name}
 use Rattle.am_labels.specs.Matcher.{Condition}
-use Rattle.am_classes.specs.Alike.{HasAlikeIn, Covers}
+use Rattle.am_labels.specs.Space.{Space}
+use Rattle.am_classes.specs.Alike.{HasAlikeIn, HasPattern}
 use Rattle.am_complete.specs.declared.label_state.Completeness.{Completeness}
 use Rattle.am_complete.specs.declared.label_state.Completeness.TheVariants as state_is
 use Rattle.am_complete.specs.declared.label_state.LabelState.{LabelState}
-use Rattle.am_complete.specs.Complete.{label_texts}
+use Rattle.am_complete.specs.Complete.{label_texts, asks_only_of, may_have, AreAmong}
 use Rattle.am_complete.specs.AskedLabel.{AskedLabel, IsAskedOf}
-use Rattle.am_complete.specs.LabelState.{HasClasses, IsSoAt, is_declared}
+use Rattle.am_complete.specs.LabelState.{CoverPossible, HasClasses, IsSoIfNamed, is_declared}
 use Rattle.am_complete.specs.Placed.{begins}
 
--- What is found at a label with some texts is so, for the matchers on it.
-abbrev pub IsFoundOf : AskedLabel → List (List ℕ) → Completeness → Type 0
-IsFoundOf l texts (state_is.Complete classes) =
-    IsTrue (is_label_name l.name) × Covers l.matchers texts × HasClasses l.matchers classes
-IsFoundOf l texts (state_is.Lacks text) =
+-- What is found at a label with some texts is so, for the matchers on it, where these lists are
+-- impossible.
+abbrev pub IsFoundOf :
+    List (List Condition) → AskedLabel → List (List ℕ) → Completeness → Type 0
+IsFoundOf impossible l texts (state_is.Complete classes) =
+    CoverPossible impossible l.name l.matchers texts
+    × HasClasses impossible l.name l.matchers classes
+IsFoundOf impossible l texts (state_is.Lacks text) =
     IsTrue (is_label_name l.name) × IsUtf8 (string_bytes text)
+    × IsTrue (may_have impossible l.name (string_bytes text))
     × (HasAlikeIn l.matchers texts (string_bytes text) → ⊥)
-IsFoundOf l texts state_is.Unasked = ⊥
-IsFoundOf l texts state_is.Undeclarable = is_label_name l.name ≡ false
-IsFoundOf l texts (state_is.Unproved origin) = l.first ≡ origin
+IsFoundOf impossible l texts state_is.Unasked = ⊥
+IsFoundOf impossible l texts state_is.Undeclarable =
+    (is_label_name l.name ≡ false) × (CoverPossible impossible l.name l.matchers texts → ⊥)
+IsFoundOf impossible l texts (state_is.Unproved origin) =
+    (l.first ≡ origin) × HasPattern l.matchers
 
-abbrev pub IsFoundAt : List Label → AskedLabel → Completeness → Type 0
-IsFoundAt u l found = IsFoundOf l (label_texts u l.name) found
+abbrev pub IsFoundAt : Space → AskedLabel → Completeness → Type 0
+IsFoundAt s l found = IsFoundOf s.impossible l (label_texts s.labels l.name) found
+
+-- The matchers of the impossible lists that ask of a label alone are among those on it.
+abbrev pub HasThoseOfLists : List (List Condition) → AskedLabel → Type 0
+HasThoseOfLists impossible l =
+    AllByRecursion (λ list. IsTrue (asks_only_of l.name list) → AreAmong list l.matchers)
+    impossible
+
+-- The matchers on a label are on it, and those of impossible lists are among them.
+pub record IsAskedFor (impossible : List (List Condition)) (l : AskedLabel) : Type 0 where
+  pub on : AllByRecursion (λ m. m.name ≡ l.name) l.matchers
+  pub lists : HasThoseOfLists impossible l
 
 -- An alert has a label; and no alert of an export has it, where there is an export.
 -- Source: own choice.
@@ -41,24 +59,25 @@ abbrev pub is_unseen : Option (List LabelMap) → List ℕ → Bool
 is_unseen None name = false
 is_unseen (Some alerts) name = not (list_any (has_label name) alerts)
 
--- The state of a label that is asked of: its name, what is found there, and whether it is unseen.
-pub record IsSoOfAsked (u : List Label) (l : AskedLabel) (alerts : Option (List LabelMap))
-    (s : LabelState) : Type 0 where
-  pub name : string_bytes s.name ≡ l.name
-  pub found : IsFoundAt u l s.completeness
-  pub unseen : s.unseen ≡ is_unseen alerts (string_bytes s.name)
+-- The state of a label that is asked of: its name, what is found there, unless the name is the
+-- empty text, and whether it is unseen.
+pub record IsSoOfAsked (s : Space) (l : AskedLabel) (alerts : Option (List LabelMap))
+    (state : LabelState) : Type 0 where
+  pub name : string_bytes state.name ≡ l.name
+  pub found : l.name ≢ [] → IsFoundAt s l state.completeness
+  pub unseen : state.unseen ≡ is_unseen alerts (string_bytes state.name)
 
 -- And a state that is so for all matchers that ask of some labels, whatever these are.
-pub record IsSoOfName (u : List Label) (asked : List AskedLabel) (alerts : Option (List LabelMap))
-    (s : LabelState) : Type 0 where
+pub record IsSoOfName (s : Space) (asked : List AskedLabel) (alerts : Option (List LabelMap))
+    (state : LabelState) : Type 0 where
   pub so : (ms : List Condition) → IsAskedOf asked ms
-      → IsSoAt u ms asked (string_bytes s.name) s.completeness
-  pub unseen : s.unseen ≡ is_unseen alerts (string_bytes s.name)
+      → IsSoIfNamed s ms asked (string_bytes state.name) state.completeness
+  pub unseen : state.unseen ≡ is_unseen alerts (string_bytes state.name)
 
 -- The state of a label that is asked of stands behind others, where that is not declared.
 abbrev pub IsWithState :
-    List Label → AskedLabel → Option (List LabelMap) → List LabelState → List LabelState → Type 0
-IsWithState u l alerts before after =
-    ((is_declared u l.name ≡ true) × (after ≡ before))
-    ⊎ ((is_declared u l.name ≡ false)
-    × ((s : LabelState) × (after ≡ before ++ s ∷ []) × IsSoOfAsked u l alerts s))
+    Space → AskedLabel → Option (List LabelMap) → List LabelState → List LabelState → Type 0
+IsWithState s l alerts before after =
+    ((is_declared s.labels l.name ≡ true) × (after ≡ before))
+    ⊎ ((is_declared s.labels l.name ≡ false)
+    × ((state : LabelState) × (after ≡ before ++ state ∷ []) × IsSoOfAsked s l alerts state))

@@ -2,7 +2,8 @@
 pub use Rattle.am_classes.specs.Words.{AreAlike, HasAlikeIn, Covers, AreApart, HasPattern}
 pub use Rattle.am_complete.specs.Complete.{about, label_texts, HasAlike, IsCompleteAt, IsComplete}
 pub use Rattle.am_complete.specs.Complete.{IsAlert, IsAlertOf, MeetsTheSame, AreAmong}
-pub use Rattle.am_complete.specs.Complete.{may_have, IsSpaceCompleteAt, IsSpaceComplete}
+pub use Rattle.am_complete.specs.Complete.{asks_only_of, may_have}
+pub use Rattle.am_complete.specs.Complete.{IsSpaceCompleteAt, IsSpaceComplete}
 pub use Rattle.am_complete.specs.Complete.{HasUtf8Texts}
 pub use Rattle.am_complete.specs.Asked.{route_conditions, routes_conditions, silence_conditions}
 pub use Rattle.am_complete.specs.Asked.{rule_conditions, equal_conditions, impossible_conditions}
@@ -14,9 +15,10 @@ pub use Rattle.am_complete.specs.Placed.{placed_in_silences, placed_in_lists, pl
 pub use Rattle.am_complete.specs.Asked.{world_conditions, coverage_conditions, question_conditions}
 pub use Rattle.am_complete.specs.Asked.{asked_conditions, HaveTheSameFate}
 pub use Rattle.am_complete.specs.CompleteExample.{team_universe, db_or_absent, db_alone}
+pub use Rattle.am_complete.specs.CompleteExample.{team_not_db, db_alone_possible}
 pub use Rattle.am_complete.specs.Covering.{StandForAll, StandsForEachBut, HasApartValues}
 pub use Rattle.am_complete.specs.Room.{HasMoreClasses, NeedsMoreValues, HaveTooManyClasses}
 pub use Rattle.am_complete.specs.Room.{AreTooMany, HaveNoRoom, MayBeUnproved, AreUnproved}
-pub use Rattle.am_complete.specs.LabelState.{HasClasses, IsSoAt, is_settled, reported_names}
-pub use Rattle.am_complete.specs.LabelState.{is_declared}
+pub use Rattle.am_complete.specs.LabelState.{StandForPossible, HasClasses, IsSoAt, IsSoIfNamed}
+pub use Rattle.am_complete.specs.LabelState.{is_settled, reported_names, is_declared}
 pub use Rattle.am_complete.specs.FoundState.{is_unseen}

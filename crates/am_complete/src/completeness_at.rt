@@ -1,115 +1,151 @@
-//! What a universe has, and lacks, at one label that matchers ask of.
+//! What a space has, and lacks, at one label that matchers ask of.
 
-ghost use Rattle.std.specs.Prelude.{◌≡◌, ◌<◌, ◌∷◌, [], IfOk, IfSome, IfNone};
-ghost use Rattle.std.specs.Prelude.{IsTrue, length, map, string_bytes, unwrap_or};
+ghost use Rattle.std.specs.Prelude.{◌≡◌, ◌≢◌, ◌<◌, ◌≤◌, ◌∷◌, [], IfOk, IfSome, IfNone};
+ghost use Rattle.std.specs.Prelude.{IsTrue, false, Contains, length, map, string_bytes, unwrap_or};
 ghost use Rattle.std.specs.List.{AllByRecursion};
 ghost use Rattle.std.specs.Str.{IsUtf8};
-ghost use Rattle.am_labels.specs.Words.{values_at, is_label_name};
-ghost use Rattle.am_complete.specs.Words.{label_texts, HasAlikeIn, StandForAll};
-ghost use Rattle.am_complete.specs.FoundState.{IsFoundAt, IsFoundOf};
+ghost use Rattle.am_universe.specs.declared.limits.TheConstants.{MAX_VALUES};
+ghost use Rattle.am_labels.specs.Words.{values_at, is_label_name, IsUniverse};
+ghost use Rattle.am_complete.specs.Words.{label_texts, HasAlikeIn, AreApart, StandForAll};
+ghost use Rattle.am_complete.specs.Words.{StandForPossible};
+ghost use Rattle.am_complete.specs.FoundState.{IsAskedFor, IsFoundAt};
 
 use crate::made_universe::is_label_name;
+use crate::possible_texts::{may_have, possible_texts};
 use crate::representatives::representatives;
 use crate::truths::Truths;
 use crate::{AskedLabel, Completeness};
 use am_classes::classes;
 use am_files::Alerts;
-use am_labels::Universe;
+use am_labels::{Space, Universe};
 use am_universe::limits::MAX_VALUES;
 use std::alloc::{AllocError, Global};
 
-/// How a universe stands at a label that is asked of. A label that is not declared has absence
-/// alone. Of texts that are missing the first is told, as a made universe has them.
+/// How a space stands at a label that is asked of. A label that is not declared has absence alone.
+/// Of texts that are missing the first is told, as a made universe has them.
 pub(crate) fn completeness_at(
     alloc: Global,
-    universe: &Universe,
+    space: &Space,
     label: &AskedLabel<'_>,
     alerts: Option<&Alerts>,
 ) -> Result<Completeness, AllocError>
-    requires on { IsTrue (is_label_name label.now.name)
-        → AllByRecursion (λ m. m.name ≡ label.now.name) label.now.matchers }
-    ensures { IfOk result (λ found. IsFoundAt universe.now label.now found) }
+    requires universe { IsUniverse space.now.labels }
+    requires asked { label.now.name ≢ [] → IsAskedFor space.now.impossible label.now }
+    ensures { label.now.name ≢ [] → IfOk result (IsFoundAt space.now label.now) }
 {
-    if !is_label_name(alloc, label.name()) {
-        return Ok(Completeness::Undeclarable);
-    }
-    match classes(alloc, label.matchers())? {
-        Some(texts) => completeness_by(alloc, universe, label, alerts, texts),
-        None => Ok(Completeness::Unproved(label.first())),
+    let Some(texts) = classes(alloc, label.matchers())? else {
+        return Ok(Completeness::Unproved(label.first()));
+    };
+    if is_label_name(alloc, label.name()) {
+        completeness_by(alloc, space, label, alerts, texts)
+    } else {
+        completeness_by_absence(alloc, space, label, texts)
     }
 }
 
-/// The same, where these are one text for each class of texts.
+/// The same, where no universe can declare the label, and these are one text for each class of
+/// texts. The label has absence alone.
+fn completeness_by_absence(
+    alloc: Global,
+    space: &Space,
+    label: &AskedLabel<'_>,
+    texts: Vec<String>,
+) -> Result<Completeness, AllocError>
+    requires universe { IsUniverse space.now.labels }
+    requires unnamed { is_label_name label.now.name ≡ false }
+    requires asked { label.now.name ≢ [] → IsAskedFor space.now.impossible label.now }
+    requires stand { StandForAll label.now.matchers (map string_bytes texts.items) }
+    ensures { label.now.name ≢ [] → IfOk result (IsFoundAt space.now label.now) }
+{
+    let texts = possible_texts(alloc, space.impossible(), label.name(), texts)?;
+    let classes = texts.len();
+    if classes == 0 {
+        return Ok(Completeness::Complete(classes));
+    }
+    if classes == 1 && may_have(alloc, space.impossible(), label.name(), "")? {
+        return Ok(Completeness::Complete(classes));
+    }
+    Ok(Completeness::Undeclarable)
+}
+
+/// The same, where a universe can declare the label, and these are one text for each class of
+/// texts.
 fn completeness_by(
     alloc: Global,
-    universe: &Universe,
+    space: &Space,
     label: &AskedLabel<'_>,
     alerts: Option<&Alerts>,
     texts: Vec<String>,
 ) -> Result<Completeness, AllocError>
+    requires universe { IsUniverse space.now.labels }
     requires named { IsTrue (is_label_name label.now.name) }
-    requires on { AllByRecursion (λ m. m.name ≡ label.now.name) label.now.matchers }
+    requires asked { IsAskedFor space.now.impossible label.now }
     requires stand { StandForAll label.now.matchers (map string_bytes texts.items) }
-    ensures { IfOk result (λ found. IsFoundAt universe.now label.now found) }
+    ensures { IfOk result (IsFoundAt space.now label.now) }
 {
     let texts = representatives(alloc, label, alerts, texts)?;
-    let values = texts_in(alloc, universe, label.name())?;
-    let have = Truths::of(alloc, label.name(), label.matchers(), values.as_slice())?;
-    match have {
-        Some(have) => completeness_over(alloc, label, &have, texts.as_slice()),
-        None => Ok(Completeness::Unproved(label.first())),
-    }
+    let texts = possible_texts(alloc, space.impossible(), label.name(), texts)?;
+    completeness_over(alloc, space, label, texts.as_slice())
 }
 
-/// The same, where `have` are the texts of the universe, and `texts` are one for each class.
+/// The same, where these are one text for each class of texts that the label may have.
 fn completeness_over(
     alloc: Global,
+    space: &Space,
     label: &AskedLabel<'_>,
-    have: &Truths<'_>,
     texts: &[String],
 ) -> Result<Completeness, AllocError>
+    requires universe { IsUniverse space.now.labels }
     requires named { IsTrue (is_label_name label.now.name) }
     requires on { AllByRecursion (λ m. m.name ≡ label.now.name) label.now.matchers }
-    requires matchers { have.now.matchers ≡ label.now.matchers }
-    requires stand { StandForAll label.now.matchers (map string_bytes texts.now) }
-    ensures { IfOk result (λ found. IsFoundOf label.now have.now.texts found) }
+    requires stand { StandForPossible space.now.impossible label.now.name label.now.matchers
+        (map string_bytes texts.now) }
+    ensures { IfOk result (IsFoundAt space.now label.now) }
 {
+    let values = texts_in(alloc, space.universe(), label.name())?;
+    let Some(have) = Truths::of(alloc, label.name(), label.matchers(), values.as_slice())? else {
+        unreachable!()
+    };
     let few = texts.len().min(MAX_VALUES);
-    if let Some(found) = completeness_if_missing(alloc, label, have, &texts[..few])? {
-        return Ok(found);
+    if let Some(text) = missing_text(alloc, label, &have, &texts[..few])? {
+        return Ok(Completeness::Lacks(text));
     }
     if few == texts.len() {
         return Ok(Completeness::Complete(few));
     }
     // Each value is alike to one of these texts at most, so that none is left for one text more.
-    match completeness_if_missing(alloc, label, have, &texts[few..=few])? {
-        Some(found) => Ok(found),
-        None => Ok(Completeness::Unproved(label.first())),
+    match missing_text(alloc, label, &have, &texts[few..=few])? {
+        Some(text) => Ok(Completeness::Lacks(text)),
+        None => unreachable!(),
     }
 }
 
-/// What is found of a label where one of these texts is missing, of which there are no more than a
-/// label may have; `None` where each has one alike.
-fn completeness_if_missing(
+/// The first of these texts to which none that the label has is alike, if there is one. They are no
+/// more than a label may have.
+fn missing_text(
     alloc: Global,
     label: &AskedLabel<'_>,
     have: &Truths<'_>,
     texts: &[String],
-) -> Result<Option<Completeness>, AllocError>
+) -> Result<Option<String>, AllocError>
     requires named { IsTrue (is_label_name label.now.name) }
     requires on { AllByRecursion (λ m. m.name ≡ label.now.name) label.now.matchers }
     requires matchers { have.now.matchers ≡ label.now.matchers }
-    ensures lacks { IfOk result (λ found. IfSome found (IsFoundOf label.now have.now.texts)) }
+    requires few { length texts.now ≤ MAX_VALUES }
+    requires apart { AreApart label.now.matchers (map string_bytes texts.now) }
+    ensures missing { IfOk result (λ found. IfSome found (λ text. IsUtf8 (string_bytes text)
+        × Contains (map string_bytes texts.now) (string_bytes text)
+        × (HasAlikeIn label.now.matchers have.now.texts (string_bytes text) → ⊥))) }
     ensures none { IfOk result (λ found. IfNone found (AllByRecursion
         (HasAlikeIn label.now.matchers have.now.texts) (map string_bytes texts.now))) }
 {
-    let Some(wanted) = Truths::of(alloc, label.name(), label.matchers(), texts)? else {
-        return Ok(Some(Completeness::Unproved(label.first())));
-    };
-    match first_missing(alloc, have, &wanted)? {
-        Some(text) => Ok(Some(Completeness::Lacks(text))),
-        None => Ok(None),
+    if texts.is_empty() {
+        return Ok(None);
     }
+    let Some(wanted) = Truths::of(alloc, label.name(), label.matchers(), texts)? else {
+        unreachable!()
+    };
+    first_missing(alloc, have, &wanted)
 }
 
 /// The texts that a label has in a universe, absence being the empty text: absence alone where it
@@ -156,6 +192,7 @@ fn first_missing(
 ) -> Result<Option<String>, AllocError>
     requires { have.now.matchers ≡ wanted.now.matchers }
     ensures missing { IfOk result (λ found. IfSome found (λ text. IsUtf8 (string_bytes text)
+        × Contains wanted.now.texts (string_bytes text)
         × (HasAlikeIn have.now.matchers have.now.texts (string_bytes text) → ⊥))) }
     ensures none { IfOk result (λ found. IfNone found
         (AllByRecursion (HasAlikeIn have.now.matchers have.now.texts) wanted.now.texts)) }

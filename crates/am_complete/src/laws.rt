@@ -1,8 +1,8 @@
 //! Facts about the definitions alone: each is the contract of a function with an empty body.
-ghost use Rattle.std.specs.Prelude.{◌≡◌, ℕ, List, [], ◌∷◌, ◌++◌, ℤ, IsTrue, IsFalse};
+ghost use Rattle.std.specs.Prelude.{◌≡◌, ◌≢◌, ℕ, List, [], ◌∷◌, ◌++◌, ℤ, IsTrue, IsFalse};
 ghost use Rattle.std.specs.Prelude.{Contains};
 ghost use Rattle.std.specs.List.{AllByRecursion};
-ghost use Rattle.am_labels.specs.Words.{Label, IsUniverse, sizes, IsWhole, is_label_name};
+ghost use Rattle.am_labels.specs.Words.{Label, IsUniverse, sizes, IsWhole};
 ghost use Rattle.am_labels.specs.Words.{LabelMap, label_set_of, value_of, Condition, is_possible};
 ghost use Rattle.am_labels.specs.Words.{Space, IsChoiceOf};
 ghost use Rattle.am_records.specs.UniverseFile.{FileSaysUniverse};
@@ -12,11 +12,13 @@ ghost use Rattle.am_eval.specs.Words.{World, ends, receivers, is_silenced, is_in
 ghost use Rattle.am_eval.specs.Words.{Question, satisfies, answers, at_instant};
 ghost use Rattle.am_complete.specs.Words.{AreAlike, HasAlike, Covers, about, AreAmong};
 ghost use Rattle.am_complete.specs.Words.{IsCompleteAt, IsComplete, IsAlert, HasUtf8Texts};
+ghost use Rattle.am_complete.specs.Words.{IsSpaceComplete};
 ghost use Rattle.am_complete.specs.Words.{MeetsTheSame, HaveTheSameFate, route_conditions};
 ghost use Rattle.am_complete.specs.Words.{rule_conditions, equal_conditions, silence_conditions};
 ghost use Rattle.am_complete.specs.Words.{impossible_conditions, world_conditions};
 ghost use Rattle.am_complete.specs.Words.{coverage_conditions, asked_conditions, IsAlertOf};
-ghost use Rattle.am_complete.specs.Words.{team_universe, db_or_absent, db_alone};
+ghost use Rattle.am_complete.specs.Words.{team_universe, db_or_absent, db_alone, team_not_db};
+ghost use Rattle.am_complete.specs.Words.{db_alone_possible};
 
 /// Where each text that a label set has for a label of some matchers has one alike in a universe,
 /// some choice of the universe meets the same of them.
@@ -69,12 +71,21 @@ pub fn every_alert_has_the_fate_of_a_choice()
         → world_conditions (at_instant w instant) ≡ world_conditions w }
 {}
 
+/// A space that is complete for some matchers stands for every alert of it: whatever labels such an
+/// alert has, some choice of its labels meets the same of the matchers.
+pub fn a_complete_space_stands_for_every_alert_of_it()
+    ensures stands { (s : Space) (ms : List Condition) (alert : LabelMap) → IsUniverse s.labels
+        → IsSpaceComplete s ms → IsAlertOf s alert
+        → (c : List ℕ) × IsWhole (sizes s.labels) c
+        × MeetsTheSame ms (label_set_of s.labels c) alert }
+{}
+
 /// Over a space that is complete for the matchers of its routes and of what is impossible, every
 /// alert of the space ends at the routes at which some choice of it ends, and goes to the same
 /// receivers.
 pub fn every_alert_of_a_space_ends_as_a_choice_does()
     ensures ends { (s : Space) (c : Configuration) (alert : LabelMap) → IsUniverse s.labels
-        → IsComplete s.labels (coverage_conditions s c) → IsAlertOf s alert
+        → IsSpaceComplete s (coverage_conditions s c) → IsAlertOf s alert
         → (choice : List ℕ) × IsChoiceOf s choice
         × (ends (label_set_of s.labels choice) c ≡ ends alert c)
         × (receivers (label_set_of s.labels choice) c ≡ receivers alert c) }
@@ -84,12 +95,12 @@ pub fn every_alert_of_a_space_ends_as_a_choice_does()
 /// is complete for all matchers that decide it. So a question without answers is true of no alert.
 pub fn a_question_without_answers_is_true_of_no_alert()
     ensures answered { (s : Space) (w : World) (q : Question) (alert : LabelMap)
-        → IsUniverse s.labels → IsComplete s.labels (asked_conditions s w q)
+        → IsUniverse s.labels → IsSpaceComplete s (asked_conditions s w q)
         → IsAlertOf s alert → IsTrue (satisfies w q alert)
         → (choice : List ℕ) × Contains (answers s w q) choice
         × HaveTheSameFate w (label_set_of s.labels choice) alert }
     ensures unanswered { (s : Space) (w : World) (q : Question) (alert : LabelMap)
-        → IsUniverse s.labels → IsComplete s.labels (asked_conditions s w q)
+        → IsUniverse s.labels → IsSpaceComplete s (asked_conditions s w q)
         → IsAlertOf s alert → answers s w q ≡ [] → IsFalse (satisfies w q alert) }
 {}
 
@@ -117,16 +128,27 @@ pub fn a_universe_is_complete_where_its_texts_cover_all()
         → IsUniverse u → about name ms ≡ [] → IsCompleteAt u ms name }
 {}
 
-/// A universe is complete for some matchers where it is at the label of each, unless that is a name
-/// that no alert has. What is complete for matchers is complete for each part of them.
+/// A universe is complete for some matchers where it is at the label of each, whatever the names
+/// are. What is complete for matchers is complete for each part of them.
 pub fn a_universe_is_complete_by_its_matchers()
     ensures by_labels { (u : List Label) (ms : List Condition) → IsUniverse u
-        → AllByRecursion (λ m. IsTrue (is_label_name m.name) → IsCompleteAt u ms m.name) ms
+        → AllByRecursion (λ m. m.name ≢ [] → IsCompleteAt u ms m.name) ms
         → IsComplete u ms }
     ensures part { (u : List Label) (ns ms : List Condition)
         → AreAmong ns ms → IsComplete u ms → IsComplete u ns }
     ensures part_at { (u : List Label) (ns ms : List Condition) (name : List ℕ)
         → AreAmong ns ms → IsCompleteAt u ms name → IsCompleteAt u ns name }
+{}
+
+/// A space is complete for some matchers where its universe is; where nothing is impossible, only
+/// there. What is complete for matchers is complete for each part of them.
+pub fn a_space_is_complete_where_its_universe_is()
+    ensures universe { (s : Space) (ms : List Condition)
+        → IsComplete s.labels ms → IsSpaceComplete s ms }
+    ensures all_possible { (s : Space) (ms : List Condition) → s.impossible ≡ []
+        → IsSpaceComplete s ms → IsComplete s.labels ms }
+    ensures part { (s : Space) (ns ms : List Condition)
+        → AreAmong ns ms → IsSpaceComplete s ms → IsSpaceComplete s ns }
 {}
 
 /// Of matchers in a row, those in front and those behind are among all; what is among matchers that
@@ -145,8 +167,8 @@ pub fn parts_of_matchers_are_among_them()
 /// routes among them.
 pub fn what_is_complete_for_a_world_is_so_for_its_routes()
     ensures routes { (s : Space) (w : World)
-        → IsComplete s.labels (world_conditions w ++ impossible_conditions s.impossible)
-        → IsComplete s.labels (coverage_conditions s w.config) }
+        → IsSpaceComplete s (world_conditions w ++ impossible_conditions s.impossible)
+        → IsSpaceComplete s (coverage_conditions s w.config) }
     ensures all_possible { (u : List Label) (c : Configuration) (ms : List Condition)
         → AreAmong (route_conditions c.root) ms → IsComplete u ms
         → IsComplete u (coverage_conditions (record { labels = u; impossible = [] }) c) }
@@ -159,8 +181,10 @@ pub fn texts_of_universe_files_are_utf8()
 {}
 
 /// An example: where `team` may be `db` or absent, the universe is complete for `team="db"`; where
-/// it is always `db` it is not, since no choice stands for the alerts of another team.
+/// it is always `db` it is not, since no choice stands for the alerts of another team. The space in
+/// which there is no other team is complete.
 pub fn an_example_of_completeness()
     ensures complete { IsComplete (team_universe db_or_absent) (team_db ∷ []) }
     ensures incomplete { ¬ IsComplete (team_universe db_alone) (team_db ∷ []) }
+    ensures possible { IsSpaceComplete db_alone_possible (team_db ∷ team_not_db ∷ []) }
 {}

@@ -2,7 +2,7 @@
 //!
 //! [`asked_by_routes`] and [`asked_in_world`] say which labels decide what becomes of an alert, and
 //! by which matchers. [`universe_of`] makes a universe of these that is complete, and
-//! [`label_states`] says what another one lacks.
+//! [`label_states`] says what a space with another one lacks.
 #![tactic(auto)]
 
 // Which labels decide, by which matchers, and where in the files they are first asked of.
@@ -25,9 +25,10 @@ mod usual_texts;
 
 pub use made_universe::{MadeUniverse, MakingFault, universe_of};
 
-// What a universe has, and lacks, at each label.
+// What a space has, and lacks, at each label.
 mod completeness_at;
 mod label_state;
+mod possible_texts;
 mod states_of_labels;
 mod truths;
 

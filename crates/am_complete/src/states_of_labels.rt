@@ -1,86 +1,92 @@
-//! How a universe stands at each label.
+//! How a space stands at each label.
 
 ghost use Rattle.std.specs.Prelude.{◌≡◌, ◌≢◌, ◌++◌, [], List, IfOk, OnOk, IsTrue, map, not};
 ghost use Rattle.std.specs.Prelude.{string_bytes, option_map, slice_get, Some, IfSome, IfNone};
 ghost use Rattle.std.specs.Prelude.{Contains};
 ghost use Rattle.std.specs.List.{AllByRecursion, filter, list_all, list_any};
-ghost use Rattle.am_labels.specs.Words.{Condition, names, IsUniverse, is_label_name};
-ghost use Rattle.am_complete.specs.Words.{IsAskedOf, asked_names, IsSoAt, is_settled};
-ghost use Rattle.am_complete.specs.Words.{reported_names, is_declared, IsComplete, is_unseen};
+ghost use Rattle.am_labels.specs.Words.{Condition, names, IsUniverse};
+ghost use Rattle.am_complete.specs.Words.{IsAskedOf, asked_names, IsSoIfNamed, is_settled};
+ghost use Rattle.am_complete.specs.Words.{reported_names, is_declared, IsSpaceComplete, is_unseen};
+ghost use Rattle.am_complete.specs.Words.{AreAmong, impossible_conditions};
 ghost use Rattle.am_complete.specs.FoundState.{has_label, IsSoOfName, IsSoOfAsked};
-ghost use Rattle.am_complete.specs.FoundState.{IsWithState};
+ghost use Rattle.am_complete.specs.FoundState.{IsAskedFor, IsWithState};
 
 use crate::completeness_at::completeness_at;
 use crate::{AskedLabel, Completeness, LabelState};
 use am_files::Alerts;
-use am_labels::{LabelSet, Universe};
+use am_labels::{LabelSet, Space};
 use std::alloc::{AllocError, Global};
 
-/// How a universe stands at each of its labels, in declared order, and then at each label that is
+/// How a space stands at each of its labels, in declared order, and then at each label that is
 /// asked of and not declared, in the order in which they are first asked of. With alerts, each
-/// state says too whether none of them has the label. An `Err` only where memory was refused.
+/// state says too whether none of them has the label. The matchers of the space's impossible lists
+/// are asked too. An `Err` only where memory was refused.
 pub fn label_states(
     alloc: Global,
-    universe: &Universe,
+    space: &Space,
     asked: &[AskedLabel<'_>],
     alerts: Option<&Alerts>,
 ) -> Result<Vec<LabelState>, AllocError>
-    requires { (ms : List Condition) × IsAskedOf asked.now ms }
+    requires { (ms : List Condition) × IsAskedOf asked.now ms
+        × AreAmong (impossible_conditions space.now.impossible) ms }
     ensures names { IfOk result (λ states. map (λ s. string_bytes s.name) states.items
-        ≡ reported_names universe.now asked.now) }
+        ≡ reported_names space.now.labels asked.now) }
     ensures each { IfOk result (λ states. (ms : List Condition) → IsAskedOf asked.now ms
         → AllByRecursion
-        (λ s. IsSoAt universe.now ms asked.now (string_bytes s.name) s.completeness)
+        (λ s. IsSoIfNamed space.now ms asked.now (string_bytes s.name) s.completeness)
         states.items) }
     ensures complete { IfOk result (λ states. (ms : List Condition) → IsAskedOf asked.now ms
         → IsTrue (list_all (λ s. is_settled s.completeness) states.items)
-        → IsComplete universe.now ms) }
+        → IsSpaceComplete space.now ms) }
     ensures unseen { IfOk result (λ states. AllByRecursion
         (λ s. s.unseen ≡ is_unseen (option_map (λ a. a.now) alerts.entry) (string_bytes s.name))
         states.items) }
 {
-    let mut states = declared_states(alloc, universe, asked, alerts)?;
-    add_undeclared(alloc, universe, asked, alerts, &mut states)?;
+    let mut states = declared_states(alloc, space, asked, alerts)?;
+    add_undeclared(alloc, space, asked, alerts, &mut states)?;
     Ok(states)
 }
 
-/// How a universe stands at each of its labels.
+/// How a space stands at each of its labels.
 fn declared_states(
     alloc: Global,
-    universe: &Universe,
+    space: &Space,
     asked: &[AskedLabel<'_>],
     alerts: Option<&Alerts>,
 ) -> Result<Vec<LabelState>, AllocError>
-    requires { (ms : List Condition) × IsAskedOf asked.now ms }
-    ensures universe { OnOk result (IsUniverse universe.now) }
+    requires { (ms : List Condition) × IsAskedOf asked.now ms
+        × AreAmong (impossible_conditions space.now.impossible) ms }
+    ensures universe { OnOk result (IsUniverse space.now.labels) }
     ensures names { IfOk result (λ states.
-        map (λ s. string_bytes s.name) states.items ≡ names universe.now) }
+        map (λ s. string_bytes s.name) states.items ≡ names space.now.labels) }
     ensures each { IfOk result (λ states. AllByRecursion
-        (IsSoOfName universe.now asked.now (option_map (λ a. a.now) alerts.entry)) states.items) }
+        (IsSoOfName space.now asked.now (option_map (λ a. a.now) alerts.entry)) states.items) }
 {
+    let universe = space.universe();
     let mut states = Vec::with_capacity(alloc, universe.len())?;
     for i in 0..universe.len() {
-        states.push(declared_state(alloc, universe, asked, alerts, universe.name(i))?)?;
+        states.push(declared_state(alloc, space, asked, alerts, universe.name(i))?)?;
     }
     Ok(states)
 }
 
-/// How a universe stands at its label of this name.
+/// How a space stands at its label of this name.
 fn declared_state(
     alloc: Global,
-    universe: &Universe,
+    space: &Space,
     asked: &[AskedLabel<'_>],
     alerts: Option<&Alerts>,
     name: &str,
 ) -> Result<LabelState, AllocError>
-    requires asked { (ms : List Condition) × IsAskedOf asked.now ms }
-    requires named { name.now ≢ [] }
+    requires universe { IsUniverse space.now.labels }
+    requires asked { (ms : List Condition) × IsAskedOf asked.now ms
+        × AreAmong (impossible_conditions space.now.impossible) ms }
     ensures name { IfOk result (λ state. string_bytes state.name ≡ name.now) }
-    ensures so { IfOk result (IsSoOfName universe.now asked.now
+    ensures so { IfOk result (IsSoOfName space.now asked.now
         (option_map (λ a. a.now) alerts.entry)) }
 {
     match position_of(asked, name) {
-        Some(i) => asked_state(alloc, universe, &asked[i], alerts),
+        Some(i) => asked_state(alloc, space, &asked[i], alerts),
         None => Ok(LabelState {
             name: String::from_str(alloc, name)?,
             completeness: Completeness::Unasked,
@@ -103,67 +109,69 @@ fn position_of(asked: &[AskedLabel<'_>], name: &str) -> Option<usize>
     None
 }
 
-/// Adds how a universe stands at each label that is asked of and not declared.
+/// Adds how a space stands at each label that is asked of and not declared.
 fn add_undeclared(
     alloc: Global,
-    universe: &Universe,
+    space: &Space,
     asked: &[AskedLabel<'_>],
     alerts: Option<&Alerts>,
     states: &mut Vec<LabelState>,
 ) -> Result<(), AllocError>
-    requires { (ms : List Condition) × IsAskedOf asked.now ms }
+    requires universe { IsUniverse space.now.labels }
+    requires asked { (ms : List Condition) × IsAskedOf asked.now ms
+        × AreAmong (impossible_conditions space.now.impossible) ms }
     ensures names { OnOk result (map (λ s. string_bytes s.name) states.new.items
         ≡ map (λ s. string_bytes s.name) states.old.items
-        ++ filter (λ name. not (is_declared universe.now name)) (asked_names asked.now)) }
+        ++ filter (λ name. not (is_declared space.now.labels name)) (asked_names asked.now)) }
     ensures each { OnOk result (AllByRecursion
-        (IsSoOfName universe.now asked.now (option_map (λ a. a.now) alerts.entry)) states.old.items
+        (IsSoOfName space.now asked.now (option_map (λ a. a.now) alerts.entry)) states.old.items
         → AllByRecursion
-        (IsSoOfName universe.now asked.now (option_map (λ a. a.now) alerts.entry))
+        (IsSoOfName space.now asked.now (option_map (λ a. a.now) alerts.entry))
         states.new.items) }
 {
     for label in asked {
-        add_if_undeclared(alloc, universe, label, alerts, states)?;
+        add_if_undeclared(alloc, space, label, alerts, states)?;
     }
     Ok(())
 }
 
-/// Adds how a universe stands at a label that is asked of, where that is not declared.
+/// Adds how a space stands at a label that is asked of, where that is not declared.
 fn add_if_undeclared(
     alloc: Global,
-    universe: &Universe,
+    space: &Space,
     label: &AskedLabel<'_>,
     alerts: Option<&Alerts>,
     states: &mut Vec<LabelState>,
 ) -> Result<(), AllocError>
-    requires on { IsTrue (is_label_name label.now.name)
-        → AllByRecursion (λ m. m.name ≡ label.now.name) label.now.matchers }
-    ensures { OnOk result (IsWithState universe.now label.now
+    requires universe { IsUniverse space.now.labels }
+    requires asked { label.now.name ≢ [] → IsAskedFor space.now.impossible label.now }
+    ensures { OnOk result (IsWithState space.now label.now
         (option_map (λ a. a.now) alerts.entry) states.old.items states.new.items) }
 {
-    match universe.position(label.name()) {
+    match space.universe().position(label.name()) {
         Some(_) => Ok(()),
         None => {
-            states.push(asked_state(alloc, universe, label, alerts)?)?;
+            states.push(asked_state(alloc, space, label, alerts)?)?;
             Ok(())
         }
     }
 }
 
-/// How a universe stands at a label that is asked of.
+/// How a space stands at a label that is asked of.
 fn asked_state(
     alloc: Global,
-    universe: &Universe,
+    space: &Space,
     label: &AskedLabel<'_>,
     alerts: Option<&Alerts>,
 ) -> Result<LabelState, AllocError>
-    requires on { IsTrue (is_label_name label.now.name)
-        → AllByRecursion (λ m. m.name ≡ label.now.name) label.now.matchers }
-    ensures { IfOk result (IsSoOfAsked universe.now label.now
+    requires universe { IsUniverse space.now.labels }
+    requires asked { label.now.name ≢ [] → IsAskedFor space.now.impossible label.now }
+    ensures { IfOk result (IsSoOfAsked space.now label.now
         (option_map (λ a. a.now) alerts.entry)) }
 {
     Ok(LabelState {
         name: String::from_str(alloc, label.name())?,
-        completeness: completeness_at(alloc, universe, label, alerts)?,
+        completeness: completeness_at(alloc, space, label, alerts)?,
         unseen: is_unseen(alerts, label.name()),
     })
 }

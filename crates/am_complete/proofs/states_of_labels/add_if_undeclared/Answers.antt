@@ -5,17 +5,19 @@ use Rattle.am_complete.proofs.states_of_labels.add_if_undeclared.Goals as goal
 
 pub returns-in-Some : goal.returns-in-Some
 returns-in-Some c =
-    let u = c.args.universe.now in
-    let declared : is_declared u c.args.label.now.name ≡ true =
-    ap (is_declared u) (sym c.name.ensures.name)
+    let u = c.universe.result.now in
+    let declared : is_declared c.args.space.now.labels c.args.label.now.name ≡ true =
+    ap (λ v. is_declared v c.args.label.now.name) (sym c.universe.ensures.labels)
+    ∙ ap (is_declared u) (sym c.name.ensures.name)
     ∙ declared_by u c.in-Some.field-0 c.name.result.now c.in-Some.ensures.found in
     inl (declared, refl)
 
 pub returns-in_ok-push-in-None : goal.returns-in_ok-push-in-None
 returns-in_ok-push-in-None c =
-    let u = c.args.universe.now in
-    let undeclared : is_declared u c.args.label.now.name ≡ false =
-    ap (is_declared u) (sym c.name.ensures.name)
+    let u = c.universe.result.now in
+    let undeclared : is_declared c.args.space.now.labels c.args.label.now.name ≡ false =
+    ap (λ v. is_declared v c.args.label.now.name) (sym c.universe.ensures.labels)
+    ∙ ap (is_declared u) (sym c.name.ensures.name)
     ∙ undeclared_by u c.name.result.now c.in-None.ensures.none in
     inr (
       undeclared,

@@ -1,6 +1,6 @@
 use Rattle.std.proofs.Common.{option_map}
 use Rattle.am_eval.proofs.Members.{in_at}
-use Rattle.am_complete.proofs.LabelStates.{on_label, stands_at, state_names, states_so}
+use Rattle.am_complete.proofs.LabelStates.{asked_for, stands_at, state_names, states_so}
 use Rattle.am_complete.proofs.states_of_labels.add_undeclared.Goals as goal
 
 pub add_if_undeclared-requires : goal.add_if_undeclared-requires
@@ -9,11 +9,16 @@ add_if_undeclared-requires c =
     let i = c.loop-label.label-index in
     let l = c.label-item.result in
     let there = in_at asked i l (stands_at asked i l c.loop-label-test.true c.label-item.is) in
-    record { on = on_label asked c.requires.0 l c.requires.1 there }
+    record {
+      universe = c.requires.universe;
+      asked = λ some.
+          asked_for c.args.space.now.impossible asked c.requires.asked.0 l c.requires.asked.1
+          c.requires.asked.2 there some;
+    }
 
 pub loop-label-preserved : goal.loop-label-preserved
 loop-label-preserved c =
-    let u = c.args.universe.now in
+    let s = c.args.space.now in
     let asked = c.args.asked.now in
     let i = c.loop-label.label-index in
     let l = c.label-item.result in
@@ -21,11 +26,11 @@ loop-label-preserved c =
     let before = c.loop-label.states.items in
     let after = c.add_if_undeclared.new.states.items in
     record {
-      names = state_names u asked i l alerts c.args.states.now.items before after
+      names = state_names s asked i l alerts c.args.states.now.items before after
           c.loop-label-test.true c.label-item.is c.loop-label.invariant.names
           c.in_ok-add_if_undeclared.ensures;
       each = λ first.
-          states_so u asked l alerts before after
+          states_so s asked l alerts before after
           (in_at asked i l (stands_at asked i l c.loop-label-test.true c.label-item.is))
           c.in_ok-add_if_undeclared.ensures (c.loop-label.invariant.each first);
     }

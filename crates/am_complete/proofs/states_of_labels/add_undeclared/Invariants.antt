@@ -10,10 +10,10 @@ abbrev pub invariant-loop-label : goal.invariant-loop-label
 invariant-loop-label l = record {
   names : map (λ s. string_bytes s.name) l.states.items
       ≡ map (λ s. string_bytes s.name) l.fn.states.items
-      ++ filter (λ name. not (is_declared l.universe name))
+      ++ filter (λ name. not (is_declared l.space.labels name))
       (asked_names (take l.label-index l.asked));
-  each : AllByRecursion (IsSoOfName l.universe l.asked (option_map (λ a. a.now) l.alerts))
+  each : AllByRecursion (IsSoOfName l.space l.asked (option_map (λ a. a.now) l.alerts))
       l.fn.states.items
-      → AllByRecursion (IsSoOfName l.universe l.asked (option_map (λ a. a.now) l.alerts))
+      → AllByRecursion (IsSoOfName l.space l.asked (option_map (λ a. a.now) l.alerts))
       l.states.items;
 }

@@ -6,7 +6,7 @@ use Rattle.am_eval.proofs.Members.{in_at}
 use Rattle.am_complete.specs.AskedLabel.{asked_names}
 use Rattle.am_complete.specs.FoundState.{is_unseen}
 use Rattle.am_complete.proofs.GatheringLemmas.{named_at}
-use Rattle.am_complete.proofs.LabelStates.{on_label, stands_at, state_is_so, not_asked}
+use Rattle.am_complete.proofs.LabelStates.{asked_for, stands_at, state_is_so, not_asked}
 use Rattle.am_complete.proofs.states_of_labels.declared_state.Goals as goal
 
 pub asked_state-requires : goal.asked_state-requires
@@ -21,7 +21,12 @@ asked_state-requires c =
       length-map asked (λ x. x.name),
     ) in
     let there = in_at asked i l (stands_at asked i l lt c.index-asked-i.is) in
-    record { on = on_label asked c.requires.asked.0 l c.requires.asked.1 there }
+    record {
+      universe = c.requires.universe;
+      asked = λ some.
+          asked_for c.args.space.now.impossible asked c.requires.asked.0 l c.requires.asked.1
+          c.requires.asked.2 there some;
+    }
 
 pub returns-in-Some-clause-name : goal.returns-in-Some-clause-name
 returns-in-Some-clause-name c =
@@ -51,7 +56,7 @@ returns-in-Some-clause-so c =
       length-map asked (λ x. x.name),
     ) in
     IfOk-weaker c.asked_state.result _ _ (λ s h.
-    state_is_so c.args.universe.now asked (option_map (λ a. a.now) c.args.alerts) l s
+    state_is_so c.args.space.now asked (option_map (λ a. a.now) c.args.alerts) l s
     (in_at asked i l (stands_at asked i l lt c.index-asked-i.is)) h)
     c.asked_state.ensures
 
@@ -62,10 +67,8 @@ returns-in_ok-from_str-in-None-clause-so c =
     let is : text ≡ c.args.name.now = c.in_ok-from_str-in-None.ensures.ok in
     record {
       so = λ ms asks.
-          not_asked asked ms text asks
-          (λ h. c.in-None.ensures.none
-          (subst (Contains (asked_names asked)) is h))
-          (λ empty. c.requires.named (sym is ∙ empty));
+          λ some. not_asked asked ms text asks
+          (λ h. c.in-None.ensures.none (subst (Contains (asked_names asked)) is h)) some;
       unseen = c.is_unseen.ensures
           ∙ ap (is_unseen (option_map (λ a. a.now) c.args.alerts)) (sym is);
     }

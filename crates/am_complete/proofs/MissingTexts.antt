@@ -1,0 +1,200 @@
+-- Texts that a label lacks, and that it has enough where it lacks none.
+use Rattle.std.proofs.Common.{◌≡◌, ◌<◌, ◌≤◌, ◌+◌, ◌==◌, ℕ, zero, suc, Bool, false, true, List, [], ◌∷◌, ◌++◌, length}
+use Rattle.std.proofs.Common.{map, take, drop, min, Option, Some, None, Contains, String, string_bytes, refl, sym, ap, ◌∙◌, subst}
+use Rattle.std.proofs.Common.{inl, inr, arith, lit≤, lit<}
+use Rattle.std.specs.Prelude.{IsTrue, slice_get, unwrap_or}
+use Rattle.std.specs.List.{AllByRecursion, IsDistinct, find}
+use Rattle.std.specs.Str.{IsUtf8}
+use Rattle.std.specs.declared.alloc.Global.{Global}
+use Rattle.std.proofs.lemmas.Bool.{cases_lt}
+use Rattle.std.proofs.lemmas.List.{length-map, length-take-le}
+use Rattle.std.proofs.lemmas.Bool.Decides.{nat_tests}
+use Rattle.am_universe.specs.declared.limits.TheConstants.{MAX_VALUES}
+use Rattle.am_universe.specs.Text.{same_text}
+use Rattle.am_universe.specs.Universe.{Label, Values, IsLabel, IsUniverse, is_label_name}
+use Rattle.am_universe.specs.Universe.{same_value, is_empty_text}
+use Rattle.am_universe.proofs.ListLemmas.{IsIn, IsIn-from_Contains, AllByRecursion-at}
+use Rattle.am_labels.specs.Matcher.{Condition}
+use Rattle.am_labels.specs.Space.{Space}
+use Rattle.am_classes.specs.Alike.{HasAlikeIn, AreApart}
+use Rattle.am_complete.specs.declared.label_state.Completeness.TheVariants as state_is
+use Rattle.am_complete.specs.Complete.{label_texts, texts_of_label, may_have}
+use Rattle.am_complete.specs.AskedLabel.{AskedLabel}
+use Rattle.am_complete.specs.FoundState.{IsFoundAt}
+use Rattle.am_complete.specs.LabelState.{StandForPossible}
+use Rattle.am_complete.proofs.ApartTexts.{apart_are_no_more, distinct_where_apart}
+use Rattle.am_complete.proofs.LabelTexts.{has_name, found_in}
+
+-- ---- The texts that a label has in a universe could be its values.
+
+other_text : (v w : Option (List ℕ)) → is_empty_text v ≡ false → is_empty_text w ≡ false
+    → same_value v w ≡ false → same_text (unwrap_or v []) (unwrap_or w []) ≡ false
+other_text None None full whole differ = absurd (cc)
+other_text None (Some []) full whole differ = absurd (cc)
+other_text None (Some (c ∷ cs)) full whole differ = refl
+other_text (Some []) w full whole differ = absurd (cc)
+other_text (Some (c ∷ cs)) None full whole differ = refl
+other_text (Some (c ∷ cs)) (Some y) full whole differ = differ
+
+other_texts : (v : Option (List ℕ)) (vs : Values) → is_empty_text v ≡ false
+    → AllByRecursion (λ w. is_empty_text w ≡ false) vs
+    → AllByRecursion (λ w. same_value v w ≡ false) vs
+    → AllByRecursion (λ y. same_text (unwrap_or v []) y ≡ false) (map (λ w. unwrap_or w []) vs)
+other_texts v [] full whole differ = tt
+other_texts v (w ∷ vs) full whole differ =
+    (other_text v w full whole.0 differ.0, other_texts v vs full whole.1 differ.1)
+
+distinct_texts : (vs : Values) → AllByRecursion (λ w. is_empty_text w ≡ false) vs
+    → IsDistinct same_value vs → IsDistinct same_text (map (λ w. unwrap_or w []) vs)
+unfolding IsDistinct
+distinct_texts [] whole distinct = tt
+distinct_texts (v ∷ vs) whole distinct =
+    (other_texts v vs whole.0 whole.1 distinct.0, distinct_texts vs whole.1 distinct.1)
+
+one_distinct : (x : List ℕ) → IsDistinct same_text (x ∷ [])
+unfolding IsDistinct
+one_distinct x = (tt, tt)
+
+-- they are distinct, some, and not too many
+record AreValues (texts : List (List ℕ)) : Type 0 where
+  pub distinct : IsDistinct same_text texts
+  pub some : 0 < length texts
+  pub few : length texts ≤ MAX_VALUES
+
+of_label : (u : List Label) (name : List ℕ) → IsUniverse u → AreValues (label_texts u name)
+of_label u name h = by (find (has_name name) u) refl
+  where
+    by : (o : Option Label) → find (has_name name) u ≡ o → AreValues (texts_of_label o)
+    by None e = record {
+      distinct = one_distinct [];
+      some = lit< tt;
+      few = lit≤ tt;
+    }
+    by (Some l) e =
+        let is = AllByRecursion-at IsLabel u l h.labels (found_in name u l e).0 in
+        let long = length-map l.values (λ v. unwrap_or v []) in
+        record {
+          distinct = distinct_texts l.values is.texts is.distinct;
+          some = omega (arith, long, is.some_value);
+          few = omega (arith, long, is.at_most);
+        }
+
+-- so truths of them are never refused
+pub never_refused : (u : List Label) (name : List ℕ) (texts : List (String Global))
+    → IsUniverse u → map string_bytes texts ≡ label_texts u name
+    → (((texts ≡ []) → ⊥) → IsDistinct same_text (map string_bytes texts)
+    → MAX_VALUES < length texts) → ⊥
+never_refused u name texts h are refused =
+    let values : AreValues (map string_bytes texts) = subst AreValues (sym are) (of_label u name h) in
+    let long = length-map texts string_bytes in
+    let some : texts ≡ [] → ⊥ = λ e.
+    let none : length texts ≡ 0 = ap length e in
+    omega (arith, long, none, values.some) in
+    omega (arith, long, values.few, refused some values.distinct)
+
+-- nor those of texts of which no two are alike, and which are not too many
+pub never_refused_apart : (ms : List Condition) (texts : List (String Global))
+    → AreApart ms (map string_bytes texts) → length texts ≤ MAX_VALUES
+    → (IsDistinct same_text (map string_bytes texts) → MAX_VALUES < length texts) → ⊥
+never_refused_apart ms texts apart few refused =
+    omega (arith, few, refused (distinct_where_apart ms (map string_bytes texts) apart))
+
+-- a list that is not empty
+pub is_some_list : (texts : List (String Global)) (none : Bool) → none ≡ (length texts == 0)
+    → none ≡ false → texts ≡ [] → ⊥
+is_some_list texts none is fails e =
+    let empty : length texts ≡ 0 = ap length e in
+    let test : (length texts == 0) ≡ true = grind (arith, nat_tests) in
+    let both : true ≡ false = sym test ∙ sym is ∙ fails in cc
+
+-- ---- Some of the texts.
+
+taken_at : (texts : List (String Global)) (n i : ℕ) (x : List ℕ)
+    → slice_get (map string_bytes (take n texts)) i ≡ Some x
+    → slice_get (map string_bytes texts) i ≡ Some x
+taken_at [] zero i x at = at
+taken_at [] (suc n) i x at = at
+taken_at (t ∷ texts) zero i x at = absurd (cc)
+taken_at (t ∷ texts) (suc n) zero x at = at
+taken_at (t ∷ texts) (suc n) (suc i) x at = taken_at texts n i x at
+
+pub taken_apart : (ms : List Condition) (texts : List (String Global)) (n : ℕ)
+    → AreApart ms (map string_bytes texts) → AreApart ms (map string_bytes (take n texts))
+taken_apart ms texts n apart i j x y at_x at_y alike =
+    apart i j x y (taken_at texts n i x at_x) (taken_at texts n j y at_y) alike
+
+pub taken_in : (texts : List (String Global)) (n : ℕ) (x : List ℕ)
+    → IsIn (map string_bytes (take n texts)) x → IsIn (map string_bytes texts) x
+taken_in [] zero x i = i
+taken_in [] (suc n) x i = i
+taken_in (t ∷ texts) zero x i = absurd i
+taken_in (t ∷ texts) (suc n) x (inl here) = inl here
+taken_in (t ∷ texts) (suc n) x (inr later) = inr (taken_in texts n x later)
+
+dropped_in : (texts : List (String Global)) (n : ℕ) (x : List ℕ)
+    → IsIn (map string_bytes (drop n texts)) x → IsIn (map string_bytes texts) x
+dropped_in [] zero x i = i
+dropped_in [] (suc n) x i = i
+dropped_in (t ∷ texts) zero x i = i
+dropped_in (t ∷ texts) (suc n) x i = inr (dropped_in texts n x i)
+
+-- what holds of the first of them, and of one more
+all_taken : (P : List ℕ → Type 0) (texts : List (String Global)) (n : ℕ)
+    → AllByRecursion P (map string_bytes (take n texts))
+    → AllByRecursion P (map string_bytes (take 1 (drop n texts)))
+    → AllByRecursion P (map string_bytes (take (suc n) texts))
+all_taken P [] zero first one = tt
+all_taken P [] (suc n) first one = tt
+all_taken P (t ∷ texts) zero first one = one
+all_taken P (t ∷ texts) (suc n) first one = (first.0, all_taken P texts n first.1 one)
+
+cut : (n most few : ℕ) → few ≡ min n most → (few ≡ n → ⊥) → (few ≡ most) × (few < n)
+cut n most few is some = elim (cases_lt most n) [
+  | inl over ↦
+      let e : few ≡ most = omega (arith, is, over) in (e, omega (arith, e, over))
+  | inr within ↦
+      let e : few ≡ n = omega (arith, is, within) in absurd (some e)
+]
+
+-- ---- What is missing.
+
+pub is_later_part : (texts : List (String Global)) (k n : ℕ) (x : List ℕ)
+    → IsIn (map string_bytes (take k (drop n texts))) x → IsIn (map string_bytes texts) x
+is_later_part texts k n x i = dropped_in texts n x (taken_in (drop n texts) k x i)
+
+-- a text of a part that stands for what the label may have
+pub lacks : (s : Space) (l : AskedLabel) (have part : List (List ℕ))
+    (texts : List (String Global)) (text : String Global) → IsTrue (is_label_name l.name)
+    → StandForPossible s.impossible l.name l.matchers (map string_bytes texts)
+    → have ≡ label_texts s.labels l.name
+    → ((x : List ℕ) → IsIn part x → IsIn (map string_bytes texts) x)
+    → IsUtf8 (string_bytes text) × Contains part (string_bytes text)
+    × (HasAlikeIn l.matchers have (string_bytes text) → ⊥)
+    → IsFoundAt s l (state_is.Lacks text)
+lacks s l have part texts text named stand are within missing = (
+  named,
+  missing.0,
+  AllByRecursion-at (λ x. IsTrue (may_have s.impossible l.name x)) (map string_bytes texts)
+      (string_bytes text) stand.possible
+      (within (string_bytes text) (IsIn-from_Contains part (string_bytes text) missing.1)),
+  λ alike. missing.2 (subst
+      (λ (xs : List (List ℕ)). HasAlikeIn l.matchers xs (string_bytes text)) (sym are) alike),
+)
+
+-- where one more than the label may have values are needed, one of them is missing
+pub one_is_missing : (ms : List Condition) (have : List (List ℕ))
+    (texts : List (String Global)) (few one : ℕ) → AreApart ms (map string_bytes texts)
+    → length have ≤ MAX_VALUES → few ≡ min (length texts) MAX_VALUES → (few ≡ length texts → ⊥)
+    → one ≡ 1 → AllByRecursion (HasAlikeIn ms have) (map string_bytes (take few texts))
+    → AllByRecursion (HasAlikeIn ms have) (map string_bytes (take one (drop few texts))) → ⊥
+one_is_missing ms have texts few one apart few_there is some single first last =
+    let part = take (suc few) texts in
+    let each = all_taken (HasAlikeIn ms have) texts few first
+    (subst
+    (λ (k : ℕ). AllByRecursion (HasAlikeIn ms have) (map string_bytes (take k (drop few texts))))
+    single last) in
+    let no_more = apart_are_no_more ms (map string_bytes part) have
+    (taken_apart ms texts (suc few) apart) each in
+    let full = cut (length texts) MAX_VALUES few is some in
+    let long : length part ≡ suc few = length-take-le (suc few) texts (omega (arith, full)) in
+    omega (arith, no_more, length-map part string_bytes, long, few_there, full)
