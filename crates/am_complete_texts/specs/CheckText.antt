@@ -55,17 +55,25 @@ state_line state =
     ++ (unseen_text state.unseen ++ codes "\n")))
 
 -- How many label sets there are where the labels have so many values, impossible ones included; and
--- the line that says it. From 2^64 on it is not counted.
+-- the line that says it, and whether all are impossible. From 2^64 on it is not counted.
 -- Source: own choice.
--- Example: of three labels with 3, 3 and 10 values there are 90, and the line is `90 label sets`.
+-- Example: of three labels with 3, 3 and 10 values there are 90, and the line is `90 label sets`;
+-- where none of them is possible, it is `90 label sets, all impossible`.
 abbrev pub label_sets : List ℕ → ℕ
 label_sets [] = 1
 label_sets (size ∷ sizes) = size * label_sets sizes
 
-abbrev pub count_text : ℕ → List ℕ
-count_text count =
-    if nat_lt count (2 ^ 64) then decimal count ++ codes " label sets\n"
-    else codes "more than 18446744073709551615 label sets\n"
+abbrev pub label_sets_text : ℕ → List ℕ
+label_sets_text count =
+    if nat_lt count (2 ^ 64) then decimal count ++ codes " label sets"
+    else codes "more than 18446744073709551615 label sets"
+
+abbrev pub all_impossible_text : Bool → List ℕ
+all_impossible_text all_impossible = if all_impossible then codes ", all impossible" else []
+
+abbrev pub count_text : ℕ → Bool → List ℕ
+count_text count all_impossible =
+    label_sets_text count ++ (all_impossible_text all_impossible ++ codes "\n")
 
 -- The last line: whether nothing is missing.
 abbrev pub verdict_text : List LabelState → List ℕ
@@ -73,9 +81,11 @@ verdict_text states =
     if list_all (λ state. is_settled state.completeness) states then codes "# complete\n"
     else codes "# incomplete\n"
 
--- The whole: a line for each label, the number of label sets, and the verdict.
+-- The whole: a line for each label, the number of label sets and whether all are impossible, and
+-- the verdict.
 -- Source: own choice.
 -- Example: of a universe without labels that nothing asks of it is `1 label sets` and `# complete`.
-abbrev pub check_text : List ℕ → List LabelState → List ℕ
-check_text sizes states =
-    flat_map state_line states ++ (count_text (label_sets sizes) ++ verdict_text states)
+abbrev pub check_text : List ℕ → Bool → List LabelState → List ℕ
+check_text sizes all_impossible states =
+    flat_map state_line states
+    ++ (count_text (label_sets sizes) all_impossible ++ verdict_text states)

@@ -3,4 +3,5 @@ pub use Rattle.am_complete_texts.specs.UniverseText.{universe_text, label_text, 
 pub use Rattle.am_complete_texts.specs.UniverseText.{value_text, gap_before_label, gap_before_value}
 pub use Rattle.am_complete_texts.specs.CheckText.{check_text, state_line, state_text, name_text}
 pub use Rattle.am_complete_texts.specs.CheckText.{lacking_text, unseen_text, label_sets, count_text}
+pub use Rattle.am_complete_texts.specs.CheckText.{label_sets_text, all_impossible_text}
 pub use Rattle.am_complete_texts.specs.CheckText.{verdict_text, origin_pointer, child_pointer}

@@ -8,6 +8,7 @@ ghost use Rattle.am_labels.specs.Words.{begins_label_name, continues_label_name}
 ghost use Rattle.am_complete.specs.Words.{is_settled};
 ghost use Rattle.am_complete_texts.specs.Words.{check_text, state_line, state_text, name_text};
 ghost use Rattle.am_complete_texts.specs.Words.{lacking_text, unseen_text, label_sets, count_text};
+ghost use Rattle.am_complete_texts.specs.Words.{label_sets_text, all_impossible_text};
 ghost use Rattle.am_complete_texts.specs.Words.{verdict_text};
 
 use crate::pointer_to;
@@ -16,21 +17,23 @@ use am_labels::Universe;
 use am_universe::{begins_label_name, continues_label_name};
 use std::alloc::{AllocError, Global};
 
-/// How a universe stands, as a text: a line for each label, the number of its label sets, and
-/// whether nothing is missing. An `Err` only where memory was refused.
+/// How a universe stands, as a text: a line for each label, the number of its label sets and
+/// whether all of them are impossible, and whether nothing is missing. An `Err` only where memory
+/// was refused.
 pub fn text_of_check(
     alloc: Global,
     universe: &Universe,
+    all_impossible: bool,
     states: &[LabelState],
 ) -> Result<String, AllocError>
     ensures text { IfOk result (λ text.
-        string_bytes text ≡ check_text (sizes universe.now) states.now) }
+        string_bytes text ≡ check_text (sizes universe.now) all_impossible states.now) }
 {
     let mut text = String::new(alloc);
     for state in states {
         push_state(alloc, &mut text, state)?;
     }
-    push_count(alloc, &mut text, universe)?;
+    push_count(alloc, &mut text, universe, all_impossible)?;
     text.push_str(verdict_text(states))?;
     Ok(text)
 }
@@ -166,17 +169,43 @@ fn unseen_text(unseen: bool) -> &'static str
     if unseen { " unseen" } else { "" }
 }
 
-/// Adds how many label sets a universe has, impossible ones included.
-fn push_count(alloc: Global, text: &mut String, universe: &Universe) -> Result<(), AllocError>
+/// Adds how many label sets a universe has, impossible ones included, and whether all of them are
+/// impossible.
+fn push_count(
+    alloc: Global,
+    text: &mut String,
+    universe: &Universe,
+    all_impossible: bool,
+) -> Result<(), AllocError>
     ensures { OnOk result (string_bytes text.new
-        ≡ string_bytes text.old ++ count_text (label_sets (sizes universe.now))) }
+        ≡ string_bytes text.old ++ count_text (label_sets (sizes universe.now)) all_impossible) }
+{
+    push_label_sets(alloc, text, universe)?;
+    text.push_str(all_impossible_text(all_impossible))?;
+    text.push_str("\n")?;
+    Ok(())
+}
+
+fn push_label_sets(alloc: Global, text: &mut String, universe: &Universe) -> Result<(), AllocError>
+    ensures { OnOk result (string_bytes text.new
+        ≡ string_bytes text.old ++ label_sets_text (label_sets (sizes universe.now))) }
 {
     match label_sets(universe) {
         Some(count) => {
-            let line = format!(in alloc; "{count} label sets\n")?;
-            text.push_str(line.as_str())
+            let number = format!(in alloc; "{count} label sets")?;
+            text.push_str(number.as_str())
         }
-        None => text.push_str("more than 18446744073709551615 label sets\n"),
+        None => text.push_str("more than 18446744073709551615 label sets"),
+    }
+}
+
+fn all_impossible_text(all_impossible: bool) -> &'static str
+    ensures { result.now ≡ all_impossible_text all_impossible }
+{
+    if all_impossible {
+        ", all impossible"
+    } else {
+        ""
     }
 }
 
