@@ -128,7 +128,7 @@ fn push_lacking(text: &mut String, lacking: &str) -> Result<(), AllocError>
 }
 
 /// Adds a text between quotes, with `\` as `\\`, `"` as `\"` and a line feed as `\n`.
-fn push_quoted(text: &mut String, quoted: &str) -> Result<(), AllocError>
+pub fn push_quoted(text: &mut String, quoted: &str) -> Result<(), AllocError>
     ensures { OnOk result (string_bytes text.new
         ≡ string_bytes text.old ++ quoted_text quoted.now) }
 {

@@ -14,7 +14,7 @@ pub use origin_pointer::pointer_to;
 // How a universe stands.
 mod check_text;
 
-pub use check_text::text_of_check;
+pub use check_text::{push_quoted, text_of_check};
 
 // What holds of the definitions by themselves.
 pub mod laws;
