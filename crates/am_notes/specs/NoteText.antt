@@ -1,0 +1,13 @@
+-- Notes on a terminal. (This project's own.)
+use Rattle.std.specs.Prelude.{ℕ, List, ◌++◌, ◌≡◌, codes}
+use Rattle.std.specs.List.{flat_map}
+
+-- The line of a note; and a text that is lines of notes, of which there may be none.
+-- Source: own choice.
+-- Example: `without --silences nothing is silenced` is written as the line
+-- `note: without --silences nothing is silenced`.
+abbrev pub note_text : List ℕ → List ℕ
+note_text note = codes "note: " ++ (note ++ codes "\n")
+
+abbrev pub AreNoteLines : List ℕ → Type 0
+AreNoteLines text = (notes : List (List ℕ)) × (text ≡ flat_map note_text notes)

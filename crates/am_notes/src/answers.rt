@@ -1,0 +1,98 @@
+//! The notes of a call that is done.
+
+ghost use Rattle.std.specs.Prelude.{IfOk, string_bytes};
+ghost use Rattle.am_notes.specs.Words.{AreNoteLines};
+
+use crate::likeness::Likeness;
+use crate::matchers::add_set_matchers;
+use crate::notes::Notes;
+use crate::questions::{Asked, add_question, asks_of_routes};
+use crate::universes::add_incomplete;
+use crate::{Call, Task};
+use am_files::{read_config, read_universe};
+use am_json::read_json;
+use am_labels::parse_matchers;
+use am_questions::parse_question;
+use std::alloc::{AllocError, Global};
+
+const GROUPS: &str = "the alerts file has groups, each of which is read as one alert; \
+    export it with amtool alert query -a -s -i -u -o json";
+
+/// The notes of a call that is done, each a line, with its line feed. There may be none. An `Err`
+/// only where memory was refused.
+pub fn notes_of_answer(alloc: Global, call: &Call<'_>) -> Result<String, AllocError>
+    ensures lines { IfOk result (λ text. AreNoteLines (string_bytes text)) }
+{
+    let mut notes = Notes::none(alloc);
+    add_groups(alloc, &mut notes, call)?;
+    match call.task {
+        Task::Ask(question) => add_ask(alloc, &mut notes, call, question)?,
+        Task::Report => add_report(alloc, &mut notes, call)?,
+        Task::Explain(words) => add_explain(alloc, &mut notes, words)?,
+        Task::Universe => {}
+    }
+    notes.text(alloc)
+}
+
+/// Adds a note where what the alerts file holds is groups of alerts.
+fn add_groups(alloc: Global, notes: &mut Notes, call: &Call<'_>) -> Result<(), AllocError> {
+    let Some(bytes) = call.files.alerts else {
+        return Ok(());
+    };
+    let Ok(value) = read_json(alloc, bytes) else {
+        return Err(AllocError);
+    };
+    if Likeness::of(&value) == Some(Likeness::Groups) {
+        notes.add_str(alloc, GROUPS)?;
+    }
+    Ok(())
+}
+
+// The inputs of a call that is done have been read before, so that only memory can fail below.
+
+fn add_ask(
+    alloc: Global,
+    notes: &mut Notes,
+    call: &Call<'_>,
+    text: &str,
+) -> Result<(), AllocError> {
+    let Ok(space) = read_universe(alloc, call.universe) else {
+        return Err(AllocError);
+    };
+    let Ok(config) = read_config(alloc, call.files.config()) else {
+        return Err(AllocError);
+    };
+    let Ok(question) = parse_question(alloc, text, &config) else {
+        return Err(AllocError);
+    };
+    let asked = Asked {
+        call: *call,
+        text,
+        universe: space.universe(),
+    };
+    add_question(alloc, notes, &asked, &question)?;
+    if asks_of_routes(&question) {
+        add_incomplete(alloc, notes, &space, &config)?;
+    }
+    Ok(())
+}
+
+fn add_report(alloc: Global, notes: &mut Notes, call: &Call<'_>) -> Result<(), AllocError> {
+    let Ok(space) = read_universe(alloc, call.universe) else {
+        return Err(AllocError);
+    };
+    let Ok(config) = read_config(alloc, call.files.config()) else {
+        return Err(AllocError);
+    };
+    add_incomplete(alloc, notes, &space, &config)
+}
+
+fn add_explain(alloc: Global, notes: &mut Notes, words: &[&str]) -> Result<(), AllocError> {
+    for word in words {
+        // A word that is one of several may be no list by itself, as `note=a,b`.
+        if let Ok(matchers) = parse_matchers(alloc, word) {
+            add_set_matchers(alloc, notes, &matchers, word)?;
+        }
+    }
+    Ok(())
+}

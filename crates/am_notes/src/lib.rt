@@ -1,0 +1,35 @@
+//! Notes for a person at a terminal: what the answer of a command does not say by itself, and what
+//! to type after a refusal.
+//!
+//! A note is one line that begins with `note: `. [`notes_of_answer`] gives those of a [`Call`] that
+//! is done, and [`notes_of_refusal`] those of one that was refused. Both are functions of the
+//! inputs alone, and read these again, by the readers that the commands have. Nothing rests on
+//! notes: no contract says which there are, and cases show it.
+#![tactic(auto)]
+
+// What notes are about.
+mod call;
+
+pub use call::{Call, Task};
+
+// The lines, and the sentences that stand in them.
+mod notes;
+mod sentences;
+
+// What an answer does not say by itself.
+mod matchers;
+mod questions;
+mod universes;
+
+// What a file looks like.
+mod likeness;
+
+// What to type after a refusal.
+mod remedies;
+
+// The calls.
+mod answers;
+mod refusals;
+
+pub use answers::notes_of_answer;
+pub use refusals::notes_of_refusal;

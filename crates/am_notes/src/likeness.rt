@@ -1,0 +1,79 @@
+//! What a file looks like.
+
+use am_labels::Place;
+use serde_json::Value;
+
+/// What a file looks like, by its outermost fields alone.
+#[derive(Clone, Copy, Debug, PartialEq, Eq)]
+pub(crate) enum Likeness {
+    Universe,
+    Config,
+    Silences,
+    Alerts,
+    /// Alerts in groups, as an alert of each of which a reader takes the labels of the group.
+    Groups,
+    /// What an HTTP API answers, with the records in a field of it.
+    ApiAnswer,
+}
+
+impl Likeness {
+    /// What a JSON value looks like, if that can be told.
+    pub(crate) fn of(value: &Value) -> Option<Likeness> {
+        match value.as_array() {
+            Some(items) => Likeness::of_record(items.first()?),
+            None => Likeness::of_object(value),
+        }
+    }
+
+    /// What a list looks like that begins with this record.
+    fn of_record(first: &Value) -> Option<Likeness> {
+        if has_field(first, "alerts") {
+            Some(Likeness::Groups)
+        } else if has_field(first, "labels") {
+            Some(Likeness::Alerts)
+        } else if has_field(first, "matchers") {
+            Some(Likeness::Silences)
+        } else {
+            None
+        }
+    }
+
+    fn of_object(value: &Value) -> Option<Likeness> {
+        if has_field(value, "route") {
+            Some(Likeness::Config)
+        } else if has_field(value, "labels") {
+            Some(Likeness::Universe)
+        } else if has_field(value, "data") {
+            Some(Likeness::ApiAnswer)
+        } else {
+            None
+        }
+    }
+
+    /// Whether a file at this place should look so.
+    pub(crate) fn belongs_at(self, place: Place) -> bool {
+        match self {
+            Likeness::Universe => place == Place::Universe,
+            Likeness::Config => place == Place::Config,
+            Likeness::Silences => place == Place::Silences,
+            Likeness::Alerts => place == Place::Alerts,
+            Likeness::Groups | Likeness::ApiAnswer => false,
+        }
+    }
+
+    /// How a note calls it.
+    pub(crate) fn text(self) -> &'static str {
+        match self {
+            Likeness::Universe => "a universe",
+            Likeness::Config => "a configuration",
+            Likeness::Silences => "an export of silences",
+            Likeness::Alerts => "an export of alerts",
+            Likeness::Groups => "an export of alerts in groups",
+            Likeness::ApiAnswer => "an answer of an HTTP API, not an export of amtool",
+        }
+    }
+}
+
+fn has_field(value: &Value, name: &str) -> bool {
+    value.get(name).is_some()
+}

@@ -1,0 +1,89 @@
+//! Notes on matchers that a person has typed.
+
+ghost use Rattle.std.specs.Prelude.{◌<◌, length};
+
+use crate::notes::Notes;
+use crate::sentences::{run_together, undeclared_label, undeclared_value};
+use am_labels::{Matcher, Matchers, Op, Universe};
+use std::alloc::{AllocError, Global};
+
+/// Adds the notes on the matchers of a label set, which was read from a text.
+pub(crate) fn add_set_matchers(
+    alloc: Global,
+    notes: &mut Notes,
+    matchers: &Matchers,
+    text: &str,
+) -> Result<(), AllocError> {
+    for i in 0..matchers.len() {
+        let matcher = matchers.get(i);
+        if is_run_together(alloc, matcher, text)? {
+            notes.add(run_together(alloc, matcher.name(), matcher.value())?)?;
+        }
+    }
+    Ok(())
+}
+
+/// Adds the notes on the matchers of a list, which was read from a part of a question.
+pub(crate) fn add_question_matchers(
+    alloc: Global,
+    notes: &mut Notes,
+    matchers: &Matchers,
+    question: &str,
+    universe: &Universe,
+) -> Result<(), AllocError> {
+    for i in 0..matchers.len() {
+        if let Some(note) = question_note(alloc, matchers.get(i), question, universe)? {
+            notes.add(note)?;
+        }
+    }
+    Ok(())
+}
+
+/// The note on a matcher of a question, if there is one: that there seem to be two matchers in it,
+/// or else that the universe does not declare what it asks for.
+fn question_note(
+    alloc: Global,
+    matcher: &Matcher,
+    question: &str,
+    universe: &Universe,
+) -> Result<Option<String>, AllocError> {
+    let (name, value) = (matcher.name(), matcher.value());
+    if is_run_together(alloc, matcher, question)? {
+        return Ok(Some(run_together(alloc, name, value)?));
+    }
+    let Some(label) = universe.position(name) else {
+        return Ok(Some(undeclared_label(alloc, name)?));
+    };
+    if matcher.op() == Op::Equal && !has_value(universe, label, value) {
+        return Ok(Some(undeclared_value(alloc, name, value)?));
+    }
+    Ok(None)
+}
+
+/// Whether the label at `label` may have a text; the empty one is absence.
+fn has_value(universe: &Universe, label: usize, text: &str) -> bool
+    requires { label < length universe.now }
+{
+    for j in 0..universe.size(label) {
+        if universe.value(label, j).unwrap_or("") == text {
+            return true;
+        }
+    }
+    false
+}
+
+/// Whether a matcher that was read from a text seems to be two: in its value, without quotes, a
+/// blank stands and an `=` behind it.
+fn is_run_together(alloc: Global, matcher: &Matcher, text: &str) -> Result<bool, AllocError> {
+    match matcher.value().split_once(' ') {
+        Some((_, behind)) if behind.contains('=') => is_unquoted(alloc, text, matcher.value()),
+        _ => Ok(false),
+    }
+}
+
+/// Whether a value stands in a text without quotes. Where it stands there with quotes too, or with
+/// escapes, it counts as quoted: who quotes means one value.
+fn is_unquoted(alloc: Global, text: &str, value: &str) -> Result<bool, AllocError> {
+    let quoted = format!(in alloc; "\"{value}\"")?;
+    Ok(text.contains(value) && !text.contains(quoted.as_str()))
+}

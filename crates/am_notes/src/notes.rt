@@ -1,0 +1,66 @@
+//! Notes, as they are gathered.
+
+ghost use Rattle.std.specs.Prelude.{◌≡◌, ◌++◌, string_bytes, IfOk, OnOk};
+ghost use Rattle.std.specs.List.{flat_map};
+ghost use Rattle.am_notes.specs.Words.{note_text, AreNoteLines};
+
+use std::alloc::{AllocError, Global};
+
+/// Notes, each without the words that it begins with. None stands twice.
+#[derive(Drop)]
+pub(crate) struct Notes {
+    notes: Vec<String>,
+}
+
+impl Notes {
+    pub(crate) fn none(alloc: Global) -> Notes {
+        Notes {
+            notes: Vec::new(alloc),
+        }
+    }
+
+    /// Adds a note, unless it is there already.
+    pub(crate) fn add(&mut self, note: String) -> Result<(), AllocError> {
+        if !self.has(note.as_str()) {
+            self.notes.push(note)?;
+        }
+        Ok(())
+    }
+
+    /// Adds a note that is one text whatever the inputs say.
+    pub(crate) fn add_str(&mut self, alloc: Global, note: &str) -> Result<(), AllocError> {
+        self.add(String::from_str(alloc, note)?)
+    }
+
+    fn has(&self, note: &str) -> bool {
+        self.notes.iter().any(|other| other.as_str() == note)
+    }
+
+    /// The lines of the notes.
+    pub(crate) fn text(&self, alloc: Global) -> Result<String, AllocError>
+        ensures lines { IfOk result (λ text. AreNoteLines (string_bytes text)) }
+    {
+        text_of(alloc, self.notes.as_slice())
+    }
+}
+
+/// The lines of notes.
+fn text_of(alloc: Global, notes: &[String]) -> Result<String, AllocError>
+    ensures { IfOk result (λ text. string_bytes text
+        ≡ flat_map (λ note. note_text (string_bytes note)) notes.now) }
+{
+    let mut text = String::new(alloc);
+    for note in notes {
+        push_note(&mut text, note.as_str())?;
+    }
+    Ok(text)
+}
+
+/// Adds the line of a note.
+fn push_note(text: &mut String, note: &str) -> Result<(), AllocError>
+    ensures { OnOk result (string_bytes text.new ≡ string_bytes text.old ++ note_text note.now) }
+{
+    text.push_str("note: ")?;
+    text.push_str(note)?;
+    text.push_str("\n")
+}

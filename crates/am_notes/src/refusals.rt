@@ -1,0 +1,24 @@
+//! The notes of a call that was refused.
+
+ghost use Rattle.std.specs.Prelude.{IfOk, string_bytes};
+ghost use Rattle.am_notes.specs.Words.{AreNoteLines};
+
+use crate::Call;
+use crate::notes::Notes;
+use crate::remedies::add_remedy;
+use am_labels::Fault;
+use std::alloc::{AllocError, Global};
+
+/// The notes behind a refusal, each a line, with its line feed: at most one, and there may be none.
+/// A call that read no file is none. An `Err` only where memory was refused.
+pub fn notes_of_refusal(
+    alloc: Global,
+    call: Option<&Call<'_>>,
+    fault: &Fault,
+) -> Result<String, AllocError>
+    ensures lines { IfOk result (λ text. AreNoteLines (string_bytes text)) }
+{
+    let mut notes = Notes::none(alloc);
+    add_remedy(alloc, &mut notes, call, fault)?;
+    notes.text(alloc)
+}

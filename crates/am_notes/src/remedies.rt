@@ -1,0 +1,206 @@
+//! What to type after a refusal.
+
+use crate::likeness::Likeness;
+use crate::notes::Notes;
+use crate::sentences::looks_like;
+use crate::{Call, Task};
+use am_json::read_json;
+use am_labels::{Fault, Kind, Place};
+use std::alloc::{AllocError, Global};
+
+/// Adds the remedy for a fault, if one is known.
+pub(crate) fn add_remedy(
+    alloc: Global,
+    notes: &mut Notes,
+    call: Option<&Call<'_>>,
+    fault: &Fault,
+) -> Result<(), AllocError> {
+    let Some(call) = call else {
+        return add_if_any(alloc, notes, unread_remedy(fault.kind));
+    };
+    match fault.kind {
+        Kind::NotJson => add_if_any(alloc, notes, not_json_remedy(call, fault.place)),
+        Kind::Shape | Kind::UnknownField => add_likeness(alloc, notes, call, fault.place),
+        Kind::BadMatcher => add_bad_matcher(alloc, notes, call, fault),
+        kind => add_if_any(alloc, notes, remedy(call, kind, fault.place)),
+    }
+}
+
+fn add_if_any(
+    alloc: Global,
+    notes: &mut Notes,
+    remedy: Option<&'static str>,
+) -> Result<(), AllocError> {
+    match remedy {
+        Some(remedy) => notes.add_str(alloc, remedy),
+        None => Ok(()),
+    }
+}
+
+/// Where a file could not be read.
+fn unread_remedy(kind: Kind) -> Option<&'static str> {
+    match kind {
+        Kind::Read => Some("standard input is the file /dev/stdin"),
+        _ => None,
+    }
+}
+
+/// The bytes of the file at a place, if there is one.
+fn file_at<'a>(call: &Call<'a>, place: Place) -> Option<&'a [u8]> {
+    match place {
+        Place::Universe => Some(call.universe),
+        Place::Config => call.files.config,
+        Place::Silences => call.files.silences,
+        Place::Alerts => call.files.alerts,
+        _ => None,
+    }
+}
+
+/// Where a file is not JSON.
+fn not_json_remedy(call: &Call<'_>, place: Place) -> Option<&'static str> {
+    if file_at(call, place)?.trim_ascii().is_empty() {
+        return Some("the file is empty: did the command that wrote it fail?");
+    }
+    match place {
+        Place::Universe => Some("a universe is JSON: amcover universe --config FILE writes one"),
+        Place::Config => Some(
+            "--config takes JSON: yq -o=json . alertmanager.yml (the yq in Go) or \
+            yq . alertmanager.yml (the yq in Python)",
+        ),
+        Place::Silences => Some("--silences takes JSON: amtool silence query -o json"),
+        Place::Alerts => Some("--alerts takes JSON: amtool alert query -a -s -i -u -o json"),
+        _ => None,
+    }
+}
+
+/// Adds what a file looks like, where that is not what belongs at its place.
+fn add_likeness(
+    alloc: Global,
+    notes: &mut Notes,
+    call: &Call<'_>,
+    place: Place,
+) -> Result<(), AllocError> {
+    let Some(bytes) = file_at(call, place) else {
+        return Ok(());
+    };
+    let Ok(value) = read_json(alloc, bytes) else {
+        return Err(AllocError);
+    };
+    match Likeness::of(&value) {
+        Some(likeness) if !likeness.belongs_at(place) => {
+            notes.add(looks_like(alloc, place.text(), likeness.text())?)
+        }
+        _ => Ok(()),
+    }
+}
+
+/// Adds how matchers are written, where a text spells none.
+fn add_bad_matcher(
+    alloc: Global,
+    notes: &mut Notes,
+    call: &Call<'_>,
+    fault: &Fault,
+) -> Result<(), AllocError> {
+    if has_quoted_name_at(alloc, call, fault)? {
+        return notes.add_str(
+            alloc,
+            "a label name stands without quotes, as in team=\"db\"",
+        );
+    }
+    add_if_any(alloc, notes, bad_matcher_remedy(fault.place))
+}
+
+fn bad_matcher_remedy(place: Place) -> Option<&'static str> {
+    match place {
+        Place::Set => Some("a label set is written as team=\"db\",severity=\"warning\""),
+        Place::Question => Some("matchers are written as {team=\"db\",severity=~\"crit.*\"}"),
+        _ => None,
+    }
+}
+
+/// Whether a label name stands in quotes in the text that is at fault.
+fn has_quoted_name_at(alloc: Global, call: &Call<'_>, fault: &Fault) -> Result<bool, AllocError> {
+    match call.task {
+        Task::Ask(text) if fault.place == Place::Question => Ok(has_quoted_name(text)),
+        Task::Explain(words) if fault.place == Place::Set => {
+            Ok(words.iter().any(|word| has_quoted_name(word)))
+        }
+        _ => has_quoted_name_in_file(alloc, call, fault),
+    }
+}
+
+/// The same, where the text stands in a file.
+fn has_quoted_name_in_file(
+    alloc: Global,
+    call: &Call<'_>,
+    fault: &Fault,
+) -> Result<bool, AllocError> {
+    let Some(bytes) = file_at(call, fault.place) else {
+        return Ok(false);
+    };
+    let Ok(value) = read_json(alloc, bytes) else {
+        return Err(AllocError);
+    };
+    match value.pointer(fault.pointer.as_str()) {
+        Some(text) => Ok(has_quoted_name(text.as_str().unwrap_or(""))),
+        None => Ok(false),
+    }
+}
+
+/// Whether a quote stands where a name would begin: at the beginning, behind a brace, or behind a
+/// comma and at most one blank.
+fn has_quoted_name(text: &str) -> bool {
+    text.starts_with('"')
+        || text.contains("{\"")
+        || text.contains("{ \"")
+        || text.contains(",\"")
+        || text.contains(", \"")
+}
+
+/// The remedy for any other fault.
+fn remedy(call: &Call<'_>, kind: Kind, place: Place) -> Option<&'static str> {
+    match kind {
+        Kind::QuestionSyntax => Some(question_remedy(call.task)),
+        Kind::UnknownReceiver | Kind::UnknownRoute if call.files.config.is_none() => {
+            Some("without --config there is one receiver, none, and one route, /")
+        }
+        Kind::UnknownReceiver => Some(
+            "a receiver is named as in the file of --config, capital letters included",
+        ),
+        Kind::UnknownRoute => {
+            Some("positions count from 0: / is the top-level route, /0 its first child")
+        }
+        Kind::BadTime => time_remedy(place),
+        Kind::NeedAt => Some("silences need a time; now is --at \"$(date -u +%FT%TZ)\""),
+        Kind::BadToken => Some("--after takes the word behind # next or # stopped"),
+        Kind::OtherInputs => {
+            Some("an input has changed since the page before: start again without --after")
+        }
+        Kind::Unproved => Some(
+            "with --open a universe is made all the same; \
+            amcover universe --check UNIVERSE --config FILE says what of it is not proved",
+        ),
+        _ => None,
+    }
+}
+
+/// Where a question is not of the grammar.
+fn question_remedy(task: Task<'_>) -> &'static str {
+    match task {
+        Task::Ask(text) if text.contains('=') && !text.contains('{') => {
+            "matchers stand in braces, as in {team=\"db\"}"
+        }
+        _ => "amcover ask --help lists the forms; a name with a blank stands in quotes: \
+            receiver \"on call\"",
+    }
+}
+
+/// Where a text is no instant: one of the command line, not of a file.
+fn time_remedy(place: Place) -> Option<&'static str> {
+    match place {
+        Place::Instant => Some(
+            "a time is written as 2024-05-01T10:00:00Z; now is --at \"$(date -u +%FT%TZ)\"",
+        ),
+        _ => None,
+    }
+}

@@ -1,0 +1,69 @@
+//! The sentences of notes that name a label, a value or a file. Each stands here once.
+
+use am_complete_texts::push_quoted;
+use std::alloc::{AllocError, Global};
+
+/// How a person sees what a universe leaves out.
+const CHECK: &str = "see amcover universe --routes --check UNIVERSE --config FILE";
+
+/// A question asks of a label that no label set of the universe has.
+pub(crate) fn undeclared_label(alloc: Global, name: &str) -> Result<String, AllocError> {
+    format!(in alloc;
+        "the universe does not declare {name}: it counts as missing in every label set"
+    )
+}
+
+/// A question asks for a value of a label that no label set of the universe has. The empty value is
+/// that of a missing label.
+pub(crate) fn undeclared_value(
+    alloc: Global,
+    name: &str,
+    value: &str,
+) -> Result<String, AllocError> {
+    if value.is_empty() {
+        return format!(in alloc;
+            "the universe does not declare null for {name}: no label set is without it"
+        );
+    }
+    let value = quoted(alloc, value)?;
+    format!(in alloc; "the universe does not declare {name}={value}: no label set has it")
+}
+
+/// What looks like several matchers is one.
+pub(crate) fn run_together(alloc: Global, name: &str, value: &str) -> Result<String, AllocError> {
+    let value = quoted(alloc, value)?;
+    format!(in alloc; "the value of {name} is {value}: a comma separates matchers")
+}
+
+/// The universe stands for no alert that has this text as its label; the empty text is that of a
+/// missing label.
+pub(crate) fn left_out(alloc: Global, name: &str, text: &str) -> Result<String, AllocError> {
+    if text.is_empty() {
+        return format!(in alloc; "the universe leaves out alerts without {name}; {CHECK}");
+    }
+    let text = quoted(alloc, text)?;
+    format!(in alloc; "the universe leaves out alerts such as those with {name}={text}; {CHECK}")
+}
+
+/// The universe stands for no alert that has this label.
+pub(crate) fn undeclarable(alloc: Global, name: &str) -> Result<String, AllocError> {
+    let name = quoted(alloc, name)?;
+    format!(in alloc; "no universe can declare {name}: alerts that have it are left out; {CHECK}")
+}
+
+/// Whether the universe stands for all alerts with this label is open.
+pub(crate) fn unproved(alloc: Global, name: &str) -> Result<String, AllocError> {
+    format!(in alloc; "whether the universe leaves out values of {name} is not proved; {CHECK}")
+}
+
+/// What is given as one file looks like another.
+pub(crate) fn looks_like(alloc: Global, place: &str, likeness: &str) -> Result<String, AllocError> {
+    format!(in alloc; "the file given as {place} looks like {likeness}")
+}
+
+/// A text between quotes, with `\` as `\\`, `"` as `\"` and a line feed as `\n`.
+fn quoted(alloc: Global, text: &str) -> Result<String, AllocError> {
+    let mut quoted = String::new(alloc);
+    push_quoted(&mut quoted, text)?;
+    Ok(quoted)
+}
