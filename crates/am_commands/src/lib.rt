@@ -8,7 +8,8 @@
 //! words. [`universe`](universe()) makes a universe that stands for every alert, and
 //! [`check_universe`] says what another one lacks. [`fingerprint`] is what a page's token knows of
 //! the inputs. [`run`] reads a command line and the files that it names, calls the command and
-//! answers the exit status; the program `amcover` is that call and no more.
+//! answers the exit status. The program `amcover` is that call and no more; on a terminal it is
+//! [`run_with_notes`].
 #![tactic(auto)]
 
 // The layers below: what goes in, how a page ends, and how a fault is written.
@@ -31,7 +32,7 @@ pub use reporting::{dead, receivers};
 mod program;
 mod read_file;
 
-pub use program::{refuse_arguments, run};
+pub use program::{refuse_arguments, run, run_with_notes};
 
 // What holds of the definitions by themselves.
 pub mod laws;

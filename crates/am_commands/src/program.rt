@@ -15,11 +15,12 @@ use crate::read_file::read_file;
 use crate::reporting::{dead, receivers};
 use am_command_line::{CommandLine, InputFiles, Request, Steps, parse_command_line};
 use am_labels::{Fault, Kind, Out, Place, Sink, fault_at, report};
+use am_notes::{Call, Task, notes_of_answer, notes_of_refusal};
 use am_search::Page;
 use am_universe_command::UniverseForm;
 use clap::Error;
 use clap::error::ErrorKind;
-use std::alloc::Global;
+use std::alloc::{AllocError, Global};
 use std::io;
 use std::io::{BufWriter, Write};
 use std::num::NonZeroU64;
@@ -42,8 +43,21 @@ pub fn run<R: Files + AllocGlobal, W: Write + Drop, E: Write + Drop>(
     out: &mut W,
     err: &mut E,
 ) -> u8 {
+    run_with_notes(rt, words, out, err, false)
+}
+
+/// The same; and where notes are wanted, as on a terminal, they go to `err` behind all else: lines
+/// that begin with `note: `, which say what a person is about to miss. What goes to `out`, the line
+/// of a fault and the answer are the same with and without them.
+pub fn run_with_notes<R: Files + AllocGlobal, W: Write + Drop, E: Write + Drop>(
+    rt: &R,
+    words: &[String],
+    out: &mut W,
+    err: &mut E,
+    notes: bool,
+) -> u8 {
     let outcome = match parse_command_line(rt.alloc(), words) {
-        Ok(line) => run_line(rt, &line, out),
+        Ok(line) => return run_line(rt, &line, out, err, notes),
         Err(error) => show_clap_message(rt.alloc(), &error, out, err),
     };
     match outcome {
@@ -62,14 +76,72 @@ pub fn refuse_arguments<E: Write>(error: &io::Error, alloc: Global, err: &mut E)
     USAGE
 }
 
-/// Reads the files that a command line names, and does what it asks for.
-fn run_line<R: Files + AllocGlobal, W: Write + Drop>(
+/// Reads the files that a command line names, and does what it asks for. The answer is the exit
+/// status.
+fn run_line<R: Files + AllocGlobal, W: Write + Drop, E: Write + Drop>(
     rt: &R,
     line: &CommandLine<'_>,
     out: &mut W,
-) -> Result<u8, Fault> {
-    let files = read_files(rt, &line.files)?;
-    call_buffered(rt.alloc(), &line.request, &files, out)
+    err: &mut E,
+    notes: bool,
+) -> u8 {
+    let alloc = rt.alloc();
+    let files = match read_files(rt, &line.files) {
+        Ok(files) => files,
+        Err(fault) => return refuse(alloc, None, &fault, err, notes),
+    };
+    let outcome = call_buffered(alloc, &line.request, &files, out);
+    let call = noted_call(&line.request, &files);
+    match outcome {
+        Ok(status) => {
+            if notes {
+                write_notes(notes_of_answer(alloc, &call), err);
+            }
+            status
+        }
+        Err(fault) => refuse(alloc, Some(&call), &fault, err, notes),
+    }
+}
+
+/// Says why a call was refused, and behind that what may help. The answer is the exit status.
+fn refuse<E: Write + Drop>(
+    alloc: Global,
+    call: Option<&Call<'_>>,
+    fault: &Fault,
+    err: &mut E,
+    notes: bool,
+) -> u8 {
+    let status = report(alloc, fault, err);
+    if notes {
+        write_notes(notes_of_refusal(alloc, call, fault), err);
+    }
+    status
+}
+
+/// Writes notes, as far as there are any. Where memory was refused for them there are none, and
+/// where they cannot be written nothing is made of that: they are no part of the answer.
+fn write_notes<E: Write + Drop>(notes: Result<String, AllocError>, err: &mut E) {
+    if let Ok(text) = notes {
+        let _ = err.write_all(text.as_str().as_bytes());
+    }
+}
+
+/// What notes are about: what was asked for, over the bytes of the files.
+fn noted_call<'a>(request: &'a Request<'a>, files: &'a InputFiles<'_, Vec<u8>>) -> Call<'a> {
+    Call {
+        task: task_of(request),
+        universe: universe_of(files),
+        files: world_files(files),
+    }
+}
+
+fn task_of<'a>(request: &'a Request<'a>) -> Task<'a> {
+    match request {
+        Request::Ask { question, .. } => Task::Ask(question),
+        Request::Dead | Request::Receivers => Task::Report,
+        Request::Explain { set } => Task::Explain(set.as_slice()),
+        Request::Universe { .. } | Request::CheckUniverse { .. } => Task::Universe,
+    }
 }
 
 /// The bytes of the files of these paths, which are read in the order in which commands look at
