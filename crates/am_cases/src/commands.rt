@@ -5,9 +5,10 @@ use crate::shelf::Shelf;
 use am_case_files::{
     Item, Line, Manner, Named, Problem, Stop, Writer, filled, number, split_at_first, utf8, words,
 };
-use am_commands::run;
+use am_commands::{run, run_with_notes};
 use std::alloc::Global;
 use std::fs::OpenOptions;
+use std::io::Write;
 
 /// What is wanted of a stream.
 #[derive(Drop)]
@@ -38,6 +39,8 @@ pub struct Command {
     error_stops: bool,
     /// The file that standard output is, if it is one.
     device: Option<String>,
+    /// The notes behind what else stands on standard error, where that is a terminal.
+    notes: Option<Vec<u8>>,
 }
 
 /// What a run gave.
@@ -77,6 +80,7 @@ pub fn read_command(alloc: Global, texts: &[Named], item: &Item<'_>) -> Result<C
         stops: false,
         error_stops: false,
         device: None,
+        notes: None,
     })
 }
 
@@ -113,6 +117,11 @@ impl Command {
         item: &Item<'_>,
     ) -> Result<bool, Problem> {
         let line = item.head.text;
+        if line == b"on a terminal".as_slice() {
+            let notes = output(alloc, texts, item.body.as_slice())?;
+            say_once(alloc, &mut self.notes, notes, line)?;
+            return Ok(true);
+        }
         if !self.take_expectation(alloc, texts, line)? && !self.take_manner(alloc, line)? {
             return Ok(false);
         }
@@ -223,7 +232,7 @@ impl Command {
     pub fn check(&mut self, host: &HostRuntime, files: &[Named]) -> Result<(), Problem> {
         let alloc = host.alloc();
         self.put_digits(host, files)?;
-        if self.out.is_none() && self.err.is_none() && self.status.is_none() {
+        if !self.has_expectation() {
             return Err(Problem::said(alloc, "a case without an expectation"));
         }
         if let Some(path) = &self.device {
@@ -243,8 +252,20 @@ impl Command {
         Ok(())
     }
 
+    fn has_expectation(&self) -> bool {
+        self.out.is_some() || self.err.is_some() || self.status.is_some() || self.notes.is_some()
+    }
+
     fn wanted_status(&self) -> u8 {
         self.status.unwrap_or(0)
+    }
+
+    /// Runs the words, as on a terminal where notes are wanted, and answers the exit status.
+    fn run_words<W: Write + Drop>(&self, shelf: &Shelf<'_>, out: &mut W, err: &mut Writer) -> u8 {
+        match &self.notes {
+            Some(_) => run_with_notes(shelf, self.words.as_slice(), out, err, true),
+            None => run(shelf, self.words.as_slice(), out, err),
+        }
     }
 
     fn run_over(
@@ -258,7 +279,7 @@ impl Command {
         let mut out = Writer::new(alloc, manner);
         let mut err = Writer::new(alloc, error_manner);
         let shelf = Shelf { host, files };
-        let status = run(&shelf, self.words.as_slice(), &mut out, &mut err);
+        let status = self.run_words(&shelf, &mut out, &mut err);
         if out.starved || err.starved || status == 3 && self.wanted_status() != 3 {
             return Err(Problem::Memory);
         }
@@ -266,7 +287,7 @@ impl Command {
     }
 
     fn check_outputs(&self, alloc: Global, ran: &Ran) -> Result<(), Problem> {
-        check_stream(alloc, "standard error", &self.err, ran.err.taken.as_slice())?;
+        self.check_error(alloc, ran.err.taken.as_slice())?;
         check_stream(
             alloc,
             "standard output",
@@ -276,6 +297,17 @@ impl Command {
         check_status(alloc, self.wanted_status(), ran.status)?;
         check_count(alloc, "writes", self.writes, ran.out.calls)?;
         check_count(alloc, "error writes", self.error_writes, ran.err.calls)
+    }
+
+    /// Whether standard error is as it is said to be, with the notes behind all else.
+    fn check_error(&self, alloc: Global, found: &[u8]) -> Result<(), Problem> {
+        let Some(notes) = &self.notes else {
+            return check_stream(alloc, "standard error", &self.err, found);
+        };
+        match found.strip_suffix(notes.as_slice()) {
+            Some(found) => check_stream(alloc, "standard error", &self.err, found),
+            None => Err(Problem::differs(alloc, "notes", notes.as_slice(), found)),
+        }
     }
 
     /// Runs it again for each write that it makes, which fails or takes nothing.
@@ -342,11 +374,11 @@ impl Command {
         };
         let mut err = Writer::new(alloc, self.error_manner);
         let shelf = Shelf { host, files };
-        let status = run(&shelf, self.words.as_slice(), &mut device, &mut err);
+        let status = self.run_words(&shelf, &mut device, &mut err);
         if err.starved || status == 3 {
             return Err(Problem::Memory);
         }
-        check_stream(alloc, "standard error", &self.err, err.taken.as_slice())?;
+        self.check_error(alloc, err.taken.as_slice())?;
         check_status(alloc, self.wanted_status(), status)
     }
 }
