@@ -90,12 +90,17 @@ Each label set of it is taken for the labels of an alert, which the configuratio
 
   yq -o=json . alertmanager.yml > alertmanager.json
 
+or, with the yq that Debian has, by
+
+  yq . alertmanager.yml > alertmanager.json
+
 Without --config there is one route, /, and its receiver is called none. A fault in a
 file names the file and, by a JSON Pointer, the part at fault.
 
 The silences of --silences are a file that amtool writes:
 
-  amtool silence query -o json > silences.json
+  amtool --alertmanager.url=http://localhost:9093 \\
+    silence query -o json > silences.json
 
 They need --at, the time that is asked about: a silence hides alerts from its start on
 and until its end. The time has a date and Z or an offset from UTC, as in
@@ -106,7 +111,8 @@ and until its end. The time has a date and Z or an offset from UTC, as in
 The alerts of --alerts are those that fire. amtool writes them; without -a -s -i -u it
 leaves out those that are silenced or inhibited, which inhibit others all the same:
 
-  amtool alert query -a -s -i -u -o json > alerts.json
+  amtool --alertmanager.url=http://localhost:9093 \\
+    alert query -a -s -i -u -o json > alerts.json
 
 Every alert of that file counts as firing, whatever --at says. Without --silences no alert
 is silenced, and without --alerts none is inhibited.
@@ -217,6 +223,10 @@ The universe is a JSON file that declares labels and the values each may have, a
 
   yq -o=json . alertmanager.yml > alertmanager.json
 
+or, with the yq that Debian has, by
+
+  yq . alertmanager.yml > alertmanager.json
+
 Each label set of the universe is taken for the labels of an alert. It ends at a route
 where that route handles the alert, and none below it does. Silences, inhibition and time
 intervals make no difference.
@@ -263,6 +273,10 @@ The universe is a JSON file that declares labels and the values each may have, a
 
   yq -o=json . alertmanager.yml > alertmanager.json
 
+or, with the yq that Debian has, by
+
+  yq . alertmanager.yml > alertmanager.json
+
 Each label set of the universe is taken for the labels of an alert. It goes to the
 receiver of each route that handles the alert where none below it does. A route that names
 no receiver has that of its parent. Silences, inhibition and time intervals make no
@@ -300,10 +314,16 @@ The configuration is JSON; an alertmanager.yml becomes JSON by
 
   yq -o=json . alertmanager.yml > alertmanager.json
 
+or, with the yq that Debian has, by
+
+  yq . alertmanager.yml > alertmanager.json
+
 The silences of --silences and the alerts of --alerts are files that amtool writes:
 
-  amtool silence query -o json > silences.json
-  amtool alert query -a -s -i -u -o json > alerts.json
+  amtool --alertmanager.url=http://localhost:9093 \\
+    silence query -o json > silences.json
+  amtool --alertmanager.url=http://localhost:9093 \\
+    alert query -a -s -i -u -o json > alerts.json
 
 Silences need --at, the time that is asked about, as 2024-05-01T10:00:00Z. The alerts are
 those that fire, whatever --at says. Without -a -s -i -u amtool leaves out those that are
@@ -336,6 +356,10 @@ The configuration is JSON; an alertmanager.yml becomes JSON by
 
   yq -o=json . alertmanager.yml > alertmanager.json
 
+or, with the yq that Debian has, by
+
+  yq . alertmanager.yml > alertmanager.json
+
 Example:
 
   amcover universe --config alertmanager.json > u.json
@@ -356,8 +380,10 @@ The matchers are those of the routes and of the inhibition rules. Those of --sil
 too, whatever the time, and with --alerts what `equal` asks where one of these alerts
 fires. The files are those that amtool writes:
 
-  amtool silence query -o json > silences.json
-  amtool alert query -a -s -i -u -o json > alerts.json
+  amtool --alertmanager.url=http://localhost:9093 \\
+    silence query -o json > silences.json
+  amtool --alertmanager.url=http://localhost:9093 \\
+    alert query -a -s -i -u -o json > alerts.json
 
 With --alerts a class without a text that a matcher names has, of its values, the one that
 most of these alerts have. For `amcover dead` and `amcover receivers` --routes is enough:
