@@ -243,7 +243,7 @@ fn is_settled(state: &LabelState) -> bool
     ensures { result ≡ is_settled state.now.completeness }
 {
     match state.completeness {
-        Completeness::Complete(_) | Completeness::Unasked | Completeness::Undeclarable => true,
-        Completeness::Lacks(_) | Completeness::Unproved(_) => false,
+        Completeness::Complete(_) | Completeness::Unasked => true,
+        Completeness::Lacks(_) | Completeness::Undeclarable | Completeness::Unproved(_) => false,
     }
 }
