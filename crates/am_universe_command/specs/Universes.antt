@@ -1,5 +1,5 @@
 -- What `universe` makes, and what it says of a universe. (This project's own.)
-use Rattle.std.specs.Prelude.{◌≡◌, ◌≤◌, ℕ, List, [], ◌∷◌, ◌++◌, length, map, Bool, false, ⊤, IsTrue}
+use Rattle.std.specs.Prelude.{◌≡◌, ◌≤◌, ◌↔◌, ℕ, List, [], ◌∷◌, ◌++◌, length, map, Bool, false, ⊤, IsTrue}
 use Rattle.std.specs.Prelude.{Contains, string_bytes, if◌then◌else◌, Option, Some, None, is_some}
 use Rattle.std.specs.List.{AllByRecursion, list_all}
 use Rattle.am_universe.specs.declared.kind.Kind.TheVariants as kinds
@@ -8,7 +8,7 @@ use Rattle.am_universe.specs.declared.place.Place.TheVariants as places
 use Rattle.am_universe.specs.LabelSet.{LabelMap}
 use Rattle.am_universe.specs.Universe.{Label, sizes}
 use Rattle.am_labels.specs.Matcher.{Condition}
-use Rattle.am_labels.specs.Space.{Space}
+use Rattle.am_labels.specs.Space.{Space, all_choices}
 use Rattle.am_json.specs.Pointer.{Refusal, refusal_here}
 use Rattle.am_records.specs.UniverseFile.{FileSaysUniverse}
 use Rattle.am_files.specs.ConfigFile.{FileSaysConfig}
@@ -22,11 +22,11 @@ use Rattle.am_eval.specs.WorldInputs.{WorldInputs}
 use Rattle.am_complete.specs.declared.label_state.LabelState.{LabelState}
 use Rattle.am_complete.specs.declared.origin.Origin.{Origin}
 use Rattle.am_complete.specs.declared.origin.Origin.TheVariants as origin_is
-use Rattle.am_complete.specs.Complete.{IsComplete}
+use Rattle.am_complete.specs.Complete.{IsComplete, IsSpaceComplete}
 use Rattle.am_complete.specs.Asked.{route_conditions, world_conditions, impossible_conditions}
 use Rattle.am_complete.specs.AskedLabel.{AskedLabel, asked_labels}
 use Rattle.am_complete.specs.Placed.{placed_in_route, placed_in_world, placed_in_lists}
-use Rattle.am_complete.specs.LabelState.{IsSoAt, is_settled, reported_names}
+use Rattle.am_complete.specs.LabelState.{IsSoIfNamed, is_settled, reported_names}
 use Rattle.am_complete.specs.FoundState.{is_unseen}
 use Rattle.am_complete_texts.specs.CheckText.{check_text, origin_pointer}
 use Rattle.am_universe_command.specs.declared.universe_form.UniverseForm.{UniverseForm}
@@ -167,7 +167,7 @@ alerts_if_any has_alerts w = if has_alerts then Some w.alerts else None
 
 -- The text says how a space stands in a world: of each label that the space declares, and then of
 -- each other one that is asked of, what is so, and where there are alerts whether none has the
--- label. Where nothing is missing, the space is complete.
+-- label; and whether all label sets are impossible. Where nothing is missing, the space is complete.
 -- Source: own choice.
 -- Example: of a space with `team` alone, whose values are `db` and `web`, and a world whose one
 -- matcher is `team="db"`, it says `team complete 2`, `2 label sets` and `# complete`.
@@ -177,15 +177,17 @@ pub record IsCheckOf (s : Space) (w : World) (has_alerts routes : Bool) (report 
   pub names : map (λ state. string_bytes state.name) states
       ≡ reported_names s.labels (deciding_labels routes w s.impossible)
   pub each : AllByRecursion
-      (λ state. IsSoAt s.labels (checked_conditions routes w s)
+      (λ state. IsSoIfNamed s (checked_conditions routes w s)
       (deciding_labels routes w s.impossible) (string_bytes state.name) state.completeness)
       states
   pub unseen : AllByRecursion
       (λ state. state.unseen ≡ is_unseen (alerts_if_any has_alerts w) (string_bytes state.name))
       states
   pub complete : IsTrue (list_all (λ state. is_settled state.completeness) states)
-      → IsComplete s.labels (checked_conditions routes w s)
-  pub text : report ≡ check_text (sizes s.labels) states
+      → IsSpaceComplete s (checked_conditions routes w s)
+  pub all_impossible : Bool
+  pub impossible : IsTrue all_impossible ↔ all_choices s ≡ []
+  pub text : report ≡ check_text (sizes s.labels) all_impossible states
 
 -- The files are accepted, and this holds of the text that says how the space of the universe file
 -- stands in the world that the others say: that it was written, all of it or a part.

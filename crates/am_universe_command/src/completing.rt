@@ -20,6 +20,7 @@ use crate::UniverseForm;
 use crate::deciding::{labels_asked, read_deciding};
 use am_complete::{AskedLabel, Origin, equal_matchers_of, label_states, universe_of};
 use am_complete_texts::{pointer_to, text_of_check, universe_text};
+use am_cubes::first_possible;
 use am_eval::{Files, World};
 use am_files::{Alerts, read_universe};
 use am_json::limits::MAX_FILE_BYTES;
@@ -71,10 +72,11 @@ pub fn universe<W: Sink>(
 }
 
 /// Writes how a universe stands, as one that is to stand for every alert: a line for each of its
-/// labels and for each other one that is asked of, the number of label sets, and whether nothing is
-/// missing.
+/// labels and for each other one that is asked of, the number of label sets and whether all of them
+/// are impossible, and whether nothing is missing.
 ///
-/// `universe` is a universe file, whose impossible lists ask too, and `files` is as for
+/// `universe` is a universe file, whose impossible lists ask too; a text of a label that such a
+/// list of this label alone matches need not stand there. `files` is as for
 /// [`universe`](universe()). With `routes` the matchers of routes, and those lists, are asked
 /// alone. All input is read and all is found before the first byte is written.
 ///
@@ -89,7 +91,7 @@ pub fn check_universe<W: Sink>(
     routes: bool,
     out: &mut W,
 ) -> Result<(), Fault>
-    // Each line says what is so, and where nothing is missing the universe is complete.
+    // Each line says what is so, and where nothing is missing the space is complete.
     ensures checked { IfOk result (λ _. ChecksUniverse universe.now (world_inputs_of files.now)
         routes (Wrote W.taken W.failures out.old out.new)) }
     ensures first { IfErr result (λ fault. fault.kind ≢ kinds.Write → fault.kind ≢ kinds.Memory
@@ -229,8 +231,9 @@ fn checked_text(
     let equal = equal_matchers_of(alloc, world)?;
     let asked = labels_asked(alloc, world, equal.as_slice(), space.impossible(), routes)?;
     let alerts = alerts_if_any(world, has_alerts);
-    let states = label_states(alloc, space.universe(), asked.as_slice(), alerts)?;
-    let text = text_of_check(alloc, space.universe(), states.as_slice())?;
+    let states = label_states(alloc, space, asked.as_slice(), alerts)?;
+    let all_impossible = first_possible(alloc, space)?.is_none();
+    let text = text_of_check(alloc, space.universe(), all_impossible, states.as_slice())?;
     Ok(text)
 }
 
