@@ -8,7 +8,7 @@ use Rattle.am_labels.specs.Space.{Space, IsChoiceOf}
 use Rattle.am_files.specs.ConfigFile.{Configuration}
 use Rattle.am_files.specs.Path.{leads_through}
 use Rattle.am_eval.specs.Routing.{ends, receivers}
-use Rattle.am_complete.specs.Complete.{IsComplete, IsAlertOf, HasUtf8Texts}
+use Rattle.am_complete.specs.Complete.{IsSpaceComplete, IsAlertOf, HasUtf8Texts}
 use Rattle.am_complete.specs.Asked.{coverage_conditions}
 use Rattle.am_complete.proofs.SpaceAlerts.{ends_of_choice}
 use Rattle.am_complete.proofs.UniverseAlerts.{universe_alert}
@@ -24,9 +24,9 @@ use Rattle.am_commands.specs.Reports.{AcceptsReport}
 use Rattle.am_commands.specs.EveryAlert.{NoAlertEndsAt, NoAlertEnters, NoAlertGoesTo}
 
 module _ (s : Space) (c : Configuration) (h : IsUniverse s.labels) where
-  -- ---- Over a complete universe.
+  -- ---- Over a complete space.
 
-  module _ (complete : IsComplete s.labels (coverage_conditions s c)) where
+  module _ (complete : IsSpaceComplete s (coverage_conditions s c)) where
     pub none_ends : (path : List ℕ) → IsDead s c path → NoAlertEndsAt s c path
     none_ends path dead alert is there =
         let r = ends_of_choice s alert h is c complete in
@@ -91,7 +91,7 @@ module _ (s : Space) (c : Configuration) (h : IsUniverse s.labels) where
 
 module _ (universe_file config_file : List ℕ) (s : Space) (c : Configuration)
     (accepts : AcceptsReport universe_file config_file s c)
-    (complete : IsComplete s.labels (coverage_conditions s c)) where
+    (complete : IsSpaceComplete s (coverage_conditions s c)) where
   universe : IsUniverse s.labels
   universe = accepts.says_universe.3.is_universe
 

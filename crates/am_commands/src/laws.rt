@@ -24,7 +24,7 @@ ghost use Rattle.am_questions.specs.Words.{inputs_fingerprint};
 ghost use Rattle.am_search.specs.Words.{lines_text};
 ghost use Rattle.am_commands.specs.Words.{Asked, IsAskedOf, AreAskedInARow, AreAskedSoFar};
 ghost use Rattle.am_commands.specs.Words.{AnswersInputsUnder, ReportsFiles};
-ghost use Rattle.am_complete.specs.Words.{IsComplete, coverage_conditions, HasUtf8Texts};
+ghost use Rattle.am_complete.specs.Words.{IsSpaceComplete, coverage_conditions, HasUtf8Texts};
 ghost use Rattle.am_complete.specs.Words.{IsAlertOf};
 ghost use Rattle.am_coverage.specs.declared.coverage.RouteCoverage.TheVariants as route_is;
 ghost use Rattle.am_coverage.specs.declared.coverage.ReceiverCoverage.TheVariants as receiver_is;
@@ -156,18 +156,18 @@ pub fn accepted_files_have_no_fault()
         → refusal.kind ≡ kinds.Pattern }
 {}
 
-/// Over a universe that is complete for the matchers of the routes and of what is impossible, no
-/// alert at all ends at a route that is dead, none ends at or below one that is never entered, and
+/// Over a space that is complete for the matchers of the routes and of what is impossible, no alert
+/// of the space ends at a route that is dead, none ends at or below one that is never entered, and
 /// none goes to a receiver that is unmatched.
 pub fn a_dead_route_of_a_complete_universe_has_no_alert()
     ensures dead { (s : Space) (c : Configuration) (path : List ℕ) → IsUniverse s.labels
-        → IsComplete s.labels (coverage_conditions s c)
+        → IsSpaceComplete s (coverage_conditions s c)
         → IsDead s c path → NoAlertEndsAt s c path }
     ensures never_entered { (s : Space) (c : Configuration) (path : List ℕ) → IsUniverse s.labels
-        → IsComplete s.labels (coverage_conditions s c)
+        → IsSpaceComplete s (coverage_conditions s c)
         → IsNeverEntered s c path → NoAlertEnters s c path }
     ensures unmatched { (s : Space) (c : Configuration) (receiver : ℕ) → IsUniverse s.labels
-        → IsComplete s.labels (coverage_conditions s c)
+        → IsSpaceComplete s (coverage_conditions s c)
         → IsUnmatched s c receiver → NoAlertGoesTo s c receiver }
 {}
 
@@ -187,20 +187,21 @@ pub fn a_route_is_live_in_any_universe()
         → (alert : LabelMap) × IsAlertOf s alert × Contains (receivers alert c) receiver }
 {}
 
-/// So over a universe file that is complete a route is dead exactly where no alert at all ends
+/// So over a universe file that is complete a route is dead exactly where no possible alert ends
 /// there, it is never entered exactly where none ends there or below it, and a receiver is
-/// unmatched exactly where none goes to it.
+/// unmatched exactly where none goes to it. Whatever labels an alert has, and whatever their names
+/// are, it is possible unless an impossible list matches it.
 pub fn over_a_complete_universe_dead_is_exact()
     ensures dead { (universe_file config_file path : List ℕ) (s : Space) (c : Configuration)
         → AcceptsReport universe_file config_file s c
-        → IsComplete s.labels (coverage_conditions s c)
+        → IsSpaceComplete s (coverage_conditions s c)
         → (IsDead s c path ↔ NoAlertEndsAt s c path) }
     ensures never_entered { (universe_file config_file path : List ℕ) (s : Space)
         (c : Configuration) → AcceptsReport universe_file config_file s c
-        → IsComplete s.labels (coverage_conditions s c)
+        → IsSpaceComplete s (coverage_conditions s c)
         → (IsNeverEntered s c path ↔ NoAlertEnters s c path) }
     ensures unmatched { (universe_file config_file : List ℕ) (s : Space) (c : Configuration)
         (receiver : ℕ) → AcceptsReport universe_file config_file s c
-        → IsComplete s.labels (coverage_conditions s c)
+        → IsSpaceComplete s (coverage_conditions s c)
         → (IsUnmatched s c receiver ↔ NoAlertGoesTo s c receiver) }
 {}
