@@ -415,11 +415,12 @@ Behind the name stands
   complete N           there is a value of each of the N classes
   lacks VALUE          no value is alike to this one; absent is a missing label
   unasked              no matcher asks of it: it multiplies the label sets, and is no harm
-  undeclarable         the name is no label name, so no universe can declare it
+  undeclarable         no universe can declare the name, and absence alone is not enough
   unproved POINTER     it could not be found which texts the matchers tell apart
 
 and with --alerts `unseen` where none of these alerts has the label. The matchers of
-the universe's impossible lists count too.
+the universe's impossible lists count too; what a list of one label alone takes away is
+not missing.
 
 Exit status: 0 done, complete or not, 1 refused input, 2 usage, 3 out of memory, 4 the
 output failed.";
