@@ -389,13 +389,14 @@ With --alerts a class without a text that a matcher names has, of its values, th
 most of these alerts have. For `amcover dead` and `amcover receivers` --routes is enough:
 it leaves out all but the matchers of routes, and the universe is smaller.
 
-Of some patterns it cannot be found which texts they tell apart, as of those with \\b. Then
-nothing is written, and the fault says which route, rule or silence it is:
+Of some patterns it cannot be found which texts they tell apart, as of those with \\b. And
+some names no universe can declare, as a:b. Then nothing is written, and the fault says
+which route, rule or silence it is:
 
   amcover: config: /route/routes/0: unproved
 
 With --open a universe is written all the same. Such a label has the values that were
-found, and classes may be missing, so nothing is promised of that universe.
+found, if any, and classes may be missing, so nothing is promised of that universe.
 
   amcover universe --check u.json --config alertmanager.json
 
