@@ -1,22 +1,31 @@
 -- Where the first fault of making a universe, or of checking one, stands.
-use Rattle.std.proofs.Common.{ℕ, ◌≡◌, ◌∙◌, ◌++◌, ◌∷◌, ◌<◌, List, [], Contains, false, inl, inr, sym, ap}
-use Rattle.std.proofs.Common.{get_or, length, subst, refl}
+use Rattle.std.proofs.Common.{ℕ, ◌≡◌, ◌∙◌, ◌++◌, ◌∷◌, ◌<◌, List, [], false, inl, inr, sym, length}
+use Rattle.std.proofs.Common.{Some, slice_get, string_bytes, subst}
+use Rattle.am_universe.specs.declared.fault.Fault.{Fault}
+use Rattle.am_universe.specs.declared.kind.Kind.{Kind}
 use Rattle.am_universe.specs.declared.kind.Kind.TheVariants as kinds
 use Rattle.am_universe.specs.declared.place.Place.{Place}
 use Rattle.am_universe.specs.declared.place.Place.TheVariants as places
-use Rattle.am_json.specs.Pointer.{Refusal}
+use Rattle.am_universe.specs.Universe.{Label, IsUniverse}
+use Rattle.am_json.specs.declared.limits.TheConstants.{MAX_FILE_BYTES}
+use Rattle.am_json.specs.Pointer.{Refusal, refusal_here}
+use Rattle.am_json.specs.Reading.{refusal_of}
 use Rattle.am_eval.specs.World.{World}
 use Rattle.am_eval.specs.Faults.{Stage, IsFirstFaultOfCall}
 use Rattle.am_eval.specs.WorldInputs.{WorldInputs}
 use Rattle.am_eval.proofs.FirstFaults.{says_few}
 use Rattle.am_complete.specs.declared.origin.Origin.{Origin}
 use Rattle.am_complete.specs.declared.origin.Origin.TheVariants as origin_is
+use Rattle.am_complete.specs.Complete.{IsComplete}
 use Rattle.am_complete.specs.AskedLabel.{AskedLabel}
+use Rattle.am_complete.specs.Covering.{StandsForEachBut, HasApartValues}
+use Rattle.am_complete.specs.Room.{HaveNoRoom, AreUnproved}
 use Rattle.am_complete_texts.specs.CheckText.{origin_pointer}
+use Rattle.am_complete_texts.specs.UniverseText.{universe_text}
 use Rattle.am_universe_command.specs.declared.universe_form.UniverseForm.{UniverseForm}
 use Rattle.am_universe_command.specs.Universes.{AcceptsDeciding, deciding_stages, deciding_labels}
-use Rattle.am_universe_command.specs.Universes.{origin_place, made_stages, UnprovedFor}
-use Rattle.am_universe_command.specs.Universes.{unproved_stage, room_stage}
+use Rattle.am_universe_command.specs.Universes.{deciding_conditions, origin_place, made_stages}
+use Rattle.am_universe_command.specs.Universes.{UnprovedFor, unproved_stage, length_stage}
 
 -- behind files that are accepted the first fault is that of the later stages
 pub first_behind_deciding : (inputs : WorldInputs) (world : World) (later : List Stage)
@@ -30,48 +39,108 @@ first_behind_deciding inputs world later place r h behind =
       inr ((world.silences, h.says_silences), inr ((world.alerts, h.says_alerts), inr (few, behind))),
     )
 
+-- a fault at a place as a whole, without a pointer
+pub refused_here : (fault : Fault) (kind : Kind) → fault.kind ≡ kind
+    → string_bytes fault.pointer ≡ [] → refusal_of fault ≡ refusal_here kind
+refused_here fault kind same whole = λ i. record { kind = same i; pointer = whole i }
+
+-- no room
+pub room_first : (inputs : WorldInputs) (form : UniverseForm) (w : World)
+    (found : List AskedLabel) (place : Place) (r : Refusal) → AcceptsDeciding inputs w
+    → found ≡ deciding_labels form.routes w [] → HaveNoRoom found → place ≡ places.Universe
+    → r ≡ refusal_here kinds.Limit → IsFirstFaultOfCall (made_stages inputs form) place r
+room_first inputs form w found place r accepts are full at refusal =
+    inl (
+      at,
+      record {
+        world = w;
+        accepts = accepts;
+        full = subst HaveNoRoom are full;
+        refusal = refusal;
+      },
+    )
+
 -- a label that is unproved, by where it is first asked of
-by_origin : (inputs : WorldInputs) (form : UniverseForm) (w : World) (label : AskedLabel)
-    (place : Place) (r : Refusal) → AcceptsDeciding inputs w → form.open ≡ false
-    → Contains (deciding_labels form.routes w []) label
-    → r ≡ record { kind = kinds.Unproved; pointer = origin_pointer label.first }
-    → (o : Origin) → label.first ≡ o → place ≡ origin_place o
+by_origin : (inputs : WorldInputs) (form : UniverseForm) (place : Place) (r : Refusal)
+    → ((p : Place) → p ≡ place → UnprovedFor inputs form p r)
+    → (o : Origin) → place ≡ origin_place o
     → IsFirstFaultOfCall (made_stages inputs form) place r
-by_origin inputs form w label place r accepts closed asked refusal o e at =
-    let why : (p : Place) → p ≡ place → UnprovedFor inputs form p r = λ p is. record {
-      world = w;
-      accepts = accepts;
-      closed = closed;
-      label = label;
-      asked = asked;
-      stands = is ∙ at ∙ sym (ap origin_place e);
-      refusal = refusal;
-    } in
-    inr (tt, by o at why)
+by_origin inputs form place r why o at = inr (tt, by o at)
   where
     later : List Stage
     later = unproved_stage inputs form places.Config ∷ unproved_stage inputs form places.Silences
-        ∷ unproved_stage inputs form places.Universe ∷ room_stage inputs ∷ []
+        ∷ unproved_stage inputs form places.Universe ∷ length_stage inputs form ∷ []
 
-    by : (o : Origin) → place ≡ origin_place o
-        → ((p : Place) → p ≡ place → UnprovedFor inputs form p r)
-        → IsFirstFaultOfCall later place r
-    by (origin_is.Route path) at why = inl (at, why places.Config (sym at))
-    by (origin_is.Rule position) at why = inl (at, why places.Config (sym at))
-    by (origin_is.Silence position) at why = inr (tt, inl (at, why places.Silences (sym at)))
-    by (origin_is.Impossible position) at why =
+    by : (o : Origin) → place ≡ origin_place o → IsFirstFaultOfCall later place r
+    by (origin_is.Route path) at = inl (at, why places.Config (sym at))
+    by (origin_is.Rule position) at = inl (at, why places.Config (sym at))
+    by (origin_is.Silence position) at = inr (tt, inl (at, why places.Silences (sym at)))
+    by (origin_is.Impossible position) at =
         inr (tt, inr (tt, inl (at, why places.Universe (sym at))))
 
-pub unproved_first : (inputs : WorldInputs) (form : UniverseForm) (w : World) (label : AskedLabel)
+-- the first label at some positions
+abbrev pub IsFirstAt : List AskedLabel → List ℕ → AskedLabel → Type 0
+IsFirstAt found unproved label =
+    (i : ℕ) × (slice_get unproved 0 ≡ Some i) × (slice_get found i ≡ Some label)
+
+pub unproved_first : (inputs : WorldInputs) (form : UniverseForm) (w : World)
+    (found : List AskedLabel) (unproved : List ℕ) (u : List Label) (label : AskedLabel)
     (place : Place) (r : Refusal) → AcceptsDeciding inputs w → form.open ≡ false
-    → Contains (deciding_labels form.routes w []) label → place ≡ origin_place label.first
+    → found ≡ deciding_labels form.routes w [] → AreUnproved found unproved → IsUniverse u
+    → StandsForEachBut u found unproved → IsFirstAt found unproved label
+    → place ≡ origin_place label.first
     → r ≡ record { kind = kinds.Unproved; pointer = origin_pointer label.first }
     → IsFirstFaultOfCall (made_stages inputs form) place r
-unproved_first inputs form w label place r accepts closed asked at refusal =
-    by_origin inputs form w label place r accepts closed asked refusal label.first refl at
+unproved_first inputs form w found unproved u label place r accepts closed are noted universe stands first at refusal =
+    by_origin inputs form place r (λ p is. record {
+      world = w;
+      accepts = accepts;
+      closed = closed;
+      unproved = unproved;
+      labels = subst (λ (ls : List AskedLabel). AreUnproved ls unproved) are noted;
+      room = (
+        u,
+        universe,
+        subst (λ (ls : List AskedLabel). StandsForEachBut u ls unproved) are stands,
+      );
+      position = first.0;
+      first = first.1;
+      label = label;
+      asked = subst (λ (ls : List AskedLabel). slice_get ls first.0 ≡ Some label) are first.2;
+      stands = is ∙ at;
+      refusal = refusal;
+    }) label.first at
 
--- a label that was looked up is one of those that are asked of
-pub is_asked : (found asked : List AskedLabel) (i : ℕ) (label : AskedLabel) → found ≡ asked
-    → i < length found → label ≡ get_or found i label → Contains asked label
-is_asked found asked i label is within at =
-    subst (λ (ls : List AskedLabel). Contains ls label) is (i, within, sym at)
+-- a file that is too long
+pub length_first : (inputs : WorldInputs) (form : UniverseForm) (w : World) (u : List Label)
+    (place : Place) (r : Refusal) → AcceptsDeciding inputs w → IsUniverse u
+    → (form.open ≡ false → IsComplete u (deciding_conditions form.routes w))
+    → HasApartValues u (deciding_conditions form.routes w)
+    → MAX_FILE_BYTES < length (universe_text u) → place ≡ places.Universe
+    → r ≡ refusal_here kinds.Limit → IsFirstFaultOfCall (made_stages inputs form) place r
+length_first inputs form w u place r accepts universe complete apart long at refusal =
+    inr (
+      tt,
+      inr (
+        tt,
+        inr (
+          tt,
+          inr (
+            tt,
+            inl (
+              at,
+              record {
+                world = w;
+                accepts = accepts;
+                labels = u;
+                universe = universe;
+                complete = complete;
+                apart = apart;
+                long = long;
+                refusal = refusal;
+              },
+            ),
+          ),
+        ),
+      ),
+    )

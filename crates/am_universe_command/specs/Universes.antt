@@ -1,14 +1,16 @@
 -- What `universe` makes, and what it says of a universe. (This project's own.)
-use Rattle.std.specs.Prelude.{◌≡◌, ◌≤◌, ◌↔◌, ℕ, List, [], ◌∷◌, ◌++◌, length, map, Bool, false, ⊤, IsTrue}
-use Rattle.std.specs.Prelude.{Contains, string_bytes, if◌then◌else◌, Option, Some, None, is_some}
+use Rattle.std.specs.Prelude.{◌≡◌, ◌<◌, ◌≤◌, ℕ, List, [], ◌∷◌, ◌++◌, length, map, Bool, false, ⊤}
+use Rattle.std.specs.Prelude.{IsTrue, string_bytes, if◌then◌else◌, Option, Some, None, is_some}
+use Rattle.std.specs.Prelude.{slice_get, ◌↔◌}
 use Rattle.std.specs.List.{AllByRecursion, list_all}
 use Rattle.am_universe.specs.declared.kind.Kind.TheVariants as kinds
 use Rattle.am_universe.specs.declared.place.Place.{Place}
 use Rattle.am_universe.specs.declared.place.Place.TheVariants as places
 use Rattle.am_universe.specs.LabelSet.{LabelMap}
-use Rattle.am_universe.specs.Universe.{Label, sizes}
+use Rattle.am_universe.specs.Universe.{Label, IsUniverse, sizes}
 use Rattle.am_labels.specs.Matcher.{Condition}
 use Rattle.am_labels.specs.Space.{Space, all_choices}
+use Rattle.am_json.specs.declared.limits.TheConstants.{MAX_FILE_BYTES}
 use Rattle.am_json.specs.Pointer.{Refusal, refusal_here}
 use Rattle.am_records.specs.UniverseFile.{FileSaysUniverse}
 use Rattle.am_files.specs.ConfigFile.{FileSaysConfig}
@@ -26,9 +28,12 @@ use Rattle.am_complete.specs.Complete.{IsComplete, IsSpaceComplete}
 use Rattle.am_complete.specs.Asked.{route_conditions, world_conditions, impossible_conditions}
 use Rattle.am_complete.specs.AskedLabel.{AskedLabel, asked_labels}
 use Rattle.am_complete.specs.Placed.{placed_in_route, placed_in_world, placed_in_lists}
+use Rattle.am_complete.specs.Covering.{StandsForEachBut, HasApartValues}
+use Rattle.am_complete.specs.Room.{HaveNoRoom, AreUnproved}
 use Rattle.am_complete.specs.LabelState.{IsSoIfNamed, is_settled, reported_names}
 use Rattle.am_complete.specs.FoundState.{is_unseen}
 use Rattle.am_complete_texts.specs.CheckText.{check_text, origin_pointer}
+use Rattle.am_complete_texts.specs.UniverseText.{universe_text}
 use Rattle.am_universe_command.specs.declared.universe_form.UniverseForm.{UniverseForm}
 
 -- ---- What is asked.
@@ -74,13 +79,15 @@ deciding_stages inputs =
 -- ---- A universe that is made.
 
 -- The text is that of a universe file made for a world. It says a universe of which nothing is
--- impossible, and this is complete for the matchers that decide, unless it may be open.
+-- impossible. No two values of a label are alike to the matchers that decide, and the universe is
+-- complete for these, unless it may be open.
 -- Source: own choice.
 -- Example: for a world whose one matcher is `team="db"` it says `team` with `db` and absence.
 pub record IsMadeUniverse (w : World) (form : UniverseForm) (text : List ℕ) : Type 0 where
   pub labels : List Label
   pub says : FileSaysUniverse text (record { labels = labels; impossible = [] })
   pub complete : form.open ≡ false → IsComplete labels (deciding_conditions form.routes w)
+  pub apart : HasApartValues labels (deciding_conditions form.routes w)
 
 -- The files are accepted, and this holds of the text of a universe file that is made for the world
 -- that they say: that it was written, all of it or a part.
@@ -101,8 +108,26 @@ origin_place (origin_is.Rule position) = places.Config
 origin_place (origin_is.Silence position) = places.Silences
 origin_place (origin_is.Impossible position) = places.Universe
 
--- No universe is made, since the classes of the texts of a label could not be computed. The first
--- matcher that asks of the label stands in this file, and there the refusal points to it.
+-- No universe is made, since there is no room for the labels that are asked of: one of them needs
+-- more values than a label may have, or more of them need values than a universe may have labels.
+-- Source: own choice.
+-- Example: it is so where 65 routes ask of 65 labels, each with one matcher `=`.
+pub record NoRoomFor (inputs : WorldInputs) (form : UniverseForm) (r : Refusal) : Type 0 where
+  pub world : World
+  pub accepts : AcceptsDeciding inputs world
+  pub full : HaveNoRoom (deciding_labels form.routes world [])
+  pub refusal : r ≡ refusal_here kinds.Limit
+
+-- Some universe stands for each label that is asked of, but for those at some positions.
+-- Source: own choice.
+-- Example: where 65 labels are asked of, and one of them stands at such a position, one may.
+abbrev pub HaveRoomBut : List AskedLabel → List ℕ → Type 0
+HaveRoomBut asked unproved =
+    (u : List Label) × IsUniverse u × StandsForEachBut u asked unproved
+
+-- No universe is made, since some labels are unproved, though there is room for the others. The
+-- first matcher that asks of the first of these labels stands in this file, and there the refusal
+-- points to it.
 -- Source: own choice.
 -- Example: where the first child of the top-level route has `team=~"\bdb"`, and no matcher before
 -- it is on `team`, the pointer is `/route/routes/0`.
@@ -111,22 +136,42 @@ pub record UnprovedFor (inputs : WorldInputs) (form : UniverseForm) (place : Pla
   pub world : World
   pub accepts : AcceptsDeciding inputs world
   pub closed : form.open ≡ false
+  pub unproved : List ℕ
+  pub labels : AreUnproved (deciding_labels form.routes world []) unproved
+  pub room : HaveRoomBut (deciding_labels form.routes world []) unproved
+  pub position : ℕ
+  pub first : slice_get unproved 0 ≡ Some position
   pub label : AskedLabel
-  pub asked : Contains (deciding_labels form.routes world []) label
+  pub asked : slice_get (deciding_labels form.routes world []) position ≡ Some label
   pub stands : place ≡ origin_place label.first
   pub refusal : r ≡ record { kind = kinds.Unproved; pointer = origin_pointer label.first }
 
--- No universe is made, since there is no room for it: it has more labels than a universe may have,
--- or more values of one; or, what is found last, its file is too long.
-pub record NoRoomFor (inputs : WorldInputs) (r : Refusal) : Type 0 where
+-- No universe is made, since the file of the one that there is would be longer than a file that is
+-- read may be. This is found last: that universe is complete, unless it may be open.
+-- Source: own choice.
+-- Example: it is so where one matcher names a text of 20 megabytes.
+pub record TooLongFor (inputs : WorldInputs) (form : UniverseForm) (r : Refusal) : Type 0 where
   pub world : World
   pub accepts : AcceptsDeciding inputs world
+  pub labels : List Label
+  pub universe : IsUniverse labels
+  pub complete : form.open ≡ false → IsComplete labels (deciding_conditions form.routes world)
+  pub apart : HasApartValues labels (deciding_conditions form.routes world)
+  pub long : MAX_FILE_BYTES < length (universe_text labels)
   pub refusal : r ≡ refusal_here kinds.Limit
 
--- The stages of making one, which may be refused at any of the files; and all stages of the call.
+-- The stages of making one: that there is room, that no label is unproved, whose fault may stand at
+-- any of the files, and that the file is not too long; and all stages of the call.
 -- Source: own choice.
 -- Example: where the file of alerts is `{}` and a label is unproved, the first fault is the `shape`
--- of the alerts.
+-- of the alerts. Where a label is unproved and there is no room for the others, it is the `limit`.
+abbrev pub room_stage : WorldInputs → UniverseForm → Stage
+room_stage inputs form = record {
+  place = places.Universe;
+  accepts = ⊤;
+  refuses = NoRoomFor inputs form;
+}
+
 abbrev pub unproved_stage : WorldInputs → UniverseForm → Place → Stage
 unproved_stage inputs form place = record {
   place = place;
@@ -134,20 +179,20 @@ unproved_stage inputs form place = record {
   refuses = UnprovedFor inputs form place;
 }
 
-abbrev pub room_stage : WorldInputs → Stage
-room_stage inputs = record {
+abbrev pub length_stage : WorldInputs → UniverseForm → Stage
+length_stage inputs form = record {
   place = places.Universe;
   accepts = ⊤;
-  refuses = NoRoomFor inputs;
+  refuses = TooLongFor inputs form;
 }
 
 abbrev pub made_stages : WorldInputs → UniverseForm → List Stage
 made_stages inputs form =
-    room_stage inputs
+    room_stage inputs form
     ∷ unproved_stage inputs form places.Config
     ∷ unproved_stage inputs form places.Silences
     ∷ unproved_stage inputs form places.Universe
-    ∷ room_stage inputs
+    ∷ length_stage inputs form
     ∷ []
 
 abbrev pub making_stages : WorldInputs → UniverseForm → List Stage
@@ -167,7 +212,8 @@ alerts_if_any has_alerts w = if has_alerts then Some w.alerts else None
 
 -- The text says how a space stands in a world: of each label that the space declares, and then of
 -- each other one that is asked of, what is so, and where there are alerts whether none has the
--- label; and whether all label sets are impossible. Where nothing is missing, the space is complete.
+-- label; and whether all label sets are impossible. Where nothing is missing, the space is
+-- complete.
 -- Source: own choice.
 -- Example: of a space with `team` alone, whose values are `db` and `web`, and a world whose one
 -- matcher is `team="db"`, it says `team complete 2`, `2 label sets` and `# complete`.

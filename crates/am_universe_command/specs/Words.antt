@@ -2,6 +2,7 @@
 pub use Rattle.am_universe_command.specs.Universes.{deciding_conditions, deciding_labels}
 pub use Rattle.am_universe_command.specs.Universes.{AcceptsDeciding, deciding_stages}
 pub use Rattle.am_universe_command.specs.Universes.{IsMadeUniverse, MakesUniverse, making_stages}
-pub use Rattle.am_universe_command.specs.Universes.{made_stages, origin_place, UnprovedFor}
-pub use Rattle.am_universe_command.specs.Universes.{NoRoomFor, checked_conditions, IsCheckOf}
+pub use Rattle.am_universe_command.specs.Universes.{made_stages, origin_place, NoRoomFor}
+pub use Rattle.am_universe_command.specs.Universes.{HaveRoomBut, UnprovedFor, TooLongFor}
+pub use Rattle.am_universe_command.specs.Universes.{checked_conditions, IsCheckOf}
 pub use Rattle.am_universe_command.specs.Universes.{ChecksUniverse, checking_stages}

@@ -1,14 +1,15 @@
 //! Making universes that stand for every alert, and saying what others lack.
 
-ghost use Rattle.std.specs.Prelude.{◌≡◌, ◌≢◌, ◌<◌, [], IfOk, IfErr, IfSome, IfNone};
-ghost use Rattle.std.specs.Prelude.{false, length, Contains, option_map, string_bytes, is_some};
+ghost use Rattle.std.specs.Prelude.{◌≡◌, ◌≢◌, ◌<◌, ℕ, [], Some, IfOk, IfErr, IfSome, IfNone};
+ghost use Rattle.std.specs.Prelude.{false, length, slice_get, option_map, string_bytes, is_some};
 ghost use Rattle.std.specs.List.{AllByRecursion};
 ghost use Rattle.am_universe.specs.declared.kind.Kind.TheVariants as kinds;
 ghost use Rattle.am_universe.specs.declared.place.Place.TheVariants as places;
 ghost use Rattle.am_labels.specs.Words.{Wrote, WroteInPart, IsUniverse};
 ghost use Rattle.am_json.specs.Words.{refusal_of};
+ghost use Rattle.am_json.specs.Pointer.{refusal_here};
 ghost use Rattle.am_eval.specs.Words.{world_inputs_of, IsFirstFaultOfCall, WorldInputs};
-ghost use Rattle.am_complete.specs.Words.{IsComplete, AskedLabel};
+ghost use Rattle.am_complete.specs.Words.{IsComplete, HasApartValues, AskedLabel};
 ghost use Rattle.am_complete_texts.specs.Words.{origin_pointer};
 ghost use Rattle.am_universe_command.specs.Universes.{AcceptsDeciding, ChecksUniverse, IsCheckOf};
 ghost use Rattle.am_universe_command.specs.Universes.{IsMadeUniverse, MakesUniverse, alerts_if_any};
@@ -18,7 +19,7 @@ ghost use Rattle.am_universe_command.specs.Universes.{origin_place};
 
 use crate::UniverseForm;
 use crate::deciding::{labels_asked, read_deciding};
-use am_complete::{AskedLabel, Origin, equal_matchers_of, label_states, universe_of};
+use am_complete::{AskedLabel, MakingFault, Origin, equal_matchers_of, label_states, universe_of};
 use am_complete_texts::{pointer_to, text_of_check, universe_text};
 use am_cubes::first_possible;
 use am_eval::{Files, World};
@@ -37,11 +38,13 @@ use std::alloc::{AllocError, Global};
 /// The first fault is the one answered: a fault of the configuration file, at `Config`, as
 /// `read_config` has it; of the file of silences, at `Silences`, as `read_silences` has it; of the
 /// file of alerts, at `Alerts`, as `read_alerts` has it; of the pairs of rules and alerts, at
-/// `Alerts`, as `World::new` has it; `Limit`, at `Universe` and with no pointer, where there are
-/// more labels or values than a universe may have; `Unproved`, unless the form is open, where the
-/// classes of a label could not be computed, at the file and with the pointer of the route, rule or
-/// silence that first asks of the label; `Limit` again, where its file has more bytes than one that
-/// is read may have; `Write`, at `Output`. `Memory`, at `Memory`, comes wherever memory ran out.
+/// `Alerts`, as `World::new` has it; `Limit`, at `Universe` and with no pointer, where a label has
+/// more classes than a label may have values, or more labels have to be declared than a universe
+/// may have; `Unproved`, unless the form is open, where the classes of a label could not be
+/// computed, or there is more than one and its name is no label name, at the file and with the
+/// pointer of the route, rule or silence that first asks of the first such label; `Limit` again,
+/// where the universe's file has more bytes than one that is read may have; `Write`, at `Output`.
+/// `Memory`, at `Memory`, comes wherever memory ran out.
 /// After any but `Write` the sink is as it was.
 pub fn universe<W: Sink>(
     alloc: Global,
@@ -50,6 +53,7 @@ pub fn universe<W: Sink>(
     out: &mut W,
 ) -> Result<(), Fault>
     // The file says a universe, which is complete for the matchers that decide, unless it is open.
+    // No two values of a label in it are alike.
     ensures made { IfOk result (λ _. MakesUniverse (world_inputs_of files.now) form
         (Wrote W.taken W.failures out.old out.new)) }
     ensures first { IfErr result (λ fault. fault.kind ≢ kinds.Write → fault.kind ≢ kinds.Memory
@@ -141,6 +145,8 @@ fn made_universe(alloc: Global, world: &World, form: UniverseForm) -> Result<Uni
     ensures universe { IfOk result (λ universe. IsUniverse universe) }
     ensures complete { IfOk result (λ universe. form.open ≡ false
         → IsComplete universe (deciding_conditions form.routes world.now)) }
+    ensures apart { IfOk result (λ universe.
+        HasApartValues universe (deciding_conditions form.routes world.now)) }
     ensures first { IfErr result (λ fault. fault.kind ≢ kinds.Memory
         → (inputs : WorldInputs) → AcceptsDeciding inputs world.now
         → IsFirstFaultOfCall (made_stages inputs form) fault.place (refusal_of fault)) }
@@ -156,8 +162,7 @@ fn made_universe(alloc: Global, world: &World, form: UniverseForm) -> Result<Uni
     };
     let made = match universe_of(alloc, asked.as_slice(), Some(world.alerts())) {
         Ok(made) => made,
-        Err(fault) if fault.kind == Kind::Memory => return Err(Fault::memory(alloc)),
-        Err(_) => return Err(Fault::of(alloc, Kind::Limit, Place::Universe)),
+        Err(fault) => return Err(not_made(alloc, fault)),
     };
     if let Some(label) = first_unproved(asked.as_slice(), made.unproved.as_slice(), form) {
         return Err(unproved(alloc, label));
@@ -165,16 +170,30 @@ fn made_universe(alloc: Global, world: &World, form: UniverseForm) -> Result<Uni
     Ok(made.universe)
 }
 
-/// The first label whose classes could not be computed, unless the form is open. `positions` are
-/// those of such labels.
+/// Why no universe was made: there is no room for the labels, or no memory.
+fn not_made(alloc: Global, fault: MakingFault) -> Fault
+    ensures limit { result.kind ≢ kinds.Memory → (fault.kind ≡ kinds.Limit)
+        × (result.place ≡ places.Universe) × (refusal_of result ≡ refusal_here kinds.Limit) }
+    ensures memory { result.kind ≡ kinds.Memory
+        → (result.place ≡ places.Memory) × (string_bytes result.pointer ≡ []) }
+    ensures no_write { result.kind ≢ kinds.Write }
+{
+    match fault.kind {
+        Kind::Limit => Fault::of(alloc, Kind::Limit, Place::Universe),
+        _ => Fault::memory(alloc),
+    }
+}
+
+/// The first label that is unproved, unless the form is open. `positions` are those of such labels.
 fn first_unproved<'a, 'm>(
     asked: &'a [AskedLabel<'m>],
     positions: &[usize],
     form: UniverseForm,
 ) -> Option<&'a AskedLabel<'m>>
     requires { AllByRecursion (λ i. i < length asked.now) positions.now }
-    ensures some { IfSome result (λ label.
-        (form.open ≡ false) × Contains asked.now label.now) }
+    ensures some { IfSome result (λ label. (form.open ≡ false)
+        × ((i : ℕ) × (slice_get positions.now 0 ≡ Some i)
+        × (slice_get asked.now i ≡ Some label.now))) }
     ensures none { IfNone result (form.open ≡ false → positions.now ≡ []) }
 {
     if form.open {
@@ -186,7 +205,7 @@ fn first_unproved<'a, 'm>(
     }
 }
 
-/// Why no universe is made where the classes of a label could not be computed.
+/// Why no universe is made where a label is unproved.
 fn unproved(alloc: Global, label: &AskedLabel<'_>) -> Fault
     ensures kind { result.kind ≢ kinds.Memory → (result.place ≡ origin_place label.now.first)
         × (refusal_of result

@@ -1,8 +1,9 @@
 -- The text is read back as the universe.
-use Rattle.std.proofs.Common.{ℕ, List, ◌≤◌, length, string_bytes, subst}
+use Rattle.std.proofs.Common.{ℕ, List, ◌<◌, ◌≤◌, length, string_bytes, subst, ◌∙◌}
 use Rattle.std.specs.Str.{IsUtf8}
 use Rattle.am_json.specs.declared.limits.TheConstants.{MAX_FILE_BYTES}
 use Rattle.am_complete_texts.proofs.SaidByText.{text_says}
+use Rattle.am_universe_command.proofs.UniverseStages.{length_first, refused_here}
 use Rattle.am_universe_command.proofs.completing.made_text.Goals as goal
 
 pub returns-clause-made : goal.returns-clause-made
@@ -13,4 +14,16 @@ returns-clause-made c = record {
       (subst (λ (t : List ℕ). length t ≤ MAX_FILE_BYTES) c.as_str.ensures.value
       c.if-as_str-gt-MAX_FILE_BYTES.false);
   complete = c.in_ok-universe.ensures.complete;
+  apart = c.in_ok-universe.ensures.apart;
 }
+
+pub returns-then-as_str-gt-MAX_FILE_BYTES-clause-first :
+    goal.returns-then-as_str-gt-MAX_FILE_BYTES-clause-first
+returns-then-as_str-gt-MAX_FILE_BYTES-clause-first c = λ remembered inputs accepts.
+    let universe = c.in_ok-universe.universe in
+    length_first inputs c.args.form c.args.world.now universe _ _ accepts
+    c.in_ok-universe.ensures.universe c.in_ok-universe.ensures.complete
+    c.in_ok-universe.ensures.apart
+    (subst (λ (t : List ℕ). MAX_FILE_BYTES < length t)
+    (c.as_str.ensures.value ∙ c.in-Ok.ensures.text) c.if-as_str-gt-MAX_FILE_BYTES.true)
+    c.of.ensures.place (refused_here c.of.result _ c.of.ensures.kind c.of.ensures.pointer)

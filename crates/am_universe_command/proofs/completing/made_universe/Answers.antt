@@ -1,14 +1,54 @@
--- A label that is unproved is one of those that are asked of.
-use Rattle.std.proofs.Common.{List, Contains, subst, ◌∙◌}
+-- What is refused for the labels that are asked of.
+use Rattle.std.proofs.Common.{◌≡◌, ◌<◌, List, ℕ, Some, length, slice_get, subst, sym, ◌∙◌}
+use Rattle.std.specs.List.{AllByRecursion}
 use Rattle.am_complete.specs.AskedLabel.{AskedLabel}
-use Rattle.am_universe_command.proofs.UniverseStages.{unproved_first}
+use Rattle.am_complete.specs.Covering.{StandsForEachBut}
+use Rattle.am_complete.specs.Room.{AreUnproved}
+use Rattle.am_universe_command.proofs.UniverseStages.{room_first, unproved_first, IsFirstAt}
 use Rattle.am_universe_command.proofs.completing.made_universe.Goals as goal
+
+pub returns-in-Err-clause-first : goal.returns-in-Err-clause-first
+returns-in-Err-clause-first c = λ remembered inputs accepts.
+    let told = c.not_made.ensures.limit remembered in
+    room_first inputs c.args.form c.args.world.now c.as_slice-2.result.now _ _ accepts
+    (c.as_slice-2.ensures.value ∙ c.in-Ok-labels_asked.ensures.labels)
+    (c.in-Err.ensures.limit told.0) told.1 told.2
+
+-- positions within labels are so by other names of both
+within : (found asked : List AskedLabel) (positions unproved : List ℕ) → found ≡ asked
+    → positions ≡ unproved → AllByRecursion (λ i. i < length asked) unproved
+    → AllByRecursion (λ i. i < length found) positions
+within found asked positions unproved are is each =
+    subst (λ (ls : List AskedLabel). AllByRecursion (λ i. i < length ls) positions) (sym are)
+    (subst (λ (ps : List ℕ). AllByRecursion (λ i. i < length asked) ps) (sym is) each)
+
+pub first_unproved-requires : goal.first_unproved-requires
+first_unproved-requires c =
+    within c.as_slice-3.result.now c.as_slice-2.result.now c.as_slice-4.result.now
+    c.in-Ok-universe_of.made.unproved.items
+    (c.as_slice-3.ensures.value ∙ sym c.as_slice-2.ensures.value) c.as_slice-4.ensures.value
+    c.in-Ok-universe_of.ensures.within
+
+-- and so is the first of them
+first_at : (found asked : List AskedLabel) (positions unproved : List ℕ) (label : AskedLabel)
+    → found ≡ asked → positions ≡ unproved → IsFirstAt found positions label
+    → IsFirstAt asked unproved label
+first_at found asked positions unproved label are is first =
+    subst (λ (ls : List AskedLabel). IsFirstAt ls unproved label) are
+    (subst (λ (ps : List ℕ). IsFirstAt found ps label) is first)
 
 pub returns-in-Some-clause-first : goal.returns-in-Some-clause-first
 returns-in-Some-clause-first c = λ remembered inputs accepts.
     let told = c.unproved.ensures.kind remembered in
     let label = c.in-Some.label.now in
-    unproved_first inputs c.args.form c.args.world.now label _ _ accepts c.in-Some.ensures.some.0
-    (subst (λ (ls : List AskedLabel). Contains ls label)
-    (c.as_slice-3.ensures.value ∙ c.in-Ok-labels_asked.ensures.labels) c.in-Some.ensures.some.1)
+    let made = c.in-Ok-universe_of.made in
+    let found = c.as_slice-2.result.now in
+    unproved_first inputs c.args.form c.args.world.now found made.unproved.items made.universe label
+    _ _ accepts c.in-Some.ensures.some.0
+    (c.as_slice-2.ensures.value ∙ c.in-Ok-labels_asked.ensures.labels)
+    c.in-Ok-universe_of.ensures.unproved c.in-Ok-universe_of.ensures.universe
+    c.in-Ok-universe_of.ensures.stands
+    (first_at c.as_slice-3.result.now found c.as_slice-4.result.now made.unproved.items label
+    (c.as_slice-3.ensures.value ∙ sym c.as_slice-2.ensures.value) c.as_slice-4.ensures.value
+    c.in-Some.ensures.some.1)
     told.0 told.1
