@@ -17,6 +17,7 @@ ghost use Rattle.am_complete.specs.Words.{MeetsTheSame, HaveTheSameFate, route_c
 ghost use Rattle.am_complete.specs.Words.{rule_conditions, equal_conditions, silence_conditions};
 ghost use Rattle.am_complete.specs.Words.{impossible_conditions, world_conditions};
 ghost use Rattle.am_complete.specs.Words.{coverage_conditions, asked_conditions, IsAlertOf};
+ghost use Rattle.am_complete.specs.Words.{AskedLabel, IsAskedOf, HaveNoRoom};
 ghost use Rattle.am_complete.specs.Words.{team_universe, db_or_absent, db_alone, team_not_db};
 ghost use Rattle.am_complete.specs.Words.{db_alone_possible};
 
@@ -187,4 +188,11 @@ pub fn an_example_of_completeness()
     ensures complete { IsComplete (team_universe db_or_absent) (team_db ∷ []) }
     ensures incomplete { ¬ IsComplete (team_universe db_alone) (team_db ∷ []) }
     ensures possible { IsSpaceComplete db_alone_possible (team_db ∷ team_not_db ∷ []) }
+{}
+
+/// Where there is no room for the labels that matchers ask of, no universe is complete for these
+/// matchers.
+pub fn what_has_no_room_has_no_complete_universe()
+    ensures none { (asked : List AskedLabel) (ms : List Condition) (u : List Label) → IsUniverse u
+        → IsAskedOf asked ms → HaveNoRoom asked → ¬ IsComplete u ms }
 {}
