@@ -1,6 +1,6 @@
 -- Why a label is not declared: for a new label name and distinct texts there is no room.
-use Rattle.std.proofs.Common.{◌≡◌, ◌≢◌, ◌<◌, ◌≤◌, ◌+◌, ◌⊎◌, ℕ, List, [], ◌∷◌, ◌++◌, length, map}
-use Rattle.std.proofs.Common.{true, false, refl, sym, ap, ◌∙◌, subst, inl, inr, arith, Some, None}
+use Rattle.std.proofs.Common.{◌≡◌, ◌≢◌, ◌<◌, ◌≤◌, ℕ, List, [], ◌∷◌, ◌++◌, length, map}
+use Rattle.std.proofs.Common.{false, refl, sym, ap, ◌∙◌, subst, inl, inr, arith, Some, None}
 use Rattle.std.proofs.Common.{Contains, length-append}
 use Rattle.std.specs.Prelude.{IsTrue, unwrap_or, Option}
 use Rattle.std.specs.List.{AllByRecursion, IsDistinct, list_any}

@@ -17,7 +17,7 @@ use Rattle.am_universe.proofs.ListLemmas.{IsIn-unmap, IsIn-from_Contains, Contai
 use Rattle.am_universe.proofs.ListLemmas.{AllByRecursion-at, AllByRecursion-each}
 use Rattle.am_universe.proofs.DistinctLists.{all_push, distinct_push, distinct_pushed, distinct_front}
 use Rattle.am_labels.specs.Matcher.{Condition}
-use Rattle.am_labels.proofs.Passing.{any_in, in_any}
+use Rattle.am_labels.proofs.Passing.{in_any}
 use Rattle.am_classes.specs.Alike.{AreAlike, Covers, AreApart}
 use Rattle.am_eval.proofs.Members.{in_at, at_in}
 use Rattle.am_complete.specs.Complete.{about, label_texts, texts_of_label, IsComplete, IsCompleteAt}

@@ -1,5 +1,5 @@
 -- Texts that a label lacks, and that it has enough where it lacks none.
-use Rattle.std.proofs.Common.{◌≡◌, ◌<◌, ◌≤◌, ◌+◌, ◌==◌, ℕ, zero, suc, Bool, false, true, List, [], ◌∷◌, ◌++◌, length}
+use Rattle.std.proofs.Common.{◌≡◌, ◌<◌, ◌≤◌, ◌==◌, ℕ, zero, suc, Bool, false, true, List, [], ◌∷◌, length}
 use Rattle.std.proofs.Common.{map, take, drop, min, Option, Some, None, Contains, String, string_bytes, refl, sym, ap, ◌∙◌, subst}
 use Rattle.std.proofs.Common.{inl, inr, arith, lit≤, lit<}
 use Rattle.std.specs.Prelude.{IsTrue, slice_get, unwrap_or}

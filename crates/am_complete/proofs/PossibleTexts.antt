@@ -1,5 +1,5 @@
 -- Texts that a label may have, as impossible lists say that ask of this label alone.
-use Rattle.std.proofs.Common.{◌≡◌, ◌+◌, ◌<◌, ◌||◌, ◌&&◌, ℕ, zero, suc, Bool, true, false, not, List, []}
+use Rattle.std.proofs.Common.{◌≡◌, ◌+◌, ◌||◌, ◌&&◌, ℕ, zero, suc, Bool, true, false, not, List, []}
 use Rattle.std.proofs.Common.{String, string_bytes, map, Contains}
 use Rattle.std.proofs.Common.{◌∷◌, length, take, Some, None, cond, refl, sym, ap, ◌∙◌, subst, inl, inr, arith}
 use Rattle.std.specs.Prelude.{IsTrue, slice_get, unwrap_or}
@@ -20,7 +20,7 @@ use Rattle.am_universe.proofs.ListLemmas.{AllByRecursion-each, AllByRecursion-at
 use Rattle.am_labels.specs.Matcher.{Condition, holds, all_hold}
 use Rattle.am_labels.specs.Space.{Space}
 use Rattle.am_labels.proofs.Passing.{passes_from_kept, kept_from_passes}
-use Rattle.am_classes.specs.Alike.{AreAlike, AreApart}
+use Rattle.am_classes.specs.Alike.{AreAlike}
 use Rattle.am_complete.specs.Complete.{asks_only_of, matches_text, may_have, AreAmong}
 use Rattle.am_complete.specs.AskedLabel.{AskedLabel}
 use Rattle.am_complete.specs.Covering.{StandForAll}

@@ -1,4 +1,4 @@
-use Rattle.std.proofs.Common.{◌≡◌, List, ℕ, Contains, map, string_bytes, ap, ◌∙◌, subst}
+use Rattle.std.proofs.Common.{List, ℕ, Contains, map, string_bytes, ap, ◌∙◌, subst}
 use Rattle.std.specs.Prelude.{IfOk, IfSome, IsTrue}
 use Rattle.std.specs.Str.{IsUtf8}
 use Rattle.am_universe.specs.Universe.{is_label_name}

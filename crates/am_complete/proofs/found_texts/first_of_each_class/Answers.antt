@@ -1,5 +1,5 @@
-use Rattle.std.proofs.Common.{◌≡◌, ◌<◌, ◌+◌, ℕ, List, [], ◌∷◌, ◌++◌, Some, length, map, string_bytes, sym, ap}
-use Rattle.std.proofs.Common.{◌∙◌, subst, inl, inr, arith, length-append, slice_get}
+use Rattle.std.proofs.Common.{◌≡◌, ◌<◌, ◌+◌, ℕ, List, [], ◌∷◌, ◌++◌, Some, map, string_bytes, sym, ap}
+use Rattle.std.proofs.Common.{◌∙◌, subst, inl, inr, arith, slice_get}
 use Rattle.std.proofs.lemmas.List.{map-append}
 use Rattle.am_universe.proofs.ListLemmas.{IsIn, IsIn-split}
 use Rattle.am_classes.specs.Alike.{AreApart}

@@ -1,9 +1,7 @@
 -- What is refused for the labels that are asked of.
-use Rattle.std.proofs.Common.{◌≡◌, ◌<◌, List, ℕ, Some, length, slice_get, subst, sym, ◌∙◌}
+use Rattle.std.proofs.Common.{◌≡◌, ◌<◌, List, ℕ, length, subst, sym, ◌∙◌}
 use Rattle.std.specs.List.{AllByRecursion}
 use Rattle.am_complete.specs.AskedLabel.{AskedLabel}
-use Rattle.am_complete.specs.Covering.{StandsForEachBut}
-use Rattle.am_complete.specs.Room.{AreUnproved}
 use Rattle.am_universe_command.proofs.UniverseStages.{room_first, unproved_first, IsFirstAt}
 use Rattle.am_universe_command.proofs.completing.made_universe.Goals as goal
 
