@@ -1,5 +1,5 @@
 -- Why a list of matchers, or its text, is refused.
-use Rattle.std.proofs.Common.{◌≡◌, ◌≢◌, sym, ◌∙◌, ap, subst, inl, inr, ℕ, suc, List, [], ◌∷◌, ◌++◌, length, ◌≤◌, arith, IsTrue, Result, Ok, Err, IfErr}
+use Rattle.std.proofs.Common.{◌≡◌, ◌≢◌, sym, subst, inl, inr, ℕ, suc, List, [], ◌∷◌, ◌++◌, length, ◌≤◌, arith, IsTrue, Result, Ok, Err, IfErr}
 use Rattle.std.specs.List.{All}
 use Rattle.am_universe.specs.declared.kind.Kind.{Kind}
 use Rattle.am_universe.specs.declared.kind.Kind.TheVariants as kinds

@@ -6,7 +6,7 @@ use Rattle.std.proofs.lemmas.List.{append-nil, append_assoc, at_drop_more}
 use Rattle.std.proofs.Math.ListN.{drop_of_length-le}
 use Rattle.am_universe.specs.declared.kind.Kind.{Kind}
 use Rattle.am_labels.specs.Matcher.{Condition}
-use Rattle.am_labels.specs.MatcherText.{is_blank, is_separator, separators, pieces_from, without_blank_last, matcher_pieces, without_opening, without_closing, pieces_of_words}
+use Rattle.am_labels.specs.MatcherText.{is_blank, is_separator, separators, pieces_from, without_blank_last, matcher_pieces}
 use Rattle.am_labels.specs.MatcherReading.{IsReadFailure, ReturnsReading, ◌>>=◌, read_piece, read_each_piece, read_list, read_words}
 
 -- what is read, behind a front that was read before
