@@ -30,21 +30,3 @@ module _ (r : Regex) (p : List ℕ) (source : regex_source r ≡ anchored_patter
 
   pub searches-compiled : SearchesFor (regex_pattern r) p
   searches-compiled = (read_by _ refl).1
-
-anchors_len : (p : List ℕ) → length (anchored_pattern p) - 6 ≡ length p
-anchors_len p = omega (arith, length-append p (codes ")$"))
-
--- the pattern is what stands between the anchors
-pub between_anchors : (p : List ℕ) → take (length (anchored_pattern p) - 6) (drop 4 (anchored_pattern p)) ≡ p
-between_anchors p = ap (λ n. take n (p ++ codes ")$")) (anchors_len p) ∙ take-append_seam p (codes ")$")
-
-module _ (r : Regex) (p : List ℕ) (source : regex_source r ≡ anchored_pattern p) where
-  pub text-compiled : pattern_text r ≡ p
-  text-compiled = rw source (between_anchors p)
-
-  pub IsAnchored-compiled : regex_config r ≡ default_config → IsReadFromSource r → IsAnchored r
-  IsAnchored-compiled config is_read = record {
-    source = source ∙ ap anchored_pattern (sym text-compiled);
-    config = config;
-    read = is_read;
-  }

@@ -15,8 +15,8 @@ pub mod limits;
 // The layer below: universes, label sets, sinks and refusals.
 pub use am_universe::{
     Choice, Fault, History, Kind, LabelFault, LabelPart, LabelSet, LineTable, Out, Place, Position,
-    Sink, Universe, fault_at, put_all, put_str, report, set_of, status, write_fault, write_map,
-    write_set, write_text,
+    Sink, Universe, answer_of_write, put_all, put_str, report, set_of, status, write_fault,
+    write_map, write_set, write_text,
 };
 
 // Operators, and the patterns that two of them take: which are accepted, and what they match.

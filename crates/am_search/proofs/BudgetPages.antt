@@ -57,12 +57,6 @@ in_taken (x ∷ xs) zero q i = absurd i
 in_taken (x ∷ xs) (suc k) q (inl same) = inl same
 in_taken (x ∷ xs) (suc k) q (inr i) = inr (in_taken xs k q i)
 
-in_dropped : (xs : List (List ℕ)) (k : ℕ) (q : List ℕ) → IsIn (drop k xs) q → IsIn xs q
-in_dropped [] zero q i = absurd i
-in_dropped [] (suc k) q i = absurd i
-in_dropped (x ∷ xs) zero q i = i
-in_dropped (x ∷ xs) (suc k) q i = inr (in_dropped xs k q i)
-
 -- a filter of joined lists whose members all pass, or all fail
 all_joined : (test : List ℕ → Bool) (f : List ℕ → List (List ℕ)) (ps : List (List ℕ)) → ((p c : List ℕ) → IsIn ps p → IsIn (f p) c → test c ≡ true) → filter test (flat_map f ps) ≡ flat_map f ps
 all_joined test f [] h = refl

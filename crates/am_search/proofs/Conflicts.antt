@@ -75,14 +75,6 @@ nothing_admitted (n ∷ ns) = refl
 -- ---- Conflicts.
 
 module _ (ns : List ℕ) (truth : List ℕ → Bool) where
-  -- labels are to blame for none of no positions
-  pub up_to_none : (labels : Labels) (prefix : List ℕ)
-      → ((i : ℕ) → has_label labels i ≡ false) → IsConflictUpTo ns truth labels prefix 0
-  up_to_none labels prefix none = record {
-    within = λ i has. let both : true ≡ false = sym has ∙ none i in cc;
-    none_true = λ c whole agrees below. absurd (omega (arith, below));
-  }
-
   -- a conflict of a longer prefix that leaves its last label out is one of the prefix
   pub jump : (labels : Labels) (prefix : List ℕ) (p : ℕ)
       → IsConflict ns truth labels (prefix ++ p ∷ [])

@@ -80,18 +80,6 @@ before_begins (r ∷ f) (p ∷ prefix) (q ∷ x) less h =
       | inr same ↦ ap (λ s. comes_before (s ∷ f) (q ∷ x)) (same.0 ∙ sym parts.0) ∙ before_same q f x ∙ before_begins f prefix x same.1 parts.1
     ]
 
--- what a choice comes before, each prefix of the choice comes before
-pub front_before : (prefix c x : List ℕ) → starts_with nat_eq c prefix ≡ true → comes_before c x ≡ true → comes_before prefix x ≡ true
-front_before prefix c [] h less = absurd (false≢true (sym (before_nothing c) ∙ less))
-front_before [] c (r ∷ x) h less = refl
-front_before (p ∷ prefix) [] (r ∷ x) h less = absurd (false≢true h)
-front_before (p ∷ prefix) (q ∷ c) (r ∷ x) h less =
-    let parts = begins_parts q p c prefix h in
-    elim (before_parts q r c x less) [
-      | inl l ↦ before_less p r prefix x (omega (arith, l, parts.0))
-      | inr same ↦ ap (λ s. comes_before (s ∷ prefix) (r ∷ x)) (sym parts.0 ∙ same.0) ∙ before_same r prefix x ∙ front_before prefix c x parts.1 same.1
-    ]
-
 -- what comes neither before a prefix nor begins with it comes after it
 pub other_before : (prefix f : List ℕ) → starts_with nat_eq f prefix ≡ false → comes_before f prefix ≡ false → comes_before prefix f ≡ true
 other_before [] f other not_less = absurd (false≢true (sym other))

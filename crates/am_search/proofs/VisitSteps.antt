@@ -60,11 +60,6 @@ taken_pushed [] k p e = cc
 taken_pushed (x ∷ xs) zero p e = ap (λ y. y ∷ []) cc
 taken_pushed (x ∷ xs) (suc k) p e = ap (λ l. x ∷ l) (taken_pushed xs k p e)
 
-pub within_length : (xs : List (List ℕ)) (k : ℕ) (p : List ℕ) → slice_get xs k ≡ Some p → k < length xs
-within_length [] k p e = cc
-within_length (x ∷ xs) zero p e = omega arith
-within_length (x ∷ xs) (suc k) p e = omega (arith, within_length xs k p e)
-
 pub past_length : (xs : List (List ℕ)) (k : ℕ) → slice_get xs k ≡ None → length xs ≤ k
 past_length [] k e = omega arith
 past_length (x ∷ xs) zero e = cc

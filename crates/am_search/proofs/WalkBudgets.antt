@@ -58,17 +58,6 @@ all_under all budget (Some n) judged is past =
 used_up : (budget : Option ℕ) (judged : List (List ℕ)) → IsLeft budget (Some 0) judged → budget ≡ Some (length judged)
 used_up budget judged is = is ∙ ap Some (omega arith)
 
--- ---- Where the search stops.
-
-module _ (sizes : List ℕ) (verdict : List ℕ → Verdict) (start : Start) (budget : Option ℕ) (judged : List (List ℕ)) where
-  pub stops_nowhere : (left : Option ℕ) → IsLeft budget left judged → length (visited sizes verdict start) ≤ length judged → stop_of sizes verdict start budget ≡ None
-  stops_nowhere None is past = ap (stop_of sizes verdict start) is
-  stops_nowhere (Some n) is past =
-      ap (stop_of sizes verdict start) is ∙ slice_get_past (visited sizes verdict start) (length judged + n) (omega (arith, past))
-
-  pub stops_at : (prefix : List ℕ) → IsLeft budget (Some 0) judged → slice_get (visited sizes verdict start) (length judged) ≡ Some prefix → stop_of sizes verdict start budget ≡ Some prefix
-  stops_at prefix is next = ap (stop_of sizes verdict start) (used_up budget judged is) ∙ next
-
 -- ---- What is left to give.
 
 -- the choices that were given are the first of those that are given in all
@@ -129,19 +118,9 @@ module _ {sizes : List ℕ} {verdict : List ℕ → Verdict} {start : Start} {st
       let past = h.done e in
       whole_of (all_judged e ∙ sym (all_under (visited sizes verdict start) budget left judged is past.all)) past.given_all
 
-  pub stop_when_done : stage ≡ Done → stop_of sizes verdict start budget ≡ None
-  stop_when_done e = stops_nowhere sizes verdict start budget judged left is (h.done e).all
-
   -- the budget is used
   used : left ≡ Some 0 → IsLeft budget (Some 0) judged
   used none = subst (λ l. IsLeft budget l judged) none is
-
-  pub whole_at_stop : stage ≡ Judging → left ≡ Some 0 → IsWholeSearch sizes verdict start budget judged given
-  whole_at_stop e none =
-      whole_of (h.front ∙ ap (λ b. up_to_budget b (visited sizes verdict start)) (sym (used_up budget judged (used none)))) (h.judging e).given_all
-
-  pub stop_when_used : stage ≡ Judging → left ≡ Some 0 → stop_of sizes verdict start budget ≡ Some current
-  stop_when_used e none = stops_at sizes verdict start budget judged current (used none) (h.judging e).next
 
   pub stopped_search : (prefix : List ℕ) → IsAtStop stage current left prefix → IsStoppedSearch sizes verdict start budget judged given prefix
   stopped_search prefix at_stop = record {

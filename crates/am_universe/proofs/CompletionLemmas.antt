@@ -1,16 +1,14 @@
 -- The whole choices that begin with a prefix, as a walk from label to label meets them.
-use Rattle.std.proofs.Common.{◌≡◌, ◌≢◌, ℕ, zero, suc, ◌+◌, ◌<◌, ◌≤◌, Bool, true, false, cond, List, [], ◌∷◌, ◌++◌, length, map, slice_index, nat_lt, nat_eq, ◌&&◌, inl, inr, ap, ◌∙◌, refl, arith, add-one, eq-eqb}
+use Rattle.std.proofs.Common.{◌≡◌, ◌≢◌, ℕ, zero, suc, ◌+◌, ◌<◌, ◌≤◌, Bool, true, false, cond, List, [], ◌∷◌, ◌++◌, length, map, slice_index, nat_lt, nat_eq, ◌&&◌, inl, inr, ap, ◌∙◌, refl, arith, eq-eqb}
 use Rattle.std.specs.List.{range_with_len, flat_map, AllByRecursion, filter, starts_with}
 use Rattle.std.proofs.lemmas.List.{append-nil, map-append}
 use Rattle.std.proofs.lemmas.List.Elements.{filter-append}
-use Rattle.std.proofs.lemmas.Grind.{flat_map-append}
 use Rattle.std.proofs.lemmas.Bool.{and_parts, ne_eqb}
 use Rattle.std.proofs.lemmas.Bool.Decides.{nat_tests}
 use Rattle.std.proofs.Math.Nat.{eq-or-lt_of_le}
 use Rattle.am_universe.specs.Choice.{choices, admits, IsWhole}
 use Rattle.am_universe.specs.Completions.{completions}
-use Rattle.am_universe.proofs.ListLemmas.{AllByRecursion-each}
-use Rattle.am_universe.proofs.ChoiceLemmas.{behind, whole_from_in}
+use Rattle.am_universe.proofs.ChoiceLemmas.{behind}
 
 -- the whole choices below a prefix, label by label: its completions, where the sizes admit it
 abbrev pub below : List ℕ → List ℕ → List (List ℕ)
@@ -105,11 +103,6 @@ pub range_more : (first count : ℕ) → range_with_len first (suc count) ≡ ra
 range_more first zero = ap (λ n. n ∷ []) (omega arith)
 range_more first (suc count) = ap (λ t. first ∷ t) (range_more (first + 1) count ∙ ap (λ n. range_with_len (first + 1) count ++ n ∷ []) (omega arith))
 
-pub flat_map_range : {X : Type 0} (f : ℕ → List X) (count : ℕ) → flat_map f (range_with_len 0 (count + 1)) ≡ flat_map f (range_with_len 0 count) ++ f count
-flat_map_range f count =
-    ap (λ n. flat_map f (range_with_len 0 n)) (add-one count) ∙ ap (flat_map f) (range_more 0 count ∙ ap (λ n. range_with_len 0 count ++ n ∷ []) (omega arith))
-    ∙ flat_map-append f (range_with_len 0 count) (count ∷ []) ∙ ap (λ t. flat_map f (range_with_len 0 count) ++ t) (append-nil (f count))
-
 -- a prefix that is admitted, with one position more
 admitted_first : (p size : ℕ) (b : Bool) → p < size → b ≡ true → (nat_lt p size && b) ≡ true
 admitted_first p size b h e = grind (arith, nat_tests)
@@ -124,13 +117,6 @@ admits_next (size ∷ sizes) (q ∷ prefix) p a h k =
 
 -- ---- Every choice of the list is whole.
 
-pub choices_are_whole : (sizes : List ℕ) → AllByRecursion (IsWhole sizes) (choices sizes)
-choices_are_whole sizes = AllByRecursion-each (IsWhole sizes) (choices sizes) (whole_from_in sizes)
-
 all_cond : {X : Type 0} (P : X → Type 0) (b : Bool) (x : X) (xs : List X) → P x → AllByRecursion P xs → AllByRecursion P (cond b (x ∷ xs) xs)
 all_cond P true x xs h all = (h, all)
 all_cond P false x xs h all = all
-
-pub all_filter : {X : Type 0} (P : X → Type 0) (test : X → Bool) (xs : List X) → AllByRecursion P xs → AllByRecursion P (filter test xs)
-all_filter P test [] all = tt
-all_filter P test (x ∷ xs) all = all_cond P (test x) x (filter test xs) all.0 (all_filter P test xs all.1)

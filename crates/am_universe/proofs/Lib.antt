@@ -5,6 +5,7 @@ pub mod ChoiceViewLemmas
 pub mod LabelMapLemmas
 pub mod WholeChoiceLemmas
 pub mod ListLemmas
+pub mod Members
 pub mod DistinctLists
 pub mod ChoiceLemmas
 pub mod CompletionLemmas

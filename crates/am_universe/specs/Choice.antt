@@ -1,6 +1,6 @@
 -- Choices: which value each label of a universe takes. A choice is a list of positions, one for
 -- each label, which count from 0; a shorter list is a prefix of a choice.
-use Rattle.std.specs.Prelude.{◌≡◌, ℕ, zero, suc, List, [], ◌∷◌, length, map, Bool, true, false}
+use Rattle.std.specs.Prelude.{◌≡◌, ℕ, List, [], ◌∷◌, length, map, Bool, true, false}
 use Rattle.std.specs.Prelude.{nat_lt, ◌&&◌, IsTrue}
 use Rattle.std.specs.List.{flat_map, range_with_len}
 

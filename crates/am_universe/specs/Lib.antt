@@ -14,4 +14,6 @@ pub mod LabelSet
 pub mod LabelSetView
 pub mod WrittenLabelSet
 pub mod LineTable
+pub mod FaultPlace
+pub mod WriteAnswer
 pub mod FaultText

@@ -16,5 +16,7 @@ pub use Rattle.am_universe.specs.LabelSet.{LabelMap, value_of, value_at, with_va
 pub use Rattle.am_universe.specs.LabelSet.{label_set_of, HasTextsAlone}
 pub use Rattle.am_universe.specs.LabelSetView.{label_map_of}
 pub use Rattle.am_universe.specs.WrittenLabelSet.{pair_text, set_text, line, map_text}
+pub use Rattle.am_universe.specs.WriteAnswer.{IsAnswerOfWrite}
+pub use Rattle.am_universe.specs.FaultPlace.{IsPlaced}
 pub use Rattle.am_universe.specs.FaultText.{pointer_byte_text, pointer_part, has_no_place}
 pub use Rattle.am_universe.specs.FaultText.{place_part, fault_text, status_of}

@@ -1,11 +1,14 @@
 //! Facts about the definitions alone: each is the contract of a function with an empty body.
 ghost use Rattle.std.specs.Prelude.{◌≡◌, ◌↔◌, ℕ, List, [], ◌∷◌, ◌++◌, IsTrue, Contains};
-ghost use Rattle.std.specs.Prelude.{None, Some, slice_get, unwrap_or};
+ghost use Rattle.std.specs.Prelude.{None, Some, slice_get, unwrap_or, string_bytes};
 ghost use Rattle.std.specs.Ordering.{nat_cmp};
 ghost use Rattle.std.specs.Cmp.Lexicographic.{slice_cmp};
 ghost use Rattle.std.specs.List.Sorted.{IsStrictlySortedBy};
+ghost use Rattle.am_universe.specs.declared.fault.Fault.{Fault};
+ghost use Rattle.am_universe.specs.declared.kind.Kind.TheVariants as kinds;
 ghost use Rattle.am_universe.specs.declared.limits.TheConstants.{MAX_LABELS, MAX_VALUES};
 ghost use Rattle.am_universe.specs.declared.limits.TheConstants.{MAX_POSITIONS};
+ghost use Rattle.am_universe.specs.declared.place.Place.TheVariants as places;
 ghost use Rattle.am_universe.specs.Words.{same_text};
 ghost use Rattle.am_universe.specs.Words.{Label, IsUniverse, names, sizes, label_fault};
 ghost use Rattle.am_universe.specs.Words.{choices, IsWhole, value_of, value_at, label_set_of, line};
@@ -15,6 +18,15 @@ pub fn limits_of_universes()
     ensures labels { MAX_LABELS ≡ 64 }
     ensures values { MAX_VALUES ≡ 1024 }
     ensures positions { MAX_POSITIONS ≡ 64 }
+{}
+
+/// A fault of memory stands at the place `Memory`, and one of writing at `Output`, both with no
+/// pointer: there is no other such fault.
+pub fn memory_and_writing_have_places_of_their_own()
+    ensures memory { (fault : Fault) → fault.kind ≡ kinds.Memory
+        → (fault.place ≡ places.Memory) × (string_bytes fault.pointer ≡ []) }
+    ensures write { (fault : Fault) → fault.kind ≡ kinds.Write
+        → (fault.place ≡ places.Output) × (string_bytes fault.pointer ≡ []) }
 {}
 
 /// The test whether two texts are the same is true where they are equal, and only there.

@@ -15,7 +15,7 @@ mod kind;
 mod label_fault;
 mod place;
 
-pub use fault::{Fault, fault_at};
+pub use fault::Fault;
 pub use kind::Kind;
 pub use label_fault::{LabelFault, LabelPart};
 pub use place::Place;
@@ -47,7 +47,7 @@ pub use label_set::{LabelSet, set_of};
 // Writing to a sink: bytes, texts and label sets.
 mod write;
 
-pub use write::{put_all, put_str, write_map, write_set, write_text};
+pub use write::{answer_of_write, put_all, put_str, write_map, write_set, write_text};
 
 // The lines of a universe, from a table of their pieces.
 mod line_table;

@@ -2,8 +2,10 @@ ghost use Rattle.std.specs.Prelude.{◌≡◌, [], ◌∷◌, ◌++◌, IfSome, 
 ghost use Rattle.std.specs.List.{flat_map};
 ghost use Rattle.am_universe.specs.Words.{sizes, IsWhole, quoted_text, label_value_escape};
 ghost use Rattle.am_universe.specs.Words.{pair_text, set_text, map_text, Writes};
+ghost use Rattle.am_universe.specs.Words.{IsAnswerOfWrite};
 
-use crate::{Choice, Kind, LabelSet, Sink, Universe};
+use crate::{Choice, Fault, Kind, LabelSet, Sink, Universe};
+use std::alloc::Global;
 
 /// Writes the bytes, all of them, unless a take fails: then the answer is `Kind::Write`, the bytes
 /// before it have gone out, and it is not tried again.
@@ -110,4 +112,14 @@ pub fn write_pair<W: Sink>(
     put_str(out, name)?;
     put_all(out, b"=")?;
     write_text(out, value)
+}
+
+/// What a call answers that ends with a write: what the write did, or that it failed.
+pub fn answer_of_write<T: Drop>(alloc: Global, written: Result<T, Kind>) -> Result<T, Fault>
+    ensures answer { IsAnswerOfWrite written result }
+{
+    match written {
+        Ok(answer) => Ok(answer),
+        Err(_) => Err(Fault::write(alloc)),
+    }
 }
