@@ -10,7 +10,7 @@ use Rattle.serde_json.specs.Find as find
 use Rattle.am_universe.specs.declared.kind.Kind.TheVariants as kinds
 use Rattle.am_json.specs.declared.limits.TheConstants.{MAX_FILE_BYTES}
 use Rattle.am_json.specs.Json.{json_of, is_null, is_one_of, is_unknown, field, lesser_key}
-use Rattle.am_json.specs.Json.{SaysBooleanOr}
+use Rattle.am_json.specs.Json.{SaysBooleanOr, FileSays}
 use Rattle.am_json.specs.Json.{unknown_field, items_of, AreOnlyFields, HasOnlyFields}
 use Rattle.am_json.specs.Pointer.{Refusal, refusal_here, refusal_within, to_field}
 use Rattle.am_json.specs.Reading.{◌>>=◌, reading_within, accept_some, as_object, as_text, as_items}
@@ -220,8 +220,7 @@ json_reads bytes d few is = rw (check_count_fits MAX_FILE_BYTES (length bytes) f
 -- what the bytes of a file say, where reading their value decides what it says
 pub file_decided : {A : Type 0} (Says : Data → A → Type 0) (read : Data → Reading A)
     → ((d : Data) → Decides (Says d) ((read d).result)) → (bytes : List ℕ)
-    → Decides (λ x. (length bytes ≤ MAX_FILE_BYTES) × (d : Data) × (json_of bytes ≡ Some d)
-    × Says d x) ((read_json bytes >>= read).result)
+    → Decides (FileSays Says bytes) ((read_json bytes >>= read).result)
 file_decided Says read decides bytes = record {
   says = λ x h.
       let value = bind_ok ((read_json bytes).result) (λ d. (read d).result) x h in

@@ -1,13 +1,13 @@
 -- The bytes of a file: their first fault, and the patterns that are met in their value.
 use Rattle.std.proofs.Common.{Bool, Err, List, None, Option, Some, ap, arith, false, inl, inr}
-use Rattle.std.proofs.Common.{length, nat_lt, refl, sym, true, ℕ, ◌<◌, ◌↔◌, ◌≡◌, ◌≤◌, ◌⊎◌}
+use Rattle.std.proofs.Common.{length, nat_lt, refl, sym, true, ℕ, ◌<◌, ◌↔◌, ◌≡◌, ◌≤◌}
 use Rattle.std.proofs.lemmas.Bool.{ltb-true}
 use Rattle.std.specs.Prelude.{if◌then◌else◌}
 use borrow.Author.Tests.{ltb-false}
 use Rattle.serde_json.specs.Data.{Data}
 use Rattle.am_universe.specs.declared.kind.Kind.TheVariants as kinds
 use Rattle.am_json.specs.Json.{json_of}
-use Rattle.am_json.specs.Places.{IsFirstFaultOfFile, IsFirstFaultOfValue, IsMetPatternOfFile}
+use Rattle.am_json.specs.Places.{IsFileRefusedFor, IsFirstFaultOfFile, IsFirstFaultOfValue, IsMetPatternOfFile}
 use Rattle.am_json.specs.Places.{IsMetPatternOfValue}
 use Rattle.am_json.specs.Pointer.{Refusal, refusal_here}
 use Rattle.am_json.specs.Reading.{IsPatternRefusal, MayRefuse, Reading, accept_some, read_json}
@@ -74,22 +74,6 @@ module _ {A : Type 0} (IsFirst IsMet : Data → Refusal → Type 0) (read : Data
 
   -- what is refused of a file is its first fault, or a pattern that is met
   pub bytes_refused : (bytes : List ℕ) (r : Refusal) → MayRefuse (read_json bytes >>= read) r
-      → IsFirstFaultOfFile IsFirst bytes r ⊎ IsMetPatternOfFile IsMet bytes r
+      → IsFileRefusedFor IsFirst IsMet bytes r
   bytes_refused bytes r (inl e) = inl ((bytes_decide bytes r).0 e)
   bytes_refused bytes r (inr h) = inr (bytes_meet bytes r h)
-
--- where no value has patterns, what is refused of a file is its first fault
-module _ {A : Type 0} (IsFirst : Data → Refusal → Type 0) (read : Data → Reading A)
-    (decides : (d : Data) (r : Refusal) → ((read d).result ≡ Err r) ↔ IsFirst d r)
-    (none : (d : Data) (r : Refusal) → IsPatternRefusal (read d).patterns r → ⊥) where
-  none_met : (found : Option Data) (r : Refusal) → IsMetPatternOfValue (λ _ _. ⊥) found r → ⊥
-  none_met None r h = h
-  none_met (Some d) r h = h
-
-  pub first_refused : (bytes : List ℕ) (r : Refusal) → MayRefuse (read_json bytes >>= read) r
-      → IsFirstFaultOfFile IsFirst bytes r
-  first_refused bytes r refused =
-      elim (bytes_refused IsFirst (λ _ _. ⊥) read decides none bytes r refused) [
-        | inl first ↦ first
-        | inr met ↦ absurd (none_met (json_of bytes) r met.1)
-      ]

@@ -1,10 +1,10 @@
 -- Reading one behind the other: as a loop does, and what items with no fault say.
 use Rattle.std.proofs.Common.{◌≡◌, ℕ, ◌+◌, ◌<◌, ◌≤◌, List, [], ◌∷◌, ◌++◌, length, map, get_or, drop}
 use Rattle.std.proofs.Common.{◌⊎◌, Some, Ok, inl, inr, refl, sym, ap, subst, ◌∙◌, add-one}
-use Rattle.std.proofs.Common.{append_assoc, drop-cons}
+use Rattle.std.proofs.Common.{append_assoc, arith, drop-cons, length-append}
 use Rattle.std.specs.Prelude.{if◌then◌else◌, ⊤}
 use Rattle.std.specs.List.{AllZip}
-use Rattle.std.proofs.lemmas.List.{drop_all, append-nil}
+use Rattle.std.proofs.lemmas.List.{drop_all, append-nil, length-map}
 use Rattle.serde_json.specs.Data.{Data, null, boolean, number, string, array, object}
 use Rattle.am_universe.specs.declared.kind.Kind.TheVariants as kinds
 use Rattle.am_json.specs.declared.read_error.ReadError.{ReadError}
@@ -119,6 +119,32 @@ item_first {A} read before d ds all h =
       within_ok (to_item (length before)) ((read before d).result) x.0 x.1,
       subst (λ (ys : List A). (read_items read ys ds).result ≡ Ok all)
           (sym (same_read (before ++ x.0 ∷ []) next.0 x.2)) next.2,
+    )
+
+-- as many are read as there are items
+items_counted : {A : Type 0} (read : List A → Data → Reading A) (before : List A) (ds : List Data)
+    (all : List A) → (read_items read before ds).result ≡ Ok all
+    → length all ≡ length before + length ds
+unfolding read_each read_next_item
+items_counted read before [] all h =
+    let same : before ≡ all = same_read before all h in omega (arith, ap length same)
+items_counted read before (d ∷ ds) all h =
+    let first = item_first read before d ds all h in
+    omega (
+      arith,
+      items_counted read (before ++ first.0 ∷ []) ds all first.2,
+      length-append before (first.0 ∷ []),
+    )
+
+pub few_are_read : {A X : Type 0} (view : X → Data) (read : List A → Data → Reading A) (limit : ℕ)
+    (items : List X) (all : List A) → (check_count limit (length items)).result ≡ Ok tt
+    → (read_items read [] (map view items)).result ≡ Ok all → length all ≤ limit
+few_are_read view read limit items all counted h =
+    omega (
+      arith,
+      check_count_ok limit (length items) tt counted,
+      items_counted read [] (map view items) all h,
+      length-map items view,
     )
 
 -- each of the values may stand behind those before it

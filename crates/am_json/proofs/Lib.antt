@@ -12,3 +12,4 @@ pub mod FieldLemmas
 pub mod OptionalArrays
 pub mod ObjectLemmas
 pub mod FileLemmas
+pub mod FormLaws

@@ -14,8 +14,7 @@ use Rattle.am_json.specs.declared.read_error.ReadError.TheVariants as errors
 use Rattle.am_json.specs.Pointer.{Refusal, refusal_here, refusal_within}
 use Rattle.am_json.specs.Reading.{Reading, result_then, patterns_then, ◌>>=◌, reading_within}
 use Rattle.am_json.specs.Reading.{err_where, refuse_for, check_count, IsPatternRefusal, MayRefuse}
-use Rattle.am_json.specs.Reading.{IsRefusalOrMemory, Fails, Gives, IsReadingWithin, IsFaultOf}
-use Rattle.am_json.specs.Reading.{refusal_of}
+use Rattle.am_json.specs.Reading.{IsRefusalOrMemory, Fails, Gives, IsReadingWithin, IsFaultOf, IsRefusalAt}
 
 -- ---- Patterns that were met.
 
@@ -194,11 +193,11 @@ ok_or_some None r x h = absurd cc
 -- ---- The fault of a file.
 
 pub fault_of_file : {A : Type 0} (place : Place) (e : ReadError) (fault : Fault) (m : Reading A)
-    → IsFaultOf place e fault → Fails e m
-    → fault.kind ≢ kinds.Memory → (fault.place ≡ place) × MayRefuse m (refusal_of fault)
-fault_of_file place errors.Memory fault m is fails other = absurd (other is.kind_is)
-fault_of_file place (errors.Refused r) fault m is fails other =
-    (is.place_is, rw is.refusal_is fails)
+    (RefusedFor : Refusal → Type 0) → ((r : Refusal) → MayRefuse m r → RefusedFor r)
+    → IsFaultOf place e fault → Fails e m → IsRefusalAt place RefusedFor fault
+fault_of_file place errors.Memory fault m RefusedFor refused is fails other = absurd (other is)
+fault_of_file place (errors.Refused r) fault m RefusedFor refused is fails other =
+    (is.0, rw is.1 (refused r fails))
 
 -- ---- What is said, where a reading decides it.
 

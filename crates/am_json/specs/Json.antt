@@ -1,6 +1,7 @@
 -- The JSON value of a file, and its parts. (RFC 8259, as `serde_json` reads it.)
-use Rattle.std.specs.Prelude.{◌≡◌, ◌⊎◌, ℕ, List, [], ◌∷◌, Bool, not, ◌&&◌, if◌then◌else◌, Option}
-use Rattle.std.specs.Prelude.{Some, None, is_some, option_map, option_and_then, IsTrue, ⊤}
+use Rattle.std.specs.Prelude.{◌≡◌, ◌⊎◌, ◌≤◌, ℕ, List, [], ◌∷◌, length, Bool, not, ◌&&◌}
+use Rattle.std.specs.Prelude.{if◌then◌else◌, Option, Some, None, is_some, option_map}
+use Rattle.std.specs.Prelude.{option_and_then, IsTrue, ⊤}
 use Rattle.std.specs.Ordering.{nat_cmp, match_ordering}
 use Rattle.std.specs.Cmp.Lexicographic.{slice_cmp}
 use Rattle.std.specs.List.{list_any}
@@ -10,6 +11,7 @@ use Rattle.serde_json.specs.Data.{no_members, member}
 use Rattle.serde_json.specs.Find.{get, as_null, as_array}
 use Rattle.serde_json.specs.Read.{read}
 use Rattle.am_universe.specs.Text.{same_text}
+use Rattle.am_json.specs.declared.limits.TheConstants.{MAX_FILE_BYTES}
 
 -- The JSON value of the bytes of a file, if they have one: they are UTF-8, and the grammar of
 -- `serde_json` reads them. Nesting of 127 is read, and deeper nesting is not.
@@ -18,6 +20,11 @@ use Rattle.am_universe.specs.Text.{same_text}
 -- Example: the value of `{"a": 1, "a": 2}` is that of `{"a": 2}`, and `{"a": 1,}` has no value.
 abbrev pub json_of : List ℕ → Option Data
 json_of bytes = if is_utf8 bytes then read bytes else None
+
+-- The bytes of a file, at most `MAX_FILE_BYTES`, say what their JSON value says.
+abbrev pub FileSays : {A : Type 0} → (Data → A → Type 0) → List ℕ → A → Type 0
+FileSays Says bytes x =
+    (length bytes ≤ MAX_FILE_BYTES) × (d : Data) × (json_of bytes ≡ Some d) × Says d x
 
 -- The value is `null`.
 abbrev pub is_null : Data → Bool

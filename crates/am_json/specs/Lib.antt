@@ -4,3 +4,4 @@ pub mod Pointer
 pub mod Places
 pub mod Reading
 pub mod OptionalItems
+pub mod ReadingLaw

@@ -243,3 +243,9 @@ IsMetPatternOfValue IsMet (Some d) r = IsMet d r
 abbrev pub IsMetPatternOfFile : (Data → Refusal → Type 0) → List ℕ → Refusal → Type 0
 IsMetPatternOfFile IsMet bytes r =
     (length bytes ≤ MAX_FILE_BYTES) × IsMetPatternOfValue IsMet (json_of bytes) r
+
+-- What a file may be refused for: its first fault, or a pattern that is met before any.
+abbrev pub IsFileRefusedFor : (Data → Refusal → Type 0) → (Data → Refusal → Type 0) → List ℕ
+    → Refusal → Type 0
+IsFileRefusedFor IsFirst IsMet bytes r =
+    IsFirstFaultOfFile IsFirst bytes r ⊎ IsMetPatternOfFile IsMet bytes r

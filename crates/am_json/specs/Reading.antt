@@ -9,7 +9,6 @@ use Rattle.serde_json.specs.Find as find
 use Rattle.am_universe.specs.declared.kind.Kind.{Kind}
 use Rattle.am_universe.specs.declared.kind.Kind.TheVariants as kinds
 use Rattle.am_universe.specs.declared.place.Place.{Place}
-use Rattle.am_universe.specs.declared.place.Place.TheVariants as places
 use Rattle.am_universe.specs.declared.fault.Fault.{Fault}
 use Rattle.am_json.specs.declared.read_error.ReadError.{ReadError}
 use Rattle.am_json.specs.declared.read_error.ReadError.TheVariants as errors
@@ -121,23 +120,19 @@ IsReadingWithin part (Err (errors.Refused r)) seen =
 abbrev pub refusal_of : Fault → Refusal
 refusal_of fault = record { kind = fault.kind; pointer = string_bytes fault.pointer }
 
--- A fault tells of a refusal in the file at this place. It is neither of memory nor of writing.
-pub record IsFaultAt (place : Place) (r : Refusal) (fault : Fault) : Type 0 where
-  pub memory : fault.kind ≢ kinds.Memory
-  pub no_write : fault.kind ≢ kinds.Write
-  pub place_is : fault.place ≡ place
-  pub refusal_is : refusal_of fault ≡ r
-
--- A fault tells that memory ran out: it stands at the place `Memory`, with no pointer.
-pub record IsMemoryFault (fault : Fault) : Type 0 where
-  pub kind_is : fault.kind ≡ kinds.Memory
-  pub place_is : fault.place ≡ places.Memory
-  pub pointer_is : string_bytes fault.pointer ≡ []
+-- A fault tells of a refusal in the file at this place.
+abbrev pub IsFaultAt : Place → Refusal → Fault → Type 0
+IsFaultAt place r fault = (fault.place ≡ place) × (refusal_of fault ≡ r)
 
 -- The fault that a reader's error is, in the file at this place.
 abbrev pub IsFaultOf : Place → ReadError → Fault → Type 0
-IsFaultOf place errors.Memory fault = IsMemoryFault fault
+IsFaultOf place errors.Memory fault = fault.kind ≡ kinds.Memory
 IsFaultOf place (errors.Refused r) fault = IsFaultAt place r fault
+
+-- A fault stands at this place, and tells of a refusal that may be there, unless memory ran out.
+abbrev pub IsRefusalAt : Place → (Refusal → Type 0) → Fault → Type 0
+IsRefusalAt place MayBe fault =
+    fault.kind ≢ kinds.Memory → (fault.place ≡ place) × MayBe (refusal_of fault)
 
 -- ---- Checks.
 

@@ -29,5 +29,10 @@ pub use json::{
     read_json, read_optional_items, refuse_for, required_field, required_items, required_text,
 };
 
+// The items of an array, and the members of an object, one after the other.
+mod each_item;
+
+pub use each_item::{read_each_item, read_each_member};
+
 // What holds of the definitions by themselves.
 pub mod laws;

@@ -34,11 +34,7 @@ impl Refusal {
     fn at(self, place: Place) -> Fault
         ensures { IsFaultAt place self result }
     {
-        Fault {
-            kind: self.kind,
-            place,
-            pointer: self.pointer,
-        }
+        Fault::within(self.kind, place, self.pointer)
     }
 }
 
@@ -69,8 +65,7 @@ impl ReadError {
     }
 
     /// The fault that it is, where the value that is looked at is that of the whole file at this
-    /// place. That memory ran out stands at the place `Memory`, with no pointer. No memory is
-    /// taken.
+    /// place. No memory is taken.
     pub fn at(self, alloc: Global, place: Place) -> Fault
         ensures fault { IsFaultOf place self result }
     {

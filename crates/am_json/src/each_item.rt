@@ -1,0 +1,56 @@
+//! Reading the items of an array, and the members of an object, one after the other.
+
+ghost use Rattle.std.specs.Prelude.{[], ℕ, List, map};
+ghost use Rattle.std.specs.Fn.{FnReturnsAt};
+ghost use Rattle.serde_json.specs.Data.{Data};
+ghost use Rattle.serde_json.specs.View.{members_view, view};
+ghost use Rattle.am_json.specs.Words.{Gives, Reading, member_list, read_each, read_items};
+
+use crate::pointer::within_item;
+use crate::read_error::ReadError;
+use serde_json::{Map, Value};
+use std::alloc::Global;
+
+/// What `read` gives of each of the items, in their order. The first refusal is the one answered,
+/// at its item.
+pub fn read_each_item<T: Drop, F: Fn(&Value) -> Result<T, ReadError>>(
+    alloc: Global,
+    items: &[Value],
+    read: F,
+) -> Result<Vec<T>, ReadError>
+    requires { F.IsAlwaysCallable read }
+    ensures reading { (reading : Data → Reading T)
+        → ((value : _) (found : _) → FnReturnsAt F.Fn read value found
+        → Gives (λ x. x) found (reading (view value)))
+        → Gives (λ found. found.items) result
+        (read_items (λ _ d. reading d) [] (map view items.now)) }
+{
+    let mut all = Vec::new(alloc);
+    for item in items {
+        let found = read(item);
+        let next = within_item(alloc, all.len(), found)?;
+        all.push(next)?;
+    }
+    Ok(all)
+}
+
+/// What `read` makes of `first` and each of the members of an object, one behind the other, by the
+/// bytes of their names. The first refusal is the one answered.
+pub fn read_each_member<T: Drop, F: Fn(T, &str, &Value) -> Result<T, ReadError>>(
+    first: T,
+    members: &Map<String, Value>,
+    read: F,
+) -> Result<T, ReadError>
+    requires { F.IsAlwaysCallable read }
+    ensures reading { (reading : T → (List ℕ × Data) → Reading T)
+        → ((before : _) (name : _) (value : _) (found : _) → F.post read before name value found
+        → Gives (λ x. x) found (reading before (name.now, view value.now)))
+        → Gives (λ x. x) result
+        (read_each reading first (member_list (members_view members.now.entries))) }
+{
+    let mut found = first;
+    for (name, value) in members.iter() {
+        found = read(found, name.as_str(), value)?;
+    }
+    Ok(found)
+}
