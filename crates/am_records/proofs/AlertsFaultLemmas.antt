@@ -1,7 +1,7 @@
 -- The fault that reading alerts meets first is the first by its places.
-use Rattle.std.proofs.Common.{Bool, Err, List, None, Ok, Option, Some, [], ap, arith, codes, false}
+use Rattle.std.proofs.Common.{Bool, List, None, Ok, Option, Some, [], ap, arith, codes, false}
 use Rattle.std.proofs.Common.{inl, inr, length, option_and_then, option_map, refl, slice_get, subst}
-use Rattle.std.proofs.Common.{sym, true, unwrap_or, ℕ, ◌++◌, ◌<◌, ◌↔◌, ◌∙◌, ◌∷◌, ◌≡◌, ◌⊎◌}
+use Rattle.std.proofs.Common.{sym, unwrap_or, ℕ, ◌++◌, ◌<◌, ◌∙◌, ◌∷◌, ◌≡◌, ◌⊎◌}
 use Rattle.std.specs.FinMap as finite
 use Rattle.std.specs.Prelude.{⊤}
 use Rattle.serde_json.specs.Data.{Data, Members}
@@ -14,26 +14,27 @@ use Rattle.am_json.specs.Places.{OnlyPlace, field_pairs}
 use Rattle.am_json.specs.Places.{if_there, items_or_null_fault, known_member, limit_fault}
 use Rattle.am_json.specs.Places.{only_path, pair_name, rank_of, shape_or, step_pointer}
 use Rattle.am_json.specs.Pointer.{Refusal, refusal_here, to_field}
-use Rattle.am_json.specs.Reading.{IsPatternRefusal, MayRefuse, Reading, accept, accept_some}
+use Rattle.am_json.specs.Reading.{MayRefuse, Reading, accept, accept_some}
 use Rattle.am_json.specs.Reading.{check_count, read_each, read_items, reading_within, refuse_for}
 use Rattle.am_json.specs.Reading.{required_field, ◌>>=◌}
-use Rattle.am_records.specs.AlertsFaults.{AlertField, AlertPlace, AlertsPlace, IsFirstFaultOfAlerts}
+use Rattle.am_records.specs.AlertsFaults.{AlertField, AlertPlace, AlertsPlace}
 use Rattle.am_records.specs.AlertsFaults.{IsFirstFaultOfAlertsFile, LabelsPlace, alert_fault_at}
 use Rattle.am_records.specs.AlertsFaults.{alert_field_fault, alert_field_path, alert_labels}
 use Rattle.am_records.specs.AlertsFaults.{alert_path, alerts_fault_at, alerts_path, label_fault}
 use Rattle.am_records.specs.AlertsFaults.{labels_itself, labels_path, one_label}
-use Rattle.am_records.specs.AlertsFile.{SaysAlerts}
+use Rattle.am_records.specs.AlertsFile.{FileSaysAlerts, SaysAlerts}
 use Rattle.am_records.specs.AlertsReading.{read_alert, read_alert_array, read_alert_labels}
 use Rattle.am_records.specs.AlertsReading.{read_alerts, read_alerts_file, read_next_alert}
 use Rattle.am_records.specs.AlertsReading.{read_next_alert_label}
 use Rattle.am_records.specs.NamedText.{read_named_text}
 use Rattle.am_records.specs.declared.limits.TheConstants.{MAX_ALERTS, MAX_ALERT_LABELS}
 use Rattle.am_records.proofs.AlertsSays.{alerts_decide}
-use Rattle.am_json.proofs.FileLemmas.{bytes_decide, first_refused}
+use Rattle.am_json.proofs.FormLaws.{FormLaws, first_refused, form_laws}
+use Rattle.am_json.specs.ReadingLaw.{IsReadExactly}
 use Rattle.am_json.proofs.ObjectLemmas.{items_tell, no_open_pattern, object_tells}
 use Rattle.am_json.proofs.ObjectLemmas.{open_judged, open_pattern}
 use Rattle.am_json.proofs.PlaceLemmas.{Clear, Form, IsPart, Judges, RanksTell, accept_judges}
-use Rattle.am_json.proofs.PlaceLemmas.{first_decides, itself_refused, judges_plain, none_decides}
+use Rattle.am_json.proofs.PlaceLemmas.{itself_refused, judges_plain}
 use Rattle.am_json.proofs.PlaceLemmas.{one_accepted, one_place, one_refused, part_judges}
 use Rattle.am_json.proofs.PlaceLemmas.{said_of, same_judged, within_judged}
 use Rattle.am_json.proofs.PlaceOrder.{lead}
@@ -294,36 +295,15 @@ alerts_tell d =
 
 -- ---- The laws.
 
-pub alerts_first : (d : Data) (r : Refusal)
-    → ((read_alerts d).result ≡ Err r) ↔ IsFirstFaultOfAlerts d r
-alerts_first d r = let judged = alerts_judged d in
-    first_decides (alerts_form d) (alerts_tell d) (read_alerts d).result judged.tells r
+pub alerts_laws : FormLaws SaysAlerts read_alerts alerts_form
+alerts_laws = form_laws SaysAlerts read_alerts alerts_form alerts_decide alerts_judged alerts_tell
 
--- no pattern is met in alerts
-alerts_meet_none : (d : Data) (r : Refusal) → IsPatternRefusal (read_alerts d).patterns r → ⊥
-alerts_meet_none d r h =
-    let judged = alerts_judged d in
-    let met = judged.meets r h in
-    let no : true ≡ false = sym met.stands.0 in
-    cc
-
-pub alerts_file_first : (bytes : List ℕ) (r : Refusal)
-    → ((read_alerts_file bytes).result ≡ Err r) ↔ IsFirstFaultOfAlertsFile bytes r
+pub alerts_file_read : IsReadExactly FileSaysAlerts read_alerts_file IsFirstFaultOfAlertsFile
 unfolding read_alerts_file
-alerts_file_first bytes r =
-    bytes_decide IsFirstFaultOfAlerts (λ _ _. ⊥) read_alerts alerts_first alerts_meet_none bytes r
+alerts_file_read = alerts_laws.file
 
--- so what is refused of a file is its first fault
+-- no pattern is met in alerts, so what is refused of a file is its first fault
 pub alerts_file_refused : (bytes : List ℕ) (r : Refusal) → MayRefuse (read_alerts_file bytes) r
     → IsFirstFaultOfAlertsFile bytes r
 unfolding read_alerts_file
-alerts_file_refused bytes r refused =
-    first_refused IsFirstFaultOfAlerts read_alerts alerts_first alerts_meet_none bytes r refused
-
--- a value says alerts where no place is at fault, and only there
-pub alerts_sound : (d : Data)
-    → ((alerts : List LabelMap) × SaysAlerts d alerts)
-    ↔ ((place : AlertsPlace) → alerts_fault_at d place ≡ None)
-alerts_sound d =
-    let judged = alerts_judged d in
-    none_decides (alerts_form d) (read_alerts d).result judged.tells (alerts_decide d)
+alerts_file_refused = first_refused alerts_laws (λ _ _. refl)

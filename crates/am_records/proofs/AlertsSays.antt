@@ -7,15 +7,15 @@ use Rattle.serde_json.specs.Data.{Data, object}
 use Rattle.am_universe.specs.LabelSet.{LabelMap, with_value}
 use Rattle.am_json.specs.Json.{member_list}
 use Rattle.am_json.specs.Pointer.{to_field}
-use Rattle.am_json.specs.Reading.{as_object, check_count, read_each, read_items, reading_within}
-use Rattle.am_records.specs.AlertsFile.{AreAlerts, FileSaysAlerts, SaysAlert, SaysAlerts}
+use Rattle.am_json.specs.Reading.{as_object, check_count, read_each, reading_within}
+use Rattle.am_records.specs.AlertsFile.{AreAlerts, SaysAlert, SaysAlerts}
 use Rattle.am_records.specs.AlertsReading.{read_alert, read_alert_array, read_alert_labels}
-use Rattle.am_records.specs.AlertsReading.{read_alerts, read_alerts_file, read_next_alert}
+use Rattle.am_records.specs.AlertsReading.{read_alerts}
 use Rattle.am_records.specs.AlertsReading.{read_next_alert_label}
 use Rattle.am_records.specs.NamedText.{SaysNamedText, read_named_text}
 use Rattle.am_records.specs.declared.limits.TheConstants.{MAX_ALERTS, MAX_ALERT_LABELS}
-use Rattle.am_json.proofs.Fields.{as_object_says, field_says, file_decided, object_of}
-use Rattle.am_json.proofs.Items.{each_says, or_null_decides}
+use Rattle.am_json.proofs.Fields.{as_object_says, field_says, object_of}
+use Rattle.am_json.proofs.Items.{or_null_decides}
 use Rattle.am_json.proofs.Readings.{Decides, bind_ok, check_count_fits, check_count_ok, same_read}
 use Rattle.am_json.proofs.Readings.{within_ok}
 use Rattle.am_records.proofs.NamedTextLemmas.{named_text_reads, named_text_says}
@@ -103,19 +103,9 @@ alert_reads d s said =
 alert_decides : (d : Data) → Decides (SaysAlert d) ((read_alert d).result)
 alert_decides d = record { says = alert_says d; reads = alert_reads d }
 
--- each item that was read says an alert
-pub items_say_alerts : (items : List Data) (alerts : List LabelMap)
-    → (read_items read_next_alert [] items).result ≡ Ok alerts → AllZip SaysAlert items alerts
-items_say_alerts items alerts h = each_says SaysAlert read_alert alert_decides items alerts h
-
 pub alerts_decide : (d : Data) → Decides (SaysAlerts d) ((read_alerts d).result)
 unfolding read_alert_array
 alerts_decide d =
     or_null_decides SaysAlert read_alert alert_decides MAX_ALERTS AreAlerts
     (λ _ _ are. record { items = are.0; is_array = are.1; few = are.2; each = are.3 })
     (λ _ _ said. (said.items, said.is_array, said.few, said.each)) d
-
-pub alerts_file_decides : (bytes : List ℕ)
-    → Decides (FileSaysAlerts bytes) ((read_alerts_file bytes).result)
-unfolding read_alerts_file
-alerts_file_decides bytes = file_decided SaysAlerts read_alerts alerts_decide bytes

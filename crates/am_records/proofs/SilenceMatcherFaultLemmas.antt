@@ -1,6 +1,6 @@
 -- The first fault of a matcher of a silence, by its places.
 use Rattle.std.proofs.Common.{Bool, List, None, Ok, Option, Some, [], arith, codes, false, refl}
-use Rattle.std.proofs.Common.{subst, suc, true, unwrap_or, zero, ℕ, ◌<◌, ◌∙◌, ◌∷◌, ◌≡◌}
+use Rattle.std.proofs.Common.{ap, subst, suc, sym, true, unwrap_or, zero, ℕ, ◌<◌, ◌∙◌, ◌≡◌}
 use Rattle.serde_json.specs.Data.{Data}
 use Rattle.serde_json.specs.Find as find
 use Rattle.am_universe.specs.declared.kind.Kind.TheVariants as kinds
@@ -45,6 +45,27 @@ truth_gives default (Some d) truth ok = by (find.as_bool d) ok where
 
 -- ---- A matcher.
 
+-- a field is told by the number that its rank begins with
+abbrev field_led : ℕ → SilenceMatcherField
+field_led (suc (suc zero)) = matcher_name
+field_led (suc (suc (suc zero))) = matcher_value
+field_led (suc (suc (suc (suc zero)))) = matcher_is_regex
+field_led (suc (suc (suc (suc (suc zero))))) = matcher_is_equal
+field_led _ = matcher_pattern
+
+led : (place : SilenceMatcherField)
+    → field_led (lead (rank_of (silence_matcher_field_path place))) ≡ place
+led matcher_name = refl
+led matcher_value = refl
+led matcher_is_regex = refl
+led matcher_is_equal = refl
+led matcher_pattern = refl
+
+covered : (number : ℕ) (place : SilenceMatcherField)
+    → lead (rank_of (silence_matcher_field_path place)) ≡ number
+    → OnlyPlace × (place ≡ field_led number)
+covered number place e = (tt, sym (led place) ∙ ap field_led e)
+
 module _ (d : Data) where
   abbrev matcher_fields : Form SilenceMatcherField
   matcher_fields = record {
@@ -53,53 +74,25 @@ module _ (d : Data) where
     has_pattern = λ place. is_profile_pattern (pattern_in_matcher d (in_field place));
   }
 
-  abbrev field_lead : SilenceMatcherField → ℕ
-  field_lead place = lead (rank_of (silence_matcher_field_path place))
-
-  name_covers : (place : SilenceMatcherField) → field_lead place ≡ 2
-      → OnlyPlace × (place ≡ matcher_name)
-  name_covers matcher_name e = (tt, refl)
-  name_covers place e = absurd (omega (arith, e))
-
-  value_covers : (place : SilenceMatcherField) → field_lead place ≡ 3
-      → OnlyPlace × (place ≡ matcher_value)
-  value_covers matcher_value e = (tt, refl)
-  value_covers place e = absurd (omega (arith, e))
-
-  regex_covers : (place : SilenceMatcherField) → field_lead place ≡ 4
-      → OnlyPlace × (place ≡ matcher_is_regex)
-  regex_covers matcher_is_regex e = (tt, refl)
-  regex_covers place e = absurd (omega (arith, e))
-
-  equal_covers : (place : SilenceMatcherField) → field_lead place ≡ 5
-      → OnlyPlace × (place ≡ matcher_is_equal)
-  equal_covers matcher_is_equal e = (tt, refl)
-  equal_covers place e = absurd (omega (arith, e))
-
-  pattern_covers : (place : SilenceMatcherField) → field_lead place ≡ 6
-      → OnlyPlace × (place ≡ matcher_pattern)
-  pattern_covers matcher_pattern e = (tt, refl)
-  pattern_covers place e = absurd (omega (arith, e))
-
   name_part : IsPart matcher_fields 1 (known_member 1 (codes "name"))
       (one_place (shape_or label_name_fault (text_of (field (codes "name") d)))) (λ _. matcher_name)
-  name_part = record { rank = refl; seen = λ _. refl; covers = name_covers }
+  name_part = record { rank = refl; seen = λ _. refl; covers = covered 2 }
 
   value_part : IsPart matcher_fields 2 (known_member 2 (codes "value"))
       (one_place (shape_or (λ _. None) (text_of (field (codes "value") d)))) (λ _. matcher_value)
-  value_part = record { rank = refl; seen = λ _. refl; covers = value_covers }
+  value_part = record { rank = refl; seen = λ _. refl; covers = covered 3 }
 
   regex_part : IsPart matcher_fields 3 (known_member 3 (codes "isRegex"))
       (one_place (boolean_fault (field (codes "isRegex") d))) (λ _. matcher_is_regex)
-  regex_part = record { rank = refl; seen = λ _. refl; covers = regex_covers }
+  regex_part = record { rank = refl; seen = λ _. refl; covers = covered 4 }
 
   equal_part : IsPart matcher_fields 4 (known_member 4 (codes "isEqual"))
       (one_place (boolean_fault (field (codes "isEqual") d))) (λ _. matcher_is_equal)
-  equal_part = record { rank = refl; seen = λ _. refl; covers = equal_covers }
+  equal_part = record { rank = refl; seen = λ _. refl; covers = covered 5 }
 
   pattern_part : IsPart matcher_fields 5 (known_member 5 (codes "value"))
       (matcher_form (silence_matcher d)) (λ _. matcher_pattern)
-  pattern_part = record { rank = refl; seen = λ _. refl; covers = pattern_covers }
+  pattern_part = record { rank = refl; seen = λ _. refl; covers = covered 6 }
 
   none_yet : Clear matcher_fields 2
   none_yet matcher_name lt = absurd (omega (arith, lt))
@@ -232,22 +225,8 @@ module _ (d : Data) where
 
 -- ---- Ranks tell places.
 
-abbrev matcher_field_at : List ℕ → SilenceMatcherField
-matcher_field_at (suc zero ∷ rank) = matcher_name
-matcher_field_at (suc (suc zero) ∷ rank) = matcher_value
-matcher_field_at (suc (suc (suc zero)) ∷ rank) = matcher_is_regex
-matcher_field_at (suc (suc (suc (suc zero))) ∷ rank) = matcher_is_equal
-matcher_field_at _ = matcher_pattern
-
 field_tells : RanksTell silence_matcher_field_path
-field_tells = (matcher_field_at, is) where
-  is : (place : SilenceMatcherField)
-      → matcher_field_at (rank_of (silence_matcher_field_path place)) ≡ place
-  is matcher_name = refl
-  is matcher_value = refl
-  is matcher_is_regex = refl
-  is matcher_is_equal = refl
-  is matcher_pattern = refl
+field_tells = (λ rank. field_led (lead rank), led)
 
 in_matcher : (place : SilenceMatcherField) → 1 < lead (rank_of (silence_matcher_field_path place))
 in_matcher matcher_name = omega arith

@@ -1,7 +1,7 @@
 -- The fault that reading silences meets first is the first by its places.
-use Rattle.std.proofs.Common.{Err, List, None, Ok, Option, [], arith, codes, length}
+use Rattle.std.proofs.Common.{List, None, Ok, Option, [], arith, codes, length}
 use Rattle.std.proofs.Common.{option_and_then, refl, slice_get, suc, unwrap_or, zero, ℕ}
-use Rattle.std.proofs.Common.{ℤ, ◌<◌, ◌↔◌, ◌∷◌, ◌≡◌, ◌⊎◌}
+use Rattle.std.proofs.Common.{ℤ, ◌<◌, ◌∷◌, ◌≡◌}
 use Rattle.std.specs.Prelude.{⊤}
 use Rattle.serde_json.specs.Data.{Data}
 use Rattle.serde_json.specs.Find as find
@@ -15,10 +15,10 @@ use Rattle.am_json.specs.Places.{array_path, in_field, in_item, items_in_field, 
 use Rattle.am_json.specs.Places.{object_itself, other_field, rank_of, shape_or}
 use Rattle.am_json.specs.Places.{text_of}
 use Rattle.am_json.specs.Pointer.{Refusal, refusal_here, to_field}
-use Rattle.am_json.specs.Reading.{IsPatternRefusal, MayRefuse, Reading, accept, accept_some}
+use Rattle.am_json.specs.Reading.{MayRefuse, Reading, accept, accept_some}
 use Rattle.am_json.specs.Reading.{read_items, reading_within, required_items, ◌>>=◌}
-use Rattle.am_records.specs.SilencesFaults.{IsFirstFaultOfSilences, IsFirstFaultOfSilencesFile}
-use Rattle.am_records.specs.SilencesFaults.{IsMetPatternOfSilences, SilenceField}
+use Rattle.am_records.specs.SilencesFaults.{IsFirstFaultOfSilencesFile}
+use Rattle.am_records.specs.SilencesFaults.{SilenceField}
 use Rattle.am_records.specs.SilencesFaults.{SilenceMatcherPlace, SilencePlace}
 use Rattle.am_records.specs.SilencesFaults.{SilencesFileRefusedFor, SilencesPlace}
 use Rattle.am_records.specs.SilencesFaults.{has_silence_pattern, pattern_in_matcher}
@@ -28,7 +28,7 @@ use Rattle.am_records.specs.SilencesFaults.{silence_field_path, silence_matcher_
 use Rattle.am_records.specs.SilencesFaults.{silence_matcher_path, silence_matchers, silence_path}
 use Rattle.am_records.specs.SilencesFaults.{silence_starts, silences_fault_at}
 use Rattle.am_records.specs.SilencesFaults.{silences_itself_fault, silences_path, time_fault}
-use Rattle.am_records.specs.SilencesFile.{SaysSilences, Silence}
+use Rattle.am_records.specs.SilencesFile.{FileSaysSilences, SaysSilences, Silence}
 use Rattle.am_records.specs.SilencesReading.{read_instant, read_next_silence}
 use Rattle.am_records.specs.SilencesReading.{read_next_silence_matcher, read_silence}
 use Rattle.am_records.specs.SilencesReading.{read_silence_array, read_silence_matchers}
@@ -36,20 +36,21 @@ use Rattle.am_records.specs.SilencesReading.{read_silences, read_silences_file, 
 use Rattle.am_records.specs.declared.limits.TheConstants.{MAX_SILENCES}
 use Rattle.am_records.specs.MatcherFaults.{is_profile_pattern}
 use Rattle.am_json.proofs.FieldLemmas.{items_form, items_sequence, pattern_items_seen}
-use Rattle.am_json.proofs.FileLemmas.{bytes_decide, bytes_refused}
+use Rattle.am_json.proofs.FormLaws.{FormLaws, form_laws}
+use Rattle.am_json.specs.ReadingLaw.{IsReadExactly}
 use Rattle.am_json.proofs.ObjectLemmas.{array_tells, object_tells, open_form, open_judged}
-use Rattle.am_json.proofs.PlaceLemmas.{Clear, Form, IsPart, Judges, RanksTell, first_decides}
-use Rattle.am_json.proofs.PlaceLemmas.{judges_plain, none_decides, one_place, part_judges}
-use Rattle.am_json.proofs.PlaceLemmas.{refused_reached, said_of, same_judged, shape_judged}
+use Rattle.am_json.proofs.PlaceLemmas.{Clear, Form, IsPart, Judges, RanksTell}
+use Rattle.am_json.proofs.PlaceLemmas.{judges_plain, one_place, part_judges}
+use Rattle.am_json.proofs.PlaceLemmas.{said_of, same_judged, shape_judged}
 use Rattle.am_json.proofs.PlaceLemmas.{some_judged}
 use Rattle.am_json.proofs.PlaceOrder.{lead}
-use Rattle.am_json.proofs.Readings.{Decides}
 use Rattle.am_json.proofs.SameReadings.{items_within_then, text_read_within}
 use Rattle.am_json.proofs.SequenceLemmas.{Sequence, array_form, items_judged, or_null_judged}
 use Rattle.am_json.proofs.SequenceLemmas.{required_array}
 use Rattle.am_records.proofs.PatternFaultLemmas.{item_pattern, pattern_at}
 use Rattle.am_records.proofs.SilenceMatcherFaultLemmas.{silence_matcher_judged}
 use Rattle.am_records.proofs.SilenceMatcherFaultLemmas.{silence_matcher_tells}
+use Rattle.am_records.proofs.SilencesSays.{silences_decide}
 
 -- ---- The matchers of a silence.
 
@@ -298,38 +299,16 @@ silences_tell = array_tells silence_path (object_tells silence_field_path in_sil
 
 -- ---- The laws.
 
-pub silences_first : (d : Data) (r : Refusal)
-    → ((read_silences d).result ≡ Err r) ↔ IsFirstFaultOfSilences d r
-silences_first d r = let judged = silences_judged d in
-    first_decides (silences_form d) silences_tell (read_silences d).result judged.tells r
+pub silences_laws : FormLaws SaysSilences read_silences silences_form
+silences_laws =
+    form_laws SaysSilences read_silences silences_form silences_decide silences_judged
+    (λ _. silences_tell)
 
-pub silences_met : (d : Data) (r : Refusal) → IsPatternRefusal (read_silences d).patterns r
-    → IsMetPatternOfSilences d r
-silences_met d r h = let judged = silences_judged d in judged.meets r h
-
-pub silences_refused : (d : Data) (r : Refusal) → MayRefuse (read_silences d) r
-    → IsFirstFaultOfSilences d r ⊎ IsMetPatternOfSilences d r
-silences_refused d r refused =
-    refused_reached (silences_form d) (read_silences d) (silences_judged d) r refused
-
--- a value says silences where no place is at fault, and only there
-pub silences_sound : (d : Data) → Decides (SaysSilences d) (read_silences d).result
-    → ((silences : List Silence) × SaysSilences d silences)
-    ↔ ((place : SilencesPlace) → silences_fault_at d place ≡ None)
-silences_sound d decides =
-    let judged = silences_judged d in
-    none_decides (silences_form d) (read_silences d).result judged.tells decides
-
-pub silences_file_first : (bytes : List ℕ) (r : Refusal)
-    → ((read_silences_file bytes).result ≡ Err r) ↔ IsFirstFaultOfSilencesFile bytes r
+pub silences_file_read : IsReadExactly FileSaysSilences read_silences_file IsFirstFaultOfSilencesFile
 unfolding read_silences_file
-silences_file_first bytes r =
-    bytes_decide IsFirstFaultOfSilences IsMetPatternOfSilences read_silences silences_first
-    silences_met bytes r
+silences_file_read = silences_laws.file
 
 pub silences_file_refused : (bytes : List ℕ) (r : Refusal) → MayRefuse (read_silences_file bytes) r
     → SilencesFileRefusedFor bytes r
 unfolding read_silences_file
-silences_file_refused bytes r refused =
-    bytes_refused IsFirstFaultOfSilences IsMetPatternOfSilences read_silences silences_first
-    silences_met bytes r refused
+silences_file_refused = silences_laws.file_refused

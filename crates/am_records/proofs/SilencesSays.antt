@@ -17,20 +17,19 @@ use Rattle.am_json.specs.Reading.{required_text, required_items, read_boolean_or
 use Rattle.am_records.specs.Instant.{instant_of}
 use Rattle.am_records.specs.SilencesFile.{Silence, flagged_op, SaysSilenceMatcher}
 use Rattle.am_records.specs.SilencesFile.{SaysInstant, SaysSilence, AreSilences, SaysSilences}
-use Rattle.am_records.specs.SilencesFile.{FileSaysSilences}
 use Rattle.am_records.specs.SilencesFaults.{matcher_count_fault}
 use Rattle.am_records.specs.SilencesReading.{read_label_name}
 use Rattle.am_records.specs.SilencesReading.{read_silence_matcher, read_next_silence_matcher}
 use Rattle.am_records.specs.SilencesReading.{read_silence_matchers, read_instant, required_instant}
-use Rattle.am_records.specs.SilencesReading.{read_silence, read_next_silence, read_silence_array}
-use Rattle.am_records.specs.SilencesReading.{read_silences, read_silences_file}
+use Rattle.am_records.specs.SilencesReading.{read_silence, read_silence_array}
+use Rattle.am_records.specs.SilencesReading.{read_silences}
 use Rattle.am_records.specs.MatcherFaults.{check_matcher, label_name_fault}
 use Rattle.am_json.proofs.Readings.{bind_ok, within_ok, refuse_for_ok, check_count_ok}
 use Rattle.am_json.proofs.Readings.{ok_or_some, same_read, Decides}
 use Rattle.am_json.proofs.Items.{each_says, each_reads, or_null_decides}
 use Rattle.am_json.proofs.Fields.{required_text_says, required_text_reads, required_items_say}
 use Rattle.am_json.proofs.Fields.{required_items_read, boolean_or_says, boolean_or_reads}
-use Rattle.am_json.proofs.Fields.{file_decided, object_of}
+use Rattle.am_json.proofs.Fields.{object_of}
 use Rattle.am_records.proofs.Matching.{named_passes, name_is_some}
 use Rattle.am_records.proofs.Matching.{checked_says, checked_reads, same_condition}
 
@@ -175,7 +174,7 @@ instant_reads : (key : List ℕ) (d : Data) (t : ℤ) → SaysInstant key d t
 unfolding required_instant
 instant_reads key d t said = rw (required_text_reads key d said.0 said.1, said.2) refl
 
-pub silence_says : (d : Data) (s : Silence) → (read_silence d).result ≡ Ok s → SaysSilence d s
+silence_says : (d : Data) (s : Silence) → (read_silence d).result ≡ Ok s → SaysSilence d s
 unfolding read_silence
 silence_says d s h =
     let members = bind_ok ((as_object d).result) _ s h in
@@ -217,21 +216,9 @@ silence_reads d s said =
 silence_decides : (d : Data) → Decides (SaysSilence d) ((read_silence d).result)
 silence_decides d = record { says = silence_says d; reads = silence_reads d }
 
--- each item that was read says a silence
-pub items_say_silences : (items : List Data) (silences : List Silence)
-    → (read_items read_next_silence [] items).result ≡ Ok silences
-    → AllZip SaysSilence items silences
-items_say_silences items silences h =
-    each_says SaysSilence read_silence silence_decides items silences h
-
 pub silences_decide : (d : Data) → Decides (SaysSilences d) ((read_silences d).result)
 unfolding read_silence_array
 silences_decide d =
     or_null_decides SaysSilence read_silence silence_decides MAX_SILENCES AreSilences
     (λ _ _ are. record { items = are.0; is_array = are.1; few = are.2; each = are.3 })
     (λ _ _ said. (said.items, said.is_array, said.few, said.each)) d
-
-pub silences_file_decides : (bytes : List ℕ)
-    → Decides (FileSaysSilences bytes) ((read_silences_file bytes).result)
-unfolding read_silences_file
-silences_file_decides bytes = file_decided SaysSilences read_silences silences_decide bytes

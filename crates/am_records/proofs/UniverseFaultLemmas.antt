@@ -1,7 +1,7 @@
 -- The fault that reading a universe file meets first is the first by its places.
-use Rattle.std.proofs.Common.{Bool, Err, List, None, Ok, Option, Some, [], ap, arith, codes, false}
+use Rattle.std.proofs.Common.{Bool, List, None, Ok, Option, Some, [], ap, arith, codes, false}
 use Rattle.std.proofs.Common.{length, map, option_and_then, refl, slice_get, subst, suc, sym}
-use Rattle.std.proofs.Common.{unwrap_or, zero, ℕ, ◌++◌, ◌<◌, ◌||◌, ◌↔◌, ◌∙◌, ◌∷◌, ◌≡◌, ◌⊎◌}
+use Rattle.std.proofs.Common.{unwrap_or, zero, ℕ, ◌++◌, ◌<◌, ◌||◌, ◌∙◌, ◌∷◌, ◌≡◌}
 use Rattle.std.proofs.lemmas.List.{map_push}
 use Rattle.std.specs.List.{list_any}
 use Rattle.std.specs.Prelude.{if◌then◌else◌, not, ⊤}
@@ -23,12 +23,12 @@ use Rattle.am_json.specs.Places.{ArrayPlace, OnlyPlace, array_itself, array_path
 use Rattle.am_json.specs.Places.{items_in_field, known_member, limit_fault, object_itself, only_path}
 use Rattle.am_json.specs.Places.{other_field, rank_of, shape_or, text_of}
 use Rattle.am_json.specs.Pointer.{Refusal, refusal_here, to_field}
-use Rattle.am_json.specs.Reading.{IsPatternRefusal, MayRefuse, Reading, accept, accept_some}
+use Rattle.am_json.specs.Reading.{MayRefuse, Reading, accept, accept_some}
 use Rattle.am_json.specs.Reading.{read_items, reading_within, refuse_for, required_items}
 use Rattle.am_json.specs.Reading.{required_text, ◌>>=◌}
 use Rattle.am_records.specs.MatcherFaults.{is_profile_pattern}
-use Rattle.am_records.specs.UniverseFaults.{IsFirstFaultOfUniverse, IsFirstFaultOfUniverseFile}
-use Rattle.am_records.specs.UniverseFaults.{IsMetPatternOfUniverse, UniverseFileRefusedFor}
+use Rattle.am_records.specs.UniverseFaults.{IsFirstFaultOfUniverseFile}
+use Rattle.am_records.specs.UniverseFaults.{UniverseFileRefusedFor}
 use Rattle.am_records.specs.UniverseFaults.{LabelField, LabelPlace, ListPlace, UniverseField}
 use Rattle.am_records.specs.UniverseFaults.{UniversePlace, file_impossible, file_labels}
 use Rattle.am_records.specs.UniverseFaults.{has_universe_pattern, label_fault_at, label_field_fault}
@@ -37,18 +37,19 @@ use Rattle.am_records.specs.UniverseFaults.{list_fault_at, list_path, named_labe
 use Rattle.am_records.specs.UniverseFaults.{pattern_in_universe, universe_fault_at}
 use Rattle.am_records.specs.UniverseFaults.{universe_field_fault, universe_field_path}
 use Rattle.am_records.specs.UniverseFaults.{universe_path, value_fault_at}
-use Rattle.am_records.specs.UniverseFile.{SaysUniverse, SaysValue, file_fields, label_fields}
+use Rattle.am_records.specs.UniverseFile.{FileSaysUniverse, SaysUniverse, SaysValue, file_fields, label_fields}
 use Rattle.am_records.specs.UniverseFile.{read_all_labels, read_all_lists, read_labels, read_lists}
 use Rattle.am_records.specs.UniverseFile.{read_next_impossible, read_next_label, read_next_value}
 use Rattle.am_records.specs.UniverseFile.{read_universe, read_universe_file, read_values}
 use Rattle.am_json.proofs.FieldLemmas.{items_form, items_seen, items_sequence, text_field_judges}
-use Rattle.am_json.proofs.FileLemmas.{bytes_decide, bytes_refused}
+use Rattle.am_json.proofs.FormLaws.{FormLaws, form_laws}
+use Rattle.am_json.specs.ReadingLaw.{IsReadExactly}
 use Rattle.am_json.proofs.ObjectLemmas.{array_tells, closed_form, closed_judged, no_open_pattern}
 use Rattle.am_json.proofs.ObjectLemmas.{object_tells, only_tells, open_pattern}
 use Rattle.am_json.proofs.OptionalArrays.{optional_array, optional_within}
 use Rattle.am_json.proofs.PlaceLemmas.{Clear, Form, IsPart, Judges, RanksTell, cause_judges}
-use Rattle.am_json.proofs.PlaceLemmas.{first_decides, judges_plain, none_decides, one_place}
-use Rattle.am_json.proofs.PlaceLemmas.{one_refused, part_judges, refused_reached, said, said_of}
+use Rattle.am_json.proofs.PlaceLemmas.{judges_plain, one_place}
+use Rattle.am_json.proofs.PlaceLemmas.{one_refused, part_judges, said, said_of}
 use Rattle.am_json.proofs.PlaceLemmas.{same_judged}
 use Rattle.am_json.proofs.PlaceOrder.{lead}
 use Rattle.am_json.proofs.SameReadings.{items_within, items_within_then}
@@ -443,39 +444,16 @@ universe_tells = (universe_place_at, is) where
 
 -- ---- The laws.
 
-pub universe_first : (d : Data) (r : Refusal)
-    → ((read_universe d).result ≡ Err r) ↔ IsFirstFaultOfUniverse d r
-universe_first d r = let judged = universe_judged d in
-    first_decides (universe_form d) (object_tells universe_field_path in_file universe_tells)
-    (read_universe d).result judged.tells r
+pub universe_laws : FormLaws SaysUniverse read_universe universe_form
+universe_laws =
+    form_laws SaysUniverse read_universe universe_form universe_decides universe_judged
+    (λ _. object_tells universe_field_path in_file universe_tells)
 
-universe_met : (d : Data) (r : Refusal) → IsPatternRefusal (read_universe d).patterns r
-    → IsMetPatternOfUniverse d r
-universe_met d r h = let judged = universe_judged d in judged.meets r h
-
-pub universe_refused : (d : Data) (r : Refusal) → MayRefuse (read_universe d) r
-    → IsFirstFaultOfUniverse d r ⊎ IsMetPatternOfUniverse d r
-universe_refused d r refused =
-    refused_reached (universe_form d) (read_universe d) (universe_judged d) r refused
-
-pub universe_file_first : (bytes : List ℕ) (r : Refusal)
-    → ((read_universe_file bytes).result ≡ Err r) ↔ IsFirstFaultOfUniverseFile bytes r
+pub universe_file_read : IsReadExactly FileSaysUniverse read_universe_file IsFirstFaultOfUniverseFile
 unfolding read_universe_file
-universe_file_first bytes r =
-    bytes_decide IsFirstFaultOfUniverse IsMetPatternOfUniverse read_universe universe_first
-    universe_met bytes r
+universe_file_read = universe_laws.file
 
 pub universe_file_refused : (bytes : List ℕ) (r : Refusal) → MayRefuse (read_universe_file bytes) r
     → UniverseFileRefusedFor bytes r
 unfolding read_universe_file
-universe_file_refused bytes r refused =
-    bytes_refused IsFirstFaultOfUniverse IsMetPatternOfUniverse read_universe universe_first
-    universe_met bytes r refused
-
--- a value says a space where no place is at fault, and only there
-pub universe_sound : (d : Data)
-    → ((s : Space) × SaysUniverse d s)
-    ↔ ((place : UniversePlace) → universe_fault_at d place ≡ None)
-universe_sound d =
-    let judged = universe_judged d in
-    none_decides (universe_form d) (read_universe d).result judged.tells (universe_decides d)
+universe_file_refused = universe_laws.file_refused

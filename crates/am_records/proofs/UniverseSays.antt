@@ -34,18 +34,17 @@ use Rattle.am_json.specs.Reading.{read_items, as_text, check_only_fields, requir
 use Rattle.am_json.specs.Reading.{required_items}
 use Rattle.am_records.specs.MatcherTexts.{read_matcher_text}
 use Rattle.am_records.specs.UniverseFile.{file_fields, label_fields, SaysValue, SaysLabel}
-use Rattle.am_records.specs.UniverseFile.{SaysImpossible, SaysUniverse, FileSaysUniverse}
+use Rattle.am_records.specs.UniverseFile.{SaysImpossible, SaysUniverse}
 use Rattle.am_records.specs.UniverseFile.{read_value, read_next_value, read_values}
 use Rattle.am_records.specs.UniverseFile.{read_next_label, read_labels, read_all_labels}
 use Rattle.am_records.specs.UniverseFile.{read_impossible, read_lists, read_all_lists}
-use Rattle.am_records.specs.UniverseFile.{read_universe, read_universe_file}
+use Rattle.am_records.specs.UniverseFile.{read_universe}
 use Rattle.am_json.proofs.Readings.{bind_ok, within_ok, fails_first, refuse_for_ok, check_count_ok}
 use Rattle.am_json.proofs.Readings.{check_count_fits, same_read, Decides}
 use Rattle.am_json.proofs.Items.{AllFit, items_say, items_read}
 use Rattle.am_json.proofs.Fields.{as_text_says, as_text_reads, only_fields_say, only_fields_read}
 use Rattle.am_json.proofs.Fields.{required_text_says, required_text_reads}
 use Rattle.am_json.proofs.Fields.{required_items_say, required_items_read}
-use Rattle.am_json.proofs.Fields.{file_decided}
 use Rattle.am_json.proofs.OptionalArrays.{SaysEach, array_decides}
 use Rattle.am_records.proofs.MatcherTexts.{text_gives, text_says}
 
@@ -344,7 +343,7 @@ lists_decide d =
 
 -- ---- The file.
 
-pub universe_says : (d : Data) (s : Space) → (read_universe d).result ≡ Ok s → SaysUniverse d s
+universe_says : (d : Data) (s : Space) → (read_universe d).result ≡ Ok s → SaysUniverse d s
 unfolding read_universe
 universe_says d s h =
     let only = bind_ok ((check_only_fields file_fields d).result) _ s h in
@@ -364,7 +363,7 @@ universe_says d s h =
       impossible = listed.each;
     })
 
-pub universe_reads : (d : Data) (s : Space) → SaysUniverse d s → (read_universe d).result ≡ Ok s
+universe_reads : (d : Data) (s : Space) → SaysUniverse d s → (read_universe d).result ≡ Ok s
 unfolding read_universe
 universe_reads d s said =
     let labels : SaysLabels d s.labels = record {
@@ -387,11 +386,6 @@ universe_reads d s said =
 
 pub universe_decides : (d : Data) → Decides (SaysUniverse d) ((read_universe d).result)
 universe_decides d = record { says = universe_says d; reads = universe_reads d }
-
-pub file_decides : (bytes : List ℕ)
-    → Decides (FileSaysUniverse bytes) ((read_universe_file bytes).result)
-unfolding read_universe_file
-file_decides bytes = file_decided SaysUniverse read_universe universe_decides bytes
 
 -- ---- What a reader gives.
 

@@ -5,8 +5,7 @@ use Rattle.std.specs.FinMap as finite
 use Rattle.std.specs.List.{AllZip}
 use Rattle.serde_json.specs.Data.{Data, null, object, Members}
 use Rattle.am_universe.specs.LabelSet.{LabelMap, with_value}
-use Rattle.am_json.specs.declared.limits.TheConstants.{MAX_FILE_BYTES}
-use Rattle.am_json.specs.Json.{json_of, field, items_of, member_list}
+use Rattle.am_json.specs.Json.{FileSays, field, items_of, member_list}
 use Rattle.am_records.specs.declared.limits.TheConstants.{MAX_ALERTS, MAX_ALERT_LABELS}
 use Rattle.am_records.specs.NamedText.{SaysNamedText}
 
@@ -47,5 +46,4 @@ SaysAlerts d alerts = ((d ≡ null) × (alerts ≡ [])) ⊎ AreAlerts d alerts
 
 -- The bytes of a file, at most `MAX_FILE_BYTES`, say the alerts that their JSON value says.
 abbrev pub FileSaysAlerts : List ℕ → List LabelMap → Type 0
-FileSaysAlerts bytes alerts =
-    (length bytes ≤ MAX_FILE_BYTES) × (d : Data) × (json_of bytes ≡ Some d) × SaysAlerts d alerts
+FileSaysAlerts bytes alerts = FileSays SaysAlerts bytes alerts

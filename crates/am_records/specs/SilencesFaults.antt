@@ -1,7 +1,7 @@
 -- The first fault of an export of silences: its places, and what may be wrong at each, by the JSON
 -- value alone. (The form that `amtool silence query -o json` writes; the order and the limits are
 -- this project's own.)
-use Rattle.std.specs.Prelude.{◌⊎◌, ℕ, zero, suc, List, [], ◌∷◌, Bool, true, false}
+use Rattle.std.specs.Prelude.{ℕ, zero, suc, List, [], ◌∷◌, Bool, true, false}
 use Rattle.std.specs.Prelude.{is_some, if◌then◌else◌, Option, Some, None, option_and_then}
 use Rattle.std.specs.Prelude.{slice_get, unwrap_or, codes}
 use Rattle.serde_json.specs.Data.{Data}
@@ -14,7 +14,7 @@ use Rattle.am_records.specs.declared.limits.TheConstants.{MAX_SILENCES}
 use Rattle.am_json.specs.Json.{field, items_of}
 use Rattle.am_json.specs.Pointer.{Refusal}
 use Rattle.am_json.specs.Places.{Step, known_member, IsFirstFault, IsFirstFaultOfFile}
-use Rattle.am_json.specs.Places.{IsMetPattern, IsMetPatternOfFile, shape_or, boolean_fault}
+use Rattle.am_json.specs.Places.{IsMetPattern, IsFileRefusedFor, shape_or, boolean_fault}
 use Rattle.am_json.specs.Places.{limit_fault, text_of, name_of, ObjectPlace, in_field, object_path}
 use Rattle.am_json.specs.Places.{open_object_fault, ArrayPlace, in_item, array_path, array_fault}
 use Rattle.am_json.specs.Places.{items_in_field, items_or_null_fault, required_array_fault}
@@ -174,16 +174,12 @@ IsFirstFaultOfSilences d r = IsFirstFault silences_path (silences_fault_at d) r
 abbrev pub IsFirstFaultOfSilencesFile : List ℕ → Refusal → Type 0
 IsFirstFaultOfSilencesFile bytes r = IsFirstFaultOfFile IsFirstFaultOfSilences bytes r
 
--- The refusal is that of a pattern that is met before any fault, in a JSON value, and in the value
--- of the bytes of a file.
+-- The refusal is that of a pattern that is met before any fault of a JSON value.
 abbrev pub IsMetPatternOfSilences : Data → Refusal → Type 0
 IsMetPatternOfSilences d r =
     IsMetPattern silences_path (silences_fault_at d) (has_silence_pattern d) r
 
-abbrev pub IsMetPatternOfSilencesFile : List ℕ → Refusal → Type 0
-IsMetPatternOfSilencesFile bytes r = IsMetPatternOfFile IsMetPatternOfSilences bytes r
-
 -- What a file may be refused for: its first fault, or a pattern that is met before any.
 abbrev pub SilencesFileRefusedFor : List ℕ → Refusal → Type 0
 SilencesFileRefusedFor bytes r =
-    IsFirstFaultOfSilencesFile bytes r ⊎ IsMetPatternOfSilencesFile bytes r
+    IsFileRefusedFor IsFirstFaultOfSilences IsMetPatternOfSilences bytes r

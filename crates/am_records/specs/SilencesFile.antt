@@ -10,9 +10,8 @@ use Rattle.am_labels.specs.Matcher.{Condition}
 use Rattle.am_labels.specs.MatcherRefusals.{has_valid_pattern}
 use Rattle.am_labels.specs.declared.op.Op.{Op}
 use Rattle.am_labels.specs.declared.op.Op.TheVariants.{Equal, NotEqual, Matches, NotMatches}
-use Rattle.am_json.specs.declared.limits.TheConstants.{MAX_FILE_BYTES}
 use Rattle.am_records.specs.declared.limits.TheConstants.{MAX_SILENCES}
-use Rattle.am_json.specs.Json.{json_of, field, items_of, SaysBooleanOr}
+use Rattle.am_json.specs.Json.{FileSays, field, items_of, SaysBooleanOr}
 use Rattle.am_records.specs.Instant.{instant_of}
 
 -- A silence: its matchers, and the instants at which it begins and ends, in nanoseconds since
@@ -86,6 +85,4 @@ SaysSilences d silences = ((d ≡ null) × (silences ≡ [])) ⊎ AreSilences d 
 
 -- The bytes of a file, at most `MAX_FILE_BYTES`, say the silences that their JSON value says.
 abbrev pub FileSaysSilences : List ℕ → List Silence → Type 0
-FileSaysSilences bytes silences =
-    (length bytes ≤ MAX_FILE_BYTES) × (d : Data) × (json_of bytes ≡ Some d)
-    × SaysSilences d silences
+FileSaysSilences bytes silences = FileSays SaysSilences bytes silences

@@ -1,6 +1,6 @@
 -- The first fault of a universe file: its places, and what may be wrong at each, by the JSON value
 -- alone. (This project's own form.)
-use Rattle.std.specs.Prelude.{◌||◌, ◌⊎◌, ℕ, List, [], ◌∷◌, length, map, slice_get, Bool}
+use Rattle.std.specs.Prelude.{◌||◌, ℕ, List, [], ◌∷◌, length, map, slice_get, Bool}
 use Rattle.std.specs.Prelude.{is_some, if◌then◌else◌, Option, Some, None, option_and_then, codes}
 use Rattle.serde_json.specs.Data.{Data}
 use Rattle.serde_json.specs.Find.{as_object, as_str}
@@ -14,7 +14,7 @@ use Rattle.am_json.specs.Json.{is_null, field}
 use Rattle.am_json.specs.OptionalItems.{optional_array_fault}
 use Rattle.am_json.specs.Pointer.{Refusal}
 use Rattle.am_json.specs.Places.{Step, known_member, turn, IsFirstFault, IsFirstFaultOfFile}
-use Rattle.am_json.specs.Places.{IsMetPattern, IsMetPatternOfFile, shape_or, if_there, limit_fault}
+use Rattle.am_json.specs.Places.{IsMetPattern, IsFileRefusedFor, shape_or, if_there, limit_fault}
 use Rattle.am_json.specs.Places.{text_of, name_of, OnlyPlace, only_path, ObjectPlace, in_field}
 use Rattle.am_json.specs.Places.{object_path, object_fault, ArrayPlace, in_item, array_path}
 use Rattle.am_json.specs.Places.{items_in_field, array_fault, required_array_fault}
@@ -145,16 +145,12 @@ IsFirstFaultOfUniverse d r = IsFirstFault universe_path (universe_fault_at d) r
 abbrev pub IsFirstFaultOfUniverseFile : List ℕ → Refusal → Type 0
 IsFirstFaultOfUniverseFile bytes r = IsFirstFaultOfFile IsFirstFaultOfUniverse bytes r
 
--- The refusal is that of a pattern that is met before any fault, in a JSON value, and in the value
--- of the bytes of a file.
+-- The refusal is that of a pattern that is met before any fault of a JSON value.
 abbrev pub IsMetPatternOfUniverse : Data → Refusal → Type 0
 IsMetPatternOfUniverse d r =
     IsMetPattern universe_path (universe_fault_at d) (has_universe_pattern d) r
 
-abbrev pub IsMetPatternOfUniverseFile : List ℕ → Refusal → Type 0
-IsMetPatternOfUniverseFile bytes r = IsMetPatternOfFile IsMetPatternOfUniverse bytes r
-
 -- What a file may be refused for: its first fault, or a pattern that is met before any.
 abbrev pub UniverseFileRefusedFor : List ℕ → Refusal → Type 0
 UniverseFileRefusedFor bytes r =
-    IsFirstFaultOfUniverseFile bytes r ⊎ IsMetPatternOfUniverseFile bytes r
+    IsFileRefusedFor IsFirstFaultOfUniverse IsMetPatternOfUniverse bytes r

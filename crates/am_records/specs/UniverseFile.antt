@@ -2,7 +2,6 @@
 -- (This project's own form.)
 use Rattle.std.specs.Prelude.{◌≡◌, ◌≤◌, ℕ, List, [], ◌∷◌, length, if◌then◌else◌, Option, Some, None}
 use Rattle.std.specs.Prelude.{option_and_then, codes, IsTrue}
-use Rattle.std.specs.Result.{result_err}
 use Rattle.std.specs.List.{AllZip}
 use Rattle.serde_json.specs.Data.{Data, null, string}
 use Rattle.am_universe.specs.declared.limits.TheConstants.{MAX_LABELS}
@@ -12,10 +11,9 @@ use Rattle.am_labels.specs.declared.limits.TheConstants.{MAX_MATCHERS, MAX_IMPOS
 use Rattle.am_labels.specs.Matcher.{Condition}
 use Rattle.am_labels.specs.MatcherRefusals.{have_valid_patterns}
 use Rattle.am_labels.specs.Space.{Space}
-use Rattle.am_json.specs.declared.limits.TheConstants.{MAX_FILE_BYTES}
-use Rattle.am_json.specs.Json.{json_of, is_null, field, items_of, HasOnlyFields}
+use Rattle.am_json.specs.Json.{FileSays, is_null, field, items_of, HasOnlyFields}
 use Rattle.am_json.specs.OptionalItems.{HasItems, read_optional_items}
-use Rattle.am_json.specs.Pointer.{Refusal, to_field}
+use Rattle.am_json.specs.Pointer.{to_field}
 use Rattle.am_json.specs.Reading.{Reading, ◌>>=◌, accept, reading_within, refuse_for, check_count}
 use Rattle.am_json.specs.Reading.{read_items, as_text, check_only_fields, required_text}
 use Rattle.am_json.specs.Reading.{required_items, read_json}
@@ -79,8 +77,7 @@ pub record SaysUniverse (d : Data) (s : Space) : Type 0 where
 
 -- The bytes of a file, at most `MAX_FILE_BYTES`, say the space that their JSON value says.
 abbrev pub FileSaysUniverse : List ℕ → Space → Type 0
-FileSaysUniverse bytes s =
-    (length bytes ≤ MAX_FILE_BYTES) × (d : Data) × (json_of bytes ≡ Some d) × SaysUniverse d s
+FileSaysUniverse bytes s = FileSays SaysUniverse bytes s
 
 -- ---- Reading it, with the first fault that is met.
 
@@ -157,11 +154,3 @@ unfoldable pub read_universe_file : List ℕ → Reading Space
 read_universe_file bytes = do
   d ← read_json bytes
   read_universe d
-
--- The first fault of a value that says no space, and of a file, where the engine builds each
--- pattern that its grammar reads.
-abbrev pub fault_of_universe : Data → Option Refusal
-fault_of_universe d = result_err ((read_universe d).result)
-
-abbrev pub fault_of_universe_file : List ℕ → Option Refusal
-fault_of_universe_file bytes = result_err ((read_universe_file bytes).result)

@@ -6,7 +6,6 @@ unfoldable pub use Rattle.am_records.specs.UniverseFile.{read_all_labels, read_i
 pub use Rattle.am_records.specs.UniverseFile.{read_next_impossible}
 unfoldable pub use Rattle.am_records.specs.UniverseFile.{read_lists, read_all_lists}
 unfoldable pub use Rattle.am_records.specs.UniverseFile.{read_universe, read_universe_file}
-pub use Rattle.am_records.specs.UniverseFile.{fault_of_universe, fault_of_universe_file}
 pub use Rattle.am_records.specs.UniverseFaults.{UniversePlace, universe_fault_at}
 pub use Rattle.am_records.specs.UniverseFaults.{IsFirstFaultOfUniverse, IsFirstFaultOfUniverseFile}
 pub use Rattle.am_records.specs.UniverseFaults.{IsMetPatternOfUniverse, UniverseFileRefusedFor}

@@ -1,12 +1,11 @@
 //! Reading an export of alerts.
 
-ghost use Rattle.std.specs.Prelude.{◌≡◌, ◌≢◌, [], map, IfOk, IfErr, string_bytes};
+ghost use Rattle.std.specs.Prelude.{[], map, IfOk, IfErr};
 ghost use Rattle.std.specs.FinMap as finite;
 ghost use Rattle.serde_json.specs.View.{view, members_view};
-ghost use Rattle.am_universe.specs.declared.kind.Kind.TheVariants as kinds;
 ghost use Rattle.am_universe.specs.declared.place.Place.TheVariants as places;
 ghost use Rattle.am_labels.specs.Words.{with_value};
-ghost use Rattle.am_json.specs.Words.{member_list, Gives, refusal_of, accept, read_each};
+ghost use Rattle.am_json.specs.Words.{member_list, Gives, IsRefusalAt, accept, read_each};
 ghost use Rattle.am_json.specs.Words.{read_items};
 ghost use Rattle.am_records.specs.Words.{FileSaysAlerts, IsFirstFaultOfAlertsFile};
 ghost use Rattle.am_records.specs.Words.{read_next_alert_label, read_alert_labels, read_alert};
@@ -17,8 +16,8 @@ use crate::alert::Alerts;
 use crate::limits::{MAX_ALERT_LABELS, MAX_ALERTS};
 use crate::matcher::read_named_text;
 use am_json::{
-    ReadError, as_items, as_object, check_count, read_json, required_field, within_field,
-    within_item,
+    ReadError, as_items, as_object, check_count, read_each_item, read_each_member, read_json,
+    required_field, within_field,
 };
 use am_labels::{Fault, LabelSet, Place};
 use serde_json::{Map, Value};
@@ -39,11 +38,7 @@ use std::alloc::Global;
 /// `Memory`, at the place `Memory` and the empty pointer, comes wherever memory ran out.
 pub fn read_alerts(alloc: Global, bytes: &[u8]) -> Result<Alerts, Fault>
     ensures says { IfOk result (λ alerts. FileSaysAlerts bytes.now alerts) }
-    ensures first { IfErr result (λ fault. fault.kind ≢ kinds.Memory
-        → (fault.place ≡ places.Alerts) × IsFirstFaultOfAlertsFile bytes.now (refusal_of fault)) }
-    ensures memory { IfErr result (λ fault. fault.kind ≡ kinds.Memory
-        → (fault.place ≡ places.Memory) × (string_bytes fault.pointer ≡ [])) }
-    ensures no_write { IfErr result (λ fault. fault.kind ≢ kinds.Write) }
+    ensures first { IfErr result (IsRefusalAt places.Alerts (IsFirstFaultOfAlertsFile bytes.now)) }
 {
     match read_alerts_file(alloc, bytes) {
         Ok(alerts) => Ok(alerts),
@@ -82,13 +77,7 @@ fn read_each_alert(alloc: Global, items: &[Value]) -> Result<Vec<LabelSet>, Read
     ensures { Gives (λ alerts. alerts.items) result
         (read_items read_next_alert [] (map view items.now)) }
 {
-    let mut alerts = Vec::new(alloc);
-    for item in items {
-        let found = read_alert(alloc, item);
-        let alert = within_item(alloc, alerts.len(), found)?;
-        alerts.push(alert)?;
-    }
-    Ok(alerts)
+    read_each_item(alloc, items, |item| read_alert(alloc, item))
 }
 
 #[tactic(auto, using(am_json::proofs::Readings::steps), unfolding(crate::specs::AlertsReading::read_alert))]
@@ -113,11 +102,10 @@ fn read_each_alert_label(alloc: Global, members: &Map<String, Value>) -> Result<
     ensures { Gives (λ s. s) result (read_each read_next_alert_label finite.empty
         (member_list (members_view members.now.entries))) }
 {
-    let mut labels = LabelSet::empty(alloc);
-    for (name, value) in members.iter() {
-        labels = read_next_alert_label(alloc, labels, name.as_str(), value)?;
-    }
-    Ok(labels)
+    let none = LabelSet::empty(alloc);
+    read_each_member(none, members, |before, name, value| {
+        read_next_alert_label(alloc, before, name, value)
+    })
 }
 
 /// The labels with that of a name and a text behind others.

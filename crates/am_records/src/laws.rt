@@ -1,16 +1,15 @@
 //! What holds of the files' forms, for every JSON value and all bytes.
 
-ghost use Rattle.std.specs.Prelude.{◌≡◌, ◌⊎◌, ◌↔◌, ℕ, List, Bool, not, IsTrue, None, Ok, Err};
+ghost use Rattle.std.specs.Prelude.{◌≡◌, ◌⊎◌, ◌↔◌, ℕ, List, Bool, not, IsTrue, None};
 ghost use Rattle.serde_json.specs.Data.{Data};
 ghost use Rattle.am_labels.specs.Words.{LabelMap, Space};
-ghost use Rattle.am_json.specs.Words.{Refusal, MayRefuse};
+ghost use Rattle.am_json.specs.Words.{Refusal, MayRefuse, IsReadExactly};
 ghost use Rattle.am_labels.specs.Matcher.{takes_pattern, negates};
 ghost use Rattle.am_labels.specs.MatcherRefusals.{has_valid_pattern};
 ghost use Rattle.am_records.specs.declared.limits.TheConstants.{MAX_SILENCES, MAX_ALERTS};
 ghost use Rattle.am_records.specs.declared.limits.TheConstants.{MAX_ALERT_LABELS};
 ghost use Rattle.am_records.specs.Words.{SaysUniverse, FileSaysUniverse, read_universe};
-ghost use Rattle.am_records.specs.Words.{read_universe_file, fault_of_universe};
-ghost use Rattle.am_records.specs.Words.{fault_of_universe_file, UniversePlace, universe_fault_at};
+ghost use Rattle.am_records.specs.Words.{read_universe_file, UniversePlace, universe_fault_at};
 ghost use Rattle.am_records.specs.Words.{IsFirstFaultOfUniverse, IsFirstFaultOfUniverseFile};
 ghost use Rattle.am_records.specs.Words.{IsMetPatternOfUniverse, UniverseFileRefusedFor};
 ghost use Rattle.am_records.specs.SilencesFile.{Silence};
@@ -30,13 +29,7 @@ ghost use Rattle.am_records.specs.Words.{IsFirstFaultOfAlertsFile, alerts_exampl
 /// a space exactly where no place is at fault. Beside the first fault only the refusals of patterns
 /// that are met before it are open.
 pub fn universes_are_read()
-    ensures read { (d : Data) (s : Space)
-        → SaysUniverse d s ↔ ((read_universe d).result ≡ Ok s) }
-    ensures one { (d : Data) (s t : Space) → SaysUniverse d s → SaysUniverse d t → s ≡ t }
-    ensures faults { (d : Data)
-        → (fault_of_universe d ≡ None) ↔ ((s : Space) × SaysUniverse d s) }
-    ensures first { (d : Data) (r : Refusal)
-        → ((read_universe d).result ≡ Err r) ↔ IsFirstFaultOfUniverse d r }
+    ensures read { IsReadExactly SaysUniverse read_universe IsFirstFaultOfUniverse }
     ensures sound { (d : Data) → ((s : Space) × SaysUniverse d s)
         ↔ ((place : UniversePlace) → universe_fault_at d place ≡ None) }
     ensures refused { (d : Data) (r : Refusal) → MayRefuse (read_universe d) r
@@ -45,14 +38,7 @@ pub fn universes_are_read()
 
 /// The same of the bytes of a file.
 pub fn universe_files_are_read()
-    ensures read { (bytes : List ℕ) (s : Space)
-        → FileSaysUniverse bytes s ↔ ((read_universe_file bytes).result ≡ Ok s) }
-    ensures one { (bytes : List ℕ) (s t : Space) → FileSaysUniverse bytes s
-        → FileSaysUniverse bytes t → s ≡ t }
-    ensures faults { (bytes : List ℕ)
-        → (fault_of_universe_file bytes ≡ None) ↔ ((s : Space) × FileSaysUniverse bytes s) }
-    ensures first { (bytes : List ℕ) (r : Refusal)
-        → ((read_universe_file bytes).result ≡ Err r) ↔ IsFirstFaultOfUniverseFile bytes r }
+    ensures read { IsReadExactly FileSaysUniverse read_universe_file IsFirstFaultOfUniverseFile }
     ensures refused { (bytes : List ℕ) (r : Refusal) → MayRefuse (read_universe_file bytes) r
         → UniverseFileRefusedFor bytes r }
 {}
@@ -63,12 +49,7 @@ pub fn universe_files_are_read()
 /// form, and a value says silences exactly where no place is at fault. Beside the first fault only
 /// the refusals of patterns that are met before it are open.
 pub fn silences_are_read()
-    ensures read { (d : Data) (silences : List Silence)
-        → SaysSilences d silences ↔ ((read_silences d).result ≡ Ok silences) }
-    ensures one { (d : Data) (silences others : List Silence) → SaysSilences d silences
-        → SaysSilences d others → silences ≡ others }
-    ensures first { (d : Data) (r : Refusal)
-        → ((read_silences d).result ≡ Err r) ↔ IsFirstFaultOfSilences d r }
+    ensures read { IsReadExactly SaysSilences read_silences IsFirstFaultOfSilences }
     ensures sound { (d : Data) → ((silences : List Silence) × SaysSilences d silences)
         ↔ ((place : SilencesPlace) → silences_fault_at d place ≡ None) }
     ensures refused { (d : Data) (r : Refusal) → MayRefuse (read_silences d) r
@@ -77,12 +58,7 @@ pub fn silences_are_read()
 
 /// The same of the bytes of a file.
 pub fn silence_files_are_read()
-    ensures read { (bytes : List ℕ) (silences : List Silence)
-        → FileSaysSilences bytes silences ↔ ((read_silences_file bytes).result ≡ Ok silences) }
-    ensures one { (bytes : List ℕ) (silences others : List Silence)
-        → FileSaysSilences bytes silences → FileSaysSilences bytes others → silences ≡ others }
-    ensures first { (bytes : List ℕ) (r : Refusal)
-        → ((read_silences_file bytes).result ≡ Err r) ↔ IsFirstFaultOfSilencesFile bytes r }
+    ensures read { IsReadExactly FileSaysSilences read_silences_file IsFirstFaultOfSilencesFile }
     ensures refused { (bytes : List ℕ) (r : Refusal) → MayRefuse (read_silences_file bytes) r
         → SilencesFileRefusedFor bytes r }
 {}
@@ -107,24 +83,14 @@ pub fn an_example_of_silences()
 /// alerts, the empty one included. What reading refuses it for is the first fault by the places of
 /// the form, and it says alerts exactly where no place is at fault.
 pub fn alerts_are_read()
-    ensures read { (d : Data) (alerts : List LabelMap)
-        → SaysAlerts d alerts ↔ ((read_alerts d).result ≡ Ok alerts) }
-    ensures one { (d : Data) (alerts others : List LabelMap) → SaysAlerts d alerts
-        → SaysAlerts d others → alerts ≡ others }
-    ensures first { (d : Data) (r : Refusal)
-        → ((read_alerts d).result ≡ Err r) ↔ IsFirstFaultOfAlerts d r }
+    ensures read { IsReadExactly SaysAlerts read_alerts IsFirstFaultOfAlerts }
     ensures sound { (d : Data) → ((alerts : List LabelMap) × SaysAlerts d alerts)
         ↔ ((place : AlertsPlace) → alerts_fault_at d place ≡ None) }
 {}
 
 /// The same of the bytes of a file.
 pub fn alert_files_are_read()
-    ensures read { (bytes : List ℕ) (alerts : List LabelMap)
-        → FileSaysAlerts bytes alerts ↔ ((read_alerts_file bytes).result ≡ Ok alerts) }
-    ensures one { (bytes : List ℕ) (alerts others : List LabelMap)
-        → FileSaysAlerts bytes alerts → FileSaysAlerts bytes others → alerts ≡ others }
-    ensures first { (bytes : List ℕ) (r : Refusal)
-        → ((read_alerts_file bytes).result ≡ Err r) ↔ IsFirstFaultOfAlertsFile bytes r }
+    ensures read { IsReadExactly FileSaysAlerts read_alerts_file IsFirstFaultOfAlertsFile }
 {}
 
 /// An example: an alert with two labels, one of which has the empty value and so is missing.

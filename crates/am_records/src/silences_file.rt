@@ -1,12 +1,11 @@
 //! Reading an export of silences.
 
 ghost use Rattle.std.specs.Prelude.{◌≡◌, ◌≢◌, ◌<◌, ◌≤◌, [], ◌∷◌, ◌++◌, map, length};
-ghost use Rattle.std.specs.Prelude.{IfOk, IfErr, OnOk, string_bytes};
+ghost use Rattle.std.specs.Prelude.{IfOk, IfErr, OnOk};
 ghost use Rattle.serde_json.specs.View.{view};
-ghost use Rattle.am_universe.specs.declared.kind.Kind.TheVariants as kinds;
 ghost use Rattle.am_universe.specs.declared.place.Place.TheVariants as places;
 ghost use Rattle.am_json.specs.declared.read_error.ReadError.TheVariants as errors;
-ghost use Rattle.am_json.specs.Words.{to_item, Gives, refusal_of, reading_within, read_items};
+ghost use Rattle.am_json.specs.Words.{Gives, IsRefusalAt, read_items};
 ghost use Rattle.am_records.specs.Words.{FileSaysSilences, SilencesFileRefusedFor, flagged_op};
 ghost use Rattle.am_records.specs.Words.{read_label_name, read_flagged_matcher};
 ghost use Rattle.am_records.specs.Words.{read_silence_matcher};
@@ -20,8 +19,8 @@ use crate::limits::MAX_SILENCES;
 use crate::matcher::{label_name_fault, new_matcher};
 use crate::silence::{Silence, Silences};
 use am_json::{
-    ReadError, as_items, as_object, check_count, read_boolean_or, read_json, refuse_for,
-    required_items, required_text, within_field, within_item,
+    ReadError, as_items, as_object, check_count, read_boolean_or, read_each_item, read_json,
+    refuse_for, required_items, required_text, within_field, within_item,
 };
 use am_labels::limits::MAX_MATCHERS;
 use am_labels::{Fault, Kind, Matcher, Matchers, Op, Place};
@@ -49,11 +48,7 @@ use std::alloc::Global;
 /// `Memory`, at the place `Memory` and the empty pointer, comes wherever memory ran out.
 pub fn read_silences(alloc: Global, bytes: &[u8]) -> Result<Silences, Fault>
     ensures says { IfOk result (λ silences. FileSaysSilences bytes.now silences) }
-    ensures first { IfErr result (λ fault. fault.kind ≢ kinds.Memory
-        → (fault.place ≡ places.Silences) × SilencesFileRefusedFor bytes.now (refusal_of fault)) }
-    ensures memory { IfErr result (λ fault. fault.kind ≡ kinds.Memory
-        → (fault.place ≡ places.Memory) × (string_bytes fault.pointer ≡ [])) }
-    ensures no_write { IfErr result (λ fault. fault.kind ≢ kinds.Write) }
+    ensures first { IfErr result (IsRefusalAt places.Silences (SilencesFileRefusedFor bytes.now)) }
 {
     match read_silences_file(alloc, bytes) {
         Ok(silences) => Ok(silences),
@@ -92,13 +87,7 @@ fn read_each_silence(alloc: Global, items: &[Value]) -> Result<Vec<Silence>, Rea
     ensures { Gives (λ silences. silences.items) result
         (read_items read_next_silence [] (map view items.now)) }
 {
-    let mut silences = Vec::new(alloc);
-    for item in items {
-        let found = read_silence(alloc, item);
-        let silence = within_item(alloc, silences.len(), found)?;
-        silences.push(silence)?;
-    }
-    Ok(silences)
+    read_each_item(alloc, items, |item| read_silence(alloc, item))
 }
 
 #[tactic(auto, using(am_json::proofs::Readings::steps), unfolding(crate::specs::SilencesReading::read_silence))]

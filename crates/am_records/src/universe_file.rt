@@ -1,13 +1,12 @@
 //! Reading the universe file.
 
-ghost use Rattle.std.specs.Prelude.{◌≡◌, ◌≢◌, ◌<◌, ◌≤◌, [], ◌∷◌, ◌++◌, length, map, None, Ok, Err};
+ghost use Rattle.std.specs.Prelude.{◌≡◌, ◌<◌, ◌≤◌, [], ◌∷◌, ◌++◌, length, map, None, Ok, Err};
 ghost use Rattle.std.specs.Prelude.{IfOk, IfErr, OnOk, string_bytes, option_map};
 ghost use Rattle.serde_json.specs.View.{view};
-ghost use Rattle.am_universe.specs.declared.kind.Kind.TheVariants as kinds;
 ghost use Rattle.am_universe.specs.declared.place.Place.TheVariants as places;
 ghost use Rattle.am_json.specs.declared.read_error.ReadError.TheVariants as errors;
 ghost use Rattle.am_labels.specs.Words.{label_fault, label_of, texts_of};
-ghost use Rattle.am_json.specs.Words.{to_item, Gives, refusal_of, reading_within, read_items};
+ghost use Rattle.am_json.specs.Words.{to_item, Gives, IsRefusalAt, reading_within, read_items};
 ghost use Rattle.am_records.specs.Words.{FileSaysUniverse, read_value, read_next_value};
 ghost use Rattle.am_records.specs.Words.{read_values, read_next_label, read_labels};
 ghost use Rattle.am_records.specs.Words.{read_all_labels, read_impossible, read_next_impossible};
@@ -48,11 +47,7 @@ use std::alloc::{AllocError, Global};
 /// The JSON value of the whole file is in memory until the space is answered.
 pub fn read_universe(alloc: Global, bytes: &[u8]) -> Result<Space, Fault>
     ensures says { IfOk result (λ s. FileSaysUniverse bytes.now s) }
-    ensures first { IfErr result (λ fault. fault.kind ≢ kinds.Memory
-        → (fault.place ≡ places.Universe) × UniverseFileRefusedFor bytes.now (refusal_of fault)) }
-    ensures memory { IfErr result (λ fault. fault.kind ≡ kinds.Memory
-        → (fault.place ≡ places.Memory) × (string_bytes fault.pointer ≡ [])) }
-    ensures no_write { IfErr result (λ fault. fault.kind ≢ kinds.Write) }
+    ensures first { IfErr result (IsRefusalAt places.Universe (UniverseFileRefusedFor bytes.now)) }
 {
     match read_universe_file(alloc, bytes) {
         Ok(space) => Ok(space),
