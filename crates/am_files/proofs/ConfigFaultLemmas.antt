@@ -1,15 +1,15 @@
 -- The fault that reading a configuration file meets first is the first by its places.
-use Rattle.std.proofs.Common.{Bool, Err, List, None, Ok, Option, Some, [], ap, arith, codes, false}
+use Rattle.std.proofs.Common.{Bool, List, None, Ok, Option, Some, [], ap, arith, codes, false}
 use Rattle.std.proofs.Common.{length, map, option_and_then, refl, slice_get, subst, sym, unwrap_or}
-use Rattle.std.proofs.Common.{ℕ, ◌++◌, ◌↔◌, ◌∙◌, ◌∷◌, ◌≡◌, ◌⊎◌}
+use Rattle.std.proofs.Common.{ℕ, ◌++◌, ◌∙◌, ◌∷◌, ◌≡◌}
 use Rattle.std.proofs.lemmas.List.{map_push}
 use Rattle.std.specs.Prelude.{⊤}
 use Rattle.serde_json.specs.Data.{Data}
 use Rattle.serde_json.specs.Find as find
 use Rattle.am_universe.specs.declared.kind.Kind.TheVariants as kinds
-use Rattle.am_files.specs.ConfigFaults.{ConfigField, ConfigPlace, IsFirstFaultOfConfig}
-use Rattle.am_files.specs.ConfigFaults.{IsFirstFaultOfConfigFile, IsMetPatternOfConfig}
-use Rattle.am_files.specs.ConfigFaults.{IsMetPatternOfConfigFile, ReceiverField, ReceiverPlace}
+use Rattle.am_files.specs.ConfigFaults.{ConfigField, ConfigPlace}
+use Rattle.am_files.specs.ConfigFaults.{IsFirstFaultOfConfigFile}
+use Rattle.am_files.specs.ConfigFaults.{ConfigFileRefusedFor, ReceiverField, ReceiverPlace}
 use Rattle.am_files.specs.ConfigFaults.{RulePlace, config_fault_at, config_field_fault}
 use Rattle.am_files.specs.ConfigFaults.{config_field_path, config_path, config_receivers}
 use Rattle.am_files.specs.ConfigFaults.{config_route, config_rules, declared_names, has_pattern}
@@ -20,13 +20,13 @@ use Rattle.am_files.specs.ConfigFaults.{tree_matcher, way_path}
 use Rattle.am_json.specs.Places.{ArrayPlace, array_itself, in_field, in_item, items_in_field}
 use Rattle.am_json.specs.Places.{known_member, limit_fault, name_of, object_itself, object_path}
 use Rattle.am_json.specs.Places.{other_field, rank_of, shape_or, text_of}
-use Rattle.am_files.specs.ConfigFile.{Configuration, RouteTree, Rule, SaysConfig}
+use Rattle.am_files.specs.ConfigFile.{Configuration, FileSaysConfig, RouteTree, Rule, SaysConfig}
 use Rattle.am_files.specs.ConfigReading.{read_config, read_config_file}
 use Rattle.am_files.specs.ConfigReading.{read_next_receiver, read_receiver_names, read_receivers}
 use Rattle.am_files.specs.ConfigReading.{read_route, read_rule_items, read_rules}
 use Rattle.am_json.specs.Json.{field, items_of}
 use Rattle.am_json.specs.Pointer.{Refusal, refusal_here, refusal_within, to_field}
-use Rattle.am_json.specs.Reading.{IsPatternRefusal, MayRefuse, Reading, accept, accept_some}
+use Rattle.am_json.specs.Reading.{MayRefuse, Reading, accept, accept_some}
 use Rattle.am_json.specs.Reading.{as_object, read_items, reading_within, refuse_for, required_field}
 use Rattle.am_json.specs.Reading.{required_text, ◌>>=◌}
 use Rattle.am_files.specs.declared.limits.TheConstants.{MAX_LEVELS, MAX_RECEIVERS}
@@ -34,11 +34,11 @@ use Rattle.am_records.specs.MatcherFaults.{is_profile_pattern}
 use Rattle.am_files.proofs.ConfigParts.{name_says}
 use Rattle.am_files.proofs.ConfigSays.{config_decides}
 use Rattle.am_json.proofs.FieldLemmas.{items_form, items_seen, items_sequence, text_field_judges}
-use Rattle.am_json.proofs.FileLemmas.{bytes_decide, bytes_refused}
+use Rattle.am_json.proofs.FormLaws.{FormLaws, form_laws}
+use Rattle.am_json.specs.ReadingLaw.{IsReadExactly}
 use Rattle.am_json.proofs.ObjectLemmas.{no_open_pattern, open_form, open_judged, open_pattern}
-use Rattle.am_json.proofs.PlaceLemmas.{Clear, Form, IsPart, Judges, first_decides, itself_refused}
-use Rattle.am_json.proofs.PlaceLemmas.{judges_plain, none_decides, one_place, part_judges}
-use Rattle.am_json.proofs.PlaceLemmas.{refused_reached}
+use Rattle.am_json.proofs.PlaceLemmas.{Clear, Form, IsPart, Judges, itself_refused}
+use Rattle.am_json.proofs.PlaceLemmas.{judges_plain, one_place, part_judges}
 use Rattle.am_json.proofs.PlaceOrder.{lead}
 use Rattle.am_files.proofs.RuleFaultLemmas.{rule_pattern, rules_form, rules_judged, rules_seen}
 use Rattle.am_files.proofs.RuleFaultLemmas.{rules_within}
@@ -344,37 +344,15 @@ module _ (d : Data) where
 
 -- ---- The laws.
 
-module _ (d : Data) where
-  pub config_first : (r : Refusal) → ((read_config d).result ≡ Err r) ↔ IsFirstFaultOfConfig d r
-  config_first r = let judged = config_judged d in
-      first_decides (config_form d) (config_tells d) (read_config d).result judged.tells r
+pub config_laws : FormLaws SaysConfig read_config config_form
+config_laws =
+    form_laws SaysConfig read_config config_form config_decides config_judged config_tells
 
-  pub config_met : (r : Refusal) → IsPatternRefusal (read_config d).patterns r
-      → IsMetPatternOfConfig d r
-  config_met r h = let judged = config_judged d in judged.meets r h
-
-  pub config_refused : (r : Refusal) → MayRefuse (read_config d) r
-      → IsFirstFaultOfConfig d r ⊎ IsMetPatternOfConfig d r
-  config_refused r refused =
-      refused_reached (config_form d) (read_config d) (config_judged d) r refused
-
-  -- a value says a configuration where no place is at fault, and only there
-  pub config_sound : ((c : Configuration) × SaysConfig d c)
-      ↔ ((place : ConfigPlace) → config_fault_at d place ≡ None)
-  config_sound =
-      let judged = config_judged d in
-      none_decides (config_form d) (read_config d).result judged.tells (config_decides d)
-
-pub config_file_first : (bytes : List ℕ) (r : Refusal)
-    → ((read_config_file bytes).result ≡ Err r) ↔ IsFirstFaultOfConfigFile bytes r
+pub config_file_read : IsReadExactly FileSaysConfig read_config_file IsFirstFaultOfConfigFile
 unfolding read_config_file
-config_file_first bytes r =
-    bytes_decide IsFirstFaultOfConfig IsMetPatternOfConfig read_config config_first config_met bytes
-    r
+config_file_read = config_laws.file
 
 pub config_file_refused : (bytes : List ℕ) (r : Refusal) → MayRefuse (read_config_file bytes) r
-    → IsFirstFaultOfConfigFile bytes r ⊎ IsMetPatternOfConfigFile bytes r
+    → ConfigFileRefusedFor bytes r
 unfolding read_config_file
-config_file_refused bytes r refused =
-    bytes_refused IsFirstFaultOfConfig IsMetPatternOfConfig read_config config_first config_met
-    bytes r refused
+config_file_refused = config_laws.file_refused

@@ -14,15 +14,13 @@ use Rattle.am_files.specs.ConfigFile.{next_route, Configuration}
 use Rattle.am_files.specs.ConfigFile.{route_matcher_fields, routes_of, matchers_of, route_count}
 use Rattle.am_files.specs.ConfigFile.{routes_count, route_levels, routes_levels, route_fields}
 use Rattle.am_files.specs.ConfigFile.{SaysMatchers, SaysReceiver, SaysContinue, SaysRoute}
-use Rattle.am_files.specs.ConfigFile.{SaysRoutes, SaysConfig, FileSaysConfig}
+use Rattle.am_files.specs.ConfigFile.{SaysRoutes, SaysConfig}
 use Rattle.am_files.specs.ConfigReading.{RouteFields, read_receivers, read_route_fields, read_route}
 use Rattle.am_files.specs.ConfigReading.{read_next_child, read_rules, read_config}
-use Rattle.am_files.specs.ConfigReading.{read_config_file}
 use Rattle.am_json.proofs.Readings.{bind_ok, within_ok, ok_or_some, same_read, check_count_fits}
 use Rattle.am_json.proofs.Readings.{Decides}
 use Rattle.am_json.proofs.Fields.{only_fields_read, boolean_or_says, boolean_or_reads}
 use Rattle.am_json.proofs.Items.{item_first}
-use Rattle.am_json.proofs.Fields.{file_decided}
 use Rattle.am_files.proofs.Routing.{are_read, count_push}
 use Rattle.am_files.proofs.Sound.{is_read, no_level, root_unmatched, route_sound}
 use Rattle.am_files.proofs.ConfigParts.{names_say, names_read, receiver_says, receiver_reads}
@@ -233,7 +231,7 @@ has_members (string s) value key h = absurd cc
 has_members (array ds) value key h = absurd cc
 has_members (object ms) value key h = (ms, refl)
 
-pub config_reads : (d : Data) (c : Configuration) → SaysConfig d c → (read_config d).result ≡ Ok c
+config_reads : (d : Data) (c : Configuration) → SaysConfig d c → (read_config d).result ≡ Ok c
 unfolding read_config
 config_reads d c said =
     let members = has_members d said.root (codes "route") said.has_root in
@@ -261,8 +259,3 @@ config_reads d c said =
 
 pub config_decides : (d : Data) → Decides (SaysConfig d) ((read_config d).result)
 config_decides d = record { says = config_says d; reads = config_reads d }
-
-pub file_decides : (bytes : List ℕ)
-    → Decides (FileSaysConfig bytes) ((read_config_file bytes).result)
-unfolding read_config_file
-file_decides bytes = file_decided SaysConfig read_config config_decides bytes

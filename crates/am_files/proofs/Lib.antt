@@ -19,6 +19,7 @@ pub mod ConfigRanks
 pub mod ConfigFaultLemmas
 pub mod StoredPath
 pub mod Paths
+pub mod RouteLists
 pub mod Numerals
 pub mod PathTexts
 pub mod PathSteps

@@ -115,10 +115,6 @@ IsNumeral-numeral n = (says_up_to n n (omega arith)).is
 pub digits_value-numeral : (n : ℕ) → digits_value 10 (numeral n) ≡ n
 digits_value-numeral n = (says_up_to n n (omega arith)).value
 
-pub numeral-injective : (m n : ℕ) → numeral m ≡ numeral n → m ≡ n
-numeral-injective m n same =
-    sym (digits_value-numeral m) ∙ ap (digits_value 10) same ∙ digits_value-numeral n
-
 -- ---- Each such text is what is written of its number.
 
 more_digits : (n : ℕ) (text : List ℕ) → 0 < n → AllDigits 10 text

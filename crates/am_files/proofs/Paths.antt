@@ -16,7 +16,7 @@ use Rattle.am_files.specs.ConfigFile.{routes_levels, Configuration, IsConfig}
 use Rattle.am_files.specs.RouteView.{route_view}
 use Rattle.am_files.specs.Path.{list_of, route_at, IsPath}
 
-list_of-routes_of : (ts : List RouteTree) → list_of (routes_of ts) ≡ ts
+pub list_of-routes_of : (ts : List RouteTree) → list_of (routes_of ts) ≡ ts
 list_of-routes_of [] = refl
 list_of-routes_of (t ∷ ts) = ap (λ rest. t ∷ rest) (list_of-routes_of ts)
 
@@ -62,7 +62,7 @@ no_child t routes path i p within is children absent =
 
 -- ---- How far down, and how far to the side, a path leads.
 
-level_among : (ts : Routes) (p : ℕ) (child : RouteTree) → slice_get (list_of ts) p ≡ Some child
+pub level_among : (ts : Routes) (p : ℕ) (child : RouteTree) → slice_get (list_of ts) p ≡ Some child
     → route_levels child ≤ routes_levels ts
 level_among no_routes p child found = absurd (none-some child found)
 level_among (next_route t ts) zero child found =
@@ -71,10 +71,10 @@ level_among (next_route t ts) zero child found =
 level_among (next_route t ts) (suc p) child found =
     omega (arith, level_among ts p child found, le-max_right (route_levels t) (routes_levels ts))
 
-some_routes : (t : RouteTree) → 0 < route_count t
+pub some_routes : (t : RouteTree) → 0 < route_count t
 some_routes (route settings children) = omega arith
 
-count_among : (ts : Routes) (p : ℕ) (child : RouteTree) → slice_get (list_of ts) p ≡ Some child
+pub count_among : (ts : Routes) (p : ℕ) (child : RouteTree) → slice_get (list_of ts) p ≡ Some child
     → p + route_count child ≤ routes_count ts
 count_among no_routes p child found = absurd (none-some child found)
 count_among (next_route t ts) zero child found =
@@ -113,7 +113,7 @@ and_then_twice : {A B C : Type 0} (f : A → Option B) (g : B → Option C) (h :
 and_then_twice f g h same None = refl
 and_then_twice f g h same (Some x) = same x
 
-abbrev child_of : ℕ → RouteTree → Option RouteTree
+abbrev pub child_of : ℕ → RouteTree → Option RouteTree
 child_of p parent = slice_get (list_of (children_of parent)) p
 
 -- one step more
@@ -124,7 +124,7 @@ route_at-child (q ∷ qs) t p =
     and_then_twice (λ child. route_at child qs) (child_of p)
     (λ child. route_at child (qs ++ (p ∷ []))) (λ child. route_at-child qs child p) (child_of q t)
 
-some_levels : (t : RouteTree) → 0 < route_levels t
+pub some_levels : (t : RouteTree) → 0 < route_levels t
 some_levels (route settings children) = omega arith
 
 -- a route with a child is above the last level

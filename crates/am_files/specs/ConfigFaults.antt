@@ -1,7 +1,7 @@
 -- The first fault of a configuration file: its places, and what may be wrong at each, by the JSON
 -- value alone. (Alertmanager configuration reference 0.25; the order and the limits are this
 -- project's own.)
-use Rattle.std.specs.Prelude.{◌⊎◌, ◌+◌, ◌&&◌, ℕ, zero, suc, pred, List, [], ◌∷◌, ◌++◌, length, map}
+use Rattle.std.specs.Prelude.{◌+◌, ◌&&◌, ℕ, zero, suc, pred, List, [], ◌∷◌, ◌++◌, length, map}
 use Rattle.std.specs.Prelude.{take, sum_by, slice_get, Bool, true, false, not, nat_lt}
 use Rattle.std.specs.Prelude.{if◌then◌else◌, Option, Some, None, option_map, option_and_then}
 use Rattle.std.specs.Prelude.{codes}
@@ -17,7 +17,7 @@ use Rattle.am_labels.specs.Matcher.{Condition}
 use Rattle.am_json.specs.Json.{field, is_one_of, items_of}
 use Rattle.am_json.specs.Pointer.{Refusal}
 use Rattle.am_json.specs.Places.{Step, known_member, array_item, turn, IsFirstFault}
-use Rattle.am_json.specs.Places.{IsFirstFaultOfFile, IsMetPattern, IsMetPatternOfFile, shape_or}
+use Rattle.am_json.specs.Places.{IsFirstFaultOfFile, IsMetPattern, IsFileRefusedFor, shape_or}
 use Rattle.am_json.specs.Places.{if_there, boolean_fault, is_empty, limit_fault, text_of, name_of}
 use Rattle.am_json.specs.Places.{ObjectPlace, object_itself, other_field, in_field, object_path}
 use Rattle.am_json.specs.Places.{object_fault, open_object_fault, ArrayPlace, array_path}
@@ -482,14 +482,11 @@ IsFirstFaultOfConfig d r = IsFirstFault (config_path d) (config_fault_at d) r
 abbrev pub IsFirstFaultOfConfigFile : List ℕ → Refusal → Type 0
 IsFirstFaultOfConfigFile bytes r = IsFirstFaultOfFile IsFirstFaultOfConfig bytes r
 
--- The refusal is that of a pattern that is met before any fault, in a JSON value, and in the value
--- of the bytes of a file.
+-- The refusal is that of a pattern that is met before any fault of a JSON value.
 abbrev pub IsMetPatternOfConfig : Data → Refusal → Type 0
 IsMetPatternOfConfig d r = IsMetPattern (config_path d) (config_fault_at d) (has_pattern d) r
 
-abbrev pub IsMetPatternOfConfigFile : List ℕ → Refusal → Type 0
-IsMetPatternOfConfigFile bytes r = IsMetPatternOfFile IsMetPatternOfConfig bytes r
-
 -- What a file may be refused for: its first fault, or a pattern that is met before any.
 abbrev pub ConfigFileRefusedFor : List ℕ → Refusal → Type 0
-ConfigFileRefusedFor bytes r = IsFirstFaultOfConfigFile bytes r ⊎ IsMetPatternOfConfigFile bytes r
+ConfigFileRefusedFor bytes r =
+    IsFileRefusedFor IsFirstFaultOfConfig IsMetPatternOfConfig bytes r

@@ -11,12 +11,11 @@ use Rattle.am_labels.specs.Matcher.{Condition}
 use Rattle.am_labels.specs.MatcherRefusals.{have_valid_patterns}
 use Rattle.am_labels.specs.declared.op.Op.{Op}
 use Rattle.am_labels.specs.declared.op.Op.TheVariants.{Equal, Matches}
-use Rattle.am_json.specs.declared.limits.TheConstants.{MAX_FILE_BYTES}
 use Rattle.am_records.specs.NamedText.{SaysNamedText}
 use Rattle.am_records.specs.MatcherTexts.{SaysMatcherText}
 use Rattle.am_files.specs.declared.limits.TheConstants.{MAX_RECEIVERS, MAX_ROUTES, MAX_LEVELS}
 use Rattle.am_files.specs.declared.limits.TheConstants.{MAX_RULES, MAX_EQUAL_NAMES}
-use Rattle.am_json.specs.Json.{json_of, field, items_of, member_list, SaysBooleanOr, HasOnlyFields}
+use Rattle.am_json.specs.Json.{FileSays, field, items_of, member_list, SaysBooleanOr, HasOnlyFields}
 use Rattle.am_json.specs.OptionalItems.{HasItems}
 
 -- ---- Configurations.
@@ -306,5 +305,4 @@ pub record SaysConfig (d : Data) (c : Configuration) : Type 0 where
 
 -- The bytes of a file, at most `MAX_FILE_BYTES`, say the configuration that their JSON value says.
 abbrev pub FileSaysConfig : List ℕ → Configuration → Type 0
-FileSaysConfig bytes c =
-    (length bytes ≤ MAX_FILE_BYTES) × (d : Data) × (json_of bytes ≡ Some d) × SaysConfig d c
+FileSaysConfig bytes c = FileSays SaysConfig bytes c

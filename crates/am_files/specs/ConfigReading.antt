@@ -4,7 +4,6 @@
 use Rattle.std.specs.Prelude.{◌+◌, ℕ, zero, suc, List, [], ◌∷◌, ◌++◌, length, Bool, false}
 use Rattle.std.specs.Prelude.{if◌then◌else◌, is_none, Option, Some, None}
 use Rattle.std.specs.Prelude.{position, codes}
-use Rattle.std.specs.Result.{result_err}
 use Rattle.std.specs.List.{enumerate_from}
 use Rattle.serde_json.specs.Data.{Data}
 use Rattle.am_universe.specs.declared.kind.Kind.TheVariants as kinds
@@ -17,7 +16,7 @@ use Rattle.am_files.specs.declared.limits.TheConstants.{MAX_RECEIVERS, MAX_ROUTE
 use Rattle.am_files.specs.declared.limits.TheConstants.{MAX_RULES, MAX_EQUAL_NAMES}
 use Rattle.am_json.specs.Json.{field, member_list}
 use Rattle.am_json.specs.OptionalItems.{read_optional_items}
-use Rattle.am_json.specs.Pointer.{Refusal, refusal_here, to_field, to_item}
+use Rattle.am_json.specs.Pointer.{refusal_here, to_field, to_item}
 use Rattle.am_json.specs.Reading.{Reading, ◌>>=◌, accept, accept_some, refuse, reading_within}
 use Rattle.am_json.specs.Reading.{refuse_for, check_count, as_object, as_text, as_items}
 use Rattle.am_json.specs.Reading.{check_only_fields, required_field, required_text, required_items}
@@ -255,11 +254,3 @@ unfoldable pub read_config_file : List ℕ → Reading Configuration
 read_config_file bytes = do
   d ← read_json bytes
   read_config d
-
--- The first fault of a value, and of a file, where the engine builds each pattern that its grammar
--- reads.
-abbrev pub fault_of_config : Data → Option Refusal
-fault_of_config d = result_err ((read_config d).result)
-
-abbrev pub fault_of_config_file : List ℕ → Option Refusal
-fault_of_config_file bytes = result_err ((read_config_file bytes).result)

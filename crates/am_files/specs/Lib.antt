@@ -7,4 +7,5 @@ pub mod RouteView
 pub mod ConfigView
 pub mod Path
 pub mod PathView
+pub mod RoutePaths
 pub mod ConfigFaults

@@ -27,10 +27,11 @@ pub use Rattle.am_files.specs.ConfigReading.{read_next_child, read_next_rule, re
 unfoldable pub use Rattle.am_files.specs.ConfigReading.{read_equal_name, read_equal_names}
 unfoldable pub use Rattle.am_files.specs.ConfigReading.{read_equal, read_rule, read_rule_items}
 unfoldable pub use Rattle.am_files.specs.ConfigReading.{read_rules}
-pub use Rattle.am_files.specs.ConfigReading.{fault_of_config, fault_of_config_file}
 pub use Rattle.am_files.specs.ConfigFaults.{receiver_name_fault, ConfigPlace, config_fault_at}
 pub use Rattle.am_files.specs.ConfigFaults.{IsFirstFaultOfConfig, IsFirstFaultOfConfigFile}
 pub use Rattle.am_files.specs.ConfigFaults.{IsMetPatternOfConfig, ConfigFileRefusedFor}
 pub use Rattle.am_files.specs.Path.{path_text, step_text, list_of, route_at, leads_through}
 pub use Rattle.am_files.specs.Path.{IsPath}
+pub use Rattle.am_files.specs.RoutePaths.{routes_at, routes_from, all_routes, AreListed}
+pub use Rattle.am_files.specs.RoutePaths.{paths_at, paths_of}
 unfoldable pub use Rattle.am_files.specs.Path.{numeral}

@@ -1,11 +1,10 @@
 //! Reading the configuration file.
 
-ghost use Rattle.std.specs.Prelude.{◌≡◌, ◌≢◌, ◌≤◌, ◌+◌, [], length, map, None, IfOk, IfErr};
+ghost use Rattle.std.specs.Prelude.{◌≡◌, ◌≤◌, ◌+◌, [], length, map, None, IfOk, IfErr};
 ghost use Rattle.std.specs.Prelude.{string_bytes, option_map, false};
 ghost use Rattle.serde_json.specs.View.{view};
-ghost use Rattle.am_universe.specs.declared.kind.Kind.TheVariants as kinds;
 ghost use Rattle.am_universe.specs.declared.place.Place.TheVariants as places;
-ghost use Rattle.am_json.specs.Words.{to_item, Gives, refusal_of, reading_within};
+ghost use Rattle.am_json.specs.Words.{to_item, Gives, IsRefusalAt, reading_within};
 ghost use Rattle.am_json.specs.Words.{check_only_fields, read_items};
 ghost use Rattle.am_files.specs.Words.{FileSaysConfig, route_fields, route_matcher_fields};
 ghost use Rattle.am_files.specs.Words.{route_count, routes_count, routes_of, route_view, names_of};
@@ -27,8 +26,8 @@ use crate::route_matchers::{MatcherFields, read_matchers};
 use crate::rule::Rule;
 use am_json::{
     ReadError, as_object, as_text, check_count, check_only_fields, field, read_boolean_or,
-    read_json, read_optional_items, refuse_for, required_field, required_items, required_text,
-    within_field, within_item,
+    read_each_item, read_json, read_optional_items, refuse_for, required_field, required_items,
+    required_text, within_field, within_item,
 };
 use am_labels::{Fault, Kind, Matchers, Place};
 use am_records::label_name_fault;
@@ -78,11 +77,7 @@ const ROUTE_FIELDS: [&str; 12] = [
 /// a receiver is compared with those before it, and each that a route has with those declared.
 pub fn read_config(alloc: Global, bytes: &[u8]) -> Result<Config, Fault>
     ensures says { IfOk result (λ c. FileSaysConfig bytes.now (config_view c)) }
-    ensures first { IfErr result (λ fault. fault.kind ≢ kinds.Memory
-        → (fault.place ≡ places.Config) × ConfigFileRefusedFor bytes.now (refusal_of fault)) }
-    ensures memory { IfErr result (λ fault. fault.kind ≡ kinds.Memory
-        → (fault.place ≡ places.Memory) × (string_bytes fault.pointer ≡ [])) }
-    ensures no_write { IfErr result (λ fault. fault.kind ≢ kinds.Write) }
+    ensures first { IfErr result (IsRefusalAt places.Config (ConfigFileRefusedFor bytes.now)) }
 {
     match read_config_file(alloc, bytes) {
         Ok(config) => Ok(config),
@@ -424,13 +419,7 @@ fn read_each_rule(alloc: Global, items: &[Value]) -> Result<Vec<Rule>, ReadError
     ensures { Gives (λ rules. rules.items) result
         (read_items read_next_rule [] (map view items.now)) }
 {
-    let mut rules = Vec::new(alloc);
-    for item in items {
-        let found = read_rule(alloc, item);
-        let rule = within_item(alloc, rules.len(), found)?;
-        rules.push(rule)?;
-    }
-    Ok(rules)
+    read_each_item(alloc, items, |item| read_rule(alloc, item))
 }
 
 #[tactic(auto, using(am_json::proofs::Readings::steps), unfolding(crate::specs::ConfigReading::read_rule))]

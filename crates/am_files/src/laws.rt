@@ -2,16 +2,16 @@
 //! paths.
 
 ghost use Rattle.std.specs.Prelude.{◌≡◌, ◌≢◌, ◌⊎◌, ◌↔◌, ◌+◌, ◌<◌, ◌≤◌, ℕ, List, [], ◌∷◌, ◌++◌};
-ghost use Rattle.std.specs.Prelude.{length, Some, None, Ok, Err, option_and_then, slice_get};
+ghost use Rattle.std.specs.Prelude.{length, Some, None, option_and_then, slice_get};
 ghost use Rattle.serde_json.specs.Data.{Data};
-ghost use Rattle.am_json.specs.Words.{Refusal, MayRefuse};
+ghost use Rattle.am_json.specs.Words.{Refusal, MayRefuse, IsReadExactly};
 ghost use Rattle.am_files.specs.declared.limits.TheConstants.{MAX_LEVELS, MAX_RECEIVERS};
 ghost use Rattle.am_files.specs.declared.limits.TheConstants.{MAX_ROUTES, MAX_PATH_STEPS};
 ghost use Rattle.am_files.specs.declared.limits.TheConstants.{MAX_CHILD_POSITION, MAX_RULES};
 ghost use Rattle.am_files.specs.declared.limits.TheConstants.{MAX_EQUAL_NAMES};
 ghost use Rattle.am_files.specs.Words.{Configuration, SaysConfig, FileSaysConfig, read_config};
-ghost use Rattle.am_files.specs.Words.{read_config_file, fault_of_config, fault_of_config_file};
-ghost use Rattle.am_files.specs.Words.{ConfigPlace, config_fault_at, IsFirstFaultOfConfig};
+ghost use Rattle.am_files.specs.Words.{read_config_file, ConfigPlace, config_fault_at};
+ghost use Rattle.am_files.specs.Words.{IsFirstFaultOfConfig};
 ghost use Rattle.am_files.specs.Words.{IsFirstFaultOfConfigFile, IsMetPatternOfConfig};
 ghost use Rattle.am_files.specs.Words.{ConfigFileRefusedFor, smallest_config_file, smallest_config};
 ghost use Rattle.am_files.specs.Words.{SaysRule, rule_example, example_rule};
@@ -24,13 +24,7 @@ ghost use Rattle.am_files.specs.Words.{route_at, IsPath, no_routes, route_levels
 /// says a configuration exactly where no place is at fault. Beside the first fault only the
 /// refusals of patterns that are met before it are open.
 pub fn configurations_are_read()
-    ensures read { (d : Data) (c : Configuration)
-        → SaysConfig d c ↔ ((read_config d).result ≡ Ok c) }
-    ensures one { (d : Data) (b c : Configuration) → SaysConfig d b → SaysConfig d c → b ≡ c }
-    ensures faults { (d : Data)
-        → (fault_of_config d ≡ None) ↔ ((c : Configuration) × SaysConfig d c) }
-    ensures first { (d : Data) (r : Refusal)
-        → ((read_config d).result ≡ Err r) ↔ IsFirstFaultOfConfig d r }
+    ensures read { IsReadExactly SaysConfig read_config IsFirstFaultOfConfig }
     ensures sound { (d : Data) → ((c : Configuration) × SaysConfig d c)
         ↔ ((place : ConfigPlace) → config_fault_at d place ≡ None) }
     ensures refused { (d : Data) (r : Refusal) → MayRefuse (read_config d) r
@@ -39,14 +33,7 @@ pub fn configurations_are_read()
 
 /// The same of the bytes of a file.
 pub fn configuration_files_are_read()
-    ensures read { (bytes : List ℕ) (c : Configuration)
-        → FileSaysConfig bytes c ↔ ((read_config_file bytes).result ≡ Ok c) }
-    ensures one { (bytes : List ℕ) (b c : Configuration) → FileSaysConfig bytes b
-        → FileSaysConfig bytes c → b ≡ c }
-    ensures faults { (bytes : List ℕ)
-        → (fault_of_config_file bytes ≡ None) ↔ ((c : Configuration) × FileSaysConfig bytes c) }
-    ensures first { (bytes : List ℕ) (r : Refusal)
-        → ((read_config_file bytes).result ≡ Err r) ↔ IsFirstFaultOfConfigFile bytes r }
+    ensures read { IsReadExactly FileSaysConfig read_config_file IsFirstFaultOfConfigFile }
     ensures refused { (bytes : List ℕ) (r : Refusal) → MayRefuse (read_config_file bytes) r
         → ConfigFileRefusedFor bytes r }
 {}

@@ -22,11 +22,13 @@ pub use am_records::{
 mod config;
 mod path;
 mod route;
+mod routes;
 mod rule;
 
 pub use config::Config;
 pub use path::Path;
 pub use route::Route;
+pub use routes::RouteList;
 pub use rule::Rule;
 
 // The configuration file.

@@ -13,7 +13,8 @@ ghost use Rattle.am_files.specs.Words.{optional_pairs, read_pairs, read_next_pai
 ghost use Rattle.am_files.specs.Words.{read_matcher_pair, refuse_root_matchers};
 
 use am_json::{
-    ReadError, as_items, as_object, as_text, field, refuse_for, within_field, within_item,
+    ReadError, as_items, as_object, as_text, field, read_each_member, refuse_for, within_field,
+    within_item,
 };
 use am_labels::{Kind, Matcher, Matchers, Op, parse_matchers};
 use am_records::{new_matcher, read_named_text};
@@ -177,11 +178,9 @@ fn read_each_pair(
     ensures { Gives (λ ms. ms) result
         (read_each (read_next_pair op) before (member_list (members_view members.now.entries))) }
 {
-    let mut found = before;
-    for (name, value) in members.iter() {
-        found = read_next_pair(alloc, op, found, name.as_str(), value)?;
-    }
-    Ok(found)
+    read_each_member(before, members, |before, name, value| {
+        read_next_pair(alloc, op, before, name, value)
+    })
 }
 
 #[tactic(auto, using(am_json::proofs::Readings::steps), unfolding(crate::specs::ConfigReading::read_next_pair))]

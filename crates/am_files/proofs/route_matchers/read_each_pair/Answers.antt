@@ -1,36 +1,8 @@
-use Rattle.std.proofs.Common.{◌≡◌, List, [], ap, rules, string_bytes}
-use Rattle.std.proofs.lemmas.Result.{err_from_is_err_and}
-use Rattle.serde_json.specs.View.{view, members_view}
-use Rattle.serde_json.proofs.Views.{Entry}
-use Rattle.am_json.specs.Json.{member_list}
+use Rattle.std.proofs.Common.{rules}
 use Rattle.am_files.specs.ConfigReading.{read_next_pair}
-use Rattle.am_json.proofs.Items.{goes_on, ends, is_done}
 use Rattle.am_files.proofs.route_matchers.read_each_pair.Goals as goal
-
-pub returns-in_err-found : goal.returns-in_err-found
-returns-in_err-found c =
-    let l = c.loop-name in
-    let p = err_from_is_err_and c.from_residual.result c.from_residual.ensures.1 in
-    rw (p.1, p.2) (ends (read_next_pair c.args.op) c.in_err-found.field-0.0 l.found
-    (member_list (members_view l.name-iterator))
-    (string_bytes c.in-Some.name.now, view c.in-Some.value.now)
-    (member_list (members_view c.next.new.self)) _
-    (ap (λ (es : List Entry). member_list (members_view es)) c.in-Some.ensures.steps)
-    (rw c.as_str.ensures.value at c.in_err-found.ensures) l.invariant)
-
-pub loop-name-preserved : goal.loop-name-preserved
-loop-name-preserved c =
-    let l = c.loop-name in
-    goes_on (read_next_pair c.args.op) l.found c.in_ok-found.found
-    (member_list (members_view l.name-iterator))
-    (string_bytes c.in-Some.name.now, view c.in-Some.value.now)
-    (member_list (members_view c.next.new.self)) _
-    (ap (λ (es : List Entry). member_list (members_view es)) c.in-Some.ensures.steps)
-    (rw c.as_str.ensures.value at c.in_ok-found.ensures) l.invariant
 
 pub returns : goal.returns
 returns c =
-    let none : c.loop-name.name-iterator ≡ [] = search rules in
-    is_done (read_next_pair c.args.op) c.loop-name.found
-    (member_list (members_view c.loop-name.name-iterator)) _
-    (ap (λ (es : List Entry). member_list (members_view es)) none) c.loop-name.invariant
+    c.read_each_member.ensures.reading (read_next_pair c.args.op)
+    (λ before name value found at. search rules)

@@ -35,8 +35,8 @@ returns-then-not-all-clause-refused c =
     c.split.ensures.has_more c.split.ensures.pattern) (λ x b q k. search (rules, tests)) in
     inl (refl, λ path. no_path text steps path other is (sym all ∙ c.if-not-all.true))
 
-pub returns-clause-ok : goal.returns-clause-ok
-returns-clause-ok c =
+pub returns : goal.returns
+returns c =
     let text = c.args.text.now in
     let steps = c.in-Some.steps.now in
     let is = rw c.in-Some.is at (strip_prefix_char 47 text c.strip_prefix.result
@@ -45,18 +45,10 @@ returns-clause-ok c =
     all_from_yields_List reads_back _ _ _ c.all.ensures.ran
     (YieldsList-from_str_split 47 steps (lit< tt) c.split.ensures.text
     c.split.ensures.has_more c.split.ensures.pattern) (λ x b q k. search (rules, tests)) in
-    rw c.ok_or.ensures.value (path_read text steps c.parse_steps.result is
-    (sym all ∙ c.if-not-all.false) c.parse_steps.ensures)
-
-pub returns-clause-refused : goal.returns-clause-refused
-returns-clause-refused c =
-    let text = c.args.text.now in
-    let steps = c.in-Some.steps.now in
-    let is = rw c.in-Some.is at (strip_prefix_char 47 text c.strip_prefix.result
-    c.strip_prefix.ensures.cases (lit< tt)) in
-    let all : c.all.result ≡ list_all reads_back (pieces_of steps) =
-    all_from_yields_List reads_back _ _ _ c.all.ensures.ran
-    (YieldsList-from_str_split 47 steps (lit< tt) c.split.ensures.text
-    c.split.ensures.has_more c.split.ensures.pattern) (λ x b q k. search (rules, tests)) in
-    rw c.ok_or.ensures.value (path_refused text steps c.parse_steps.result is
-    (sym all ∙ c.if-not-all.false) c.parse_steps.ensures)
+    let numerals = sym all ∙ c.if-not-all.false in
+    record {
+      ok = rw c.ok_or.ensures.value
+          (path_read text steps c.parse_steps.result is numerals c.parse_steps.ensures);
+      refused = rw c.ok_or.ensures.value
+          (path_refused text steps c.parse_steps.result is numerals c.parse_steps.ensures);
+    }
