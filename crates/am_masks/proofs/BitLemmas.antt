@@ -18,9 +18,6 @@ use Rattle.am_masks.proofs.ListLemmas.{and_true}
 place_within : (j : ℕ) → j % WORD < WORD
 place_within j = omega arith
 
-word_within : (j n : ℕ) → j < WORD * n → j / WORD < n
-word_within j n h = omega (arith, h)
-
 word_past : (j n : ℕ) → WORD * n ≤ j → n ≤ j / WORD
 word_past j n h = omega (arith, h)
 

@@ -1,17 +1,16 @@
 -- Why a cube has its verdict at a prefix.
-use Rattle.std.proofs.Common.{◌≡◌, ℕ, ◌<◌, ◌≤◌, Bool, true, false, not, ◌&&◌, ◌||◌, ◌==◌, cond, List, [], ◌∷◌, ◌++◌, length, get_or, slice_index, zero, suc, ◌+◌, take, drop, refl, ap, sym, subst, ◌∙◌, inl, inr, arith}
+use Rattle.std.proofs.Common.{◌≡◌, ℕ, ◌<◌, Bool, true, false, not, ◌&&◌, ◌||◌, ◌==◌, cond, List, [], ◌∷◌, ◌++◌, length, get_or, slice_index, zero, suc, ◌+◌, take, drop, refl, ap, sym, subst, ◌∙◌, inl, inr, arith}
 use Rattle.std.specs.Prelude.{IsTrue}
 use Rattle.std.specs.List.{list_all, AllByRecursion}
-use Rattle.std.proofs.lemmas.Bool.{cases_Bool, cases_lt, and_parts, and_from, and_right, or_right, lt-ltb, le-ltb, ltb-true, eqb-true, eq-eqb}
+use Rattle.std.proofs.lemmas.Bool.{cases_Bool, and_parts, and_from, or_right, lt-ltb, ltb-true, eqb-true, eq-eqb}
 use Rattle.std.proofs.lemmas.List.{take_more}
-use Rattle.am_universe.proofs.ListLemmas.{IsIn}
 use Rattle.am_search.specs.declared.labels.Labels.{Labels}
 use Rattle.am_search.specs.declared.verdict.Verdict.TheVariants.{Yes, No, Open}
 use Rattle.am_search.specs.Words.{has_label, is_yes, is_no}
 use Rattle.am_masks.specs.declared.cube.LabelMask.{LabelMask}
 use Rattle.am_masks.specs.Cube.{MaskedLabels, reaches, permits_at, may_at, reaches_all, verdict_at}
 use Rattle.am_masks.specs.Reasons.{IsReason}
-use Rattle.am_masks.proofs.ListLemmas.{each_both, each_map, each_passes, all_pass, not_all, each_pushed}
+use Rattle.am_masks.proofs.ListLemmas.{each_both, each_map, each_passes, all_pass, each_pushed}
 use Rattle.am_masks.proofs.CubeLemmas.{fits, fits_from, fits_at}
 use Rattle.am_masks.proofs.JudgeLemmas.{may_is, must_is}
 
@@ -20,25 +19,6 @@ use Rattle.am_masks.proofs.JudgeLemmas.{may_is, must_is}
 permits_same : (c prefix : List ℕ) (m : LabelMask)
     → slice_index c m.label ≡ slice_index prefix m.label → permits_at c m ≡ permits_at prefix m
 permits_same c prefix m same = ap (λ p. get_or m.mask p false) same
-
--- a mask forbids a prefix only at a label of the prefix
-pub forbids_within : (prefix : List ℕ) (m : LabelMask) → fits prefix m ≡ false
-    → m.label < length prefix
-forbids_within prefix m e = elim (cases_lt m.label (length prefix)) [
-  | inl within ↦ within
-  | inr past ↦
-      let free : fits prefix m ≡ true =
-      ap (λ b. not b || permits_at prefix m) (le-ltb m.label (length prefix) past) in
-      let both : true ≡ false = sym free ∙ e in cc
-]
-
-forbids_too : (c prefix : List ℕ) (m : LabelMask) → fits prefix m ≡ false
-    → length prefix ≤ length c → slice_index c m.label ≡ slice_index prefix m.label
-    → fits c m ≡ false
-forbids_too c prefix m e long same =
-    let within = forbids_within prefix m e in
-    fits_at c m (omega (arith, within)) ∙ permits_same c prefix m same
-    ∙ sym (fits_at prefix m within) ∙ e
 
 -- ---- Why the verdict is `No`.
 
@@ -51,19 +31,6 @@ never cube labels prefix empty none = record {
   within = λ i has. let both : true ≡ false = sym has ∙ none i in cc;
   verdict_is = λ c long agrees.
       no_where cube c (ap (λ b. not b && list_all (fits c) cube.masks) empty);
-}
-
-pub forbidden : (cube : MaskedLabels) (m : LabelMask) (labels : Labels) (prefix : List ℕ)
-    → IsIn cube.masks m → fits prefix m ≡ false
-    → ((i : ℕ) → has_label labels i ≡ (i == m.label)) → IsReason cube No labels prefix
-forbidden cube m labels prefix there e is = record {
-  within = λ i has.
-      let same : i ≡ m.label = eqb-true i m.label (sym (is i) ∙ has) in
-      let within = forbids_within prefix m e in omega (arith, same, within);
-  verdict_is = λ c long agrees.
-      let has = is m.label ∙ eq-eqb m.label m.label refl in
-      no_where cube c (and_right (not cube.empty) (list_all (fits c) cube.masks)
-      (not_all (fits c) cube.masks m there (forbids_too c prefix m e long (agrees m.label has))));
 }
 
 -- the two labels of a set that is made of one
@@ -88,13 +55,6 @@ no_reason cube prefix some fit =
 pub record AreLabelsOf (masks : List LabelMask) (labels : Labels) (prefix : List ℕ) : Type 0 where
   pub within : (i : ℕ) → IsTrue (has_label labels i) → i < length prefix
   pub each : AllByRecursion (λ m. IsTrue (has_label labels m.label)) masks
-
-pub labels_none : (labels : Labels) (prefix : List ℕ) → ((i : ℕ) → has_label labels i ≡ false)
-    → AreLabelsOf [] labels prefix
-labels_none labels prefix none = record {
-  within = λ i has. let both : true ≡ false = sym has ∙ none i in cc;
-  each = tt;
-}
 
 pub labels_more : (masks : List LabelMask) (m : LabelMask) (old new : Labels) (prefix : List ℕ)
     → AreLabelsOf masks old prefix → m.label < length prefix

@@ -4,8 +4,10 @@ use Rattle.std.specs.List.{list_all, list_any, AllByRecursion}
 use Rattle.std.proofs.lemmas.Bool.{cases_Bool, false_from_ne_true}
 use Rattle.am_search.specs.declared.verdict.Verdict.{Verdict}
 use Rattle.am_search.specs.declared.verdict.Verdict.TheVariants.{Yes, No, Open}
+use Rattle.am_universe.proofs.CompletionLemmas.{completions_of_whole}
 use Rattle.am_universe.proofs.ListLemmas.{IsIn, AllByRecursion-at, AllByRecursion-each}
-use Rattle.am_masks.specs.Verdicts.{verdict_over}
+use Rattle.am_labels.specs.Words.{Label, sizes, IsWhole, Condition}
+use Rattle.am_masks.specs.Verdicts.{verdict_over, matches_at, verdict_of_list}
 use Rattle.am_masks.proofs.ListLemmas.{each_passes, all_pass, none_passes, not_all, some_passes, same_all, same_any}
 
 pub verdict_yes : (test : List ℕ → Bool) (cs : List (List ℕ)) → list_all test cs ≡ true → verdict_over test cs ≡ Yes
@@ -78,8 +80,15 @@ open_exactly test cs = (
 )
 
 -- one choice alone is decided
-pub verdict_over_one : (test : List ℕ → Bool) (c : List ℕ) → verdict_over test (c ∷ []) ≡ cond (test c) Yes No
+verdict_over_one : (test : List ℕ → Bool) (c : List ℕ) → verdict_over test (c ∷ []) ≡ cond (test c) Yes No
 verdict_over_one test c = elim (cases_Bool (test c)) [ inl e ↦ rw e refl | inr e ↦ rw e refl ]
+
+-- and so is that of a list at a whole choice
+pub list_says : (u : List Label) (ms : List Condition) (c : List ℕ) → IsWhole (sizes u) c
+    → verdict_of_list u ms c ≡ cond (matches_at u ms c) Yes No
+list_says u ms c whole =
+    ap (verdict_over (matches_at u ms)) (completions_of_whole (sizes u) c whole)
+    ∙ verdict_over_one (matches_at u ms) c
 
 pub decided : (b : Bool) (v : Verdict) → v ≡ cond b Yes No → v ≢ Open
 decided true v e only_some = let yes : Yes ≡ Open = sym e ∙ only_some in cc

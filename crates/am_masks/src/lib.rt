@@ -19,6 +19,9 @@ mod mask;
 // Which positions of each label are permitted.
 mod cube;
 
+// The impossible lists of a space.
+mod impossible;
+
 // What is asked of a verdict.
 mod modality;
 
@@ -30,6 +33,7 @@ mod table;
 
 pub use cube::Cube;
 pub use group::Group;
+pub use impossible::impossible_cubes;
 pub use judged_list::JudgedList;
 pub use modality::Modality;
 pub use rows::rows_of;

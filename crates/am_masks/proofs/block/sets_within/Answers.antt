@@ -1,4 +1,4 @@
-use Rattle.std.proofs.Common.{◌+◌, ◌++◌, ◌∷◌, [], length, subst, sym, ◌∙◌, ap, IsTrue, not, ◌&&◌, arith}
+use Rattle.std.proofs.Common.{◌+◌, ◌∷◌, [], length, subst, ◌∙◌, ap, IsTrue, not, ◌&&◌}
 use Rattle.std.proofs.lemmas.List.{length-append}
 use Rattle.am_masks.specs.ListSetView.{has}
 use Rattle.am_masks.specs.BlockView.{is_within}

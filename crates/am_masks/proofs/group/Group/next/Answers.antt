@@ -1,8 +1,6 @@
-use Rattle.std.proofs.Common.{IfSome, IfNone, ap, sym, ◌∙◌, subst, length}
+use Rattle.std.proofs.Common.{sym}
 use Rattle.am_masks.specs.Modality.{passes}
 use Rattle.am_masks.specs.Cube.{verdict_at}
-use Rattle.am_masks.specs.Places.{IsNext, NoneBetween}
-use Rattle.am_masks.specs.GroupView.{verdicts_in}
 use Rattle.am_masks.proofs.GroupLemmas.{if_some_next, if_none_next}
 use Rattle.am_masks.proofs.group.Group.next.Goals as goal
 
