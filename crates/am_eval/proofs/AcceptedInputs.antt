@@ -1,31 +1,22 @@
 -- Inputs that are accepted have no first fault, but for the patterns that the engine may refuse.
 use Rattle.std.proofs.Common.{◌≡◌, ℕ, List, [], ◌∷◌, ◌++◌, length, Option, None, Some}
-use Rattle.std.proofs.Common.{Result, Ok, Err, refl, sym, ap, ◌∙◌, ◌⊎◌, inl, inr, arith}
+use Rattle.std.proofs.Common.{sym, ap, ◌∙◌, inl, inr, arith}
 use Rattle.am_universe.specs.declared.kind.Kind.TheVariants as kinds
 use Rattle.am_universe.specs.declared.place.Place.{Place}
 use Rattle.am_universe.specs.LabelSet.{LabelMap}
 use Rattle.am_labels.specs.ParsedLabelSet.{WordsSpellSet}
 use Rattle.am_labels.specs.Space.{Space}
-use Rattle.am_json.specs.Json.{json_of}
 use Rattle.am_json.specs.Pointer.{Refusal}
-use Rattle.am_json.proofs.Readings.{says_one}
-use Rattle.am_records.specs.UniverseFile.{FileSaysUniverse, read_universe_file}
-use Rattle.am_records.specs.UniverseFaults.{IsMetPatternOfUniverse, UniverseFileRefusedFor}
+use Rattle.am_json.proofs.FormLaws.{says_no_fault}
+use Rattle.am_records.specs.UniverseFile.{FileSaysUniverse}
+use Rattle.am_records.specs.UniverseFaults.{UniverseFileRefusedFor}
 use Rattle.am_records.specs.SilencesFile.{Silence}
-use Rattle.am_records.specs.SilencesReading.{read_silences_file}
-use Rattle.am_records.specs.SilencesFaults.{IsMetPatternOfSilences}
-use Rattle.am_records.specs.AlertsReading.{read_alerts_file}
-use Rattle.am_records.proofs.UniverseSays as universe_file
-use Rattle.am_records.proofs.UniverseFaultLemmas.{universe_file_first}
-use Rattle.am_records.proofs.SilencesSays.{silences_file_decides}
-use Rattle.am_records.proofs.SilencesFaultLemmas.{silences_file_first}
-use Rattle.am_records.proofs.AlertsSays.{alerts_file_decides}
-use Rattle.am_records.proofs.AlertsFaultLemmas.{alerts_file_first}
+use Rattle.am_records.proofs.UniverseFaultLemmas.{universe_laws}
+use Rattle.am_records.proofs.SilencesFaultLemmas.{silences_laws}
+use Rattle.am_records.proofs.AlertsFaultLemmas.{alerts_laws}
 use Rattle.am_files.specs.ConfigFile.{Configuration, FileSaysConfig}
-use Rattle.am_files.specs.ConfigReading.{read_config_file}
-use Rattle.am_files.specs.ConfigFaults.{ConfigFileRefusedFor, IsMetPatternOfConfig}
-use Rattle.am_files.proofs.ConfigSays as config_file
-use Rattle.am_files.proofs.ConfigFaultLemmas.{config_file_first}
+use Rattle.am_files.specs.ConfigFaults.{ConfigFileRefusedFor}
+use Rattle.am_files.proofs.ConfigFaultLemmas.{config_laws}
 use Rattle.am_eval.specs.World.{World}
 use Rattle.am_eval.specs.Pairs.{pairs_of}
 use Rattle.am_eval.specs.Files.{config_of, SaysSilencesIfAny, SaysAlertsIfAny}
@@ -33,98 +24,66 @@ use Rattle.am_eval.specs.AskedInstant.{instant_fault}
 use Rattle.am_eval.specs.Faults.{Stage, IsFirstFaultOfCall, SilencesRefusedFor, AlertsRefusedFor}
 use Rattle.am_eval.specs.Faults.{InstantRefusedFor, PairsRefusedFor, config_stage, silences_stage}
 use Rattle.am_eval.specs.Faults.{alerts_stage, instant_stage, pairs_stage, set_stage}
-use Rattle.am_eval.specs.WorldInputs.{WorldInputs, AcceptsWorld, world_stages}
+use Rattle.am_eval.specs.Files.{Files}
+use Rattle.am_eval.specs.AcceptedWorld.{AcceptsWorld, world_stages}
 use Rattle.am_eval.specs.Explanation.{explain_stages}
 use Rattle.am_eval.proofs.SetRefusals.{set_accepted}
 
 -- ---- Files.
 
--- what is read as something is not read as a refusal
-not_both : {A : Type 0} (reading : Result A Refusal) (x : A) (r : Refusal) → reading ≡ Ok x
-    → reading ≡ Err r → ⊥
-not_both reading x r read refused = let both : Ok x ≡ Err r = sym read ∙ refused in absurd (cc)
-
-cases_option : {X : Type 0} (o : Option X) → (o ≡ None) ⊎ ((x : X) × (o ≡ Some x))
-cases_option None = inl refl
-cases_option (Some x) = inr (x, refl)
-
 pub universe_accepted : (bytes : List ℕ) (s : Space) (r : Refusal) → FileSaysUniverse bytes s
     → UniverseFileRefusedFor bytes r → r.kind ≡ kinds.Pattern
-universe_accepted bytes s r said (inl first) =
-    absurd (not_both (read_universe_file bytes).result s r
-    ((universe_file.file_decides bytes).reads s said) ((universe_file_first bytes r).1 first))
-universe_accepted bytes s r said (inr met) =
-    elim (cases_option (json_of bytes)) [
-      | inl none ↦ absurd (rw none at met.1)
-      | inr value ↦
-          let pattern : IsMetPatternOfUniverse value.0 r = rw value.1 at met.1 in pattern.stands.1
-    ]
+universe_accepted = universe_laws.accepted
 
 pub config_accepted : (bytes : List ℕ) (c : Configuration) (r : Refusal) → FileSaysConfig bytes c
     → ConfigFileRefusedFor bytes r → r.kind ≡ kinds.Pattern
-config_accepted bytes c r said (inl first) =
-    absurd (not_both (read_config_file bytes).result c r
-    ((config_file.file_decides bytes).reads c said) ((config_file_first bytes r).1 first))
-config_accepted bytes c r said (inr met) =
-    elim (cases_option (json_of bytes)) [
-      | inl none ↦ absurd (rw none at met.1)
-      | inr value ↦
-          let pattern : IsMetPatternOfConfig value.0 r = rw value.1 at met.1 in pattern.stands.1
-    ]
+config_accepted = config_laws.accepted
 
 silences_accepted : (file : Option (List ℕ)) (silences : List Silence) (r : Refusal)
     → SaysSilencesIfAny file silences → SilencesRefusedFor file r → r.kind ≡ kinds.Pattern
 silences_accepted None silences r said refused = absurd refused
-silences_accepted (Some bytes) silences r said (inl first) =
-    absurd (not_both (read_silences_file bytes).result silences r
-    ((silences_file_decides bytes).reads silences said) ((silences_file_first bytes r).1 first))
-silences_accepted (Some bytes) silences r said (inr met) =
-    elim (cases_option (json_of bytes)) [
-      | inl none ↦ absurd (rw none at met.1)
-      | inr value ↦
-          let pattern : IsMetPatternOfSilences value.0 r = rw value.1 at met.1 in pattern.stands.1
-    ]
+silences_accepted (Some bytes) silences r said refused =
+    silences_laws.accepted bytes silences r said refused
 
 alerts_accepted : (file : Option (List ℕ)) (alerts : List LabelMap) (r : Refusal)
     → SaysAlertsIfAny file alerts → AlertsRefusedFor file r → ⊥
 alerts_accepted None alerts r said refused = refused
-alerts_accepted (Some bytes) alerts r said first =
-    not_both (read_alerts_file bytes).result alerts r ((alerts_file_decides bytes).reads alerts said)
-    ((alerts_file_first bytes r).1 first)
+alerts_accepted (Some bytes) alerts r said refused =
+    says_no_fault alerts_laws.file bytes alerts r said refused
 
 -- a file says one space, one configuration, one list of alerts, and one of silences
 pub one_space : (bytes : List ℕ) (s t : Space) → FileSaysUniverse bytes s
     → FileSaysUniverse bytes t → s ≡ t
-one_space bytes s t = says_one (universe_file.file_decides bytes) s t
+one_space = universe_laws.file.one
 
 pub one_configuration : (bytes : List ℕ) (c d : Configuration) → FileSaysConfig bytes c
     → FileSaysConfig bytes d → c ≡ d
-one_configuration bytes c d = says_one (config_file.file_decides bytes) c d
+one_configuration = config_laws.file.one
 
 pub alerts_once : (file : Option (List ℕ)) (alerts others : List LabelMap)
     → SaysAlertsIfAny file alerts → SaysAlertsIfAny file others → alerts ≡ others
 alerts_once None alerts others said again = said ∙ sym again
 alerts_once (Some bytes) alerts others said again =
-    says_one (alerts_file_decides bytes) alerts others said again
+    alerts_laws.file.one bytes alerts others said again
 
 silences_once : (file : Option (List ℕ)) (silences others : List Silence)
     → SaysSilencesIfAny file silences → SaysSilencesIfAny file others → silences ≡ others
 silences_once None silences others said again = said ∙ sym again
 silences_once (Some bytes) silences others said again =
-    says_one (silences_file_decides bytes) silences others said again
+    silences_laws.file.one bytes silences others said again
 
 -- ---- Worlds.
 
 -- the inputs of a world are accepted as one world
-pub one_world : (inputs : WorldInputs) (w x : World) → AcceptsWorld inputs w
+pub one_world : (inputs : Files) (w x : World) → AcceptsWorld inputs w
     → AcceptsWorld inputs x → w ≡ x
 one_world inputs w x said again =
     let config : w.config ≡ x.config = one_configuration (config_of inputs.config) w.config x.config
-    said.says_config again.says_config in
+    said.accepts_files.says_config again.accepts_files.says_config in
     let silences : w.silences ≡ x.silences = silences_once inputs.silences w.silences x.silences
-    said.says_silences again.says_silences in
-    let alerts : w.alerts ≡ x.alerts = alerts_once inputs.alerts w.alerts x.alerts said.says_alerts
-    again.says_alerts in
+    said.accepts_files.says_silences again.accepts_files.says_silences in
+    let alerts : w.alerts ≡ x.alerts = alerts_once inputs.alerts w.alerts x.alerts said.accepts_files.says_alerts
+    again.accepts_files.says_alerts in
     let instant : w.instant ≡ x.instant = said.asks_instant ∙ sym again.asks_instant in
     λ k. record {
       config = config k;
@@ -138,17 +97,17 @@ instant_accepted : (silences at : Option (List ℕ)) (r : Refusal)
 instant_accepted silences at r accepted refused =
     let both : Some r.kind ≡ None = sym refused.0 ∙ accepted in absurd (cc)
 
-pairs_accepted : (inputs : WorldInputs) (w : World) (r : Refusal) → AcceptsWorld inputs w
+pairs_accepted : (inputs : Files) (w : World) (r : Refusal) → AcceptsWorld inputs w
     → PairsRefusedFor (config_of inputs.config) inputs.alerts r → ⊥
 pairs_accepted inputs w r accepts refused =
     let config : refused.configuration ≡ w.config =
     one_configuration (config_of inputs.config) refused.configuration w.config refused.says_config
-    accepts.says_config in
+    accepts.accepts_files.says_config in
     let alerts : refused.alerts ≡ w.alerts =
-    alerts_once inputs.alerts refused.alerts w.alerts refused.says_alerts accepts.says_alerts in
+    alerts_once inputs.alerts refused.alerts w.alerts refused.says_alerts accepts.accepts_files.says_alerts in
     let same : pairs_of refused.configuration.rules refused.alerts
     ≡ pairs_of w.config.rules w.alerts = λ k. pairs_of (config k).rules (alerts k) in
-    omega (arith, ap length same, refused.many, accepts.few_pairs)
+    omega (arith, ap length same, refused.many, accepts.accepts_files.few_pairs)
 
 -- what the first fault of some stages is: one of the first stage, or one of those behind it
 pub by_stage : (P : Type 0) (stage : Stage) (later : List Stage) (place : Place) (r : Refusal)
@@ -158,7 +117,7 @@ by_stage P stage later place r here behind (inl refused) = here refused.1
 by_stage P stage later place r here behind (inr first) = behind first.1
 
 -- the first fault behind a world that is accepted is that of the later stages, or `pattern`
-pub world_accepted : (P : Type 0) (inputs : WorldInputs) (w : World) (later : List Stage)
+pub world_accepted : (P : Type 0) (inputs : Files) (w : World) (later : List Stage)
     (place : Place) (r : Refusal) → AcceptsWorld inputs w → (r.kind ≡ kinds.Pattern → P)
     → (IsFirstFaultOfCall later place r → P)
     → IsFirstFaultOfCall (world_stages inputs ++ later) place r → P
@@ -172,22 +131,22 @@ world_accepted P inputs w later place r accepts pattern behind =
     pairs in
     let alerts = by_stage P (alerts_stage inputs.alerts)
     (instant_stage inputs.silences inputs.at ∷ pairs_stage config inputs.alerts ∷ later) place r
-    (λ refused. absurd (alerts_accepted inputs.alerts w.alerts r accepts.says_alerts refused))
+    (λ refused. absurd (alerts_accepted inputs.alerts w.alerts r accepts.accepts_files.says_alerts refused))
     instant in
     let silences = by_stage P (silences_stage inputs.silences)
     (alerts_stage inputs.alerts ∷ instant_stage inputs.silences inputs.at
     ∷ pairs_stage config inputs.alerts ∷ later) place r
-    (λ refused. pattern (silences_accepted inputs.silences w.silences r accepts.says_silences
+    (λ refused. pattern (silences_accepted inputs.silences w.silences r accepts.accepts_files.says_silences
     refused))
     alerts in
     by_stage P (config_stage config)
     (silences_stage inputs.silences ∷ alerts_stage inputs.alerts
     ∷ instant_stage inputs.silences inputs.at ∷ pairs_stage config inputs.alerts ∷ later) place r
-    (λ refused. pattern (config_accepted config w.config r accepts.says_config refused))
+    (λ refused. pattern (config_accepted config w.config r accepts.accepts_files.says_config refused))
     silences
 
 -- nothing is the first fault of no stage
-pub explained_accepted : (inputs : WorldInputs) (words : List (List ℕ)) (w : World) (s : LabelMap)
+pub explained_accepted : (inputs : Files) (words : List (List ℕ)) (w : World) (s : LabelMap)
     (place : Place) (r : Refusal) → AcceptsWorld inputs w → WordsSpellSet words s
     → IsFirstFaultOfCall (explain_stages inputs words) place r → r.kind ≡ kinds.Pattern
 explained_accepted inputs words w s place r accepts spelled =

@@ -5,13 +5,15 @@ use Rattle.std.specs.Result.{IsErrAnd}
 use Rattle.am_universe.specs.declared.fault.Fault.{Fault}
 use Rattle.am_universe.specs.declared.place.Place.{Place}
 use Rattle.am_json.specs.Pointer.{Refusal}
-use Rattle.am_files.specs.ConfigFile.{FileSaysConfig}
+use Rattle.am_universe.specs.LabelSet.{LabelMap}
+use Rattle.am_records.specs.SilencesFile.{Silence}
+use Rattle.am_files.specs.ConfigFile.{Configuration, FileSaysConfig}
 use Rattle.am_eval.specs.declared.limits.TheConstants.{MAX_PAIRS}
 use Rattle.am_eval.specs.World.{World}
 use Rattle.am_eval.specs.Pairs.{pairs_of}
-use Rattle.am_eval.specs.Files.{config_of, SaysAlertsIfAny}
-use Rattle.am_eval.specs.Faults.{Stage, IsFirstFaultOfCall, SaysFewPairs}
-use Rattle.am_eval.specs.WorldInputs.{WorldInputs, AcceptsWorld, world_stages}
+use Rattle.am_eval.specs.Faults.{Stage, IsFirstFaultOfCall, SaysFewPairs, instant_stage}
+use Rattle.am_eval.specs.Files.{Files, config_of, SaysSilencesIfAny, SaysAlertsIfAny}
+use Rattle.am_eval.specs.AcceptedWorld.{AcceptsFiles, AcceptsWorld, file_stages, pair_stages, timeless_stages, world_stages}
 
 -- further stages behind change nothing
 pub first_of_more : (stages later : List Stage) (place : Place) (r : Refusal)
@@ -21,36 +23,57 @@ first_of_more (stage ∷ stages) later place r (inl here) = inl here
 first_of_more (stage ∷ stages) later place r (inr behind) =
     inr (behind.0, first_of_more stages later place r behind.1)
 
--- files that say a world with few pairs say few pairs
-pub says_few : (inputs : WorldInputs) (world : World)
-    → FileSaysConfig (config_of inputs.config) world.config
-    → SaysAlertsIfAny inputs.alerts world.alerts
-    → length (pairs_of world.config.rules world.alerts) ≤ MAX_PAIRS
-    → SaysFewPairs (config_of inputs.config) inputs.alerts
-says_few inputs world says_config says_alerts few = record {
+-- files that are accepted say few pairs
+says_few : (files : Files) (world : World) → AcceptsFiles files world
+    → SaysFewPairs (config_of files.config) files.alerts
+says_few files world accepts = record {
   configuration = world.config;
-  says_config = says_config;
+  says_config = accepts.says_config;
   alerts = world.alerts;
-  says_alerts = says_alerts;
-  few = few;
+  says_alerts = accepts.says_alerts;
+  few = accepts.few_pairs;
 }
 
--- behind a world that is accepted the first fault is that of the later stages
-pub first_behind_world : (inputs : WorldInputs) (world : World) (later : List Stage) (place : Place)
-    (r : Refusal) → AcceptsWorld inputs world → IsFirstFaultOfCall later place r
-    → IsFirstFaultOfCall (world_stages inputs ++ later) place r
-first_behind_world inputs world later place r h behind =
-    let few = says_few inputs world h.says_config h.says_alerts h.few_pairs in
-    inr (
-      (world.config, h.says_config),
-      inr (
-        (world.silences, h.says_silences),
-        inr ((world.alerts, h.says_alerts), inr (h.has_instant, inr (few, behind))),
-      ),
-    )
+-- behind files that say something the first fault is that of the later stages
+pub behind_read : (files : Files) (configuration : Configuration) (silences : List Silence)
+    (alerts : List LabelMap) (later : List Stage) (place : Place) (r : Refusal)
+    → FileSaysConfig (config_of files.config) configuration
+    → SaysSilencesIfAny files.silences silences → SaysAlertsIfAny files.alerts alerts
+    → IsFirstFaultOfCall later place r → IsFirstFaultOfCall (file_stages files ++ later) place r
+behind_read files configuration silences alerts later place r config hidden firing behind =
+    inr ((configuration, config), inr ((silences, hidden), inr ((alerts, firing), behind)))
+
+-- and so it is where they are accepted
+behind_files : (files : Files) (world : World) (later : List Stage) (place : Place) (r : Refusal)
+    → AcceptsFiles files world → IsFirstFaultOfCall later place r
+    → IsFirstFaultOfCall (file_stages files ++ later) place r
+behind_files files world later place r accepts =
+    behind_read files world.config world.silences world.alerts later place r accepts.says_config
+    accepts.says_silences accepts.says_alerts
+
+pub first_behind_timeless : (files : Files) (world : World) (later : List Stage) (place : Place)
+    (r : Refusal) → AcceptsFiles files world → IsFirstFaultOfCall later place r
+    → IsFirstFaultOfCall (timeless_stages files ++ later) place r
+first_behind_timeless files world later place r accepts behind =
+    behind_files files world (pair_stages files ++ later) place r accepts
+    (inr (says_few files world accepts, behind))
+
+pub first_behind_world : (files : Files) (world : World) (later : List Stage) (place : Place)
+    (r : Refusal) → AcceptsWorld files world → IsFirstFaultOfCall later place r
+    → IsFirstFaultOfCall (world_stages files ++ later) place r
+first_behind_world files world later place r accepts behind =
+    behind_files files world (instant_stage files.silences files.at ∷ pair_stages files ++ later)
+    place r accepts.accepts_files
+    (inr (accepts.has_instant, inr (says_few files world accepts.accepts_files, behind)))
 
 -- what holds of a fault holds of what a `?` makes of it
 pub handed_on : {T : Type 0} (P : Fault → Type 0) (fault : Fault) (result : Result T Fault)
     → IsErrAnd result (λ f. f ≡ fault) → P fault → IfErr result P
 handed_on P fault (Ok x) h holds = tt
 handed_on P fault (Err f) h holds = subst P (sym h) holds
+
+-- what holds of each fault of one kind holds of what is answered, and so what follows from it
+pub if_failed : {T : Type 0} (P Q : Fault → Type 0) (result : Result T Fault)
+    → ((fault : Fault) → P fault → Q fault) → IfErr result P → IfErr result Q
+if_failed P Q (Ok x) f h = tt
+if_failed P Q (Err fault) f h = f fault h

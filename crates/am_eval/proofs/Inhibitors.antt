@@ -19,7 +19,7 @@ use Rattle.am_eval.specs.Pairs.{pair_of, pairs_of_rule, pairs_of}
 use Rattle.am_eval.specs.Inhibition.{inhibits, is_inhibited, inhibitors}
 use Rattle.am_eval.specs.Inhibition.{pair_inhibits}
 use Rattle.am_labels.proofs.Passing.{any_in, in_any}
-use Rattle.am_eval.proofs.Members.{at_in, in_at, item_at}
+use Rattle.am_universe.proofs.Members.{at_in, in_at, item_at}
 use Rattle.am_eval.proofs.PairLemmas.{is_pair, pair_is}
 
 -- ---- By pairs.
@@ -78,19 +78,6 @@ from_pair w s h =
     let firing = in_any (λ a. inhibits p.0 a s) w.alerts p.1 (in_at w.alerts h.0.alert p.1 p.3) muted in
     in_any (λ rule. list_any (λ a. inhibits rule a s) w.alerts) w.config.rules p.0
     (in_at w.config.rules h.0.rule p.0 p.2) firing
-
-same_Bool : (a b : Bool) → (a ≡ true → b ≡ true) → (b ≡ true → a ≡ true) → a ≡ b
-same_Bool true b to from = sym (to refl)
-same_Bool false true to from = from refl
-same_Bool false false to from = refl
-
--- some alert inhibits exactly where that of some pair does
-pub any_pair : (w : World) (s : LabelMap)
-    → list_any (pair_inhibits w s) (all_pairs w) ≡ is_inhibited w s
-any_pair w s =
-    same_Bool (list_any (pair_inhibits w s) (all_pairs w)) (is_inhibited w s)
-    (λ h. from_pair w s (any_in (pair_inhibits w s) (all_pairs w) h))
-    (λ h. let p = by_pair w s h in in_any (pair_inhibits w s) (all_pairs w) p.0 p.1 p.2)
 
 -- ---- A pair's rule and alert, as they are read.
 

@@ -1,5 +1,4 @@
 pub mod AnswerLaws
-pub mod Members
 pub mod SilenceLaws
 pub mod SilenceSteps
 pub mod PairLemmas
@@ -14,6 +13,7 @@ pub mod QuestionSeen
 pub mod FlatEnds
 pub mod AbsentParts
 pub mod FirstFaults
+pub mod Promises
 pub mod WrittenItems
 pub mod SimpleParts
 pub mod SiblingLaws

@@ -7,7 +7,7 @@ use Rattle.am_eval.specs.World.{World}
 use Rattle.am_eval.specs.Routing.{ends}
 use Rattle.am_eval.specs.Silencing.{silencers}
 use Rattle.am_eval.specs.Inhibition.{inhibitors}
-use Rattle.am_eval.specs.WorldInputs.{WorldInputs}
+use Rattle.am_eval.specs.Files.{Files}
 use Rattle.am_eval.specs.Explanation.{ExplainsSet, explanation_text}
 use Rattle.am_eval.proofs.AcceptedInputs.{one_world}
 
@@ -22,14 +22,13 @@ one_set words s t spelled again =
 abbrev explained_in : World → LabelMap → List ℕ
 explained_in w s = explanation_text w.config s (ends s w.config) (silencers w s) (inhibitors w s)
 
-pub one_explanation : (inputs : WorldInputs) (words : List (List ℕ)) (explanation other : List ℕ)
-    → ExplainsSet inputs words (λ written. written ≡ explanation)
-    → ExplainsSet inputs words (λ written. written ≡ other) → explanation ≡ other
-one_explanation inputs words explanation other said again =
+pub one_explanation : (files : Files) (words : List (List ℕ)) (explanation other : List ℕ)
+    → ExplainsSet files words explanation → ExplainsSet files words other → explanation ≡ other
+one_explanation files words explanation other said again =
     let world : said.world ≡ again.world =
-    one_world inputs said.world again.world said.accepts again.accepts in
+    one_world files said.world again.world said.accepts again.accepts in
     let set : said.set ≡ again.set = one_set words said.set again.set said.spelled again.spelled in
-    sym said.explanation
+    said.explanation
     ∙ ap (λ (w : World). explained_in w said.set) world
     ∙ ap (explained_in again.world) set
-    ∙ again.explanation
+    ∙ sym again.explanation

@@ -12,7 +12,7 @@ use Rattle.am_files.specs.ConfigFile.{Rule}
 use Rattle.am_eval.specs.World.{World}
 use Rattle.am_eval.specs.Pairs.{pair_of, pairs_of_rule, pairs_of}
 use Rattle.am_eval.specs.Conditions.{inhibiting_way, inhibiting_ways, pair_way}
-use Rattle.am_eval.proofs.Members.{item_at}
+use Rattle.am_universe.proofs.Members.{item_at}
 use Rattle.am_eval.proofs.PairLemmas.{fires}
 
 at_pair : (rules : List Rule) (alerts : List LabelMap) (rule : ℕ × Rule) (firing : ℕ × LabelMap)

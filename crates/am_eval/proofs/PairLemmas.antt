@@ -20,7 +20,7 @@ use Rattle.am_files.specs.ConfigFile.{Rule}
 use Rattle.am_eval.specs.declared.pair.Pair.{Pair}
 use Rattle.am_eval.specs.Pairs.{pair_of, pairs_of_rule, pairs_of}
 use Rattle.am_labels.proofs.Passing.{passes_from_kept, kept_from_passes}
-use Rattle.am_eval.proofs.Members.{is_numbered, item_at, numbered_at, in_joined, joined_in}
+use Rattle.am_universe.proofs.Members.{is_numbered, item_at, numbered_at, in_joined, joined_in}
 
 -- ---- Which there are.
 

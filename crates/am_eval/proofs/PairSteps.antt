@@ -10,7 +10,7 @@ use Rattle.am_labels.specs.Matcher.{Condition, all_hold}
 use Rattle.am_files.specs.ConfigFile.{Rule}
 use Rattle.am_eval.specs.declared.pair.Pair.{Pair}
 use Rattle.am_eval.specs.Pairs.{pair_of, pairs_of_rule}
-use Rattle.am_eval.proofs.Members.{left_at}
+use Rattle.am_universe.proofs.Members.{left_at}
 use Rattle.am_eval.proofs.PairLemmas.{fires}
 
 -- ---- The alerts of a rule.
@@ -57,21 +57,3 @@ one_too_many rule found all alerts i n {a = a} here passes full e =
 abbrev pub pairs_left : List LabelMap → ℕ → List Rule → List Pair
 pairs_left alerts from rules =
     flat_map (pairs_of_rule alerts) (enumerate_from from (drop from rules))
-
-pub next_rule : (alerts : List LabelMap) (rules : List Rule) (found more all : List Pair) (i : ℕ)
-    {rule : Rule} → slice_get rules i ≡ Some rule → more ≡ found ++ pairs_of_rule alerts (i, rule)
-    → found ++ pairs_left alerts i rules ≡ all → more ++ pairs_left alerts (i + 1) rules ≡ all
-next_rule alerts rules found more all i {rule = rule} here added e =
-    rw (added, append_assoc) ((rw (left_at rules i rule here) at e))
-
--- where the pairs of one rule are too many, all are
-pub too_many_of_one : (alerts : List LabelMap) (rules : List Rule) (found all : List Pair) (i n : ℕ)
-    {rule : Rule} → slice_get rules i ≡ Some rule
-    → n < length (found ++ pairs_of_rule alerts (i, rule))
-    → found ++ pairs_left alerts i rules ≡ all → n < length all
-too_many_of_one alerts rules found all i n {rule = rule} there many e =
-    let here = pairs_of_rule alerts (i, rule) in
-    let rest = pairs_left alerts (i + 1) rules in
-    let together : (found ++ here) ++ rest ≡ all =
-    append_assoc found here rest ∙ (rw (left_at rules i rule there) at e) in
-    omega (arith, length-append (found ++ here) rest, ap length together, many)

@@ -15,7 +15,7 @@ use Rattle.am_files.specs.Path.{list_of, route_at}
 use Rattle.am_eval.specs.World.{World}
 use Rattle.am_eval.specs.Routing.{ends_at, ends, children_seen, ends_tried, is_last, EndsThere}
 use Rattle.am_eval.specs.Question.{Ends, Enters, Receiver, holds_of}
-use Rattle.am_eval.specs.RoutePaths.{paths_at}
+use Rattle.am_files.specs.RoutePaths.{paths_at}
 use Rattle.am_eval.specs.Conditions.{Literal, literal_holds, some_way_holds, matching, not_matching}
 use Rattle.am_eval.specs.Conditions.{stopped_by_none, no_child_of, ways_into, ways_below, ways_to_end}
 use Rattle.am_eval.specs.Conditions.{ways_to_enter, is_receiver, paths_to, ways_to_receiver}

@@ -2,14 +2,15 @@
 use Rattle.std.proofs.Common.{◌≡◌, ◌≢◌, ◌↔◌, ℕ, zero, suc, ◌+◌, List, [], ◌∷◌, map}
 use Rattle.std.proofs.Common.{Option, Some, None, refl, sym, ap, subst, ◌∙◌, inl, inr, arith}
 use Rattle.std.proofs.Common.{Contains}
-use Rattle.std.specs.Prelude.{slice_get, option_and_then}
+use Rattle.std.specs.Prelude.{slice_get}
 use Rattle.std.proofs.lemmas.Option.{option_and_then_some}
 use Rattle.am_universe.proofs.ListLemmas.{IsIn, IsIn-from_Contains, Contains-from_IsIn, IsIn-left}
 use Rattle.am_universe.proofs.ListLemmas.{IsIn-right, IsIn-split, IsIn-map, IsIn-unmap}
 use Rattle.am_files.specs.ConfigFile.{RouteTree, Routes, route, no_routes, next_route}
 use Rattle.am_files.specs.ConfigFile.{Configuration}
 use Rattle.am_files.specs.Path.{list_of, route_at}
-use Rattle.am_eval.specs.RoutePaths.{paths_at, paths_from, paths_of}
+use Rattle.am_files.specs.RoutePaths.{routes_at, paths_at, paths_of}
+use Rattle.am_files.proofs.RouteLists.{paths_from, paths_next, each_at}
 
 -- ---- A path below the children from a position on goes down to one of them.
 
@@ -35,7 +36,8 @@ pub is_below : (i : ℕ) (ts : Routes) (path : List ℕ) → IsIn (paths_from i 
     → IsBelow i ts path
 is_below i no_routes path h = absurd h
 is_below i (next_route t ts) path h =
-    elim (IsIn-split (map (λ below. i ∷ below) (paths_at t)) (paths_from (i + 1) ts) path h) [
+    elim (IsIn-split (map (λ below. i ∷ below) (paths_at t)) (paths_from (i + 1) ts) path
+    (subst (λ (paths : List (List ℕ)). IsIn paths path) (paths_next i t ts) h)) [
       | inl a ↦ here i t ts path a
       | inr b ↦ behind i t ts path (is_below (i + 1) ts path b)
     ]
@@ -51,34 +53,21 @@ below_is i zero (next_route u ts) t rest e h =
     let mapped = IsIn-map (λ below. i ∷ below) (paths_at u) rest
     (subst (λ (x : RouteTree). IsIn (paths_at x) rest) same h) in
     subst (λ (n : ℕ). IsIn (paths_from i (next_route u ts)) (n ∷ rest)) at
-    (IsIn-left (map (λ below. i ∷ below) (paths_at u)) (paths_from (i + 1) ts) (i ∷ rest) mapped)
+    (subst (λ (paths : List (List ℕ)). IsIn paths (i ∷ rest)) (sym (paths_next i u ts)) (IsIn-left (map (λ below. i ∷ below) (paths_at u)) (paths_from (i + 1) ts) (i ∷ rest) mapped))
 below_is i (suc k) (next_route u ts) t rest e h =
     let at : (i + 1) + k ≡ i + suc k = omega arith in
     subst (λ (n : ℕ). IsIn (paths_from i (next_route u ts)) (n ∷ rest)) at
+    (subst (λ (paths : List (List ℕ)). IsIn paths (((i + 1) + k) ∷ rest)) (sym (paths_next i u ts))
     (IsIn-right (map (λ below. i ∷ below) (paths_at u)) (paths_from (i + 1) ts)
-    (((i + 1) + k) ∷ rest) (below_is (i + 1) k ts t rest e h))
+    (((i + 1) + k) ∷ rest) (below_is (i + 1) k ts t rest e h)))
 
 -- ---- The paths are those of the routes.
 
-at_child : (t : RouteTree) (children : Routes) (p k : ℕ) (path rest : List ℕ)
-    → slice_get (list_of children) k ≡ Some t → p ∷ path ≡ k ∷ rest → IsIn (paths_at t) rest
-    → (IsIn (paths_at t) path → (u : RouteTree) × (route_at t path ≡ Some u))
-    → (u : RouteTree)
-    × (option_and_then (λ child. route_at child path) (slice_get (list_of children) p) ≡ Some u)
-at_child t children p k path rest child e h below =
-    let first : p ≡ k = cc in
-    let others : rest ≡ path = cc in
-    let r = below (subst (λ (x : List ℕ). IsIn (paths_at t) x) others h) in
-    (r.0, rw (first, child) r.1)
-
 pub leads : (t : RouteTree) (path : List ℕ) → IsIn (paths_at t) path
     → (u : RouteTree) × (route_at t path ≡ Some u)
-leads t [] h = (t, refl)
-leads (route settings children) (p ∷ path) (inl e) = absurd (cc)
-leads (route settings children) (p ∷ path) (inr h) =
-    let b = is_below 0 children (p ∷ path) h in
-    let at : 0 + b.0 ≡ b.0 = omega arith in
-    at_child b.1 children p b.0 path b.2 b.3 (b.4 ∙ ap (λ k. k ∷ b.2) at) b.5 (leads b.1 path)
+leads t path h =
+    let r = IsIn-unmap (λ (found : List ℕ × RouteTree). found.0) (routes_at [] t) path h in
+    (r.0.1, ap (route_at t) (sym r.2) ∙ each_at t [] t refl r.0 r.1)
 
 pub is_path : (t u : RouteTree) (path : List ℕ) → route_at t path ≡ Some u → IsIn (paths_at t) path
 is_path (route settings children) u [] e = inl refl

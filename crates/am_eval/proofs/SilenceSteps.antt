@@ -4,7 +4,7 @@ use Rattle.std.proofs.Common.{drop, refl, append_assoc}
 use Rattle.std.specs.Prelude.{slice_get}
 use Rattle.std.specs.List.{list_any}
 use Rattle.am_eval.specs.Silencing.{positions_where}
-use Rattle.am_eval.proofs.Members.{left_at}
+use Rattle.am_universe.proofs.Members.{left_at}
 
 -- one that does not hide the alert
 pub none_here : {X : Type 0} (test : X → Bool) (xs : List X) (i : ℕ) {x : X}
@@ -26,7 +26,3 @@ pub one_position : {X : Type 0} (test : X → Bool) (found : List ℕ) (xs : Lis
 one_position test found xs i {x = x} here passes =
     rw (left_at xs i x here, passes)
     (append_assoc found (i ∷ []) (positions_where test (i + 1) (drop (i + 1) xs)))
-
-pub some_here : {X : Type 0} (test : X → Bool) (xs : List X) (i : ℕ) {x : X}
-    → slice_get xs i ≡ Some x → test x ≡ true → list_any test (drop i xs) ≡ true
-some_here test xs i {x = x} here passes = rw (left_at xs i x here, passes) refl

@@ -9,11 +9,11 @@ use Rattle.am_labels.specs.declared.op.Op.TheVariants as ops
 use Rattle.am_files.specs.ConfigFile.{RouteTree, Configuration, Rule, matchers_of, continues_of}
 use Rattle.am_files.specs.ConfigFile.{receiver_of, children_of}
 use Rattle.am_files.specs.Path.{list_of, route_at}
+use Rattle.am_files.specs.RoutePaths.{paths_at}
 use Rattle.am_records.specs.SilencesFile.{Silence}
 use Rattle.am_eval.specs.declared.pair.Pair.{Pair}
 use Rattle.am_eval.specs.World.{World}
 use Rattle.am_eval.specs.Silencing.{is_active}
-use Rattle.am_eval.specs.RoutePaths.{paths_at}
 use Rattle.am_eval.specs.Question.{Simple, Any, Silenced, Inhibited, Receiver, Ends, Enters, Braces}
 
 -- A literal: a list of matchers, and whether an alert has to match it or must not match it.

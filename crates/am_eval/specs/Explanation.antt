@@ -1,6 +1,6 @@
 -- Why a label set goes where it goes: the text of `explain`. (This project's own.)
-use Rattle.std.specs.Prelude.{ℕ, List, [], ◌∷◌, ◌++◌, option_and_then, slice_get, unwrap_or, codes}
-use Rattle.std.specs.Prelude.{decimal}
+use Rattle.std.specs.Prelude.{◌≡◌, ℕ, List, [], ◌∷◌, ◌++◌, option_and_then, slice_get, unwrap_or}
+use Rattle.std.specs.Prelude.{codes, decimal, ⊤}
 use Rattle.std.specs.List.{flat_map}
 use Rattle.am_universe.specs.LabelSet.{LabelMap}
 use Rattle.am_universe.specs.Text.{quoted_text}
@@ -13,7 +13,9 @@ use Rattle.am_eval.specs.Routing.{ends, receiver_at}
 use Rattle.am_eval.specs.Silencing.{silencers}
 use Rattle.am_eval.specs.Inhibition.{inhibitors}
 use Rattle.am_eval.specs.Faults.{Stage, set_stage}
-use Rattle.am_eval.specs.WorldInputs.{WorldInputs, AcceptsWorld, world_stages}
+use Rattle.am_eval.specs.Promise.{Promise}
+use Rattle.am_eval.specs.Files.{Files}
+use Rattle.am_eval.specs.AcceptedWorld.{AcceptsWorld, world_stages}
 
 -- The name of the receiver of the route at a path.
 abbrev pub receiver_name_at : Configuration → List ℕ → List ℕ
@@ -48,22 +50,27 @@ explanation_text c set ends silencers inhibitors =
     map_text set ++ (codes "\n" ++ (flat_map (end_line c) ends
     ++ (flat_map silenced_line silencers ++ flat_map inhibited_line inhibitors)))
 
--- The stages of `explain`, in order: those of the world, the words of the label set.
+-- The world is accepted, the words are those of the label set, and the text explains the set by all
+-- its ends in the world, all silences that hide it there, and all rules and alerts that inhibit it
+-- there.
+pub record ExplainsSet (files : Files) (words : List (List ℕ)) (text : List ℕ) : Type 0 where
+  pub world : World
+  pub set : LabelMap
+  pub accepts : AcceptsWorld files world
+  pub spelled : WordsSpellSet words set
+  pub explanation : text ≡ explanation_text world.config set (ends set world.config)
+      (silencers world set) (inhibitors world set)
+
+-- What `explain` owes. Its stages are those of the world, and then the words of the label set.
 -- Source: own choice.
 -- Example: where the configuration is accepted, there are no silences, the file of alerts is `{}`
 -- and the one word of the set is `a!=b`, the first fault is the `shape` of the alerts; without that
 -- file it is the `bad-matcher` of the set.
-abbrev pub explain_stages : WorldInputs → List (List ℕ) → List Stage
-explain_stages inputs words = world_stages inputs ++ set_stage words ∷ []
+abbrev pub explain_stages : Files → List (List ℕ) → List Stage
+explain_stages files words = world_stages files ++ set_stage words ∷ []
 
--- The world is accepted, the words are those of the label set, and this holds of the text that
--- explains the set by all its ends in the world, all silences that hide it there, and all rules and
--- alerts that inhibit it there: that it was written, all of it or a part.
-pub record ExplainsSet (inputs : WorldInputs) (words : List (List ℕ))
-    (IsWritten : List ℕ → Type 0) : Type 0 where
-  pub world : World
-  pub set : LabelMap
-  pub accepts : AcceptsWorld inputs world
-  pub spelled : WordsSpellSet words set
-  pub explanation : IsWritten (explanation_text world.config set
-      (ends set world.config) (silencers world set) (inhibitors world set))
+abbrev pub explain_promise : Files → List (List ℕ) → Promise ⊤
+explain_promise files words = record {
+  stages = explain_stages files words;
+  May = λ _. ExplainsSet files words;
+}

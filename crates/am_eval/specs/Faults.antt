@@ -1,12 +1,14 @@
 -- Which fault of a call comes first. (This project's own.)
-use Rattle.std.specs.Prelude.{◌≡◌, ◌⊎◌, ◌<◌, ◌≤◌, ℕ, List, [], ◌∷◌, length, Option, Some, None}
+use Rattle.std.specs.Prelude.{◌≡◌, ◌≢◌, ◌⊎◌, ◌<◌, ◌≤◌, ℕ, List, [], ◌∷◌, length, Option, Some, None}
 use Rattle.am_universe.specs.declared.kind.Kind.TheVariants as kinds
 use Rattle.am_universe.specs.declared.place.Place.{Place}
 use Rattle.am_universe.specs.declared.place.Place.TheVariants as places
+use Rattle.am_universe.specs.declared.fault.Fault.{Fault}
 use Rattle.am_universe.specs.LabelSet.{LabelMap}
 use Rattle.am_labels.specs.ParsedLabelSet.{WordsSpellSet, SetWordsRefusedFor}
 use Rattle.am_labels.specs.Space.{Space}
 use Rattle.am_json.specs.Pointer.{Refusal, refusal_here}
+use Rattle.am_json.specs.Reading.{refusal_of}
 use Rattle.am_records.specs.UniverseFile.{FileSaysUniverse}
 use Rattle.am_records.specs.UniverseFaults.{UniverseFileRefusedFor}
 use Rattle.am_files.specs.ConfigFile.{Configuration, FileSaysConfig}
@@ -32,6 +34,11 @@ abbrev pub IsFirstFaultOfCall : List Stage → Place → Refusal → Type 0
 IsFirstFaultOfCall [] place r = ⊥
 IsFirstFaultOfCall (stage ∷ later) place r =
     ((place ≡ stage.place) × stage.refuses r) ⊎ (stage.accepts × IsFirstFaultOfCall later place r)
+
+-- The fault is the first of a call whose stages come in this order, unless memory ran out.
+abbrev pub IsFirstFault : List Stage → Fault → Type 0
+IsFirstFault stages fault =
+    fault.kind ≢ kinds.Memory → IsFirstFaultOfCall stages fault.place (refusal_of fault)
 
 -- ---- The stages that there are.
 

@@ -5,6 +5,14 @@ use Rattle.am_universe.specs.LabelSet.{LabelMap}
 use Rattle.am_records.specs.SilencesFile.{Silence, FileSaysSilences}
 use Rattle.am_records.specs.AlertsFile.{FileSaysAlerts}
 
+-- The input files beside the universe, each as its bytes, and the text of the instant that is asked
+-- about, as far as they are handed in.
+pub record Files : Type 0 where
+  pub config : Option (List ℕ)
+  pub silences : Option (List ℕ)
+  pub alerts : Option (List ℕ)
+  pub at : Option (List ℕ)
+
 -- The bytes of the configuration file, or of what stands in for it: the smallest configuration.
 -- (This project's own.)
 abbrev pub config_of : Option (List ℕ) → List ℕ

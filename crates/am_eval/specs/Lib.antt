@@ -1,6 +1,5 @@
 pub mod Routing
 pub mod RoutingExamples
-pub mod RoutePaths
 pub mod World
 pub mod WorldCode
 pub mod Silencing
@@ -15,6 +14,7 @@ pub mod Conditions
 pub mod Files
 pub mod AskedInstant
 pub mod Faults
-pub mod WorldInputs
+pub mod Promise
+pub mod AcceptedWorld
 pub mod Explanation
 pub mod Words

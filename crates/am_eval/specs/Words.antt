@@ -14,17 +14,18 @@ pub use Rattle.am_eval.specs.InhibitionExample.{severity_warning, severity_any}
 pub use Rattle.am_eval.specs.Question.{Question, holds_of, satisfies, satisfies_at}
 pub use Rattle.am_eval.specs.Question.{answers, is_answer}
 pub use Rattle.am_eval.specs.QuestionView.{question_view}
-pub use Rattle.am_eval.specs.RoutePaths.{paths_at, paths_from, paths_of}
 pub use Rattle.am_eval.specs.Conditions.{Literal, literal_holds, some_way_holds, conditions_of}
 pub use Rattle.am_eval.specs.Conditions.{matching, not_matching, inhibiting_way, same_value}
 pub use Rattle.am_eval.specs.Tree.{Tree}
-pub use Rattle.am_eval.specs.Files.{config_of, SaysSilencesIfAny, SaysAlertsIfAny}
+pub use Rattle.am_eval.specs.Files.{Files, config_of, SaysSilencesIfAny, SaysAlertsIfAny}
 pub use Rattle.am_eval.specs.AskedInstant.{asked_instant, instant_fault}
-pub use Rattle.am_eval.specs.Faults.{Stage, IsFirstFaultOfCall, universe_stage, config_stage}
+pub use Rattle.am_eval.specs.Faults.{Stage, IsFirstFaultOfCall, IsFirstFault}
+pub use Rattle.am_eval.specs.Faults.{universe_stage, config_stage}
 pub use Rattle.am_eval.specs.Faults.{SilencesRefusedFor, InstantRefusedFor, AlertsRefusedFor}
 pub use Rattle.am_eval.specs.Faults.{SetStageRefusedFor}
-pub use Rattle.am_eval.specs.WorldInputs.{WorldInputs, world_inputs_of, AcceptsWorld}
-pub use Rattle.am_eval.specs.WorldInputs.{world_stages}
+pub use Rattle.am_eval.specs.AcceptedWorld.{AcceptsFiles, AcceptsWorld, file_stages}
+pub use Rattle.am_eval.specs.AcceptedWorld.{timeless_stages, world_stages}
+pub use Rattle.am_eval.specs.Promise.{Promise, any_answer, IsKept}
 pub use Rattle.am_eval.specs.Explanation.{receiver_name_at, end_line, silenced_line}
 pub use Rattle.am_eval.specs.Explanation.{inhibited_line, explanation_text, ExplainsSet}
-pub use Rattle.am_eval.specs.Explanation.{explain_stages}
+pub use Rattle.am_eval.specs.Explanation.{explain_stages, explain_promise}

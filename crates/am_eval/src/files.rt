@@ -1,9 +1,11 @@
-ghost use Rattle.std.specs.Prelude.{◌≡◌, option_copied};
-ghost use Rattle.am_eval.specs.Words.{config_of};
+ghost use Rattle.std.specs.Prelude.{◌≡◌};
+ghost use Rattle.am_eval.specs.Files.{config_of};
+
+use std::marker::Model;
 
 /// The input files beside the universe, each as its bytes, and the instant that is asked about, as
 /// far as they are handed in.
-#[derive(Clone, Copy)]
+#[derive(Drop)]
 pub struct Files<'a> {
     /// The configuration. Without one, a configuration of one receiver and one route stands for it.
     pub config: Option<&'a [u8]>,
@@ -21,10 +23,24 @@ pub struct Files<'a> {
 const STAND_IN_CONFIG: &[u8] =
     b"{\"receivers\":[{\"name\":\"none\"}],\"route\":{\"receiver\":\"none\"}}";
 
+impl<'a> Model for Files<'a> {
+    ghost use Rattle.std.specs.Prelude.{option_copied};
+    ghost use Rattle.am_eval.specs.Files as spec;
+
+    ghost Value = { spec.Files };
+
+    ghost view = { λ files. record {
+      config = option_copied files.config;
+      silences = option_copied files.silences;
+      alerts = option_copied files.alerts;
+      at = option_copied files.at;
+    } };
+}
+
 impl<'a> Files<'a> {
     /// The bytes of the configuration, or of what stands in for it.
     pub fn config(&self) -> &'a [u8]
-        ensures bytes { result.now ≡ config_of (option_copied self.now.config) }
+        ensures bytes { result.now ≡ config_of self.now.config }
     {
         match self.config {
             Some(bytes) => bytes,

@@ -32,7 +32,7 @@ ghost use Rattle.am_eval.specs.Words.{pair_inhibits, inhibiting_world, severity_
 ghost use Rattle.am_eval.specs.Words.{two_rules_world, inhibited_line};
 ghost use Rattle.am_eval.specs.Words.{severity_warning, severity_any};
 ghost use Rattle.am_eval.specs.Words.{Question, holds_of, satisfies, answers, is_answer};
-ghost use Rattle.am_eval.specs.Words.{WorldInputs, AcceptsWorld, IsFirstFaultOfCall};
+ghost use Rattle.am_eval.specs.Words.{Files, AcceptsWorld, IsFirstFaultOfCall};
 ghost use Rattle.am_eval.specs.Words.{explain_stages, ExplainsSet};
 ghost use Rattle.am_eval.specs.Words.{Tree};
 ghost use Rattle.am_eval.specs.Words.{literal_holds, some_way_holds, conditions_of};
@@ -331,7 +331,7 @@ pub fn a_set_is_not_read_and_refused()
 /// Where the inputs of `explain` are accepted, they have no first fault, but for a pattern, which
 /// the engine may refuse.
 pub fn accepted_inputs_of_explain_have_no_fault()
-    ensures pattern { (inputs : WorldInputs) (words : List (List ℕ)) (w : World) (s : LabelMap)
+    ensures pattern { (inputs : Files) (words : List (List ℕ)) (w : World) (s : LabelMap)
         (place : Place) (refusal : Refusal) → AcceptsWorld inputs w → WordsSpellSet words s
         → IsFirstFaultOfCall (explain_stages inputs words) place refusal
         → refusal.kind ≡ kinds.Pattern }
@@ -340,11 +340,11 @@ pub fn accepted_inputs_of_explain_have_no_fault()
 /// Inputs that are accepted fix the world, and what `explain` writes of a label set is one text for
 /// the same inputs.
 pub fn an_explanation_is_one_text()
-    ensures world { (inputs : WorldInputs) (w x : World) → AcceptsWorld inputs w
+    ensures world { (inputs : Files) (w x : World) → AcceptsWorld inputs w
         → AcceptsWorld inputs x → w ≡ x }
-    ensures one { (inputs : WorldInputs) (words : List (List ℕ)) (explanation other : List ℕ)
-        → ExplainsSet inputs words (λ written. written ≡ explanation)
-        → ExplainsSet inputs words (λ written. written ≡ other) → explanation ≡ other }
+    ensures one { (inputs : Files) (words : List (List ℕ)) (explanation other : List ℕ)
+        → ExplainsSet inputs words explanation → ExplainsSet inputs words other
+        → explanation ≡ other }
 {}
 
 /// The limit of worlds.

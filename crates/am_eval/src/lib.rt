@@ -30,7 +30,7 @@ mod files;
 mod world_inputs;
 
 pub use files::Files;
-pub use world_inputs::{read_alerts_if_any, read_set, read_silences_if_any, read_world};
+pub use world_inputs::{read_set, read_timeless_world, read_world};
 
 // Why a label set goes where it goes.
 mod explanation;

@@ -1,10 +1,11 @@
 //! What questions are asked about: a configuration, silences, firing alerts and an instant.
 
 // The module of words stands on this type, so its own words come from where they stand.
-ghost use Rattle.std.specs.Prelude.{◌≡◌, ◌≢◌, ◌<◌, ◌≤◌, [], length, option_map, slice_get, Some};
-ghost use Rattle.std.specs.Prelude.{IfOk, IfErr, string_bytes};
+ghost use Rattle.std.specs.Prelude.{◌≡◌, ◌<◌, ◌≤◌, length, option_map, slice_get, Some};
+ghost use Rattle.std.specs.Prelude.{IfOk, IfErr};
 ghost use Rattle.am_universe.specs.declared.kind.Kind.TheVariants as kinds;
 ghost use Rattle.am_universe.specs.declared.place.Place.TheVariants as places;
+ghost use Rattle.am_json.specs.Words.{IsRefusalAt, refusal_here};
 ghost use Rattle.am_files.specs.Words.{config_view};
 ghost use Rattle.am_eval.specs.declared.limits.TheConstants.{MAX_PAIRS};
 ghost use Rattle.am_eval.specs.Silencing.{is_active};
@@ -59,9 +60,9 @@ impl World {
     /// firing, whether or not it is silenced or inhibited itself, and with or without an instant.
     ///
     /// `Limit`, at `Alerts` and with no pointer, for more than [`MAX_PAIRS`] pairs of an inhibition
-    /// rule and an alert that its source side matches; `Memory`, at `Memory`, only where memory was
-    /// refused. Each rule's source side is held against each alert, and its target side against
-    /// those of them that the source side matches.
+    /// rule and an alert that its source side matches; `Memory` only where memory was refused. Each
+    /// rule's source side is held against each alert, and its target side against those of them
+    /// that the source side matches.
     pub fn new(
         alloc: Global,
         config: Config,
@@ -76,12 +77,9 @@ impl World {
             world.instant ≡ option_map (λ t. t.nanosecond) instant) }
         ensures few { IfOk result (λ world.
             length (pairs_of world.config.rules world.alerts) ≤ MAX_PAIRS) }
-        ensures limit { IfErr result (λ fault. fault.kind ≢ kinds.Memory
-            → (fault.kind ≡ kinds.Limit) × (fault.place ≡ places.Alerts)
-            × (MAX_PAIRS < length (pairs_of (config_view config).rules alerts))) }
-        ensures memory { IfErr result (λ fault. fault.kind ≡ kinds.Memory
-            → fault.place ≡ places.Memory) }
-        ensures pointer { IfErr result (λ fault. string_bytes fault.pointer ≡ []) }
+        ensures limit { IfErr result (IsRefusalAt places.Alerts (λ refusal.
+            (refusal ≡ refusal_here kinds.Limit)
+            × (MAX_PAIRS < length (pairs_of (config_view config).rules alerts)))) }
     {
         match pairs_of(alloc, config.rules(), &alerts) {
             Ok(pairs) => Ok(World {
@@ -91,7 +89,7 @@ impl World {
                 instant,
                 pairs,
             }),
-            Err(kind) => Err(fault_of_pairs(alloc, kind)),
+            Err(kind) => Err(Fault::at(alloc, kind, Place::Alerts)),
         }
     }
 
@@ -142,19 +140,5 @@ impl World {
             Some(instant) => silence.starts() <= instant && instant < silence.ends(),
             None => false,
         }
-    }
-}
-
-/// Why the pairs could not be had: there are too many of them, or memory ran out.
-fn fault_of_pairs(alloc: Global, kind: Kind) -> Fault
-    ensures kind { result.kind ≡ kind }
-    ensures memory { kind ≡ kinds.Memory → result.place ≡ places.Memory }
-    ensures place { kind ≢ kinds.Memory → result.place ≡ places.Alerts }
-    ensures pointer { string_bytes result.pointer ≡ [] }
-{
-    if kind == Kind::Memory {
-        Fault::of(alloc, kind, Place::Memory)
-    } else {
-        Fault::of(alloc, kind, Place::Alerts)
     }
 }

@@ -6,8 +6,9 @@ use Rattle.am_files.specs.ConfigFile.{matchers_of, continues_of}
 use Rattle.am_files.specs.RouteView.{route_view}
 use Rattle.am_json.proofs.Items.{left_is}
 use Rattle.am_eval.specs.Routing.{is_last}
-use Rattle.am_eval.proofs.ChildEnds.{child_within, is_last-true, is_last-goes_on}
-use Rattle.am_eval.proofs.ChildEnds.{is_last-unmatched, one_more, last_one}
+use Rattle.am_files.proofs.RouteLists.{child_within}
+use Rattle.am_eval.proofs.ChildEnds.{is_last-true, is_last-goes_on, is_last-unmatched, one_more}
+use Rattle.am_eval.proofs.ChildEnds.{last_one}
 use Rattle.am_eval.proofs.routing.+ends.Goals as goal
 
 pub add_ends_of_children-overflow_cast-position : goal.add_ends_of_children-overflow_cast-position

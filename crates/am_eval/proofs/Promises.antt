@@ -1,0 +1,157 @@
+-- When the promise of a call is kept.
+use Rattle.std.proofs.Common.{◌≡◌, ◌≢◌, ℕ, List, [], ◌∷◌, Bool, true, false, not, ◌&&◌, Result, Ok, Err, IfOk, IfErr, inl, inr, refl, sym, subst, ◌∙◌}
+use Rattle.std.specs.Prelude.{⊤}
+use Rattle.std.specs.Result.{IsErrAnd}
+use Rattle.am_universe.specs.declared.fault.Fault.{Fault}
+use Rattle.am_universe.specs.declared.kind.Kind.{Kind}
+use Rattle.am_universe.specs.declared.kind.Kind.TheVariants as kinds
+use Rattle.am_universe.specs.declared.place.Place.{Place}
+use Rattle.am_universe.specs.declared.place.Place.TheVariants as places
+use Rattle.am_universe.specs.Sink.{Writes}
+use Rattle.am_universe.specs.WriteAnswer.{IsAnswerOfWrite}
+use Rattle.am_json.specs.Pointer.{Refusal}
+use Rattle.am_json.specs.Reading.{refusal_of}
+use Rattle.am_eval.specs.Faults.{Stage, IsFirstFaultOfCall, IsFirstFault}
+use Rattle.am_eval.specs.Promise.{Promise, any_answer, IsKept}
+
+-- ---- Faults of the input are none of writing, as these stand at the output.
+
+abbrev is_input : Place → Bool
+is_input places.Output = false
+is_input _ = true
+
+-- each stage reads an input
+abbrev pub read_inputs : List Stage → Bool
+read_inputs [] = true
+read_inputs (stage ∷ later) = is_input stage.place && read_inputs later
+
+both_true : (a b : Bool) → (a && b) ≡ true → (a ≡ true) × (b ≡ true)
+both_true true b e = (refl, e)
+both_true false b e = cc
+
+stands_at_input : (stages : List Stage) (place : Place) (r : Refusal) → read_inputs stages ≡ true
+    → IsFirstFaultOfCall stages place r → is_input place ≡ true
+stands_at_input [] place r inputs none = absurd none
+stands_at_input (stage ∷ later) place r inputs (inl here) =
+    subst (λ (p : Place). is_input p ≡ true) (sym here.0)
+    (both_true (is_input stage.place) (read_inputs later) inputs).0
+stands_at_input (stage ∷ later) place r inputs (inr behind) =
+    stands_at_input later place r (both_true (is_input stage.place) (read_inputs later) inputs).1
+    behind.1
+
+pub never_of_writing : (stages : List Stage) → read_inputs stages ≡ true → (fault : Fault)
+    → IsFirstFault stages fault → fault.kind ≢ kinds.Write
+never_of_writing stages inputs fault first writing =
+    let at_output = (fault.placed.write writing).0 in
+    let other : fault.kind ≢ kinds.Memory = λ memory.
+    let both : kinds.Write ≡ kinds.Memory = sym writing ∙ memory in cc in
+    let both : false ≡ true = subst (λ (p : Place). is_input p ≡ true) at_output
+    (stands_at_input stages fault.place (refusal_of fault) inputs (first other)) in
+    cc
+
+-- ---- The ends of a call.
+
+module _ {A S : Type 0} (promise : Promise A) {taken : S → List ℕ} {failures : S → ℕ} where
+  -- the inputs were refused, or memory ran out, and nothing was written
+  pub refused : {s : S} (fault : Fault) (result : Result A Fault) → read_inputs promise.stages ≡ true
+      → IsErrAnd result (λ f. f ≡ fault) → IsFirstFault promise.stages fault
+      → IsKept promise taken failures s s result
+  refused fault (Ok x) inputs is first = absurd is
+  refused {s} fault (Err f) inputs is first =
+      let same : IsFirstFault promise.stages f = subst (IsFirstFault promise.stages) (sym is) first in
+      record {
+        done = tt;
+        first = λ other. same;
+        untouched = λ other. refl;
+        write = λ writing. absurd (never_of_writing promise.stages inputs f same writing);
+      }
+
+  -- memory ran out, and nothing was written
+  pub starved : {s : S} (fault : Fault) → fault.kind ≡ kinds.Memory → IsKept promise taken failures s s (Err fault)
+  starved fault memory = record {
+    done = tt;
+    first = λ other remembered. absurd (remembered memory);
+    untouched = λ other. refl;
+    write = λ writing. let both : kinds.Write ≡ kinds.Memory = sym writing ∙ memory in cc;
+  }
+
+  -- a text was written that may be
+  pub written : {old new : S} (answer : A) (text : List ℕ) (wrote : Result A Kind)
+      (result : Result A Fault) → promise.May answer text → IfOk wrote (λ a. a ≡ answer)
+      → Writes taken failures old new text wrote → IsAnswerOfWrite wrote result
+      → IsKept promise taken failures old new result
+  written {old} {new} answer text (Ok a) (Ok b) may same writes is =
+      let told : b ≡ a = cc in
+      let both : b ≡ answer = told ∙ same in
+      record {
+        done = (text, subst (λ (x : A). promise.May x text) (sym both) may, writes.ok);
+        first = tt;
+        untouched = tt;
+        write = tt;
+      }
+  written answer text (Ok a) (Err fault) may same writes is =
+      let both : Err fault ≡ Ok a = is in absurd (cc)
+  written answer text (Err kind) (Ok b) may same writes is = absurd is
+  written answer text (Err kind) (Err fault) may same writes is = record {
+    done = tt;
+    first = λ other. absurd (other is);
+    untouched = λ other. absurd (other is);
+    write = λ writing. (answer, (text, may, writes.err.1));
+  }
+
+-- a call that answers nothing else answers that
+pub nothing_told : (wrote : Result ⊤ Kind) → IfOk wrote (λ a. a ≡ tt)
+nothing_told (Ok a) = refl
+nothing_told (Err kind) = tt
+
+-- a call kept what another promise asks, where each text of the one is one of the other, and no
+-- stage was left
+pub kept_as : {A S : Type 0} (p q : Promise A) {taken : S → List ℕ} {failures : S → ℕ}
+    {old new : S} (result : Result A Fault) → p.stages ≡ []
+    → ((answer : A) (text : List ℕ) → p.May answer text → q.May answer text)
+    → IsKept p taken failures old new result → IsKept q taken failures old new result
+kept_as p q (Ok answer) none may kept = record {
+  done = (kept.done.0, may answer kept.done.0 kept.done.1, kept.done.2);
+  first = tt;
+  untouched = tt;
+  write = tt;
+}
+kept_as p q (Err fault) none may kept = record {
+  done = tt;
+  first = λ other remembered. absurd (subst
+      (λ (stages : List Stage). IsFirstFaultOfCall stages fault.place (refusal_of fault)) none
+      (kept.first other remembered));
+  untouched = kept.untouched;
+  write = λ writing.
+      let told = kept.write writing in
+      (told.0, (told.1.0, may told.0 told.1.0 told.1.1, told.1.2));
+}
+
+-- and one that answers something answers that under another name
+pub told_as : {A : Type 0} (wrote : Result A Kind) {told answer : A} → told ≡ answer
+    → IfOk wrote (λ a. a ≡ told) → IfOk wrote (λ a. a ≡ answer)
+told_as (Ok a) same is = is ∙ same
+told_as (Err kind) same is = tt
+
+-- a call that keeps a promise keeps it for a caller that is told no answer
+pub any_done : {A S : Type 0} (promise : Promise A) {taken : S → List ℕ} {failures : S → ℕ}
+    {old new : S} (answer : A) → IsKept promise taken failures old new (Ok answer)
+    → IsKept (any_answer promise) taken failures old new (Ok tt)
+any_done promise answer kept = record {
+  done = (kept.done.0, (answer, kept.done.1), kept.done.2);
+  first = tt;
+  untouched = tt;
+  write = tt;
+}
+
+pub any_failed : {A S : Type 0} (promise : Promise A) {taken : S → List ℕ} {failures : S → ℕ}
+    {old new : S} (fault : Fault) → IsKept promise taken failures old new (Err fault)
+    → IsKept (any_answer promise) taken failures old new (Err fault)
+any_failed promise fault kept = record {
+  done = tt;
+  first = kept.first;
+  untouched = kept.untouched;
+  write = λ writing.
+      let told = kept.write writing in
+      (tt, (told.1.0, (told.0, told.1.1), told.1.2));
+}
