@@ -7,15 +7,13 @@ use Rattle.am_universe.specs.Universe.{Label, IsUniverse, sizes}
 use Rattle.am_universe.specs.declared.place.Place.{Place}
 use Rattle.am_labels.specs.Space.{Space}
 use Rattle.am_json.specs.Pointer.{Refusal}
-use Rattle.am_json.proofs.Readings.{says_one}
-use Rattle.am_records.proofs.UniverseSays as universe_file
 use Rattle.am_files.specs.ConfigFile.{Configuration}
 use Rattle.am_eval.specs.World.{World}
 use Rattle.am_eval.specs.Question.{Question}
 use Rattle.am_eval.specs.Files.{config_of}
 use Rattle.am_eval.specs.Faults.{IsFirstFaultOfCall, universe_stage}
-use Rattle.am_eval.specs.WorldInputs.{world_stages}
-use Rattle.am_eval.proofs.AcceptedInputs.{by_stage, world_accepted, universe_accepted}
+use Rattle.am_eval.specs.AcceptedWorld.{world_stages}
+use Rattle.am_eval.proofs.AcceptedInputs.{by_stage, world_accepted, universe_accepted, one_space}
 use Rattle.am_eval.proofs.AcceptedInputs.{one_configuration}
 use Rattle.am_search.specs.declared.start.Start.{Start}
 use Rattle.am_questions.specs.QuestionText.{QuestionRefusedFor}
@@ -30,13 +28,13 @@ use Rattle.am_questions.proofs.QuestionRefusals.{question_accepted}
 
 question_stage_accepted : (inputs : Inputs) (s : Space) (w : World) (q : Question)
     (start : Start) (r : Refusal) → AcceptsInputs inputs s w q start
-    → QuestionStageRefusedFor (config_of inputs.world.config) inputs.question r
+    → QuestionStageRefusedFor (config_of inputs.files.config) inputs.question r
     → r.kind ≡ kinds.Pattern
 question_stage_accepted inputs s w q start r accepts refused =
     question_accepted w.config inputs.question q r.kind accepts.reads
     (subst (λ (c : Configuration). QuestionRefusedFor c inputs.question r.kind)
-    (one_configuration (config_of inputs.world.config) refused.0 w.config refused.1
-    accepts.accepts_world.says_config)
+    (one_configuration (config_of inputs.files.config) refused.0 w.config refused.1
+    accepts.accepts_world.accepts_files.says_config)
     refused.2)
 
 -- a token that asks for a start is not refused
@@ -55,21 +53,19 @@ token_stage_accepted inputs s w q start r accepts refused =
     asked_and_refused refused.0.labels inputs inputs.after start r.kind
     refused.1.3.is_universe
     (subst (λ (t : Space). AsksStart t.labels (inputs_fingerprint inputs) inputs.after start)
-    (says_one (universe_file.file_decides inputs.universe) s refused.0 accepts.says_universe
-    refused.1)
-    accepts.starts)
-    refused.2
+    (one_space inputs.universe s refused.0 accepts.says_universe refused.1) accepts.starts)
+    refused.3
 
 pub asked_accepted : (inputs : Inputs) (s : Space) (w : World) (q : Question) (start : Start)
     (place : Place) (r : Refusal) → AcceptsInputs inputs s w q start
     → IsFirstFaultOfCall (ask_stages inputs) place r → r.kind ≡ kinds.Pattern
 asked_accepted inputs s w q start place r accepts =
     let last = token_stage inputs.universe (inputs_fingerprint inputs) inputs.after ∷ [] in
-    let asked = question_stage (config_of inputs.world.config) inputs.question in
+    let asked = question_stage (config_of inputs.files.config) inputs.question in
     by_stage (r.kind ≡ kinds.Pattern) (universe_stage inputs.universe)
-    (world_stages inputs.world ++ asked ∷ last) place r
+    (world_stages inputs.files ++ asked ∷ last) place r
     (λ refused. universe_accepted inputs.universe s r accepts.says_universe refused)
-    (world_accepted (r.kind ≡ kinds.Pattern) inputs.world w (asked ∷ last) place r
+    (world_accepted (r.kind ≡ kinds.Pattern) inputs.files w (asked ∷ last) place r
     accepts.accepts_world (λ pattern. pattern)
     (by_stage (r.kind ≡ kinds.Pattern) asked last place r
     (λ refused. question_stage_accepted inputs s w q start r accepts refused)

@@ -12,10 +12,10 @@ pub has_fingerprint : (inputs : Inputs) → IsFingerprint (inputs_fingerprint in
 has_fingerprint inputs =
     let parts : List (Option (List ℕ)) =
     Some inputs.universe
-    ∷ inputs.world.config
-    ∷ inputs.world.silences
-    ∷ inputs.world.alerts
-    ∷ inputs.world.at
+    ∷ inputs.files.config
+    ∷ inputs.files.silences
+    ∷ inputs.files.alerts
+    ∷ inputs.files.at
     ∷ Some inputs.question
     ∷ [] in
     (fingerprint_length parts, fingerprint_bytes parts)

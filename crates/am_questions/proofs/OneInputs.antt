@@ -30,7 +30,7 @@ pub one_meaning_of_inputs : (inputs : Inputs) (s t : Space) (w x : World) (q r :
     → (s ≡ t) × (w ≡ x) × (q ≡ r) × (start ≡ other)
 one_meaning_of_inputs inputs s t w x q r start other said again =
     let space : s ≡ t = one_space inputs.universe s t said.says_universe again.says_universe in
-    let world : w ≡ x = one_world inputs.world w x said.accepts_world again.accepts_world in
+    let world : w ≡ x = one_world inputs.files w x said.accepts_world again.accepts_world in
     let question : q ≡ r = one_question x.config inputs.question q r
     (subst (λ (y : World). ReadsQuestion y.config inputs.question q) world said.reads)
     again.reads in

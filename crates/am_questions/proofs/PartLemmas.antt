@@ -13,7 +13,7 @@ use Rattle.am_questions.specs.Grammar.{Written, IsQuestion}
 use Rattle.am_questions.specs.QuestionText.{TreeMeans, IsMeant, parts_of, PartRefusedFor}
 use Rattle.am_questions.specs.QuestionText.{PartsRefusedFor, QuestionRefusedFor}
 
-all_joined : {X : Type 0} (P : X → Type 0) (xs ys : List X) → AllByRecursion P xs
+pub all_joined : {X : Type 0} (P : X → Type 0) (xs ys : List X) → AllByRecursion P xs
     → AllByRecursion P ys → AllByRecursion P (xs ++ ys)
 all_joined P [] ys hx hy = hy
 all_joined P (x ∷ xs) ys hx hy = (hx.0, all_joined P xs ys hx.1 hy)
@@ -30,18 +30,13 @@ parts_meant c (Or t u) question h =
     all_joined (IsMeant c) (parts_of t) (parts_of u)
     (parts_meant c t h.0 h.2) (parts_meant c u h.1 h.3)
 
--- a part alone
-pub alone_refused : (c : Configuration) (written : Written) (kind : Kind)
-    → PartRefusedFor c written kind → PartsRefusedFor c (written ∷ []) kind
-alone_refused c written kind h =
-    record { before = []; part = written; after = []; among = refl; meant = tt; refused = h }
-
 -- what a part alone is refused for
 pub alone_if_refused : {A : Type 0} (c : Configuration) (written : Written) (result : Result A Kind)
     → IfErr result (λ kind. kind ≢ kinds.Memory → PartRefusedFor c written kind)
     → IfErr result (λ kind. kind ≢ kinds.Memory → PartsRefusedFor c (written ∷ []) kind)
 alone_if_refused c written (Ok x) h = tt
-alone_if_refused c written (Err kind) h = λ other. alone_refused c written kind (h other)
+alone_if_refused c written (Err kind) h = λ other.
+    record { before = []; part = written; after = []; among = refl; meant = tt; refused = h other }
 
 -- a part among the first
 pub left_refused : (c : Configuration) (xs ys : List Written) (kind : Kind)

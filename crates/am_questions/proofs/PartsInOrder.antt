@@ -8,7 +8,7 @@ use Rattle.am_questions.specs.Grammar.{Written, IsQuestion, IsBoth, IsOne, IsSim
 use Rattle.am_questions.specs.Grammar.{IsJoint, no_part, part_before}
 use Rattle.am_questions.specs.Grammar as g
 use Rattle.am_questions.specs.QuestionText.{parts_of}
-use Rattle.am_questions.proofs.QuestionRefusals.{all_joined}
+use Rattle.am_questions.proofs.PartLemmas.{all_joined}
 
 -- parts stand behind further joints too
 behind_more : (parts : List Written) (more tokens : List Token) → AllByRecursion IsJoint more
@@ -74,13 +74,7 @@ mutual
       (append-nil (parts_of tree))
       (one_behind_other (parts_of tree) [] tokens (Close ∷ []) (of_question is)
       (no_part (Close ∷ []) (tt, tt))))
-  of_simple (g.receiver token name is) = alone _ _ (g.receiver token name is)
-  of_simple (g.ends path) = alone _ _ (g.ends path)
-  of_simple (g.enters path) = alone _ _ (g.enters path)
-  of_simple g.silenced = alone _ _ g.silenced
-  of_simple g.inhibited = alone _ _ g.inhibited
-  of_simple g.any = alone _ _ g.any
-  of_simple (g.braces list) = alone _ _ (g.braces list)
+  of_simple is = alone _ _ is
 
 pub parts_in_order : (tokens : List Token) (tree : Tree Written) → IsQuestion tokens tree
     → StandInOrder (parts_of tree) tokens

@@ -6,12 +6,12 @@ use Rattle.std.specs.List.{AllByRecursion}
 use Rattle.am_universe.specs.declared.kind.Kind.{Kind}
 use Rattle.am_universe.specs.declared.kind.Kind.TheVariants as kinds
 use Rattle.am_files.specs.ConfigFile.{Configuration}
-use Rattle.am_eval.specs.Tree.{Tree, Part, Not, And, Or}
+use Rattle.am_eval.specs.Tree.{Tree}
 use Rattle.am_eval.specs.Question.{Question}
 use Rattle.am_eval.proofs.SetRefusals.{words_accepted, words_kind}
 use Rattle.am_questions.specs.declared.limits.TheConstants.{MAX_TOKENS}
 use Rattle.am_questions.specs.Tokens.{Token}
-use Rattle.am_questions.specs.Grammar.{Written, WrittenAny, WrittenSilenced, WrittenInhibited}
+use Rattle.am_questions.specs.Grammar.{Written}
 use Rattle.am_questions.specs.Grammar.{WrittenReceiver, WrittenEnds, WrittenEnters, WrittenBraces}
 use Rattle.am_questions.specs.Grammar.{IsQuestion}
 use Rattle.am_questions.specs.QuestionText.{TreeMeans, ReadsQuestion, parts_of}
@@ -19,15 +19,13 @@ use Rattle.am_questions.specs.QuestionText.{PartRefusedFor, IsMeant, PartsRefuse
 use Rattle.am_questions.specs.QuestionText.{TokensRefusedFor, QuestionRefusedFor}
 use Rattle.am_questions.proofs.TokenTexts.{one_list}
 use Rattle.am_questions.proofs.Takes.{one_tree}
+use Rattle.am_questions.proofs.PartLemmas.{parts_meant}
 
 -- ---- Parts.
 
 -- a part that means something is refused at most for a pattern
 part_meant : (c : Configuration) (w : Written) (kind : Kind) → IsMeant c w → PartRefusedFor c w kind
     → kind ≡ kinds.Pattern
-part_meant c WrittenAny kind meant refused = absurd refused
-part_meant c WrittenSilenced kind meant refused = absurd refused
-part_meant c WrittenInhibited kind meant refused = absurd refused
 part_meant c (WrittenReceiver name) kind meant refused =
     let there = meant.1.1 in
     let both : Some meant.1.0 ≡ None = sym there ∙ refused.1 in absurd (cc)
@@ -35,36 +33,18 @@ part_meant c (WrittenEnds text) kind meant refused = absurd (refused.1 meant.1.0
 part_meant c (WrittenEnters text) kind meant refused = absurd (refused.1 meant.1.0 meant.1.1)
 part_meant c (WrittenBraces text) kind meant refused =
     words_accepted (text ∷ []) meant.1.0 kind meant.1.1 meant.1.2 meant.1.3 refused
+part_meant c _ kind meant refused = absurd refused
 
 part_kind : (c : Configuration) (w : Written) (kind other : Kind) → PartRefusedFor c w kind
     → PartRefusedFor c w other → kind ≢ kinds.Pattern → other ≢ kinds.Pattern → kind ≡ other
-part_kind c WrittenAny kind other refused again h k = absurd refused
-part_kind c WrittenSilenced kind other refused again h k = absurd refused
-part_kind c WrittenInhibited kind other refused again h k = absurd refused
 part_kind c (WrittenReceiver name) kind other refused again h k = refused.0 ∙ sym again.0
 part_kind c (WrittenEnds text) kind other refused again h k = refused.0 ∙ sym again.0
 part_kind c (WrittenEnters text) kind other refused again h k = refused.0 ∙ sym again.0
 part_kind c (WrittenBraces text) kind other refused again h k =
     words_kind (text ∷ []) kind other refused again h k
+part_kind c _ kind other refused again h k = absurd refused
 
 -- ---- Lists of parts.
-
-pub all_joined : {X : Type 0} (P : X → Type 0) (xs ys : List X) → AllByRecursion P xs
-    → AllByRecursion P ys → AllByRecursion P (xs ++ ys)
-all_joined P [] ys h k = k
-all_joined P (x ∷ xs) ys h k = (h.0, all_joined P xs ys h.1 k)
-
--- each part of a tree that means a question means something
-parts_meant : (c : Configuration) (tree : Tree Written) (q : Question) → TreeMeans c tree q
-    → AllByRecursion (IsMeant c) (parts_of tree)
-parts_meant c (Part w) q h = ((h.0, h.1), tt)
-parts_meant c (Not t) q h = parts_meant c t h.0 h.1
-parts_meant c (And t u) q h =
-    all_joined (IsMeant c) (parts_of t) (parts_of u) (parts_meant c t h.0 h.2)
-    (parts_meant c u h.1 h.3)
-parts_meant c (Or t u) q h =
-    all_joined (IsMeant c) (parts_of t) (parts_of u) (parts_meant c t h.0 h.2)
-    (parts_meant c u h.1 h.3)
 
 all_behind : {X : Type 0} (P : X → Type 0) (before : List X) (x : X) (after : List X)
     → AllByRecursion P (before ++ (x ∷ after)) → P x

@@ -7,6 +7,8 @@ use Rattle.am_universe.specs.declared.kind.Kind.{Kind}
 use Rattle.am_universe.specs.declared.kind.Kind.TheVariants as kinds
 use Rattle.am_files.specs.Path.{path_text}
 use Rattle.am_eval.specs.Tree.{Tree, Part, Not, And, Or}
+use Rattle.am_questions.specs.declared.grammar.Connective.{Connective}
+use Rattle.am_questions.specs.declared.grammar.Connective.TheVariants as by
 use Rattle.am_questions.specs.Tokens.{Token, Open, Close, Word, Quoted, BraceList}
 use Rattle.am_questions.specs.Grammar.{Written, WrittenAny, WrittenSilenced, WrittenInhibited}
 use Rattle.am_questions.specs.Grammar.{WrittenReceiver, WrittenEnds, WrittenEnters, WrittenBraces}
@@ -61,47 +63,49 @@ pub data TakesPart : List Token → Written → List Token → Type 0 where
   take_braces : (list : List ℕ) (rest : List Token)
       → TakesPart (BraceList list ∷ rest) (WrittenBraces list) rest
 
+-- A tier of the grammar: questions that a connective joins, or one that none joins.
+pub data Tier : Type 0 where
+  JoinedBy : Connective → Tier
+  Single : Tier
+
+-- The tier of what a connective joins: `and` binds more tightly than `or`.
+abbrev pub operand_tier : Connective → Tier
+operand_tier by.And = Single
+operand_tier by.Or = JoinedBy by.And
+
+-- The word of a connective.
+abbrev pub word_of : Connective → List ℕ
+word_of by.And = codes "and"
+word_of by.Or = codes "or"
+
+-- The tree of two questions that a connective joins.
+abbrev pub joined : Connective → Tree Written → Tree Written → Tree Written
+joined by.And = And
+joined by.Or = Or
+
 mutual
-  -- a question at the front, and the tokens behind it
-  pub data TakesQuestion : List Token → Tree Written → List Token → Type 0 where
-    take_question : (ts middle rest : List Token) (q r : Tree Written)
-        → TakesBoth ts q middle → JoinsByOr q middle r rest → TakesQuestion ts r rest
-
-  -- a tree is joined by `or` to all that follows
-  pub data JoinsByOr : Tree Written → List Token → Tree Written → List Token → Type 0 where
-    no_or : (ts : List Token) (q : Tree Written) → behind (codes "or") ts ≡ None
-        → JoinsByOr q ts q ts
-    one_or : (ts us middle rest : List Token) (q r s : Tree Written)
-        → behind (codes "or") ts ≡ Some us → TakesBoth us r middle
-        → JoinsByOr (Or q r) middle s rest → JoinsByOr q ts s rest
-
-  -- the same of what `and` joins
-  pub data TakesBoth : List Token → Tree Written → List Token → Type 0 where
-    take_both : (ts middle rest : List Token) (q r : Tree Written)
-        → TakesOne ts q middle → JoinsByAnd q middle r rest → TakesBoth ts r rest
-
-  -- a tree is joined by `and` to all that follows
-  pub data JoinsByAnd : Tree Written → List Token → Tree Written → List Token → Type 0 where
-    no_and : (ts : List Token) (q : Tree Written) → behind (codes "and") ts ≡ None
-        → JoinsByAnd q ts q ts
-    one_and : (ts us middle rest : List Token) (q r s : Tree Written)
-        → behind (codes "and") ts ≡ Some us → TakesOne us r middle
-        → JoinsByAnd (And q r) middle s rest → JoinsByAnd q ts s rest
-
-  -- the same of what is not joined
-  pub data TakesOne : List Token → Tree Written → List Token → Type 0 where
+  -- a question of a tier at the front, and the tokens behind it
+  pub data Takes : Tier → List Token → Tree Written → List Token → Type 0 where
+    take_joined : (c : Connective) (ts middle rest : List Token) (q r : Tree Written)
+        → Takes (operand_tier c) ts q middle → Joins c q middle r rest
+        → Takes (JoinedBy c) ts r rest
     take_not : (ts us rest : List Token) (q : Tree Written)
-        → behind (codes "not") ts ≡ Some us → TakesOne us q rest → TakesOne ts (Not q) rest
-    take_simple : (ts rest : List Token) (q : Tree Written)
-        → behind (codes "not") ts ≡ None → TakesSimple ts q rest → TakesOne ts q rest
-
-  -- the same of a simple part, or a question in parentheses
-  pub data TakesSimple : List Token → Tree Written → List Token → Type 0 where
+        → behind (codes "not") ts ≡ Some us → Takes Single us q rest → Takes Single ts (Not q) rest
     take_inside : (ts us middle rest : List Token) (q : Tree Written)
-        → behind_open ts ≡ Some us → TakesQuestion us q middle → behind_close middle ≡ Some rest
-        → TakesSimple ts q rest
+        → behind (codes "not") ts ≡ None → behind_open ts ≡ Some us
+        → Takes (JoinedBy by.Or) us q middle → behind_close middle ≡ Some rest
+        → Takes Single ts q rest
     take_part : (ts rest : List Token) (w : Written)
-        → behind_open ts ≡ None → TakesPart ts w rest → TakesSimple ts (Part w) rest
+        → behind (codes "not") ts ≡ None → behind_open ts ≡ None → TakesPart ts w rest
+        → Takes Single ts (Part w) rest
+
+  -- a tree is joined by a connective to all that follows
+  pub data Joins : Connective → Tree Written → List Token → Tree Written → List Token → Type 0 where
+    join_none : (c : Connective) (ts : List Token) (q : Tree Written)
+        → behind (word_of c) ts ≡ None → Joins c q ts q ts
+    join_one : (c : Connective) (ts us middle rest : List Token) (q r s : Tree Written)
+        → behind (word_of c) ts ≡ Some us → Takes (operand_tier c) us r middle
+        → Joins c (joined c q r) middle s rest → Joins c q ts s rest
 
 -- Why nothing is read: for want of memory, or nothing of the kind is at the front.
 abbrev pub Refuses : Kind → (Tree Written → List Token → Type 0) → Type 0

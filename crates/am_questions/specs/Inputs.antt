@@ -5,10 +5,9 @@ use Rattle.am_labels.specs.Space.{Space}
 use Rattle.am_records.specs.UniverseFile.{FileSaysUniverse}
 use Rattle.am_search.specs.declared.start.Start.{Start}
 use Rattle.am_search.specs.declared.page.Page.{Page}
-use Rattle.am_eval.specs.declared.files.Files.{Files}
-use Rattle.am_eval.specs.Files.{config_of}
+use Rattle.am_eval.specs.Files.{Files, config_of}
 use Rattle.am_eval.specs.World.{World}
-use Rattle.am_eval.specs.WorldInputs.{WorldInputs, world_inputs_of, AcceptsWorld, world_stages}
+use Rattle.am_eval.specs.AcceptedWorld.{AcceptsWorld, world_stages}
 use Rattle.am_eval.specs.Question.{Question}
 use Rattle.am_eval.specs.Faults.{Stage, universe_stage}
 use Rattle.am_fingerprint.specs.Fingerprint.{fingerprint_of}
@@ -16,11 +15,11 @@ use Rattle.am_questions.specs.QuestionText.{ReadsQuestion}
 use Rattle.am_questions.specs.AskedStart.{AsksStart}
 use Rattle.am_questions.specs.QuestionStages.{question_stage, token_stage}
 
--- The inputs of `ask`: the bytes of the universe file, what the world is made of, the text of the
--- question, and the token that says where the answers begin, if there is one.
+-- The inputs of `ask`: the bytes of the universe file, the other files with the instant, the text
+-- of the question, and the token that says where the answers begin, if there is one.
 pub record Inputs : Type 0 where
   pub universe : List ℕ
-  pub world : WorldInputs
+  pub files : Files
   pub question : List ℕ
   pub after : Option (List ℕ)
 
@@ -28,7 +27,7 @@ pub record Inputs : Type 0 where
 abbrev pub inputs_of : List ℕ → Files → List ℕ → Page → Inputs
 inputs_of universe files question page = record {
   universe = universe;
-  world = world_inputs_of files;
+  files = files;
   question = question;
   after = option_copied page.after;
 }
@@ -37,26 +36,26 @@ inputs_of universe files question page = record {
 abbrev pub after_token : Inputs → List ℕ → Inputs
 after_token inputs token = record {
   universe = inputs.universe;
-  world = inputs.world;
+  files = inputs.files;
   question = inputs.question;
   after = Some token;
 }
 
--- The fingerprint of a universe file, of what a world is made of, as far as it is given, and of the
--- text of a question.
-abbrev pub files_fingerprint : List ℕ → WorldInputs → List ℕ → List ℕ
-files_fingerprint universe world question =
+-- The fingerprint of a universe file, of the other files and the instant, as far as they are given,
+-- and of the text of a question.
+abbrev pub files_fingerprint : List ℕ → Files → List ℕ → List ℕ
+files_fingerprint universe files question =
     fingerprint_of (Some universe
-    ∷ world.config
-    ∷ world.silences
-    ∷ world.alerts
-    ∷ world.at
+    ∷ files.config
+    ∷ files.silences
+    ∷ files.alerts
+    ∷ files.at
     ∷ Some question
     ∷ [])
 
 -- The fingerprint of the inputs. The token is no part of it, nor how much of the answers is wanted.
 abbrev pub inputs_fingerprint : Inputs → List ℕ
-inputs_fingerprint inputs = files_fingerprint inputs.universe inputs.world inputs.question
+inputs_fingerprint inputs = files_fingerprint inputs.universe inputs.files inputs.question
 
 -- The inputs are accepted: the universe file says the space, the world is accepted, the text is
 -- read as the question about its configuration, and the start is the one that is asked for over the
@@ -64,7 +63,7 @@ inputs_fingerprint inputs = files_fingerprint inputs.universe inputs.world input
 pub record AcceptsInputs (inputs : Inputs) (space : Space) (world : World)
     (question : Question) (start : Start) : Type 0 where
   pub says_universe : FileSaysUniverse inputs.universe space
-  pub accepts_world : AcceptsWorld inputs.world world
+  pub accepts_world : AcceptsWorld inputs.files world
   pub reads : ReadsQuestion world.config inputs.question question
   pub starts : AsksStart space.labels (inputs_fingerprint inputs) inputs.after start
 
@@ -77,7 +76,7 @@ pub record AcceptsInputs (inputs : Inputs) (space : Space) (world : World)
 abbrev pub ask_stages : Inputs → List Stage
 ask_stages inputs =
     universe_stage inputs.universe
-    ∷ (world_stages inputs.world
-    ++ question_stage (config_of inputs.world.config) inputs.question
+    ∷ (world_stages inputs.files
+    ++ question_stage (config_of inputs.files.config) inputs.question
     ∷ token_stage inputs.universe (inputs_fingerprint inputs) inputs.after
     ∷ [])

@@ -36,7 +36,7 @@ HasSomeStart bytes fingerprint after =
 abbrev pub TokenRefusedFor : List ℕ → List ℕ → Option (List ℕ) → Refusal → Type 0
 TokenRefusedFor bytes fingerprint after r =
     (space : Space) × FileSaysUniverse bytes space
-    × StartRefusedFor space.labels fingerprint after r.kind × (r.pointer ≡ [])
+    × (r.pointer ≡ []) × StartRefusedFor space.labels fingerprint after r.kind
 
 -- The text of the question about the configuration of a file.
 abbrev pub question_stage : List ℕ → List ℕ → Stage

@@ -5,9 +5,10 @@ use Rattle.am_questions.specs.declared.grammar.Written.TheVariants as parts
 use Rattle.am_questions.specs.declared.grammar.Tree as kept
 use Rattle.am_questions.specs.declared.grammar.Tree.{fold-Tree}
 use Rattle.am_questions.specs.declared.grammar.Tree.TheOpen.{Tree-F}
-use Rattle.am_eval.specs.Tree.{Tree, Part, Not, And, Or}
+use Rattle.am_eval.specs.Tree.{Tree, Part, Not}
 use Rattle.am_questions.specs.Grammar.{Written, WrittenAny, WrittenSilenced, WrittenInhibited}
 use Rattle.am_questions.specs.Grammar.{WrittenReceiver, WrittenEnds, WrittenEnters, WrittenBraces}
+use Rattle.am_questions.specs.GrammarReading.{joined}
 
 -- A simple part without where its text lies in memory.
 abbrev pub written_view : kept_parts.Written → Written
@@ -23,8 +24,7 @@ written_view (parts.Braces list) = WrittenBraces list.now
 abbrev pub view_step : Tree-F (Tree Written) → Tree Written
 view_step (Tree-F.Part written) = Part (written_view written)
 view_step (Tree-F.Not t) = Not (box_value t)
-view_step (Tree-F.And t u) = And (box_value t) (box_value u)
-view_step (Tree-F.Or t u) = Or (box_value t) (box_value u)
+view_step (Tree-F.Joined connective t u) = joined connective (box_value t) (box_value u)
 
 -- The tree that a `Tree` stands for.
 abbrev pub tree_view : kept.Tree → Tree Written

@@ -8,8 +8,8 @@ pub use Rattle.am_questions.specs.Grammar.{Written, IsQuestion, StandInOrder}
 pub use Rattle.am_questions.specs.GrammarReading.{behind, behind_open, behind_close, is_word}
 pub use Rattle.am_questions.specs.GrammarReading.{name_of}
 pub use Rattle.am_questions.specs.GrammarReading.{IsPathText, Refuses}
-pub use Rattle.am_questions.specs.GrammarReading.{TakesQuestion, TakesBoth, TakesOne}
-pub use Rattle.am_questions.specs.GrammarReading.{TakesSimple, TakesPart}
+pub use Rattle.am_questions.specs.GrammarReading.{JoinedBy, Single, operand_tier, word_of}
+pub use Rattle.am_questions.specs.GrammarReading.{Takes, TakesPart}
 pub use Rattle.am_questions.specs.GrammarExamples.{any_word, not_word, and_word, or_word, any_tree}
 pub use Rattle.am_questions.specs.QuestionText.{ReadsQuestion, QuestionRefusedFor, TreeMeans}
 pub use Rattle.am_questions.specs.QuestionText.{PartsRefusedFor, PartRefusedFor, IsPathOfRoute}

@@ -1,5 +1,4 @@
 ghost use Rattle.std.specs.Prelude.{◌≡◌};
-ghost use Rattle.am_eval.specs.WorldInputs.{world_inputs_of};
 ghost use Rattle.am_questions.specs.Words.{files_fingerprint};
 
 use am_eval::Files;
@@ -11,7 +10,7 @@ use am_fingerprint::Parts;
 /// Nothing is promised of two inputs that share a fingerprint. No memory is taken.
 pub fn fingerprint(universe: &[u8], files: &Files<'_>, question: &str) -> [u8; 16]
     ensures fingerprint { result
-        ≡ files_fingerprint universe.now (world_inputs_of files.now) question.now }
+        ≡ files_fingerprint universe.now files.now question.now }
 {
     am_fingerprint::fingerprint(&Parts {
         universe,

@@ -7,8 +7,8 @@ ghost use Rattle.am_questions.specs.Grammar as spec;
 ghost use Rattle.am_questions.specs.Tokens.{Word};
 ghost use Rattle.am_eval.specs.Tree as trees;
 ghost use Rattle.am_questions.specs.Words.{behind, behind_open, behind_close, is_word, name_of};
-ghost use Rattle.am_questions.specs.Words.{IsPathText, Refuses, TakesQuestion, TakesBoth, TakesOne};
-ghost use Rattle.am_questions.specs.Words.{TakesSimple, TakesPart, token_view, tree_view};
+ghost use Rattle.am_questions.specs.Words.{IsPathText, Refuses, Takes, JoinedBy, Single};
+ghost use Rattle.am_questions.specs.Words.{operand_tier, word_of, TakesPart, token_view, tree_view};
 ghost use Rattle.am_questions.specs.Words.{written_view};
 
 use crate::tokens::Token;
@@ -21,8 +21,14 @@ use std::alloc::Global;
 pub(crate) enum Tree<'a> {
     Part(Written<'a>),
     Not(Box<Tree<'a>>),
-    And(Box<Tree<'a>>, Box<Tree<'a>>),
-    Or(Box<Tree<'a>>, Box<Tree<'a>>),
+    Joined(Connective, Box<Tree<'a>>, Box<Tree<'a>>),
+}
+
+/// A word that joins two questions. Both words join to the left.
+#[derive(Clone, Copy, Debug)]
+pub(crate) enum Connective {
+    And,
+    Or,
 }
 
 /// A simple part as it is written.
@@ -50,7 +56,7 @@ pub(crate) fn read_tree<'a>(alloc: Global, tokens: &'a [Token<'a>]) -> Result<Tr
         × ((tree : trees.Tree spec.Written) → spec.IsQuestion (map token_view tokens.now) tree
         → ⊥)) }
 {
-    let (tree, rest) = read_question(alloc, tokens)?;
+    let (tree, rest) = read_joined(alloc, Connective::Or, tokens)?;
     if rest.is_empty() {
         Ok(tree)
     } else {
@@ -58,81 +64,67 @@ pub(crate) fn read_tree<'a>(alloc: Global, tokens: &'a [Token<'a>]) -> Result<Tr
     }
 }
 
-/// A question, joined by `or`, and the tokens behind it.
+/// The questions that a connective joins, to the left, or one alone, and the tokens behind them.
 #[cycle(questions)]
-fn read_question<'a>(
+fn read_joined<'a>(
     alloc: Global,
+    connective: Connective,
     tokens: &'a [Token<'a>],
 ) -> Result<(Tree<'a>, &'a [Token<'a>]), Kind>
-    ensures taken { IfOk result (λ r. TakesQuestion (map token_view tokens.now) (tree_view r.0)
-        (map token_view r.1.now)) }
+    ensures taken { IfOk result (λ r. Takes (JoinedBy connective) (map token_view tokens.now)
+        (tree_view r.0) (map token_view r.1.now)) }
     ensures shorter { IfOk result (λ r. length r.1.now < length tokens.now) }
     ensures refused { IfErr result (λ kind.
-        Refuses kind (TakesQuestion (map token_view tokens.now))) }
+        Refuses kind (Takes (JoinedBy connective) (map token_view tokens.now))) }
 {
-    let (mut tree, mut rest) = read_both(alloc, tokens)?;
-    while let Some(behind) = behind_word(rest, "or") {
-        let (right, behind) = read_both(alloc, behind)?;
-        tree = Tree::Or(Box::new(alloc, tree)?, Box::new(alloc, right)?);
+    let (mut tree, mut rest) = read_operand(alloc, connective, tokens)?;
+    while let Some(behind) = behind_word(rest, connective_word(connective)) {
+        let (right, behind) = read_operand(alloc, connective, behind)?;
+        tree = Tree::Joined(connective, Box::new(alloc, tree)?, Box::new(alloc, right)?);
         rest = behind;
     }
     Ok((tree, rest))
 }
 
-/// A question joined by `and` alone, and the tokens behind it.
+/// A question that a connective joins, and the tokens behind it. `and` binds more tightly than
+/// `or`.
 #[cycle(questions)]
-fn read_both<'a>(
+fn read_operand<'a>(
     alloc: Global,
+    connective: Connective,
     tokens: &'a [Token<'a>],
 ) -> Result<(Tree<'a>, &'a [Token<'a>]), Kind>
-    ensures taken { IfOk result (λ r. TakesBoth (map token_view tokens.now) (tree_view r.0)
-        (map token_view r.1.now)) }
+    ensures taken { IfOk result (λ r. Takes (operand_tier connective) (map token_view tokens.now)
+        (tree_view r.0) (map token_view r.1.now)) }
     ensures shorter { IfOk result (λ r. length r.1.now < length tokens.now) }
     ensures refused { IfErr result (λ kind.
-        Refuses kind (TakesBoth (map token_view tokens.now))) }
+        Refuses kind (Takes (operand_tier connective) (map token_view tokens.now))) }
 {
-    let (mut tree, mut rest) = read_one(alloc, tokens)?;
-    while let Some(behind) = behind_word(rest, "and") {
-        let (right, behind) = read_one(alloc, behind)?;
-        tree = Tree::And(Box::new(alloc, tree)?, Box::new(alloc, right)?);
-        rest = behind;
-    }
-    Ok((tree, rest))
-}
-
-/// A question that is not joined, and the tokens behind it.
-#[cycle(questions)]
-fn read_one<'a>(alloc: Global, tokens: &'a [Token<'a>]) -> Result<(Tree<'a>, &'a [Token<'a>]), Kind>
-    ensures taken { IfOk result (λ r. TakesOne (map token_view tokens.now) (tree_view r.0)
-        (map token_view r.1.now)) }
-    ensures shorter { IfOk result (λ r. length r.1.now < length tokens.now) }
-    ensures refused { IfErr result (λ kind.
-        Refuses kind (TakesOne (map token_view tokens.now))) }
-{
-    match behind_word(tokens, "not") {
-        Some(behind) => {
-            let (tree, rest) = read_one(alloc, behind)?;
-            Ok((Tree::Not(Box::new(alloc, tree)?), rest))
-        }
-        None => read_simple(alloc, tokens),
+    match connective {
+        Connective::And => read_single(alloc, tokens),
+        Connective::Or => read_joined(alloc, Connective::And, tokens),
     }
 }
 
-/// A simple part or a question in parentheses, and the tokens behind it.
+/// A question that no connective joins, and the tokens behind it.
 #[cycle(questions)]
-fn read_simple<'a>(
+fn read_single<'a>(
     alloc: Global,
     tokens: &'a [Token<'a>],
 ) -> Result<(Tree<'a>, &'a [Token<'a>]), Kind>
-    ensures taken { IfOk result (λ r. TakesSimple (map token_view tokens.now) (tree_view r.0)
+    ensures taken { IfOk result (λ r. Takes Single (map token_view tokens.now) (tree_view r.0)
         (map token_view r.1.now)) }
     ensures shorter { IfOk result (λ r. length r.1.now < length tokens.now) }
     ensures refused { IfErr result (λ kind.
-        Refuses kind (TakesSimple (map token_view tokens.now))) }
+        Refuses kind (Takes Single (map token_view tokens.now))) }
 {
+    if let Some(behind) = behind_word(tokens, "not") {
+        let (tree, rest) = read_single(alloc, behind)?;
+        return Ok((Tree::Not(Box::new(alloc, tree)?), rest));
+    }
     match behind_open(tokens) {
         Some(behind) => {
-            let (tree, rest) = read_question(alloc, behind)?;
+            let (tree, rest) = read_joined(alloc, Connective::Or, behind)?;
             match behind_close(rest) {
                 Some(rest) => Ok((tree, rest)),
                 None => Err(Kind::QuestionSyntax),
@@ -142,6 +134,16 @@ fn read_simple<'a>(
             Some((part, rest)) => Ok((Tree::Part(part), rest)),
             None => Err(Kind::QuestionSyntax),
         },
+    }
+}
+
+/// The word of a connective.
+fn connective_word(connective: Connective) -> &'static str
+    ensures { result.now ≡ word_of connective }
+{
+    match connective {
+        Connective::And => "and",
+        Connective::Or => "or",
     }
 }
 

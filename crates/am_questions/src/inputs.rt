@@ -1,11 +1,10 @@
-ghost use Rattle.std.specs.Prelude.{◌≡◌, ◌≢◌, [], option_copied};
-ghost use Rattle.std.specs.Prelude.{IfOk, IfErr, string_bytes};
-ghost use Rattle.am_universe.specs.declared.kind.Kind.TheVariants as kinds;
+ghost use Rattle.std.specs.Prelude.{◌≡◌, [], option_copied};
+ghost use Rattle.std.specs.Prelude.{IfOk, IfErr};
 ghost use Rattle.am_universe.specs.declared.place.Place.TheVariants as places;
-ghost use Rattle.am_json.specs.Words.{refusal_of};
+ghost use Rattle.am_json.specs.Words.{IsRefusalAt};
 ghost use Rattle.am_labels.specs.Words.{sizes};
 ghost use Rattle.am_search.specs.Words.{IsStart};
-ghost use Rattle.am_eval.specs.Words.{question_view, IsFirstFaultOfCall};
+ghost use Rattle.am_eval.specs.Words.{question_view, IsFirstFault};
 ghost use Rattle.am_questions.specs.Words.{inputs_of, AcceptsInputs, ask_stages, AsksStart};
 ghost use Rattle.am_questions.specs.Words.{StartRefusedFor, inputs_fingerprint};
 
@@ -13,7 +12,7 @@ use crate::fingerprints::fingerprint;
 use crate::names::parse_question;
 use am_eval::{Files, Question, World, read_world};
 use am_files::read_universe;
-use am_labels::{Choice, Fault, Place, Space, fault_at};
+use am_labels::{Choice, Fault, Place, Space};
 use am_search::{Page, Start, parse_token};
 use std::alloc::Global;
 
@@ -30,8 +29,8 @@ pub struct AcceptedInputs {
 
 /// Reads the inputs of a question: the universe file, the world, the question, and then the token
 /// that says where the answers begin. It may name a choice that is impossible. The first fault is
-/// the one answered, at `Universe`, where [`read_world`] has it, at `Question` or at `Token`.
-/// `Memory`, at `Memory`, comes wherever memory ran out.
+/// the one answered, at `Universe`, where [`read_world`] has it, at `Question` or at `Token`; or
+/// `Memory`.
 pub fn read_inputs(
     alloc: Global,
     universe: &[u8],
@@ -46,19 +45,15 @@ pub fn read_inputs(
         IsStart (sizes accepted.space.labels) accepted.start) }
     ensures fingerprint { IfOk result (λ accepted. accepted.fingerprint
         ≡ inputs_fingerprint (inputs_of universe.now files.now question.now page.now)) }
-    ensures first { IfErr result (λ fault. fault.kind ≢ kinds.Memory
-        → IsFirstFaultOfCall (ask_stages (inputs_of universe.now files.now question.now page.now))
-        fault.place (refusal_of fault)) }
-    ensures memory { IfErr result (λ fault. fault.kind ≡ kinds.Memory
-        → (fault.place ≡ places.Memory) × (string_bytes fault.pointer ≡ [])) }
-    ensures no_write { IfErr result (λ fault. fault.kind ≢ kinds.Write) }
+    ensures first { IfErr result (IsFirstFault
+        (ask_stages (inputs_of universe.now files.now question.now page.now))) }
 {
     let fingerprint = fingerprint(universe, files, question);
     let space = read_universe(alloc, universe)?;
     let world = read_world(alloc, files)?;
     let question = match parse_question(alloc, question, world.config()) {
         Ok(question) => question,
-        Err(kind) => return Err(fault_at(alloc, kind, Place::Question)),
+        Err(kind) => return Err(Fault::at(alloc, kind, Place::Question)),
     };
     let start = read_start(alloc, page.after, &space, &fingerprint)?;
     Ok(AcceptedInputs {
@@ -81,17 +76,14 @@ fn read_start(
 ) -> Result<Start, Fault>
     ensures starts { IfOk result
         (AsksStart space.now.labels fingerprint.now (option_copied after.entry)) }
-    ensures refused { IfErr result (λ fault. (fault.place ≡ places.Token)
-        × StartRefusedFor space.now.labels fingerprint.now (option_copied after.entry) fault.kind
-        × (string_bytes fault.pointer ≡ [])) }
-    ensures kind { IfErr result (λ fault. (fault.kind ≢ kinds.Memory)
-        × (fault.kind ≢ kinds.Write)) }
+    ensures refused { IfErr result (IsRefusalAt places.Token (λ r. (r.pointer ≡ [])
+        × StartRefusedFor space.now.labels fingerprint.now (option_copied after.entry) r.kind)) }
 {
     let Some(token) = after else {
         return Ok(Start::At(Choice::empty()));
     };
     match parse_token(token, space.universe(), fingerprint) {
         Ok(start) => Ok(start),
-        Err(kind) => Err(fault_at(alloc, kind, Place::Token)),
+        Err(kind) => Err(Fault::at(alloc, kind, Place::Token)),
     }
 }

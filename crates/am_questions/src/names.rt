@@ -9,7 +9,7 @@ ghost use Rattle.am_questions.specs.Words.{PartsRefusedFor, PartRefusedFor, IsPa
 ghost use Rattle.am_questions.specs.Words.{tree_view, written_view};
 ghost use Rattle.am_eval.specs.Words.{question_view};
 
-use crate::grammar::{Tree, Written, read_tree};
+use crate::grammar::{Connective, Tree, Written, read_tree};
 use crate::limits::MAX_TOKENS;
 use crate::tokens::read_tokens;
 use am_eval::Question;
@@ -50,15 +50,14 @@ fn question_of(alloc: Global, config: &Config, tree: &Tree<'_>) -> Result<Questi
             let question = question_of(alloc, config, tree)?;
             Ok(Question::Not(Box::new(alloc, question)?))
         }
-        Tree::And(left, right) => {
+        Tree::Joined(connective, left, right) => {
             let left = question_of(alloc, config, left)?;
             let right = question_of(alloc, config, right)?;
-            Ok(Question::And(Box::new(alloc, left)?, Box::new(alloc, right)?))
-        }
-        Tree::Or(left, right) => {
-            let left = question_of(alloc, config, left)?;
-            let right = question_of(alloc, config, right)?;
-            Ok(Question::Or(Box::new(alloc, left)?, Box::new(alloc, right)?))
+            let (left, right) = (Box::new(alloc, left)?, Box::new(alloc, right)?);
+            match connective {
+                Connective::And => Ok(Question::And(left, right)),
+                Connective::Or => Ok(Question::Or(left, right)),
+            }
         }
     }
 }

@@ -1,40 +1,33 @@
-use Rattle.std.proofs.Common.{◌<◌, ◌*◌, ◌+◌, length, map}
-use Rattle.am_questions.specs.GrammarReading.{TakesQuestion, TakesBoth, JoinsByOr, JoinsByAnd}
+use Rattle.std.proofs.Common.{◌<◌, ◌*◌, ◌+◌, ℕ, length, map}
+use Rattle.am_questions.specs.GrammarReading.{Takes, Joins, JoinedBy}
+use Rattle.am_questions.specs.declared.grammar.Connective.{Connective}
+use Rattle.am_questions.specs.declared.grammar.Connective.TheVariants as by
 use Rattle.am_questions.specs.TokenView.{token_view}
 use Rattle.am_questions.specs.TreeView.{tree_view}
 use Rattle.am_questions.proofs.TakesSteps.{ReadsSame}
 use Rattle.am_questions.proofs.grammar.+questions.Given as goal
 
--- A call goes down one line of the grammar, or some token was read before it.
-abbrev pub decreases-read_question : goal.decreases-read_question
-decreases-read_question l = 4 * length l.tokens.now + 3
+-- A call goes down one tier of the grammar, or some token was read before it.
+abbrev pub tiers_down : Connective → ℕ
+tiers_down by.And = 0
+tiers_down by.Or = 2
 
-abbrev pub decreases-read_both : goal.decreases-read_both
-decreases-read_both l = 4 * length l.tokens.now + 2
+abbrev pub decreases-read_joined : goal.decreases-read_joined
+decreases-read_joined l = 5 * length l.tokens.now + tiers_down l.connective + 2
 
-abbrev pub decreases-read_one : goal.decreases-read_one
-decreases-read_one l = 4 * length l.tokens.now + 1
+abbrev pub decreases-read_operand : goal.decreases-read_operand
+decreases-read_operand l = 5 * length l.tokens.now + tiers_down l.connective + 1
 
-abbrev pub decreases-read_simple : goal.decreases-read_simple
-decreases-read_simple l = 4 * length l.tokens.now
+abbrev pub decreases-read_single : goal.decreases-read_single
+decreases-read_single l = 5 * length l.tokens.now
 
 -- What is read from here on is what is read from the start.
-abbrev pub invariant-read_question-loop-behind : goal.invariant-read_question-loop-behind
-invariant-read_question-loop-behind l = record {
+abbrev pub invariant-read_joined-loop-behind : goal.invariant-read_joined-loop-behind
+invariant-read_joined-loop-behind l = record {
   shorter : length l.rest < length l.fn.tokens;
-  same : ReadsSame (JoinsByOr (tree_view l.tree) (map token_view l.rest))
-      (TakesQuestion (map token_view l.fn.tokens));
+  same : ReadsSame (Joins l.fn.connective (tree_view l.tree) (map token_view l.rest))
+      (Takes (JoinedBy l.fn.connective) (map token_view l.fn.tokens));
 }
 
-abbrev pub decreases-read_question-loop-behind : goal.decreases-read_question-loop-behind
-decreases-read_question-loop-behind l = length l.rest
-
-abbrev pub invariant-read_both-loop-behind : goal.invariant-read_both-loop-behind
-invariant-read_both-loop-behind l = record {
-  shorter : length l.rest < length l.fn.tokens;
-  same : ReadsSame (JoinsByAnd (tree_view l.tree) (map token_view l.rest))
-      (TakesBoth (map token_view l.fn.tokens));
-}
-
-abbrev pub decreases-read_both-loop-behind : goal.decreases-read_both-loop-behind
-decreases-read_both-loop-behind l = length l.rest
+abbrev pub decreases-read_joined-loop-behind : goal.decreases-read_joined-loop-behind
+decreases-read_joined-loop-behind l = length l.rest

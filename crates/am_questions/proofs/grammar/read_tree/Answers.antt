@@ -1,6 +1,6 @@
 use Rattle.std.proofs.Common.{refl, sym}
 use Rattle.std.proofs.lemmas.Result.{err_from_is_err_and}
-use Rattle.am_questions.proofs.Takes.{whole_front, whole_taken, same_question}
+use Rattle.am_questions.proofs.Takes.{whole_front, whole_taken, same_taken}
 use Rattle.am_questions.proofs.TakesSteps.{nothing_left, something_left}
 use Rattle.am_questions.proofs.grammar.read_tree.Goals as goal
 
@@ -20,7 +20,7 @@ pub returns-clause-refused : goal.returns-clause-refused
 returns-clause-refused c = λ _. (
   refl,
   λ tree is.
-      let same = same_question (whole_taken is) c.in_ok-tree.ensures.taken refl in
+      let same = same_taken (whole_taken is) c.in_ok-tree.ensures.taken refl in
       something_left c.in_ok-tree.rest.now c.is_empty.result c.is_empty.ensures c.if-is_empty.false
       (sym same.1),
 )
