@@ -11,10 +11,5 @@ pub mod QuestionSteps
 pub mod ListSteps
 pub mod PairSteps
 pub mod SilenceSteps
-pub mod WorldServed
 pub mod PossibleSteps
 pub mod PlanJudges
-pub mod ImpossibleCubes
-pub mod FirstPossible
-pub mod WayReasons
-pub mod WayMeaning

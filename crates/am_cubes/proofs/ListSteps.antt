@@ -96,14 +96,3 @@ any_of_same p q xs ys same =
     any_made : {X : Type 0} (p : X → Bool) (xs : List X) → list_any (λ b. b) (map p xs) ≡ list_any p xs
     any_made p [] = refl
     any_made p (x ∷ xs) = ap (λ b. p x || b) (any_made p xs)
-
-pub any_mapped : {X Y : Type 0} (test : Y → Bool) (f : X → Y) (xs : List X)
-    → list_any test (map f xs) ≡ list_any (λ x. test (f x)) xs
-any_mapped test f [] = refl
-any_mapped test f (x ∷ xs) = ap (λ b. test (f x) || b) (any_mapped test f xs)
-
-pub same_any_test : {X : Type 0} (p q : X → Bool) (xs : List X) → ((x : X) → p x ≡ q x)
-    → list_any p xs ≡ list_any q xs
-same_any_test p q [] same = refl
-same_any_test p q (x ∷ xs) same =
-    ap (λ b. b || list_any p xs) (same x) ∙ ap (λ b. q x || b) (same_any_test p q xs same)

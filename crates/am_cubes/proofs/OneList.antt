@@ -18,11 +18,11 @@ use Rattle.am_eval.specs.Question.{Braces}
 use Rattle.am_eval.specs.Words.{World, Question, is_answer, not_matching}
 use Rattle.am_eval.proofs.ConditionLaws as conditions
 use Rattle.am_cubes.specs.declared.plan.Plan.{Plan}
-use Rattle.am_cubes.specs.PlanWords.{plan_space, plan_world, plan_sizes, plan_verdict}
+use Rattle.am_cubes.specs.PlanWords.{plan_space, plan_sizes, plan_verdict}
 use Rattle.am_cubes.specs.PlanWords.{plan_is_judge}
 use Rattle.am_cubes.specs.Verdicts.{kleene_and, kleene_or, all_of, verdict_of_literal}
 use Rattle.am_cubes.specs.Verdicts.{verdict_of_question, verdict_of}
-use Rattle.am_cubes.proofs.ListSteps.{and_true, same_any_test}
+use Rattle.am_cubes.proofs.ListSteps.{and_true}
 use Rattle.am_cubes.proofs.Soundness.{yes_says_all, no_says_none, never_open}
 
 -- the or of one way, which is the and of one literal; and that it is possible
@@ -58,11 +58,9 @@ module _ (s : Space) (w : World) (ms : List Condition) (none : s.impossible ≡ 
   some_match_and_some_do_not prefix a e =
       let cs = completions (sizes s.labels) prefix in
       let matches = matches_at s.labels ms in
-      let answers = is_answer s w (Part (Braces ms)) in
       let both = (open_exactly matches cs).0 (sym (verdict_of_its_list prefix a) ∙ e) in (
-        sym (same_any_test matches answers cs answers_match) ∙ both.0,
-        sym (same_any_test (λ c. not (matches c)) (λ c. not (answers c)) cs
-            (λ c. ap not (answers_match c))) ∙ both.1,
+        sym (λ i. list_any (λ c. answers_match c i) cs) ∙ both.0,
+        sym (λ i. list_any (λ c. not (answers_match c i)) cs) ∙ both.1,
       )
 
   pub is_exact_judge : AreSizes (sizes s.labels)
@@ -85,16 +83,16 @@ module _ (s : Space) (w : World) (ms : List Condition) (none : s.impossible ≡ 
 
 -- ---- What a plan judges.
 
-module _ (plan : Plan) (ms : List Condition) (none : (plan_space plan).impossible ≡ [])
+module _ (plan : Plan) (w : World) (ms : List Condition) (none : (plan_space plan).impossible ≡ [])
     (same : (prefix : List ℕ) → IsTrue (admits (plan_sizes plan) prefix)
     → plan_verdict plan prefix
-    ≡ verdict_of (plan_space plan) (plan_world plan) (Part (Braces ms)) prefix) where
+    ≡ verdict_of (plan_space plan) w (Part (Braces ms)) prefix) where
   abbrev is_its_answer : List ℕ → Bool
-  is_its_answer = is_answer (plan_space plan) (plan_world plan) (Part (Braces ms))
+  is_its_answer = is_answer (plan_space plan) w (Part (Braces ms))
 
   is_exact : IsExactJudge (plan_sizes plan) is_its_answer (plan_verdict plan)
   is_exact =
-      is_exact_judge (plan_space plan) (plan_world plan) ms none (plan_verdict plan) same
+      is_exact_judge (plan_space plan) w ms none (plan_verdict plan) same
       (plan_is_judge plan).limits
 
   pub at_most : (start : Start) → length (visited (plan_sizes plan) (plan_verdict plan) start)

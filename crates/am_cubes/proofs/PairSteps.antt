@@ -10,6 +10,7 @@ use Rattle.std.proofs.lemmas.List.{length-map, map-append}
 use Rattle.std.proofs.lemmas.Option.{slice_get-map, same_Some, slice_get_read, slice_get_within}
 use Rattle.std.proofs.lemmas.Simd.{map-map}
 use Rattle.am_universe.specs.LabelSet.{LabelMap, value_of}
+use Rattle.am_universe.proofs.UniverseLemmas.{list_any-map}
 use Rattle.am_labels.specs.declared.op.Op.TheVariants.{Equal}
 use Rattle.am_labels.specs.Words.{Label, TruthRow, row_of, all_hold}
 use Rattle.am_files.specs.ConfigFile.{Rule}
@@ -23,7 +24,7 @@ use Rattle.am_eval.specs.Words.{same_value}
 use Rattle.am_eval.specs.Conditions.{pair_way}
 use Rattle.am_eval.proofs.Inhibitors.{rule_within}
 use Rattle.am_labels.proofs.Passing.{in_any}
-use Rattle.am_eval.proofs.Members.{in_at}
+use Rattle.am_universe.proofs.Members.{in_at}
 use Rattle.am_masks.specs.declared.modality.Modality.{Modality}
 use Rattle.am_masks.specs.declared.modality.Modality.TheVariants.{May, Must}
 use Rattle.am_cubes.specs.declared.pair_lists.PairList.{PairList}
@@ -36,7 +37,7 @@ use Rattle.am_cubes.specs.Verdicts.{kleene_not, verdict_of_literal, verdict_of_s
 use Rattle.am_cubes.specs.PairsByLists.{source_fails, source_among, pair_by, inhibited_by, AreSources}
 use Rattle.am_cubes.specs.PairsByLists.{AreTargets, way_of_pair, side_fails, some_pair}
 use Rattle.am_cubes.proofs.Kleene.{passes_not, passes_simple}
-use Rattle.am_cubes.proofs.ListSteps.{and_true, any_mapped}
+use Rattle.am_cubes.proofs.ListSteps.{and_true}
 use Rattle.am_eval.proofs.PairConditions.{ways_of_pairs}
 
 -- ---- What stands at a position of two lists of which the same is made.
@@ -172,7 +173,7 @@ pairs_truth u w verdict prefix m lists pairs of_lists of_sides same =
     (map (λ (pair : PairList _). pair.list) pairs)) sides) of_sides
     ∙ some_of_pairs verdict prefix m lists.sources.items pairs
     ∙ same
-    ∙ sym (any_mapped (list_all holds) (pair_way w.config.rules w.alerts)
+    ∙ sym (list_any-map (list_all holds) (pair_way w.config.rules w.alerts)
     (pairs_of w.config.rules w.alerts))
     ∙ ap (some_way_holds holds) (ways_of_pairs w)
     ∙ sym (passes_simple m u w Inhibited prefix)

@@ -1,6 +1,6 @@
 -- The cubes of the impossible lists say what is possible.
 use Rattle.std.proofs.Common.{◌≡◌, ℕ, Bool, true, false, not, ◌&&◌, ◌||◌, List, [], ◌∷◌, map}
-use Rattle.std.proofs.Common.{Some, refl, ap, sym, ◌∙◌}
+use Rattle.std.proofs.Common.{refl, ap, sym, ◌∙◌}
 use Rattle.std.specs.List.{list_any}
 use Rattle.am_labels.specs.Words.{Space}
 use Rattle.am_search.specs.declared.verdict.Verdict.{Verdict}
@@ -10,7 +10,7 @@ use Rattle.am_masks.specs.GroupView.{verdicts_in}
 use Rattle.am_masks.specs.declared.modality.Modality.{Modality}
 use Rattle.am_masks.specs.declared.modality.Modality.TheVariants.{May, Must}
 use Rattle.am_masks.specs.Modality.{passes, other}
-use Rattle.am_cubes.specs.PossibleView.{no_cube_passes}
+use Rattle.am_cubes.specs.PlanView.{possible_by}
 use Rattle.am_cubes.specs.Verdicts.{kleene_not, all_of, verdict_of_space}
 use Rattle.am_cubes.proofs.Kleene.{passes_not, passes_and}
 
@@ -38,7 +38,7 @@ none_passes m verdict (x ∷ xs) =
 pub says_possible : (s : Space) (cubes : Group MaskedLabels) (prefix : List ℕ) (m : Modality)
     → verdicts_in verdict_at prefix cubes
     ≡ map (λ ms. verdict_of_list s.labels ms prefix) s.impossible
-    → no_cube_passes (Some cubes) prefix m ≡ passes m (verdict_of_space s prefix)
+    → possible_by cubes prefix m ≡ passes m (verdict_of_space s prefix)
 says_possible s cubes prefix m same =
     ap (λ vs. not (list_any (passes (other m)) vs)) same
     ∙ none_passes m (λ ms. verdict_of_list s.labels ms prefix) s.impossible

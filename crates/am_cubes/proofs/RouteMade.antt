@@ -1,5 +1,5 @@
 -- A route with its list, made from a route of a configuration, is seen as that route.
-use Rattle.std.proofs.Common.{◌≡◌, ℕ, Bool, List, [], ◌∷◌, map, refl, sym, ap, ◌∙◌}
+use Rattle.std.proofs.Common.{◌≡◌, ℕ, Bool, List, map, sym, ap, ◌∙◌}
 use Rattle.std.proofs.lemmas.Simd.{map-map}
 use Rattle.am_labels.specs.Words.{Label}
 use Rattle.am_files.specs.ConfigFile.{RouteTree, route, routes_of, matchers_of}
@@ -7,16 +7,13 @@ use Rattle.am_files.specs.ConfigFile.{continues_of, receiver_of, children_of}
 use Rattle.am_files.specs.declared.route.Route.{Route}
 use Rattle.am_files.specs.RouteView.{route_view}
 use Rattle.am_files.specs.Path.{list_of}
+use Rattle.am_files.proofs.Paths.{list_of-routes_of}
 use Rattle.am_search.specs.declared.verdict.Verdict.{Verdict}
 use Rattle.am_masks.specs.Words.{verdict_of_list}
 use Rattle.am_masks.specs.declared.modality.Modality.{Modality}
 use Rattle.am_cubes.specs.Target.{Target}
 use Rattle.am_cubes.specs.RouteSeen.{RouteSeen, route_seen, comes_below}
 use Rattle.am_cubes.proofs.WalkLemmas.{walked}
-
-list_of-routes_of : (ts : List RouteTree) → list_of (routes_of ts) ≡ ts
-list_of-routes_of [] = refl
-list_of-routes_of (t ∷ ts) = ap (λ us. t ∷ us) (list_of-routes_of ts)
 
 pub children_seen : (u : List Label) (prefix : List ℕ) (tree : RouteTree) (routes : List Route)
     (seen : List RouteSeen) → routes_of (map route_view routes) ≡ children_of tree

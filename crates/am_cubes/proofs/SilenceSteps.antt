@@ -1,6 +1,7 @@
 -- The lists of the active silences say what the condition of being silenced says.
 use Rattle.std.proofs.Common.{◌≡◌, ℕ, Bool, List, [], ◌∷◌, sym, ◌∙◌}
 use Rattle.std.specs.List.{list_all, list_any, filter}
+use Rattle.am_universe.proofs.UniverseLemmas.{list_any-map}
 use Rattle.am_labels.specs.Words.{Label}
 use Rattle.am_records.specs.SilencesFile.{Silence}
 use Rattle.am_masks.specs.Words.{verdict_of_list}
@@ -10,7 +11,7 @@ use Rattle.am_masks.specs.declared.modality.Modality.{Modality}
 use Rattle.am_masks.specs.Modality.{passes}
 use Rattle.am_cubes.specs.Verdicts.{verdict_of_literal, verdict_of_simple}
 use Rattle.am_cubes.proofs.Kleene.{passes_simple}
-use Rattle.am_cubes.proofs.ListSteps.{and_true, any_mapped, same_any_test}
+use Rattle.am_cubes.proofs.ListSteps.{and_true}
 
 abbrev pub matchers_pass : List Label → List ℕ → Modality → Silence → Bool
 matchers_pass u prefix m silence = passes m (verdict_of_list u silence.matchers prefix)
@@ -21,8 +22,6 @@ pub silences_truth : (u : List Label) (w : World) (prefix : List ℕ) (m : Modal
 silences_truth u w prefix m =
     let holds : Literal → Bool = λ l. passes m (verdict_of_literal u prefix l) in
     let active = filter (is_active w.instant) w.silences in
-    same_any_test (matchers_pass u prefix m)
-    (λ silence. list_all holds (matching silence.matchers ∷ [])) active
-    (λ silence. sym (and_true (matchers_pass u prefix m silence)))
-    ∙ sym (any_mapped (list_all holds) (λ (silence : Silence). matching silence.matchers ∷ []) active)
+    (λ i. list_any (λ silence. sym (and_true (matchers_pass u prefix m silence)) i) active)
+    ∙ sym (list_any-map (list_all holds) (λ (silence : Silence). matching silence.matchers ∷ []) active)
     ∙ sym (passes_simple m u w Silenced prefix)

@@ -8,13 +8,12 @@ use Rattle.am_universe.specs.Choice.{IsWhole}
 use Rattle.am_universe.specs.Completions.{completions}
 use Rattle.am_universe.specs.LabelSet.{LabelMap, label_set_of}
 use Rattle.am_universe.proofs.ListLemmas.{IsIn, AllByRecursion-at, AllByRecursion-each}
-use Rattle.am_universe.proofs.CompletionLemmas.{completions_of_whole}
 use Rattle.am_labels.specs.Matcher.{all_hold}
 use Rattle.am_labels.specs.Space.{Space, is_possible_choice}
 use Rattle.am_search.specs.declared.verdict.Verdict.{Verdict}
 use Rattle.am_search.specs.declared.verdict.Verdict.TheVariants.{Yes, No, Open}
 use Rattle.am_masks.specs.Verdicts.{matches_at, verdict_over, verdict_of_list}
-use Rattle.am_masks.proofs.VerdictLemmas.{yes_exactly, no_exactly, verdict_over_one, decided}
+use Rattle.am_masks.proofs.VerdictLemmas.{yes_exactly, no_exactly, list_says, decided}
 use Rattle.am_eval.specs.Tree.{Part, Not, And, Or}
 use Rattle.am_eval.specs.Question.{Question, Simple, holds_of, satisfies_at, is_answer}
 use Rattle.am_eval.specs.World.{World}
@@ -220,22 +219,18 @@ any_says verdict truth each (x ∷ xs) =
     ∙ ap (kleene_or (says (truth x))) (any_says verdict truth each xs)
     ∙ or_says (truth x) (list_any truth xs)
 
-pub literal_says : (u : List Label) (c : List ℕ) → IsWhole (sizes u) c → (l : Literal)
+literal_says : (u : List Label) (c : List ℕ) → IsWhole (sizes u) c → (l : Literal)
     → verdict_of_literal u c l ≡ says (literal_holds (label_set_of u c) l)
 literal_says u c whole l = by l.wanted
   where
-    here : verdict_of_list u l.matchers c ≡ says (matches_at u l.matchers c)
-    here =
-        ap (verdict_over (matches_at u l.matchers)) (completions_of_whole (sizes u) c whole)
-        ∙ verdict_over_one (matches_at u l.matchers) c
-
     by : (wanted : Bool)
         → cond wanted (verdict_of_list u l.matchers c)
         (kleene_not (verdict_of_list u l.matchers c))
         ≡ says (cond wanted (all_hold (label_set_of u c) l.matchers)
         (not (all_hold (label_set_of u c) l.matchers)))
-    by true = here
-    by false = ap kleene_not here ∙ not_says (matches_at u l.matchers c)
+    by true = list_says u l.matchers c whole
+    by false =
+        ap kleene_not (list_says u l.matchers c whole) ∙ not_says (matches_at u l.matchers c)
 
 pub question_says : AreConditions → (u : List Label) (w : World) (q : Question) (c : List ℕ)
     → IsWhole (sizes u) c → verdict_of_question u w q c ≡ cond (satisfies_at u w q c) Yes No

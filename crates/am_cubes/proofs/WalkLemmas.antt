@@ -1,18 +1,22 @@
 -- The walk down a route's children says what the condition of the route says.
 use Rattle.std.proofs.Common.{◌≡◌, ℕ, zero, suc, ◌+◌, ◌<◌, Bool, true, false, not, ◌&&◌, ◌||◌, cond}
-use Rattle.std.proofs.Common.{List, [], ◌∷◌, ◌++◌, map, take, length, Option, Some, None}
+use Rattle.std.proofs.Common.{List, [], ◌∷◌, ◌++◌, map, take, length, get_or, Option, Some, None}
 use Rattle.std.proofs.Common.{refl, ap, sym, ◌∙◌, inl, inr, arith, append_assoc}
 use Rattle.std.specs.Prelude.{slice_get, ◌==◌}
 use Rattle.std.specs.List.{list_all, list_any, filter}
 use Rattle.std.proofs.lemmas.Bool.{cases_eq, eq-eqb, ne_eqb}
 use Rattle.std.proofs.lemmas.List.{length-append}
-use Rattle.std.proofs.Math.Seq.{take-append_seam}
+use Rattle.std.proofs.lemmas.List.Folds.{list_all-append, list_any-append, list_all-map}
+use Rattle.std.proofs.lemmas.Option.{slice_get_read}
+use Rattle.std.proofs.Math.Seq.{take-append_seam, get_or-append_seam}
+use Rattle.am_universe.proofs.UniverseLemmas.{list_any-map}
 use Rattle.am_labels.specs.Words.{Label}
 use Rattle.am_files.specs.ConfigFile.{RouteTree, RouteSettings, Routes, route, no_routes}
 use Rattle.am_files.specs.ConfigFile.{next_route, matchers_of, continues_of}
 use Rattle.am_files.specs.Path.{list_of, route_at}
 use Rattle.am_eval.specs.Words.{Literal, some_way_holds, matching, not_matching}
-use Rattle.am_eval.specs.Words.{paths_at, paths_from}
+use Rattle.am_files.specs.RoutePaths.{paths_at}
+use Rattle.am_files.proofs.RouteLists.{paths_from, paths_next}
 use Rattle.am_eval.specs.Conditions.{stopped_by_none, no_child_of, ways_into, ways_below, is_receiver}
 use Rattle.am_eval.specs.Conditions.{paths_to}
 use Rattle.am_masks.specs.declared.modality.Modality.{Modality}
@@ -22,8 +26,8 @@ use Rattle.am_cubes.specs.Target.{Target, Nothing, Receiver, Ends, Enters, targe
 use Rattle.am_cubes.specs.Target.{is_end_here, on_the_way}
 use Rattle.am_cubes.specs.RouteSeen.{route_seen, comes_by, comes_below}
 use Rattle.am_cubes.proofs.SomeWay.{and_false, or_true, or_false, and_in, or_turned}
-use Rattle.am_cubes.proofs.SomeWay.{all_joined, any_joined, all_mapped, any_mapped, any_kept}
-use Rattle.am_cubes.proofs.SomeWay.{any_and, same_any_test, some_behind, some_with, some_of_each}
+use Rattle.am_cubes.proofs.SomeWay.{any_kept, any_and}
+use Rattle.am_eval.proofs.SomeWay.{some_way-literal, some_way-front, some_way-joined}
 
 -- ---- The parts of a walk over siblings, for any truth of literals.
 
@@ -157,7 +161,7 @@ into_child : (holds : Literal → Bool) (further : RouteTree → List (List Lite
     (o : Option RouteTree) → some_way_holds holds (ways_into further o)
     ≡ at_child (λ t. is_matched holds t && some_way_holds holds (further t)) o
 into_child holds further None = refl
-into_child holds further (Some t) = some_with holds (matching (matchers_of t)) (further t)
+into_child holds further (Some t) = some_way-literal holds (matching (matchers_of t)) (further t)
 
 -- the condition of a path below a route
 below_path : (holds : Literal → Bool) (last : RouteTree → List Literal) (settings : RouteSettings)
@@ -170,7 +174,7 @@ below_path holds last settings children p path =
     let front = stopped_by_none (take p (list_of children)) in
     let further = λ (child : RouteTree). ways_below last child path in
     let child = slice_get (list_of children) p in
-    some_behind holds front (ways_into further child)
+    some_way-front holds front (ways_into further child)
     ∙ ap (λ b. b && some_way_holds holds (ways_into further child))
     (passed_where holds (take p (list_of children)))
     ∙ ap (λ b. list_all (goes_on holds) (take p (list_of children)) && b)
@@ -237,14 +241,9 @@ to_receiver : (holds : Literal → Bool) (receiver : ℕ) (t : RouteTree)
     → some_way_holds holds (ways_to (Receiver receiver) t)
     ≡ list_any (ends_there holds receiver t) (paths_at t)
 to_receiver holds receiver t =
-    some_of_each holds (ways_below no_child_of t) (paths_to receiver t)
+    some_way-joined holds (ways_below no_child_of t) (paths_to receiver t)
     ∙ any_kept (λ path. some_way_holds holds (ways_below no_child_of t path))
     (λ path. is_receiver receiver (route_at t path)) (paths_at t)
-
-at_seam : {X : Type 0} (front : List X) (x : X) (back : List X)
-    → slice_get (front ++ x ∷ back) (length front) ≡ Some x
-at_seam [] x back = refl
-at_seam (y ∷ front) x back = at_seam front x back
 
 join_children : (passed matched below goes later : Bool)
     → (((passed && matched) && below) || ((passed && (goes && true)) && later))
@@ -270,7 +269,7 @@ by_child holds receiver settings children front t path at before =
     && some_way_holds holds (map (λ way. stopped_by_none front ++ way) ways)) = rw (at, before) refl in
     there
     ∙ ap (λ b. is_receiver receiver (route_at t path) && b)
-    (some_behind holds (stopped_by_none front) ways
+    (some_way-front holds (stopped_by_none front) ways
     ∙ ap (λ b. b && some_way_holds holds ways) (passed_where holds front)
     ∙ ap (λ b. passed && b) (into_child holds further (Some t)))
     ∙ order (is_receiver receiver (route_at t path)) passed (is_matched holds t) ends
@@ -299,7 +298,10 @@ by_children holds receiver settings children front i (next_route t ts) all at =
     let passed = list_all goes front in
     let later = some_reached (comes_by_child holds (Receiver receiver)) goes (i + 1) (list_of ts) in
     let child : slice_get (list_of children) (length front) ≡ Some t =
-    ap (λ routes. slice_get routes (length front)) all ∙ at_seam front t (list_of ts) in
+    slice_get_read (list_of children) (length front + suc (length (list_of ts))) (length front) t
+    (sym (ap length all ∙ length-append front (t ∷ list_of ts))) (omega arith)
+    (sym (ap (λ routes. get_or routes (length front) t) all
+    ∙ get_or-append_seam front t (list_of ts) t)) in
     let before : take (length front) (list_of children) ≡ front =
     ap (take (length front)) all ∙ take-append_seam front (t ∷ list_of ts) in
     let each : (path : List ℕ)
@@ -308,19 +310,19 @@ by_children holds receiver settings children front i (next_route t ts) all at =
     ∙ by_child holds receiver settings children front t path child before in
     let here : list_any test (map (λ path. i ∷ path) (paths_at t))
     ≡ ((passed && is_matched holds t) && below) =
-    any_mapped test (λ path. i ∷ path) (paths_at t)
-    ∙ same_any_test (λ path. test (i ∷ path))
-    (λ path. (passed && is_matched holds t) && ends_there holds receiver t path) (paths_at t) each
+    list_any-map test (λ path. i ∷ path) (paths_at t)
+    ∙ (λ j. list_any (λ path. each path j) (paths_at t))
     ∙ any_and (passed && is_matched holds t) (ends_there holds receiver t) (paths_at t) in
     let longer : length (front ++ t ∷ []) ≡ i + 1 =
     length-append front (t ∷ []) ∙ ap (λ k. k + 1) at in
     let rest = by_children holds receiver settings children (front ++ t ∷ []) (i + 1) ts
     (all ∙ sym (append_assoc front (t ∷ []) (list_of ts))) longer in
-    any_joined test (map (λ path. i ∷ path) (paths_at t)) (paths_from (i + 1) ts)
+    ap (list_any test) (paths_next i t ts)
+    ∙ list_any-append test (map (λ path. i ∷ path) (paths_at t)) (paths_from (i + 1) ts)
     ∙ ap (λ b. b || list_any test (paths_from (i + 1) ts)) here
     ∙ ap (λ b. ((passed && is_matched holds t) && below) || b) rest
     ∙ ap (λ b. ((passed && is_matched holds t) && below) || (b && later))
-    (all_joined goes front (t ∷ []))
+    (list_all-append goes front (t ∷ []))
     ∙ ap (λ b. ((passed && is_matched holds t) && b) || ((passed && (goes t && true)) && later))
     (sym (to_receiver holds receiver t))
     ∙ join_children passed (is_matched holds t) comes (goes t) later
@@ -350,7 +352,7 @@ walked u prefix m (Receiver receiver) settings children =
     (sym (by_children holds receiver settings children [] 0 children refl refl))
     ∙ ap (λ b. ((settings.receiver == receiver) && b)
     || list_any (ends_there holds receiver top) (paths_from 0 children))
-    (sym (all_mapped holds (λ t. not_matching (matchers_of t)) ts)
+    (sym (list_all-map holds (λ t. not_matching (matchers_of t)) ts)
     ∙ sym (or_false (list_all holds (no_child_of top))))
     ∙ sym (to_receiver holds receiver top)
 walked u prefix m (Ends []) settings children =
@@ -358,7 +360,7 @@ walked u prefix m (Ends []) settings children =
     let ts = list_of children in
     walk_parts u prefix m settings.receiver (Ends []) true 0 ts
     ∙ ap (λ b. b || list_all (is_passed_by holds) ts) (never_reached holds 0 ts)
-    ∙ sym (all_mapped holds (λ t. not_matching (matchers_of t)) ts)
+    ∙ sym (list_all-map holds (λ t. not_matching (matchers_of t)) ts)
     ∙ sym (or_false (list_all holds (no_child_of (route settings children))))
 walked u prefix m (Ends (p ∷ path)) settings children =
     let holds = says m u prefix in

@@ -5,7 +5,5 @@ pub use Rattle.am_cubes.specs.Verdicts.{verdict_of_literal, verdict_of_simple}
 pub use Rattle.am_cubes.specs.Verdicts.{verdict_of_question, verdict_of_space, verdict_of}
 pub use Rattle.am_masks.specs.Modality.{passes}
 pub use Rattle.am_cubes.specs.QuestionView.{truth_by}
-pub use Rattle.am_cubes.specs.PlanWords.{plan_space, plan_world, plan_universe, plan_sizes}
+pub use Rattle.am_cubes.specs.PlanWords.{plan_space, plan_universe, plan_sizes}
 pub use Rattle.am_cubes.specs.PlanWords.{plan_truth, plan_verdict}
-pub use Rattle.am_cubes.specs.ChoiceEnds.{is_end_at}
-pub use Rattle.am_cubes.specs.RouteEnds.{ends_space, ends_config}

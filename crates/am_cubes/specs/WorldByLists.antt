@@ -1,9 +1,9 @@
--- What the lists of a world tell of it at a prefix; when they are the lists of that world; and when
--- all lists are there that a question asks of.
+-- What the lists of a world tell of it at a prefix; and when that is what the world has, as far as
+-- a question asks of it.
 use Rattle.std.specs.Prelude.{◌≡◌, ℕ, List, Bool, true, false, ◌&&◌, ◌||◌, Option, Some, None}
-use Rattle.std.specs.Prelude.{IsTrue, is_some}
+use Rattle.std.specs.Prelude.{IsTrue}
 use Rattle.std.specs.List.{list_any}
-use Rattle.am_labels.specs.Words.{Label, sizes}
+use Rattle.am_labels.specs.Words.{Label}
 use Rattle.am_search.specs.declared.verdict.Verdict.{Verdict}
 use Rattle.am_eval.specs.Tree.{Part, Not, And, Or}
 use Rattle.am_eval.specs.Question.{Simple, Any, Silenced, Inhibited, Receiver, Ends, Enters, Braces}
@@ -17,7 +17,6 @@ use Rattle.am_cubes.specs.declared.pair_lists.PairLists.{PairLists}
 use Rattle.am_cubes.specs.declared.route_lists.RouteLists.{RouteLists}
 use Rattle.am_cubes.specs.declared.world_lists.WorldLists.{WorldLists}
 use Rattle.am_masks.specs.Modality.{passes}
-use Rattle.am_cubes.specs.PartView.{part_value}
 use Rattle.am_cubes.specs.PairsByLists.{inhibited_by}
 use Rattle.am_cubes.specs.RouteSeen.{RouteSeen, route_seen}
 use Rattle.am_cubes.specs.RoutesByLists.{seen_by}
@@ -31,7 +30,7 @@ pub record WorldSeen : Type 0 where
   pub silenced : Modality → Bool
   pub inhibited : Modality → Bool
 
--- By the lists. Where a part is not there nothing is so.
+-- By the lists. Where they are not there nothing is so.
 abbrev pub comes_from : RouteSeen → Modality → Target → Bool
 comes_from seen m target = passes m seen.verdict && seen.comes m target
 
@@ -54,42 +53,10 @@ inhibited_by_lists verdict prefix (Some lists) m = inhibited_by verdict prefix l
 
 abbrev pub world_seen : {L : Type 0} → (L → List ℕ → Verdict) → List ℕ → WorldLists L → WorldSeen
 world_seen verdict prefix lists = record {
-  comes = comes_by_lists verdict prefix (part_value lists.routes);
-  silenced = silenced_by_lists verdict prefix (part_value lists.silences);
-  inhibited = inhibited_by_lists verdict prefix (part_value lists.pairs);
+  comes = comes_by_lists verdict prefix lists.routes;
+  silenced = silenced_by_lists verdict prefix lists.silences;
+  inhibited = inhibited_by_lists verdict prefix lists.pairs;
 }
-
--- A part that is there is that of this world, over this universe, at each prefix at which its lists
--- know their verdicts. First each part, then all three.
-abbrev pub AreRoutes : {L : Type 0} → (List ℕ → List ℕ → Type 0) → (L → List ℕ → Verdict)
-    → List Label → World → Option (RouteLists L) → Type 0
-AreRoutes {L = L} Knows verdict u w found =
-    (part : RouteLists L) → found ≡ Some part
-    → (prefix : List ℕ) (m : Modality) (target : Target) → Knows (sizes u) prefix
-    → comes_from (seen_by verdict prefix part) m target
-    ≡ comes_from (route_seen u prefix w.config.root) m target
-
-abbrev pub AreSilences : {L : Type 0} → (List ℕ → List ℕ → Type 0) → (L → List ℕ → Verdict)
-    → List Label → World → Option (Group L) → Type 0
-AreSilences {L = L} Knows verdict u w found =
-    (part : Group L) → found ≡ Some part
-    → (prefix : List ℕ) (m : Modality) → Knows (sizes u) prefix
-    → list_any (passes m) (verdicts_in verdict prefix part)
-    ≡ passes m (verdict_of_simple u w Silenced prefix)
-
-abbrev pub ArePairs : {L : Type 0} → (List ℕ → List ℕ → Type 0) → (L → List ℕ → Verdict)
-    → List Label → World → Option (PairLists L) → Type 0
-ArePairs {L = L} Knows verdict u w found =
-    (part : PairLists L) → found ≡ Some part
-    → (prefix : List ℕ) (m : Modality) → Knows (sizes u) prefix
-    → inhibited_by verdict prefix part m ≡ passes m (verdict_of_simple u w Inhibited prefix)
-
-pub record AreWorldLists {L : Type 0} (Knows : List ℕ → List ℕ → Type 0)
-    (verdict : L → List ℕ → Verdict) (u : List Label) (w : World) (lists : WorldLists L)
-    : Type 0 where
-  pub routes : AreRoutes Knows verdict u w (part_value lists.routes)
-  pub silences : AreSilences Knows verdict u w (part_value lists.silences)
-  pub pairs : ArePairs Knows verdict u w (part_value lists.pairs)
 
 -- A simple part asks of the routes; of the silences; of the pairs. And a question does, where some
 -- simple part of it does.
@@ -122,17 +89,16 @@ needs_of need (Not q) = needs_of need q
 needs_of need (And q r) = needs_of need q || needs_of need r
 needs_of need (Or q r) = needs_of need q || needs_of need r
 
--- The parts are there of which a question asks.
-pub record HasParts {L : Type 0} (q : Question) (lists : WorldLists L) : Type 0 where
-  pub routes : IsTrue (needs_of needs.Routes q) → is_some (part_value lists.routes) ≡ true
-  pub silences : IsTrue (needs_of needs.Silences q) → is_some (part_value lists.silences) ≡ true
-  pub pairs : IsTrue (needs_of needs.Pairs q) → is_some (part_value lists.pairs) ≡ true
+-- What is seen of the routes is what they are, at a prefix.
+abbrev pub AreRoutes : List Label → World → List ℕ → (Modality → Target → Bool) → Type 0
+AreRoutes u w prefix comes =
+    (m : Modality) (target : Target)
+    → comes m target ≡ comes_from (route_seen u prefix w.config.root) m target
 
 -- At a prefix, what is seen is what a world has, as far as a question asks of it.
 pub record Serves (u : List Label) (w : World) (prefix : List ℕ) (seen : WorldSeen) (q : Question)
     : Type 0 where
-  pub routes : IsTrue (needs_of needs.Routes q) → (m : Modality) (target : Target)
-      → seen.comes m target ≡ comes_from (route_seen u prefix w.config.root) m target
+  pub routes : IsTrue (needs_of needs.Routes q) → AreRoutes u w prefix seen.comes
   pub silences : IsTrue (needs_of needs.Silences q) → (m : Modality)
       → seen.silenced m ≡ passes m (verdict_of_simple u w Silenced prefix)
   pub pairs : IsTrue (needs_of needs.Pairs q) → (m : Modality)

@@ -6,7 +6,6 @@ ghost use Rattle.am_eval.specs.Words.{question_view};
 ghost use Rattle.am_masks.specs.declared.modality.Modality.{Modality};
 ghost use Rattle.am_masks.specs.Modality.{passes};
 ghost use Rattle.am_cubes.specs.Verdicts.{verdict_of_question};
-ghost use Rattle.am_cubes.specs.WorldByLists.{AreWorldLists};
 ghost use Rattle.am_cubes.specs.QuestionView.{truth_by};
 
 use crate::question_lists::QuestionLists;
@@ -21,7 +20,7 @@ use std::alloc::{AllocError, Global};
 /// rule and a firing alert.
 #[derive(Drop)]
 pub struct JudgedQuestion<'a, L> {
-    world: WorldLists<'a, L>,
+    world: WorldLists<L>,
     question: QuestionLists<'a, L>,
 }
 
@@ -37,41 +36,10 @@ impl<'a, L: JudgedList> JudgedQuestion<'a, L> {
             → L.Knows (sizes universe.now) prefix → truth_by L.verdict prefix judged m
             ≡ passes m (verdict_of_question universe.now world.now (question_view question.now)
             prefix)) }
-        ensures world { IfOk result (λ judged.
-            AreWorldLists L.Knows L.verdict universe.now world.now judged.world) }
     {
-        let world_lists = WorldLists::none().with_needs(alloc, universe, world, question)?;
-        let question = QuestionLists::of(alloc, universe, question)?;
         Ok(JudgedQuestion {
-            world: world_lists,
-            question,
-        })
-    }
-
-    /// Another question about the same world, over the same universe. The lists of the world that
-    /// are there are shared, and not made again. An `Err` only where memory was refused.
-    pub fn about<'b>(
-        &'b self,
-        alloc: Global,
-        universe: &Universe,
-        world: &World,
-        question: &'b Question,
-    ) -> Result<JudgedQuestion<'b, L>, AllocError>
-        ensures exact { IfOk result (λ judged. (prefix : List ℕ) (m : Modality)
-            → AreWorldLists L.Knows L.verdict universe.now world.now self.now.world
-            → L.Knows (sizes universe.now) prefix → truth_by L.verdict prefix judged m
-            ≡ passes m (verdict_of_question universe.now world.now (question_view question.now)
-            prefix)) }
-        ensures world { IfOk result (λ judged.
-            AreWorldLists L.Knows L.verdict universe.now world.now self.now.world
-            → AreWorldLists L.Knows L.verdict universe.now world.now judged.world) }
-    {
-        let shared = self.world.share();
-        let world_lists = shared.with_needs(alloc, universe, world, question)?;
-        let question = QuestionLists::of(alloc, universe, question)?;
-        Ok(JudgedQuestion {
-            world: world_lists,
-            question,
+            world: WorldLists::of(alloc, universe, world, question)?,
+            question: QuestionLists::of(alloc, universe, question)?,
         })
     }
 

@@ -12,7 +12,7 @@ ghost use Rattle.am_eval.specs.Tree.{Part};
 ghost use Rattle.am_eval.specs.Question.{Any, Braces};
 ghost use Rattle.am_eval.specs.Words.{World, Question, is_answer};
 ghost use Rattle.am_cubes.specs.declared.plan.Plan.{Plan};
-ghost use Rattle.am_cubes.specs.PlanWords.{plan_space, plan_world, plan_sizes, plan_verdict};
+ghost use Rattle.am_cubes.specs.PlanWords.{plan_space, plan_sizes, plan_verdict};
 ghost use Rattle.am_cubes.specs.SpaceExample.{without_web_critical};
 ghost use Rattle.am_cubes.specs.Verdicts.{verdict_of};
 
@@ -65,22 +65,22 @@ pub fn one_list_has_an_exact_judge()
 /// first choice on it is at most `1 + n * z`, so no more than one where no label set matches the
 /// list.
 pub fn the_plan_of_one_list_judges_few_prefixes()
-    ensures at_most { (plan : Plan) (ms : List Condition) (start : Start)
+    ensures at_most { (plan : Plan) (w : World) (ms : List Condition) (start : Start)
         → (plan_space plan).impossible ≡ []
         → ((prefix : List ℕ) → IsTrue (admits (plan_sizes plan) prefix)
         → plan_verdict plan prefix
-        ≡ verdict_of (plan_space plan) (plan_world plan) (Part (Braces ms)) prefix)
+        ≡ verdict_of (plan_space plan) w (Part (Braces ms)) prefix)
         → length (visited (plan_sizes plan) (plan_verdict plan) start)
         ≤ 1 + (length (answers_from (plan_sizes plan)
-        (is_answer (plan_space plan) (plan_world plan) (Part (Braces ms))) start) + 1)
+        (is_answer (plan_space plan) w (Part (Braces ms))) start) + 1)
         * sum (plan_sizes plan) }
-    ensures from_the_first { (plan : Plan) (ms : List Condition)
+    ensures from_the_first { (plan : Plan) (w : World) (ms : List Condition)
         → (plan_space plan).impossible ≡ []
         → ((prefix : List ℕ) → IsTrue (admits (plan_sizes plan) prefix)
         → plan_verdict plan prefix
-        ≡ verdict_of (plan_space plan) (plan_world plan) (Part (Braces ms)) prefix)
+        ≡ verdict_of (plan_space plan) w (Part (Braces ms)) prefix)
         → length (visited (plan_sizes plan) (plan_verdict plan) (At []))
         ≤ 1 + length (answers_from (plan_sizes plan)
-        (is_answer (plan_space plan) (plan_world plan) (Part (Braces ms))) (At []))
+        (is_answer (plan_space plan) w (Part (Braces ms))) (At []))
         * sum (plan_sizes plan) }
 {}

@@ -12,7 +12,6 @@ mod target;
 
 // The lists of a world.
 mod pair_lists;
-mod part;
 mod route_lists;
 mod world_lists;
 
@@ -23,23 +22,11 @@ mod question_lists;
 
 pub use judged_question::JudgedQuestion;
 
-// Which label sets of a space are possible.
-mod impossible;
-mod possible;
-
 // The judge.
 mod plan;
 
 pub use am_masks::{Cube, Group, JudgedList, Modality};
 pub use plan::Plan;
-
-// The first label set of a space, and the first that ends at a route.
-mod possible_choices;
-mod route_ends;
-mod route_ways;
-
-pub use possible_choices::first_possible;
-pub use route_ends::RouteEnds;
 
 // What holds of the definitions by themselves.
 pub mod laws;

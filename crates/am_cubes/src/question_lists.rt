@@ -81,12 +81,7 @@ impl<'q, L: JudgedList> QuestionLists<'q, L> {
 
     /// Whether the question is true of a label set: whether at a prefix that is not excluded, or
     /// certain.
-    pub(crate) fn holds(
-        &self,
-        world: &WorldLists<'_, L>,
-        modality: Modality,
-        prefix: &Choice,
-    ) -> bool
+    pub(crate) fn holds(&self, world: &WorldLists<L>, modality: Modality, prefix: &Choice) -> bool
         ensures truth { result ≡ question_by L.verdict prefix.now
             (world_seen L.verdict prefix.now world.now) self.now modality }
     {

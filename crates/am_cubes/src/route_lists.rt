@@ -17,10 +17,10 @@ use std::alloc::{AllocError, Global};
 /// A route of a configuration, with the list of its matchers, and all routes below it.
 #[derive(Drop)]
 pub(crate) struct RouteLists<L> {
-    pub(crate) list: L,
-    pub(crate) continues: bool,
+    list: L,
+    continues: bool,
     receiver: usize,
-    pub(crate) routes: Vec<RouteLists<L>>,
+    routes: Vec<RouteLists<L>>,
 }
 
 impl<L: JudgedList> RouteLists<L> {

@@ -10,13 +10,12 @@ use Rattle.std.proofs.lemmas.List.Elements.{All-map}
 use Rattle.std.proofs.lemmas.List.Folds.{list_all-append, list_all-map}
 use Rattle.am_universe.specs.Universe.{Label, IsUniverse, sizes}
 use Rattle.am_universe.specs.Choice.{IsWhole}
-use Rattle.am_universe.proofs.CompletionLemmas.{completions_of_whole}
 use Rattle.am_labels.specs.Matcher.{Condition}
 use Rattle.am_labels.specs.Row.{TruthRow, truths_of, truth_among, truth_at, row_of, row_holds}
 use Rattle.am_labels.proofs.RowLawLemmas.{rows_decide}
 use Rattle.am_search.specs.declared.verdict.Verdict.TheVariants.{Yes, No}
-use Rattle.am_masks.specs.Verdicts.{matches_at, verdict_over, verdict_of_list}
-use Rattle.am_masks.proofs.VerdictLemmas.{verdict_over_one}
+use Rattle.am_masks.specs.Verdicts.{matches_at, verdict_of_list}
+use Rattle.am_masks.proofs.VerdictLemmas.{list_says}
 use Rattle.am_whole.specs.RowsView.{IsRow, all_hold_at}
 
 -- ---- A row that is copied.
@@ -80,5 +79,4 @@ verdict_of_rows u ms rows more kept others c h whole same first rest =
     ∙ ap (list_all (λ row. row_holds row c)) same
     ∙ list_all-map (λ row. row_holds row c) (row_of u) ms ∙ sym (rows_decide u c ms h whole) in
     ap (λ b. cond b Yes No) truth
-    ∙ sym (ap (verdict_over (matches_at u ms)) (completions_of_whole (sizes u) c whole)
-    ∙ verdict_over_one (matches_at u ms) c)
+    ∙ sym (list_says u ms c whole)

@@ -3,6 +3,6 @@ use Rattle.am_cubes.proofs.laws.the_plan_of_one_list_judges_few_prefixes.Goals a
 
 pub returns : goal.returns
 returns c = record {
-  at_most = λ plan ms start none same. at_most plan ms none same start;
+  at_most = λ plan w ms start none same. at_most plan w ms none same start;
   from_the_first = from_the_first;
 }

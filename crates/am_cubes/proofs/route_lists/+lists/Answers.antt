@@ -3,7 +3,7 @@ use Rattle.std.proofs.lemmas.List.{append-nil}
 use Rattle.am_labels.specs.Words.{row_of}
 use Rattle.am_files.specs.ConfigFile.{matchers_of}
 use Rattle.am_files.specs.RouteView.{route_view}
-use Rattle.am_eval.proofs.ChildEnds.{child_within}
+use Rattle.am_files.proofs.RouteLists.{child_within}
 use Rattle.am_cubes.specs.declared.route_lists.RouteLists.TheFolds.{fold-roll-RouteLists}
 use Rattle.am_cubes.specs.RouteSeen.{RouteSeen}
 use Rattle.am_cubes.specs.RoutesByLists.{seen_step, seen_by}

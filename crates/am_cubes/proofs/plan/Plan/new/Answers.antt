@@ -3,7 +3,6 @@ use Rattle.am_labels.specs.Words.{sizes}
 use Rattle.am_search.specs.Words.{AreSizes}
 use Rattle.am_search.proofs.TokenTexts.{sizes_of_universe}
 use Rattle.am_eval.specs.Words.{question_view}
-use Rattle.am_cubes.specs.PlanView.{KnowsWorld}
 use Rattle.am_cubes.proofs.PlanJudges.{IsQuestionOver, verdict_is, truth_is, is_judge}
 use Rattle.am_cubes.proofs.plan.Plan.new.Goals as goal
 
@@ -14,11 +13,9 @@ invariant_of-result c =
     let judged = c.in_ok-judged.judged in
     let labels = c.universe-universe.ensures.labels in
     record {
-      knows_world = subst (λ u. KnowsWorld u w judged) labels c.in_ok-judged.ensures.world;
-      knows_space = c.in_ok-possible.ensures.exact;
-      is_judge = is_judge c.args.space.now w q judged c.in_ok-possible.possible
+      is_judge = is_judge c.args.space.now w q judged c.in_ok-impossible.impossible
           (subst (λ u. IsQuestionOver u w q judged) labels c.in_ok-judged.ensures.exact)
-          c.in_ok-possible.ensures.exact
+          c.in_ok-impossible.ensures.verdicts
           (subst (λ u. AreSizes (sizes u)) labels
           (sizes_of_universe c.universe-universe.result.now c.len.ensures.universe));
     }
@@ -28,15 +25,15 @@ returns-clause-verdict c =
     let w = c.args.world.now in
     let q = question_view c.args.question.now in
     let judged = c.in_ok-judged.judged in
-    verdict_is c.args.space.now w q judged c.in_ok-possible.possible
+    verdict_is c.args.space.now w q judged c.in_ok-impossible.impossible
     (subst (λ u. IsQuestionOver u w q judged) c.universe-universe.ensures.labels
-    c.in_ok-judged.ensures.exact) c.in_ok-possible.ensures.exact
+    c.in_ok-judged.ensures.exact) c.in_ok-impossible.ensures.verdicts
 
 pub returns-clause-truth : goal.returns-clause-truth
 returns-clause-truth c =
     let w = c.args.world.now in
     let q = question_view c.args.question.now in
     let judged = c.in_ok-judged.judged in
-    truth_is c.args.space.now w q judged c.in_ok-possible.possible
+    truth_is c.args.space.now w q judged c.in_ok-impossible.impossible
     (subst (λ u. IsQuestionOver u w q judged) c.universe-universe.ensures.labels
-    c.in_ok-judged.ensures.exact) c.in_ok-possible.ensures.exact
+    c.in_ok-judged.ensures.exact) c.in_ok-impossible.ensures.verdicts

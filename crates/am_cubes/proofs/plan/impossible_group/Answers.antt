@@ -1,6 +1,6 @@
 use Rattle.std.proofs.Common.{◌∙◌}
 use Rattle.std.proofs.lemmas.Result.{IfOk-weaker}
-use Rattle.am_cubes.proofs.possible.impossible_group.Goals as goal
+use Rattle.am_cubes.proofs.plan.impossible_group.Goals as goal
 
 pub returns : goal.returns
 returns c = record {
