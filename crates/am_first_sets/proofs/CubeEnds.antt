@@ -1,0 +1,289 @@
+-- The cubes of routes, at a whole choice, and the way to a route, step by step.
+use Rattle.std.proofs.Common.{◌≡◌, ℕ, zero, suc, Bool, true, false, not, ◌&&◌, ◌||◌, cond, List, [], ◌∷◌}
+use Rattle.std.proofs.Common.{◌+◌, ◌<◌, drop, drop-cons, add-one, get_or}
+use Rattle.std.proofs.Common.{◌++◌, ◌≤◌, map, take, length, Bor, Option, Some, None, refl, sym, ap, ◌∙◌, subst, arith}
+use Rattle.std.specs.Prelude.{slice_get}
+use Rattle.std.specs.List.{list_all}
+use Rattle.std.proofs.lemmas.Bool.{and_right}
+use Rattle.std.proofs.lemmas.List.Folds.{list_all-append}
+use Rattle.std.proofs.lemmas.Option.{same_Some, slice_get_past}
+use Rattle.am_labels.specs.Words.{Label, Condition, sizes, IsWhole, label_set_of}
+use Rattle.am_files.specs.ConfigFile.{Configuration, RouteTree, Routes, route, no_routes, next_route, routes_of}
+use Rattle.am_files.specs.ConfigFile.{matchers_of, continues_of, children_of}
+use Rattle.am_files.specs.Path.{list_of}
+use Rattle.am_files.specs.RouteView.{route_view}
+use Rattle.am_files.specs.declared.route.Route.{Route}
+use Rattle.std.proofs.lemmas.List.{map_more}
+use Rattle.am_search.specs.declared.verdict.Verdict.TheVariants.{Yes, No}
+use Rattle.am_masks.specs.Words.{MaskedLabels, verdict_at, verdict_of_list, matches_at, is_yes, is_no}
+use Rattle.am_masks.proofs.VerdictLemmas.{list_says}
+use Rattle.am_eval.specs.Question as question
+use Rattle.am_eval.specs.Words.{World, Literal, literal_holds, some_way_holds, matching, not_matching}
+use Rattle.am_eval.specs.Conditions.{no_child_of, stopped_by_none, ways_into, ways_below, ways_to_end}
+use Rattle.am_eval.proofs.ConditionLaws as conditions
+use Rattle.am_eval.proofs.SomeWay.{some_way-literal, some_way-front}
+use Rattle.am_first_sets.specs.declared.route_cubes.RouteCubes.{RouteCubes}
+use Rattle.am_first_sets.specs.declared.route_cubes.RouteCubes.TheViews.{out-RouteCubes}
+use Rattle.am_first_sets.specs.ChoiceEnds.{is_end_at}
+use Rattle.am_first_sets.specs.Reasons.{may_match, must_match}
+use Rattle.am_first_sets.specs.RouteCubes.{AreCubesOf, AreCubesOfEach, all_may_match, none_must_match, none_stops}
+use Rattle.am_first_sets.proofs.ImpossibleCubes.{certain_where}
+
+-- ---- One route more.
+
+pushed : (u : List Label) (choice : List ℕ) (ts : List RouteTree) (rs : List RouteCubes)
+    (t : RouteTree) (r : RouteCubes)
+    → AreCubesOfEach u choice (routes_of ts) rs → AreCubesOf u choice t r
+    → AreCubesOfEach u choice (routes_of (ts ++ t ∷ [])) (rs ++ r ∷ [])
+pushed u choice [] [] t r are is = (is, tt)
+pushed u choice [] (q ∷ rs) t r are is = absurd are
+pushed u choice (s ∷ ts) [] t r are is = absurd are
+pushed u choice (s ∷ ts) (q ∷ rs) t r are is = (are.0, pushed u choice ts rs t r are.1 is)
+
+pub one_more : (u : List Label) (choice : List ℕ) (routes : List Route) (i : ℕ) (next : Route)
+    (cubes : List RouteCubes) (r : RouteCubes) (more : List RouteCubes)
+    → i < length routes → next ≡ get_or routes i next → more ≡ cubes ++ r ∷ []
+    → AreCubesOfEach u choice (routes_of (map route_view (take i routes))) cubes
+    → AreCubesOf u choice (route_view next) r
+    → AreCubesOfEach u choice (routes_of (map route_view (take (i + 1) routes))) more
+one_more u choice routes i next cubes r more lt is adds are also =
+    let so_far = map route_view (take i routes) in
+    let longer : so_far ++ route_view next ∷ [] ≡ map route_view (take (i + 1) routes) =
+    sym (map_more route_view routes i next lt ∙ ap (λ q. so_far ++ route_view q ∷ []) (sym is)) in
+    subst (AreCubesOfEach u choice (routes_of (map route_view (take (i + 1) routes)))) (sym adds)
+    (subst (λ (ts : List RouteTree). AreCubesOfEach u choice (routes_of ts) (cubes ++ r ∷ [])) longer
+    (pushed u choice so_far cubes (route_view next) r are also))
+
+-- ---- The ends of a choice.
+
+-- a world of a configuration alone
+abbrev world_of : Configuration → World
+world_of config = record { config = config; silences = []; alerts = []; instant = None }
+
+ends_by_ways : (u : List Label) (config : Configuration) (path c : List ℕ)
+    → is_end_at u config path c
+    ≡ some_way_holds (literal_holds (label_set_of u c)) (ways_to_end config path)
+ends_by_ways u config path c =
+    conditions.exactly (world_of config) (label_set_of u c) (question.Ends path)
+
+-- what is left of a path
+pub left_of_path : (path : List ℕ) (i p : ℕ) → i < length path → p ≡ get_or path i 0
+    → drop i path ≡ p ∷ drop (i + 1) path
+left_of_path path i p within is = rw (is, add-one, drop-cons path i 0 within) refl
+
+-- ---- Truth, in other orders.
+
+allowed_where : (b : Bool) → not (is_no (cond b Yes No)) ≡ b
+allowed_where true = refl
+allowed_where false = refl
+
+and_true : (b : Bool) → (b && true) ≡ b
+and_true true = refl
+and_true false = refl
+
+or_false : (b : Bool) → (b || false) ≡ b
+or_false true = refl
+or_false false = refl
+
+and_in : (a b c : Bool) → (a && (b && c)) ≡ ((a && b) && c)
+and_in true b c = refl
+and_in false b c = refl
+
+in_order : (first others unwanted wanted rest : Bool)
+    → (((first && wanted) && (others && unwanted)) && rest)
+    ≡ ((first && others) && (unwanted && (wanted && rest)))
+in_order true true unwanted true rest = refl
+in_order true true true false rest = refl
+in_order true true false false rest = refl
+in_order true false unwanted true rest = refl
+in_order true false unwanted false rest = refl
+in_order false others unwanted wanted rest = refl
+
+-- ---- The way down.
+
+-- An alert ends at the route at the path exactly where the cubes so far let it pass and it gets
+-- down from this route by what is left of the path.
+pub record IsOnWay (u : List Label) (choice : List ℕ) (end : Bool) (r : RouteCubes)
+    (wanted unwanted : List (Bor MaskedLabels)) (left : List ℕ) : Type 0 where
+  pub tree : RouteTree
+  pub cubes : AreCubesOf u choice tree r
+  pub ends : ((all_may_match choice wanted && none_must_match choice unwanted)
+      && some_way_holds (literal_holds (label_set_of u choice)) (ways_below no_child_of tree left))
+      ≡ end
+
+module _ (u : List Label) (choice : List ℕ) (whole : IsWhole (sizes u) choice) where
+  abbrev holds : Literal → Bool
+  holds l = literal_holds (label_set_of u choice) l
+
+  is_matched : (cube : MaskedLabels) (ms : List Condition)
+      → verdict_at cube choice ≡ verdict_of_list u ms choice
+      → may_match choice cube ≡ holds (matching ms)
+  is_matched cube ms same =
+      ap (λ v. not (is_no v)) (same ∙ list_says u ms choice whole)
+      ∙ allowed_where (matches_at u ms choice)
+
+  is_unmatched : (cube : MaskedLabels) (ms : List Condition)
+      → verdict_at cube choice ≡ verdict_of_list u ms choice
+      → not (must_match choice cube) ≡ holds (not_matching ms)
+  is_unmatched cube ms same =
+      ap (λ v. not (is_yes v)) same ∙ ap not (certain_where u choice whole ms)
+
+  its_cube : (t : RouteTree) (r : RouteCubes) → AreCubesOf u choice t r
+      → may_match choice (out-RouteCubes r).cube ≡ holds (matching (matchers_of t))
+  its_cube (route settings children) r are =
+      is_matched (out-RouteCubes r).cube settings.matchers are.0
+
+  below : (t : RouteTree) (r : RouteCubes) → AreCubesOf u choice t r
+      → AreCubesOfEach u choice (children_of t) (out-RouteCubes r).routes.items
+  below (route settings children) r are = are.2
+
+  -- all siblings count
+  none_matched : (ts : Routes) (rs : List RouteCubes) → AreCubesOfEach u choice ts rs
+      → none_stops true choice rs
+      ≡ list_all holds (map (λ t. not_matching (matchers_of t)) (list_of ts))
+  none_matched no_routes [] are = refl
+  none_matched no_routes (r ∷ rs) are = absurd are
+  none_matched (next_route t ts) [] are = absurd are
+  none_matched (next_route (route settings children) ts) (r ∷ rs) are =
+      λ i. is_unmatched (out-RouteCubes r).cube settings.matchers are.0.0 i
+      && none_matched ts rs are.1 i
+
+  -- some do
+  one_counted : (t : RouteTree) (ts : List RouteTree) (continues passes later : Bool)
+      → continues_of t ≡ continues → passes ≡ holds (not_matching (matchers_of t))
+      → later ≡ list_all holds (stopped_by_none ts)
+      → ((continues || passes) && later) ≡ list_all holds (stopped_by_none (t ∷ ts))
+  one_counted t ts true passes later goes here more = rw goes more
+  one_counted t ts false passes later goes here more = rw goes (λ i. here i && more i)
+
+  none_stopped : (ts : Routes) (rs : List RouteCubes) (p : ℕ) → AreCubesOfEach u choice ts rs
+      → none_stops false choice (take p rs)
+      ≡ list_all holds (stopped_by_none (take p (list_of ts)))
+  none_stopped no_routes [] zero are = refl
+  none_stopped no_routes [] (suc p) are = refl
+  none_stopped no_routes (r ∷ rs) p are = absurd are
+  none_stopped (next_route t ts) [] p are = absurd are
+  none_stopped (next_route t ts) (r ∷ rs) zero are = refl
+  none_stopped (next_route (route settings children) ts) (r ∷ rs) (suc p) are =
+      one_counted (route settings children) (take p (list_of ts)) (out-RouteCubes r).continues
+      (not (must_match choice (out-RouteCubes r).cube)) (none_stops false choice (take p rs))
+      (sym are.0.1) (is_unmatched (out-RouteCubes r).cube settings.matchers are.0.0)
+      (none_stopped ts rs p are.1)
+
+  child_at : (ts : Routes) (rs : List RouteCubes) (p : ℕ) (child : RouteCubes)
+      → AreCubesOfEach u choice ts rs → slice_get rs p ≡ Some child
+      → (t : RouteTree) × (slice_get (list_of ts) p ≡ Some t) × AreCubesOf u choice t child
+  child_at no_routes [] p child are there = absurd (cc)
+  child_at no_routes (r ∷ rs) p child are there = absurd are
+  child_at (next_route t ts) [] p child are there = absurd are
+  child_at (next_route t ts) (r ∷ rs) zero child are there =
+      (t, refl, subst (AreCubesOf u choice t) (same_Some r child there) are.0)
+  child_at (next_route t ts) (r ∷ rs) (suc p) child are there = child_at ts rs p child are.1 there
+
+  as_many : (ts : Routes) (rs : List RouteCubes) → AreCubesOfEach u choice ts rs
+      → length (list_of ts) ≡ length rs
+  as_many no_routes [] are = refl
+  as_many no_routes (r ∷ rs) are = absurd are
+  as_many (next_route t ts) [] are = absurd are
+  as_many (next_route t ts) (r ∷ rs) are = let more = as_many ts rs are.1 in omega (arith, more)
+
+  pub begun : (c : Configuration) (path : List ℕ) (r : RouteCubes)
+      (none wanted unwanted : List (Bor MaskedLabels)) (ref : Bor MaskedLabels)
+      → AreCubesOf u choice c.root r → ref.now ≡ (out-RouteCubes r).cube
+      → none ≡ [] → wanted ≡ none ++ ref ∷ [] → unwanted ≡ []
+      → IsOnWay u choice (is_end_at u c path choice) r wanted unwanted path
+  begun c path r none wanted unwanted ref are is empty adds no_more =
+      let ways = ways_below no_child_of c.root path in
+      let top = may_match choice ref.now in
+      let first = adds ∙ ap (λ refs. refs ++ ref ∷ []) empty in
+      record {
+        tree = c.root;
+        cubes = are;
+        ends = ap (λ b. b && some_way_holds holds ways)
+            ((λ i. all_may_match choice (first i) && none_must_match choice (no_more i))
+            ∙ and_true (top && true) ∙ and_true top ∙ ap (may_match choice) is
+            ∙ its_cube c.root r are)
+            ∙ sym (ends_by_ways u c path choice
+            ∙ some_way-literal holds (matching (matchers_of c.root)) ways);
+      }
+
+  module _ (end : Bool) (r : RouteCubes) (wanted unwanted : List (Bor MaskedLabels))
+      (left : List ℕ) (on : IsOnWay u choice end r wanted unwanted left)
+      (rs : List RouteCubes) (same : rs ≡ (out-RouteCubes r).routes.items) where
+    abbrev children : Routes
+    children = children_of on.tree
+
+    abbrev first : Bool
+    first = all_may_match choice wanted
+
+    abbrev others : Bool
+    others = none_must_match choice unwanted
+
+    abbrev further : List ℕ → Option RouteTree → List (List Literal)
+    further rest child = ways_into (λ t. ways_below no_child_of t rest) child
+
+    are : AreCubesOfEach u choice children rs
+    are = subst (AreCubesOfEach u choice children) (sym same) (below on.tree r on.cubes)
+
+    -- whether an alert gets further, by the child at a position
+    abbrev closed : ℕ → Bool
+    closed p = list_all holds (stopped_by_none (take p (list_of children)))
+
+    down : (p : ℕ) (rest : List ℕ) (child : Option RouteTree) → left ≡ p ∷ rest
+        → slice_get (list_of children) p ≡ child
+        → ((first && others) && (closed p && some_way_holds holds (further rest child))) ≡ end
+    down p rest child goes there =
+        let front = stopped_by_none (take p (list_of children)) in
+        ap (λ b. (first && others) && b)
+        (sym (ap (λ path. some_way_holds holds (ways_below no_child_of on.tree path)) goes
+        ∙ some_way-front holds front (further rest (slice_get (list_of children) p))
+        ∙ ap (λ o. list_all holds front && some_way_holds holds (further rest o)) there))
+        ∙ on.ends
+
+    pub one_step : (longer next : List (Bor MaskedLabels)) (ref : Bor MaskedLabels) (p : ℕ)
+        (rest : List ℕ) (child : RouteCubes) → left ≡ p ∷ rest → slice_get rs p ≡ Some child
+        → ref.now ≡ (out-RouteCubes child).cube → longer ≡ wanted ++ ref ∷ []
+        → none_must_match choice next ≡ (none_must_match choice unwanted
+        && none_stops false choice (take p rs))
+        → IsOnWay u choice end child longer next rest
+    one_step longer next ref p rest child goes there is adds adds_none =
+        let found = child_at children rs p child are there in
+        let matched = holds (matching (matchers_of found.0)) in
+        let ways = ways_below no_child_of found.0 rest in
+        let also : all_may_match choice longer ≡ (first && matched) =
+        ap (all_may_match choice) adds
+        ∙ list_all-append (λ (cube : Bor MaskedLabels). may_match choice cube.now) wanted (ref ∷ [])
+        ∙ ap (λ b. first && b) (and_true (may_match choice ref.now) ∙ ap (may_match choice) is
+        ∙ its_cube found.0 child found.2) in
+        let none : none_must_match choice next ≡ (others && closed p) =
+        adds_none ∙ ap (λ b. others && b) (none_stopped children rs p are) in
+        record {
+          tree = found.0;
+          cubes = found.2;
+          ends = (λ i. (also i && none i) && some_way_holds holds ways)
+              ∙ in_order first others (closed p) matched (some_way_holds holds ways)
+              ∙ ap (λ b. (first && others) && (closed p && b))
+              (sym (some_way-literal holds (matching (matchers_of found.0)) ways))
+              ∙ down p rest (Some found.0) goes found.1;
+        }
+
+    pub last_step : (next : List (Bor MaskedLabels)) → left ≡ []
+        → none_must_match choice next ≡ (none_must_match choice unwanted
+        && none_stops true choice rs)
+        → (all_may_match choice wanted && none_must_match choice next) ≡ end
+    last_step next ends adds =
+        let none = list_all holds (no_child_of on.tree) in
+        ap (λ b. first && b) (adds ∙ ap (λ b. others && b) (none_matched children rs are))
+        ∙ and_in first others none ∙ ap (λ b. (first && others) && b)
+        (sym (ap (λ path. some_way_holds holds (ways_below no_child_of on.tree path)) ends
+        ∙ or_false none))
+        ∙ on.ends
+
+    pub no_step : (p : ℕ) (rest : List ℕ) → left ≡ p ∷ rest → length rs ≤ p → false ≡ end
+    no_step p rest goes past =
+        let many = as_many children rs are in
+        let none : slice_get (list_of children) p ≡ None =
+        slice_get_past (list_of children) p (omega (arith, many, past)) in
+        sym (ap (λ b. (first && others) && b) (and_right (closed p) false refl)
+        ∙ and_right (first && others) false refl)
+        ∙ down p rest None goes none

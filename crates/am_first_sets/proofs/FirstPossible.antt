@@ -1,0 +1,69 @@
+-- The first choice of a space, and the first that passes a test.
+use Rattle.std.proofs.Common.{◌≡◌, ◌↔◌, ℕ, List, [], ◌∷◌, Bool, true, false, ◌&&◌, Option, Some, None}
+use Rattle.std.proofs.Common.{IfSome, slice_get, refl, sym, ap, ◌∙◌, inl, inr}
+use Rattle.std.specs.List.{find, filter}
+use Rattle.std.proofs.lemmas.Bool.{cases_Bool}
+use Rattle.am_universe.proofs.ListLemmas.{IsIn, Contains-from_IsIn}
+use Rattle.am_labels.specs.Words.{Space, all_choices, IsChoiceOf}
+use Rattle.am_labels.proofs.SpaceLaws.{space_choices}
+
+-- what is found among those that a filter keeps is the first that passes both tests
+pub find_kept : {X : Type 0} (test keep : X → Bool) (xs : List X)
+    → find (λ x. test x && keep x) xs ≡ find test (filter keep xs)
+find_kept test keep [] = refl
+find_kept test keep (x ∷ xs) = step (test x) (keep x) refl refl (find_kept test keep xs)
+  where
+    step : (a b : Bool) → test x ≡ a → keep x ≡ b → find (λ y. test y && keep y) xs ≡ find test (filter keep xs) → find (λ y. test y && keep y) (x ∷ xs) ≡ find test (filter keep (x ∷ xs))
+    step true true e f later = rw (e, f) (rw e refl)
+    step false true e f later = rw (e, f) (rw e later)
+    step true false e f later = rw (e, f) later
+    step false false e f later = rw (e, f) later
+
+pub find_none : {X : Type 0} (xs : List X) → None ≡ find (λ (x : X). false) xs
+find_none [] = refl
+find_none (x ∷ xs) = find_none xs
+
+-- what is found is in the list, and passes
+pub is_found : {X : Type 0} (test : X → Bool) (xs : List X) (x : X) → find test xs ≡ Some x
+    → IsIn xs x × (test x ≡ true)
+is_found test [] x e = absurd (cc)
+is_found test (y ∷ ys) x e = elim (cases_Bool (test y)) [
+  | inl passes ↦
+      let found : Some y ≡ Some x = rw passes at e in
+      let same : y ≡ x = cc in (inl same, ap test (sym same) ∙ passes)
+  | inr fails ↦ let r = is_found test ys x (rw fails at e) in (inr r.0, r.1)
+]
+
+pub found_of_space : (s : Space) (test : List ℕ → Bool) (found : Option (List ℕ))
+    → found ≡ find test (all_choices s) → IfSome found (IsChoiceOf s)
+found_of_space s test None e = tt
+found_of_space s test (Some c) e =
+    let all = all_choices s in
+    (space_choices s c).0 (Contains-from_IsIn all c (is_found test all c (sym e)).0)
+
+-- ---- Without a test.
+
+-- the first that a test finds is the first of those that it keeps
+pub find_first : {X : Type 0} (keep : X → Bool) (xs : List X)
+    → find keep xs ≡ slice_get (filter keep xs) 0
+find_first keep [] = refl
+find_first keep (x ∷ xs) = step (keep x) refl (find_first keep xs)
+  where
+    step : (b : Bool) → keep x ≡ b → find keep xs ≡ slice_get (filter keep xs) 0
+        → find keep (x ∷ xs) ≡ slice_get (filter keep (x ∷ xs)) 0
+    step true e later = rw e refl
+    step false e later = rw e later
+
+-- there is none exactly where the list is empty
+pub no_first : {X : Type 0} (xs : List X) (first : Option X) → first ≡ slice_get xs 0
+    → first ≡ None ↔ xs ≡ []
+no_first [] first e = (λ none. refl, λ empty. e)
+no_first (x ∷ xs) first e = (λ none. cc, λ empty. cc)
+
+pub first_of_space : (s : Space) (first : Option (List ℕ)) → first ≡ slice_get (all_choices s) 0
+    → IfSome first (IsChoiceOf s)
+first_of_space s first e = found_of_space s (λ c. true) first (e ∙ any (all_choices s))
+  where
+    any : (xs : List (List ℕ)) → slice_get xs 0 ≡ find (λ c. true) xs
+    any [] = refl
+    any (c ∷ cs) = refl

@@ -1,0 +1,33 @@
+-- The cubes of impossible lists are certain, at a whole choice, where its label set matches the
+-- lists.
+use Rattle.std.proofs.Common.{◌≡◌, ℕ, Bool, true, false, not, cond, List, map, refl, ap, sym, ◌∙◌}
+use Rattle.std.specs.Prelude.{IsTrue}
+use Rattle.std.specs.List.{list_any}
+use Rattle.am_universe.proofs.UniverseLemmas.{list_any-map}
+use Rattle.am_labels.specs.Words.{Label, Space, sizes, admits, IsWhole, label_set_of, Condition}
+use Rattle.am_labels.specs.Words.{all_hold}
+use Rattle.am_search.specs.declared.verdict.Verdict.TheVariants.{Yes, No}
+use Rattle.am_masks.specs.Words.{MaskedLabels, is_yes, verdict_at, verdict_of_list}
+use Rattle.am_masks.proofs.VerdictLemmas.{list_says}
+use Rattle.am_first_sets.specs.ImpossibleCubes.{KnowsPossible}
+
+yes_of_truth : (b : Bool) → is_yes (cond b Yes No) ≡ b
+yes_of_truth true = refl
+yes_of_truth false = refl
+
+-- the verdict of a list is that it is matched
+pub certain_where : (u : List Label) (c : List ℕ) → IsWhole (sizes u) c → (ms : List Condition)
+    → is_yes (verdict_of_list u ms c) ≡ all_hold (label_set_of u c) ms
+certain_where u c whole ms =
+    ap is_yes (list_says u ms c whole) ∙ yes_of_truth (all_hold (label_set_of u c) ms)
+
+pub knows_possible : (s : Space) (cubes : List MaskedLabels)
+    → ((prefix : List ℕ) → IsTrue (admits (sizes s.labels) prefix)
+    → map (λ cube. verdict_at cube prefix) cubes
+    ≡ map (λ ms. verdict_of_list s.labels ms prefix) s.impossible)
+    → KnowsPossible s cubes
+knows_possible s cubes same c whole =
+    ap not (sym (list_any-map is_yes (λ (cube : MaskedLabels). verdict_at cube c) cubes)
+    ∙ ap (list_any is_yes) (same c whole.0)
+    ∙ list_any-map is_yes (λ (ms : List Condition). verdict_of_list s.labels ms c) s.impossible
+    ∙ (λ i. list_any (λ (ms : List Condition). certain_where s.labels c whole ms i) s.impossible))

@@ -1,0 +1,4 @@
+pub mod ReasonLemmas
+pub mod ImpossibleCubes
+pub mod FirstPossible
+pub mod CubeEnds

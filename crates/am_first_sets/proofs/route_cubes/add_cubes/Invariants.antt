@@ -1,0 +1,10 @@
+use Rattle.std.proofs.Common.{◌≡◌, ◌&&◌, ℕ, List, take}
+use Rattle.am_first_sets.specs.RouteCubes.{none_must_match, none_stops}
+use Rattle.am_first_sets.proofs.route_cubes.add_cubes.Given as goal
+
+-- what the cubes so far say, the siblings so far do
+abbrev pub invariant-loop-sibling : goal.invariant-loop-sibling
+invariant-loop-sibling l =
+    (choice : List ℕ) → none_must_match choice l.cubes.items
+    ≡ (none_must_match choice l.fn.cubes.items
+    && none_stops l.all choice (take l.sibling-index l.siblings))

@@ -1,0 +1,21 @@
+-- What cubes say at a choice, and why tests fail.
+use Rattle.std.specs.Prelude.{◌≡◌, ℕ, ◌<◌, ◌≤◌, List, length, Bool, false, not, IsTrue}
+use Rattle.am_search.specs.declared.labels.Labels.{Labels}
+use Rattle.am_search.specs.Words.{has_label, AgreesAt, is_yes, is_no}
+use Rattle.am_masks.specs.Words.{MaskedLabels, verdict_at}
+
+-- At a choice a cube is not excluded, and it is certain.
+abbrev pub may_match : List ℕ → MaskedLabels → Bool
+may_match choice cube = not (is_no (verdict_at cube choice))
+
+abbrev pub must_match : List ℕ → MaskedLabels → Bool
+must_match choice cube = is_yes (verdict_at cube choice)
+
+-- Some labels of a prefix are a reason against a test: each choice that is as long at least, and
+-- has the prefix's positions at these labels, fails it.
+-- Source: own choice.
+-- Example: the label `team` is a reason against a literal that asks for `team="db"`, at a prefix
+-- that chooses the team `web`.
+pub record IsReasonAgainst (test : List ℕ → Bool) (labels : Labels) (prefix : List ℕ) : Type 0 where
+  pub within : (i : ℕ) → IsTrue (has_label labels i) → i < length prefix
+  pub fails : (c : List ℕ) → length prefix ≤ length c → AgreesAt labels prefix c → test c ≡ false

@@ -1,0 +1,78 @@
+-- The routes of a configuration as a tree of cubes, and the way to end at one of them.
+use Rattle.std.specs.Prelude.{◌≡◌, ℕ, List, [], ◌∷◌, Bool, false, not, ◌&&◌, ◌||◌}
+use Rattle.std.specs.Prelude.{Option, Some, None, ⊤}
+use Rattle.std.specs.Borrow.{Bor}
+use Rattle.std.specs.List.{list_all}
+use Rattle.std.proofs.Props.{props}
+use Rattle.am_labels.specs.Words.{Label, sizes, IsWhole}
+use Rattle.am_files.specs.ConfigFile.{Configuration, RouteTree, Routes}
+use Rattle.am_files.specs.ConfigFile.{route, no_routes, next_route}
+use Rattle.am_masks.specs.Words.{MaskedLabels, verdict_at, verdict_of_list}
+use Rattle.am_first_sets.specs.declared.route_cubes.RouteCubes.{RouteCubes}
+use Rattle.am_first_sets.specs.declared.route_cubes.RouteCubes.TheViews.{out-RouteCubes}
+use Rattle.am_first_sets.specs.declared.route_cubes.RouteWay.{RouteWay}
+use Rattle.am_first_sets.specs.ChoiceEnds.{is_end_at}
+use Rattle.am_first_sets.specs.Reasons.{may_match, must_match}
+
+-- The cubes are those of a route and of all routes below it: at a choice, each says what the
+-- matchers at its place do. And those of the children of a route.
+abbrev mutual
+  pub AreCubesOf : List Label → List ℕ → RouteTree → RouteCubes → Type 0
+  AreCubesOf u choice (route settings children) r =
+      (verdict_at (out-RouteCubes r).cube choice ≡ verdict_of_list u settings.matchers choice)
+      × ((out-RouteCubes r).continues ≡ settings.continues)
+      × AreCubesOfEach u choice children (out-RouteCubes r).routes.items
+
+  pub AreCubesOfEach : List Label → List ℕ → Routes → List RouteCubes → Type 0
+  AreCubesOfEach u choice no_routes [] = ⊤
+  AreCubesOfEach u choice no_routes (r ∷ rs) = ⊥
+  AreCubesOfEach u choice (next_route t ts) [] = ⊥
+  AreCubesOfEach u choice (next_route t ts) (r ∷ rs) =
+      AreCubesOf u choice t r × AreCubesOfEach u choice ts rs
+
+-- There is at most one proof of it.
+mutual
+  pub AreCubesOf-prop : (u : List Label) (choice : List ℕ) (t : RouteTree) (r : RouteCubes)
+      → IsProp (AreCubesOf u choice t r)
+  AreCubesOf-prop u choice (route settings children) r =
+      hlevel (props, AreCubesOfEach-prop u choice children)
+
+  AreCubesOfEach-prop : (u : List Label) (choice : List ℕ) (ts : Routes) (rs : List RouteCubes)
+      → IsProp (AreCubesOfEach u choice ts rs)
+  AreCubesOfEach-prop u choice no_routes [] = hlevel props
+  AreCubesOfEach-prop u choice no_routes (r ∷ rs) = hlevel props
+  AreCubesOfEach-prop u choice (next_route t ts) [] = hlevel props
+  AreCubesOfEach-prop u choice (next_route t ts) (r ∷ rs) =
+      hlevel (props, AreCubesOf-prop u choice t, AreCubesOfEach-prop u choice ts)
+
+-- The cubes are those of the routes of a configuration.
+abbrev pub KnowsRoutes : List Label → Configuration → RouteCubes → Type 0
+KnowsRoutes u c routes =
+    (choice : List ℕ) → IsWhole (sizes u) choice → AreCubesOf u choice c.root routes
+
+-- At a choice none of some cubes is excluded; none is certain; and none of some siblings is
+-- certain, those with `continue` left out unless all count.
+abbrev pub all_may_match : List ℕ → List (Bor MaskedLabels) → Bool
+all_may_match choice cubes = list_all (λ cube. may_match choice cube.now) cubes
+
+abbrev pub none_must_match : List ℕ → List (Bor MaskedLabels) → Bool
+none_must_match choice cubes = list_all (λ cube. not (must_match choice cube.now)) cubes
+
+abbrev pub none_stops : Bool → List ℕ → List RouteCubes → Bool
+none_stops all choice siblings =
+    list_all (λ r. (not all && (out-RouteCubes r).continues)
+    || not (must_match choice (out-RouteCubes r).cube)) siblings
+
+-- There is a way, and a choice goes it, by its cubes.
+abbrev pub is_gone : List ℕ → Option RouteWay → Bool
+is_gone choice None = false
+is_gone choice (Some way) =
+    all_may_match choice way.wanted.items && none_must_match choice way.unwanted.items
+
+-- It is the way to end at the route at a path: whichever configuration the cubes are of, a whole
+-- choice goes it exactly where its label set ends there.
+abbrev pub IsWayToEnd : RouteCubes → List ℕ → Option RouteWay → Type 0
+IsWayToEnd routes path way =
+    (u : List Label) (c : Configuration) → KnowsRoutes u c routes
+    → (choice : List ℕ) → IsWhole (sizes u) choice
+    → is_gone choice way ≡ is_end_at u c path choice

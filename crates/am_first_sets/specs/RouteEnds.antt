@@ -1,0 +1,11 @@
+-- The parts of `RouteEnds`, and what it is asked.
+use Rattle.am_labels.specs.Words.{Space}
+use Rattle.am_files.specs.Words.{Configuration, config_view}
+use Rattle.am_first_sets.specs.declared.route_ends.RouteEnds.{RouteEnds}
+
+-- The space and the configuration.
+abbrev pub ends_space : RouteEnds → Space
+ends_space routes = routes.possible.space.now
+
+abbrev pub ends_config : RouteEnds → Configuration
+ends_config routes = config_view routes.config.now

@@ -1,0 +1,17 @@
+//! First label sets: the first that is possible in a space, and the first that ends at a route.
+//!
+//! Both are found by a search that jumps over labels that do not matter. Where no completion of a
+//! prefix will do, the search asks which labels are to blame. Cubes answer it: those of the routes'
+//! matchers, and those of the impossible lists of the space.
+#![tactic(auto)]
+
+// The first that is possible.
+mod possible_choices;
+
+pub use possible_choices::first_possible;
+
+// The first that ends at a route.
+mod route_cubes;
+mod route_ends;
+
+pub use route_ends::RouteEnds;

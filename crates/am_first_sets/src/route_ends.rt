@@ -1,0 +1,110 @@
+//! The first label set of a space that ends at a route.
+
+ghost use Rattle.std.specs.Prelude.{◌≡◌, IfOk, IfSome};
+ghost use Rattle.std.specs.List.{find};
+ghost use Rattle.std.proofs.Props.{props};
+ghost use Rattle.am_labels.specs.Words.{all_choices, IsChoiceOf};
+ghost use Rattle.am_files.specs.Words.{config_view};
+ghost use Rattle.am_first_sets.specs.ChoiceEnds.{is_end_at};
+ghost use Rattle.am_first_sets.specs.RouteCubes.{AreCubesOf-prop, KnowsRoutes};
+
+use crate::possible_choices::PossibleRefuter;
+use crate::route_cubes::{RouteCubes, why_any, why_not_all};
+use am_files::{Config, Path};
+use am_labels::{Choice, Space};
+use am_masks::Cube;
+use am_search::{Labels, Refuter, first_by_jumps};
+use std::alloc::{AllocError, Global};
+
+/// The routes of a configuration, over a space: each may be asked for the first label set of the
+/// space that ends there.
+#[derive(Drop)]
+pub struct RouteEnds<'a> {
+    possible: PossibleRefuter<'a>,
+    config: &'a Config,
+    routes: RouteCubes,
+    ghost knows_routes: { KnowsRoutes possible.space.now.labels
+        (config_view config.now) routes } by { Prim.hlevel (props, AreCubesOf-prop) },
+}
+
+impl<'a> RouteEnds<'a> {
+    ghost use Rattle.am_first_sets.specs.RouteEnds.{ends_space, ends_config};
+
+    /// The routes of a configuration, with a cube for the matchers of each, and one for each list
+    /// that the space calls impossible. An `Err` only where memory was refused.
+    pub fn of(
+        alloc: Global,
+        space: &'a Space,
+        config: &'a Config,
+    ) -> Result<RouteEnds<'a>, AllocError>
+        ensures space { IfOk result (λ routes. ends_space routes ≡ space.now) }
+        ensures config { IfOk result (λ routes. ends_config routes ≡ config_view config.now) }
+    {
+        let possible = PossibleRefuter::of(alloc, space)?;
+        let routes = RouteCubes::of(alloc, space.universe(), config.root())?;
+        Ok(RouteEnds {
+            possible,
+            config,
+            routes,
+        })
+    }
+
+    /// The first choice of the space, in declared order, whose label set ends at the route at a
+    /// path, if there is one. Without a route at the path there is none. An `Err` only where memory
+    /// was refused.
+    pub fn first_end(&self, alloc: Global, path: &Path) -> Result<Option<Choice>, AllocError>
+        ensures first { IfOk result (λ found. found ≡ find (is_end_at (ends_space self.now).labels
+            (ends_config self.now) path.now) (all_choices (ends_space self.now))) }
+        ensures possible { IfOk result (λ found. IfSome found (IsChoiceOf (ends_space self.now))) }
+    {
+        let Some(way) = self.routes.way_to_end(alloc, path)? else {
+            return Ok(None);
+        };
+        let refuter = RouteRefuter {
+            possible: &self.possible,
+            wanted: way.wanted.as_slice(),
+            unwanted: way.unwanted.as_slice(),
+        };
+        Ok(first_by_jumps(&refuter))
+    }
+}
+
+/// What refutes prefixes none of whose completions is possible, matches all cubes that are wanted
+/// and none that is not.
+#[derive(Drop)]
+struct RouteRefuter<'a> {
+    possible: &'a PossibleRefuter<'a>,
+    wanted: &'a [&'a Cube],
+    unwanted: &'a [&'a Cube],
+}
+
+impl<'a> Refuter for RouteRefuter<'a> {
+    ghost use Rattle.am_first_sets.specs.RouteRefuter.{refuter_sizes, refuter_truth};
+    ghost use Rattle.am_first_sets.specs.RouteRefuter.{refuter_are_sizes};
+
+    ghost sizes = { refuter_sizes };
+
+    ghost truth = { refuter_truth };
+
+    ghost laws = { refuter_are_sizes };
+
+    fn labels(&self) -> usize {
+        self.possible.labels()
+    }
+
+    fn size(&self, i: usize) -> usize {
+        self.possible.size(i)
+    }
+
+    // Those that are wanted come first: one that is excluded names a single label, so that the
+    // search goes back further than where an impossible list or an unwanted one is certain.
+    fn refute(&self, prefix: &Choice) -> Option<Labels> {
+        if let Some(labels) = why_not_all(self.wanted, prefix) {
+            return Some(labels);
+        }
+        if let Some(labels) = self.possible.refute(prefix) {
+            return Some(labels);
+        }
+        why_any(self.unwanted, prefix)
+    }
+}
