@@ -10,7 +10,7 @@ use Rattle.am_search.specs.Start.{comes_before}
 use Rattle.am_search.proofs.ChoiceOrder.{Ascends, above_first, ascends_rest, not_itself, not_back}
 use Rattle.am_coverage.specs.FirstEnds.{earlier, earliest}
 use Rattle.am_search.proofs.FirstAlike.{find_alike}
-use Rattle.am_cubes.proofs.FirstPossible.{is_found}
+use Rattle.am_first_sets.proofs.FirstPossible.{is_found}
 
 -- ---- Of two tests.
 

@@ -9,7 +9,7 @@ use Rattle.am_labels.specs.Space.{Space}
 use Rattle.am_labels.proofs.Passing.{in_any}
 use Rattle.am_files.specs.ConfigFile.{Configuration}
 use Rattle.am_files.specs.Path.{leads_through}
-use Rattle.am_eval.specs.RoutePaths.{paths_of}
+use Rattle.am_files.specs.RoutePaths.{paths_of}
 use Rattle.am_search.specs.Start.{comes_before}
 use Rattle.am_search.proofs.ChoiceOrder.{in_filter, into_filter}
 use Rattle.am_coverage.specs.declared.coverage.RouteCoverage.{RouteCoverage}

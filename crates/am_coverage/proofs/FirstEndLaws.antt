@@ -14,7 +14,7 @@ use Rattle.am_labels.proofs.SpaceLaws.{space_choices_sorted}
 use Rattle.am_files.specs.ConfigFile.{Configuration, RouteTree, receiver_of}
 use Rattle.am_files.specs.Path.{leads_through, route_at}
 use Rattle.am_eval.specs.Conditions.{is_receiver, paths_to}
-use Rattle.am_eval.specs.RoutePaths.{paths_of}
+use Rattle.am_files.specs.RoutePaths.{paths_of}
 use Rattle.am_eval.specs.Routing.{ends, receivers}
 use Rattle.am_eval.proofs.EndLaws.{at_routes}
 use Rattle.am_eval.proofs.RoutePathLaws.{is_path}

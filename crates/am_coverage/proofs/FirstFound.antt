@@ -10,7 +10,7 @@ use Rattle.am_labels.specs.Space.{Space, all_choices, IsChoiceOf}
 use Rattle.am_labels.proofs.SpaceLaws.{space_choices, space_choices_sorted}
 use Rattle.am_search.specs.Start.{comes_before}
 use Rattle.am_search.proofs.ChoiceOrder.{Ascends, above_first, ascends_rest, not_itself, not_back}
-use Rattle.am_cubes.proofs.FirstPossible.{is_found}
+use Rattle.am_first_sets.proofs.FirstPossible.{is_found}
 
 -- where an item passes, one is found
 finds : {X : Type 0} (test : X → Bool) (xs : List X) (x : X) → IsIn xs x → test x ≡ true

@@ -1,4 +1,3 @@
-pub mod RoutePaths
 pub mod FirstFound
 pub mod RouteLaws
 pub mod ReceiverLaws

@@ -8,7 +8,8 @@ use Rattle.am_universe.proofs.ListLemmas.{IsIn-unmap, AllByRecursion-each}
 use Rattle.am_universe.proofs.ListLemmas.{IsStrictlySortedBy-append, IsStrictlySortedBy-map}
 use Rattle.am_universe.proofs.ChoiceLemmas.{same_first, less_first}
 use Rattle.am_files.specs.ConfigFile.{RouteTree, Routes, route, no_routes, next_route}
-use Rattle.am_eval.specs.RoutePaths.{paths_at, paths_from}
+use Rattle.am_files.specs.RoutePaths.{paths_at}
+use Rattle.am_files.proofs.RouteLists.{paths_from, paths_next}
 use Rattle.am_eval.proofs.RoutePathLaws.{is_below}
 use Rattle.am_search.proofs.ChoiceOrder.{Ascends}
 
@@ -26,7 +27,8 @@ mutual
   ascend_from : (i : ℕ) (ts : Routes) → Ascends (paths_from i ts)
   ascend_from i no_routes = tt
   ascend_from i (next_route t ts) =
-      IsStrictlySortedBy-append (slice_cmp nat_cmp) (map (λ below. i ∷ below) (paths_at t))
+      subst (λ (paths : List (List ℕ)). Ascends paths) (sym (paths_next i t ts))
+      (IsStrictlySortedBy-append (slice_cmp nat_cmp) (map (λ below. i ∷ below) (paths_at t))
       (paths_from (i + 1) ts)
       (IsStrictlySortedBy-map (slice_cmp nat_cmp) (slice_cmp nat_cmp) (λ below. i ∷ below)
       (paths_at t) (same_first i) (paths_ascend t))
@@ -37,4 +39,4 @@ mutual
       let less : i < (i + 1) + more.0 = omega arith in
       subst (λ (v : List ℕ). slice_cmp nat_cmp v y ≡ Less) first.2
       (subst (λ (w : List ℕ). slice_cmp nat_cmp (i ∷ first.0) w ≡ Less) (sym more.4)
-      (less_first i ((i + 1) + more.0) first.0 more.2 less)))
+      (less_first i ((i + 1) + more.0) first.0 more.2 less))))

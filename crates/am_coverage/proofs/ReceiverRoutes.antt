@@ -2,7 +2,8 @@
 use Rattle.std.proofs.Common.{◌≡◌, ◌≢◌, ℕ, zero, suc, ◌+◌, ◌<◌, List, [], ◌∷◌, ◌++◌, map, get_or, length}
 use Rattle.std.proofs.Common.{Option, Some, None, Bool, true, false, refl, sym, ap, ◌∙◌, ◌≤◌}
 use Rattle.std.proofs.Math.ListN.{set}
-use Rattle.std.specs.Prelude.{replicate, ◌==◌}
+use Rattle.std.specs.Prelude.{replicate, ◌==◌, option_map, slice_get}
+use Rattle.std.proofs.lemmas.Option.{same_Some, slice_get_read}
 use Rattle.std.proofs.Common.{arith}
 use Rattle.std.specs.List.{AllByRecursion, filter, list_any, range_with_len}
 use Rattle.std.proofs.lemmas.Bool.{eq-eqb, ne_eqb}
@@ -19,9 +20,11 @@ use Rattle.am_files.specs.Path.{route_at}
 use Rattle.am_files.specs.declared.config.Config.{Config}
 use Rattle.am_eval.proofs.AbsentParts.{receiver_below}
 use Rattle.am_eval.specs.Conditions.{is_receiver}
-use Rattle.am_eval.specs.RoutePaths.{paths_of}
-use Rattle.am_eval.specs.Routing.{receivers}
+use Rattle.am_files.specs.RoutePaths.{paths_of}
+use Rattle.am_eval.specs.Routing.{receivers, receiver_at}
+use Rattle.am_universe.proofs.LabelPairLemmas.{at_place}
 use Rattle.am_coverage.specs.declared.coverage.ReceiverCoverage.{ReceiverCoverage}
+use Rattle.am_coverage.specs.declared.first_ends.FirstEnd.{FirstEnd}
 use Rattle.am_coverage.specs.Coverage.{first_end, first_receipt, live_or_unmatched}
 use Rattle.am_coverage.specs.Coverage.{receiver_coverage}
 use Rattle.am_coverage.specs.CoverageView.{IsShownReceiver}
@@ -101,44 +104,54 @@ replicate_made f from (suc n) x same =
 
 -- ---- A table of receivers.
 
+-- a route that has a receiver
+has_one : (receiver : ℕ) (o : Option RouteTree) → option_map receiver_of o ≡ Some receiver
+    → (t : RouteTree) × (o ≡ Some t) × (receiver_of t ≡ receiver)
+has_one receiver None e = absurd (cc)
+has_one receiver (Some t) e = (t, refl, same_Some (receiver_of t) receiver e)
+
 -- the receiver of a route is declared
-pub receiver_declared : (config : Config) (path : List ℕ) (t : RouteTree)
-    → route_at (config_view config).root path ≡ Some t
-    → receiver_of t < length (config_view config).receivers
-receiver_declared config path t at =
-    ltb-true (receiver_of t) (length (config_view config).receivers)
-    (receiver_below (length (config_view config).receivers) path (config_view config).root t
-    config.sound.receivers_declared at)
+pub receiver_declared : (config : Config) (path : List ℕ) (receiver : ℕ)
+    → receiver_at (config_view config) path ≡ Some receiver
+    → receiver < length (config_view config).receivers
+receiver_declared config path receiver its_own =
+    let c = config_view config in
+    let at = has_one receiver (route_at c.root path) its_own in
+    let below = ltb-true (receiver_of at.0) (length c.receivers)
+    (receiver_below (length c.receivers) path c.root at.0 config.sound.receivers_declared at.1) in
+    omega (arith, below, at.2)
+
+-- and known with what ends first at the route
+pub own_receiver : (c : Configuration) (ends items : List FirstEnd) (i : ℕ) (end : FirstEnd)
+    → items ≡ ends → AllByRecursion (λ e. receiver_at c e.path ≡ Some e.receiver) ends
+    → i < length items → end ≡ get_or items i end → receiver_at c end.path ≡ Some end.receiver
+own_receiver c ends items i end same each lt is =
+    at_place (λ (e : FirstEnd). receiver_at c e.path ≡ Some e.receiver) ends i end each
+    (ap (λ all. slice_get all i) (sym same)
+    ∙ slice_get_read items (length items) i end refl lt is)
 
 module _ (s : Space) (c : Configuration) (paths : List (List ℕ)) where
   -- the route at a path tells of its own receiver alone
-  pub route_counted : (table : List ReceiverCoverage) (path : List ℕ) (t : RouteTree)
-      (n receiver : ℕ) (known told : ReceiverCoverage)
-      → table ≡ map (covered_by s c paths) (range_with_len 0 n) → receiver ≡ receiver_of t
-      → receiver < n → route_at c.root path ≡ Some t → known ≡ get_or table receiver known
+  pub route_counted : (table : List ReceiverCoverage) (path : List ℕ) (n receiver : ℕ)
+      (known told : ReceiverCoverage)
+      → table ≡ map (covered_by s c paths) (range_with_len 0 n)
+      → receiver_at c path ≡ Some receiver → receiver < n → known ≡ get_or table receiver known
       → ((first : Option (List ℕ)) → known ≡ live_or_unmatched first
       → told ≡ live_or_unmatched (earlier first (first_end s c path)))
       → set table receiver told
       ≡ map (covered_by s c (paths ++ path ∷ [])) (range_with_len 0 n)
-  route_counted table path t n receiver known told is its_own lt at here tells =
+  route_counted table path n receiver known told is its_own lt here tells =
       let made = covered_by s c paths in
+      let at = has_one receiver (route_at c.root path) its_own in
       let so_far : known ≡ made receiver =
       here ∙ ap (λ all. get_or all receiver known) is
       ∙ get_or-map-range_with_len made 0 n receiver receiver known lt (omega arith) in
       ap (λ all. set all receiver told) is
       ∙ set_made made (covered_by s c (paths ++ path ∷ [])) n receiver told
       (tells (earliest (map (first_end s c) (filter (has_receiver c receiver) paths))) so_far
-      ∙ by_its_own s c paths path receiver (rw at (eq-eqb (receiver_of t) receiver (sym its_own))))
+      ∙ by_its_own s c paths path receiver (rw at.1 (eq-eqb (receiver_of at.0) receiver at.2)))
       (λ k other. by_other s c paths path k
-      (rw at (ne_eqb (receiver_of t) k (λ e. other (sym (its_own ∙ e))))))
-
-  -- and where there is none, of no receiver
-  pub no_route_counted : (path : List ℕ) (n : ℕ) → route_at c.root path ≡ None
-      → map (covered_by s c paths) (range_with_len 0 n)
-      ≡ map (covered_by s c (paths ++ path ∷ [])) (range_with_len 0 n)
-  no_route_counted path n none =
-      all_made (covered_by s c paths) (covered_by s c (paths ++ path ∷ [])) n
-      (λ k. by_other s c paths path k (rw none refl))
+      (rw at.1 (ne_eqb (receiver_of at.0) k (λ e. other (sym e ∙ at.2)))))
 
 module _ (s : Space) (c : Configuration) where
   pub all_counted : (receiver : ℕ) → covered_by s c (paths_of c) receiver

@@ -11,7 +11,7 @@ use Rattle.am_universe.specs.WrittenLabelSet.{set_text}
 use Rattle.am_labels.specs.Space.{Space}
 use Rattle.am_files.specs.ConfigFile.{Configuration}
 use Rattle.am_files.specs.Path.{path_text}
-use Rattle.am_eval.specs.RoutePaths.{paths_of}
+use Rattle.am_files.specs.RoutePaths.{paths_of}
 use Rattle.am_coverage.specs.declared.coverage.RouteCoverage.{RouteCoverage}
 use Rattle.am_coverage.specs.declared.coverage.RouteCoverage.TheVariants as route_is
 use Rattle.am_coverage.specs.declared.coverage.ReceiverCoverage.{ReceiverCoverage}

@@ -16,9 +16,9 @@ use Rattle.am_universe.proofs.ListLemmas.{IsIn}
 use Rattle.am_labels.specs.Space.{Space}
 use Rattle.am_files.specs.ConfigFile.{Configuration}
 use Rattle.am_files.specs.Path.{leads_through}
-use Rattle.am_eval.specs.RoutePaths.{paths_of}
+use Rattle.am_files.specs.RoutePaths.{paths_of}
 use Rattle.am_eval.specs.Routing.{ends}
-use Rattle.am_eval.proofs.Members.{in_at}
+use Rattle.am_universe.proofs.Members.{in_at}
 use Rattle.am_search.specs.Start.{comes_before}
 use Rattle.am_search.proofs.ChoiceOrder.{Ascends, above_first, ascends_rest, not_back, filter_none}
 use Rattle.am_search.proofs.PrefixOrder.{begins_itself, begins_behind, before_beside}

@@ -8,7 +8,7 @@ use Rattle.am_labels.specs.Space.{Space, IsChoiceOf}
 use Rattle.am_files.specs.ConfigFile.{Configuration}
 use Rattle.am_files.specs.Path.{path_text}
 use Rattle.am_eval.specs.Routing.{ends, receivers}
-use Rattle.am_eval.specs.RoutePaths.{paths_of}
+use Rattle.am_files.specs.RoutePaths.{paths_of}
 use Rattle.am_search.specs.Start.{comes_before}
 use Rattle.am_coverage.specs.Coverage.{IsDead, IsNeverEntered, IsUnmatched}
 

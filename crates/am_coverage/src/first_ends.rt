@@ -1,42 +1,49 @@
 //! The first label set that ends at each route. One search a route: what else there is to say of
 //! routes and receivers follows from these.
 
-ghost use Rattle.std.specs.Prelude.{◌≡◌, map, IfOk};
+ghost use Rattle.std.specs.Prelude.{◌≡◌, map, Some, IfOk};
+ghost use Rattle.std.specs.List.{AllByRecursion};
+ghost use Rattle.am_files.specs.Words.{config_view, paths_of};
+ghost use Rattle.am_eval.specs.Words.{receiver_at};
 ghost use Rattle.am_coverage.specs.Coverage.{first_end};
 ghost use Rattle.am_coverage.specs.CoverageView.{end_view};
-ghost use Rattle.am_coverage.specs.Words.{paths_of};
 
-use crate::route_paths::paths_of;
-use am_cubes::RouteEnds;
-use am_eval::World;
-use am_files::Path;
+use am_files::{Config, Path};
+use am_first_sets::RouteEnds;
 use am_labels::{Choice, Space};
 use std::alloc::{AllocError, Global};
 
-/// A route, by its path, and the first choice of the space whose label set ends there, if there
-/// is one.
+/// A route, by its path, with its receiver, by its position, and the first choice of the space
+/// whose label set ends there, if there is one.
 #[derive(Clone, Copy, Debug)]
 pub struct FirstEnd {
     pub path: Path,
+    pub receiver: usize,
     pub choice: Option<Choice>,
 }
 
-/// The first choice that ends at each route of the configuration of a world, in preorder: each
-/// route before those below it, and these before its next sibling. An `Err` only where memory was
-/// refused.
-pub fn first_ends(alloc: Global, space: &Space, world: &World) -> Result<Vec<FirstEnd>, AllocError>
+/// The first choice that ends at each route of a configuration, in preorder: each route before
+/// those below it, and these before its next sibling. An `Err` only where memory was refused.
+pub fn first_ends(
+    alloc: Global,
+    space: &Space,
+    config: &Config,
+) -> Result<Vec<FirstEnd>, AllocError>
     ensures ends { IfOk result (λ found. map end_view found.items
-        ≡ map (λ path. (path, first_end space.now world.now.config path))
-        (paths_of world.now.config)) }
+        ≡ map (λ path. (path, first_end space.now (config_view config.now) path))
+        (paths_of (config_view config.now))) }
+    ensures receivers { IfOk result (λ found. AllByRecursion
+        (λ end. receiver_at (config_view config.now) end.path ≡ Some end.receiver) found.items) }
 {
-    let config = world.config();
     let ends = RouteEnds::of(alloc, space, config)?;
-    let paths = paths_of(alloc, config)?;
-    let mut found = Vec::with_capacity(alloc, paths.len())?;
-    for path in &paths {
+    let listed = config.routes(alloc)?;
+    let mut found = Vec::with_capacity(alloc, listed.paths.len())?;
+    for i in 0..listed.paths.len() {
+        let path = listed.paths[i];
         found.push(FirstEnd {
-            path: *path,
-            choice: ends.first_end(path),
+            path,
+            receiver: listed.routes[i].receiver(),
+            choice: ends.first_end(alloc, &path)?,
         })?;
     }
     Ok(found)

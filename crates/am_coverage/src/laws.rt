@@ -7,6 +7,7 @@ ghost use Rattle.std.specs.List.{filter};
 ghost use Rattle.std.specs.List.Sorted.{IsStrictlySortedBy};
 ghost use Rattle.am_labels.specs.Words.{Space, IsChoiceOf, label_set_of, quoted_text};
 ghost use Rattle.am_files.specs.Words.{Configuration, RouteTree, route_at, receiver_of, path_text};
+ghost use Rattle.am_files.specs.Words.{paths_of};
 ghost use Rattle.am_files.specs.Path.{leads_through};
 ghost use Rattle.am_eval.specs.Conditions.{paths_to};
 ghost use Rattle.am_eval.specs.Tree.{Part};
@@ -17,7 +18,7 @@ ghost use Rattle.am_coverage.specs.declared.coverage.RouteCoverage.TheVariants a
 ghost use Rattle.am_coverage.specs.declared.coverage.ReceiverCoverage.TheVariants as receiver_is;
 ghost use Rattle.am_coverage.specs.Coverage.{first_end, first_entry, first_receipt};
 ghost use Rattle.am_coverage.specs.FirstEnds.{earliest};
-ghost use Rattle.am_coverage.specs.Words.{IsDead, IsNeverEntered, IsUnmatched, paths_of};
+ghost use Rattle.am_coverage.specs.Words.{IsDead, IsNeverEntered, IsUnmatched};
 ghost use Rattle.am_coverage.specs.Words.{route_coverage, receiver_coverage};
 ghost use Rattle.am_coverage.specs.Words.{IsRouteLine, IsReceiverLine};
 ghost use Rattle.am_coverage.specs.Words.{IsRoutesReport, IsReceiversReport};

@@ -5,8 +5,6 @@
 //! the first label set that does. [`write_routes`] and [`write_receivers`] write both as reports.
 #![tactic(auto)]
 
-// What there is to report of.
-mod route_paths;
 // What becomes of each route and each receiver.
 mod coverage;
 mod first_ends;

@@ -3,6 +3,7 @@
 ghost use Rattle.std.specs.Prelude.{◌≡◌, ℕ, List, Option, length, map, IfOk};
 ghost use Rattle.std.specs.List.{AllByRecursion, range_with_len};
 ghost use Rattle.am_labels.specs.Words.{sizes};
+ghost use Rattle.am_files.specs.Words.{config_view};
 ghost use Rattle.am_search.specs.Words.{comes_before};
 ghost use Rattle.am_coverage.specs.Coverage.{live_or_unmatched};
 ghost use Rattle.am_coverage.specs.FirstEnds.{earlier};
@@ -10,34 +11,30 @@ ghost use Rattle.am_coverage.specs.Words.{receiver_coverage, IsShownReceiver};
 
 use crate::coverage::ReceiverCoverage;
 use crate::first_ends::first_ends;
-use am_eval::World;
+use am_files::Config;
 use am_labels::{Choice, Space};
 use std::alloc::{AllocError, Global};
 
-/// What becomes of each receiver of the configuration of a world, in declared order. An `Err` only
-/// where memory was refused.
+/// What becomes of each receiver of a configuration, in declared order. An `Err` only where memory
+/// was refused.
 ///
 /// For each route there is one search, for the first label set that ends there. What goes to a
 /// receiver first is the earliest of those of its routes.
 pub fn receivers_covered(
     alloc: Global,
     space: &Space,
-    world: &World,
+    config: &Config,
 ) -> Result<Vec<ReceiverCoverage>, AllocError>
     ensures receivers { IfOk result (λ found. found.items
-        ≡ map (receiver_coverage space.now world.now.config)
-        (range_with_len 0 (length world.now.config.receivers))) }
+        ≡ map (receiver_coverage space.now (config_view config.now))
+        (range_with_len 0 (length (config_view config.now).receivers))) }
     ensures shown { IfOk result (λ found.
         AllByRecursion (IsShownReceiver (sizes space.now.labels)) found.items) }
 {
-    let ends = first_ends(alloc, space, world)?;
-    let config = world.config();
+    let ends = first_ends(alloc, space, config)?;
     let mut found = vec![in alloc; ReceiverCoverage::Unmatched; config.receivers()]?;
     for end in &ends {
-        if let Some(route) = config.at(&end.path) {
-            let receiver = route.receiver();
-            found[receiver] = with_route(found[receiver], end.choice);
-        }
+        found[end.receiver] = with_route(found[end.receiver], end.choice);
     }
     Ok(found)
 }

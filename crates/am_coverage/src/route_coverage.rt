@@ -3,15 +3,15 @@
 ghost use Rattle.std.specs.Prelude.{◌≡◌, map, IfOk, if◌then◌else◌};
 ghost use Rattle.std.specs.List.{AllByRecursion};
 ghost use Rattle.am_labels.specs.Words.{sizes};
+ghost use Rattle.am_files.specs.Words.{config_view, paths_of};
 ghost use Rattle.am_coverage.specs.declared.coverage.RouteCoverage.TheVariants as route_is;
 ghost use Rattle.am_coverage.specs.Coverage.{live_or};
 ghost use Rattle.am_coverage.specs.CoverageView.{is_live_below};
-ghost use Rattle.am_coverage.specs.Words.{route_coverage, paths_of, found_view, IsShownRoute};
+ghost use Rattle.am_coverage.specs.Words.{route_coverage, found_view, IsShownRoute};
 
 use crate::coverage::RouteCoverage;
 use crate::first_ends::{FirstEnd, first_ends};
-use am_eval::World;
-use am_files::Path;
+use am_files::{Config, Path};
 use am_labels::Space;
 use std::alloc::{AllocError, Global};
 
@@ -24,23 +24,23 @@ pub struct RouteFound {
     pub coverage: RouteCoverage,
 }
 
-/// What becomes of each route of the configuration of a world, in preorder: each route before those
-/// below it, and these before its next sibling. An `Err` only where memory was refused.
+/// What becomes of each route of a configuration, in preorder: each route before those below it,
+/// and these before its next sibling. An `Err` only where memory was refused.
 ///
 /// For each route there is one search, for the first label set that ends there. Whether a dead
 /// route is entered follows from those of the routes below it.
 pub fn routes_covered(
     alloc: Global,
     space: &Space,
-    world: &World,
+    config: &Config,
 ) -> Result<Vec<RouteFound>, AllocError>
     ensures routes { IfOk result (λ found. map found_view found.items
-        ≡ map (λ path. (path, route_coverage space.now world.now.config path))
-        (paths_of world.now.config)) }
+        ≡ map (λ path. (path, route_coverage space.now (config_view config.now) path))
+        (paths_of (config_view config.now))) }
     ensures shown { IfOk result (λ found. AllByRecursion
         (λ route. IsShownRoute (sizes space.now.labels) route.coverage) found.items) }
 {
-    let ends = first_ends(alloc, space, world)?;
+    let ends = first_ends(alloc, space, config)?;
     let mut found = Vec::with_capacity(alloc, ends.len())?;
     for (i, end) in ends.iter().enumerate() {
         found.push(RouteFound {
