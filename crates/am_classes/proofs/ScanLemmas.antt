@@ -1,5 +1,5 @@
 -- Many patterns, with one more.
-use Rattle.std.proofs.Common.{◌≡◌, ℕ, ◌+◌, ◌<◌, Bool, true, IsTrue, Some, slice_get, List, [], ◌∷◌, ◌++◌, length, take, get_or, refl, sym, ap, ◌∙◌, inl, inr, subst, arith, length-append}
+use Rattle.std.proofs.Common.{◌≡◌, ℕ, ◌+◌, ◌<◌, Bool, true, IsTrue, Some, slice_get, List, [], ◌∷◌, ◌++◌, length, take, get_or, sym, ap, ◌∙◌, inl, inr, subst, arith, length-append}
 use Rattle.std.proofs.lemmas.Option.{slice_get_within}
 use Rattle.am_labels.specs.Pattern.{finds}
 use Rattle.am_scan.specs.Words.{Follows, pattern_of}
@@ -7,13 +7,6 @@ use Rattle.am_scan.specs.declared.pattern_scan.PatternScan.{PatternScan}
 use Rattle.am_scan.specs.declared.pattern_state.PatternState.{PatternState}
 use Rattle.am_classes.specs.Scans.{FollowEach, MakeSame, AreRepeated, found_by}
 use Rattle.am_classes.proofs.Places.{get_pushed, take_front, map_front}
-
--- No states follow, where there is no pattern.
-pub follow_none : (text : List ℕ) → FollowEach [] [] text
-follow_none text = record {
-  count = refl;
-  each = λ k scan state at also. absurd cc;
-}
 
 -- One state more follows, under one pattern more.
 pub follow_pushed : (scans : List PatternScan) (states : List PatternState) (text : List ℕ)

@@ -1,10 +1,10 @@
 -- Texts that some matchers cannot tell apart: an equivalence; and of fewer matchers.
 use Rattle.std.proofs.Common.{◌≡◌, ℕ, List, [], ◌∷◌, refl, sym, ◌∙◌, inl, inr}
 use Rattle.std.specs.Cmp.Lexicographic.{bytes_decides}
-use Rattle.am_universe.proofs.ListLemmas.{IsIn, AllByRecursion-each, AllByRecursion-at}
+use Rattle.am_universe.proofs.ListLemmas.{IsIn}
 use Rattle.am_universe.proofs.ListLemmas.{IsIn-from_Contains}
 use Rattle.am_universe.specs.Text.{same_text}
-use Rattle.am_labels.specs.Matcher.{Condition, holds}
+use Rattle.am_labels.specs.Matcher.{Condition}
 use Rattle.am_labels.proofs.Passing.{passes_from_kept, kept_from_passes}
 use Rattle.am_classes.specs.Alike.{AreAlike}
 use Rattle.am_complete.specs.Complete.{about, AreAmong}
@@ -22,16 +22,6 @@ pub alike_joined : (ms : List Condition) (x y z : List ℕ) → AreAlike ms x y 
 alike_joined [] x y z g h = tt
 alike_joined (m ∷ ms) x y z g h = (g.0 ∙ h.0, alike_joined ms x y z g.1 h.1)
 
--- what is alike to matchers is alike to some of them
-abbrev AreAlikeTo : List ℕ → List ℕ → Condition → Type 0
-AreAlikeTo x y m = holds m.op m.value x ≡ holds m.op m.value y
-
-pub alike_to_some : (ns ms : List Condition) (x y : List ℕ)
-    → ((m : Condition) → IsIn ns m → IsIn ms m) → AreAlike ms x y → AreAlike ns x y
-alike_to_some ns ms x y among h =
-    AllByRecursion-each (AreAlikeTo x y) ns
-    (λ m i. AllByRecursion-at (AreAlikeTo x y) ms m h (among m i))
-
 -- a matcher on a label is one of the matchers, and has the label's name
 pub is_about : (name : List ℕ) (ms : List Condition) (m : Condition) → IsIn ms m
     → m.name ≡ name → IsIn (about name ms) m
@@ -48,9 +38,3 @@ pub is_among : (ns ms : List Condition) (m : Condition) → AreAmong ns ms → I
 is_among [] ms m h i = absurd i
 is_among (n ∷ ns) ms m h (inl e) = rw (← e) (IsIn-from_Contains ms n h.0)
 is_among (n ∷ ns) ms m h (inr i) = is_among ns ms m h.1 i
-
--- and some of the matchers on a label are among all of them
-pub about_among : (name : List ℕ) (ns ms : List Condition) → AreAmong ns ms
-    → (m : Condition) → IsIn (about name ns) m → IsIn (about name ms) m
-about_among name ns ms among m i =
-    let r = about_is name ns m i in is_about name ms m (is_among ns ms m among r.0) r.1

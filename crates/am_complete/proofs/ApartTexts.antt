@@ -18,7 +18,7 @@ use Rattle.am_universe.proofs.ListLemmas.{IsIn, IsIn-from_Contains}
 use Rattle.am_universe.proofs.ListLemmas.{AllByRecursion-at}
 use Rattle.am_labels.specs.Matcher.{Condition}
 use Rattle.am_labels.proofs.Passing.{any_in, in_any}
-use Rattle.am_eval.proofs.Members.{in_at}
+use Rattle.am_universe.proofs.Members.{in_at}
 use Rattle.am_classes.specs.Alike.{AreAlike, AreApart, HasAlikeIn}
 use Rattle.am_complete.proofs.Alike.{alike_itself, alike_turned, alike_joined}
 use Rattle.am_complete.proofs.ChosenTexts.{alike, alike_is, is_alike, turned, distinct_from_apart}

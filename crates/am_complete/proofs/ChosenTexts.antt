@@ -14,7 +14,7 @@ use Rattle.std.proofs.lemmas.Map.Keys.{apart_from_distinct}
 use Rattle.std.proofs.lemmas.Option.{slice_get-get_or, get_or_from_slice_get, slice_get_within}
 use Rattle.am_universe.proofs.ListLemmas.{IsIn, IsIn-from_Contains, Contains-from_IsIn}
 use Rattle.am_labels.specs.Matcher.{Condition, holds}
-use Rattle.am_eval.proofs.Members.{in_at}
+use Rattle.am_universe.proofs.Members.{in_at}
 use Rattle.am_classes.specs.Alike.{AreAlike, AreApart, HasAlikeIn}
 use Rattle.am_complete.specs.Covering.{StandForAll}
 use Rattle.am_complete.specs.Truths.{AreAlikeEach, IsAlikeAt}

@@ -1,5 +1,5 @@
 -- Why a label is not declared: for a new label name and distinct texts there is no room.
-use Rattle.std.proofs.Common.{◌≡◌, ◌≢◌, ◌<◌, ◌≤◌, ℕ, List, [], ◌∷◌, ◌++◌, length, map}
+use Rattle.std.proofs.Common.{◌≡◌, ◌≢◌, ◌<◌, ◌≤◌, ℕ, List, [], ◌∷◌, length, map}
 use Rattle.std.proofs.Common.{false, refl, sym, ap, ◌∙◌, subst, inl, inr, arith, Some, None}
 use Rattle.std.proofs.Common.{Contains, length-append}
 use Rattle.std.specs.Prelude.{IsTrue, unwrap_or, Option}
@@ -17,7 +17,6 @@ use Rattle.am_universe.proofs.DistinctLists.{all_push, distinct_push}
 use Rattle.am_universe.proofs.LabelFaultLemmas.{universe_was_added}
 use Rattle.am_universe.proofs.ListLemmas.{IsIn, Contains-from_IsIn}
 use Rattle.am_labels.proofs.Passing.{any_in}
-use Rattle.am_complete.specs.Covering.{IsWithLabel}
 use Rattle.am_complete.specs.Room.{IsFullFor}
 
 -- ---- Values with distinct texts are distinct.
@@ -102,20 +101,3 @@ full_otherwise u name values texts fault h are texts_of first no_memory named fr
             absurd (no_memory (ap (λ (f : LabelFault). f.kind) is))
       ]
     ]
-
--- a label that was declared has no more texts than a label may have
-pub few_declared : (u v : List Label) (name : List ℕ) (texts : List (List ℕ)) → IsUniverse v
-    → IsWithLabel u v name texts → length texts ≤ MAX_VALUES
-few_declared u v name texts h more =
-    let l = more.0 in
-    let label = last_label u l (subst IsUniverse more.1 h) in
-    let long : length texts ≡ length l.values =
-    ap (λ (xs : List (List ℕ)). length xs) (sym more.3) ∙ length-map l.values (λ v. unwrap_or v []) in
-    omega (arith, long, label.at_most)
-  where
-    last_of : (u : List Label) (l : Label) → AllByRecursion IsLabel (u ++ l ∷ []) → IsLabel l
-    last_of [] l h = h.0
-    last_of (k ∷ u) l h = last_of u l h.1
-
-    last_label : (u : List Label) (l : Label) → IsUniverse (u ++ l ∷ []) → IsLabel l
-    last_label u l h = last_of u l h.labels

@@ -17,7 +17,7 @@ use Rattle.std.proofs.lemmas.Bool.{or_parts}
 use Rattle.std.proofs.lemmas.Bool.Decides.{nat_tests}
 use Rattle.am_universe.specs.Text.{same_text}
 use Rattle.am_universe.specs.LabelSet.{LabelMap}
-use Rattle.am_universe.specs.Universe.{Label, Values, IsLabel, IsUniverse, names, is_label_name}
+use Rattle.am_universe.specs.Universe.{Label, Values, IsUniverse, names, is_label_name}
 use Rattle.am_universe.specs.Universe.{label_position, values_at}
 use Rattle.am_universe.proofs.DistinctLists.{all_push}
 use Rattle.am_universe.proofs.ListLemmas.{IsIn, IsIn-left, IsIn-right, IsIn-map, IsIn-unmap}
@@ -27,20 +27,20 @@ use Rattle.am_universe.proofs.UniverseLemmas.{no_label}
 use Rattle.am_labels.specs.Matcher.{Condition}
 use Rattle.am_labels.specs.Space.{Space}
 use Rattle.am_labels.proofs.Passing.{any_in, in_any, kept_from_passes}
-use Rattle.am_eval.proofs.Members.{in_at}
+use Rattle.am_universe.proofs.Members.{in_at}
 use Rattle.am_classes.specs.Alike.{HasAlikeIn, HasPattern}
 use Rattle.am_complete.specs.declared.label_state.Completeness.{Completeness}
 use Rattle.am_complete.specs.declared.label_state.Completeness.TheVariants as state_is
 use Rattle.am_complete.specs.declared.label_state.LabelState.{LabelState}
 use Rattle.am_complete.specs.Complete.{about, label_texts, texts_of_label, asks_only_of, AreAmong}
 use Rattle.am_complete.specs.Complete.{IsSpaceComplete, IsSpaceCompleteAt}
-use Rattle.am_complete.specs.Asked.{impossible_conditions}
+use Rattle.am_complete.specs.Complete.{impossible_conditions}
 use Rattle.am_complete.specs.AskedLabel.{AskedLabel, asked_names, IsAskedOf}
 use Rattle.am_complete.specs.LabelState.{CoverPossible, HasClasses, IsSoAt, IsSoIfNamed, is_settled}
 use Rattle.am_complete.specs.LabelState.{is_declared, reported_names}
 use Rattle.am_complete.specs.FoundState.{HasThoseOfLists, IsAskedFor, IsFoundAt, IsSoOfAsked}
 use Rattle.am_complete.specs.FoundState.{IsSoOfName, IsWithState, is_unseen}
-use Rattle.am_complete.specs.Placed.{begins}
+use Rattle.am_complete.specs.FoundState.{begins}
 use Rattle.am_complete.proofs.Alike.{about_is, is_about, is_among, alike_joined}
 use Rattle.am_complete.proofs.AmongMatchers.{first_among, last_among, among_through}
 use Rattle.am_complete.proofs.CompleteUniverses.{space_complete_without_matchers}
@@ -201,14 +201,6 @@ not_asked asked ms name asks none some =
     (AllByRecursion-at (λ x. x.name ≢ [] → Contains (asked_names asked) x.name) ms m asks.every
     i (λ empty. some (sym e ∙ empty)))))
 
--- the name of a declared label is not empty
-pub declared_name : (u : List Label) (i : ℕ) (name : List ℕ) → IsUniverse u
-    → slice_get (names u) i ≡ Some name → name ≢ []
-declared_name u i name universe at empty =
-    let found = IsIn-unmap (λ l. l.name) u name (in_at (names u) i name at) in
-    let named = (AllByRecursion-at IsLabel u found.0 universe.labels found.1).name in
-    no_name found.0.name named (found.2 ∙ empty)
-
 -- a name is declared where a label has it, and else it is not
 pub declared_by : (u : List Label) (i : ℕ) (name : List ℕ) → slice_get (names u) i ≡ Some name
     → is_declared u name ≡ true
@@ -271,15 +263,6 @@ none_more test (y ∷ xs) (suc i) x at before fails =
 pub empty_begins : (text : List ℕ) → not (length text == 0) ≡ begins text
 empty_begins [] = refl
 empty_begins (c ∷ cs) = grind (arith, nat_tests)
-
--- texts that are alike, by other names
-pub each_alike : (ms ns : List Condition) (have texts wanted others : List (List ℕ)) → ms ≡ ns
-    → have ≡ texts → wanted ≡ others → AllByRecursion (HasAlikeIn ms have) wanted
-    → AllByRecursion (HasAlikeIn ns texts) others
-each_alike ms ns have texts wanted others e f g h =
-    subst (λ (xs : List (List ℕ)). AllByRecursion (HasAlikeIn ns texts) xs) g
-    (subst (λ (xs : List (List ℕ)). AllByRecursion (HasAlikeIn ns xs) wanted) f
-    (subst (λ (ks : List Condition). AllByRecursion (HasAlikeIn ks have) wanted) e h))
 
 -- what is so of each state, for some matchers; and which are unseen
 pub each_for : (s : Space) (asked : List AskedLabel) (alerts : Option (List LabelMap))

@@ -1,28 +1,15 @@
 -- The texts that a label has in the label sets of a universe.
-use Rattle.std.proofs.Common.{◌≡◌, ℕ, suc, ◌<◌, List, [], ◌∷◌, length, map, Option, Some, None}
-use Rattle.std.proofs.Common.{Bool, true, false, refl, sym, ap, ◌∙◌, subst, inl, inr, arith}
-use Rattle.std.specs.Prelude.{option_and_then, unwrap_or, slice_get, IsTrue}
+use Rattle.std.proofs.Common.{◌≡◌, ℕ, List, [], ◌∷◌, map, Option, Some, None, Bool, true, false}
+use Rattle.std.proofs.Common.{refl, sym, ap, ◌∙◌, subst, inl, inr}
+use Rattle.std.specs.Prelude.{unwrap_or, IsTrue}
 use Rattle.std.specs.List.{find, IsDistinct}
 use Rattle.std.specs.Cmp.Lexicographic.{bytes_decides}
 use Rattle.std.proofs.lemmas.Bool.{cases_Bool}
 use Rattle.std.proofs.lemmas.Map.Keys.{IsDistinct-head, IsDistinct-tail}
 use Rattle.am_universe.specs.Text.{same_text}
-use Rattle.am_universe.specs.Universe.{Label, Values, IsLabel, IsUniverse, names, is_label_name}
-use Rattle.am_universe.specs.LabelSet.{value_at}
+use Rattle.am_universe.specs.Universe.{Label, IsLabel, IsUniverse, names, is_label_name}
 use Rattle.am_universe.proofs.ListLemmas.{IsIn, IsIn-map, AllByRecursion-at}
 use Rattle.am_complete.specs.Complete.{label_texts, texts_of_label}
-
--- the text that a label has at a position, absence being the empty text
-abbrev pub text_at : Label → ℕ → List ℕ
-text_at l p = unwrap_or (value_at l p) []
-
--- each text of a declared label stands at a position
-pub position_of : (vs : Values) (x : List ℕ) → IsIn (map (λ v. unwrap_or v []) vs) x
-    → (p : ℕ) × (p < length vs) × (unwrap_or (option_and_then (λ v. v) (slice_get vs p)) [] ≡ x)
-position_of [] x h = absurd h
-position_of (v ∷ vs) x (inl e) = (0, omega arith, e)
-position_of (v ∷ vs) x (inr h) =
-    let r = position_of vs x h in (suc r.0, omega (arith, r.1), r.2)
 
 -- ---- The label of a name.
 
@@ -38,23 +25,6 @@ found_in name (m ∷ u) l e = elim (cases_Bool (has_name name m)) [
       let first : m ≡ l = cc in
       (inl first, ap (λ k. k.name) (sym first) ∙ (bytes_decides m.name name).0 same)
   | inr apart ↦ let r = found_in name u l (rw apart at e) in (inr r.0, r.1)
-]
-
-not_first : (name : List ℕ) (m l : Label) → has_name name m ≡ false → m ≡ l → l.name ≡ name → ⊥
-not_first name m l apart first same =
-    let named : has_name name m ≡ true =
-    (bytes_decides m.name name).1 (ap (λ k. k.name) first ∙ same) in
-    let both : true ≡ false = sym named ∙ apart in absurd (cc)
-
-pub none_named : (name : List ℕ) (u : List Label) (l : Label) → find (has_name name) u ≡ None
-    → IsIn u l → l.name ≡ name → ⊥
-none_named name [] l e h same = h
-none_named name (m ∷ u) l e h same = elim (cases_Bool (has_name name m)) [
-  | inl named ↦ let found : Some m ≡ None = rw named at e in absurd (cc)
-  | inr apart ↦ elim h [
-    | inl first ↦ not_first name m l apart first same
-    | inr later ↦ none_named name u l (rw apart at e) later same
-  ]
 ]
 
 -- in a universe it is the one with that name

@@ -19,7 +19,7 @@ use Rattle.am_universe.proofs.DistinctLists.{all_push, distinct_push, distinct_p
 use Rattle.am_labels.specs.Matcher.{Condition}
 use Rattle.am_labels.proofs.Passing.{in_any}
 use Rattle.am_classes.specs.Alike.{AreAlike, Covers, AreApart}
-use Rattle.am_eval.proofs.Members.{in_at, at_in}
+use Rattle.am_universe.proofs.Members.{in_at, at_in}
 use Rattle.am_complete.specs.Complete.{about, label_texts, texts_of_label, IsComplete, IsCompleteAt}
 use Rattle.am_complete.specs.AskedLabel.{AskedLabel, asked_names, IsAskedOf}
 use Rattle.am_complete.specs.Covering.{StandForAll, StandsForEachBut, IsWithAtMost, IsWithLabel}

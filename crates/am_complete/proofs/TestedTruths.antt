@@ -14,7 +14,7 @@ use Rattle.am_universe.proofs.DistinctLists.{all_push}
 use Rattle.am_universe.proofs.ListLemmas.{AllByRecursion-at}
 use Rattle.am_labels.specs.Matcher.{Condition, holds}
 use Rattle.am_labels.specs.Row.{TruthRow, truth_on_value, truths_of, truth_at, row_of}
-use Rattle.am_eval.proofs.Members.{in_at}
+use Rattle.am_universe.proofs.Members.{in_at}
 use Rattle.am_classes.specs.Alike.{AreAlike}
 use Rattle.am_complete.specs.Covering.{IsWithLabel}
 use Rattle.am_complete.specs.Truths.{TestedTexts, truth_row}

@@ -1,15 +1,13 @@
 -- Complete universes: those that stand for every alert. Whatever labels an alert has, some choice
 -- of a universe that is complete for some matchers meets exactly the same of them.
-use Rattle.std.specs.Prelude.{◌≡◌, ◌≢◌, ℕ, List, [], ◌∷◌, map, Option, Some, None, unwrap_or}
-use Rattle.std.specs.Prelude.{Contains, IfSome, IsTrue, Bool, not, ◌&&◌}
-use Rattle.std.specs.List.{filter, find, AllByRecursion, list_all, list_any}
-use Rattle.std.specs.FinMap.{get}
+use Rattle.std.specs.Prelude.{◌≢◌, ℕ, List, [], ◌∷◌, map, Option, Some, None, unwrap_or}
+use Rattle.std.specs.Prelude.{Contains, IsTrue, Bool, not, ◌&&◌}
+use Rattle.std.specs.List.{filter, find, flat_map, AllByRecursion, list_all, list_any}
 use Rattle.std.specs.Str.{IsUtf8}
 use Rattle.am_universe.specs.Text.{same_text}
 use Rattle.am_universe.specs.Universe.{Label}
-use Rattle.am_universe.specs.LabelSet.{LabelMap}
-use Rattle.am_labels.specs.Matcher.{Condition, holds, condition_holds}
-use Rattle.am_labels.specs.Space.{Space, is_possible}
+use Rattle.am_labels.specs.Matcher.{Condition, holds}
+use Rattle.am_labels.specs.Space.{Space}
 use Rattle.am_classes.specs.Alike.{HasAlikeIn}
 
 -- The matchers on one label, in order.
@@ -91,28 +89,6 @@ IsSpaceComplete s ms = (name : List ℕ) → name ≢ [] → IsSpaceCompleteAt s
 abbrev pub AreAmong : List Condition → List Condition → Type 0
 AreAmong ns ms = AllByRecursion (Contains ms) ns
 
--- A label set that an alert may have: no name is the empty text, and the values are UTF-8.
--- Source: Prometheus data model, "Metric names and labels", which since version 3 allows any UTF-8
--- in names. Own choices: an alert may have no label, and names need not be UTF-8 here.
--- Example: `{team="db"}` is one, and so is a label set with the name `job-name`.
-abbrev pub IsAlert : LabelMap → Type 0
-IsAlert s = (name text : List ℕ) → get s name ≡ Some text → (name ≢ []) × IsUtf8 text
-
--- An alert of a space: no list that is impossible matches it. Its labels need not be declared.
--- Source: own choice.
--- Example: where `env=prod,team=""` is impossible, `{env="dev"}` is one, and
--- `{env="prod"}` is none.
-abbrev pub IsAlertOf : Space → LabelMap → Type 0
-IsAlertOf s alert = IsAlert alert × IsTrue (is_possible s.impossible alert)
-
--- The texts that the labels of a universe may have are UTF-8.
--- Source: RFC 8259, section 8.1: so is JSON text, which says them.
--- Example: in a universe where each label is always absent, they are.
-abbrev pub HasUtf8Texts : List Label → Type 0
-HasUtf8Texts u = AllByRecursion (λ l. AllByRecursion (λ v. IfSome v IsUtf8) l.values) u
-
--- Two label sets meet the same of some matchers: each matcher has the same truth on both.
--- Source: own choice.
--- Example: `{team="db"}` and `{team="web"}` meet the same of `team!="ops"`.
-abbrev pub MeetsTheSame : List Condition → LabelMap → LabelMap → Type 0
-MeetsTheSame ms s t = AllByRecursion (λ m. condition_holds s m ≡ condition_holds t m) ms
+-- The matchers of impossible lists.
+abbrev pub impossible_conditions : List (List Condition) → List Condition
+impossible_conditions lists = flat_map (λ ms. ms) lists

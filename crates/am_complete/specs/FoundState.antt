@@ -15,7 +15,6 @@ use Rattle.am_complete.specs.declared.label_state.LabelState.{LabelState}
 use Rattle.am_complete.specs.Complete.{label_texts, asks_only_of, may_have, AreAmong}
 use Rattle.am_complete.specs.AskedLabel.{AskedLabel, IsAskedOf}
 use Rattle.am_complete.specs.LabelState.{CoverPossible, HasClasses, IsSoIfNamed, is_declared}
-use Rattle.am_complete.specs.Placed.{begins}
 
 -- What is found at a label with some texts is so, for the matchers on it, where these lists are
 -- impossible.
@@ -48,10 +47,15 @@ pub record IsAskedFor (impossible : List (List Condition)) (l : AskedLabel) : Ty
   pub on : AllByRecursion (λ m. m.name ≡ l.name) l.matchers
   pub lists : HasThoseOfLists impossible l
 
--- An alert has a label; and no alert of an export has it, where there is an export.
+-- A text is not empty; an alert has a label; and no alert of an export has it, where there is an
+-- export.
 -- Source: own choice.
 -- Example: where two alerts have the label `team` alone, `tema` is unseen; without alerts nothing
 -- is.
+abbrev pub begins : List ℕ → Bool
+begins [] = false
+begins (c ∷ cs) = true
+
 abbrev pub has_label : List ℕ → LabelMap → Bool
 has_label name a = begins (value_of a name)
 

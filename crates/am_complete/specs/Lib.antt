@@ -1,8 +1,5 @@
 pub mod Complete
-pub mod CompleteExample
-pub mod Asked
 pub mod AskedLabel
-pub mod Placed
 pub mod Gathering
 pub mod Covering
 pub mod Room

@@ -12,13 +12,13 @@ use std::collections::BTreeMap;
 /// The labels that matchers ask of so far, in the order in which they were first asked of, and the
 /// position of each by its name.
 #[derive(Drop)]
-pub(crate) struct Gathering<'m> {
-    pub(crate) labels: Vec<AskedLabel<'m>>,
-    pub(crate) positions: BTreeMap<&'m str, usize>,
+pub struct Gathering<'m> {
+    pub labels: Vec<AskedLabel<'m>>,
+    pub positions: BTreeMap<&'m str, usize>,
 }
 
 /// No labels yet. It keeps the allocator.
-pub(crate) fn no_labels<'m>(alloc: Global) -> Gathering<'m>
+pub fn no_labels<'m>(alloc: Global) -> Gathering<'m>
     ensures indexed { IsIndexed result.positions result.labels.items }
     ensures labels { result.labels.items ≡ [] }
 {
@@ -29,7 +29,7 @@ pub(crate) fn no_labels<'m>(alloc: Global) -> Gathering<'m>
 }
 
 /// Adds a matcher to those of its label.
-pub(crate) fn add_matcher<'m>(
+pub fn add_matcher<'m>(
     alloc: Global,
     gathering: &mut Gathering<'m>,
     origin: &Origin,

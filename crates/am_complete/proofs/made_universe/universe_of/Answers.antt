@@ -2,7 +2,7 @@ use Rattle.std.proofs.Common.{◌≡◌, ◌<◌, List, Result, Ok, Err, length,
 use Rattle.std.specs.Prelude.{IfErr, IsErrAnd}
 use Rattle.am_universe.proofs.ListLemmas.{AllByRecursion-each, Contains-from_IsIn}
 use Rattle.std.proofs.lemmas.List.{take_all}
-use Rattle.am_eval.proofs.Members.{in_at}
+use Rattle.am_universe.proofs.Members.{in_at}
 use Rattle.am_universe.specs.declared.kind.Kind.TheVariants as kinds
 use Rattle.am_complete.specs.declared.made_universe.MakingFault.{MakingFault}
 use Rattle.am_complete.specs.AskedLabel.{AskedLabel}

@@ -1,6 +1,6 @@
 use Rattle.std.proofs.Common.{◌≡◌, true, false, sym, ap, ◌∙◌}
 use Rattle.am_universe.specs.Text.{same_text}
-use Rattle.am_eval.proofs.Members.{in_at}
+use Rattle.am_universe.proofs.Members.{in_at}
 use Rattle.am_complete.proofs.PossibleTexts.{all_more, one_fails, equal, unequal}
 use Rattle.am_complete.proofs.possible_texts.asks_only_of.Goals as goal
 

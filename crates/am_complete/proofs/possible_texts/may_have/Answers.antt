@@ -4,7 +4,7 @@ use Rattle.std.specs.FinMap.{empty}
 use Rattle.std.proofs.lemmas.Option.{slice_get_read}
 use Rattle.am_universe.specs.LabelSet.{with_value}
 use Rattle.am_labels.proofs.Passing.{in_any}
-use Rattle.am_eval.proofs.Members.{in_at}
+use Rattle.am_universe.proofs.Members.{in_at}
 use Rattle.am_complete.specs.Complete.{asks_only_of, matches_text}
 use Rattle.am_complete.proofs.CompleteUniverses.{takes_away}
 use Rattle.am_complete.proofs.PossibleTexts.{taken_by}

@@ -2,7 +2,7 @@ use Rattle.std.proofs.Common.{◌≡◌, ◌<◌, Contains, length, option_map, 
 use Rattle.std.proofs.lemmas.List.{length-map}
 use Rattle.std.proofs.lemmas.Option.{slice_get_within}
 use Rattle.std.proofs.lemmas.Result.{IfOk-weaker}
-use Rattle.am_eval.proofs.Members.{in_at}
+use Rattle.am_universe.proofs.Members.{in_at}
 use Rattle.am_complete.specs.AskedLabel.{asked_names}
 use Rattle.am_complete.specs.FoundState.{is_unseen}
 use Rattle.am_complete.proofs.GatheringLemmas.{named_at}

@@ -1,6 +1,6 @@
 use Rattle.std.proofs.Common.{sym, ◌∙◌}
 use Rattle.am_labels.proofs.Passing.{in_any}
-use Rattle.am_eval.proofs.Members.{in_at}
+use Rattle.am_universe.proofs.Members.{in_at}
 use Rattle.am_complete.specs.FoundState.{has_label}
 use Rattle.am_complete.proofs.LabelStates.{none_more}
 use Rattle.am_complete.proofs.states_of_labels.is_seen.Goals as goal

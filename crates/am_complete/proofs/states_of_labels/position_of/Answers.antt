@@ -5,7 +5,7 @@ use Rattle.std.proofs.lemmas.Bool.{cases_lt}
 use Rattle.std.proofs.lemmas.List.{length-map}
 use Rattle.std.proofs.lemmas.Option.{slice_get_within}
 use Rattle.am_universe.proofs.ListLemmas.{IsIn-from_Contains}
-use Rattle.am_eval.proofs.Members.{at_in}
+use Rattle.am_universe.proofs.Members.{at_in}
 use Rattle.am_complete.specs.AskedLabel.{asked_names}
 use Rattle.am_complete.proofs.LabelStates.{stands_at, named_there}
 use Rattle.am_complete.proofs.states_of_labels.position_of.Goals as goal

@@ -1,7 +1,7 @@
 use Rattle.std.proofs.Common.{◌<◌, [], length, get_or, arith}
 use Rattle.std.proofs.lemmas.Option.{slice_get-get_or, slice_get_within}
 use Rattle.am_universe.proofs.ListLemmas.{IsIn-from_Contains}
-use Rattle.am_eval.proofs.Members.{at_in}
+use Rattle.am_universe.proofs.Members.{at_in}
 use Rattle.am_complete.proofs.truths.Truths.first_alike.Goals as goal
 
 pub returns-then-are_alike-clause-some : goal.returns-then-are_alike-clause-some

@@ -1,5 +1,0 @@
-use Rattle.am_complete.proofs.CompleteUniverses.{space_choice}
-use Rattle.am_complete.proofs.laws.a_complete_space_stands_for_every_alert_of_it.Goals as goal
-
-pub returns : goal.returns
-returns c = record { stands = space_choice }

@@ -1,5 +1,0 @@
-use Rattle.am_complete.proofs.CompleteExample.{complete, incomplete, possible}
-use Rattle.am_complete.proofs.laws.an_example_of_completeness.Goals as goal
-
-pub returns : goal.returns
-returns c = record { complete = complete; incomplete = incomplete; possible = possible }
