@@ -1,0 +1,4 @@
+pub mod PlacedSteps
+pub mod PlacedConditions
+pub mod AskedLemmas
+pub mod EqualMatchers

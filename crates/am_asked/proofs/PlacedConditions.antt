@@ -1,0 +1,189 @@
+-- The matchers that stand somewhere, without their places, are those that decide.
+use Rattle.std.proofs.Common.{◌≡◌, ℕ, ◌+◌, Bool, cond, List, [], ◌∷◌, ◌++◌, map, refl}
+use Rattle.std.proofs.Common.{sym, ap, ◌∙◌, inl, inr}
+use Rattle.std.specs.List.{flat_map, filter, enumerate_from}
+use Rattle.std.proofs.lemmas.Bool.{cases_Bool}
+use Rattle.std.proofs.lemmas.Grind.{flat_map-append}
+use Rattle.std.proofs.lemmas.List.{map-append}
+use Rattle.std.proofs.lemmas.List.Elements.{filter-append}
+use Rattle.am_universe.specs.LabelSet.{LabelMap}
+use Rattle.am_labels.specs.Matcher.{Condition, all_hold}
+use Rattle.am_records.specs.SilencesFile.{Silence}
+use Rattle.am_files.specs.ConfigFile.{RouteTree, Routes, route, no_routes, next_route, Rule}
+use Rattle.am_files.specs.ConfigFile.{Configuration}
+use Rattle.am_files.specs.RoutePaths.{routes_at, routes_from}
+use Rattle.am_eval.specs.World.{World}
+use Rattle.am_complete.specs.declared.origin.Origin.{Origin}
+use Rattle.am_complete.specs.declared.origin.Origin.TheVariants as origin_is
+use Rattle.am_asked.specs.Asked.{route_conditions, routes_conditions, rule_conditions}
+use Rattle.am_asked.specs.Asked.{equal_to_alert, equal_conditions, silence_conditions}
+use Rattle.am_complete.specs.Complete.{impossible_conditions}
+use Rattle.am_asked.specs.Asked.{world_conditions}
+use Rattle.am_asked.specs.Placed.{placed_at, placed_by_route, placed_in_routes, placed_in_rule}
+use Rattle.am_asked.specs.Placed.{placed_in_rules, placed_by_alert, placed_in_equal, is_named}
+use Rattle.am_asked.specs.Placed.{placed_in_silence, placed_in_silences, placed_in_list}
+use Rattle.am_asked.specs.Placed.{placed_in_lists, placed_in_world}
+
+-- matchers without their places
+abbrev pub conditions_of : List (Origin × Condition) → List Condition
+conditions_of placed = map (λ p. p.1) placed
+
+at_one_place : (origin : Origin) (ms : List Condition) → conditions_of (placed_at origin ms) ≡ ms
+at_one_place origin [] = refl
+at_one_place origin (m ∷ ms) = ap (λ rest. m ∷ rest) (at_one_place origin ms)
+
+mutual
+  of_route : (path : List ℕ) (t : RouteTree)
+      → conditions_of (flat_map placed_by_route (routes_at path t)) ≡ route_conditions t
+  of_route path (route settings children) =
+      map-append (λ p. p.1) (placed_at (origin_is.Route path) settings.matchers)
+      (flat_map placed_by_route (routes_from path 0 children))
+      ∙ (λ i. at_one_place (origin_is.Route path) settings.matchers i
+      ++ of_routes path 0 children i)
+
+  of_routes : (path : List ℕ) (i : ℕ) (ts : Routes)
+      → conditions_of (flat_map placed_by_route (routes_from path i ts)) ≡ routes_conditions ts
+  of_routes path i no_routes = refl
+  of_routes path i (next_route t ts) =
+      let first = routes_at (path ++ i ∷ []) t in
+      let others = routes_from path (i + 1) ts in
+      ap conditions_of (flat_map-append placed_by_route first others)
+      ∙ map-append (λ p. p.1) (flat_map placed_by_route first) (flat_map placed_by_route others)
+      ∙ (λ j. of_route (path ++ i ∷ []) t j ++ of_routes path (i + 1) ts j)
+
+-- those of some things, where each has matchers
+of_things : {X : Type 0} (f : ℕ × X → List (Origin × Condition)) (g : X → List Condition)
+    → ((p : ℕ × X) → conditions_of (f p) ≡ g p.1) → (i : ℕ) (xs : List X)
+    → conditions_of (flat_map f (enumerate_from i xs)) ≡ flat_map g xs
+of_things f g each i [] = refl
+of_things f g each i (x ∷ xs) =
+    map-append (λ p. p.1) (f (i, x)) (flat_map f (enumerate_from (i + 1) xs))
+    ∙ (λ j. each (i, x) j ++ of_things f g each (i + 1) xs j)
+
+of_rules : (rules : List Rule) → conditions_of (placed_in_rules rules) ≡ rule_conditions rules
+of_rules rules =
+    of_things placed_in_rule (λ rule. rule.source ++ rule.target)
+    (λ p. map-append (λ q. q.1) (placed_at (origin_is.Rule p.0) p.1.source)
+    (placed_at (origin_is.Rule p.0) p.1.target)
+    ∙ (λ j. at_one_place (origin_is.Rule p.0) p.1.source j
+    ++ at_one_place (origin_is.Rule p.0) p.1.target j))
+    0 rules
+
+of_silences : (silences : List Silence)
+    → conditions_of (placed_in_silences silences) ≡ silence_conditions silences
+of_silences silences =
+    of_things placed_in_silence (λ silence. silence.matchers)
+    (λ p. at_one_place (origin_is.Silence p.0) p.1.matchers) 0 silences
+
+pub of_lists : (lists : List (List Condition))
+    → conditions_of (placed_in_lists lists) ≡ impossible_conditions lists
+of_lists lists =
+    of_things placed_in_list (λ ms. ms) (λ p. at_one_place (origin_is.Impossible p.0) p.1) 0 lists
+
+filter-flat_map : {X Y : Type 0} (test : Y → Bool) (f : X → List Y) (xs : List X)
+    → filter test (flat_map f xs) ≡ flat_map (λ x. filter test (f x)) xs
+filter-flat_map test f [] = refl
+filter-flat_map test f (x ∷ xs) =
+    filter-append test (f x) (flat_map f xs)
+    ∙ ap (λ rest. filter test (f x) ++ rest) (filter-flat_map test f xs)
+
+flat_map_agree : {X Y : Type 0} (f g : X → List Y) → ((x : X) → f x ≡ g x) → (xs : List X)
+    → flat_map f xs ≡ flat_map g xs
+flat_map_agree f g same [] = refl
+flat_map_agree f g same (x ∷ xs) = λ j. same x j ++ flat_map_agree f g same xs j
+
+by_alerts : (rule : ℕ × Rule) (alerts : List LabelMap)
+    → conditions_of (flat_map (placed_by_alert rule) alerts)
+    ≡ filter is_named (flat_map (equal_to_alert rule.1.equal) alerts)
+by_alerts rule [] = refl
+by_alerts rule (a ∷ alerts) =
+    let named = filter is_named (equal_to_alert rule.1.equal a) in
+    map-append (λ q. q.1) (placed_by_alert rule a) (flat_map (placed_by_alert rule) alerts)
+    ∙ (λ j. at_one_place (origin_is.Rule rule.0) named j ++ by_alerts rule alerts j)
+    ∙ sym (filter-append is_named (equal_to_alert rule.1.equal a)
+    (flat_map (equal_to_alert rule.1.equal) alerts))
+
+of_equal : (w : World)
+    → conditions_of (placed_in_equal w)
+    ≡ filter is_named (equal_conditions w.config.rules w.alerts)
+of_equal w =
+    let fires : Rule → List LabelMap =
+    λ rule. filter (λ a. all_hold a rule.source) w.alerts in
+    of_things (λ rule. flat_map (placed_by_alert rule) (fires rule.1))
+    (λ rule. filter is_named (flat_map (equal_to_alert rule.equal) (fires rule)))
+    (λ p. by_alerts p (fires p.1)) 0 w.config.rules
+    ∙ sym (filter-flat_map is_named
+    (λ rule. flat_map (equal_to_alert rule.equal) (fires rule)) w.config.rules)
+
+-- ---- With a name.
+
+filter_twice : {X : Type 0} (test : X → Bool) (xs : List X)
+    → filter test (filter test xs) ≡ filter test xs
+filter_twice test [] = refl
+filter_twice test (x ∷ xs) = elim (cases_Bool (test x)) [
+  | inl passes ↦
+      ap (λ b. filter test (cond b (x ∷ filter test xs) (filter test xs))) passes
+      ∙ ap (λ b. cond b (x ∷ filter test (filter test xs)) (filter test (filter test xs))) passes
+      ∙ ap (λ rest. x ∷ rest) (filter_twice test xs)
+      ∙ sym (ap (λ b. cond b (x ∷ filter test xs) (filter test xs)) passes)
+  | inr fails ↦
+      ap (λ b. filter test (cond b (x ∷ filter test xs) (filter test xs))) fails
+      ∙ filter_twice test xs
+      ∙ sym (ap (λ b. cond b (x ∷ filter test xs) (filter test xs)) fails)
+]
+
+-- matchers that are the same but for those without a name
+abbrev pub SameNamed : List Condition → List Condition → Type 0
+SameNamed ms ns = filter is_named ms ≡ filter is_named ns
+
+same_append : (ms ns xs ys : List Condition) → SameNamed ms ns → SameNamed xs ys
+    → SameNamed (ms ++ xs) (ns ++ ys)
+same_append ms ns xs ys p q =
+    filter-append is_named ms xs ∙ (λ i. p i ++ q i) ∙ sym (filter-append is_named ns ys)
+
+pub of_world : (w : World) (lists : List (List Condition))
+    → SameNamed (conditions_of (placed_in_world w ++ placed_in_lists lists))
+    (world_conditions w ++ impossible_conditions lists)
+of_world w lists =
+    let routes = placed_in_routes w.config in
+    let rules = placed_in_rules w.config.rules in
+    let equal = placed_in_equal w in
+    let silences = placed_in_silences w.silences in
+    let named = filter is_named (equal_conditions w.config.rules w.alerts) in
+    let last : conditions_of (equal ++ silences) ≡ named ++ silence_conditions w.silences =
+    map-append (λ q. q.1) equal silences ∙ (λ i. of_equal w i ++ of_silences w.silences i) in
+    let later : conditions_of (rules ++ (equal ++ silences))
+    ≡ rule_conditions w.config.rules ++ (named ++ silence_conditions w.silences) =
+    map-append (λ q. q.1) rules (equal ++ silences)
+    ∙ (λ i. of_rules w.config.rules i ++ last i) in
+    let all : conditions_of (placed_in_world w)
+    ≡ route_conditions w.config.root
+    ++ (rule_conditions w.config.rules ++ (named ++ silence_conditions w.silences)) =
+    map-append (λ q. q.1) routes (rules ++ (equal ++ silences))
+    ∙ (λ i. of_route [] w.config.root i ++ later i) in
+    let twice : SameNamed named (equal_conditions w.config.rules w.alerts) =
+    filter_twice is_named (equal_conditions w.config.rules w.alerts) in
+    ap (filter is_named) (map-append (λ q. q.1) (placed_in_world w) (placed_in_lists lists)
+    ∙ (λ i. all i ++ of_lists lists i))
+    ∙ same_append
+    (route_conditions w.config.root
+    ++ (rule_conditions w.config.rules ++ (named ++ silence_conditions w.silences)))
+    (world_conditions w) (impossible_conditions lists) (impossible_conditions lists)
+    (same_append (route_conditions w.config.root) (route_conditions w.config.root)
+    (rule_conditions w.config.rules ++ (named ++ silence_conditions w.silences))
+    (rule_conditions w.config.rules
+    ++ (equal_conditions w.config.rules w.alerts ++ silence_conditions w.silences)) refl
+    (same_append (rule_conditions w.config.rules) (rule_conditions w.config.rules)
+    (named ++ silence_conditions w.silences)
+    (equal_conditions w.config.rules w.alerts ++ silence_conditions w.silences) refl
+    (same_append named (equal_conditions w.config.rules w.alerts)
+    (silence_conditions w.silences) (silence_conditions w.silences) twice refl)))
+    refl
+
+pub of_routes_and_lists : (c : Configuration) (lists : List (List Condition))
+    → SameNamed (conditions_of (placed_in_routes c ++ placed_in_lists lists))
+    (route_conditions c.root ++ impossible_conditions lists)
+of_routes_and_lists c lists =
+    ap (filter is_named)
+    (map-append (λ q. q.1) (placed_in_routes c) (placed_in_lists lists)
+    ∙ (λ i. of_route [] c.root i ++ of_lists lists i))

@@ -1,0 +1,28 @@
+use Rattle.std.proofs.Common.{◌<◌, length, fold, ap, ◌∙◌, arith}
+use Rattle.am_files.specs.Words.{config_view, all_routes, route_view}
+use Rattle.am_files.proofs.RouteLists.{listed_at}
+use Rattle.am_complete.specs.AskedLabel.{with_asked}
+use Rattle.am_asked.specs.Placed.{placed_at}
+use Rattle.am_complete.specs.declared.origin.Origin.TheVariants as origin_is
+use Rattle.am_asked.proofs.PlacedSteps.{one_more_route}
+use Rattle.am_asked.proofs.asked.add_routes.Goals as goal
+
+pub loop-i-preserved : goal.loop-i-preserved
+loop-i-preserved c =
+    let all = all_routes (config_view c.args.config.now) in
+    let listed = c.in_ok-listed.listed in
+    let i = c.loop-i.i in
+    let path = c.index.result.now in
+    let route = c.index-in-loop-i.result.now in
+    let lt : i < length listed.paths.items = omega (arith, c.len-i-end.ensures, c.loop-i-test.true) in
+    let there = listed_at all listed i path route c.in_ok-listed.ensures.routes lt c.index.ensures
+    c.index-in-loop-i.ensures in
+    let labels = c.loop-i.gathering.labels.items in
+    record {
+      indexed = c.in_ok-add_matchers.ensures.indexed;
+      added = one_more_route all i (path, route_view route.now) labels _ _ there
+          (c.in_ok-add_matchers.ensures.added
+          ∙ ap (λ ms. fold with_asked labels (placed_at (origin_is.Route path) ms))
+          c.matchers.ensures.matchers)
+          c.loop-i.invariant.added;
+    }

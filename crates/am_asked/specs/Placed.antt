@@ -1,0 +1,83 @@
+-- The matchers that decide, each with the place where it stands.
+use Rattle.std.specs.Prelude.{ℕ, List, [], ◌∷◌, ◌++◌, map, Bool, true, false}
+use Rattle.std.specs.Prelude.{Option, Some, None, slice_get}
+use Rattle.std.specs.List.{flat_map, filter, enumerate_from}
+use Rattle.am_universe.specs.LabelSet.{LabelMap}
+use Rattle.am_labels.specs.Matcher.{Condition, all_hold}
+use Rattle.am_records.specs.SilencesFile.{Silence}
+use Rattle.am_files.specs.ConfigFile.{Configuration, RouteTree, Rule, matchers_of}
+use Rattle.am_files.specs.RoutePaths.{all_routes}
+use Rattle.am_eval.specs.declared.pair.Pair.{Pair}
+use Rattle.am_eval.specs.World.{World}
+use Rattle.am_complete.specs.declared.origin.Origin.{Origin}
+use Rattle.am_complete.specs.declared.origin.Origin.TheVariants as origin_is
+use Rattle.am_complete.specs.FoundState.{begins}
+use Rattle.am_asked.specs.Asked.{equal_to_alert}
+
+-- Matchers that all stand at one place.
+abbrev pub placed_at : Origin → List Condition → List (Origin × Condition)
+placed_at origin ms = map (λ m. (origin, m)) ms
+
+-- The matchers of a route, which stands at a path; and of all routes, in preorder.
+abbrev pub placed_by_route : List ℕ × RouteTree → List (Origin × Condition)
+placed_by_route found = placed_at (origin_is.Route found.0) (matchers_of found.1)
+
+abbrev pub placed_in_routes : Configuration → List (Origin × Condition)
+placed_in_routes c = flat_map placed_by_route (all_routes c)
+
+-- The matchers of both sides of a rule, which stands at a position; and of all rules.
+abbrev pub placed_in_rule : ℕ × Rule → List (Origin × Condition)
+placed_in_rule rule =
+    placed_at (origin_is.Rule rule.0) rule.1.source
+    ++ placed_at (origin_is.Rule rule.0) rule.1.target
+
+abbrev pub placed_in_rules : List Rule → List (Origin × Condition)
+placed_in_rules rules = flat_map placed_in_rule (enumerate_from 0 rules)
+
+-- A matcher has a name, as each matcher in memory does.
+abbrev pub is_named : Condition → Bool
+is_named m = begins m.name
+
+-- What `equal` of a rule at a position asks where an alert fires that the rule's source side
+-- matches, but for names that are the empty text; of a pair of a rule and an alert, by their
+-- positions; and of all rules.
+abbrev pub placed_by_alert : ℕ × Rule → LabelMap → List (Origin × Condition)
+placed_by_alert rule a =
+    placed_at (origin_is.Rule rule.0) (filter is_named (equal_to_alert rule.1.equal a))
+
+abbrev pub placed_by : ℕ → Option Rule → Option LabelMap → List (Origin × Condition)
+placed_by position None alert = []
+placed_by position (Some rule) None = []
+placed_by position (Some rule) (Some a) = placed_by_alert (position, rule) a
+
+abbrev pub placed_by_pair : World → Pair → List (Origin × Condition)
+placed_by_pair w pair =
+    placed_by pair.rule (slice_get w.config.rules pair.rule) (slice_get w.alerts pair.alert)
+
+abbrev pub placed_in_equal : World → List (Origin × Condition)
+placed_in_equal w =
+    flat_map
+    (λ rule. flat_map (placed_by_alert rule) (filter (λ a. all_hold a rule.1.source) w.alerts))
+    (enumerate_from 0 w.config.rules)
+
+-- The matchers of a silence at a position, and of all silences.
+abbrev pub placed_in_silence : ℕ × Silence → List (Origin × Condition)
+placed_in_silence silence = placed_at (origin_is.Silence silence.0) silence.1.matchers
+
+abbrev pub placed_in_silences : List Silence → List (Origin × Condition)
+placed_in_silences silences = flat_map placed_in_silence (enumerate_from 0 silences)
+
+-- The matchers of an impossible list at a position, and of all of them.
+abbrev pub placed_in_list : ℕ × List Condition → List (Origin × Condition)
+placed_in_list list = placed_at (origin_is.Impossible list.0) list.1
+
+abbrev pub placed_in_lists : List (List Condition) → List (Origin × Condition)
+placed_in_lists lists = flat_map placed_in_list (enumerate_from 0 lists)
+
+-- All matchers that decide in a world, each with its place.
+-- Source: own choice.
+-- Example: in a world with one route, no rule and no silence there are none.
+abbrev pub placed_in_world : World → List (Origin × Condition)
+placed_in_world w =
+    placed_in_routes w.config
+    ++ (placed_in_rules w.config.rules ++ (placed_in_equal w ++ placed_in_silences w.silences))
