@@ -1,5 +1,5 @@
 -- Where the first fault of making a universe, or of checking one, stands.
-use Rattle.std.proofs.Common.{ℕ, ◌≡◌, ◌∙◌, ◌++◌, ◌∷◌, ◌<◌, List, [], false, inl, inr, sym, length}
+use Rattle.std.proofs.Common.{ℕ, ◌≡◌, ◌∙◌, ◌∷◌, ◌<◌, List, [], false, inl, inr, sym, length}
 use Rattle.std.proofs.Common.{Some, slice_get, string_bytes, subst}
 use Rattle.am_universe.specs.declared.fault.Fault.{Fault}
 use Rattle.am_universe.specs.declared.kind.Kind.{Kind}
@@ -12,8 +12,8 @@ use Rattle.am_json.specs.Pointer.{Refusal, refusal_here}
 use Rattle.am_json.specs.Reading.{refusal_of}
 use Rattle.am_eval.specs.World.{World}
 use Rattle.am_eval.specs.Faults.{Stage, IsFirstFaultOfCall}
-use Rattle.am_eval.specs.WorldInputs.{WorldInputs}
-use Rattle.am_eval.proofs.FirstFaults.{says_few}
+use Rattle.am_eval.specs.Files.{Files}
+use Rattle.am_eval.specs.AcceptedWorld.{AcceptsFiles}
 use Rattle.am_complete.specs.declared.origin.Origin.{Origin}
 use Rattle.am_complete.specs.declared.origin.Origin.TheVariants as origin_is
 use Rattle.am_complete.specs.Complete.{IsComplete}
@@ -23,21 +23,9 @@ use Rattle.am_complete.specs.Room.{HaveNoRoom, AreUnproved}
 use Rattle.am_complete_texts.specs.CheckText.{origin_pointer}
 use Rattle.am_complete_texts.specs.UniverseText.{universe_text}
 use Rattle.am_universe_command.specs.declared.universe_form.UniverseForm.{UniverseForm}
-use Rattle.am_universe_command.specs.Universes.{AcceptsDeciding, deciding_stages, deciding_labels}
+use Rattle.am_universe_command.specs.Universes.{deciding_labels}
 use Rattle.am_universe_command.specs.Universes.{deciding_conditions, origin_place, made_stages}
 use Rattle.am_universe_command.specs.Universes.{UnprovedFor, unproved_stage, length_stage}
-
--- behind files that are accepted the first fault is that of the later stages
-pub first_behind_deciding : (inputs : WorldInputs) (world : World) (later : List Stage)
-    (place : Place) (r : Refusal) → AcceptsDeciding inputs world
-    → IsFirstFaultOfCall later place r
-    → IsFirstFaultOfCall (deciding_stages inputs ++ later) place r
-first_behind_deciding inputs world later place r h behind =
-    let few = says_few inputs world h.says_config h.says_alerts h.few_pairs in
-    inr (
-      (world.config, h.says_config),
-      inr ((world.silences, h.says_silences), inr ((world.alerts, h.says_alerts), inr (few, behind))),
-    )
 
 -- a fault at a place as a whole, without a pointer
 pub refused_here : (fault : Fault) (kind : Kind) → fault.kind ≡ kind
@@ -45,11 +33,11 @@ pub refused_here : (fault : Fault) (kind : Kind) → fault.kind ≡ kind
 refused_here fault kind same whole = λ i. record { kind = same i; pointer = whole i }
 
 -- no room
-pub room_first : (inputs : WorldInputs) (form : UniverseForm) (w : World)
-    (found : List AskedLabel) (place : Place) (r : Refusal) → AcceptsDeciding inputs w
+pub room_first : (files : Files) (form : UniverseForm) (w : World)
+    (found : List AskedLabel) (place : Place) (r : Refusal) → AcceptsFiles files w
     → found ≡ deciding_labels form.routes w [] → HaveNoRoom found → place ≡ places.Universe
-    → r ≡ refusal_here kinds.Limit → IsFirstFaultOfCall (made_stages inputs form) place r
-room_first inputs form w found place r accepts are full at refusal =
+    → r ≡ refusal_here kinds.Limit → IsFirstFaultOfCall (made_stages files form) place r
+room_first files form w found place r accepts are full at refusal =
     inl (
       at,
       record {
@@ -61,15 +49,15 @@ room_first inputs form w found place r accepts are full at refusal =
     )
 
 -- a label that is unproved, by where it is first asked of
-by_origin : (inputs : WorldInputs) (form : UniverseForm) (place : Place) (r : Refusal)
-    → ((p : Place) → p ≡ place → UnprovedFor inputs form p r)
+by_origin : (files : Files) (form : UniverseForm) (place : Place) (r : Refusal)
+    → ((p : Place) → p ≡ place → UnprovedFor files form p r)
     → (o : Origin) → place ≡ origin_place o
-    → IsFirstFaultOfCall (made_stages inputs form) place r
-by_origin inputs form place r why o at = inr (tt, by o at)
+    → IsFirstFaultOfCall (made_stages files form) place r
+by_origin files form place r why o at = inr (tt, by o at)
   where
     later : List Stage
-    later = unproved_stage inputs form places.Config ∷ unproved_stage inputs form places.Silences
-        ∷ unproved_stage inputs form places.Universe ∷ length_stage inputs form ∷ []
+    later = unproved_stage files form places.Config ∷ unproved_stage files form places.Silences
+        ∷ unproved_stage files form places.Universe ∷ length_stage files form ∷ []
 
     by : (o : Origin) → place ≡ origin_place o → IsFirstFaultOfCall later place r
     by (origin_is.Route path) at = inl (at, why places.Config (sym at))
@@ -83,16 +71,16 @@ abbrev pub IsFirstAt : List AskedLabel → List ℕ → AskedLabel → Type 0
 IsFirstAt found unproved label =
     (i : ℕ) × (slice_get unproved 0 ≡ Some i) × (slice_get found i ≡ Some label)
 
-pub unproved_first : (inputs : WorldInputs) (form : UniverseForm) (w : World)
+pub unproved_first : (files : Files) (form : UniverseForm) (w : World)
     (found : List AskedLabel) (unproved : List ℕ) (u : List Label) (label : AskedLabel)
-    (place : Place) (r : Refusal) → AcceptsDeciding inputs w → form.open ≡ false
+    (place : Place) (r : Refusal) → AcceptsFiles files w → form.open ≡ false
     → found ≡ deciding_labels form.routes w [] → AreUnproved found unproved → IsUniverse u
     → StandsForEachBut u found unproved → IsFirstAt found unproved label
     → place ≡ origin_place label.first
     → r ≡ record { kind = kinds.Unproved; pointer = origin_pointer label.first }
-    → IsFirstFaultOfCall (made_stages inputs form) place r
-unproved_first inputs form w found unproved u label place r accepts closed are noted universe stands first at refusal =
-    by_origin inputs form place r (λ p is. record {
+    → IsFirstFaultOfCall (made_stages files form) place r
+unproved_first files form w found unproved u label place r accepts closed are noted universe stands first at refusal =
+    by_origin files form place r (λ p is. record {
       world = w;
       accepts = accepts;
       closed = closed;
@@ -112,13 +100,13 @@ unproved_first inputs form w found unproved u label place r accepts closed are n
     }) label.first at
 
 -- a file that is too long
-pub length_first : (inputs : WorldInputs) (form : UniverseForm) (w : World) (u : List Label)
-    (place : Place) (r : Refusal) → AcceptsDeciding inputs w → IsUniverse u
+pub length_first : (files : Files) (form : UniverseForm) (w : World) (u : List Label)
+    (place : Place) (r : Refusal) → AcceptsFiles files w → IsUniverse u
     → (form.open ≡ false → IsComplete u (deciding_conditions form.routes w))
     → HasApartValues u (deciding_conditions form.routes w)
     → MAX_FILE_BYTES < length (universe_text u) → place ≡ places.Universe
-    → r ≡ refusal_here kinds.Limit → IsFirstFaultOfCall (made_stages inputs form) place r
-length_first inputs form w u place r accepts universe complete apart long at refusal =
+    → r ≡ refusal_here kinds.Limit → IsFirstFaultOfCall (made_stages files form) place r
+length_first files form w u place r accepts universe complete apart long at refusal =
     inr (
       tt,
       inr (

@@ -1,5 +1,5 @@
 -- What `universe` makes, and what it says of a universe. (This project's own.)
-use Rattle.std.specs.Prelude.{◌≡◌, ◌<◌, ◌≤◌, ℕ, List, [], ◌∷◌, ◌++◌, length, map, Bool, false, ⊤}
+use Rattle.std.specs.Prelude.{◌≡◌, ◌<◌, ℕ, List, [], ◌∷◌, ◌++◌, length, map, Bool, false, ⊤}
 use Rattle.std.specs.Prelude.{IsTrue, string_bytes, if◌then◌else◌, Option, Some, None, is_some}
 use Rattle.std.specs.Prelude.{slice_get, ◌↔◌}
 use Rattle.std.specs.List.{AllByRecursion, list_all}
@@ -13,25 +13,22 @@ use Rattle.am_labels.specs.Space.{Space, all_choices}
 use Rattle.am_json.specs.declared.limits.TheConstants.{MAX_FILE_BYTES}
 use Rattle.am_json.specs.Pointer.{Refusal, refusal_here}
 use Rattle.am_records.specs.UniverseFile.{FileSaysUniverse}
-use Rattle.am_files.specs.ConfigFile.{FileSaysConfig}
-use Rattle.am_eval.specs.declared.limits.TheConstants.{MAX_PAIRS}
 use Rattle.am_eval.specs.World.{World}
-use Rattle.am_eval.specs.Pairs.{pairs_of}
-use Rattle.am_eval.specs.Files.{config_of, SaysSilencesIfAny, SaysAlertsIfAny}
-use Rattle.am_eval.specs.Faults.{Stage, universe_stage, config_stage, silences_stage, alerts_stage}
-use Rattle.am_eval.specs.Faults.{pairs_stage}
-use Rattle.am_eval.specs.WorldInputs.{WorldInputs}
+use Rattle.am_eval.specs.Faults.{Stage, universe_stage}
+use Rattle.am_eval.specs.Files.{Files}
+use Rattle.am_eval.specs.AcceptedWorld.{AcceptsFiles, timeless_stages}
+use Rattle.am_eval.specs.Promise.{Promise}
 use Rattle.am_complete.specs.declared.label_state.LabelState.{LabelState}
 use Rattle.am_complete.specs.declared.origin.Origin.{Origin}
 use Rattle.am_complete.specs.declared.origin.Origin.TheVariants as origin_is
-use Rattle.am_complete.specs.Complete.{IsComplete, IsSpaceComplete}
-use Rattle.am_complete.specs.Asked.{route_conditions, world_conditions, impossible_conditions}
+use Rattle.am_complete.specs.Complete.{IsComplete, IsSpaceComplete, impossible_conditions}
 use Rattle.am_complete.specs.AskedLabel.{AskedLabel, asked_labels}
-use Rattle.am_complete.specs.Placed.{placed_in_route, placed_in_world, placed_in_lists}
+use Rattle.am_asked.specs.Placed.{placed_in_routes, placed_in_world, placed_in_lists}
 use Rattle.am_complete.specs.Covering.{StandsForEachBut, HasApartValues}
 use Rattle.am_complete.specs.Room.{HaveNoRoom, AreUnproved}
 use Rattle.am_complete.specs.LabelState.{IsSoIfNamed, is_settled, reported_names}
 use Rattle.am_complete.specs.FoundState.{is_unseen}
+use Rattle.am_asked.specs.Asked.{route_conditions, world_conditions}
 use Rattle.am_complete_texts.specs.CheckText.{check_text, origin_pointer}
 use Rattle.am_complete_texts.specs.UniverseText.{universe_text}
 use Rattle.am_universe_command.specs.declared.universe_form.UniverseForm.{UniverseForm}
@@ -52,29 +49,8 @@ deciding_conditions routes w =
 -- first asked of at the route, and `env`, at the rule.
 abbrev pub deciding_labels : Bool → World → List (List Condition) → List AskedLabel
 deciding_labels routes w impossible =
-    asked_labels ((if routes then placed_in_route [] w.config.root else placed_in_world w)
+    asked_labels ((if routes then placed_in_routes w.config else placed_in_world w)
     ++ placed_in_lists impossible)
-
--- The files are accepted: they say the world's configuration, silences and alerts, and there are
--- not too many pairs of a rule and an alert that its source side matches. An instant is not looked
--- at, since each silence counts.
--- Source: own choice.
--- Example: without files of silences and of alerts, the world has none.
-pub record AcceptsDeciding (inputs : WorldInputs) (world : World) : Type 0 where
-  pub says_config : FileSaysConfig (config_of inputs.config) world.config
-  pub says_silences : SaysSilencesIfAny inputs.silences world.silences
-  pub says_alerts : SaysAlertsIfAny inputs.alerts world.alerts
-  pub few_pairs : length (pairs_of world.config.rules world.alerts) ≤ MAX_PAIRS
-
--- Their stages, in order: the configuration file or what stands in for it, the file of silences,
--- the file of alerts, the pairs.
-abbrev pub deciding_stages : WorldInputs → List Stage
-deciding_stages inputs =
-    config_stage (config_of inputs.config)
-    ∷ silences_stage inputs.silences
-    ∷ alerts_stage inputs.alerts
-    ∷ pairs_stage (config_of inputs.config) inputs.alerts
-    ∷ []
 
 -- ---- A universe that is made.
 
@@ -89,17 +65,11 @@ pub record IsMadeUniverse (w : World) (form : UniverseForm) (text : List ℕ) : 
   pub complete : form.open ≡ false → IsComplete labels (deciding_conditions form.routes w)
   pub apart : HasApartValues labels (deciding_conditions form.routes w)
 
--- The files are accepted, and this holds of the text of a universe file that is made for the world
--- that they say: that it was written, all of it or a part.
--- Source: own choice.
--- Example: where `universe` is done, the whole of the text was written.
-pub record MakesUniverse (inputs : WorldInputs) (form : UniverseForm)
-    (IsWritten : List ℕ → Type 0) : Type 0 where
+-- The files are accepted, and the text is that of a universe file made for the world that they say.
+pub record MakesUniverse (files : Files) (form : UniverseForm) (text : List ℕ) : Type 0 where
   pub world : World
-  pub accepts : AcceptsDeciding inputs world
-  pub text : List ℕ
+  pub accepts : AcceptsFiles files world
   pub made : IsMadeUniverse world form text
-  pub written : IsWritten text
 
 -- The file in which a matcher stands.
 abbrev pub origin_place : Origin → Place
@@ -112,9 +82,9 @@ origin_place (origin_is.Impossible position) = places.Universe
 -- more values than a label may have, or more of them need values than a universe may have labels.
 -- Source: own choice.
 -- Example: it is so where 65 routes ask of 65 labels, each with one matcher `=`.
-pub record NoRoomFor (inputs : WorldInputs) (form : UniverseForm) (r : Refusal) : Type 0 where
+pub record NoRoomFor (files : Files) (form : UniverseForm) (r : Refusal) : Type 0 where
   pub world : World
-  pub accepts : AcceptsDeciding inputs world
+  pub accepts : AcceptsFiles files world
   pub full : HaveNoRoom (deciding_labels form.routes world [])
   pub refusal : r ≡ refusal_here kinds.Limit
 
@@ -131,10 +101,10 @@ HaveRoomBut asked unproved =
 -- Source: own choice.
 -- Example: where the first child of the top-level route has `team=~"\bdb"`, and no matcher before
 -- it is on `team`, the pointer is `/route/routes/0`.
-pub record UnprovedFor (inputs : WorldInputs) (form : UniverseForm) (place : Place)
+pub record UnprovedFor (files : Files) (form : UniverseForm) (place : Place)
     (r : Refusal) : Type 0 where
   pub world : World
-  pub accepts : AcceptsDeciding inputs world
+  pub accepts : AcceptsFiles files world
   pub closed : form.open ≡ false
   pub unproved : List ℕ
   pub labels : AreUnproved (deciding_labels form.routes world []) unproved
@@ -150,9 +120,9 @@ pub record UnprovedFor (inputs : WorldInputs) (form : UniverseForm) (place : Pla
 -- read may be. This is found last: that universe is complete, unless it may be open.
 -- Source: own choice.
 -- Example: it is so where one matcher names a text of 20 megabytes.
-pub record TooLongFor (inputs : WorldInputs) (form : UniverseForm) (r : Refusal) : Type 0 where
+pub record TooLongFor (files : Files) (form : UniverseForm) (r : Refusal) : Type 0 where
   pub world : World
-  pub accepts : AcceptsDeciding inputs world
+  pub accepts : AcceptsFiles files world
   pub labels : List Label
   pub universe : IsUniverse labels
   pub complete : form.open ≡ false → IsComplete labels (deciding_conditions form.routes world)
@@ -161,42 +131,46 @@ pub record TooLongFor (inputs : WorldInputs) (form : UniverseForm) (r : Refusal)
   pub refusal : r ≡ refusal_here kinds.Limit
 
 -- The stages of making one: that there is room, that no label is unproved, whose fault may stand at
--- any of the files, and that the file is not too long; and all stages of the call.
+-- any of the files, and that the file is not too long; and what `universe` owes, whose stages are
+-- those of the files and these.
 -- Source: own choice.
 -- Example: where the file of alerts is `{}` and a label is unproved, the first fault is the `shape`
 -- of the alerts. Where a label is unproved and there is no room for the others, it is the `limit`.
-abbrev pub room_stage : WorldInputs → UniverseForm → Stage
-room_stage inputs form = record {
+abbrev pub room_stage : Files → UniverseForm → Stage
+room_stage files form = record {
   place = places.Universe;
   accepts = ⊤;
-  refuses = NoRoomFor inputs form;
+  refuses = NoRoomFor files form;
 }
 
-abbrev pub unproved_stage : WorldInputs → UniverseForm → Place → Stage
-unproved_stage inputs form place = record {
+abbrev pub unproved_stage : Files → UniverseForm → Place → Stage
+unproved_stage files form place = record {
   place = place;
   accepts = ⊤;
-  refuses = UnprovedFor inputs form place;
+  refuses = UnprovedFor files form place;
 }
 
-abbrev pub length_stage : WorldInputs → UniverseForm → Stage
-length_stage inputs form = record {
+abbrev pub length_stage : Files → UniverseForm → Stage
+length_stage files form = record {
   place = places.Universe;
   accepts = ⊤;
-  refuses = TooLongFor inputs form;
+  refuses = TooLongFor files form;
 }
 
-abbrev pub made_stages : WorldInputs → UniverseForm → List Stage
-made_stages inputs form =
-    room_stage inputs form
-    ∷ unproved_stage inputs form places.Config
-    ∷ unproved_stage inputs form places.Silences
-    ∷ unproved_stage inputs form places.Universe
-    ∷ length_stage inputs form
+abbrev pub made_stages : Files → UniverseForm → List Stage
+made_stages files form =
+    room_stage files form
+    ∷ unproved_stage files form places.Config
+    ∷ unproved_stage files form places.Silences
+    ∷ unproved_stage files form places.Universe
+    ∷ length_stage files form
     ∷ []
 
-abbrev pub making_stages : WorldInputs → UniverseForm → List Stage
-making_stages inputs form = deciding_stages inputs ++ made_stages inputs form
+abbrev pub universe_promise : Files → UniverseForm → Promise ⊤
+universe_promise files form = record {
+  stages = timeless_stages files ++ made_stages files form;
+  May = λ _. MakesUniverse files form;
+}
 
 -- ---- A universe that is checked.
 
@@ -235,23 +209,22 @@ pub record IsCheckOf (s : Space) (w : World) (has_alerts routes : Bool) (report 
   pub impossible : IsTrue all_impossible ↔ all_choices s ≡ []
   pub text : report ≡ check_text (sizes s.labels) all_impossible states
 
--- The files are accepted, and this holds of the text that says how the space of the universe file
--- stands in the world that the others say: that it was written, all of it or a part.
--- Source: own choice.
--- Example: where `check_universe` is done, the whole of the text was written.
-pub record ChecksUniverse (universe_file : List ℕ) (inputs : WorldInputs) (routes : Bool)
-    (IsWritten : List ℕ → Type 0) : Type 0 where
+-- The files are accepted, and the text says how the space of the universe file stands in the world
+-- that the others say.
+pub record ChecksUniverse (universe_file : List ℕ) (files : Files) (routes : Bool)
+    (report : List ℕ) : Type 0 where
   pub space : Space
   pub world : World
   pub says_universe : FileSaysUniverse universe_file space
-  pub accepts : AcceptsDeciding inputs world
-  pub report : List ℕ
-  pub checked : IsCheckOf space world (is_some inputs.alerts) routes report
-  pub written : IsWritten report
+  pub accepts : AcceptsFiles files world
+  pub checked : IsCheckOf space world (is_some files.alerts) routes report
 
--- The stages of the call, in order: the universe file, and then the files that decide.
+-- What `check_universe` owes. Its stages are the universe file, and then the files that decide.
 -- Source: own choice.
 -- Example: where the universe file is `{}` and the configuration is no JSON, the first fault is the
 -- `shape` of the universe.
-abbrev pub checking_stages : List ℕ → WorldInputs → List Stage
-checking_stages universe_file inputs = universe_stage universe_file ∷ deciding_stages inputs
+abbrev pub check_promise : List ℕ → Files → Bool → Promise ⊤
+check_promise universe_file files routes = record {
+  stages = universe_stage universe_file ∷ timeless_stages files;
+  May = λ _. ChecksUniverse universe_file files routes;
+}

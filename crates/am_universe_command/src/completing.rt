@@ -1,31 +1,30 @@
 //! Making universes that stand for every alert, and saying what others lack.
 
-ghost use Rattle.std.specs.Prelude.{◌≡◌, ◌≢◌, ◌<◌, ℕ, [], Some, IfOk, IfErr, IfSome, IfNone};
-ghost use Rattle.std.specs.Prelude.{false, length, slice_get, option_map, string_bytes, is_some};
+ghost use Rattle.std.specs.Prelude.{◌≡◌, ◌≢◌, ◌<◌, ◌++◌, ℕ, [], Some, IfOk, IfErr, IfSome};
+ghost use Rattle.std.specs.Prelude.{IfNone, false, length, slice_get, option_map, string_bytes};
 ghost use Rattle.std.specs.List.{AllByRecursion};
 ghost use Rattle.am_universe.specs.declared.kind.Kind.TheVariants as kinds;
-ghost use Rattle.am_universe.specs.declared.place.Place.TheVariants as places;
-ghost use Rattle.am_labels.specs.Words.{Wrote, WroteInPart, IsUniverse};
+ghost use Rattle.am_labels.specs.Words.{IsUniverse};
 ghost use Rattle.am_json.specs.Words.{refusal_of};
-ghost use Rattle.am_json.specs.Pointer.{refusal_here};
-ghost use Rattle.am_eval.specs.Words.{world_inputs_of, IsFirstFaultOfCall, WorldInputs};
-ghost use Rattle.am_complete.specs.Words.{IsComplete, HasApartValues, AskedLabel};
+ghost use Rattle.am_eval.specs.Words.{Files, AcceptsFiles, IsFirstFault, IsKept};
+ghost use Rattle.am_complete.specs.Words.{IsComplete, HasApartValues, AskedLabel, IsAskedOf};
+ghost use Rattle.am_complete.specs.Words.{impossible_conditions};
+ghost use Rattle.am_asked.specs.Words.{placed_in_equal};
 ghost use Rattle.am_complete_texts.specs.Words.{origin_pointer};
-ghost use Rattle.am_universe_command.specs.Universes.{AcceptsDeciding, ChecksUniverse, IsCheckOf};
-ghost use Rattle.am_universe_command.specs.Universes.{IsMadeUniverse, MakesUniverse, alerts_if_any};
-ghost use Rattle.am_universe_command.specs.Universes.{checking_stages, deciding_conditions};
-ghost use Rattle.am_universe_command.specs.Universes.{deciding_labels, made_stages, making_stages};
-ghost use Rattle.am_universe_command.specs.Universes.{origin_place};
+ghost use Rattle.am_universe_command.specs.Universes.{IsCheckOf, IsMadeUniverse, alerts_if_any};
+ghost use Rattle.am_universe_command.specs.Universes.{deciding_conditions, deciding_labels};
+ghost use Rattle.am_universe_command.specs.Universes.{made_stages, origin_place};
+ghost use Rattle.am_universe_command.specs.Universes.{universe_promise, check_promise};
 
 use crate::UniverseForm;
-use crate::deciding::{labels_asked, read_deciding};
-use am_complete::{AskedLabel, MakingFault, Origin, equal_matchers_of, label_states, universe_of};
+use am_asked::{EqualMatcher, asked_by_routes, asked_in_world, equal_matchers_of};
+use am_complete::{AskedLabel, Origin, label_states, universe_of};
 use am_complete_texts::{pointer_to, text_of_check, universe_text};
-use am_cubes::first_possible;
-use am_eval::{Files, World};
+use am_eval::{Files, World, read_timeless_world};
 use am_files::{Alerts, read_universe};
+use am_first_sets::first_possible;
 use am_json::limits::MAX_FILE_BYTES;
-use am_labels::{Fault, Kind, Place, Sink, Space, Universe, put_str};
+use am_labels::{Fault, Kind, Matchers, Place, Sink, Space, Universe, answer_of_write, put_str};
 use std::alloc::{AllocError, Global};
 
 /// Writes the file of a universe that stands for every alert: of each label that the matchers of
@@ -43,9 +42,8 @@ use std::alloc::{AllocError, Global};
 /// may have; `Unproved`, unless the form is open, where the classes of a label could not be
 /// computed, or there is more than one and its name is no label name, at the file and with the
 /// pointer of the route, rule or silence that first asks of the first such label; `Limit` again,
-/// where the universe's file has more bytes than one that is read may have; `Write`, at `Output`.
-/// `Memory`, at `Memory`, comes wherever memory ran out.
-/// After any but `Write` the sink is as it was.
+/// where the universe's file has more bytes than one that is read may have; `Write`. `Memory` comes
+/// wherever memory ran out. After any but `Write` the sink is as it was.
 pub fn universe<W: Sink>(
     alloc: Global,
     files: &Files<'_>,
@@ -54,25 +52,12 @@ pub fn universe<W: Sink>(
 ) -> Result<(), Fault>
     // The file says a universe, which is complete for the matchers that decide, unless it is open.
     // No two values of a label in it are alike.
-    ensures made { IfOk result (λ _. MakesUniverse (world_inputs_of files.now) form
-        (Wrote W.taken W.failures out.old out.new)) }
-    ensures first { IfErr result (λ fault. fault.kind ≢ kinds.Write → fault.kind ≢ kinds.Memory
-        → IsFirstFaultOfCall (making_stages (world_inputs_of files.now) form)
-        fault.place (refusal_of fault)) }
-    ensures memory { IfErr result (λ fault. fault.kind ≡ kinds.Memory
-        → (fault.place ≡ places.Memory) × (string_bytes fault.pointer ≡ [])) }
-    ensures write { IfErr result (λ fault. fault.kind ≡ kinds.Write
-        → (fault.place ≡ places.Output) × (string_bytes fault.pointer ≡ [])
-        × MakesUniverse (world_inputs_of files.now) form
-        (WroteInPart W.taken W.failures out.old out.new)) }
-    ensures untouched { IfErr result (λ fault. fault.kind ≢ kinds.Write → out.new ≡ out.old) }
+    ensures kept { IsKept (universe_promise files.now form)
+        W.taken W.failures out.old out.new result }
 {
-    let world = read_deciding(alloc, files)?;
+    let world = read_timeless_world(alloc, files)?;
     let text = made_text(alloc, &world, form)?;
-    match put_str(out, text.as_str()) {
-        Ok(()) => Ok(()),
-        Err(kind) => Err(Fault::of(alloc, kind, Place::Output)),
-    }
+    answer_of_write(alloc, put_str(out, text.as_str()))
 }
 
 /// Writes how a universe stands, as one that is to stand for every alert: a line for each of its
@@ -85,9 +70,8 @@ pub fn universe<W: Sink>(
 /// alone. All input is read and all is found before the first byte is written.
 ///
 /// The first fault is the one answered: a fault of the universe file, at `Universe`, as
-/// `read_universe` has it; those of the other files and of the pairs, as for `universe`; `Write`,
-/// at `Output`. `Memory`, at `Memory`, comes wherever memory ran out. After any but `Write` the
-/// sink is as it was.
+/// `read_universe` has it; those of the other files and of the pairs, as for `universe`; `Write`.
+/// `Memory` comes wherever memory ran out. After any but `Write` the sink is as it was.
 pub fn check_universe<W: Sink>(
     alloc: Global,
     universe: &[u8],
@@ -96,46 +80,29 @@ pub fn check_universe<W: Sink>(
     out: &mut W,
 ) -> Result<(), Fault>
     // Each line says what is so, and where nothing is missing the space is complete.
-    ensures checked { IfOk result (λ _. ChecksUniverse universe.now (world_inputs_of files.now)
-        routes (Wrote W.taken W.failures out.old out.new)) }
-    ensures first { IfErr result (λ fault. fault.kind ≢ kinds.Write → fault.kind ≢ kinds.Memory
-        → IsFirstFaultOfCall (checking_stages universe.now (world_inputs_of files.now))
-        fault.place (refusal_of fault)) }
-    ensures memory { IfErr result (λ fault. fault.kind ≡ kinds.Memory
-        → (fault.place ≡ places.Memory) × (string_bytes fault.pointer ≡ [])) }
-    ensures write { IfErr result (λ fault. fault.kind ≡ kinds.Write
-        → (fault.place ≡ places.Output) × (string_bytes fault.pointer ≡ [])
-        × ChecksUniverse universe.now (world_inputs_of files.now) routes
-        (WroteInPart W.taken W.failures out.old out.new)) }
-    ensures untouched { IfErr result (λ fault. fault.kind ≢ kinds.Write → out.new ≡ out.old) }
+    ensures kept { IsKept (check_promise universe.now files.now routes)
+        W.taken W.failures out.old out.new result }
 {
     let space = read_universe(alloc, universe)?;
-    let world = read_deciding(alloc, files)?;
-    let Ok(text) = checked_text(alloc, &space, &world, has_alerts(files), routes) else {
+    let world = read_timeless_world(alloc, files)?;
+    let Ok(text) = checked_text(alloc, &space, &world, files.alerts.is_some(), routes) else {
         return Err(Fault::memory(alloc));
     };
-    match put_str(out, text.as_str()) {
-        Ok(()) => Ok(()),
-        Err(kind) => Err(Fault::of(alloc, kind, Place::Output)),
-    }
+    answer_of_write(alloc, put_str(out, text.as_str()))
 }
 
 /// The text of the universe file that is made for a world.
 fn made_text(alloc: Global, world: &World, form: UniverseForm) -> Result<String, Fault>
     ensures made { IfOk result (λ text. IsMadeUniverse world.now form (string_bytes text)) }
-    ensures first { IfErr result (λ fault. fault.kind ≢ kinds.Memory
-        → (inputs : WorldInputs) → AcceptsDeciding inputs world.now
-        → IsFirstFaultOfCall (made_stages inputs form) fault.place (refusal_of fault)) }
-    ensures memory { IfErr result (λ fault. fault.kind ≡ kinds.Memory
-        → (fault.place ≡ places.Memory) × (string_bytes fault.pointer ≡ [])) }
-    ensures no_write { IfErr result (λ fault. fault.kind ≢ kinds.Write) }
+    ensures first { IfErr result (λ fault. (files : Files) → AcceptsFiles files world.now
+        → IsFirstFault (made_stages files form) fault) }
 {
     let universe = made_universe(alloc, world, form)?;
     let Ok(text) = universe_text(alloc, &universe) else {
         return Err(Fault::memory(alloc));
     };
     if text.as_str().len() > MAX_FILE_BYTES {
-        return Err(Fault::of(alloc, Kind::Limit, Place::Universe));
+        return Err(Fault::at(alloc, Kind::Limit, Place::Universe));
     }
     Ok(text)
 }
@@ -147,12 +114,8 @@ fn made_universe(alloc: Global, world: &World, form: UniverseForm) -> Result<Uni
         → IsComplete universe (deciding_conditions form.routes world.now)) }
     ensures apart { IfOk result (λ universe.
         HasApartValues universe (deciding_conditions form.routes world.now)) }
-    ensures first { IfErr result (λ fault. fault.kind ≢ kinds.Memory
-        → (inputs : WorldInputs) → AcceptsDeciding inputs world.now
-        → IsFirstFaultOfCall (made_stages inputs form) fault.place (refusal_of fault)) }
-    ensures memory { IfErr result (λ fault. fault.kind ≡ kinds.Memory
-        → (fault.place ≡ places.Memory) × (string_bytes fault.pointer ≡ [])) }
-    ensures no_write { IfErr result (λ fault. fault.kind ≢ kinds.Write) }
+    ensures first { IfErr result (λ fault. (files : Files) → AcceptsFiles files world.now
+        → IsFirstFault (made_stages files form) fault) }
 {
     let Ok(equal) = equal_matchers_of(alloc, world) else {
         return Err(Fault::memory(alloc));
@@ -162,26 +125,12 @@ fn made_universe(alloc: Global, world: &World, form: UniverseForm) -> Result<Uni
     };
     let made = match universe_of(alloc, asked.as_slice(), Some(world.alerts())) {
         Ok(made) => made,
-        Err(fault) => return Err(not_made(alloc, fault)),
+        Err(fault) => return Err(Fault::at(alloc, fault.kind, Place::Universe)),
     };
     if let Some(label) = first_unproved(asked.as_slice(), made.unproved.as_slice(), form) {
         return Err(unproved(alloc, label));
     }
     Ok(made.universe)
-}
-
-/// Why no universe was made: there is no room for the labels, or no memory.
-fn not_made(alloc: Global, fault: MakingFault) -> Fault
-    ensures limit { result.kind ≢ kinds.Memory → (fault.kind ≡ kinds.Limit)
-        × (result.place ≡ places.Universe) × (refusal_of result ≡ refusal_here kinds.Limit) }
-    ensures memory { result.kind ≡ kinds.Memory
-        → (result.place ≡ places.Memory) × (string_bytes result.pointer ≡ []) }
-    ensures no_write { result.kind ≢ kinds.Write }
-{
-    match fault.kind {
-        Kind::Limit => Fault::of(alloc, Kind::Limit, Place::Universe),
-        _ => Fault::memory(alloc),
-    }
 }
 
 /// The first label that is unproved, unless the form is open. `positions` are those of such labels.
@@ -207,20 +156,13 @@ fn first_unproved<'a, 'm>(
 
 /// Why no universe is made where a label is unproved.
 fn unproved(alloc: Global, label: &AskedLabel<'_>) -> Fault
-    ensures kind { result.kind ≢ kinds.Memory → (result.place ≡ origin_place label.now.first)
+    ensures refusal { result.kind ≢ kinds.Memory → (result.place ≡ origin_place label.now.first)
         × (refusal_of result
         ≡ record { kind = kinds.Unproved; pointer = origin_pointer label.now.first }) }
-    ensures memory { result.kind ≡ kinds.Memory
-        → (result.place ≡ places.Memory) × (string_bytes result.pointer ≡ []) }
-    ensures no_write { result.kind ≢ kinds.Write }
 {
     let origin = label.first();
     match pointer_to(alloc, &origin) {
-        Ok(pointer) => Fault {
-            kind: Kind::Unproved,
-            place: place_of(&origin),
-            pointer,
-        },
+        Ok(pointer) => Fault::within(Kind::Unproved, place_of(&origin), pointer),
         Err(_) => Fault::memory(alloc),
     }
 }
@@ -256,13 +198,6 @@ fn checked_text(
     Ok(text)
 }
 
-/// Whether a file of alerts is handed in.
-fn has_alerts(files: &Files<'_>) -> bool
-    ensures { result ≡ is_some (world_inputs_of files.now).alerts }
-{
-    files.alerts.is_some()
-}
-
 /// The alerts of a world, where they are handed in.
 fn alerts_if_any(world: &World, has_alerts: bool) -> Option<&Alerts>
     ensures { option_map (λ a. a.now) result ≡ alerts_if_any has_alerts world.now }
@@ -271,5 +206,27 @@ fn alerts_if_any(world: &World, has_alerts: bool) -> Option<&Alerts>
         Some(world.alerts())
     } else {
         None
+    }
+}
+
+/// The labels that matchers ask of: those of the routes alone, or all that decide in a world, and
+/// then those of impossible lists. An `Err` only where memory was refused.
+fn labels_asked<'m>(
+    alloc: Global,
+    world: &'m World,
+    equal: &'m [EqualMatcher],
+    impossible: &'m [Matchers],
+    routes: bool,
+) -> Result<Vec<AskedLabel<'m>>, AllocError>
+    requires { equal.now ≡ placed_in_equal world.now }
+    ensures asked { IfOk result (λ labels. IsAskedOf labels.items
+        (deciding_conditions routes world.now ++ impossible_conditions impossible.now)) }
+    ensures labels { IfOk result (λ labels.
+        labels.items ≡ deciding_labels routes world.now impossible.now) }
+{
+    if routes {
+        asked_by_routes(alloc, world.config(), impossible)
+    } else {
+        asked_in_world(alloc, world, equal, impossible)
     }
 }

@@ -4,9 +4,6 @@
 //! it, and [`check_universe`] says what another one lacks.
 #![tactic(auto)]
 
-// What decides what becomes of an alert.
-mod deciding;
-
 // The calls.
 mod completing;
 mod universe_form;

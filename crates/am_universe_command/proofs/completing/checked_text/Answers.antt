@@ -4,7 +4,7 @@ use Rattle.am_universe.specs.Universe.{sizes}
 use Rattle.am_labels.specs.Matcher.{Condition}
 use Rattle.am_labels.specs.Space.{Space}
 use Rattle.am_eval.specs.World.{World}
-use Rattle.am_complete.specs.Asked.{impossible_conditions}
+use Rattle.am_complete.specs.Complete.{impossible_conditions}
 use Rattle.am_complete.specs.AskedLabel.{AskedLabel, IsAskedOf}
 use Rattle.am_complete.proofs.AmongMatchers.{last_among}
 use Rattle.am_complete_texts.specs.CheckText.{check_text}

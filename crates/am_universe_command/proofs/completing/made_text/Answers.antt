@@ -19,11 +19,11 @@ returns-clause-made c = record {
 
 pub returns-then-as_str-gt-MAX_FILE_BYTES-clause-first :
     goal.returns-then-as_str-gt-MAX_FILE_BYTES-clause-first
-returns-then-as_str-gt-MAX_FILE_BYTES-clause-first c = λ remembered inputs accepts.
+returns-then-as_str-gt-MAX_FILE_BYTES-clause-first c = λ files accepts remembered.
     let universe = c.in_ok-universe.universe in
-    length_first inputs c.args.form c.args.world.now universe _ _ accepts
+    length_first files c.args.form c.args.world.now universe _ _ accepts
     c.in_ok-universe.ensures.universe c.in_ok-universe.ensures.complete
     c.in_ok-universe.ensures.apart
     (subst (λ (t : List ℕ). MAX_FILE_BYTES < length t)
     (c.as_str.ensures.value ∙ c.in-Ok.ensures.text) c.if-as_str-gt-MAX_FILE_BYTES.true)
-    c.of.ensures.place (refused_here c.of.result _ c.of.ensures.kind c.of.ensures.pointer)
+    (c.at.ensures.place (λ e. cc e) (λ e. cc e)) (refused_here c.at.result _ c.at.ensures.kind c.at.ensures.pointer)

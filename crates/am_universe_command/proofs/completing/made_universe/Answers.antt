@@ -1,16 +1,28 @@
 -- What is refused for the labels that are asked of.
-use Rattle.std.proofs.Common.{◌≡◌, ◌<◌, List, ℕ, length, subst, sym, ◌∙◌}
+use Rattle.std.proofs.Common.{◌≡◌, ◌≢◌, ◌<◌, List, ℕ, length, inl, inr, subst, sym, ◌∙◌}
 use Rattle.std.specs.List.{AllByRecursion}
+use Rattle.am_universe.specs.declared.kind.Kind.{Kind}
+use Rattle.am_universe.specs.declared.kind.Kind.TheVariants as kinds
 use Rattle.am_complete.specs.AskedLabel.{AskedLabel}
-use Rattle.am_universe_command.proofs.UniverseStages.{room_first, unproved_first, IsFirstAt}
+use Rattle.am_complete.specs.Covering.{IsLimitOrMemory}
+use Rattle.am_universe_command.proofs.UniverseStages.{room_first, unproved_first, IsFirstAt, refused_here}
 use Rattle.am_universe_command.proofs.completing.made_universe.Goals as goal
 
+-- a fault that is not of memory is that there is no room
+of_room : (kind : Kind) → IsLimitOrMemory kind → kind ≢ kinds.Memory → kind ≡ kinds.Limit
+of_room kind (inl limit) other = limit
+of_room kind (inr memory) other = absurd (other memory)
+
 pub returns-in-Err-clause-first : goal.returns-in-Err-clause-first
-returns-in-Err-clause-first c = λ remembered inputs accepts.
-    let told = c.not_made.ensures.limit remembered in
-    room_first inputs c.args.form c.args.world.now c.as_slice-2.result.now _ _ accepts
+returns-in-Err-clause-first c = λ files accepts remembered.
+    let limit = of_room c.in-Err.fault.kind c.in-Err.ensures.kind
+    (λ memory. remembered (c.at.ensures.kind ∙ memory)) in
+    let place = c.at.ensures.place (λ e. let both : kinds.Limit ≡ kinds.Memory = sym limit ∙ e in cc both)
+    (λ e. let both : kinds.Limit ≡ kinds.Write = sym limit ∙ e in cc both) in
+    room_first files c.args.form c.args.world.now c.as_slice-2.result.now _ _ accepts
     (c.as_slice-2.ensures.value ∙ c.in-Ok-labels_asked.ensures.labels)
-    (c.in-Err.ensures.limit told.0) told.1 told.2
+    (c.in-Err.ensures.limit limit) place
+    (refused_here c.at.result kinds.Limit (c.at.ensures.kind ∙ limit) c.at.ensures.pointer)
 
 -- positions within labels are so by other names of both
 within : (found asked : List AskedLabel) (positions unproved : List ℕ) → found ≡ asked
@@ -36,12 +48,12 @@ first_at found asked positions unproved label are is first =
     (subst (λ (ps : List ℕ). IsFirstAt found ps label) is first)
 
 pub returns-in-Some-clause-first : goal.returns-in-Some-clause-first
-returns-in-Some-clause-first c = λ remembered inputs accepts.
-    let told = c.unproved.ensures.kind remembered in
+returns-in-Some-clause-first c = λ files accepts remembered.
+    let told = c.unproved.ensures.refusal remembered in
     let label = c.in-Some.label.now in
     let made = c.in-Ok-universe_of.made in
     let found = c.as_slice-2.result.now in
-    unproved_first inputs c.args.form c.args.world.now found made.unproved.items made.universe label
+    unproved_first files c.args.form c.args.world.now found made.unproved.items made.universe label
     _ _ accepts c.in-Some.ensures.some.0
     (c.as_slice-2.ensures.value ∙ c.in-Ok-labels_asked.ensures.labels)
     c.in-Ok-universe_of.ensures.unproved c.in-Ok-universe_of.ensures.universe
