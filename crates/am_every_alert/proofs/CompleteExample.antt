@@ -1,0 +1,93 @@
+-- An example: a universe that is complete for `team="db"`, and one that is not.
+use Rattle.std.proofs.Common.{◌≡◌, [], ◌∷◌, codes, true, false, not, ◌&&◌, ◌||◌}
+use Rattle.std.proofs.Common.{refl, sym, ap, ◌∙◌, lit<, lit≤, inl, inr}
+use Rattle.std.proofs.lemmas.Bool.{cases_Bool}
+use Rattle.std.specs.List.{IsDistinct}
+use Rattle.std.proofs.lemmas.Str.{IsUtf8-nil}
+use Rattle.am_universe.specs.Text.{same_text}
+use Rattle.am_universe.specs.Universe.{IsUniverse}
+use Rattle.am_universe.proofs.ListLemmas.{IsIn-from_Contains, Contains-from_IsIn}
+use Rattle.am_eval.specs.RoutingExamples.{team_db}
+use Rattle.am_complete.specs.Complete.{HasAlike, IsCompleteAt, IsComplete}
+use Rattle.am_complete.specs.Complete.{IsSpaceCompleteAt, IsSpaceComplete}
+use Rattle.am_every_alert.specs.CompleteExample.{team_universe, db_or_absent, db_alone, team_not_db}
+use Rattle.am_every_alert.specs.CompleteExample.{db_alone_possible}
+use Rattle.am_every_alert.proofs.CompleteSpaces.{complete_by_names, space_complete_by_names}
+
+team_is_universe : IsUniverse (team_universe db_or_absent)
+unfolding IsDistinct
+team_is_universe = record {
+  at_most = lit≤ tt;
+  labels = (
+    record {
+      name = refl;
+      some_value = lit< tt;
+      at_most = lit≤ tt;
+      texts = (refl, (refl, tt));
+      distinct = ((refl, tt), (tt, tt));
+    },
+    tt,
+  );
+  distinct = (tt, tt);
+}
+
+db_alone_is_universe : IsUniverse (team_universe db_alone)
+unfolding IsDistinct
+db_alone_is_universe = record {
+  at_most = lit≤ tt;
+  labels = (
+    record {
+      name = refl;
+      some_value = lit< tt;
+      at_most = lit≤ tt;
+      texts = (refl, tt);
+      distinct = (tt, tt);
+    },
+    tt,
+  );
+  distinct = (tt, tt);
+}
+
+complete_at_team : IsCompleteAt (team_universe db_or_absent) (team_db ∷ []) (codes "team")
+complete_at_team text valid = elim (cases_Bool (same_text text (codes "db"))) [
+  | inl db ↦ (
+    codes "db",
+    Contains-from_IsIn (codes "db" ∷ [] ∷ []) (codes "db") (inl refl),
+    (sym db, tt),
+  )
+  | inr other ↦
+      ([], Contains-from_IsIn (codes "db" ∷ [] ∷ []) [] (inr (inl refl)), (sym other, tt))
+]
+
+pub complete : IsComplete (team_universe db_or_absent) (team_db ∷ [])
+complete =
+    complete_by_names (team_universe db_or_absent) (team_db ∷ []) team_is_universe
+    ((λ named. complete_at_team), tt)
+
+pub incomplete : IsComplete (team_universe db_alone) (team_db ∷ []) → ⊥
+incomplete complete =
+    by (complete (codes "team") (λ e. cc) [] IsUtf8-nil)
+  where
+    by : HasAlike (team_universe db_alone) (team_db ∷ []) (codes "team") [] → ⊥
+    by alike = elim (IsIn-from_Contains (codes "db" ∷ []) alike.0 alike.1) [
+      | inl db ↦
+          let e : true ≡ false = ap (λ x. same_text x (codes "db")) db ∙ alike.2.0 in absurd (cc)
+      | inr none ↦ none
+    ]
+
+-- where no other team is possible
+possible_at_team : IsSpaceCompleteAt db_alone_possible (team_db ∷ team_not_db ∷ []) (codes "team")
+possible_at_team text valid may = elim (cases_Bool (same_text text (codes "db"))) [
+  | inl db ↦ (
+    codes "db",
+    Contains-from_IsIn (codes "db" ∷ []) (codes "db") (inl refl),
+    (sym db, (sym (ap not db), tt)),
+  )
+  | inr other ↦
+      let none : true ≡ false = sym may ∙ ap (λ b. not ((not b && true) || false)) other in absurd (cc)
+]
+
+pub possible : IsSpaceComplete db_alone_possible (team_db ∷ team_not_db ∷ [])
+possible =
+    space_complete_by_names db_alone_possible (team_db ∷ team_not_db ∷ []) db_alone_is_universe
+    ((λ some. possible_at_team), ((λ some. possible_at_team), tt))

@@ -1,0 +1,138 @@
+-- Where a universe and a space are complete: by texts that cover all, and for matchers that are among
+-- others.
+use Rattle.std.proofs.Common.{◌≡◌, ◌≢◌, ℕ, List, [], ◌∷◌, ◌++◌, ap}
+use Rattle.std.specs.List.{AllByRecursion}
+use Rattle.am_universe.specs.Universe.{Label, IsUniverse}
+use Rattle.am_universe.proofs.ListLemmas.{IsIn, IsIn-from_Contains, AllByRecursion-at}
+use Rattle.am_universe.proofs.ListLemmas.{AllByRecursion-each}
+use Rattle.am_labels.specs.Matcher.{Condition, holds}
+use Rattle.am_labels.specs.Space.{Space}
+use Rattle.am_files.specs.ConfigFile.{Configuration}
+use Rattle.am_eval.specs.World.{World}
+use Rattle.am_classes.specs.Alike.{AreAlike, Covers}
+use Rattle.am_complete.specs.Complete.{about, HasAlike, IsCompleteAt, IsComplete, AreAmong, may_have}
+use Rattle.am_complete.specs.Complete.{IsSpaceCompleteAt, IsSpaceComplete}
+use Rattle.am_asked.specs.Asked.{route_conditions, rule_conditions, equal_conditions}
+use Rattle.am_asked.specs.Asked.{silence_conditions, world_conditions}
+use Rattle.am_complete.specs.Complete.{impossible_conditions}
+use Rattle.am_complete.proofs.Alike.{alike_joined, is_about, about_is, is_among}
+use Rattle.am_complete.proofs.AmongMatchers.{first_among, last_among, among_through}
+use Rattle.am_complete.proofs.CompleteUniverses.{complete_without_matchers, by_names}
+use Rattle.am_complete.proofs.CompleteUniverses.{space_complete_without_matchers}
+use Rattle.am_every_alert.specs.Deciding.{coverage_conditions}
+
+-- ---- By texts that cover all.
+
+pub complete_by_cover : (u : List Label) (ms : List Condition) (name : List ℕ)
+    (texts : List (List ℕ)) → Covers (about name ms) texts
+    → AllByRecursion (λ x. HasAlike u ms name x) texts → IsCompleteAt u ms name
+complete_by_cover u ms name texts covers each text valid =
+    let one = covers text valid in
+    let there = AllByRecursion-at (λ x. HasAlike u ms name x) texts one.0 each
+    (IsIn-from_Contains texts one.0 one.1) in
+    (there.0, there.1, alike_joined (about name ms) there.0 one.0 text there.2 one.2)
+
+-- ---- For fewer matchers.
+
+-- what is alike to matchers is alike to some of them
+abbrev AreAlikeTo : List ℕ → List ℕ → Condition → Type 0
+AreAlikeTo x y m = holds m.op m.value x ≡ holds m.op m.value y
+
+alike_to_some : (ns ms : List Condition) (x y : List ℕ)
+    → ((m : Condition) → IsIn ns m → IsIn ms m) → AreAlike ms x y → AreAlike ns x y
+alike_to_some ns ms x y among h =
+    AllByRecursion-each (AreAlikeTo x y) ns
+    (λ m i. AllByRecursion-at (AreAlikeTo x y) ms m h (among m i))
+
+-- and some of the matchers on a label are among all of them
+about_among : (name : List ℕ) (ns ms : List Condition) → AreAmong ns ms
+    → (m : Condition) → IsIn (about name ns) m → IsIn (about name ms) m
+about_among name ns ms among m i =
+    let r = about_is name ns m i in is_about name ms m (is_among ns ms m among r.0) r.1
+
+pub complete_at_for_some : (u : List Label) (ns ms : List Condition) (name : List ℕ)
+    → AreAmong ns ms → IsCompleteAt u ms name → IsCompleteAt u ns name
+complete_at_for_some u ns ms name among complete text valid =
+    let one = complete text valid in (
+      one.0,
+      one.1,
+      alike_to_some (about name ns) (about name ms) one.0 text (about_among name ns ms among) one.2,
+    )
+
+pub complete_for_some : (u : List Label) (ns ms : List Condition) → AreAmong ns ms
+    → IsComplete u ms → IsComplete u ns
+complete_for_some u ns ms among complete name named =
+    complete_at_for_some u ns ms name among (complete name named)
+
+-- ---- By the names that matchers ask of.
+
+abbrev IsCompleteOn : List Label → List Condition → Condition → Type 0
+IsCompleteOn u ms m = m.name ≢ [] → IsCompleteAt u ms m.name
+
+pub complete_by_names : (u : List Label) (ms : List Condition) → IsUniverse u
+    → AllByRecursion (IsCompleteOn u ms) ms → IsComplete u ms
+complete_by_names u ms h each =
+    by_names (IsCompleteAt u ms) ms (λ name none. complete_without_matchers u ms name h none)
+    (λ m i. AllByRecursion-at (IsCompleteOn u ms) ms m each i)
+
+-- ---- Spaces.
+
+-- a space is complete where its universe is, and this is where nothing is impossible
+pub complete_space : (s : Space) (ms : List Condition) → IsComplete s.labels ms
+    → IsSpaceComplete s ms
+complete_space s ms complete name some text valid possible = complete name some text valid
+
+pub complete_universe : (s : Space) (ms : List Condition) → s.impossible ≡ []
+    → IsSpaceComplete s ms → IsComplete s.labels ms
+complete_universe s ms none complete name some text valid =
+    complete name some text valid (ap (λ lists. may_have lists name text) none)
+
+pub space_complete_for_some : (s : Space) (ns ms : List Condition) → AreAmong ns ms
+    → IsSpaceComplete s ms → IsSpaceComplete s ns
+space_complete_for_some s ns ms among complete name some text valid possible =
+    let one = complete name some text valid possible in (
+      one.0,
+      one.1,
+      alike_to_some (about name ns) (about name ms) one.0 text (about_among name ns ms among) one.2,
+    )
+
+pub space_complete_by_names : (s : Space) (ms : List Condition) → IsUniverse s.labels
+    → AllByRecursion (λ m. m.name ≢ [] → IsSpaceCompleteAt s ms m.name) ms → IsSpaceComplete s ms
+space_complete_by_names s ms h each =
+    by_names (IsSpaceCompleteAt s ms) ms
+    (λ name none. space_complete_without_matchers s ms name h none)
+    (λ m i. AllByRecursion-at (λ n. n.name ≢ [] → IsSpaceCompleteAt s ms n.name) ms m each i)
+
+-- ---- What is complete for a world is so for its routes.
+
+pub both_among : (ks ns ms : List Condition) → AreAmong ks ms → AreAmong ns ms
+    → AreAmong (ks ++ ns) ms
+both_among [] ns ms h k = k
+both_among (m ∷ ks) ns ms h k = (h.0, both_among ks ns ms h.1 k)
+
+routes_in_world : (w : World) → AreAmong (route_conditions w.config.root) (world_conditions w)
+routes_in_world w =
+    first_among (route_conditions w.config.root)
+    (rule_conditions w.config.rules
+    ++ (equal_conditions w.config.rules w.alerts ++ silence_conditions w.silences))
+
+pub complete_for_routes : (s : Space) (w : World)
+    → IsSpaceComplete s (world_conditions w ++ impossible_conditions s.impossible)
+    → IsSpaceComplete s (coverage_conditions s w.config)
+complete_for_routes s w complete =
+    let routes = route_conditions w.config.root in
+    let world = world_conditions w in
+    let lists = impossible_conditions s.impossible in
+    space_complete_for_some s (coverage_conditions s w.config) (world ++ lists)
+    (both_among routes lists (world ++ lists)
+    (among_through routes world (world ++ lists) (routes_in_world w) (first_among world lists))
+    (last_among world lists))
+    complete
+
+-- where nothing is impossible
+pub complete_without_lists : (u : List Label) (c : Configuration) (ms : List Condition)
+    → AreAmong (route_conditions c.root) ms → IsComplete u ms
+    → IsComplete u (coverage_conditions (record { labels = u; impossible = [] }) c)
+complete_without_lists u c ms among complete =
+    complete_for_some u (route_conditions c.root ++ []) ms
+    (both_among (route_conditions c.root) [] ms among tt) complete

@@ -1,0 +1,111 @@
+-- What the label sets of a universe say of every alert.
+use Rattle.std.proofs.Common.{◌≡◌, ◌↔◌, ℕ, List, Contains, sym, subst}
+use Rattle.std.specs.Prelude.{IsTrue}
+use Rattle.std.specs.List.{list_any}
+use Rattle.am_universe.specs.Universe.{IsUniverse}
+use Rattle.am_universe.specs.LabelSet.{LabelMap, label_set_of}
+use Rattle.am_labels.specs.Space.{Space, IsChoiceOf}
+use Rattle.am_records.specs.UniverseFile.{FileSaysUniverse}
+use Rattle.am_files.specs.ConfigFile.{Configuration}
+use Rattle.am_files.specs.Path.{leads_through}
+use Rattle.am_eval.specs.Routing.{ends, receivers}
+use Rattle.am_complete.specs.Complete.{IsSpaceComplete}
+use Rattle.am_every_alert.specs.EveryAlert.{IsAlertOf, HasUtf8Texts, NoAlertEndsAt, NoAlertEnters}
+use Rattle.am_every_alert.specs.EveryAlert.{NoAlertGoesTo}
+use Rattle.am_every_alert.specs.Deciding.{coverage_conditions}
+use Rattle.am_every_alert.proofs.SpaceAlerts.{ends_of_choice}
+use Rattle.am_every_alert.proofs.UniverseAlerts.{universe_alert}
+use Rattle.am_coverage.specs.declared.coverage.RouteCoverage.TheVariants as route_is
+use Rattle.am_coverage.specs.declared.coverage.ReceiverCoverage.TheVariants as receiver_is
+use Rattle.am_coverage.specs.Coverage.{IsDead, IsNeverEntered, IsUnmatched, first_entry, first_end}
+use Rattle.am_coverage.specs.Coverage.{route_coverage, receiver_coverage}
+use Rattle.am_coverage.proofs.FirstFound.{found_choice}
+use Rattle.am_coverage.proofs.RouteLaws.{live_ends, entered_is, entry_from_test}
+use Rattle.am_coverage.proofs.ReceiverLaws.{live_goes}
+use Rattle.am_every_alert.proofs.JsonData.{universe_texts}
+
+module _ (s : Space) (c : Configuration) (h : IsUniverse s.labels) where
+  -- ---- Over a complete space.
+
+  module _ (complete : IsSpaceComplete s (coverage_conditions s c)) where
+    pub none_ends : (path : List ℕ) → IsDead s c path → NoAlertEndsAt s c path
+    none_ends path dead alert is there =
+        let r = ends_of_choice s alert h is c complete in
+        dead r.0 r.1 (subst (λ paths. Contains paths path) (sym r.2) there)
+
+    pub none_enters : (path : List ℕ) → IsNeverEntered s c path → NoAlertEnters s c path
+    none_enters path never alert end is there leads =
+        let r = ends_of_choice s alert h is c complete in
+        never r.0 end r.1 (subst (λ paths. Contains paths end) (sym r.2) there) leads
+
+    pub none_goes : (receiver : ℕ) → IsUnmatched s c receiver → NoAlertGoesTo s c receiver
+    none_goes receiver unmatched alert is there =
+        let r = ends_of_choice s alert h is c complete in
+        unmatched r.0 r.1 (subst (λ found. Contains found receiver) (sym r.3) there)
+
+  -- ---- Over any universe.
+
+  module _ (texts : HasUtf8Texts s.labels) where
+    abbrev set_of : List ℕ → LabelMap
+    set_of choice = label_set_of s.labels choice
+
+    choice_is_alert : (choice : List ℕ) → IsChoiceOf s choice → IsAlertOf s (set_of choice)
+    choice_is_alert choice possible = (universe_alert s.labels choice h texts, possible.1)
+
+    dead_by_alerts : (path : List ℕ) → NoAlertEndsAt s c path → IsDead s c path
+    dead_by_alerts path none choice possible there =
+        none (set_of choice) (choice_is_alert choice possible) there
+
+    never_by_alerts : (path : List ℕ) → NoAlertEnters s c path → IsNeverEntered s c path
+    never_by_alerts path none choice end possible there leads =
+        none (set_of choice) end (choice_is_alert choice possible) there leads
+
+    unmatched_by_alerts : (receiver : ℕ) → NoAlertGoesTo s c receiver
+        → IsUnmatched s c receiver
+    unmatched_by_alerts receiver none choice possible there =
+        none (set_of choice) (choice_is_alert choice possible) there
+
+    pub some_ends : (path choice : List ℕ) → route_coverage s c path ≡ route_is.Live choice
+        → (alert : LabelMap) × IsAlertOf s alert × Contains (ends alert c) path
+    some_ends path choice e =
+        let r = live_ends s c path choice e in
+        (set_of choice, choice_is_alert choice r.0, r.1)
+
+    pub some_goes : (receiver : ℕ) (choice : List ℕ)
+        → receiver_coverage s c receiver ≡ receiver_is.Live choice
+        → (alert : LabelMap) × IsAlertOf s alert × Contains (receivers alert c) receiver
+    some_goes receiver choice e =
+        let r = live_goes s c receiver choice e in
+        (set_of choice, choice_is_alert choice r.0, r.1)
+
+    pub some_enters : (path : List ℕ) → route_coverage s c path ≡ route_is.Entered
+        → (alert : LabelMap) × (end : List ℕ) × IsAlertOf s alert × Contains (ends alert c) end
+        × IsTrue (leads_through path end)
+    some_enters path e =
+        let first = (entered_is (first_entry s c path) (first_end s c path) e).1 in
+        let r = found_choice s
+        (λ choice. list_any (leads_through path) (ends (set_of choice) c)) first.0 first.1 in
+        let entry = entry_from_test path (ends (set_of first.0) c) r.1 in
+        (set_of first.0, entry.0, choice_is_alert first.0 r.0, entry.1, entry.2)
+
+-- ---- Over the universe of a file, which is complete.
+
+module _ (bytes : List ℕ) (s : Space) (c : Configuration) (says : FileSaysUniverse bytes s)
+    (complete : IsSpaceComplete s (coverage_conditions s c)) where
+  universe : IsUniverse s.labels
+  universe = says.3.is_universe
+
+  texts : HasUtf8Texts s.labels
+  texts = universe_texts bytes s says
+
+  pub dead_exactly : (path : List ℕ) → IsDead s c path ↔ NoAlertEndsAt s c path
+  dead_exactly path =
+      (none_ends s c universe complete path, dead_by_alerts s c universe texts path)
+
+  pub never_exactly : (path : List ℕ) → IsNeverEntered s c path ↔ NoAlertEnters s c path
+  never_exactly path =
+      (none_enters s c universe complete path, never_by_alerts s c universe texts path)
+
+  pub unmatched_exactly : (receiver : ℕ) → IsUnmatched s c receiver ↔ NoAlertGoesTo s c receiver
+  unmatched_exactly receiver =
+      (none_goes s c universe complete receiver, unmatched_by_alerts s c universe texts receiver)

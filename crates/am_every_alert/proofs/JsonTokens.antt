@@ -1,0 +1,196 @@
+-- The strings among the tokens of a text are UTF-8, where the text is.
+use Rattle.std.proofs.Common.{◌≡◌, ℕ, ◌-◌, ◌<◌, Bool, true, false, cond, ◌==◌, ◌&&◌}
+use Rattle.std.proofs.Common.{nat_eq, length, take, drop, List, []}
+use Rattle.std.proofs.Common.{◌∷◌, Option, Some, None, IsUtf8, refl, arith, inl, inr}
+use Rattle.std.specs.Prelude.{⊤}
+use Rattle.std.specs.List.{AllByRecursion, starts_with}
+use Rattle.std.proofs.lemmas.Bool.{cases_Bool, eqb-true}
+use Rattle.json.specs.Token.{Token, begin_object, end_object, begin_array, end_array, key, string}
+use Rattle.json.specs.Token.{number, boolean, null, bad}
+use Rattle.json.specs.Text.{content, plain}
+use Rattle.json.specs.Word.{is_operator, is_space, head, ends_word, literal, number_before}
+use Rattle.json.specs.Word.{after_number, word}
+use Rattle.json.specs.Ascii as ascii
+use Rattle.json.specs.Lex.{Lexeme, token, comma, colon, Class, quote, backslash, operator, space}
+use Rattle.json.specs.Lex.{other, class, operator_lexeme, string_token, Mode, between, in_word}
+use Rattle.json.specs.Lex.{in_string, in_escape, lex_byte, lex, Place, fresh, after_value}
+use Rattle.json.specs.Lex.{after_comma, after_key, begins_colon, may_begin, may_close, if_allowed}
+use Rattle.json.specs.Lex.{place_token, punctuate, tokens}
+use Rattle.am_every_alert.proofs.JsonTexts.{IsRest, rest_behind, behind_ascii, content_is_text}
+
+-- a token that is a string has a UTF-8 text
+abbrev pub HasText : Token → Type 0
+HasText begin_object = ⊤
+HasText end_object = ⊤
+HasText begin_array = ⊤
+HasText end_array = ⊤
+HasText (key s) = ⊤
+HasText (string s) = IsUtf8 s
+HasText (number s) = ⊤
+HasText (boolean b) = ⊤
+HasText null = ⊤
+HasText bad = ⊤
+
+abbrev HasTextInside : Lexeme → Type 0
+HasTextInside (token t) = HasText t
+HasTextInside comma = ⊤
+HasTextInside colon = ⊤
+
+-- ---- Lexemes.
+
+if_so : (b : Bool) (t : Token) → HasText t → HasText (cond b t bad)
+if_so true t h = h
+if_so false t h = tt
+
+literal_text : (name : List ℕ) (t : Token) (xs : List ℕ) → HasText t
+    → HasText (literal name t xs)
+literal_text name t xs h =
+    if_so (starts_with nat_eq xs name && ends_word (drop (length name) xs)) t h
+
+number_text : (xs : List ℕ) (o : Option (List ℕ)) → HasText (number_before xs o)
+number_text xs None = tt
+number_text xs (Some rest) =
+    if_so (ends_word rest) (number (take (length xs - length rest) xs)) tt
+
+one_of_four : (a b c : Bool) (t u v w : Token) → HasText t → HasText u → HasText v → HasText w
+    → HasText (cond a t (cond b u (cond c v w)))
+one_of_four true b c t u v w h i j k = h
+one_of_four false true c t u v w h i j k = i
+one_of_four false false true t u v w h i j k = j
+one_of_four false false false t u v w h i j k = k
+
+word_text : (xs : List ℕ) → HasText (word xs)
+unfolding word
+word_text xs =
+    one_of_four (head xs == ascii.lower_t) (head xs == ascii.lower_f) (head xs == ascii.lower_n)
+    (literal ascii.true_text (boolean true) xs) (literal ascii.false_text (boolean false) xs)
+    (literal ascii.null_text null xs) (number_before xs (after_number xs))
+    (literal_text ascii.true_text (boolean true) xs tt)
+    (literal_text ascii.false_text (boolean false) xs tt) (literal_text ascii.null_text null xs tt)
+    (number_text xs (after_number xs))
+
+one_of_six : (a b c d e : Bool)
+    → HasTextInside (cond a (token begin_object) (cond b (token end_object)
+    (cond c (token begin_array) (cond d (token end_array) (cond e comma colon)))))
+one_of_six true b c d e = tt
+one_of_six false true c d e = tt
+one_of_six false false true d e = tt
+one_of_six false false false true e = tt
+one_of_six false false false false true = tt
+one_of_six false false false false false = tt
+
+operator_text : (x : ℕ) → HasTextInside (operator_lexeme x)
+operator_text x =
+    one_of_six (x == ascii.open_brace) (x == ascii.close_brace) (x == ascii.open_bracket)
+    (x == ascii.close_bracket) (x == ascii.comma)
+
+string_text : (xs : List ℕ) (o : Option (List ℕ)) → IsUtf8 xs → content plain xs ≡ o
+    → HasText (string_token o)
+string_text xs None u e = tt
+string_text xs (Some s) u e = content_is_text xs s u e
+
+abbrev AreLexemes : List Lexeme → Type 0
+AreLexemes ls = AllByRecursion HasTextInside ls
+
+byte_text : (m : Mode) (c : Class) (x : ℕ) (xs : List ℕ) (k : Mode → List Lexeme)
+    → (c ≡ quote → IsUtf8 xs) → ((next : Mode) → AreLexemes (k next))
+    → AreLexemes (lex_byte m c x xs k)
+byte_text between quote x xs k u later =
+    (string_text xs (content plain xs) (u refl) refl, later in_string)
+byte_text between backslash x xs k u later = (tt, later in_word)
+byte_text between operator x xs k u later = (operator_text x, later between)
+byte_text between space x xs k u later = later between
+byte_text between other x xs k u later = (word_text (x ∷ xs), later in_word)
+byte_text in_word quote x xs k u later = later in_word
+byte_text in_word backslash x xs k u later = later in_word
+byte_text in_word operator x xs k u later = (operator_text x, later between)
+byte_text in_word space x xs k u later = later between
+byte_text in_word other x xs k u later = later in_word
+byte_text in_string quote x xs k u later = later between
+byte_text in_string backslash x xs k u later = later in_escape
+byte_text in_string operator x xs k u later = later in_string
+byte_text in_string space x xs k u later = later in_string
+byte_text in_string other x xs k u later = later in_string
+byte_text in_escape c x xs k u later = later in_string
+
+no_quote : (a b c : Bool)
+    → cond a backslash (cond b operator (cond c space other)) ≡ quote → ⊥
+no_quote true b c e = cc
+no_quote false true c e = cc
+no_quote false false true e = cc
+no_quote false false false e = cc
+
+behind_quote : (k x : ℕ) (xs : List ℕ) → IsRest k (x ∷ xs) → class x ≡ quote → IsUtf8 xs
+behind_quote k x xs h e = elim (cases_Bool (x == 34)) [
+  | inl is ↦
+      let small : x < 128 = omega (arith, eqb-true x 34 is) in behind_ascii k x xs small h
+  | inr not ↦
+      absurd (no_quote (x == 92) (is_operator x) (is_space x) (rw not at e))
+]
+
+lexeme_texts : (k : ℕ) (m : Mode) (xs : List ℕ) → IsRest k xs → AreLexemes (lex m xs)
+unfolding lex
+lexeme_texts k m [] h = tt
+lexeme_texts k m (x ∷ xs) h =
+    let behind = rest_behind k x xs h in
+    byte_text m (class x) x xs (λ next. lex next xs) (behind_quote k x xs h)
+    (λ next. lexeme_texts behind.0 next xs behind.1)
+
+-- ---- Tokens.
+
+abbrev pub AreTokens : List Token → Type 0
+AreTokens ts = AllByRecursion HasText ts
+
+allowed_texts : (b : Bool) (t : Token) (k : Place → List Token) (next : Place) → HasText t
+    → ((p : Place) → AreTokens (k p)) → AreTokens (if_allowed b t k next)
+allowed_texts true t k next h later = (h, later next)
+allowed_texts false t k next h later = (tt, tt)
+
+placed_texts : (p : Place) (t : Token) (before_colon : Bool) (k : Place → List Token) → HasText t
+    → ((next : Place) → AreTokens (k next)) → AreTokens (place_token p t before_colon k)
+placed_texts p begin_object b k h later = allowed_texts (may_begin p) begin_object k fresh tt later
+placed_texts p end_object b k h later =
+    allowed_texts (may_close p) end_object k after_value tt later
+placed_texts p begin_array b k h later = allowed_texts (may_begin p) begin_array k fresh tt later
+placed_texts p end_array b k h later = allowed_texts (may_close p) end_array k after_value tt later
+placed_texts p (key s) b k h later = (tt, tt)
+placed_texts p (string s) true k h later =
+    allowed_texts (may_begin p) (key s) k after_key tt later
+placed_texts p (string s) false k h later =
+    allowed_texts (may_begin p) (string s) k after_value h later
+placed_texts p (number s) b k h later =
+    allowed_texts (may_begin p) (number s) k after_value tt later
+placed_texts p (boolean v) b k h later =
+    allowed_texts (may_begin p) (boolean v) k after_value tt later
+placed_texts p null b k h later = allowed_texts (may_begin p) null k after_value tt later
+placed_texts p bad b k h later = (tt, tt)
+
+token_texts : (p : Place) (ls : List Lexeme) → AreLexemes ls → AreTokens (punctuate p ls)
+unfolding punctuate
+token_texts fresh [] h = tt
+token_texts after_value [] h = tt
+token_texts after_comma [] h = (tt, tt)
+token_texts after_key [] h = (tt, tt)
+token_texts fresh (token t ∷ ls) h =
+    placed_texts fresh t (begins_colon ls) (λ next. punctuate next ls) h.0
+    (λ next. token_texts next ls h.1)
+token_texts after_value (token t ∷ ls) h =
+    placed_texts after_value t (begins_colon ls) (λ next. punctuate next ls) h.0
+    (λ next. token_texts next ls h.1)
+token_texts after_comma (token t ∷ ls) h =
+    placed_texts after_comma t (begins_colon ls) (λ next. punctuate next ls) h.0
+    (λ next. token_texts next ls h.1)
+token_texts after_key (token t ∷ ls) h =
+    placed_texts after_key t (begins_colon ls) (λ next. punctuate next ls) h.0
+    (λ next. token_texts next ls h.1)
+token_texts fresh (comma ∷ ls) h = (tt, tt)
+token_texts after_value (comma ∷ ls) h = token_texts after_comma ls h.1
+token_texts after_comma (comma ∷ ls) h = (tt, tt)
+token_texts after_key (comma ∷ ls) h = (tt, tt)
+token_texts fresh (colon ∷ ls) h = (tt, tt)
+token_texts after_value (colon ∷ ls) h = (tt, tt)
+token_texts after_comma (colon ∷ ls) h = (tt, tt)
+token_texts after_key (colon ∷ ls) h = token_texts fresh ls h.1
+
+pub tokens_of_text : (text : List ℕ) → IsUtf8 text → AreTokens (tokens text)
+tokens_of_text text u = token_texts fresh (lex between text) (lexeme_texts 0 between text u)

@@ -1,0 +1,13 @@
+pub mod StandingChoice
+pub mod CompleteSpaces
+pub mod UniverseAlerts
+pub mod SameFate
+pub mod SpaceAlerts
+pub mod CompleteExample
+pub mod OptionParts
+pub mod JsonTexts
+pub mod JsonTokens
+pub mod JsonGrammar
+pub mod JsonData
+pub mod RoomLemmas
+pub mod EveryAlert

@@ -1,0 +1,242 @@
+-- What meets the same of the matchers that decide it has the same fate.
+use Rattle.std.proofs.Common.{◌≡◌, ℕ, ◌+◌, List, [], ◌∷◌, ◌++◌, map, Bool, false, cond, not}
+use Rattle.std.proofs.Common.{refl, sym, ap, ◌∙◌, inl, inr}
+use Rattle.std.specs.Prelude.{◌&&◌, ◌||◌, ◌==◌}
+use Rattle.std.specs.List.{flat_map, filter, filter_map, list_any}
+use Rattle.std.proofs.lemmas.Bool.{cases_Bool}
+use Rattle.am_universe.specs.LabelSet.{LabelMap}
+use Rattle.am_universe.proofs.ListLemmas.{AllByRecursion-each, AllByRecursion-at}
+use Rattle.am_labels.specs.Matcher.{Condition, condition_holds, all_hold}
+use Rattle.am_labels.specs.Space.{is_possible}
+use Rattle.am_records.specs.SilencesFile.{Silence}
+use Rattle.am_files.specs.ConfigFile.{RouteTree, Routes, route, no_routes, next_route, matchers_of}
+use Rattle.am_files.specs.ConfigFile.{continues_of, Configuration, Rule}
+use Rattle.am_eval.specs.Inhibition.{have_equal, inhibits, is_inhibited}
+use Rattle.am_eval.specs.Routing.{ends_tried, or_itself, ends_at, children_seen}
+use Rattle.am_eval.specs.Routing.{ends, receivers, receiver_at}
+use Rattle.am_eval.specs.Silencing.{is_active, hides, is_silenced}
+use Rattle.am_eval.specs.World.{World}
+use Rattle.am_eval.specs.Tree.{Part, Not, And, Or}
+use Rattle.am_eval.specs.Question.{Question, Simple, Any, Silenced, Inhibited, Receiver, Ends}
+use Rattle.am_eval.specs.Question.{Enters, Braces, holds_of, satisfies}
+use Rattle.am_files.specs.Path.{leads_through}
+use Rattle.am_universe.specs.Text.{same_text}
+use Rattle.am_every_alert.specs.Deciding.{simple_conditions, question_conditions}
+use Rattle.am_eval.proofs.HidingConditions.{same_values}
+use Rattle.am_every_alert.specs.EveryAlert.{MeetsTheSame, HaveTheSameFate}
+use Rattle.am_complete.specs.Complete.{AreAmong}
+use Rattle.am_asked.specs.Asked.{route_conditions, routes_conditions, rule_conditions}
+use Rattle.am_asked.specs.Asked.{equal_to_alert, equal_conditions, silence_conditions}
+use Rattle.am_complete.specs.Complete.{impossible_conditions}
+use Rattle.am_asked.specs.Asked.{world_conditions}
+use Rattle.am_complete.proofs.Alike.{is_among}
+
+module _ (s t : LabelMap) where
+  abbrev IsMetAlike : Condition → Type 0
+  IsMetAlike m = condition_holds s m ≡ condition_holds t m
+
+  -- ---- Parts of the matchers.
+
+  pub met_of_some : (ns ms : List Condition) → AreAmong ns ms → MeetsTheSame ms s t
+      → MeetsTheSame ns s t
+  met_of_some ns ms among h =
+      AllByRecursion-each IsMetAlike ns
+      (λ m i. AllByRecursion-at IsMetAlike ms m h (is_among ns ms m among i))
+
+  pub front_met : (ms ns : List Condition) → MeetsTheSame (ms ++ ns) s t → MeetsTheSame ms s t
+  front_met [] ns h = tt
+  front_met (m ∷ ms) ns h = (h.0, front_met ms ns h.1)
+
+  pub rest_met : (ms ns : List Condition) → MeetsTheSame (ms ++ ns) s t → MeetsTheSame ns s t
+  rest_met [] ns h = h
+  rest_met (m ∷ ms) ns h = rest_met ms ns h.1
+
+  pub all_alike : (ms : List Condition) → MeetsTheSame ms s t → all_hold s ms ≡ all_hold t ms
+  all_alike [] h = refl
+  all_alike (m ∷ ms) h = λ i. h.0 i && all_alike ms h.1 i
+
+  -- ---- Routes.
+
+  own_alike : (r : RouteTree) → MeetsTheSame (route_conditions r) s t
+      → all_hold s (matchers_of r) ≡ all_hold t (matchers_of r)
+  own_alike (route settings children) h =
+      all_alike settings.matchers (front_met settings.matchers (routes_conditions children) h)
+
+  mutual
+    ends_alike : (r : RouteTree) → MeetsTheSame (route_conditions r) s t
+        → ends_at s r ≡ ends_at t r
+    ends_alike (route settings children) h =
+        let own = own_alike (route settings children) h in
+        let below = children_alike children 0
+        (rest_met settings.matchers (routes_conditions children) h) in
+        λ i. cond (own i) (or_itself (ends_tried (below i))) []
+
+    children_alike : (rs : Routes) (position : ℕ) → MeetsTheSame (routes_conditions rs) s t
+        → children_seen s position rs ≡ children_seen t position rs
+    children_alike no_routes position h = refl
+    children_alike (next_route r rs) position h =
+        let first = front_met (route_conditions r) (routes_conditions rs) h in
+        let own = own_alike r first in
+        let below = ends_alike r first in
+        let later = children_alike rs (position + 1)
+        (rest_met (route_conditions r) (routes_conditions rs) h) in
+        λ i. record {
+          matches = own i;
+          continues = continues_of r;
+          ends = map (λ path. position ∷ path) (below i);
+        } ∷ later i
+
+  pub same_ends : (c : Configuration) → MeetsTheSame (route_conditions c.root) s t
+      → ends s c ≡ ends t c
+  same_ends c h = ends_alike c.root h
+
+  pub same_receivers : (c : Configuration) → MeetsTheSame (route_conditions c.root) s t
+      → receivers s c ≡ receivers t c
+  same_receivers c h = ap (filter_map (receiver_at c)) (same_ends c h)
+
+  -- ---- Silences and impossible lists.
+
+  silences_alike : (w : World) (silences : List Silence)
+      → MeetsTheSame (silence_conditions silences) s t
+      → list_any (hides w s) silences ≡ list_any (hides w t) silences
+  silences_alike w [] h = refl
+  silences_alike w (silence ∷ silences) h =
+      let here = all_alike silence.matchers
+      (front_met silence.matchers (silence_conditions silences) h) in
+      let later = silences_alike w silences
+      (rest_met silence.matchers (silence_conditions silences) h) in
+      λ i. (is_active w.instant silence && here i) || later i
+
+  pub same_silenced : (w : World) → MeetsTheSame (silence_conditions w.silences) s t
+      → is_silenced w s ≡ is_silenced w t
+  same_silenced w h = silences_alike w w.silences h
+
+  lists_alike : (lists : List (List Condition)) → MeetsTheSame (impossible_conditions lists) s t
+      → list_any (all_hold s) lists ≡ list_any (all_hold t) lists
+  lists_alike [] h = refl
+  lists_alike (ms ∷ lists) h =
+      let here = all_alike ms (front_met ms (impossible_conditions lists) h) in
+      let later = lists_alike lists (rest_met ms (impossible_conditions lists) h) in
+      λ i. here i || later i
+
+  pub same_possible : (lists : List (List Condition))
+      → MeetsTheSame (impossible_conditions lists) s t
+      → is_possible lists s ≡ is_possible lists t
+  same_possible lists h = ap not (lists_alike lists h)
+
+  -- ---- Inhibition rules.
+
+  equal_alike : (names : List (List ℕ)) (firing : LabelMap)
+      → MeetsTheSame (equal_to_alert names firing) s t
+      → have_equal names firing s ≡ have_equal names firing t
+  equal_alike names firing h =
+      sym (same_values firing s names) ∙ all_alike (equal_to_alert names firing) h
+      ∙ same_values firing t names
+
+  unfired : (rule : Rule) (firing other : LabelMap) → all_hold firing rule.source ≡ false
+      → inhibits rule firing other ≡ false
+  unfired rule firing other e = rw e refl
+
+  inhibits_alike : (rule : Rule) (firing : LabelMap) → MeetsTheSame rule.source s t
+      → MeetsTheSame rule.target s t → MeetsTheSame (equal_to_alert rule.equal firing) s t
+      → inhibits rule firing s ≡ inhibits rule firing t
+  inhibits_alike rule firing source target equal =
+      let on_source = all_alike rule.source source in
+      let on_target = all_alike rule.target target in
+      let values = equal_alike rule.equal firing equal in
+      λ i. all_hold firing rule.source && on_target i && values i
+      && not ((all_hold firing rule.source && all_hold firing rule.target)
+      && (on_source i && on_target i))
+
+  abbrev fires : Rule → LabelMap → Bool
+  fires rule firing = all_hold firing rule.source
+
+  alerts_alike : (rule : Rule) (alerts : List LabelMap) → MeetsTheSame rule.source s t
+      → MeetsTheSame rule.target s t
+      → MeetsTheSame (flat_map (equal_to_alert rule.equal) (filter (fires rule) alerts)) s t
+      → list_any (λ a. inhibits rule a s) alerts ≡ list_any (λ a. inhibits rule a t) alerts
+  alerts_alike rule [] source target equal = refl
+  alerts_alike rule (a ∷ alerts) source target equal =
+      let others = flat_map (equal_to_alert rule.equal) (filter (fires rule) alerts) in
+      elim (cases_Bool (fires rule a)) [
+        | inl fired ↦
+            let both : MeetsTheSame (equal_to_alert rule.equal a ++ others) s t =
+            rw fired at equal in
+            let here = inhibits_alike rule a source target
+            (front_met (equal_to_alert rule.equal a) others both) in
+            let later = alerts_alike rule alerts source target
+            (rest_met (equal_to_alert rule.equal a) others both) in
+            λ i. here i || later i
+        | inr not_fired ↦
+            let left : MeetsTheSame others s t = rw not_fired at equal in
+            let here = unfired rule a s not_fired ∙ sym (unfired rule a t not_fired) in
+            let later = alerts_alike rule alerts source target left in
+            λ i. here i || later i
+      ]
+
+  rules_alike : (rules : List Rule) (alerts : List LabelMap)
+      → MeetsTheSame (rule_conditions rules) s t
+      → MeetsTheSame (equal_conditions rules alerts) s t
+      → list_any (λ rule. list_any (λ a. inhibits rule a s) alerts) rules
+      ≡ list_any (λ rule. list_any (λ a. inhibits rule a t) alerts) rules
+  rules_alike [] alerts sides equal = refl
+  rules_alike (rule ∷ rules) alerts sides equal =
+      let own = rule.source ++ rule.target in
+      let mine = front_met own (rule_conditions rules) sides in
+      let asked = flat_map (equal_to_alert rule.equal) (filter (fires rule) alerts) in
+      let here = alerts_alike rule alerts (front_met rule.source rule.target mine)
+      (rest_met rule.source rule.target mine)
+      (front_met asked (equal_conditions rules alerts) equal) in
+      let later = rules_alike rules alerts (rest_met own (rule_conditions rules) sides)
+      (rest_met asked (equal_conditions rules alerts) equal) in
+      λ i. here i || later i
+
+  pub same_inhibited : (w : World) → MeetsTheSame (rule_conditions w.config.rules) s t
+      → MeetsTheSame (equal_conditions w.config.rules w.alerts) s t
+      → is_inhibited w s ≡ is_inhibited w t
+  same_inhibited w sides equal = rules_alike w.config.rules w.alerts sides equal
+
+  -- ---- A world.
+
+  pub same_fate : (w : World) → MeetsTheSame (world_conditions w) s t → HaveTheSameFate w s t
+  same_fate w h =
+      let routes = route_conditions w.config.root in
+      let sides = rule_conditions w.config.rules in
+      let equal = equal_conditions w.config.rules w.alerts in
+      let silences = silence_conditions w.silences in
+      let on_routes = front_met routes (sides ++ (equal ++ silences)) h in
+      let others = rest_met routes (sides ++ (equal ++ silences)) h in
+      let more = rest_met sides (equal ++ silences) others in
+      record {
+        same_ends = same_ends w.config on_routes;
+        same_receivers = same_receivers w.config on_routes;
+        same_silenced = same_silenced w (rest_met equal silences more);
+        same_inhibited = same_inhibited w (front_met sides (equal ++ silences) others)
+            (front_met equal silences more);
+      }
+
+  -- ---- Questions.
+
+  part_alike : (w : World) (simple : Simple) → HaveTheSameFate w s t
+      → MeetsTheSame (simple_conditions simple) s t → holds_of w simple s ≡ holds_of w simple t
+  part_alike w Any fate h = refl
+  part_alike w Silenced fate h = fate.same_silenced
+  part_alike w Inhibited fate h = fate.same_inhibited
+  part_alike w (Receiver receiver) fate h =
+      ap (list_any (λ other. other == receiver)) fate.same_receivers
+  part_alike w (Ends path) fate h = ap (list_any (λ end. same_text end path)) fate.same_ends
+  part_alike w (Enters path) fate h = ap (list_any (leads_through path)) fate.same_ends
+  part_alike w (Braces matchers) fate h = all_alike matchers h
+
+  pub same_truth : (w : World) (q : Question) → HaveTheSameFate w s t
+      → MeetsTheSame (question_conditions q) s t → satisfies w q s ≡ satisfies w q t
+  same_truth w (Part simple) fate h = part_alike w simple fate h
+  same_truth w (Not q) fate h = ap not (same_truth w q fate h)
+  same_truth w (And q r) fate h =
+      let one = same_truth w q fate (front_met (question_conditions q) (question_conditions r) h) in
+      let two = same_truth w r fate (rest_met (question_conditions q) (question_conditions r) h) in
+      λ i. one i && two i
+  same_truth w (Or q r) fate h =
+      let one = same_truth w q fate (front_met (question_conditions q) (question_conditions r) h) in
+      let two = same_truth w r fate (rest_met (question_conditions q) (question_conditions r) h) in
+      λ i. one i || two i

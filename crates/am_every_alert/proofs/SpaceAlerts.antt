@@ -1,0 +1,144 @@
+-- The alerts of a space, and the choices that stand for them.
+use Rattle.std.proofs.Common.{◌≡◌, ℕ, List, [], ◌∷◌, ◌++◌, Contains, Option, Some, None, true, false}
+use Rattle.std.proofs.Common.{not, refl, sym, ap, ◌∙◌, subst, inl, inr}
+use Rattle.std.specs.Prelude.{IsTrue, IsFalse, unwrap_or}
+use Rattle.std.specs.List.{list_any}
+use Rattle.std.specs.FinMap.{get}
+use Rattle.std.specs.Str.{IsUtf8}
+use Rattle.std.proofs.lemmas.Bool.{cases_Bool, and_parts}
+use Rattle.std.proofs.lemmas.Str.{IsUtf8-nil}
+use Rattle.am_universe.specs.Universe.{Label, IsUniverse, sizes}
+use Rattle.am_universe.specs.Choice.{IsWhole}
+use Rattle.am_universe.specs.LabelSet.{LabelMap, value_of, label_set_of}
+use Rattle.am_universe.proofs.ListLemmas.{IsIn, IsIn-from_Contains, Contains-from_IsIn}
+use Rattle.am_labels.specs.Matcher.{Condition, all_hold}
+use Rattle.am_labels.specs.Space.{Space, is_possible, IsChoiceOf}
+use Rattle.am_labels.proofs.Passing.{any_in, in_any}
+use Rattle.am_files.specs.ConfigFile.{Configuration}
+use Rattle.am_eval.specs.World.{World}
+use Rattle.am_eval.specs.Question.{Question, satisfies, answers}
+use Rattle.am_eval.specs.Routing.{ends, receivers}
+use Rattle.am_eval.proofs.AnswerLaws.{answers_exact}
+use Rattle.am_classes.specs.Alike.{AreAlike}
+use Rattle.am_complete.specs.Complete.{about, label_texts, HasAlike, IsComplete, IsSpaceComplete}
+use Rattle.am_complete.specs.Complete.{asks_only_of, matches_text, may_have}
+use Rattle.am_asked.specs.Asked.{route_conditions, world_conditions}
+use Rattle.am_complete.specs.Complete.{impossible_conditions}
+use Rattle.am_complete.proofs.Alike.{alike_itself}
+use Rattle.am_complete.proofs.LabelTexts.{undeclared_texts}
+use Rattle.am_complete.proofs.CompleteUniverses.{alone_truth, takes_away}
+use Rattle.am_every_alert.specs.EveryAlert.{IsAlert, IsAlertOf, MeetsTheSame, HaveTheSameFate}
+use Rattle.am_every_alert.specs.Deciding.{coverage_conditions, question_conditions, asked_conditions}
+use Rattle.am_every_alert.proofs.CompleteSpaces.{complete_space}
+use Rattle.am_every_alert.proofs.StandingChoice.{standing_choice}
+use Rattle.am_every_alert.proofs.SameFate.{front_met, rest_met, same_ends, same_receivers}
+use Rattle.am_every_alert.proofs.SameFate.{same_possible, same_fate, same_truth}
+
+-- ---- A choice that meets the same of matchers.
+
+-- a label of an alert has a UTF-8 text, absence included
+utf8_value : (s : LabelMap) (name : List ℕ) → IsAlert s → IsUtf8 (value_of s name)
+utf8_value s name alert = by (get s name) refl
+  where
+    by : (o : Option (List ℕ)) → get s name ≡ o → IsUtf8 (unwrap_or o [])
+    by None e = IsUtf8-nil
+    by (Some text) e = (alert name text e).1
+
+-- and no label of it is without a name
+no_value : (s : LabelMap) → IsAlert s → value_of s [] ≡ []
+no_value s alert = by (get s []) refl
+  where
+    by : (o : Option (List ℕ)) → get s [] ≡ o → unwrap_or o [] ≡ []
+    by None e = refl
+    by (Some text) e = absurd ((alert [] text e).0 refl)
+
+-- none takes that of a possible alert away
+possible_value : (impossible : List (List Condition)) (alert : LabelMap) (name : List ℕ)
+    → IsTrue (is_possible impossible alert)
+    → IsTrue (may_have impossible name (value_of alert name))
+possible_value impossible alert name possible =
+    elim (cases_Bool (list_any (takes_away name (value_of alert name)) impossible)) [
+      | inl some ↦
+          let found = any_in (takes_away name (value_of alert name)) impossible some in
+          let parts = and_parts (asks_only_of name found.0)
+          (matches_text (value_of alert name) found.0) found.2 in
+          let matched = in_any (all_hold alert) impossible found.0 found.1
+          (alone_truth alert name found.0 parts.0 ∙ parts.1) in
+          let both : true ≡ false = sym possible ∙ ap not matched in absurd (cc)
+      | inr none ↦ ap not none
+    ]
+
+alert_alike : (s : Space) (ms : List Condition) (alert : LabelMap) → IsUniverse s.labels
+    → IsSpaceComplete s ms → IsAlertOf s alert → (name : List ℕ)
+    → HasAlike s.labels ms name (value_of alert name)
+alert_alike s ms alert h complete is (c ∷ cs) =
+    complete (c ∷ cs) (λ e. cc) (value_of alert (c ∷ cs)) (utf8_value alert (c ∷ cs) is.0)
+    (possible_value s.impossible alert (c ∷ cs) is.1)
+alert_alike s ms alert h complete is [] =
+    let here : IsIn (label_texts s.labels []) [] =
+    subst (λ texts. IsIn texts []) (sym (undeclared_texts s.labels [] h (λ e. cc))) (inl refl) in (
+      [],
+      Contains-from_IsIn (label_texts s.labels []) [] here,
+      subst (AreAlike (about [] ms) []) (sym (no_value alert is.0)) (alike_itself (about [] ms) []),
+    )
+
+pub space_choice : (s : Space) (ms : List Condition) (alert : LabelMap) → IsUniverse s.labels
+    → IsSpaceComplete s ms → IsAlertOf s alert
+    → (c : List ℕ) × IsWhole (sizes s.labels) c × MeetsTheSame ms (label_set_of s.labels c) alert
+space_choice s ms alert h complete is =
+    standing_choice s.labels ms alert h (λ m i. alert_alike s ms alert h complete is m.name)
+
+pub alert_choice : (u : List Label) (ms : List Condition) (s : LabelMap) → IsUniverse u
+    → IsComplete u ms → IsAlert s
+    → (c : List ℕ) × IsWhole (sizes u) c × MeetsTheSame ms (label_set_of u c) s
+alert_choice u ms s h complete alert =
+    let space : Space = record { labels = u; impossible = [] } in
+    space_choice space ms s h (complete_space space ms complete) (alert, refl)
+
+-- ---- One with the same ends, and one that is an answer.
+
+module _ (s : Space) (alert : LabelMap) (h : IsUniverse s.labels) (is : IsAlertOf s alert) where
+  abbrev set_of : List ℕ → LabelMap
+  set_of choice = label_set_of s.labels choice
+
+  pub ends_of_choice : (c : Configuration) → IsSpaceComplete s (coverage_conditions s c)
+      → (choice : List ℕ) × IsChoiceOf s choice × (ends (set_of choice) c ≡ ends alert c)
+      × (receivers (set_of choice) c ≡ receivers alert c)
+  ends_of_choice c complete =
+      let r = space_choice s (coverage_conditions s c) alert h complete is in
+      let routes = route_conditions c.root in
+      let lists = impossible_conditions s.impossible in
+      let on_routes = front_met (set_of r.0) alert routes lists r.2 in
+      let possible = same_possible (set_of r.0) alert s.impossible
+      (rest_met (set_of r.0) alert routes lists r.2) in (
+        r.0,
+        (r.1, possible ∙ is.1),
+        same_ends (set_of r.0) alert c on_routes,
+        same_receivers (set_of r.0) alert c on_routes,
+      )
+
+  pub answer_of_alert : (w : World) (q : Question) → IsSpaceComplete s (asked_conditions s w q)
+      → IsTrue (satisfies w q alert)
+      → (choice : List ℕ) × Contains (answers s w q) choice
+      × HaveTheSameFate w (set_of choice) alert
+  answer_of_alert w q complete true_of_it =
+      let r = space_choice s (asked_conditions s w q) alert h complete is in
+      let set = set_of r.0 in
+      let world = world_conditions w in
+      let asked = question_conditions q in
+      let lists = impossible_conditions s.impossible in
+      let fate = same_fate set alert w (front_met set alert world (asked ++ lists) r.2) in
+      let others = rest_met set alert world (asked ++ lists) r.2 in
+      let truth = same_truth set alert w q fate (front_met set alert asked lists others) in
+      let possible = same_possible set alert s.impossible (rest_met set alert asked lists others) in
+      let answer = (answers_exact s w q r.0).1 ((r.1, possible ∙ is.1), truth ∙ true_of_it) in
+      (r.0, answer, fate)
+
+  pub no_alert : (w : World) (q : Question) → IsSpaceComplete s (asked_conditions s w q)
+      → answers s w q ≡ [] → IsFalse (satisfies w q alert)
+  no_alert w q complete none = elim (cases_Bool (satisfies w q alert)) [
+    | inl true_of_it ↦
+        let r = answer_of_alert w q complete true_of_it in
+        absurd (subst (λ xs. IsIn xs r.0) none (IsIn-from_Contains (answers s w q) r.0 r.1))
+    | inr false_of_it ↦ false_of_it
+  ]

@@ -1,0 +1,163 @@
+-- A choice of a universe that meets the same of some matchers as a label set, label by label.
+use Rattle.std.proofs.Common.{◌≡◌, ℕ, suc, ◌<◌, List, [], ◌∷◌, length, map, Option, Some, None}
+use Rattle.std.proofs.Common.{true, false, refl, sym, ap, ◌∙◌, subst, inl, inr, nat_lt, arith}
+use Rattle.std.specs.Prelude.{slice_get, option_and_then, unwrap_or}
+use Rattle.std.specs.List.{find}
+use Rattle.std.specs.Cmp.Lexicographic.{bytes_decides}
+use Rattle.std.proofs.lemmas.Bool.{cases_Bool, lt-ltb, and_from}
+use Rattle.am_universe.specs.Universe.{Label, Values, IsLabel, IsUniverse, names, sizes}
+use Rattle.am_universe.specs.Choice.{admits, IsWhole}
+use Rattle.am_universe.specs.LabelSet.{LabelMap, value_at, value_of, label_set_of}
+use Rattle.am_universe.proofs.ListLemmas.{IsIn, IsIn-from_Contains, IsIn-unmap, AllByRecursion-each}
+use Rattle.am_universe.proofs.ListLemmas.{AllByRecursion-at}
+use Rattle.am_universe.proofs.LabelSetLemmas.{value_of_declared, value_of_undeclared}
+use Rattle.am_labels.specs.Matcher.{Condition, holds, condition_holds}
+use Rattle.am_classes.specs.Alike.{AreAlike, HasAlikeIn}
+use Rattle.am_complete.specs.Complete.{about, label_texts, texts_of_label, HasAlike}
+use Rattle.am_every_alert.specs.EveryAlert.{MeetsTheSame}
+use Rattle.am_complete.proofs.Alike.{is_about}
+use Rattle.am_complete.proofs.LabelTexts.{has_name, found_in, declared_texts}
+use Rattle.am_complete.proofs.CompleteUniverses.{some_about}
+
+-- ---- The texts of a declared label.
+
+-- the text that a label has at a position, absence being the empty text
+abbrev text_at : Label → ℕ → List ℕ
+text_at l p = unwrap_or (value_at l p) []
+
+-- each text of a declared label stands at a position
+position_of : (vs : Values) (x : List ℕ) → IsIn (map (λ v. unwrap_or v []) vs) x
+    → (p : ℕ) × (p < length vs) × (unwrap_or (option_and_then (λ v. v) (slice_get vs p)) [] ≡ x)
+position_of [] x h = absurd h
+position_of (v ∷ vs) x (inl e) = (0, omega arith, e)
+position_of (v ∷ vs) x (inr h) =
+    let r = position_of vs x h in (suc r.0, omega (arith, r.1), r.2)
+
+not_first : (name : List ℕ) (m l : Label) → has_name name m ≡ false → m ≡ l → l.name ≡ name → ⊥
+not_first name m l apart first same =
+    let named : has_name name m ≡ true =
+    (bytes_decides m.name name).1 (ap (λ k. k.name) first ∙ same) in
+    let both : true ≡ false = sym named ∙ apart in absurd (cc)
+
+none_named : (name : List ℕ) (u : List Label) (l : Label) → find (has_name name) u ≡ None
+    → IsIn u l → l.name ≡ name → ⊥
+none_named name [] l e h same = h
+none_named name (m ∷ u) l e h same = elim (cases_Bool (has_name name m)) [
+  | inl named ↦ let found : Some m ≡ None = rw named at e in absurd (cc)
+  | inr apart ↦ elim h [
+    | inl first ↦ not_first name m l apart first same
+    | inr later ↦ none_named name u l (rw apart at e) later same
+  ]
+]
+
+-- ---- A choice by a position for each label.
+
+-- a position of a label, where a fact about both holds
+abbrev HasPosition : (Label → ℕ → Type 0) → Label → Type 0
+HasPosition P l = (p : ℕ) × (p < length l.values) × P l p
+
+-- the label stands in the universe, and the choice says such a position for it
+abbrev StandsIn : (Label → ℕ → Type 0) → List Label → List ℕ → Label → Type 0
+StandsIn P u c l =
+    (i : ℕ) × (p : ℕ) × (slice_get u i ≡ Some l) × (slice_get c i ≡ Some p) × P l p
+
+chosen : (P : Label → ℕ → Type 0) (l : Label) (u : List Label) (p : ℕ) (c : List ℕ) → P l p
+    → ((m : Label) → IsIn u m → StandsIn P u c m)
+    → (m : Label) → IsIn (l ∷ u) m → StandsIn P (l ∷ u) (p ∷ c) m
+chosen P l u p c here rest m (inl same) =
+    (0, p, ap Some same, refl, subst (λ k. P k p) same here)
+chosen P l u p c here rest m (inr later) =
+    let r = rest m later in (suc r.0, r.1, r.2, r.3, r.4)
+
+choice_of : (P : Label → ℕ → Type 0) (u : List Label)
+    → ((l : Label) → IsIn u l → HasPosition P l)
+    → (c : List ℕ) × IsWhole (sizes u) c × ((l : Label) → IsIn u l → StandsIn P u c l)
+choice_of P [] each = ([], (refl, refl), λ l h. absurd h)
+choice_of P (l ∷ u) each =
+    let first = each l (inl refl) in
+    let r = choice_of P u (λ m h. each m (inr h)) in
+    let admitted : admits (sizes (l ∷ u)) (first.0 ∷ r.0) ≡ true =
+    and_from (nat_lt first.0 (length l.values)) (admits (sizes u) r.0)
+    (lt-ltb first.0 (length l.values) first.1) r.1.0 in
+    (first.0 ∷ r.0, (admitted, ap suc r.1.1), chosen P l u first.0 r.0 first.2 r.2)
+
+-- ---- The position of a label whose text is alike to that of a label set.
+
+module _ (u : List Label) (ms : List Condition) (s : LabelMap) (h : IsUniverse u)
+    (each : (m : Condition) → IsIn ms m → HasAlike u ms m.name (value_of s m.name)) where
+  abbrev IsAlikeAt : Label → ℕ → Type 0
+  IsAlikeAt l p = AreAlike (about l.name ms) (text_at l p) (value_of s l.name)
+
+  alike_position : (l : Label) → IsIn u l → HasPosition IsAlikeAt l
+  alike_position l i = elim (some_about l.name ms) [
+    | inl none ↦ (
+      0,
+      (AllByRecursion-at IsLabel u l h.labels i).some_value,
+      subst (λ ns. AreAlike ns (text_at l 0) (value_of s l.name)) (sym none) tt,
+    )
+    | inr on ↦
+        let alike : HasAlike u ms l.name (value_of s l.name) =
+        subst (λ name. HasAlike u ms name (value_of s name)) on.2 (each on.0 on.1) in
+        let there = subst (λ texts. IsIn texts alike.0) (declared_texts u l h i)
+        (IsIn-from_Contains (label_texts u l.name) alike.0 alike.1) in
+        let at = position_of l.values alike.0 there in (
+          at.0,
+          at.1,
+          subst (λ x. AreAlike (about l.name ms) x (value_of s l.name)) (sym at.2) alike.2,
+        )
+  ]
+
+  -- a matcher that cannot tell two texts of its label apart
+  told : (m : Condition) (name x y : List ℕ) → IsIn ms m → m.name ≡ name
+      → AreAlike (about name ms) x y → holds m.op m.value x ≡ holds m.op m.value y
+  told m name x y i e alike =
+      AllByRecursion-at (λ n. holds n.op n.value x ≡ holds n.op n.value y) (about name ms) m alike
+      (is_about name ms m i e)
+
+  undeclared_met : (c : List ℕ) (m : Condition) → IsIn ms m → find (has_name m.name) u ≡ None
+      → condition_holds (label_set_of u c) m ≡ condition_holds s m
+  undeclared_met c m i e =
+      let alike : HasAlikeIn (about m.name ms) ([] ∷ []) (value_of s m.name) =
+      subst (λ o. HasAlikeIn (about m.name ms) (texts_of_label o) (value_of s m.name)) e
+      (each m i) in
+      let absent : alike.0 ≡ [] = only (IsIn-from_Contains ([] ∷ []) alike.0 alike.1) in
+      let value = value_of_undeclared u c m.name (λ there.
+      let l = IsIn-unmap (λ l. l.name) u m.name (IsIn-from_Contains (names u) m.name there) in
+      none_named m.name u l.0 e l.1 l.2) in
+      ap (holds m.op m.value) (value ∙ sym absent)
+      ∙ told m m.name alike.0 (value_of s m.name) i refl alike.2
+    where
+      only : {x : List ℕ} → IsIn ([] ∷ []) x → x ≡ []
+      only (inl same) = sym same
+      only (inr none) = absurd none
+
+  declared_met : (c : List ℕ) (m : Condition) (l : Label) → IsIn ms m → l.name ≡ m.name
+      → StandsIn IsAlikeAt u c l
+      → condition_holds (label_set_of u c) m ≡ condition_holds s m
+  declared_met c m l i named at =
+      let value : value_of (label_set_of u c) m.name ≡ text_at l at.1 =
+      ap (value_of (label_set_of u c)) (sym named)
+      ∙ value_of_declared u c at.0 l at.1 h at.2 at.3 in
+      ap (holds m.op m.value) value
+      ∙ told m l.name (text_at l at.1) (value_of s l.name) i (sym named) at.4
+      ∙ ap (λ name. holds m.op m.value (value_of s name)) named
+
+  met : (c : List ℕ) → ((l : Label) → IsIn u l → StandsIn IsAlikeAt u c l)
+      → (m : Condition) → IsIn ms m
+      → condition_holds (label_set_of u c) m ≡ condition_holds s m
+  met c stands m i = by (find (has_name m.name) u) refl
+    where
+      by : (o : Option Label) → find (has_name m.name) u ≡ o
+          → condition_holds (label_set_of u c) m ≡ condition_holds s m
+      by None e = undeclared_met c m i e
+      by (Some l) e =
+          let r = found_in m.name u l e in declared_met c m l i r.1 (stands l r.0)
+
+  pub standing_choice : (c : List ℕ) × IsWhole (sizes u) c × MeetsTheSame ms (label_set_of u c) s
+  standing_choice =
+      let r = choice_of IsAlikeAt u alike_position in (
+        r.0,
+        r.1,
+        AllByRecursion-each (λ m. condition_holds (label_set_of u r.0) m ≡ condition_holds s m) ms
+            (met r.0 r.2),
+      )

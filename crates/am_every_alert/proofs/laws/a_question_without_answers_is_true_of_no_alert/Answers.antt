@@ -1,0 +1,8 @@
+use Rattle.am_every_alert.proofs.SpaceAlerts.{answer_of_alert, no_alert}
+use Rattle.am_every_alert.proofs.laws.a_question_without_answers_is_true_of_no_alert.Goals as goal
+
+pub returns : goal.returns
+returns c = record {
+  answered = λ s w q alert h complete is. answer_of_alert s alert h is w q complete;
+  unanswered = λ s w q alert h complete is. no_alert s alert h is w q complete;
+}

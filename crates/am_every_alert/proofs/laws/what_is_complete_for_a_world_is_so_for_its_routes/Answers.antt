@@ -1,0 +1,5 @@
+use Rattle.am_every_alert.proofs.CompleteSpaces.{complete_for_routes, complete_without_lists}
+use Rattle.am_every_alert.proofs.laws.what_is_complete_for_a_world_is_so_for_its_routes.Goals as goal
+
+pub returns : goal.returns
+returns c = record { routes = complete_for_routes; all_possible = complete_without_lists }

@@ -1,0 +1,25 @@
+-- An example of universes with one label that are complete for `team="db"`, and are not.
+use Rattle.std.specs.Prelude.{List, [], ◌∷◌, Some, None, codes}
+use Rattle.am_universe.specs.Universe.{Label, Values}
+use Rattle.am_labels.specs.declared.op.Op.TheVariants.{NotEqual}
+use Rattle.am_labels.specs.Matcher.{Condition}
+use Rattle.am_labels.specs.Space.{Space}
+
+-- The universe whose only label, `team`, may have these values.
+abbrev pub team_universe : Values → List Label
+team_universe values = record { name = codes "team"; values = values } ∷ []
+
+-- Its values in the example: `db` and absence; and `db` alone.
+abbrev pub db_or_absent : Values
+db_or_absent = Some (codes "db") ∷ None ∷ []
+
+abbrev pub db_alone : Values
+db_alone = Some (codes "db") ∷ []
+
+-- And the space in which `team` is always `db`, since it is impossible that it is not.
+abbrev pub team_not_db : Condition
+team_not_db = record { name = codes "team"; op = NotEqual; value = codes "db" }
+
+abbrev pub db_alone_possible : Space
+db_alone_possible =
+    record { labels = team_universe db_alone; impossible = (team_not_db ∷ []) ∷ [] }

@@ -1,0 +1,70 @@
+-- Alerts, whether their labels are declared or not: what they meet of matchers, and what is so of
+-- every one of them.
+use Rattle.std.specs.Prelude.{◌≡◌, ◌≢◌, ℕ, List, [], Some, Contains, IfSome, IsTrue}
+use Rattle.std.specs.List.{AllByRecursion}
+use Rattle.std.specs.FinMap.{get}
+use Rattle.std.specs.Str.{IsUtf8}
+use Rattle.am_universe.specs.Universe.{Label}
+use Rattle.am_universe.specs.LabelSet.{LabelMap}
+use Rattle.am_labels.specs.Matcher.{Condition, condition_holds}
+use Rattle.am_labels.specs.Space.{Space, is_possible}
+use Rattle.am_files.specs.ConfigFile.{Configuration}
+use Rattle.am_files.specs.Path.{leads_through}
+use Rattle.am_eval.specs.World.{World}
+use Rattle.am_eval.specs.Routing.{ends, receivers}
+use Rattle.am_eval.specs.Silencing.{is_silenced}
+use Rattle.am_eval.specs.Inhibition.{is_inhibited}
+
+-- A label set that an alert may have: no name is the empty text, and the values are UTF-8.
+-- Source: Prometheus data model, "Metric names and labels", which since version 3 allows any UTF-8
+-- in names. Own choices: an alert may have no label, and names need not be UTF-8 here.
+-- Example: `{team="db"}` is one, and so is a label set with the name `job-name`.
+abbrev pub IsAlert : LabelMap → Type 0
+IsAlert s = (name text : List ℕ) → get s name ≡ Some text → (name ≢ []) × IsUtf8 text
+
+-- An alert of a space: no list that is impossible matches it. Its labels need not be declared.
+-- Source: own choice.
+-- Example: where `env=prod,team=""` is impossible, `{env="dev"}` is one, and
+-- `{env="prod"}` is none.
+abbrev pub IsAlertOf : Space → LabelMap → Type 0
+IsAlertOf s alert = IsAlert alert × IsTrue (is_possible s.impossible alert)
+
+-- The texts that the labels of a universe may have are UTF-8.
+-- Source: RFC 8259, section 8.1: so is JSON text, which says them.
+-- Example: in a universe where each label is always absent, they are.
+abbrev pub HasUtf8Texts : List Label → Type 0
+HasUtf8Texts u = AllByRecursion (λ l. AllByRecursion (λ v. IfSome v IsUtf8) l.values) u
+
+-- Two label sets meet the same of some matchers: each matcher has the same truth on both.
+-- Source: own choice.
+-- Example: `{team="db"}` and `{team="web"}` meet the same of `team!="ops"`.
+abbrev pub MeetsTheSame : List Condition → LabelMap → LabelMap → Type 0
+MeetsTheSame ms s t = AllByRecursion (λ m. condition_holds s m ≡ condition_holds t m) ms
+
+-- Two label sets have the same fate in a world: they end at the same routes, go to the same
+-- receivers, and are silenced, and inhibited, both or neither.
+-- Source: own choice.
+-- Example: where no matcher and no `equal` names `env`, `{env="dev"}` and `{}` have the same fate.
+pub record HaveTheSameFate (w : World) (s t : LabelMap) : Type 0 where
+  pub same_ends : ends s w.config ≡ ends t w.config
+  pub same_receivers : receivers s w.config ≡ receivers t w.config
+  pub same_silenced : is_silenced w s ≡ is_silenced w t
+  pub same_inhibited : is_inhibited w s ≡ is_inhibited w t
+
+-- No alert ends at a route, but for those that are impossible; none ends there or below it; and
+-- none goes to a receiver.
+-- Source: own choice.
+-- Example: none ends at a route behind a sibling without matchers and without `continue`, whatever
+-- labels it has.
+abbrev pub NoAlertEndsAt : Space → Configuration → List ℕ → Type 0
+NoAlertEndsAt s c path =
+    (alert : LabelMap) → IsAlertOf s alert → Contains (ends alert c) path → ⊥
+
+abbrev pub NoAlertEnters : Space → Configuration → List ℕ → Type 0
+NoAlertEnters s c path =
+    (alert : LabelMap) (end : List ℕ) → IsAlertOf s alert → Contains (ends alert c) end
+    → IsTrue (leads_through path end) → ⊥
+
+abbrev pub NoAlertGoesTo : Space → Configuration → ℕ → Type 0
+NoAlertGoesTo s c receiver =
+    (alert : LabelMap) → IsAlertOf s alert → Contains (receivers alert c) receiver → ⊥

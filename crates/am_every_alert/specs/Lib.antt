@@ -1,0 +1,4 @@
+pub mod EveryAlert
+pub mod Deciding
+pub mod CompleteExample
+pub mod Words
