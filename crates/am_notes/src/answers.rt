@@ -3,12 +3,13 @@
 ghost use Rattle.std.specs.Prelude.{IfOk, string_bytes};
 ghost use Rattle.am_notes.specs.Words.{AreNoteLines};
 
+use crate::Call;
 use crate::likeness::Likeness;
 use crate::matchers::add_set_matchers;
 use crate::notes::Notes;
 use crate::questions::{Asked, add_question, asks_of_routes};
 use crate::universes::add_incomplete;
-use crate::{Call, Task};
+use am_command_line::Request;
 use am_files::{read_config, read_universe};
 use am_json::read_json;
 use am_labels::parse_matchers;
@@ -25,11 +26,11 @@ pub fn notes_of_answer(alloc: Global, call: &Call<'_>) -> Result<String, AllocEr
 {
     let mut notes = Notes::none(alloc);
     add_groups(alloc, &mut notes, call)?;
-    match call.task {
-        Task::Ask(question) => add_ask(alloc, &mut notes, call, question)?,
-        Task::Report => add_report(alloc, &mut notes, call)?,
-        Task::Explain(words) => add_explain(alloc, &mut notes, words)?,
-        Task::Universe => {}
+    match call.request {
+        Request::Ask { question, .. } => add_ask(alloc, &mut notes, call, question)?,
+        Request::Dead | Request::Receivers => add_report(alloc, &mut notes, call)?,
+        Request::Explain { set } => add_explain(alloc, &mut notes, set.as_slice())?,
+        _ => {}
     }
     notes.text(alloc)
 }
@@ -66,7 +67,7 @@ fn add_ask(
         return Err(AllocError);
     };
     let asked = Asked {
-        call: *call,
+        call,
         text,
         universe: space.universe(),
     };

@@ -10,7 +10,7 @@
 // What notes are about.
 mod call;
 
-pub use call::{Call, Task};
+pub use call::Call;
 
 // The lines, and the sentences that stand in them.
 mod notes;

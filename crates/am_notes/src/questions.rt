@@ -14,7 +14,7 @@ const NO_ALERTS: &str = "without --alerts nothing is inhibited";
 /// What the parts of a question are held against.
 #[derive(Clone, Copy)]
 pub(crate) struct Asked<'a> {
-    pub call: Call<'a>,
+    pub call: &'a Call<'a>,
     pub text: &'a str,
     pub universe: &'a Universe,
 }
@@ -26,9 +26,10 @@ pub(crate) fn add_question(
     asked: &Asked<'_>,
     question: &Question,
 ) -> Result<(), AllocError> {
+    let call = asked.call;
     match question {
-        Question::Silenced => add_unless(alloc, notes, asked.call.files.silences, NO_SILENCES),
-        Question::Inhibited => add_unless(alloc, notes, asked.call.files.alerts, NO_ALERTS),
+        Question::Silenced => add_unless(alloc, notes, call.files.silences, NO_SILENCES),
+        Question::Inhibited => add_unless(alloc, notes, call.files.alerts, NO_ALERTS),
         Question::Braces(list) => {
             add_question_matchers(alloc, notes, list, asked.text, asked.universe)
         }

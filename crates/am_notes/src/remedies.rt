@@ -1,9 +1,10 @@
 //! What to type after a refusal.
 
+use crate::Call;
 use crate::likeness::Likeness;
 use crate::notes::Notes;
 use crate::sentences::looks_like;
-use crate::{Call, Task};
+use am_command_line::Request;
 use am_json::read_json;
 use am_labels::{Fault, Kind, Place};
 use std::alloc::{AllocError, Global};
@@ -120,10 +121,12 @@ fn bad_matcher_remedy(place: Place) -> Option<&'static str> {
 
 /// Whether a label name stands in quotes in the text that is at fault.
 fn has_quoted_name_at(alloc: Global, call: &Call<'_>, fault: &Fault) -> Result<bool, AllocError> {
-    match call.task {
-        Task::Ask(text) if fault.place == Place::Question => Ok(has_quoted_name(text)),
-        Task::Explain(words) if fault.place == Place::Set => {
-            Ok(words.iter().any(|word| has_quoted_name(word)))
+    match call.request {
+        Request::Ask { question: text, .. } if fault.place == Place::Question => Ok(has_quoted_name(
+            text,
+        )),
+        Request::Explain { set } if fault.place == Place::Set => {
+            Ok(set.iter().any(|word| has_quoted_name(word)))
         }
         _ => has_quoted_name_in_file(alloc, call, fault),
     }
@@ -160,7 +163,7 @@ fn has_quoted_name(text: &str) -> bool {
 /// The remedy for any other fault.
 fn remedy(call: &Call<'_>, kind: Kind, place: Place) -> Option<&'static str> {
     match kind {
-        Kind::QuestionSyntax => Some(question_remedy(call.task)),
+        Kind::QuestionSyntax => Some(question_remedy(call.request)),
         Kind::UnknownReceiver | Kind::UnknownRoute if call.files.config.is_none() => {
             Some("without --config there is one receiver, none, and one route, /")
         }
@@ -185,9 +188,9 @@ fn remedy(call: &Call<'_>, kind: Kind, place: Place) -> Option<&'static str> {
 }
 
 /// Where a question is not of the grammar.
-fn question_remedy(task: Task<'_>) -> &'static str {
-    match task {
-        Task::Ask(text) if text.contains('=') && !text.contains('{') => {
+fn question_remedy(request: &Request<'_>) -> &'static str {
+    match request {
+        Request::Ask { question: text, .. } if text.contains('=') && !text.contains('{') => {
             "matchers stand in braces, as in {team=\"db\"}"
         }
         _ => "amcover ask --help lists the forms; a name with a blank stands in quotes: \

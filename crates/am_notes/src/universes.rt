@@ -2,7 +2,8 @@
 
 use crate::notes::Notes;
 use crate::sentences::{left_out, undeclarable, unproved};
-use am_complete::{Completeness, LabelState, asked_by_routes, label_states};
+use am_asked::asked_by_routes;
+use am_complete::{Completeness, LabelState, label_states};
 use am_files::Config;
 use am_labels::Space;
 use std::alloc::{AllocError, Global};

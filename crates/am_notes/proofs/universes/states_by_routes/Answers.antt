@@ -2,7 +2,8 @@ use Rattle.std.proofs.Common.{◌≡◌, List, ◌++◌, subst, sym}
 use Rattle.am_labels.specs.Matcher.{Condition}
 use Rattle.am_labels.specs.Space.{Space}
 use Rattle.am_files.specs.Words.{config_view}
-use Rattle.am_complete.specs.Asked.{route_conditions, impossible_conditions}
+use Rattle.am_asked.specs.Asked.{route_conditions}
+use Rattle.am_complete.specs.Complete.{impossible_conditions}
 use Rattle.am_complete.specs.AskedLabel.{AskedLabel, IsAskedOf}
 use Rattle.am_complete.proofs.AmongMatchers.{last_among}
 use Rattle.am_notes.proofs.universes.states_by_routes.Goals as goal
