@@ -1,6 +1,6 @@
 -- Calls of `ask` in a row: what each writes is what the one before it left.
-use Rattle.std.proofs.Common.{◌≡◌, inr, ℕ, ◌<◌, List, [], ◌∷◌, ◌++◌, Option, None, Some, IfSome}
-use Rattle.std.proofs.Common.{MatchOption, ap, sym, subst, ◌∙◌, refl, append-nil}
+use Rattle.std.proofs.Common.{◌≡◌, inr, ℕ, List, [], ◌∷◌, ◌++◌, Option, None, Some}
+use Rattle.std.proofs.Common.{MatchOption, ap, sym, ◌∙◌, refl}
 use Rattle.std.specs.Prelude.{option_map}
 use Rattle.std.specs.List.{flat_map}
 use Rattle.std.proofs.lemmas.Grind.{flat_map-append}
@@ -24,7 +24,7 @@ use Rattle.am_search.proofs.SearchChains.{goes_on}
 use Rattle.am_cubes.specs.Verdicts.{verdict_of}
 use Rattle.am_questions.specs.Inputs.{Inputs, inputs_fingerprint, after_token, AcceptsInputs}
 use Rattle.am_questions.proofs.OneInputs.{one_meaning_of_inputs}
-use Rattle.am_commands.specs.AskOutcome.{AnswersInputsUnder, answer_page, searched_page, Asked}
+use Rattle.am_commands.specs.AskOutcome.{answer_page, searched_page, Asked}
 use Rattle.am_commands.specs.AskOutcome.{IsAskedOf, AreAskedInARow}
 use Rattle.am_commands.proofs.AskedPages.{question_judges, enough_for}
 
@@ -88,7 +88,7 @@ page_lines inputs asked h =
     searched_page h.2.space h.2.world h.2.question h.2.start asked.limit asked.steps in
     sym (append_cancel_right (lines_text h.2.space.labels page.choices) asked.lines
     (trailer_text (inputs_fingerprint inputs) asked.trailer)
-    (ap (λ t. lines_text h.2.space.labels page.choices ++ trailer_text (inputs_fingerprint inputs) t) h.2.trailer_is ∙ h.2.written))
+    (ap (λ t. lines_text h.2.space.labels page.choices ++ trailer_text (inputs_fingerprint inputs) t) h.2.trailer_is ∙ sym h.2.text_is))
 
 -- the lines of a call, and those of what its trailer leaves, are all from its start on
 lines_and_rest : (inputs : Inputs) (asked : Asked) (h : IsAskedOf inputs asked)

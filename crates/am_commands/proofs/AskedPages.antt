@@ -1,19 +1,14 @@
 -- Pages of the answers to a question.
-use Rattle.std.proofs.Common.{◌≡◌, ◌≢◌, ℕ, ◌<◌, Bool, List, [], ◌∷◌, ◌++◌, Option, None, Some, IfSome, Result, Ok, Err, IfOk, IfErr, ap, sym, subst, ◌∙◌, refl, arith}
-use Rattle.std.specs.Prelude.{IsTrue, string_bytes}
+use Rattle.std.proofs.Common.{◌≡◌, ◌≢◌, ℕ, ◌<◌, Bool, List, [], ◌∷◌, ◌++◌, Option, None, Some, IfSome, ap, sym, subst, ◌∙◌, refl, arith}
+use Rattle.std.specs.Prelude.{IsTrue}
 use Rattle.std.specs.List.{filter, flat_map}
 use Rattle.std.proofs.lemmas.Grind.{flat_map-append}
-use Rattle.am_universe.specs.declared.fault.Fault.{Fault}
-use Rattle.am_universe.specs.declared.kind.Kind.TheVariants as kinds
 use Rattle.am_universe.specs.declared.limits.TheConstants.{MAX_LABELS}
-use Rattle.am_universe.specs.declared.place.Place.TheVariants as places
 use Rattle.am_universe.specs.Universe.{Label, IsUniverse, sizes}
 use Rattle.am_universe.specs.Choice.{admits}
-use Rattle.am_universe.specs.Sink.{Wrote}
 use Rattle.am_universe.specs.WrittenLabelSet.{line}
 use Rattle.am_labels.specs.Space.{Space}
 use Rattle.am_eval.specs.World.{World}
-use Rattle.am_eval.specs.WorldInputs.{WorldInputs}
 use Rattle.am_eval.specs.Question.{Question, is_answer}
 use Rattle.am_eval.proofs.ConditionLaws.{exactly}
 use Rattle.am_search.specs.declared.start.Start.{Start}
@@ -33,9 +28,11 @@ use Rattle.am_search.proofs.SearchChains.{search_chain_joined}
 use Rattle.am_search.proofs.SameVerdicts.{same_page}
 use Rattle.am_cubes.specs.Verdicts.{verdict_of}
 use Rattle.am_cubes.proofs.Soundness.{yes_says_all, no_says_none, never_open}
-use Rattle.am_questions.specs.Inputs.{Inputs, inputs_fingerprint}
-use Rattle.am_commands.specs.AskOutcome.{AnswersInputs, AnswersInputsUnder, AnswersInputsInPart, AnswersInputsInPartUnder}
-use Rattle.am_commands.specs.AskOutcome.{IsAskedOf, answer_page, searched_page}
+use Rattle.am_questions.specs.declared.inputs.AcceptedInputs.{AcceptedInputs}
+use Rattle.am_questions.specs.Inputs.{Inputs, inputs_fingerprint, AcceptsInputs}
+use Rattle.am_eval.specs.QuestionView.{question_view}
+use Rattle.am_commands.specs.AskOutcome.{AnswersInputs, IsAskedOf, answer_page, searched_page}
+use Rattle.am_commands.specs.AskOutcome.{page_of_inputs, page_promise}
 
 -- ---- The search for the answers to a question.
 
@@ -83,52 +80,11 @@ module _ (s : Space) (w : World) (q : Question) (start : Start) (limit steps : O
   stopped_page prefix e = stopped_before (sizes s.labels) (is_answer s w q) (verdict_of s w q) start limit steps (question_judges s w q is) some prefix (sym ends ∙ e)
 
 -- without a budget the page of the search is that of the answers
-page_unlimited : (s : Space) (w : World) (q : Question) (start : Start) (limit steps : Option ℕ) → IsUniverse s.labels → steps ≡ None
+pub page_unlimited : (s : Space) (w : World) (q : Question) (start : Start) (limit steps : Option ℕ) → IsUniverse s.labels → steps ≡ None
     → searched_page s w q start limit steps ≡ answer_page s w q start limit
 page_unlimited s w q start limit steps is none =
     ap (searched_page s w q start limit) none
     ∙ same_unstopped (sizes s.labels) (is_answer s w q) (verdict_of s w q) start (question_judges s w q is) limit None refl
-
--- a call without a budget writes the page of the answers
-pub answers_unlimited : (inputs : Inputs) (limit steps : Option ℕ) (trailer : Trailer) (IsWritten : List ℕ → Type 0) → AnswersInputsUnder inputs limit steps trailer IsWritten → steps ≡ None
-    → AnswersInputs inputs limit trailer IsWritten
-answers_unlimited inputs limit steps trailer IsWritten h none =
-    let s : Space = h.space in
-    let same = page_unlimited s h.world h.question h.start limit steps h.accepts.says_universe.3.is_universe none in
-    record {
-      space = s;
-      world = h.world;
-      question = h.question;
-      start = h.start;
-      accepts = h.accepts;
-      written = subst (λ (page : AnswerPage). IsWritten (page_text s.labels (inputs_fingerprint inputs) page)) same h.written;
-      trailer_is = h.trailer_is ∙ ap (λ page. page.trailer) same;
-      rest = h.rest ∙ ap (λ page. page.choices ++ rest_after (sizes s.labels) (is_answer s h.world h.question) trailer) same;
-    }
-
--- and a part of it, where a write failed
-part_unlimited : (inputs : Inputs) (limit steps : Option ℕ) (IsWritten : List ℕ → Type 0) → AnswersInputsInPartUnder inputs limit steps IsWritten → steps ≡ None
-    → AnswersInputsInPart inputs limit IsWritten
-part_unlimited inputs limit steps IsWritten h none =
-    let s : Space = h.space in
-    let same = page_unlimited s h.world h.question h.start limit steps h.accepts.says_universe.3.is_universe none in
-    record {
-      space = s;
-      world = h.world;
-      question = h.question;
-      start = h.start;
-      accepts = h.accepts;
-      written = subst (λ (page : AnswerPage). IsWritten (page_text s.labels (inputs_fingerprint inputs) page)) same h.written;
-    }
-
--- so what is told of a failed write under a budget is so without one
-pub write_unlimited : (result : Result Trailer Fault) (inputs : Inputs) (limit steps : Option ℕ) (IsWritten : List ℕ → Type 0) → steps ≡ None
-    → IfErr result (λ fault. fault.kind ≡ kinds.Write → (fault.place ≡ places.Output) × (string_bytes fault.pointer ≡ []) × AnswersInputsInPartUnder inputs limit steps IsWritten)
-    → IfErr result (λ fault. fault.kind ≡ kinds.Write → (fault.place ≡ places.Output) × (string_bytes fault.pointer ≡ []) × AnswersInputsInPart inputs limit IsWritten)
-write_unlimited (Ok trailer) inputs limit steps IsWritten none told = tt
-write_unlimited (Err fault) inputs limit steps IsWritten none told = λ failed.
-    let there = told failed in
-    (there.0, there.1, part_unlimited inputs limit steps IsWritten there.2 none)
 
 -- ---- Pages in a row.
 
@@ -147,64 +103,41 @@ lines_of_search_chain s w q start pages is h =
     lines_of_pages s.labels pages
     ∙ ap (lines_text s.labels) (search_chain_joined (sizes s.labels) (is_answer s w q) (verdict_of s w q) start pages (question_judges s w q is) h)
 
--- what follows from two facts of a result follows where there is one
-pub if_both : {T E : Type 0} (result : Result T E) (P Q R : T → Type 0) → ((x : T) → P x → Q x → R x) → IfOk result P → IfOk result Q → IfOk result R
-if_both (Ok x) P Q R f p q = f x p q
-if_both (Err e) P Q R f p q = tt
+-- the page that is owed where inputs were read is that of the inputs
+pub page_of_read : (inputs : Inputs) (read : AcceptedInputs) (limit steps : Option ℕ) (trailer : Trailer) (text : List ℕ)
+    → AcceptsInputs inputs read.space read.world (question_view read.question) read.start → read.fingerprint ≡ inputs_fingerprint inputs
+    → IfSome limit (λ n. 0 < n) → IfSome steps (λ n. MAX_LABELS < n) → (page_promise read limit steps).May trailer text
+    → AnswersInputs inputs limit steps trailer text
+page_of_read inputs read limit steps trailer text accepts made_from some enough is =
+    let s : Space = read.space in
+    let q : Question = question_view read.question in
+    let universe = accepts.says_universe.3.is_universe in
+    let same : text ≡ page_text s.labels (inputs_fingerprint inputs) (page_of_inputs read limit steps) =
+    is.1 ∙ ap (λ h. page_text s.labels h (page_of_inputs read limit steps)) made_from in
+    record {
+      space = s;
+      world = read.world;
+      question = q;
+      start = read.start;
+      accepts = accepts;
+      without_budget = λ none.
+          let plain = page_unlimited s read.world q read.start limit steps universe none in
+          (same ∙ ap (page_text s.labels (inputs_fingerprint inputs)) plain, is.0 ∙ ap (λ page. page.trailer) plain);
+      text_is = same;
+      trailer_is = is.0;
+      rest = rest_of_page s read.world q read.start limit steps trailer universe some is.0 enough;
+      unstopped = unstopped_page s read.world q read.start limit steps trailer universe some is.0;
+      stopped = stopped_page s read.world q read.start limit steps trailer universe some is.0;
+    }
 
-pub if_failed : {T E : Type 0} (result : Result T E) (P Q : E → Type 0) → ((e : E) → P e → Q e) → IfErr result P → IfErr result Q
-if_failed (Ok x) P Q f p = tt
-if_failed (Err e) P Q f p = f e p
-
-pub if_ok : {T E : Type 0} (result : Result T E) (P Q : T → Type 0) → ((x : T) → P x → Q x)
-    → IfOk result P → IfOk result Q
-if_ok (Ok x) P Q f p = f x p
-if_ok (Err e) P Q f p = tt
-
--- a page that a sink took is a call of which the laws speak
-pub asked_from : {S : Type 0} (taken : S → List ℕ) (failures : S → ℕ) (before after : S)
-    (inputs : Inputs) (limit steps : Option ℕ) (trailer : Trailer) → IfSome limit (λ n. 0 < n) → IfSome steps (λ n. MAX_LABELS < n)
-    → AnswersInputsUnder inputs limit steps trailer (Wrote taken failures before after)
-    → (lines : List ℕ)
-    × IsAskedOf inputs (record { limit = limit; steps = steps; lines = lines; trailer = trailer })
-    × (taken after ≡ taken before ++ (lines ++ trailer_text (inputs_fingerprint inputs) trailer))
-asked_from taken failures before after inputs limit steps trailer some enough answered =
-    let page : AnswerPage =
-    searched_page answered.space answered.world answered.question answered.start limit steps in
+-- what a call writes is lines and its trailer, so it is a call of which the laws speak
+pub asked_from : (inputs : Inputs) (limit steps : Option ℕ) (trailer : Trailer) (text : List ℕ)
+    → IfSome limit (λ n. 0 < n) → IfSome steps (λ n. MAX_LABELS < n) → AnswersInputs inputs limit steps trailer text
+    → (lines : List ℕ) × IsAskedOf inputs (record { limit = limit; steps = steps; lines = lines; trailer = trailer })
+    × (text ≡ lines ++ trailer_text (inputs_fingerprint inputs) trailer)
+asked_from inputs limit steps trailer text some enough answered =
+    let page : AnswerPage = searched_page answered.space answered.world answered.question answered.start limit steps in
     let lines : List ℕ = lines_text answered.space.labels page.choices in
-    let h : List ℕ = inputs_fingerprint inputs in
-    let same : lines ++ trailer_text h page.trailer ≡ lines ++ trailer_text h trailer =
-    ap (λ t. lines ++ trailer_text h t) (sym answered.trailer_is) in (
-      lines,
-      (
-        some,
-        enough,
-        record {
-          space = answered.space;
-          world = answered.world;
-          question = answered.question;
-          start = answered.start;
-          accepts = answered.accepts;
-          written = same;
-          trailer_is = answered.trailer_is;
-          rest = answered.rest;
-          unstopped = answered.unstopped;
-          stopped = answered.stopped;
-        },
-      ),
-      answered.written.all ∙ ap (λ text. taken before ++ text) same,
-    )
-
--- the same call, with its inputs under other names
-abbrev with_files : List ℕ → WorldInputs → List ℕ → Option (List ℕ) → Inputs
-with_files universe world question after = record { universe = universe; world = world; question = question; after = after }
-
-pub answered_as : {universe other : List ℕ} {world other_world : WorldInputs} {limit other_limit steps other_steps : Option ℕ} (question : List ℕ) (after : Option (List ℕ)) (trailer : Trailer) (IsWritten : List ℕ → Type 0)
-    → universe ≡ other → world ≡ other_world → limit ≡ other_limit → steps ≡ other_steps
-    → AnswersInputsUnder (record { universe = universe; world = world; question = question; after = after }) limit steps trailer IsWritten
-    → AnswersInputsUnder (record { universe = other; world = other_world; question = question; after = after }) other_limit other_steps trailer IsWritten
-answered_as {universe} {other} {world} {other_world} {limit} {other_limit} {steps} {other_steps} question after trailer IsWritten u w l s h =
-    subst (λ (n : Option ℕ). AnswersInputsUnder (with_files other other_world question after) other_limit n trailer IsWritten) s
-    (subst (λ (n : Option ℕ). AnswersInputsUnder (with_files other other_world question after) n steps trailer IsWritten) l
-    (subst (λ (x : WorldInputs). AnswersInputsUnder (with_files other x question after) limit steps trailer IsWritten) w
-    (subst (λ (x : List ℕ). AnswersInputsUnder (with_files x world question after) limit steps trailer IsWritten) u h)))
+    let same : text ≡ lines ++ trailer_text (inputs_fingerprint inputs) trailer =
+    answered.text_is ∙ ap (λ t. lines ++ trailer_text (inputs_fingerprint inputs) t) (sym answered.trailer_is) in
+    (lines, (some, enough, subst (AnswersInputs inputs limit steps trailer) same answered), same)

@@ -3,4 +3,3 @@ pub mod AskedAgain
 pub mod AskedToTheEnd
 pub mod AcceptedReport
 pub mod OneText
-pub mod EveryAlert

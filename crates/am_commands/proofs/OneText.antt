@@ -9,12 +9,12 @@ use Rattle.am_coverage.specs.Report.{IsRoutesReport, IsReceiversReport}
 use Rattle.am_coverage.proofs.ReportFacts.{one_routes_report, one_receivers_report}
 use Rattle.am_questions.specs.Inputs.{Inputs, inputs_fingerprint}
 use Rattle.am_questions.proofs.OneInputs.{one_meaning_of_inputs}
-use Rattle.am_commands.specs.AskOutcome.{AnswersInputsUnder, searched_page}
+use Rattle.am_commands.specs.AskOutcome.{AnswersInputs, searched_page}
 use Rattle.am_commands.specs.Reports.{ReportsFiles}
 
 pub one_page : (inputs : Inputs) (limit steps : Option ℕ) (page other : List ℕ)
-    (trailer again : Trailer) → AnswersInputsUnder inputs limit steps trailer (λ t. t ≡ page)
-    → AnswersInputsUnder inputs limit steps again (λ t. t ≡ other)
+    (trailer again : Trailer) → AnswersInputs inputs limit steps trailer page
+    → AnswersInputs inputs limit steps again other
     → (page ≡ other) × (trailer ≡ again)
 one_page inputs limit steps page other trailer again h k =
     let fingerprint : List ℕ = inputs_fingerprint inputs in
@@ -28,7 +28,7 @@ one_page inputs limit steps page other trailer again h k =
     ≡ page_text k.space.labels fingerprint
     (searched_page k.space k.world k.question k.start limit steps) =
     λ i. page_text (same.0 i).labels fingerprint (pages i) in (
-      sym h.written ∙ texts ∙ k.written,
+      h.text_is ∙ texts ∙ sym k.text_is,
       h.trailer_is ∙ ap (λ p. p.trailer) pages ∙ sym k.trailer_is,
     )
 
@@ -37,24 +37,24 @@ one_report : (IsReport : Space → Configuration → List ℕ → Type 0)
     → ((s : Space) (c : Configuration) (report other : List ℕ) → IsReport s c report
     → IsReport s c other → report ≡ other)
     → (universe_file config_file report other : List ℕ)
-    → ReportsFiles universe_file config_file IsReport (λ t. t ≡ report)
-    → ReportsFiles universe_file config_file IsReport (λ t. t ≡ other) → report ≡ other
+    → ReportsFiles universe_file config_file IsReport report
+    → ReportsFiles universe_file config_file IsReport other → report ≡ other
 one_report IsReport one universe_file config_file report other h k =
     let space : h.space ≡ k.space = one_space universe_file h.space k.space h.accepts.says_universe
     k.accepts.says_universe in
     let config : h.configuration ≡ k.configuration = one_configuration config_file h.configuration
     k.configuration h.accepts.says_config k.accepts.says_config in
-    let reports : IsReport k.space k.configuration h.report =
-    subst (λ (s : Space). IsReport s k.configuration h.report) space
-    (subst (λ (c : Configuration). IsReport h.space c h.report) config h.reports) in
-    sym h.written ∙ one k.space k.configuration h.report k.report reports k.reports ∙ k.written
+    let reports : IsReport k.space k.configuration report =
+    subst (λ (s : Space). IsReport s k.configuration report) space
+    (subst (λ (c : Configuration). IsReport h.space c report) config h.reports) in
+    one k.space k.configuration report other reports k.reports
 
 pub one_report_of_routes : (universe_file config_file report other : List ℕ)
-    → ReportsFiles universe_file config_file IsRoutesReport (λ t. t ≡ report)
-    → ReportsFiles universe_file config_file IsRoutesReport (λ t. t ≡ other) → report ≡ other
+    → ReportsFiles universe_file config_file IsRoutesReport report
+    → ReportsFiles universe_file config_file IsRoutesReport other → report ≡ other
 one_report_of_routes = one_report IsRoutesReport one_routes_report
 
 pub one_report_of_receivers : (universe_file config_file report other : List ℕ)
-    → ReportsFiles universe_file config_file IsReceiversReport (λ t. t ≡ report)
-    → ReportsFiles universe_file config_file IsReceiversReport (λ t. t ≡ other) → report ≡ other
+    → ReportsFiles universe_file config_file IsReceiversReport report
+    → ReportsFiles universe_file config_file IsReceiversReport other → report ≡ other
 one_report_of_receivers = one_report IsReceiversReport one_receivers_report

@@ -1,11 +1,12 @@
 -- What `ask` answers. (This project's own.)
-use Rattle.std.specs.Prelude.{◌≡◌, ◌≢◌, ◌<◌, ℕ, List, [], ◌∷◌, ◌++◌, Option, IfSome, MatchOption}
-use Rattle.std.specs.Prelude.{option_map, ⊤}
+use Rattle.std.specs.Prelude.{◌≡◌, ◌≢◌, ◌<◌, ℕ, List, [], ◌∷◌, ◌++◌, Option, None, IfSome}
+use Rattle.std.specs.Prelude.{MatchOption, option_map, ⊤}
 use Rattle.std.specs.List.{filter}
 use Rattle.am_universe.specs.declared.limits.TheConstants.{MAX_LABELS}
 use Rattle.am_universe.specs.Universe.{sizes}
 use Rattle.am_labels.specs.Space.{Space}
 use Rattle.am_eval.specs.World.{World}
+use Rattle.am_eval.specs.Promise.{Promise}
 use Rattle.am_eval.specs.Question.{Question, is_answer}
 use Rattle.am_eval.specs.QuestionView.{question_view}
 use Rattle.am_search.specs.declared.start.Start.{Start}
@@ -20,6 +21,7 @@ use Rattle.am_search.specs.TrailerText.{trailer_text}
 use Rattle.am_cubes.specs.Verdicts.{verdict_of}
 use Rattle.am_questions.specs.declared.inputs.AcceptedInputs.{AcceptedInputs}
 use Rattle.am_questions.specs.Inputs.{Inputs, inputs_fingerprint, after_token, AcceptsInputs}
+use Rattle.am_questions.specs.Inputs.{ask_stages}
 
 -- The page of the answers to a question about a world, over a space: from a start on, and under a
 -- limit, if there is one.
@@ -44,38 +46,26 @@ abbrev pub page_of_inputs : AcceptedInputs → Option ℕ → Option ℕ → Ans
 page_of_inputs read limit steps =
     searched_page read.space read.world (question_view read.question) read.start limit steps
 
--- The inputs are accepted, and the page of their answers, from the start that they ask for and
--- under this limit, was written, and ends with this trailer. What the trailer leaves is exactly the
--- rest: the answers from the start on are those of the page, and after them those from the
--- trailer's start on.
-pub record AnswersInputs (inputs : Inputs) (limit : Option ℕ) (trailer : Trailer)
-    (IsWritten : List ℕ → Type 0) : Type 0 where
+-- The inputs are accepted, and the text is the page of their answers, from the start that they ask
+-- for, under this limit and under this budget of steps, as far as there are such, and ends with
+-- this trailer. Without a budget it is the page of the answers, of which no verdict is asked. What
+-- the trailer leaves is exactly the rest: the answers from the start on are those of the page, and
+-- after them those from the trailer's start on. Where the search did not stop, it is the page
+-- without the budget; where it stopped at a prefix, the lines are exactly the answers from the
+-- start on that come before the prefix, and so before its first completion.
+pub record AnswersInputs (inputs : Inputs) (limit steps : Option ℕ) (trailer : Trailer)
+    (text : List ℕ) : Type 0 where
   pub space : Space
   pub world : World
   pub question : Question
   pub start : Start
   pub accepts : AcceptsInputs inputs space world question start
-  pub written : IsWritten (page_text space.labels (inputs_fingerprint inputs)
+  pub without_budget : steps ≡ None
+      → (text ≡ page_text space.labels (inputs_fingerprint inputs)
       (answer_page space world question start limit))
-  pub trailer_is : trailer ≡ (answer_page space world question start limit).trailer
-  pub rest : answers_from (sizes space.labels) (is_answer space world question) start
-      ≡ (answer_page space world question start limit).choices
-      ++ rest_after (sizes space.labels) (is_answer space world question) trailer
-
--- The same under a budget of steps too, if there is one: the page of a search for the answers was
--- written, and what its trailer leaves is exactly the rest. Where the search did not stop, it is
--- the page without the budget; where it stopped at a prefix, the lines are exactly the answers from
--- the start on that come before the prefix, and so before its first completion.
-pub record AnswersInputsUnder (inputs : Inputs) (limit steps : Option ℕ) (trailer : Trailer)
-    (IsWritten : List ℕ → Type 0) : Type 0 where
-  pub space : Space
-  pub world : World
-  pub question : Question
-  pub start : Start
-  pub accepts : AcceptsInputs inputs space world question start
-  pub written : IsWritten
-      (page_text space.labels (inputs_fingerprint inputs)
-      (searched_page space world question start limit steps))
+      × (trailer ≡ (answer_page space world question start limit).trailer)
+  pub text_is : text ≡ page_text space.labels (inputs_fingerprint inputs)
+      (searched_page space world question start limit steps)
   pub trailer_is : trailer ≡ (searched_page space world question start limit steps).trailer
   pub rest : answers_from (sizes space.labels) (is_answer space world question) start
       ≡ (searched_page space world question start limit steps).choices
@@ -88,30 +78,22 @@ pub record AnswersInputsUnder (inputs : Inputs) (limit steps : Option ℕ) (trai
       ≡ filter (λ c. comes_before c prefix)
       (answers_from (sizes space.labels) (is_answer space world question) start)
 
--- The inputs are accepted, and of the page of their answers, from the start that they ask for and
--- under this limit, this was written, a part of its text.
-pub record AnswersInputsInPart (inputs : Inputs) (limit : Option ℕ)
-    (IsWritten : List ℕ → Type 0) : Type 0 where
-  pub space : Space
-  pub world : World
-  pub question : Question
-  pub start : Start
-  pub accepts : AcceptsInputs inputs space world question start
-  pub written : IsWritten (page_text space.labels (inputs_fingerprint inputs)
-      (answer_page space world question start limit))
+-- What `ask` owes: its stages, and the page of the answers, beside its trailer.
+-- Source: own choice.
+-- Example: of three answers under the limit 2 it owes the first two and `# next` with the second.
+abbrev pub ask_promise : Inputs → Option ℕ → Option ℕ → Promise Trailer
+ask_promise inputs limit steps = record {
+  stages = ask_stages inputs;
+  May = AnswersInputs inputs limit steps;
+}
 
--- The same under a budget of steps too, if there is one: a part of the page of a search for the
--- answers was written.
-pub record AnswersInputsInPartUnder (inputs : Inputs) (limit steps : Option ℕ)
-    (IsWritten : List ℕ → Type 0) : Type 0 where
-  pub space : Space
-  pub world : World
-  pub question : Question
-  pub start : Start
-  pub accepts : AcceptsInputs inputs space world question start
-  pub written : IsWritten
-      (page_text space.labels (inputs_fingerprint inputs)
-      (searched_page space world question start limit steps))
+-- What is owed where inputs were read: the page of their answers. No fault is left but memory.
+abbrev pub page_promise : AcceptedInputs → Option ℕ → Option ℕ → Promise Trailer
+page_promise read limit steps = record {
+  stages = [];
+  May = λ trailer text. (trailer ≡ (page_of_inputs read limit steps).trailer)
+      × (text ≡ page_text read.space.labels read.fingerprint (page_of_inputs read limit steps));
+}
 
 -- ---- Calls in a row.
 
@@ -128,8 +110,8 @@ abbrev pub IsAskedOf : Inputs → Asked → Type 0
 IsAskedOf inputs asked =
     IfSome asked.limit (λ n. 0 < n)
     × IfSome asked.steps (λ n. MAX_LABELS < n)
-    × AnswersInputsUnder inputs asked.limit asked.steps asked.trailer
-    (λ text. text ≡ asked.lines ++ trailer_text (inputs_fingerprint inputs) asked.trailer)
+    × AnswersInputs inputs asked.limit asked.steps asked.trailer
+    (asked.lines ++ trailer_text (inputs_fingerprint inputs) asked.trailer)
 
 -- The token in the text of a trailer, if it has one, as it is written for inputs with this
 -- fingerprint.

@@ -1,5 +1,3 @@
 pub mod Words
 pub mod AskOutcome
 pub mod Reports
-pub mod Done
-pub mod EveryAlert

@@ -1,13 +1,8 @@
-ghost use Rattle.std.specs.Prelude.{◌≡◌, ◌≢◌, [], ◌∷◌, map, IfOk, IfErr, string_bytes};
-ghost use Rattle.am_universe.specs.declared.kind.Kind.TheVariants as kinds;
-ghost use Rattle.am_universe.specs.declared.place.Place.TheVariants as places;
-ghost use Rattle.am_labels.specs.Words.{Wrote, WroteInPart};
-ghost use Rattle.am_json.specs.Words.{refusal_of};
-ghost use Rattle.am_eval.specs.Words.{world_inputs_of, explain_stages, ExplainsSet};
-ghost use Rattle.am_eval.specs.Words.{IsFirstFaultOfCall};
+ghost use Rattle.std.specs.Prelude.{[], ◌∷◌, map};
+ghost use Rattle.am_eval.specs.Words.{IsKept, explain_promise};
 
 use am_eval::{Files, explanation_of, read_set, read_world, write_explanation};
-use am_labels::{Fault, Place, Sink};
+use am_labels::{Fault, Sink, answer_of_write};
 use std::alloc::Global;
 
 /// Writes why a label set goes where it goes: the set; the routes that handle it, with their
@@ -23,32 +18,17 @@ use std::alloc::Global;
 /// file of alerts, at `Alerts`, as `read_alerts` has it; of the instant, at `Instant` and with no
 /// pointer: `BadTime` where its text says none, and `NeedAt` where there is a file of silences and
 /// no text; of the pairs of rules and alerts, at `Alerts`, as `World::new` has it; of the label
-/// set, as `parse_set` has it, at `Set` and with no pointer; `Write`, at `Output`. `Memory`, at
-/// `Memory`, comes wherever memory ran out. After any but `Write` the sink is as it was.
+/// set, as `parse_set` has it, at `Set` and with no pointer; `Write`. `Memory` comes wherever
+/// memory ran out. After any but `Write` the sink is as it was.
 pub fn explain<W: Sink>(
     alloc: Global,
     files: &Files<'_>,
     set: &str,
     out: &mut W,
 ) -> Result<(), Fault>
-    // The text is exactly that of the ends, the silences and the rules and alerts of the set.
-    ensures explained { IfOk result (λ _. ExplainsSet (world_inputs_of files.now) (set.now ∷ [])
-        (Wrote W.taken W.failures out.old out.new)) }
-
-    // No other fault of the inputs comes before the one that is answered, and the pointer is that
-    // of the part at fault.
-    ensures first { IfErr result (λ fault. fault.kind ≢ kinds.Write → fault.kind ≢ kinds.Memory
-        → IsFirstFaultOfCall (explain_stages (world_inputs_of files.now) (set.now ∷ []))
-        fault.place (refusal_of fault)) }
-    ensures memory { IfErr result (λ fault. fault.kind ≡ kinds.Memory
-        → (fault.place ≡ places.Memory) × (string_bytes fault.pointer ≡ [])) }
-    ensures write { IfErr result (λ fault. fault.kind ≡ kinds.Write
-        → (fault.place ≡ places.Output) × (string_bytes fault.pointer ≡ [])
-        × ExplainsSet (world_inputs_of files.now) (set.now ∷ [])
-        (WroteInPart W.taken W.failures out.old out.new)) }
-
-    // Nothing is written after a refusal.
-    ensures untouched { IfErr result (λ fault. fault.kind ≢ kinds.Write → out.new ≡ out.old) }
+    // What is written is the ends, the silences and the rules and alerts of the set.
+    ensures kept { IsKept (explain_promise files.now (set.now ∷ []))
+        W.taken W.failures out.old out.new result }
 {
     explain_words(alloc, files, &[set], out)
 }
@@ -62,28 +42,14 @@ pub fn explain_words<W: Sink>(
     words: &[&str],
     out: &mut W,
 ) -> Result<(), Fault>
-    ensures explained { IfOk result (λ _. ExplainsSet (world_inputs_of files.now)
-        (map (λ word. word.now) words.now) (Wrote W.taken W.failures out.old out.new)) }
-    ensures first { IfErr result (λ fault. fault.kind ≢ kinds.Write → fault.kind ≢ kinds.Memory
-        → IsFirstFaultOfCall
-        (explain_stages (world_inputs_of files.now) (map (λ word. word.now) words.now))
-        fault.place (refusal_of fault)) }
-    ensures memory { IfErr result (λ fault. fault.kind ≡ kinds.Memory
-        → (fault.place ≡ places.Memory) × (string_bytes fault.pointer ≡ [])) }
-    ensures write { IfErr result (λ fault. fault.kind ≡ kinds.Write
-        → (fault.place ≡ places.Output) × (string_bytes fault.pointer ≡ [])
-        × ExplainsSet (world_inputs_of files.now) (map (λ word. word.now) words.now)
-        (WroteInPart W.taken W.failures out.old out.new)) }
-    ensures untouched { IfErr result (λ fault. fault.kind ≢ kinds.Write → out.new ≡ out.old) }
+    ensures kept { IsKept (explain_promise files.now (map (λ word. word.now) words.now))
+        W.taken W.failures out.old out.new result }
 {
     let world = read_world(alloc, files)?;
     let set = read_set(alloc, words)?;
-    let explanation = match explanation_of(alloc, &world, &set) {
-        Ok(explanation) => explanation,
-        Err(_) => return Err(Fault::memory(alloc)),
+    let Ok(explanation) = explanation_of(alloc, &world, &set) else {
+        return Err(Fault::memory(alloc));
     };
-    match write_explanation(world.config(), &set, &explanation, out) {
-        Ok(()) => Ok(()),
-        Err(kind) => Err(Fault::of(alloc, kind, Place::Output)),
-    }
+    let written = write_explanation(world.config(), &set, &explanation, out);
+    answer_of_write(alloc, written)
 }

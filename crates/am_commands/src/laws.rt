@@ -1,15 +1,14 @@
 //! Facts about the definitions alone: each is the contract of a function with an empty body.
-ghost use Rattle.std.specs.Prelude.{◌≡◌, ◌↔◌, ℕ, List, [], Some, None, Option, Contains, IsTrue};
-ghost use Rattle.std.specs.Prelude.{◌≤◌, length};
+ghost use Rattle.std.specs.Prelude.{◌≡◌, ◌≤◌, ◌<◌, ◌++◌, ℕ, List, [], Some, None, Option};
+ghost use Rattle.std.specs.Prelude.{IfSome, length};
 ghost use Rattle.std.specs.List.{flat_map};
 ghost use Rattle.am_universe.specs.declared.kind.Kind.TheVariants as kinds;
+ghost use Rattle.am_universe.specs.declared.limits.TheConstants.{MAX_LABELS};
 ghost use Rattle.am_universe.specs.declared.place.Place.{Place};
-ghost use Rattle.am_labels.specs.Words.{Label, IsUniverse, sizes, choices, Space, LabelMap};
+ghost use Rattle.am_labels.specs.Words.{Label, IsUniverse, sizes, choices, Space};
 ghost use Rattle.am_json.specs.Words.{Refusal};
 ghost use Rattle.am_records.specs.UniverseFile.{FileSaysUniverse};
 ghost use Rattle.am_files.specs.Words.{Configuration};
-ghost use Rattle.am_files.specs.Path.{leads_through};
-ghost use Rattle.am_eval.specs.Words.{ends, receivers};
 ghost use Rattle.am_eval.specs.Words.{World, Question, is_answer, answers, IsFirstFaultOfCall};
 ghost use Rattle.am_search.specs.declared.start.Start.{Start};
 ghost use Rattle.am_search.specs.declared.start.Start.TheVariants.{At, After};
@@ -21,18 +20,11 @@ ghost use Rattle.am_search.specs.Words.{IsSearchPage, IsSearchChain, BeginsLater
 ghost use Rattle.am_cubes.specs.Words.{verdict_of};
 ghost use Rattle.am_questions.specs.Words.{Inputs, AcceptsInputs, AsksStart, after_token};
 ghost use Rattle.am_questions.specs.Words.{inputs_fingerprint};
-ghost use Rattle.am_search.specs.Words.{lines_text};
+ghost use Rattle.am_search.specs.Words.{lines_text, trailer_text};
 ghost use Rattle.am_commands.specs.Words.{Asked, IsAskedOf, AreAskedInARow, AreAskedSoFar};
-ghost use Rattle.am_commands.specs.Words.{AnswersInputsUnder, ReportsFiles};
-ghost use Rattle.am_complete.specs.Words.{IsSpaceComplete, coverage_conditions, HasUtf8Texts};
-ghost use Rattle.am_complete.specs.Words.{IsAlertOf};
-ghost use Rattle.am_coverage.specs.declared.coverage.RouteCoverage.TheVariants as route_is;
-ghost use Rattle.am_coverage.specs.declared.coverage.ReceiverCoverage.TheVariants as receiver_is;
-ghost use Rattle.am_coverage.specs.Words.{IsDead, IsNeverEntered, IsUnmatched};
-ghost use Rattle.am_coverage.specs.Words.{route_coverage, receiver_coverage};
+ghost use Rattle.am_commands.specs.Words.{AnswersInputs, ReportsFiles};
 ghost use Rattle.am_coverage.specs.Words.{IsRoutesReport, IsReceiversReport};
 ghost use Rattle.am_commands.specs.Words.{AcceptsReport, report_stages};
-ghost use Rattle.am_commands.specs.Words.{NoAlertEndsAt, NoAlertEnters, NoAlertGoesTo};
 
 /// The answers from the first choice on are all answers to the question.
 pub fn answers_from_the_first_choice_on_are_all()
@@ -73,6 +65,19 @@ pub fn pages_in_a_row_have_the_lines_of_one_page()
         → IsSearchChain (sizes s.labels) (verdict_of s w q) start pages
         → flat_map (λ page. lines_text s.labels page.choices) pages
         ≡ lines_text s.labels (page_from (sizes s.labels) (is_answer s w q) start None).choices }
+{}
+
+/// What `ask` writes is lines and its trailer, so what laws say of calls in a row is so of it.
+pub fn what_ask_writes_is_lines_and_a_trailer()
+    ensures asked { (inputs : Inputs) (limit steps : Option ℕ) (trailer : Trailer) (text : List ℕ)
+        → IfSome limit (λ n. 0 < n) → IfSome steps (λ n. MAX_LABELS < n)
+        → AnswersInputs inputs limit steps trailer text
+        → (lines : List ℕ) × IsAskedOf inputs (record {
+          limit = limit;
+          steps = steps;
+          lines = lines;
+          trailer = trailer;
+        }) × (text ≡ lines ++ trailer_text (inputs_fingerprint inputs) trailer) }
 {}
 
 /// Where a call of `ask` ends with a token, the same inputs with that token are accepted, as
@@ -134,17 +139,15 @@ pub fn the_verdicts_of_a_question_judge_its_answers()
 pub fn what_is_written_is_one_text()
     ensures ask { (inputs : Inputs) (limit steps : Option ℕ) (page other : List ℕ)
         (trailer again : Trailer)
-        → AnswersInputsUnder inputs limit steps trailer (λ written. written ≡ page)
-        → AnswersInputsUnder inputs limit steps again (λ written. written ≡ other)
+        → AnswersInputs inputs limit steps trailer page
+        → AnswersInputs inputs limit steps again other
         → (page ≡ other) × (trailer ≡ again) }
     ensures dead { (universe_file config_file report other : List ℕ)
-        → ReportsFiles universe_file config_file IsRoutesReport (λ written. written ≡ report)
-        → ReportsFiles universe_file config_file IsRoutesReport (λ written. written ≡ other)
-        → report ≡ other }
+        → ReportsFiles universe_file config_file IsRoutesReport report
+        → ReportsFiles universe_file config_file IsRoutesReport other → report ≡ other }
     ensures receivers { (universe_file config_file report other : List ℕ)
-        → ReportsFiles universe_file config_file IsReceiversReport (λ written. written ≡ report)
-        → ReportsFiles universe_file config_file IsReceiversReport (λ written. written ≡ other)
-        → report ≡ other }
+        → ReportsFiles universe_file config_file IsReceiversReport report
+        → ReportsFiles universe_file config_file IsReceiversReport other → report ≡ other }
 {}
 
 /// Where the files of a report are accepted, they have no first fault, but for a pattern, which the
@@ -154,54 +157,4 @@ pub fn accepted_files_have_no_fault()
         (place : Place) (refusal : Refusal) → AcceptsReport universe_file config_file s c
         → IsFirstFaultOfCall (report_stages universe_file config_file) place refusal
         → refusal.kind ≡ kinds.Pattern }
-{}
-
-/// Over a space that is complete for the matchers of the routes and of what is impossible, no alert
-/// of the space ends at a route that is dead, none ends at or below one that is never entered, and
-/// none goes to a receiver that is unmatched.
-pub fn a_dead_route_of_a_complete_universe_has_no_alert()
-    ensures dead { (s : Space) (c : Configuration) (path : List ℕ) → IsUniverse s.labels
-        → IsSpaceComplete s (coverage_conditions s c)
-        → IsDead s c path → NoAlertEndsAt s c path }
-    ensures never_entered { (s : Space) (c : Configuration) (path : List ℕ) → IsUniverse s.labels
-        → IsSpaceComplete s (coverage_conditions s c)
-        → IsNeverEntered s c path → NoAlertEnters s c path }
-    ensures unmatched { (s : Space) (c : Configuration) (receiver : ℕ) → IsUniverse s.labels
-        → IsSpaceComplete s (coverage_conditions s c)
-        → IsUnmatched s c receiver → NoAlertGoesTo s c receiver }
-{}
-
-/// Over any universe, complete or not, some alert ends at each route that is told as live, some
-/// ends below each that is told as entered, and some goes to each receiver that is told as live.
-pub fn a_route_is_live_in_any_universe()
-    ensures live { (s : Space) (c : Configuration) (path choice : List ℕ) → IsUniverse s.labels
-        → HasUtf8Texts s.labels → route_coverage s c path ≡ route_is.Live choice
-        → (alert : LabelMap) × IsAlertOf s alert × Contains (ends alert c) path }
-    ensures entered { (s : Space) (c : Configuration) (path : List ℕ) → IsUniverse s.labels
-        → HasUtf8Texts s.labels → route_coverage s c path ≡ route_is.Entered
-        → (alert : LabelMap) × (end : List ℕ) × IsAlertOf s alert × Contains (ends alert c) end
-        × IsTrue (leads_through path end) }
-    ensures receiver { (s : Space) (c : Configuration) (receiver : ℕ) (choice : List ℕ)
-        → IsUniverse s.labels → HasUtf8Texts s.labels
-        → receiver_coverage s c receiver ≡ receiver_is.Live choice
-        → (alert : LabelMap) × IsAlertOf s alert × Contains (receivers alert c) receiver }
-{}
-
-/// So over a universe file that is complete a route is dead exactly where no possible alert ends
-/// there, it is never entered exactly where none ends there or below it, and a receiver is
-/// unmatched exactly where none goes to it. Whatever labels an alert has, and whatever their names
-/// are, it is possible unless an impossible list matches it.
-pub fn over_a_complete_universe_dead_is_exact()
-    ensures dead { (universe_file config_file path : List ℕ) (s : Space) (c : Configuration)
-        → AcceptsReport universe_file config_file s c
-        → IsSpaceComplete s (coverage_conditions s c)
-        → (IsDead s c path ↔ NoAlertEndsAt s c path) }
-    ensures never_entered { (universe_file config_file path : List ℕ) (s : Space)
-        (c : Configuration) → AcceptsReport universe_file config_file s c
-        → IsSpaceComplete s (coverage_conditions s c)
-        → (IsNeverEntered s c path ↔ NoAlertEnters s c path) }
-    ensures unmatched { (universe_file config_file : List ℕ) (s : Space) (c : Configuration)
-        (receiver : ℕ) → AcceptsReport universe_file config_file s c
-        → IsSpaceComplete s (coverage_conditions s c)
-        → (IsUnmatched s c receiver ↔ NoAlertGoesTo s c receiver) }
 {}

@@ -1,49 +1,41 @@
 -- What is written is the page of the search for the answers.
-use Rattle.std.proofs.Common.{◌≡◌, List, ℕ, subst, ap, ◌∙◌}
+use Rattle.std.proofs.Common.{◌≡◌, refl, ap, ◌∙◌}
 use Rattle.am_universe.specs.Universe.{sizes}
-use Rattle.am_universe.specs.Sink.{WroteInPart}
 use Rattle.am_labels.specs.Space.{Space}
-use Rattle.am_universe.proofs.Writing.{wrote_as}
 use Rattle.am_eval.specs.QuestionView.{question_view}
+use Rattle.am_eval.proofs.Promises.{written, told_as}
 use Rattle.am_search.specs.AnswersView.{answers_page}
 use Rattle.am_search.specs.PageText.{page_text}
 use Rattle.am_search.proofs.WalkBudgets.{page_is}
 use Rattle.am_cubes.specs.PlanWords.{plan_sizes, plan_verdict}
-use Rattle.am_commands.specs.AskOutcome.{page_of_inputs}
+use Rattle.am_commands.specs.AskOutcome.{page_of_inputs, page_promise}
 use Rattle.am_commands.proofs.AskedPages.{page_of_plan}
 use Rattle.am_commands.proofs.asking.write_answers.Goals as goal
 
-pub returns-in-Ok-write_page-clause-trailer : goal.returns-in-Ok-write_page-clause-trailer
-returns-in-Ok-write_page-clause-trailer g c =
+pub returns : goal.returns
+returns g c =
     let read = c.args.accepted.now in
     let question = question_view read.question in
     let judge = c.in-Ok.judge in
-    let same : answers_page c.from-answers.result c.args.limit ≡ page_of_inputs read c.args.limit c.args.steps =
-    page_is c.from-answers.result judge read.start c.args.limit c.args.steps c.from-answers.ensures.judge c.from-answers.ensures.start c.from-answers.ensures.budget c.from-answers.ensures.left_under
-    ∙ page_of_plan read.space read.world question (plan_sizes judge) (plan_verdict judge) read.start c.args.limit c.args.steps (ap (λ (s : Space). sizes s.labels) c.in-Ok.ensures.space) c.in-Ok.ensures.verdict in
-    c.in-Ok-write_page.ensures.trailer ∙ ap (λ p. p.trailer) same
-
-pub returns-in-Ok-write_page-clause-written : goal.returns-in-Ok-write_page-clause-written
-returns-in-Ok-write_page-clause-written g c =
-    let read = c.args.accepted.now in
-    let question = question_view read.question in
-    let judge = c.in-Ok.judge in
-    let same : answers_page c.from-answers.result c.args.limit ≡ page_of_inputs read c.args.limit c.args.steps =
-    page_is c.from-answers.result judge read.start c.args.limit c.args.steps c.from-answers.ensures.judge c.from-answers.ensures.start c.from-answers.ensures.budget c.from-answers.ensures.left_under
-    ∙ page_of_plan read.space read.world question (plan_sizes judge) (plan_verdict judge) read.start c.args.limit c.args.steps (ap (λ (s : Space). sizes s.labels) c.in-Ok.ensures.space) c.in-Ok.ensures.verdict in
-    wrote_as (ap (λ u. page_text u read.fingerprint (answers_page c.from-answers.result c.args.limit)) (c.in-Ok-of.ensures.universe ∙ c.universe.ensures.labels) ∙ ap (page_text read.space.labels read.fingerprint) same)
-    c.in-Ok-write_page.ensures.written.ok
-
-pub returns-clause-write : goal.returns-clause-write
-returns-clause-write g c = λ failed.
-    let read = c.args.accepted.now in
-    let question = question_view read.question in
-    let judge = c.in-Ok.judge in
-    let same : answers_page c.from-answers.result c.args.limit ≡ page_of_inputs read c.args.limit c.args.steps =
-    page_is c.from-answers.result judge read.start c.args.limit c.args.steps c.from-answers.ensures.judge c.from-answers.ensures.start c.from-answers.ensures.budget c.from-answers.ensures.left_under
-    ∙ page_of_plan read.space read.world question (plan_sizes judge) (plan_verdict judge) read.start c.args.limit c.args.steps (ap (λ (s : Space). sizes s.labels) c.in-Ok.ensures.space) c.in-Ok.ensures.verdict in
-    let text = ap (λ u. page_text u read.fingerprint (answers_page c.from-answers.result c.args.limit)) (c.in-Ok-of.ensures.universe ∙ c.universe.ensures.labels) ∙ ap (page_text read.space.labels read.fingerprint) same in (
-      c.of-in-Err-write_page.ensures.place,
-      c.of-in-Err-write_page.ensures.pointer,
-      subst (λ (t : List ℕ). WroteInPart g.W.Sink.taken g.W.Sink.failures c.args.out.now c.write_page.new.out t) text c.in-Err-write_page.ensures.written.err.1,
-    )
+    let limit = c.args.limit in
+    let steps = c.args.steps in
+    let answers = c.from-answers in
+    let page = page_of_inputs read limit steps in
+    let wrote = c.write_page-written in
+    let searched =
+    page_is answers.result judge read.start limit steps answers.ensures.judge answers.ensures.start
+    answers.ensures.budget answers.ensures.left_under in
+    let asked =
+    page_of_plan read.space read.world question (plan_sizes judge) (plan_verdict judge) read.start
+    limit steps (ap (λ (s : Space). sizes s.labels) c.in-Ok.ensures.space) c.in-Ok.ensures.verdict in
+    let same : answers_page answers.result limit ≡ page = searched ∙ asked in
+    let text =
+    ap (λ u. page_text u read.fingerprint (answers_page answers.result limit))
+    (c.in-Ok-of.ensures.universe ∙ c.universe.ensures.labels)
+    ∙ ap (page_text read.space.labels read.fingerprint) same in
+    record {
+      kept = written (page_promise read limit steps) page.trailer _ wrote.result
+          c.answer_of_write.result (refl, text)
+          (told_as wrote.result (ap (λ p. p.trailer) same) wrote.ensures.trailer)
+          wrote.ensures.written c.answer_of_write.ensures.answer;
+    }

@@ -1,7 +1,6 @@
 use Rattle.std.proofs.Common.{refl, inr, Some}
 use Rattle.am_universe.specs.Universe.{sizes}
 use Rattle.am_eval.specs.Question.{is_answer}
-use Rattle.am_search.specs.declared.start.Start.TheVariants.{After}
 use Rattle.am_search.proofs.Pages.{next_is_start}
 use Rattle.am_search.specs.Token.{token_text}
 use Rattle.am_questions.specs.Inputs.{inputs_fingerprint}
