@@ -1,0 +1,53 @@
+-- What is owed for a request, over the bytes of its files. (This project's own.)
+use Rattle.std.specs.Prelude.{ℕ, List, [], map, Option, option_map, option_copied, unwrap_or, ⊤}
+use Rattle.std.specs.Global.{Vec}
+use Rattle.std.specs.Int.NonZero.{non_zero_u64_get}
+use Rattle.am_command_line.specs.Words.{step_count}
+use Rattle.am_command_line.specs.declared.command_line.InputFiles.{InputFiles}
+use Rattle.am_command_line.specs.declared.command_line.Request.{Request}
+use Rattle.am_command_line.specs.declared.command_line.Request.TheVariants as requests
+use Rattle.am_eval.specs.Files.{Files, config_of}
+use Rattle.am_eval.specs.Explanation.{explain_promise}
+use Rattle.am_eval.specs.Promise.{Promise, any_answer}
+use Rattle.am_commands.specs.AskOutcome.{ask_promise}
+use Rattle.am_commands.specs.Reports.{dead_promise, receivers_promise}
+use Rattle.am_universe_command.specs.Universes.{universe_promise, check_promise}
+
+-- The bytes of a file that may be left out; those of the universe file, of which there are none
+-- without one; and the other files, with the instant.
+abbrev pub bytes_if_any : Option (Vec ℕ) → Option (List ℕ)
+bytes_if_any file = option_map (λ bytes. bytes.items) file
+
+abbrev pub universe_bytes : InputFiles (Vec ℕ) → List ℕ
+universe_bytes files = unwrap_or (bytes_if_any files.universe) []
+
+abbrev pub files_of : InputFiles (Vec ℕ) → Files
+files_of files = record {
+  config = bytes_if_any files.config;
+  silences = bytes_if_any files.silences;
+  alerts = bytes_if_any files.alerts;
+  at = option_copied files.at;
+}
+
+-- What is owed for a request: for `ask` the page of the answers to that question, from that token
+-- on and under that limit and that budget; for `dead` the report of routes; for `receivers` that of
+-- receivers; for `explain` the explanation of that set; for `universe` a universe in that form, or
+-- how the one that is to be checked stands.
+-- Source: own choice.
+-- Example: for `dead --universe u.json --config alertmanager.json` it is what `dead` owes for the
+-- bytes of these files.
+abbrev pub promise_of : Request → List ℕ → Files → Promise ⊤
+promise_of (requests.Ask question after limit steps) universe files =
+    any_answer (ask_promise (record {
+      universe = universe;
+      files = files;
+      question = question.now;
+      after = option_copied after;
+    }) (option_map non_zero_u64_get limit) (option_map step_count steps))
+promise_of requests.Dead universe files = dead_promise universe (config_of files.config)
+promise_of requests.Receivers universe files = receivers_promise universe (config_of files.config)
+promise_of (requests.Explain set) universe files =
+    explain_promise files (map (λ word. word.now) set.items)
+promise_of (requests.Universe routes open_form) universe files =
+    universe_promise files (record { routes = routes; «open» = open_form })
+promise_of (requests.CheckUniverse routes) universe files = check_promise universe files routes

@@ -1,0 +1,107 @@
+//! The call that does what is asked for.
+
+ghost use Rattle.std.specs.Prelude.{◌≡◌, ◌<◌, IfSome, option_map, option_copied};
+ghost use Rattle.std.specs.Int.NonZero.{non_zero_u64_get};
+ghost use Rattle.am_universe.specs.declared.limits.TheConstants.{MAX_LABELS};
+ghost use Rattle.am_command_line.specs.Words.{step_count};
+ghost use Rattle.am_eval.specs.Words.{IsKept};
+ghost use Rattle.am_program.specs.Words.{bytes_if_any, universe_bytes, files_of, promise_of};
+
+use am_command_line::{InputFiles, Request, Steps};
+use am_commands::{ask, dead, explain_words, receivers};
+use am_eval::Files;
+use am_labels::{Fault, Sink};
+use am_notes::Call;
+use am_search::Page;
+use am_universe_command::{UniverseForm, check_universe, universe};
+use std::alloc::Global;
+use std::num::NonZeroU64;
+
+/// Makes the call that does what is asked for.
+pub fn make_call<W: Sink>(alloc: Global, call: &Call<'_>, out: &mut W) -> Result<(), Fault>
+    ensures kept { IsKept (promise_of call.now.request.now call.now.universe.now call.now.files)
+        W.taken W.failures out.old out.new result }
+{
+    match call.request {
+        Request::Ask {
+            question,
+            after,
+            limit,
+            steps,
+        } => {
+            let page = Page {
+                after: *after,
+                limit: limit_of(*limit),
+                steps: steps_of(*steps),
+            };
+            match ask(alloc, call.universe, &call.files, question, &page, out) {
+                Ok(_) => Ok(()),
+                Err(fault) => Err(fault),
+            }
+        }
+        Request::Dead => dead(alloc, call.universe, call.files.config(), out),
+        Request::Receivers => receivers(alloc, call.universe, call.files.config(), out),
+        Request::Explain { set } => explain_words(alloc, &call.files, set.as_slice(), out),
+        Request::Universe { routes, open } => {
+            let form = UniverseForm {
+                routes: *routes,
+                open: *open,
+            };
+            universe(alloc, &call.files, form, out)
+        }
+        Request::CheckUniverse { routes } => {
+            check_universe(alloc, call.universe, &call.files, *routes, out)
+        }
+    }
+}
+
+/// A request, with the bytes of the files that were read for it. The command line requires a
+/// universe file where it is looked at; without one there are no bytes.
+pub fn call_of<'a>(request: &'a Request<'a>, files: &'a InputFiles<'_, Vec<u8>>) -> Call<'a>
+    ensures request { result.request.now ≡ request.now }
+    ensures universe { result.universe.now ≡ universe_bytes files.now }
+    ensures files { result.files ≡ files_of files.now }
+{
+    Call {
+        request,
+        universe: bytes_of(&files.universe).unwrap_or(&[]),
+        files: Files {
+            config: bytes_of(&files.config),
+            silences: bytes_of(&files.silences),
+            alerts: bytes_of(&files.alerts),
+            at: files.at,
+        },
+    }
+}
+
+/// The bytes of a file that may be left out.
+fn bytes_of(file: &Option<Vec<u8>>) -> Option<&[u8]>
+    ensures { option_copied result ≡ bytes_if_any file.now }
+{
+    match file {
+        Some(bytes) => Some(bytes.as_slice()),
+        None => None,
+    }
+}
+
+/// The most lines of a page, if there is a limit.
+fn limit_of(limit: Option<NonZeroU64>) -> Option<u64>
+    ensures limit { result ≡ option_map non_zero_u64_get limit }
+    ensures some { IfSome result (λ n. 0 < n) }
+{
+    match limit {
+        Some(limit) => Some(limit.get()),
+        None => None,
+    }
+}
+
+/// The most prefixes that a page may judge, if there is a budget.
+fn steps_of(steps: Option<Steps>) -> Option<u64>
+    ensures steps { result ≡ option_map step_count steps }
+    ensures enough { IfSome result (λ n. MAX_LABELS < n) }
+{
+    match steps {
+        Some(steps) => Some(steps.get()),
+        None => None,
+    }
+}

@@ -1,0 +1,200 @@
+use crate::calling::{call_of, make_call};
+use crate::read_file::read_file;
+use am_command_line::{CommandLine, InputFiles, parse_command_line};
+use am_labels::{Fault, Out, Place, report};
+use am_notes::{Call, notes_of_answer, notes_of_refusal};
+use clap::Error;
+use clap::error::ErrorKind;
+use std::alloc::{AllocError, Global};
+use std::io;
+use std::io::{BufWriter, Write};
+use std::rt::Files;
+
+const DONE: u8 = 0;
+
+/// The exit status of a usage fault.
+const USAGE: u8 = 2;
+
+/// How many bytes of output are held back before they go out.
+const BUFFER: usize = 65536;
+
+/// Runs the program: `words` are its command line, the program's name first. Answers go to `out`,
+/// and a fault is one line on `err`. The answer is the exit status: 0 done, 1 refused input, 2
+/// usage, 3 memory, 4 writing failed.
+pub fn run<R: Files + AllocGlobal, W: Write + Drop, E: Write + Drop>(
+    rt: &R,
+    words: &[String],
+    out: &mut W,
+    err: &mut E,
+) -> u8 {
+    run_with_notes(rt, words, out, err, false)
+}
+
+/// The same; and where notes are wanted, as on a terminal, they go to `err` behind all else: lines
+/// that begin with `note: `, which say what a person is about to miss. What goes to `out`, the line
+/// of a fault and the answer are the same with and without them.
+pub fn run_with_notes<R: Files + AllocGlobal, W: Write + Drop, E: Write + Drop>(
+    rt: &R,
+    words: &[String],
+    out: &mut W,
+    err: &mut E,
+    notes: bool,
+) -> u8 {
+    let outcome = match parse_command_line(rt.alloc(), words) {
+        Ok(line) => return run_line(rt, &line, out, err, notes),
+        Err(error) => show_clap_message(rt.alloc(), &error, out, err),
+    };
+    match outcome {
+        Ok(status) => status,
+        Err(fault) => report(rt.alloc(), &fault, err),
+    }
+}
+
+/// Says on `err` why the words of a command line could not be had: memory ran out, or they are no
+/// text (UTF-8). The answer is the exit status.
+pub fn refuse_arguments<E: Write>(error: &io::Error, alloc: Global, err: &mut E) -> u8 {
+    if error.kind() == io::ErrorKind::OutOfMemory {
+        return report(alloc, &Fault::memory(alloc), err);
+    }
+    let _ = writeln!(err, "error: the command line is not UTF-8");
+    USAGE
+}
+
+/// Reads the files that a command line names, and does what it asks for. The answer is the exit
+/// status.
+fn run_line<R: Files + AllocGlobal, W: Write + Drop, E: Write + Drop>(
+    rt: &R,
+    line: &CommandLine<'_>,
+    out: &mut W,
+    err: &mut E,
+    notes: bool,
+) -> u8 {
+    let alloc = rt.alloc();
+    let files = match read_files(rt, &line.files) {
+        Ok(files) => files,
+        Err(fault) => return refuse(alloc, None, &fault, err, notes),
+    };
+    let call = call_of(&line.request, &files);
+    match call_buffered(alloc, &call, out) {
+        Ok(status) => {
+            if notes {
+                write_notes(notes_of_answer(alloc, &call), err);
+            }
+            status
+        }
+        Err(fault) => refuse(alloc, Some(&call), &fault, err, notes),
+    }
+}
+
+/// Says why a call was refused, and behind that what may help. The answer is the exit status.
+fn refuse<E: Write + Drop>(
+    alloc: Global,
+    call: Option<&Call<'_>>,
+    fault: &Fault,
+    err: &mut E,
+    notes: bool,
+) -> u8 {
+    let status = report(alloc, fault, err);
+    if notes {
+        write_notes(notes_of_refusal(alloc, call, fault), err);
+    }
+    status
+}
+
+/// Writes notes, as far as there are any. Where memory was refused for them there are none, and
+/// where they cannot be written nothing is made of that: they are no part of the answer.
+fn write_notes<E: Write + Drop>(notes: Result<String, AllocError>, err: &mut E) {
+    if let Ok(text) = notes {
+        let _ = err.write_all(text.as_str().as_bytes());
+    }
+}
+
+/// The bytes of the files of these paths, which are read in the order in which commands look at
+/// them.
+fn read_files<'a, R: Files + AllocGlobal>(
+    rt: &R,
+    paths: &InputFiles<'a, &str>,
+) -> Result<InputFiles<'a, Vec<u8>>, Fault> {
+    let universe = read_input_if_any(rt, paths.universe, Place::Universe)?;
+    let config = read_input_if_any(rt, paths.config, Place::Config)?;
+    let silences = read_input_if_any(rt, paths.silences, Place::Silences)?;
+    let alerts = read_input_if_any(rt, paths.alerts, Place::Alerts)?;
+    Ok(InputFiles {
+        universe,
+        config,
+        silences,
+        alerts,
+        at: paths.at,
+    })
+}
+
+/// Calls the command over a buffer of the output, which is flushed at the end.
+fn call_buffered<W: Write + Drop>(
+    alloc: Global,
+    call: &Call<'_>,
+    out: &mut W,
+) -> Result<u8, Fault> {
+    let buffered = match BufWriter::with_capacity(alloc, BUFFER, out) {
+        Ok(buffered) => buffered,
+        Err(_) => return Err(Fault::memory(alloc)),
+    };
+    let mut sink = Out::new(buffered);
+    let outcome = make_call(alloc, call, &mut sink);
+    let mut buffered = sink.into_inner();
+    let flushed = match &outcome {
+        Ok(()) => buffered.flush().is_ok(),
+        Err(_) => true,
+    };
+    // What is left in the buffer after a failure is not tried again, as dropping the buffer would.
+    let _ = buffered.into_parts();
+    outcome?;
+    if flushed {
+        Ok(DONE)
+    } else {
+        Err(Fault::write(alloc))
+    }
+}
+
+/// The bytes of an input file. A file that cannot be read is a fault at its place; that memory ran
+/// out is one at `Memory`.
+fn read_input<R: Files + AllocGlobal>(rt: &R, path: &str, place: Place) -> Result<Vec<u8>, Fault> {
+    match read_file(rt, path) {
+        Ok(bytes) => Ok(bytes),
+        Err(kind) => Err(Fault::at(rt.alloc(), kind, place)),
+    }
+}
+
+/// The bytes of an input file that may be left out.
+fn read_input_if_any<R: Files + AllocGlobal>(
+    rt: &R,
+    path: Option<&str>,
+    place: Place,
+) -> Result<Option<Vec<u8>>, Fault> {
+    match path {
+        Some(path) => Ok(Some(read_input(rt, path, place)?)),
+        None => Ok(None),
+    }
+}
+
+/// Shows what the reader of the command line has to say: help and the version on `out`, a usage
+/// fault on `err`.
+fn show_clap_message<W: Write, E: Write>(
+    alloc: Global,
+    error: &Error,
+    out: &mut W,
+    err: &mut E,
+) -> Result<u8, Fault> {
+    if error.kind() == ErrorKind::OutOfMemory {
+        return Err(Fault::memory(alloc));
+    }
+    if error.use_stderr() {
+        let _ = write!(err, "{error}");
+        return Ok(USAGE);
+    }
+    let written = write!(out, "{error}");
+    if written.is_ok() && out.flush().is_ok() {
+        Ok(DONE)
+    } else {
+        Err(Fault::write(alloc))
+    }
+}
