@@ -64,6 +64,16 @@ pub fn split_at_first<'a>(text: &'a [u8], mark: &[u8]) -> Option<(&'a [u8], &'a 
     None
 }
 
+/// What has this name, of some values with their names.
+pub fn value_named<T: Copy>(values: &[(&str, T)], name: &[u8]) -> Option<T> {
+    for (known, value) in values {
+        if known.as_bytes() == name {
+            return Some(*value);
+        }
+    }
+    None
+}
+
 /// The number that a text is in decimal.
 pub fn number(text: &[u8]) -> Option<usize> {
     std::str::from_utf8(text).ok()?.parse::<usize>().ok()

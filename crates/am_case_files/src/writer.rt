@@ -32,13 +32,16 @@ impl Manner {
         stop: None,
     };
 
+    /// The same, but a call takes at most so many bytes.
+    pub fn in_steps(self, step: usize) -> Manner {
+        Manner { step, ..self }
+    }
+
     /// The same, but it stops at this call.
     pub fn stopped(self, call: usize, how: Stop) -> Manner {
         Manner {
-            step: self.step,
-            room: self.room,
-            flush_fails: self.flush_fails,
             stop: Some((call, how)),
+            ..self
         }
     }
 }

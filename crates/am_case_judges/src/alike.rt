@@ -141,24 +141,6 @@ fn choices_text(alloc: Global, choices: &[Choice]) -> Result<String, AllocError>
     Ok(text)
 }
 
-/// Compares what two judges say of every prefix.
-pub fn compare_verdicts<J: Judge, K: Judge>(
-    alloc: Global,
-    universe: &Universe,
-    one: &J,
-    other: &K,
-) -> Result<(), Problem>
-    requires one { J.sizes one.now ≡ sizes universe.now }
-    requires other { K.sizes other.now ≡ sizes universe.now }
-{
-    for prefix in &prefixes_of(alloc, universe, MOST_PREFIXES)? {
-        let found = verdict_at(alloc, universe, one, prefix)?;
-        let wanted = verdict_at(alloc, universe, other, prefix)?;
-        check_verdict(alloc, "judged", wanted, found)?;
-    }
-    Ok(())
-}
-
 /// What a judge says of a prefix.
 pub fn verdict_at<J: Judge>(
     alloc: Global,

@@ -29,7 +29,7 @@ mod cube;
 // Two judges that are to say the same.
 mod alike;
 
-pub use alike::{Alike, check_verdict, compare, compare_verdicts, counted_verdict, verdict_at};
+pub use alike::{Alike, check_verdict, compare, counted_verdict, verdict_at};
 pub use cube::{cube_text, verdict_text};
 pub use positions::{add_positions, prefix_of};
 pub use search::search_text;

@@ -1,0 +1,366 @@
+//! Reports over worlds that no one typed: whether `dead` and `receivers` tell of them what holds,
+//! line by line.
+
+ghost use Rattle.std.specs.Prelude.{◌≡◌};
+ghost use Rattle.am_universe.specs.Universe.{sizes};
+
+use crate::reports::{Report, write_report};
+use am_case_files::{Problem, split_at_first, utf8};
+use am_case_parts::{ALL, asked_of_whole, files_of, made_refused, question_of, set_of_text, told};
+use am_case_runner::Over;
+use am_case_worlds::{large_world, of_seed, read_seeds, small_world, split_impossible};
+use am_commands::ask;
+use am_cubes::Plan;
+use am_eval::ends;
+use am_files::{Config, Path, read_config};
+use am_labels::{Out, Universe, write_set};
+use am_questions::{AcceptedInputs, read_inputs};
+use am_search::{Judge, first};
+use am_whole::Whole;
+use std::alloc::{AllocError, Global};
+
+/// The most label sets that are looked at one by one.
+const MOST_SETS: usize = 1_000;
+
+/// Of how many routes and receivers a report told what.
+#[derive(Clone, Copy)]
+struct Counts {
+    live: usize,
+    entered: usize,
+    never_entered: usize,
+    unmatched: usize,
+}
+
+impl Counts {
+    fn none() -> Counts {
+        Counts {
+            live: 0,
+            entered: 0,
+            never_entered: 0,
+            unmatched: 0,
+        }
+    }
+
+    fn count(&mut self, status: &[u8]) {
+        let count = if status == b"dead entered".as_slice() {
+            &mut self.entered
+        } else if status == b"dead never-entered".as_slice() {
+            &mut self.never_entered
+        } else if status == b"unmatched".as_slice() {
+            &mut self.unmatched
+        } else {
+            &mut self.live
+        };
+        *count = count.saturating_add(1);
+    }
+}
+
+// ---- Small worlds, over which whole choices are looked at one by one.
+
+/// What the reports of the worlds of some seeds tell. The text is the first seed, a blank, and how
+/// many there are; and ` impossible` behind it, where some label sets are to be impossible.
+pub fn of_reports(alloc: Global, text: &[u8]) -> Result<Vec<u8>, Problem> {
+    let (text, has_impossible) = split_impossible(text);
+    let (seed, count) = read_seeds(alloc, text)?;
+    let mut counts = Counts::none();
+    for i in 0..count {
+        let seed = seed.wrapping_add(i);
+        if let Err(problem) = check_small(alloc, seed, has_impossible, &mut counts) {
+            return Err(of_seed(alloc, seed, problem));
+        }
+    }
+    let mut text = format!(in alloc; "ok: {count} worlds")?;
+    add_words(counts, &mut text)?;
+    Ok(text.into_bytes())
+}
+
+/// Compares the reports of the world of a seed with what the plans of questions find, and the judge
+/// that looks at whole choices.
+fn check_small(
+    alloc: Global,
+    seed: u64,
+    has_impossible: bool,
+    counts: &mut Counts,
+) -> Result<(), Problem> {
+    let made = small_world(alloc, seed, has_impossible)?;
+    let (universe, config) = (made.universe.as_bytes(), made.config.as_bytes());
+    let over = Over {
+        with: Some(config),
+        ..Over::universe(universe)
+    };
+    let inputs = match read_inputs(alloc, universe, &files_of(over, None), "any", &ALL) {
+        Ok(inputs) => inputs,
+        Err(fault) => return Err(made_refused(alloc, &fault)),
+    };
+    let report = report_of(alloc, Report::Routes, universe, config)?;
+    for line in report.as_slice().split(|byte| *byte == b'\n') {
+        if let Some((path, status)) = split_at_first(line, b" ") {
+            let wanted = status_of_route(alloc, &inputs, utf8(alloc, path)?)?;
+            check_status(alloc, line, wanted.as_slice(), status)?;
+            counts.count(status);
+        }
+    }
+    let report = report_of(alloc, Report::Receivers, universe, config)?;
+    for line in report.as_slice().split(|byte| *byte == b'\n') {
+        if let Some((name, status)) = split_at_first(line, b" ") {
+            let wanted = status_of_receiver(alloc, &inputs, utf8(alloc, name)?)?;
+            check_status(alloc, line, wanted.as_slice(), status)?;
+            counts.count(status);
+        }
+    }
+    Ok(())
+}
+
+fn check_status(alloc: Global, line: &[u8], wanted: &[u8], found: &[u8]) -> Result<(), Problem> {
+    if wanted == found {
+        return Ok(());
+    }
+    let line = String::from_utf8_lossy(alloc, line)?;
+    Err(Problem::differs(alloc, line.as_str(), wanted, found))
+}
+
+fn status_of_route(alloc: Global, inputs: &AcceptedInputs, path: &str) -> Result<Vec<u8>, Problem> {
+    let ends = format!(in alloc; "ends {path}")?;
+    let live = live_status(alloc, inputs, ends.as_str())?;
+    if !live.is_empty() {
+        return Ok(live);
+    }
+    let enters = format!(in alloc; "enters {path}")?;
+    let entered = live_status(alloc, inputs, enters.as_str())?;
+    told(alloc, dead_status(!entered.is_empty()))
+}
+
+fn dead_status(is_entered: bool) -> &'static str {
+    if is_entered {
+        "dead entered"
+    } else {
+        "dead never-entered"
+    }
+}
+
+fn status_of_receiver(
+    alloc: Global,
+    inputs: &AcceptedInputs,
+    name: &str,
+) -> Result<Vec<u8>, Problem> {
+    let receiver = format!(in alloc; "receiver {name}")?;
+    let live = live_status(alloc, inputs, receiver.as_str())?;
+    if live.is_empty() {
+        return told(alloc, "unmatched");
+    }
+    Ok(live)
+}
+
+/// `live ` and the first label set of which a question is true, as its plan finds it and the judge
+/// that looks at whole choices; empty where it is true of none.
+fn live_status(alloc: Global, inputs: &AcceptedInputs, text: &str) -> Result<Vec<u8>, Problem> {
+    let universe = inputs.space.universe();
+    let question = question_of(alloc, text, inputs)?;
+    let plan = Plan::new(alloc, &inputs.space, &inputs.world, &question)?;
+    let question = asked_of_whole(alloc, text, inputs)?;
+    let whole = Whole::new(alloc, universe, &inputs.world, &question)?;
+    let found = live_status_by(alloc, universe, &plan)?;
+    let wanted = live_status_by(alloc, universe, &whole)?;
+    check_status(
+        alloc,
+        b"the first of all choices",
+        wanted.as_slice(),
+        found.as_slice(),
+    )?;
+    Ok(found)
+}
+
+fn live_status_by<J: Judge>(
+    alloc: Global,
+    universe: &Universe,
+    judge: &J,
+) -> Result<Vec<u8>, Problem>
+    requires { J.sizes judge.now ≡ sizes universe.now }
+{
+    let Some(choice) = first(judge) else {
+        return Ok(Vec::new(alloc));
+    };
+    let mut out = Out::new(told(alloc, "live ")?);
+    match write_set(universe, &choice, &mut out) {
+        Ok(()) => Ok(out.into_inner()),
+        Err(_) => Err(Problem::Memory),
+    }
+}
+
+// ---- Large worlds.
+
+/// A label set as it is written, and the routes that handle it.
+#[derive(Drop)]
+struct Handled {
+    set: Vec<u8>,
+    ends: Vec<Path>,
+}
+
+/// What the reports of a large world tell. The text is a seed, how many labels there are, and how
+/// many values each has, with blanks between.
+pub fn of_large(alloc: Global, text: &[u8]) -> Result<Vec<u8>, Problem> {
+    let Some((seed, sizes)) = split_at_first(text, b" ") else {
+        return Err(Problem::about(alloc, "a seed, labels and values are wanted", text));
+    };
+    let Some(seed) = utf8(alloc, seed)?.parse::<u64>().ok() else {
+        return Err(Problem::about(alloc, "no seed", seed));
+    };
+    let (labels, values) = read_seeds(alloc, sizes)?;
+    let labels = usize::try_from(labels).unwrap_or(0);
+    let values = usize::try_from(values).unwrap_or(0);
+    let made = large_world(alloc, seed, labels, values)?;
+    let (universe, config) = (made.universe.as_bytes(), made.config.as_bytes());
+    let read = match read_config(alloc, config) {
+        Ok(read) => read,
+        Err(fault) => return Err(made_refused(alloc, &fault)),
+    };
+    let handled = if is_small(labels, values) {
+        handled_sets(alloc, universe, &read)?
+    } else {
+        Vec::new(alloc)
+    };
+    let mut counts = Counts::none();
+    check_routes(
+        alloc,
+        universe,
+        config,
+        &read,
+        handled.as_slice(),
+        &mut counts,
+    )?;
+    counts_text(alloc, counts, handled.len())
+}
+
+/// How many routes there are, what is told of some of them, and how many label sets were looked at.
+fn counts_text(alloc: Global, counts: Counts, sets: usize) -> Result<Vec<u8>, Problem> {
+    let dead = counts.entered.saturating_add(counts.never_entered);
+    let routes = counts.live.saturating_add(dead);
+    let mut text = format!(in alloc; "ok: {routes} routes")?;
+    add_words(counts, &mut text)?;
+    if sets > 0 {
+        let looked_at = format!(in alloc; ", by {sets} label sets")?;
+        text.push_str(looked_at.as_str())?;
+    }
+    Ok(text.into_bytes())
+}
+
+/// Whether a universe has no more label sets than are looked at one by one.
+fn is_small(labels: usize, values: usize) -> bool {
+    let mut sets = 1_usize;
+    for _ in 0..labels {
+        sets = sets.saturating_mul(values);
+    }
+    sets <= MOST_SETS
+}
+
+/// Each label set of a universe, in declared order, with the routes that handle it.
+fn handled_sets(alloc: Global, universe: &[u8], config: &Config) -> Result<Vec<Handled>, Problem> {
+    let mut out = Out::new(Vec::new(alloc));
+    let none = files_of(Over::universe(universe), None);
+    if let Err(fault) = ask(alloc, universe, &none, "any", &ALL, &mut out) {
+        return Err(made_refused(alloc, &fault));
+    }
+    let mut handled = Vec::new(alloc);
+    for line in out.into_inner().as_slice().split(|byte| *byte == b'\n') {
+        if line.starts_with(b"{") {
+            let set = set_of_text(alloc, line)?;
+            handled.push(Handled {
+                set: Vec::from_slice(alloc, line)?,
+                ends: ends(alloc, config, &set)?,
+            })?;
+        }
+    }
+    Ok(handled)
+}
+
+/// Looks at each line of the report of routes: by all label sets, if these are given, and else, if
+/// the route is live, by the one that the line tells.
+fn check_routes(
+    alloc: Global,
+    universe: &[u8],
+    config: &[u8],
+    read: &Config,
+    handled: &[Handled],
+    counts: &mut Counts,
+) -> Result<(), Problem> {
+    let report = report_of(alloc, Report::Routes, universe, config)?;
+    for line in report.as_slice().split(|byte| *byte == b'\n') {
+        if let Some((path, status)) = split_at_first(line, b" ") {
+            let path = path_of(alloc, path)?;
+            if !handled.is_empty() {
+                let wanted = status_by_sets(alloc, handled, &path)?;
+                check_status(alloc, line, wanted.as_slice(), status)?;
+            } else if let Some(set) = status.strip_prefix(b"live ") {
+                check_end(alloc, read, &path, set)?;
+            }
+            counts.count(status);
+        }
+    }
+    Ok(())
+}
+
+/// What a report has to tell of a route, by all label sets in declared order.
+fn status_by_sets(alloc: Global, handled: &[Handled], path: &Path) -> Result<Vec<u8>, Problem> {
+    let mut is_entered = false;
+    for one in handled {
+        if one.ends.as_slice().contains(path) {
+            let mut status = told(alloc, "live ")?;
+            status.extend_from_slice(one.set.as_slice())?;
+            return Ok(status);
+        }
+        is_entered = is_entered || one.ends.iter().any(|end| end.leads_through(path));
+    }
+    told(alloc, dead_status(is_entered))
+}
+
+/// Whether a label set ends at a route.
+fn check_end(alloc: Global, config: &Config, path: &Path, text: &[u8]) -> Result<(), Problem> {
+    let set = set_of_text(alloc, text)?;
+    if ends(alloc, config, &set)?.as_slice().contains(path) {
+        return Ok(());
+    }
+    Err(Problem::about(alloc, "this label set does not end there", text))
+}
+
+// ---- What both read and say.
+
+/// Adds what is told of some.
+fn add_words(counts: Counts, text: &mut String) -> Result<(), AllocError> {
+    let told = [
+        (counts.live, ", some live"),
+        (counts.entered, ", some entered"),
+        (counts.never_entered, ", some never entered"),
+        (counts.unmatched, ", some unmatched"),
+    ];
+    for (count, words) in told {
+        if count > 0 {
+            text.push_str(words)?;
+        }
+    }
+    Ok(())
+}
+
+/// The lines of a report, without the last one, which says that it is whole.
+fn report_of(
+    alloc: Global,
+    report: Report,
+    universe: &[u8],
+    config: &[u8],
+) -> Result<Vec<u8>, Problem> {
+    let mut out = Out::new(Vec::new(alloc));
+    if let Err(fault) = write_report(alloc, report, Over::universe(universe), config, &mut out) {
+        return Err(made_refused(alloc, &fault));
+    }
+    let text = out.into_inner();
+    match text.as_slice().strip_suffix(b"# end\n") {
+        Some(lines) => Ok(Vec::from_slice(alloc, lines)?),
+        None => Err(Problem::about(alloc, "a report without its end", text.as_slice())),
+    }
+}
+
+fn path_of(alloc: Global, text: &[u8]) -> Result<Path, Problem> {
+    match Path::parse(utf8(alloc, text)?) {
+        Ok(path) => Ok(path),
+        Err(_) => Err(Problem::about(alloc, "no path of a route", text)),
+    }
+}

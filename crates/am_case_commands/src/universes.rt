@@ -1,0 +1,115 @@
+//! Universes that stand for every alert: those that are made, and what others lack, as a text.
+
+use am_case_files::Problem;
+use am_case_parts::{Refusal, fault_behind, told};
+use am_case_runner::Over;
+use am_eval::Files;
+use am_labels::{Fault, Out, Sink};
+use am_universe_command::{UniverseForm, check_universe, universe};
+use std::alloc::Global;
+
+/// What a table asks of universes.
+#[derive(Clone, Copy)]
+pub enum Universes {
+    /// The one that is made of the files, in this form.
+    Made(UniverseForm),
+    /// What one lacks for the files; `true` where routes alone are asked.
+    Checked(bool),
+}
+
+/// That one is made: of routes alone, or of all matchers; `open` also where a label is unproved.
+pub fn made(routes: bool, open: bool) -> Universes {
+    Universes::Made(UniverseForm { routes, open })
+}
+
+/// Writes what is asked. The text is a configuration file, or the universe that is checked, where
+/// the line names a configuration.
+pub fn write_universes<W: Sink>(
+    alloc: Global,
+    asked: Universes,
+    over: Over<'_>,
+    text: &[u8],
+    out: &mut W,
+) -> Result<(), Fault> {
+    let (checked, config) = match over.with {
+        Some(config) => (text, config),
+        None => (over.universe, text),
+    };
+    let files = Files {
+        config: Some(config),
+        silences: over.silences,
+        alerts: over.alerts,
+        at: None,
+    };
+    match asked {
+        Universes::Made(form) => universe(alloc, &files, form, out),
+        Universes::Checked(routes) => check_universe(alloc, checked, &files, routes, out),
+    }
+}
+
+/// What is written, its lines with a blank between. A universe that was made has to
+/// lack nothing for the same files, unless it may be open.
+pub fn of_universes(
+    alloc: Global,
+    asked: Universes,
+    over: Over<'_>,
+    text: &[u8],
+) -> Result<Vec<u8>, Refusal> {
+    let mut out = Out::new(Vec::new(alloc));
+    write_universes(alloc, asked, over, text, &mut out)?;
+    let written = out.into_inner();
+    if let Universes::Made(form) = asked
+        && !form.open
+    {
+        check_made(alloc, form.routes, over, text, written.as_slice())?;
+    }
+    Ok(on_a_line(alloc, written.as_slice())?)
+}
+
+/// Lines without what they are indented by, with a blank between.
+fn on_a_line(alloc: Global, lines: &[u8]) -> Result<Vec<u8>, Problem> {
+    let mut text = told(alloc, "ok:")?;
+    for line in lines
+        .strip_suffix(b"\n")
+        .unwrap_or(lines)
+        .split(|byte| *byte == b'\n')
+    {
+        text.push(b' ')?;
+        text.extend_from_slice(line.strip_prefix(b"  ").unwrap_or(line))?;
+    }
+    Ok(text)
+}
+
+/// Whether a universe that was made of a configuration and of other files is complete for them.
+fn check_made<'f>(
+    alloc: Global,
+    routes: bool,
+    over: Over<'f>,
+    config: &[u8],
+    made: &'f [u8],
+) -> Result<(), Problem> {
+    let over = Over {
+        universe: made,
+        with: None,
+        ..over
+    };
+    let mut out = Out::new(Vec::new(alloc));
+    let outcome = write_universes(alloc, Universes::Checked(routes), over, config, &mut out);
+    if let Err(fault) = outcome {
+        let fault = fault_behind(alloc, b"", &fault)?;
+        return Err(Problem::about(
+            alloc,
+            "a universe that was made is refused",
+            fault.as_slice(),
+        ));
+    }
+    let report = out.into_inner();
+    if report.as_slice().ends_with(b"\n# complete\n") {
+        return Ok(());
+    }
+    Err(Problem::about(
+        alloc,
+        "a universe that was made is not complete",
+        report.as_slice(),
+    ))
+}

@@ -1,0 +1,148 @@
+//! Classes of texts that a label's matchers cannot tell apart: which matchers are true of each, as
+//! a text.
+
+use crate::refusal::Refusal;
+use crate::telling::told;
+use am_case_files::Problem;
+use am_case_worlds::texts_of_seed;
+use am_classes::classes;
+use am_labels::{Kind, LabelSet, Matcher, Matchers, PreparedMatchers, parse_matchers};
+use std::alloc::Global;
+
+/// How many texts are held against the classes that no one typed.
+const TEXTS: usize = 500;
+
+/// The seed of these texts.
+const SEED: u64 = 1;
+
+/// More classes than these are counted alone.
+const MOST_TOLD: usize = 32;
+
+/// For each class of texts that a list of matchers cannot tell apart, whatever their names are,
+/// which of them are true of it; or that this cannot be computed. No two of the texts that stand
+/// for the classes may be alike, and each of many texts has to be alike to one of them.
+pub fn of_classes(alloc: Global, text: &str) -> Result<Vec<u8>, Refusal> {
+    let list = parse_matchers(alloc, text)?;
+    let mut matchers = Vec::new(alloc);
+    for i in 0..list.len() {
+        matchers.push(list.get(i))?;
+    }
+    let Some(texts) = classes(alloc, matchers.as_slice())? else {
+        return Ok(told(alloc, "unproved")?);
+    };
+    let truths = truths_of_classes(alloc, matchers.as_slice(), texts.as_slice())?;
+    Ok(classes_text(alloc, truths.as_slice())?)
+}
+
+/// What the matchers are on each of the texts that stand for the classes, in order.
+fn truths_of_classes(
+    alloc: Global,
+    matchers: &[&Matcher],
+    texts: &[String],
+) -> Result<Vec<String>, Problem> {
+    let lists = lists_of(alloc, matchers)?;
+    let mut deciders = Vec::new(alloc);
+    for (i, list) in lists.iter().enumerate() {
+        let name = matchers.get(i).map(|matcher| matcher.name()).unwrap_or("");
+        deciders.push((name, list.prepare(alloc)))?;
+    }
+    let mut truths = Vec::new(alloc);
+    for text in texts {
+        truths.push(truths_on(alloc, &mut deciders, text.as_str())?)?;
+    }
+    truths.sort()?;
+    check_apart(alloc, truths.as_slice())?;
+    check_covered(alloc, matchers, &mut deciders, truths.as_slice())?;
+    Ok(truths)
+}
+
+/// A list of each matcher alone.
+fn lists_of(alloc: Global, matchers: &[&Matcher]) -> Result<Vec<Matchers>, Problem> {
+    let mut lists = Vec::new(alloc);
+    for matcher in matchers {
+        let name = String::from_str(alloc, matcher.name())?;
+        let value = String::from_str(alloc, matcher.value())?;
+        let mut list = Matchers::empty(alloc);
+        let added = match Matcher::new(alloc, name, matcher.op(), value) {
+            Ok(again) => list.push(again),
+            Err(kind) => Err(kind),
+        };
+        match added {
+            Ok(()) => lists.push(list)?,
+            Err(Kind::Memory) => return Err(Problem::Memory),
+            Err(_) => return Err(Problem::said(alloc, "a matcher that was read is refused")),
+        }
+    }
+    Ok(lists)
+}
+
+/// For each matcher, `1` where it is true of a text, and else `0`.
+fn truths_on(
+    alloc: Global,
+    deciders: &mut Vec<(&str, PreparedMatchers<'_>)>,
+    text: &str,
+) -> Result<String, Problem> {
+    let mut truths = String::new(alloc);
+    for (name, decider) in deciders.iter_mut() {
+        let set = set_with(alloc, name, text)?;
+        let holds = decider.matches(alloc, &set)?;
+        truths.push(if holds { '1' } else { '0' })?;
+    }
+    Ok(truths)
+}
+
+/// The label set that has a text for a label, and no other label.
+fn set_with(alloc: Global, name: &str, text: &str) -> Result<LabelSet, Problem> {
+    let mut set = LabelSet::empty(alloc);
+    if !text.is_empty() {
+        let name = String::from_str(alloc, name)?;
+        let text = String::from_str(alloc, text)?;
+        set.put(name, text)?;
+    }
+    Ok(set)
+}
+
+/// Whether no two classes are the same. They are in order.
+fn check_apart(alloc: Global, truths: &[String]) -> Result<(), Problem> {
+    for i in 1..truths.len() {
+        if truths.get(i.saturating_sub(1)) == truths.get(i) {
+            return Err(Problem::said(alloc, "two of the texts are alike"));
+        }
+    }
+    Ok(())
+}
+
+/// Whether each of many texts is alike to one that stands for a class.
+fn check_covered(
+    alloc: Global,
+    matchers: &[&Matcher],
+    deciders: &mut Vec<(&str, PreparedMatchers<'_>)>,
+    truths: &[String],
+) -> Result<(), Problem> {
+    let mut values = Vec::new(alloc);
+    for matcher in matchers {
+        values.push(matcher.value())?;
+    }
+    for text in &texts_of_seed(alloc, SEED, TEXTS, values.as_slice())? {
+        let found = truths_on(alloc, deciders, text.as_str())?;
+        if !truths.contains(&found) {
+            return Err(Problem::about(alloc, "no class has this text", text.as_bytes()));
+        }
+    }
+    Ok(())
+}
+
+/// Which matchers are true of each class; or how many classes there are, where they are many.
+fn classes_text(alloc: Global, truths: &[String]) -> Result<Vec<u8>, Problem> {
+    let count = truths.len();
+    if count > MOST_TOLD {
+        let text = format!(in alloc; "ok: {count} classes")?;
+        return Ok(text.into_bytes());
+    }
+    let mut text = String::from_str(alloc, "ok:")?;
+    for one in truths {
+        text.push(' ')?;
+        text.push_str(one.as_str())?;
+    }
+    Ok(text.into_bytes())
+}

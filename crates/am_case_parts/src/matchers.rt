@@ -1,0 +1,134 @@
+//! Matchers, label sets and rows: what the calls of the libraries give at a text, as a text.
+
+ghost use Rattle.std.specs.Prelude.{◌≡◌, Some, IfSome, length, slice_get};
+ghost use Rattle.am_universe.specs.Universe.{sizes};
+
+use crate::refusal::Refusal;
+use crate::telling::{set_behind, told};
+use am_case_files::{Problem, split_at_first, split_at_last, utf8};
+use am_files::read_universe;
+use am_labels::{
+    Kind, Matcher, Matchers, Op, Out, Row, Universe, parse_matchers, parse_set, put_str, write_text,
+};
+use std::alloc::Global;
+
+pub fn of_matchers(alloc: Global, text: &str) -> Result<Vec<u8>, Refusal> {
+    let list = parse_matchers(alloc, text)?;
+    let mut text = told(alloc, "ok: ")?;
+    add_matchers(alloc, &list, &mut text)?;
+    Ok(text)
+}
+
+/// Adds a list of matchers in braces, the values in quotes.
+pub fn add_matchers(alloc: Global, list: &Matchers, text: &mut Vec<u8>) -> Result<(), Problem> {
+    text.push(b'{')?;
+    for i in 0..list.len() {
+        if i > 0 {
+            text.push(b',')?;
+        }
+        let matcher = matcher_text(alloc, list.get(i))?;
+        text.extend_from_slice(matcher.as_slice())?;
+    }
+    Ok(text.push(b'}')?)
+}
+
+fn matcher_text(alloc: Global, matcher: &Matcher) -> Result<Vec<u8>, Problem> {
+    let mut out = Out::new(Vec::new(alloc));
+    match write_matcher(matcher, &mut out) {
+        Ok(()) => Ok(out.into_inner()),
+        Err(_) => Err(Problem::Memory),
+    }
+}
+
+fn write_matcher(matcher: &Matcher, out: &mut Out<Vec<u8>>) -> Result<(), Kind> {
+    put_str(out, matcher.name())?;
+    put_str(out, operator_text(matcher.op()))?;
+    write_text(out, matcher.value())
+}
+
+fn operator_text(op: Op) -> &'static str {
+    match op {
+        Op::Equal => "=",
+        Op::NotEqual => "!=",
+        Op::Matches => "=~",
+        Op::NotMatches => "!~",
+    }
+}
+
+/// The matcher that is made of a name, an operator and a value, with blanks between.
+pub fn of_matcher(alloc: Global, text: &[u8]) -> Result<Vec<u8>, Refusal> {
+    if let Some((name, rest)) = split_at_first(text, b" ")
+        && let Some((operator, value)) = split_at_first(rest, b" ")
+        && let Some(op) = operator_named(operator)
+    {
+        let name = String::from_str(alloc, utf8(alloc, name)?)?;
+        let value = String::from_str(alloc, utf8(alloc, value)?)?;
+        let matcher = Matcher::new(alloc, name, op, value)?;
+        let mut text = told(alloc, "ok: ")?;
+        text.extend_from_slice(matcher_text(alloc, &matcher)?.as_slice())?;
+        return Ok(text);
+    }
+    Err(Problem::about(alloc, "a name, an operator and a value are wanted", text).into())
+}
+
+fn operator_named(text: &[u8]) -> Option<Op> {
+    for op in [Op::Equal, Op::NotEqual, Op::Matches, Op::NotMatches] {
+        if operator_text(op).as_bytes() == text {
+            return Some(op);
+        }
+    }
+    None
+}
+
+pub fn of_set(alloc: Global, text: &str) -> Result<Vec<u8>, Refusal> {
+    let set = parse_set(alloc, text)?;
+    Ok(set_behind(alloc, "ok: ", &set)?)
+}
+
+pub fn of_pattern(alloc: Global, text: &str) -> Result<Vec<u8>, Refusal> {
+    let name = String::from_str(alloc, "a")?;
+    let value = String::from_str(alloc, text)?;
+    let _ = Matcher::new(alloc, name, Op::Matches, value)?;
+    Ok(told(alloc, "ok")?)
+}
+
+pub fn of_match(alloc: Global, text: &[u8]) -> Result<Vec<u8>, Refusal> {
+    let Some((list, set)) = split_at_last(text, b" on ") else {
+        return Err(Problem::said(alloc, "a list, ` on ` and a label set are wanted").into());
+    };
+    let list = parse_matchers(alloc, utf8(alloc, list)?)?;
+    let set = parse_set(alloc, utf8(alloc, set)?)?;
+    Ok(told(alloc, yes_or_no(list.matches(alloc, &set)?))?)
+}
+
+fn yes_or_no(truth: bool) -> &'static str {
+    if truth { "yes" } else { "no" }
+}
+
+pub fn of_row(alloc: Global, over: &[u8], text: &str) -> Result<Vec<u8>, Refusal> {
+    let space = read_universe(alloc, over)?;
+    let list = parse_matchers(alloc, text)?;
+    if list.len() != 1 {
+        return Err(Problem::said(alloc, "one matcher is wanted").into());
+    }
+    let row = list.get(0).row(alloc, space.universe())?;
+    Ok(row_text(alloc, space.universe(), &row)?)
+}
+
+fn row_text(alloc: Global, universe: &Universe, row: &Row) -> Result<Vec<u8>, Problem>
+    requires { IfSome row.now.label
+        (λ i. slice_get (sizes universe.now) i ≡ Some (length row.now.truths)) }
+{
+    let (mut text, count) = match row.label() {
+        Some(label) if label < universe.len() => {
+            let text = format!(in alloc; "label {label}:")?;
+            (text, universe.size(label))
+        }
+        _ => (String::from_str(alloc, "no label:")?, 1),
+    };
+    for j in 0..count {
+        text.push(' ')?;
+        text.push_str(yes_or_no(row.holds(j)))?;
+    }
+    Ok(text.into_bytes())
+}

@@ -1,0 +1,68 @@
+//! What cases give, as a text.
+
+use am_case_files::{Problem, utf8};
+use am_labels::{Fault, Kind, LabelSet, Out, parse_set, write_fault, write_map};
+use std::alloc::Global;
+
+/// These words.
+pub fn told(alloc: Global, words: &str) -> Result<Vec<u8>, Problem> {
+    Ok(Vec::from_slice(alloc, words.as_bytes())?)
+}
+
+/// What the program writes of a fault, behind `amcover: ` and behind this.
+pub fn fault_behind(alloc: Global, before: &[u8], fault: &Fault) -> Result<Vec<u8>, Problem> {
+    if matches!(fault.kind, Kind::Memory | Kind::Write) {
+        // What is written here goes to memory.
+        return Err(Problem::Memory);
+    }
+    let line = line_of(alloc, fault)?;
+    let text = line.as_slice();
+    let text = text.strip_prefix(b"amcover: ").unwrap_or(text);
+    let text = text.strip_prefix(before).unwrap_or(text);
+    Ok(Vec::from_slice(alloc, text.strip_suffix(b"\n").unwrap_or(text))?)
+}
+
+pub(crate) fn line_of(alloc: Global, fault: &Fault) -> Result<Vec<u8>, Problem> {
+    let mut line = Out::new(Vec::new(alloc));
+    match write_fault(fault, &mut line) {
+        Ok(()) => Ok(line.into_inner()),
+        Err(_) => Err(Problem::Memory),
+    }
+}
+
+/// Why texts that are made are not accepted.
+pub fn made_refused(alloc: Global, fault: &Fault) -> Problem {
+    match fault_behind(alloc, b"", fault) {
+        Ok(fault) => Problem::about(alloc, "refused", fault.as_slice()),
+        Err(problem) => problem,
+    }
+}
+
+/// A label set, behind these words.
+pub fn set_behind(alloc: Global, before: &str, set: &LabelSet) -> Result<Vec<u8>, Problem> {
+    let mut out = Out::new(told(alloc, before)?);
+    match write_map(set, &mut out) {
+        Ok(()) => Ok(out.into_inner()),
+        Err(_) => Err(Problem::Memory),
+    }
+}
+
+/// The label set that a text is.
+pub fn set_of_text(alloc: Global, text: &[u8]) -> Result<LabelSet, Problem> {
+    match parse_set(alloc, utf8(alloc, text)?) {
+        Ok(set) => Ok(set),
+        Err(Kind::Memory) => Err(Problem::Memory),
+        Err(_) => Err(Problem::about(alloc, "no label set", text)),
+    }
+}
+
+/// Lines with a blank in place of each line feed, and none at the end.
+pub fn on_one_line(mut lines: Vec<u8>) -> Vec<u8> {
+    let _ = lines.pop();
+    for byte in lines.iter_mut() {
+        if *byte == b'\n' {
+            *byte = b' ';
+        }
+    }
+    lines
+}

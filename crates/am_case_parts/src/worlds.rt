@@ -1,0 +1,115 @@
+//! Worlds: what the calls of the libraries give in one, as a text.
+
+use crate::refusal::Refusal;
+use crate::telling::told;
+use am_case_files::{Problem, split_at_last, utf8};
+use am_eval::{Files, Pair, World, inhibited_by, read_timeless_world, read_world, silenced_by};
+use am_labels::{LabelSet, parse_set};
+use std::alloc::{AllocError, Global};
+
+/// A text, and that of the instant that stands behind it, if one does.
+pub fn text_and_instant(alloc: Global, text: &[u8]) -> Result<(&str, Option<&str>), Problem> {
+    match split_at_last(text, b" at ") {
+        Some((text, at)) => Ok((utf8(alloc, text)?, Some(utf8(alloc, at)?))),
+        None => Ok((utf8(alloc, text)?, None)),
+    }
+}
+
+/// Which silences of an export are active, and which of them hide a label set.
+pub fn of_silenced<'a>(alloc: Global, file: &'a [u8], text: &'a [u8]) -> Result<Vec<u8>, Refusal> {
+    let (set, at) = text_and_instant(alloc, text)?;
+    let files = Files {
+        config: None,
+        silences: Some(file),
+        alerts: None,
+        at,
+    };
+    // Without an instant no silence is active.
+    let world = if at.is_some() {
+        read_world(alloc, &files)?
+    } else {
+        read_timeless_world(alloc, &files)?
+    };
+    let set = parse_set(alloc, set)?;
+    Ok(silenced_text(alloc, &world, &set)?)
+}
+
+fn silenced_text(alloc: Global, world: &World, set: &LabelSet) -> Result<Vec<u8>, Problem> {
+    let mut text = String::from_str(alloc, "ok:")?;
+    for i in 0..world.silences().len() {
+        if world.active(i) {
+            let active = format!(in alloc; " {i}")?;
+            text.push_str(active.as_str())?;
+        }
+    }
+    text.push(';')?;
+    for i in &silenced_by(alloc, world, set)? {
+        let hides = format!(in alloc; " {i}")?;
+        text.push_str(hides.as_str())?;
+    }
+    Ok(text.into_bytes())
+}
+
+/// Which alerts of an export the source sides of a configuration's inhibition rules match.
+pub fn of_pairs<'a>(
+    alloc: Global,
+    config: Option<&'a [u8]>,
+    export: &'a [u8],
+    brief: bool,
+) -> Result<Vec<u8>, Refusal> {
+    let files = Files {
+        config,
+        silences: None,
+        alerts: Some(export),
+        at: None,
+    };
+    let world = read_world(alloc, &files)?;
+    if brief {
+        return Ok(told(alloc, "ok")?);
+    }
+    Ok(pairs_text(alloc, world.pairs())?)
+}
+
+fn pairs_text(alloc: Global, pairs: &[Pair]) -> Result<Vec<u8>, Problem> {
+    if pairs.is_empty() {
+        return told(alloc, "ok: none");
+    }
+    let mut text = String::from_str(alloc, "ok:")?;
+    for (i, pair) in pairs.iter().enumerate() {
+        let pair = pair_text(alloc, before(i), *pair)?;
+        text.push_str(pair.as_str())?;
+    }
+    Ok(text.into_bytes())
+}
+
+fn pair_text(alloc: Global, before: &str, pair: Pair) -> Result<String, AllocError> {
+    let rule = pair.rule;
+    let alert = pair.alert;
+    let note = if pair.both { " both" } else { "" };
+    format!(in alloc; "{before}{rule} {alert}{note}")
+}
+
+/// What stands before a pair.
+fn before(i: usize) -> &'static str {
+    if i > 0 { "; " } else { " " }
+}
+
+/// Which inhibition rules and firing alerts inhibit a label set.
+pub fn of_inhibited(alloc: Global, files: &Files<'_>, text: &str) -> Result<Vec<u8>, Refusal> {
+    let world = read_world(alloc, files)?;
+    let set = parse_set(alloc, text)?;
+    Ok(inhibited_text(alloc, inhibited_by(alloc, &world, &set)?.as_slice())?)
+}
+
+fn inhibited_text(alloc: Global, inhibitors: &[(usize, usize)]) -> Result<Vec<u8>, Problem> {
+    if inhibitors.is_empty() {
+        return told(alloc, "ok: none");
+    }
+    let mut text = String::from_str(alloc, "ok:")?;
+    for (i, (rule, alert)) in inhibitors.iter().enumerate() {
+        let before = before(i);
+        let inhibits = format!(in alloc; "{before}{rule} {alert}")?;
+        text.push_str(inhibits.as_str())?;
+    }
+    Ok(text.into_bytes())
+}

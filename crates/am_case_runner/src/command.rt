@@ -1,0 +1,255 @@
+//! Commands: a command line, and what it must write and answer.
+
+use crate::expected::{Wanted, check_count, check_status, check_stream};
+use am_case_files::{
+    Item, Line, Manner, Named, Problem, Stop, Writer, filled, number, utf8, words,
+};
+use std::alloc::Global;
+
+/// A command line, and what is said of its run.
+#[derive(Drop)]
+pub struct Command {
+    pub line: usize,
+    pub words: Vec<String>,
+    /// What is wanted of standard output and of standard error, where it is said; else that they
+    /// are empty.
+    pub out: Option<Wanted>,
+    pub err: Option<Wanted>,
+    pub status: Option<u8>,
+    pub writes: Option<usize>,
+    pub error_writes: Option<usize>,
+    pub manner: Manner,
+    pub error_manner: Manner,
+    pub stops: bool,
+    pub error_stops: bool,
+    /// The file that standard output is, if it is one.
+    pub device: Option<String>,
+    /// The notes behind what else stands on standard error, where that is a terminal.
+    pub notes: Option<Vec<u8>>,
+}
+
+/// What a run gave.
+#[derive(Drop)]
+pub struct Ran {
+    pub status: u8,
+    pub out: Writer,
+    pub err: Writer,
+}
+
+/// The command that an item is, with the output that stands below it.
+pub fn read_command(alloc: Global, texts: &[Named], item: &Item<'_>) -> Result<Command, Problem> {
+    let head = item.head.text.strip_prefix(b"$ ").unwrap_or(b"");
+    let mut line = Vec::new(alloc);
+    let count = whole_line(head, item.body.as_slice(), &mut line)?;
+    let words = words(alloc, texts, line.as_slice())?;
+    match words.first() {
+        Some(name) if name.as_str() == "amcover" || name.as_str() == "./amcover" => {}
+        _ => return Err(Problem::about(alloc, "no command of amcover", head)),
+    }
+    let lines = item.body.as_slice().get(count..).unwrap_or(&[]);
+    let out = if lines.is_empty() {
+        None
+    } else {
+        Some(Wanted::Whole(output(alloc, texts, lines)?))
+    };
+    Ok(Command {
+        line: item.head.number,
+        words,
+        out,
+        err: None,
+        status: None,
+        writes: None,
+        error_writes: None,
+        manner: Manner::WHOLE,
+        error_manner: Manner::WHOLE,
+        stops: false,
+        error_stops: false,
+        device: None,
+        notes: None,
+    })
+}
+
+/// Puts a command line together, whose lines end in ` \` but for the last. The answer is how many
+/// of the lines below the first belong to it.
+fn whole_line(head: &[u8], body: &[Line<'_>], line: &mut Vec<u8>) -> Result<usize, Problem> {
+    line.extend_from_slice(head)?;
+    for (i, next) in body.iter().enumerate() {
+        if !line.as_slice().ends_with(b" \\") {
+            return Ok(i);
+        }
+        let _ = line.pop();
+        line.extend_from_slice(next.text)?;
+    }
+    Ok(body.len())
+}
+
+/// The lines, each ended by a line feed, with what their inserts stand for.
+pub fn output(alloc: Global, texts: &[Named], lines: &[Line<'_>]) -> Result<Vec<u8>, Problem> {
+    let mut raw = Vec::new(alloc);
+    for line in lines {
+        raw.extend_from_slice(line.text)?;
+        raw.push(b'\n')?;
+    }
+    filled(alloc, texts, raw.as_slice())
+}
+
+impl Command {
+    /// Takes an item that says more of the run; `false` where it does not.
+    pub fn take(
+        &mut self,
+        alloc: Global,
+        texts: &[Named],
+        item: &Item<'_>,
+    ) -> Result<bool, Problem> {
+        let line = item.head.text;
+        if line == b"on a terminal".as_slice() {
+            let notes = output(alloc, texts, item.body.as_slice())?;
+            say_once(alloc, &mut self.notes, notes, line)?;
+            return Ok(true);
+        }
+        if !self.take_expectation(alloc, texts, line)? && !self.take_manner(alloc, line)? {
+            return Ok(false);
+        }
+        if !item.body.is_empty() {
+            return Err(Problem::about(alloc, "nothing stands below this line", line));
+        }
+        Ok(true)
+    }
+
+    fn take_expectation(
+        &mut self,
+        alloc: Global,
+        texts: &[Named],
+        line: &[u8],
+    ) -> Result<bool, Problem> {
+        if let Some(text) = line.strip_prefix(b"stderr: ") {
+            let mut text = filled(alloc, texts, text)?;
+            text.push(b'\n')?;
+            say_once(alloc, &mut self.err, Wanted::Whole(text), line)?;
+        } else if let Some(text) = line.strip_prefix(b"stderr has: ") {
+            let text = filled(alloc, texts, text)?;
+            say_once(alloc, &mut self.err, Wanted::Has(text), line)?;
+        } else if let Some(text) = line.strip_prefix(b"stdout: ") {
+            let text = filled(alloc, texts, text)?;
+            say_once(alloc, &mut self.out, Wanted::Whole(text), line)?;
+        } else if let Some(text) = line.strip_prefix(b"stdout has: ") {
+            let text = filled(alloc, texts, text)?;
+            say_once(alloc, &mut self.out, Wanted::Has(text), line)?;
+        } else {
+            return self.take_number(alloc, line);
+        }
+        Ok(true)
+    }
+
+    fn take_number(&mut self, alloc: Global, line: &[u8]) -> Result<bool, Problem> {
+        if let Some(count) = number_behind(line, b"status: ") {
+            let Ok(status) = u8::try_from(count) else {
+                return Err(Problem::about(alloc, "no exit status", line));
+            };
+            say_once(alloc, &mut self.status, status, line)?;
+        } else if let Some(count) = number_behind(line, b"stdout lines: ") {
+            say_once(alloc, &mut self.out, Wanted::Lines(count), line)?;
+        } else if let Some(count) = number_behind(line, b"writes: ") {
+            say_once(alloc, &mut self.writes, count, line)?;
+        } else if let Some(count) = number_behind(line, b"error writes: ") {
+            say_once(alloc, &mut self.error_writes, count, line)?;
+        } else {
+            return Ok(false);
+        }
+        Ok(true)
+    }
+
+    fn take_manner(&mut self, alloc: Global, line: &[u8]) -> Result<bool, Problem> {
+        if let Some(path) = line.strip_prefix(b"writer is ") {
+            let path = utf8(alloc, path)?;
+            self.device = Some(String::from_str(alloc, path)?);
+            return Ok(true);
+        }
+        if line == b"writer stops at each call".as_slice() {
+            self.stops = true;
+        } else if line == b"error writer stops at each call".as_slice() {
+            self.error_stops = true;
+        } else {
+            return Ok(self.take_writers(line));
+        }
+        Ok(true)
+    }
+
+    fn take_writers(&mut self, line: &[u8]) -> bool {
+        if let Some(words) = line.strip_prefix(b"writer ") {
+            return take_writer(&mut self.manner, words);
+        }
+        match line.strip_prefix(b"error writer ") {
+            Some(words) => take_writer(&mut self.error_manner, words),
+            None => false,
+        }
+    }
+
+    pub fn has_expectation(&self) -> bool {
+        self.out.is_some() || self.err.is_some() || self.status.is_some() || self.notes.is_some()
+    }
+
+    pub fn wanted_status(&self) -> u8 {
+        self.status.unwrap_or(0)
+    }
+
+    pub fn check_outputs(&self, alloc: Global, ran: &Ran) -> Result<(), Problem> {
+        self.check_error(alloc, ran.err.taken.as_slice())?;
+        let out = ran.out.taken.as_slice();
+        check_stream(alloc, "standard output", &self.out, out)?;
+        check_status(alloc, self.wanted_status(), ran.status)?;
+        check_count(alloc, "writes", self.writes, ran.out.calls)?;
+        check_count(alloc, "error writes", self.error_writes, ran.err.calls)
+    }
+
+    /// Whether standard error is as it is said to be, with the notes behind all else.
+    pub fn check_error(&self, alloc: Global, found: &[u8]) -> Result<(), Problem> {
+        let Some(notes) = &self.notes else {
+            return check_stream(alloc, "standard error", &self.err, found);
+        };
+        match found.strip_suffix(notes.as_slice()) {
+            Some(found) => check_stream(alloc, "standard error", &self.err, found),
+            None => Err(Problem::differs(alloc, "notes", notes.as_slice(), found)),
+        }
+    }
+}
+
+/// Takes what a line says, once.
+fn say_once<T: Drop>(
+    alloc: Global,
+    place: &mut Option<T>,
+    value: T,
+    line: &[u8],
+) -> Result<(), Problem> {
+    if place.is_some() {
+        return Err(Problem::about(alloc, "this was said already", line));
+    }
+    *place = Some(value);
+    Ok(())
+}
+
+fn number_behind(line: &[u8], words: &[u8]) -> Option<usize> {
+    number(line.strip_prefix(words)?)
+}
+
+/// Takes what is said of a writer; `false` where it is none of the words for it.
+fn take_writer(manner: &mut Manner, words: &[u8]) -> bool {
+    if words == b"fails at its flush".as_slice() {
+        manner.flush_fails = true;
+    } else if let Some(count) = number_between(words, b"takes ", b" bytes a call") {
+        manner.step = count;
+    } else if let Some(count) = number_between(words, b"fails after ", b" bytes") {
+        manner.room = count;
+    } else if let Some(call) = number_between(words, b"fails at call ", b"") {
+        manner.stop = Some((call, Stop::Fails));
+    } else if let Some(call) = number_between(words, b"takes nothing at call ", b"") {
+        manner.stop = Some((call, Stop::TakesNothing));
+    } else {
+        return false;
+    }
+    true
+}
+
+fn number_between(words: &[u8], before: &[u8], behind: &[u8]) -> Option<usize> {
+    number(words.strip_prefix(before)?.strip_suffix(behind)?)
+}

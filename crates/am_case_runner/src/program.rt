@@ -1,0 +1,30 @@
+//! What is run by a command line.
+
+use crate::call::Call;
+use am_case_files::Problem;
+use std::io::Write;
+use std::rt::Files;
+
+/// A program whose command lines are cases.
+pub trait Program {
+    /// What tables beside them call.
+    type Call: Call;
+
+    /// Runs the program, with its name as the first word, and answers its exit status. Where
+    /// `notes` are wanted, it is run as on a terminal.
+    fn run<R: Files + AllocGlobal, W: Write + Drop, E: Write + Drop>(
+        &self,
+        files: &R,
+        words: &[String],
+        out: &mut W,
+        err: &mut E,
+        notes: bool,
+    ) -> u8;
+
+    /// The digits for which `H` stands in a token of a command line.
+    fn digits<R: Files + AllocGlobal>(
+        &self,
+        files: &R,
+        words: &[String],
+    ) -> Result<String, Problem>;
+}

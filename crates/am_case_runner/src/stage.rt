@@ -1,0 +1,128 @@
+//! What command lines are run over: a program, and the files that it can read, which are those of
+//! the file of cases, and behind them those of the folder.
+
+use am_case_files::{Named, text_named};
+use std::alloc::{Allocator, Global};
+use std::fs::{Metadata, OpenFile, OpenOptions};
+use std::io;
+use std::io::{Cursor, ErrorKind, Read, Seek, SeekFrom, Write};
+use std::rt::Files;
+
+/// A program, and the files of a file of cases, over those of the system.
+#[derive(Drop)]
+pub struct Stage<'s, R, P> {
+    pub host: &'s R,
+    pub program: &'s P,
+    pub files: &'s [Named],
+}
+
+/// An opened file, of the file of cases or of the system.
+#[derive(Drop)]
+pub enum Opened<'s, F> {
+    Shown(Cursor<&'s [u8]>),
+    Host(F),
+}
+
+fn unsupported<T>() -> io::Result<T> {
+    Err(io::Error::from(ErrorKind::Unsupported))
+}
+
+impl<'s, R: AllocGlobal, P> Alloc for Stage<'s, R, P> {
+    type A = Global;
+
+    fn alloc(&self) -> Global {
+        self.host.alloc()
+    }
+}
+
+impl<'s, R: Files, P> Files for Stage<'s, R, P> {
+    type File = Opened<'s, R::File>;
+
+    type Dir = R::Dir;
+
+    fn open_file(&self, how: &OpenOptions, path: &str) -> io::Result<Opened<'s, R::File>> {
+        match text_named(self.files, path.as_bytes()) {
+            Some(bytes) => Ok(Opened::Shown(Cursor::new(bytes))),
+            None => Ok(Opened::Host(self.host.open_file(how, path)?)),
+        }
+    }
+
+    fn open_dir(&self, path: &str) -> io::Result<Self::Dir> {
+        self.host.open_dir(path)
+    }
+
+    fn metadata(&self, _path: &str) -> io::Result<Metadata> {
+        unsupported()
+    }
+
+    fn symlink_metadata(&self, _path: &str) -> io::Result<Metadata> {
+        unsupported()
+    }
+
+    fn copy(&self, _from: &str, _to: &str) -> io::Result<u64> {
+        unsupported()
+    }
+
+    fn rename(&self, _from: &str, _to: &str) -> io::Result<()> {
+        unsupported()
+    }
+
+    fn remove_file(&self, _path: &str) -> io::Result<()> {
+        unsupported()
+    }
+
+    fn create_dir(&self, _path: &str) -> io::Result<()> {
+        unsupported()
+    }
+
+    fn remove_dir(&self, _path: &str) -> io::Result<()> {
+        unsupported()
+    }
+
+    fn remove_dir_all<B: Allocator>(&self, _alloc: B, _path: &str) -> io::Result<()> {
+        unsupported()
+    }
+}
+
+impl<'s, F: Read> Read for Opened<'s, F> {
+    fn read(&mut self, buf: &mut [u8]) -> io::Result<usize> {
+        match self {
+            Opened::Shown(bytes) => bytes.read(buf),
+            Opened::Host(file) => file.read(buf),
+        }
+    }
+}
+
+impl<'s, F> Write for Opened<'s, F> {
+    fn write(&mut self, _bytes: &[u8]) -> io::Result<usize> {
+        Err(io::Error::from(ErrorKind::Unsupported))
+    }
+
+    fn flush(&mut self) -> io::Result<()> {
+        unsupported()
+    }
+}
+
+impl<'s, F> Seek for Opened<'s, F> {
+    fn seek(&mut self, _to: SeekFrom) -> io::Result<u64> {
+        unsupported()
+    }
+}
+
+impl<'s, F> OpenFile for Opened<'s, F> {
+    fn metadata(&self) -> io::Result<Metadata> {
+        unsupported()
+    }
+
+    fn set_len(&self, _size: u64) -> io::Result<()> {
+        unsupported()
+    }
+
+    fn sync_all(&self) -> io::Result<()> {
+        unsupported()
+    }
+
+    fn sync_data(&self) -> io::Result<()> {
+        unsupported()
+    }
+}

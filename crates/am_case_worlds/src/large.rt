@@ -1,0 +1,143 @@
+//! Worlds that no one typed with as many routes as a configuration may have.
+
+use crate::dice::Dice;
+use crate::generated::{add_comma, add_quoted};
+use std::alloc::{AllocError, Global};
+
+/// The texts of a universe file and of a configuration file.
+#[derive(Drop)]
+pub struct LargeWorld {
+    pub universe: String,
+    pub config: String,
+}
+
+/// How many children the top-level route has, and how many each of these: with it 1,024 routes.
+const TEAMS: usize = 31;
+
+const SERVICES: usize = 32;
+
+const RECEIVERS: [&str; 4] = ["a", "b", "c", "d"];
+
+/// The world of a seed: of so many labels with so many values each, and of 1,024 routes in three
+/// levels. Each but the top-level route has four matchers. Some routes have the matchers of the
+/// one before, and some matchers are such as no label set satisfies.
+pub fn large_world(
+    alloc: Global,
+    seed: u64,
+    labels: usize,
+    values: usize,
+) -> Result<LargeWorld, AllocError> {
+    let mut maker = LargeMaker {
+        alloc,
+        dice: Dice::new(seed),
+        labels,
+        values,
+        before: String::new(alloc),
+    };
+    Ok(LargeWorld {
+        universe: maker.universe()?,
+        config: maker.config()?,
+    })
+}
+
+/// What makes the texts, one after the other.
+#[derive(Drop)]
+struct LargeMaker {
+    alloc: Global,
+    dice: Dice,
+    labels: usize,
+    values: usize,
+    /// The matchers of the route before.
+    before: String,
+}
+
+impl LargeMaker {
+    fn universe(&mut self) -> Result<String, AllocError> {
+        let mut text = String::from_str(self.alloc, "{\"labels\":[")?;
+        for i in 0..self.labels {
+            add_comma(i, &mut text)?;
+            let label = format!(in self.alloc; "{{\"name\":\"l{i}\",\"values\":[")?;
+            text.push_str(label.as_str())?;
+            for j in 0..self.values {
+                add_comma(j, &mut text)?;
+                let value = format!(in self.alloc; "\"v{j}\"")?;
+                text.push_str(value.as_str())?;
+            }
+            text.push_str("]}")?;
+        }
+        text.push_str("]}")?;
+        Ok(text)
+    }
+
+    fn config(&mut self) -> Result<String, AllocError> {
+        let mut text = String::from_str(self.alloc, "{\"receivers\":[")?;
+        for (i, name) in RECEIVERS.iter().enumerate() {
+            add_comma(i, &mut text)?;
+            let receiver = format!(in self.alloc; "{{\"name\":\"{name}\"}}")?;
+            text.push_str(receiver.as_str())?;
+        }
+        text.push_str("],\"route\":{\"receiver\":\"a\",\"routes\":[")?;
+        for i in 0..TEAMS {
+            add_comma(i, &mut text)?;
+            self.add_team(&mut text)?;
+        }
+        text.push_str("]}}")?;
+        Ok(text)
+    }
+
+    /// Adds a child of the top-level route, and its children.
+    fn add_team(&mut self, text: &mut String) -> Result<(), AllocError> {
+        self.add_route(text)?;
+        text.push_str(",\"routes\":[")?;
+        for i in 0..SERVICES {
+            add_comma(i, text)?;
+            self.add_route(text)?;
+            text.push('}')?;
+        }
+        text.push_str("]}")
+    }
+
+    /// Adds a route without its children and its last brace.
+    fn add_route(&mut self, text: &mut String) -> Result<(), AllocError> {
+        if self.before.is_empty() || !self.dice.is_one_in(8) {
+            self.before = self.matchers()?;
+        }
+        text.push_str("{\"matchers\":[")?;
+        text.push_str(self.before.as_str())?;
+        text.push(']')?;
+        if !self.dice.is_one_in(3) {
+            text.push_str(",\"receiver\":")?;
+            add_quoted(self.dice.one_of(&RECEIVERS), text)?;
+        }
+        if self.dice.is_one_in(4) {
+            text.push_str(",\"continue\":true")?;
+        }
+        Ok(())
+    }
+
+    /// Four matchers, each of which is a text.
+    fn matchers(&mut self) -> Result<String, AllocError> {
+        let mut text = String::new(self.alloc);
+        for i in 0..4 {
+            add_comma(i, &mut text)?;
+            let matcher = self.matcher()?;
+            add_quoted(matcher.as_str(), &mut text)?;
+        }
+        Ok(text)
+    }
+
+    /// A matcher with its value in quotes. Most ask for one value.
+    fn matcher(&mut self) -> Result<String, AllocError> {
+        let label = self.dice.below(self.labels);
+        let one = self.dice.below(self.values);
+        let other = self.dice.below(self.values);
+        match self.dice.below(32) {
+            0 => format!(in self.alloc; "l{label}=\"w\""),
+            1 => format!(in self.alloc; "l{label}=~\"w.*\""),
+            2..=5 => format!(in self.alloc; "l{label}!=\"v{one}\""),
+            6..=7 => format!(in self.alloc; "l{label}!~\"v{one}|v{other}\""),
+            8..=12 => format!(in self.alloc; "l{label}=~\"v{one}|v{other}\""),
+            _ => format!(in self.alloc; "l{label}=\"v{one}\""),
+        }
+    }
+}
