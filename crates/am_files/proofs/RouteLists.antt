@@ -4,7 +4,7 @@ use Rattle.std.proofs.Common.{◌≡◌, ℕ, suc, ◌+◌, ◌<◌, ◌≤◌, 
 use Rattle.std.proofs.Common.{drop, Some, refl, sym, ap, ◌∙◌, arith, append_assoc}
 use Rattle.std.proofs.Common.{inl, inr, subst, Option, None, Bor}
 use Rattle.std.specs.Prelude.{slice_get, option_and_then, option_map}
-use Rattle.std.proofs.lemmas.List.{map-append, at_drop_more, length-append, length-map}
+use Rattle.std.proofs.lemmas.List.{map-append, at_drop_more, length-map}
 use Rattle.std.proofs.lemmas.List.{append-nil}
 use Rattle.std.proofs.lemmas.Option.{slice_get-map, slice_get_read, same_Some}
 use Rattle.am_universe.proofs.ListLemmas.{IsIn, IsIn-split}
@@ -45,21 +45,6 @@ child_within routes i child lt is =
       some_levels = some_levels (route_view child);
     }
 
-pub with_itself : (t : RouteTree) (ts : List RouteTree) → routes_of ts ≡ children_of t
-    → route_count t ≡ 1 + routes_count (routes_of ts)
-with_itself (route settings children) ts same = ap (λ us. 1 + routes_count us) (sym same)
-
--- the routes of one child more are counted
-pub one_counted : (i : ℕ) (r : Route) (children : List Route) (count next whole : ℕ)
-    → i < length children → r ≡ get_or children i r → next ≡ count + route_count (route_view r)
-    → count + routes_count (routes_of (map route_view (drop i children))) ≡ whole
-    → next + routes_count (routes_of (map route_view (drop (i + 1) children))) ≡ whole
-one_counted i r children count next whole lt is adds before =
-    let left = λ (rs : List Route). routes_count (routes_of (map route_view rs)) in
-    let all : left (r ∷ drop (i + 1) children) ≡ left (drop i children) =
-    ap (λ x. left (x ∷ drop (i + 1) children)) is ∙ sym (at_drop_more left children i r lt) in
-    omega (arith, adds, all, before)
-
 -- ---- A walk over the children.
 
 -- the routes so far and those of one child more
@@ -83,19 +68,7 @@ one_more f path child i r children found next whole lt is at adds before =
     (sym (map-append f (routes_at (path ++ i ∷ []) (route_view r)) more))
     ∙ all ∙ before
 
--- ---- As many as are counted, each at its path.
-
-mutual
-  pub as_many_at : (path : List ℕ) (t : RouteTree) → length (routes_at path t) ≡ route_count t
-  as_many_at path (route settings children) =
-      let more = as_many_from path 0 children in omega (arith, more)
-
-  pub as_many_from : (path : List ℕ) (i : ℕ) (ts : Routes)
-      → length (routes_from path i ts) ≡ routes_count ts
-  as_many_from path i no_routes = refl
-  as_many_from path i (next_route t ts) =
-      length-append (routes_at (path ++ i ∷ []) t) (routes_from path (i + 1) ts)
-      ∙ (λ j. as_many_at (path ++ i ∷ []) t j + as_many_from path (i + 1) ts j)
+-- ---- Each at its path.
 
 mutual
   pub each_at : (root : RouteTree) (path : List ℕ) (t : RouteTree) → route_at root path ≡ Some t

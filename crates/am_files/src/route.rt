@@ -1,9 +1,8 @@
 //! Routes, as they are kept in memory.
 
-ghost use Rattle.std.specs.Prelude.{◌≡◌, ◌≤◌, map};
-ghost use Rattle.am_files.specs.declared.limits.TheConstants.{MAX_ROUTES};
+ghost use Rattle.std.specs.Prelude.{◌≡◌, map};
 ghost use Rattle.am_files.specs.Words.{matchers_of, continues_of, receiver_of, children_of};
-ghost use Rattle.am_files.specs.Words.{routes_of, route_view, route_count};
+ghost use Rattle.am_files.specs.Words.{routes_of, route_view};
 
 use am_labels::Matchers;
 
@@ -46,17 +45,5 @@ impl Route {
             ≡ children_of (route_view self.now) }
     {
         &self.routes
-    }
-
-    /// How many routes there are: this one, and all below it.
-    pub fn count(&self) -> usize
-        requires few { route_count (route_view self.now) ≤ MAX_ROUTES }
-        ensures count { result ≡ route_count (route_view self.now) }
-    {
-        let mut count = 1;
-        for child in self.routes() {
-            count += child.count();
-        }
-        count
     }
 }
