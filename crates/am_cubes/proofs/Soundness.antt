@@ -206,8 +206,7 @@ all_says : {X : Type 0} (verdict : X → Verdict) (truth : X → Bool)
     → all_of (map verdict xs) ≡ says (list_all truth xs)
 all_says verdict truth each [] = refl
 all_says verdict truth each (x ∷ xs) =
-    ap (λ v. kleene_and v (all_of (map verdict xs))) (each x)
-    ∙ ap (kleene_and (says (truth x))) (all_says verdict truth each xs)
+    (λ i. kleene_and (each x i) (all_says verdict truth each xs i))
     ∙ and_says (truth x) (list_all truth xs)
 
 any_says : {X : Type 0} (verdict : X → Verdict) (truth : X → Bool)
@@ -215,8 +214,7 @@ any_says : {X : Type 0} (verdict : X → Verdict) (truth : X → Bool)
     → any_of (map verdict xs) ≡ says (list_any truth xs)
 any_says verdict truth each [] = refl
 any_says verdict truth each (x ∷ xs) =
-    ap (λ v. kleene_or v (any_of (map verdict xs))) (each x)
-    ∙ ap (kleene_or (says (truth x))) (any_says verdict truth each xs)
+    (λ i. kleene_or (each x i) (any_says verdict truth each xs i))
     ∙ or_says (truth x) (list_any truth xs)
 
 literal_says : (u : List Label) (c : List ℕ) → IsWhole (sizes u) c → (l : Literal)
@@ -244,12 +242,12 @@ question_says by_condition u w (Part simple) c whole =
 question_says by_condition u w (Not q) c whole =
     ap kleene_not (question_says by_condition u w q c whole) ∙ not_says (satisfies_at u w q c)
 question_says by_condition u w (And q r) c whole =
-    ap (λ v. kleene_and v (verdict_of_question u w r c)) (question_says by_condition u w q c whole)
-    ∙ ap (kleene_and (says (satisfies_at u w q c))) (question_says by_condition u w r c whole)
+    (λ i. kleene_and (question_says by_condition u w q c whole i)
+    (question_says by_condition u w r c whole i))
     ∙ and_says (satisfies_at u w q c) (satisfies_at u w r c)
 question_says by_condition u w (Or q r) c whole =
-    ap (λ v. kleene_or v (verdict_of_question u w r c)) (question_says by_condition u w q c whole)
-    ∙ ap (kleene_or (says (satisfies_at u w q c))) (question_says by_condition u w r c whole)
+    (λ i. kleene_or (question_says by_condition u w q c whole i)
+    (question_says by_condition u w r c whole i))
     ∙ or_says (satisfies_at u w q c) (satisfies_at u w r c)
 
 pub space_says : (s : Space) (c : List ℕ) → IsWhole (sizes s.labels) c
@@ -263,9 +261,7 @@ space_says s c whole =
 pub verdict_says : AreConditions → (s : Space) (w : World) (q : Question) (c : List ℕ)
     → IsWhole (sizes s.labels) c → verdict_of s w q c ≡ cond (is_answer s w q c) Yes No
 verdict_says by_condition s w q c whole =
-    ap (λ v. kleene_and v (verdict_of_space s c))
-    (question_says by_condition s.labels w q c whole)
-    ∙ ap (kleene_and (says (satisfies_at s.labels w q c))) (space_says s c whole)
+    (λ i. kleene_and (question_says by_condition s.labels w q c whole i) (space_says s c whole i))
     ∙ and_says (satisfies_at s.labels w q c) (is_possible_choice s c)
 
 pub never_open : AreConditions → (s : Space) (w : World) (q : Question) (c : List ℕ)

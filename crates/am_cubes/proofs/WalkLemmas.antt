@@ -1,10 +1,10 @@
 -- The walk down a route's children says what the condition of the route says.
 use Rattle.std.proofs.Common.{◌≡◌, ℕ, zero, suc, ◌+◌, ◌<◌, Bool, true, false, not, ◌&&◌, ◌||◌, cond}
 use Rattle.std.proofs.Common.{List, [], ◌∷◌, ◌++◌, map, take, length, get_or, Option, Some, None}
-use Rattle.std.proofs.Common.{refl, ap, sym, ◌∙◌, inl, inr, arith, append_assoc}
+use Rattle.std.proofs.Common.{refl, ap, sym, ◌∙◌, arith, append_assoc}
 use Rattle.std.specs.Prelude.{slice_get, ◌==◌}
 use Rattle.std.specs.List.{list_all, list_any, filter}
-use Rattle.std.proofs.lemmas.Bool.{cases_eq, eq-eqb, ne_eqb}
+use Rattle.std.proofs.lemmas.Bool.{eq-eqb, ne_eqb}
 use Rattle.std.proofs.lemmas.List.{length-append}
 use Rattle.std.proofs.lemmas.List.Folds.{list_all-append, list_any-append, list_all-map}
 use Rattle.std.proofs.lemmas.Option.{slice_get_read}
@@ -327,12 +327,6 @@ by_children holds receiver settings children front i (next_route t ts) all at =
     (sym (to_receiver holds receiver t))
     ∙ join_children passed (is_matched holds t) comes (goes t) later
 
-same_either_way : (a b : ℕ) → (a == b) ≡ (b == a)
-same_either_way a b = elim (cases_eq a b) [
-  | inl e ↦ eq-eqb a b e ∙ sym (eq-eqb b a (sym e))
-  | inr differs ↦ ne_eqb a b differs ∙ sym (ne_eqb b a (λ e. differs (sym e)))
-]
-
 pub walked : (u : List Label) (prefix : List ℕ) (m : Modality) (target : Target)
     (settings : RouteSettings) (children : Routes)
     → comes_below m settings.receiver target (map (route_seen u prefix) (list_of children))
@@ -345,8 +339,6 @@ walked u prefix m (Receiver receiver) settings children =
     let reached = some_reached (comes_by_child holds (Receiver receiver)) (goes_on holds) 0 ts in
     let itself = (settings.receiver == receiver) && list_all (is_passed_by holds) ts in
     walk_parts u prefix m settings.receiver (Receiver receiver) true 0 ts
-    ∙ ap (λ b. reached || (b && list_all (is_passed_by holds) ts))
-    (same_either_way receiver settings.receiver)
     ∙ or_turned reached itself
     ∙ ap (λ b. itself || b)
     (sym (by_children holds receiver settings children [] 0 children refl refl))

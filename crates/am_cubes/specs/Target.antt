@@ -32,7 +32,7 @@ is_empty (p ∷ path) = false
 -- This route, with this receiver, is an end that is looked for.
 abbrev pub is_end_here : Target → ℕ → Bool
 is_end_here Nothing receiver = false
-is_end_here (Receiver other) receiver = other == receiver
+is_end_here (Receiver other) receiver = receiver == other
 is_end_here (Ends path) receiver = is_empty path
 is_end_here (Enters path) receiver = false
 

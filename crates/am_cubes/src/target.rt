@@ -44,7 +44,7 @@ impl<'q> Target<'q> {
     {
         match self {
             Target::Nothing | Target::Enters(_) => false,
-            Target::Receiver(other) => other == receiver,
+            Target::Receiver(other) => receiver == other,
             Target::Ends(path) => path.is_empty(),
         }
     }

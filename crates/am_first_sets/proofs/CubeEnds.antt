@@ -26,7 +26,7 @@ use Rattle.am_first_sets.specs.declared.route_cubes.RouteCubes.{RouteCubes}
 use Rattle.am_first_sets.specs.declared.route_cubes.RouteCubes.TheViews.{out-RouteCubes}
 use Rattle.am_first_sets.specs.ChoiceEnds.{is_end_at}
 use Rattle.am_first_sets.specs.Reasons.{may_match, must_match}
-use Rattle.am_first_sets.specs.RouteCubes.{AreCubesOf, AreCubesOfEach, all_may_match, none_must_match, none_stops}
+use Rattle.am_first_sets.specs.RouteCubes.{AreCubesOf, AreCubesOfEach, all_may_match, none_before, none_stops}
 use Rattle.am_first_sets.proofs.ImpossibleCubes.{certain_where}
 
 -- ---- One route more.
@@ -104,10 +104,11 @@ in_order false others unwanted wanted rest = refl
 -- An alert ends at the route at the path exactly where the cubes so far let it pass and it gets
 -- down from this route by what is left of the path.
 pub record IsOnWay (u : List Label) (choice : List ℕ) (end : Bool) (r : RouteCubes)
-    (wanted unwanted : List (Bor MaskedLabels)) (left : List ℕ) : Type 0 where
+    (wanted : List (Bor MaskedLabels)) (before : List (Bor (List RouteCubes))) (left : List ℕ)
+    : Type 0 where
   pub tree : RouteTree
   pub cubes : AreCubesOf u choice tree r
-  pub ends : ((all_may_match choice wanted && none_must_match choice unwanted)
+  pub ends : ((all_may_match choice wanted && none_before choice before)
       && some_way_holds (literal_holds (label_set_of u choice)) (ways_below no_child_of tree left))
       ≡ end
 
@@ -188,11 +189,12 @@ module _ (u : List Label) (choice : List ℕ) (whole : IsWhole (sizes u) choice)
   as_many (next_route t ts) (r ∷ rs) are = let more = as_many ts rs are.1 in omega (arith, more)
 
   pub begun : (c : Configuration) (path : List ℕ) (r : RouteCubes)
-      (none wanted unwanted : List (Bor MaskedLabels)) (ref : Bor MaskedLabels)
+      (none wanted : List (Bor MaskedLabels)) (before : List (Bor (List RouteCubes)))
+      (ref : Bor MaskedLabels)
       → AreCubesOf u choice c.root r → ref.now ≡ (out-RouteCubes r).cube
-      → none ≡ [] → wanted ≡ none ++ ref ∷ [] → unwanted ≡ []
-      → IsOnWay u choice (is_end_at u c path choice) r wanted unwanted path
-  begun c path r none wanted unwanted ref are is empty adds no_more =
+      → none ≡ [] → wanted ≡ none ++ ref ∷ [] → before ≡ []
+      → IsOnWay u choice (is_end_at u c path choice) r wanted before path
+  begun c path r none wanted before ref are is empty adds no_more =
       let ways = ways_below no_child_of c.root path in
       let top = may_match choice ref.now in
       let first = adds ∙ ap (λ refs. refs ++ ref ∷ []) empty in
@@ -200,15 +202,16 @@ module _ (u : List Label) (choice : List ℕ) (whole : IsWhole (sizes u) choice)
         tree = c.root;
         cubes = are;
         ends = ap (λ b. b && some_way_holds holds ways)
-            ((λ i. all_may_match choice (first i) && none_must_match choice (no_more i))
+            ((λ i. all_may_match choice (first i) && none_before choice (no_more i))
             ∙ and_true (top && true) ∙ and_true top ∙ ap (may_match choice) is
             ∙ its_cube c.root r are)
             ∙ sym (ends_by_ways u c path choice
             ∙ some_way-literal holds (matching (matchers_of c.root)) ways);
       }
 
-  module _ (end : Bool) (r : RouteCubes) (wanted unwanted : List (Bor MaskedLabels))
-      (left : List ℕ) (on : IsOnWay u choice end r wanted unwanted left)
+  module _ (end : Bool) (r : RouteCubes) (wanted : List (Bor MaskedLabels))
+      (before : List (Bor (List RouteCubes))) (left : List ℕ)
+      (on : IsOnWay u choice end r wanted before left)
       (rs : List RouteCubes) (same : rs ≡ (out-RouteCubes r).routes.items) where
     abbrev children : Routes
     children = children_of on.tree
@@ -217,7 +220,7 @@ module _ (u : List Label) (choice : List ℕ) (whole : IsWhole (sizes u) choice)
     first = all_may_match choice wanted
 
     abbrev others : Bool
-    others = none_must_match choice unwanted
+    others = none_before choice before
 
     abbrev further : List ℕ → Option RouteTree → List (List Literal)
     further rest child = ways_into (λ t. ways_below no_child_of t rest) child
@@ -240,13 +243,13 @@ module _ (u : List Label) (choice : List ℕ) (whole : IsWhole (sizes u) choice)
         ∙ ap (λ o. list_all holds front && some_way_holds holds (further rest o)) there))
         ∙ on.ends
 
-    pub one_step : (longer next : List (Bor MaskedLabels)) (ref : Bor MaskedLabels) (p : ℕ)
-        (rest : List ℕ) (child : RouteCubes) → left ≡ p ∷ rest → slice_get rs p ≡ Some child
+    pub one_step : (longer : List (Bor MaskedLabels)) (more : List (Bor (List RouteCubes)))
+        (ref : Bor MaskedLabels) (siblings : Bor (List RouteCubes)) (p : ℕ) (rest : List ℕ)
+        (child : RouteCubes) → left ≡ p ∷ rest → slice_get rs p ≡ Some child
         → ref.now ≡ (out-RouteCubes child).cube → longer ≡ wanted ++ ref ∷ []
-        → none_must_match choice next ≡ (none_must_match choice unwanted
-        && none_stops false choice (take p rs))
-        → IsOnWay u choice end child longer next rest
-    one_step longer next ref p rest child goes there is adds adds_none =
+        → siblings.now ≡ take p rs → more ≡ before ++ siblings ∷ []
+        → IsOnWay u choice end child longer more rest
+    one_step longer more ref siblings p rest child goes there is adds are_before adds_them =
         let found = child_at children rs p child are there in
         let matched = holds (matching (matchers_of found.0)) in
         let ways = ways_below no_child_of found.0 rest in
@@ -255,8 +258,12 @@ module _ (u : List Label) (choice : List ℕ) (whole : IsWhole (sizes u) choice)
         ∙ list_all-append (λ (cube : Bor MaskedLabels). may_match choice cube.now) wanted (ref ∷ [])
         ∙ ap (λ b. first && b) (and_true (may_match choice ref.now) ∙ ap (may_match choice) is
         ∙ its_cube found.0 child found.2) in
-        let none : none_must_match choice next ≡ (others && closed p) =
-        adds_none ∙ ap (λ b. others && b) (none_stopped children rs p are) in
+        let none : none_before choice more ≡ (others && closed p) =
+        ap (none_before choice) adds_them
+        ∙ list_all-append (λ (s : Bor (List RouteCubes)). none_stops false choice s.now) before
+        (siblings ∷ [])
+        ∙ ap (λ b. others && b) (and_true (none_stops false choice siblings.now)
+        ∙ ap (none_stops false choice) are_before ∙ none_stopped children rs p are) in
         record {
           tree = found.0;
           cubes = found.2;
@@ -267,13 +274,10 @@ module _ (u : List Label) (choice : List ℕ) (whole : IsWhole (sizes u) choice)
               ∙ down p rest (Some found.0) goes found.1;
         }
 
-    pub last_step : (next : List (Bor MaskedLabels)) → left ≡ []
-        → none_must_match choice next ≡ (none_must_match choice unwanted
-        && none_stops true choice rs)
-        → (all_may_match choice wanted && none_must_match choice next) ≡ end
-    last_step next ends adds =
+    pub last_step : left ≡ [] → (first && (others && none_stops true choice rs)) ≡ end
+    last_step ends =
         let none = list_all holds (no_child_of on.tree) in
-        ap (λ b. first && b) (adds ∙ ap (λ b. others && b) (none_matched children rs are))
+        ap (λ b. first && (others && b)) (none_matched children rs are)
         ∙ and_in first others none ∙ ap (λ b. (first && others) && b)
         (sym (ap (λ path. some_way_holds holds (ways_below no_child_of on.tree path)) ends
         ∙ or_false none))

@@ -1,5 +1,5 @@
 -- The routes of a configuration as a tree of cubes, and the way to end at one of them.
-use Rattle.std.specs.Prelude.{◌≡◌, ℕ, List, [], ◌∷◌, Bool, false, not, ◌&&◌, ◌||◌}
+use Rattle.std.specs.Prelude.{◌≡◌, ℕ, List, [], ◌∷◌, Bool, true, false, not, ◌&&◌, ◌||◌}
 use Rattle.std.specs.Prelude.{Option, Some, None, ⊤}
 use Rattle.std.specs.Borrow.{Bor}
 use Rattle.std.specs.List.{list_all}
@@ -50,24 +50,30 @@ abbrev pub KnowsRoutes : List Label → Configuration → RouteCubes → Type 0
 KnowsRoutes u c routes =
     (choice : List ℕ) → IsWhole (sizes u) choice → AreCubesOf u choice c.root routes
 
--- At a choice none of some cubes is excluded; none is certain; and none of some siblings is
--- certain, those with `continue` left out unless all count.
+-- At a choice none of some cubes is excluded; none of some siblings is certain, those with
+-- `continue` left out unless all count; and no route is certain that stops what goes a way.
 abbrev pub all_may_match : List ℕ → List (Bor MaskedLabels) → Bool
 all_may_match choice cubes = list_all (λ cube. may_match choice cube.now) cubes
-
-abbrev pub none_must_match : List ℕ → List (Bor MaskedLabels) → Bool
-none_must_match choice cubes = list_all (λ cube. not (must_match choice cube.now)) cubes
 
 abbrev pub none_stops : Bool → List ℕ → List RouteCubes → Bool
 none_stops all choice siblings =
     list_all (λ r. (not all && (out-RouteCubes r).continues)
     || not (must_match choice (out-RouteCubes r).cube)) siblings
 
--- There is a way, and a choice goes it, by its cubes.
+abbrev pub none_before : List ℕ → List (Bor (List RouteCubes)) → Bool
+none_before choice before = list_all (λ siblings. none_stops false choice siblings.now) before
+
+abbrev pub nothing_stops : List ℕ → RouteWay → Bool
+nothing_stops choice way =
+    none_before choice way.before.items && none_stops true choice way.children.now
+
+-- A choice goes a way, by its cubes; and there is a way that it goes.
+abbrev pub goes : List ℕ → RouteWay → Bool
+goes choice way = all_may_match choice way.wanted.items && nothing_stops choice way
+
 abbrev pub is_gone : List ℕ → Option RouteWay → Bool
 is_gone choice None = false
-is_gone choice (Some way) =
-    all_may_match choice way.wanted.items && none_must_match choice way.unwanted.items
+is_gone choice (Some way) = goes choice way
 
 -- It is the way to end at the route at a path: whichever configuration the cubes are of, a whole
 -- choice goes it exactly where its label set ends there.

@@ -3,7 +3,7 @@ use Rattle.std.specs.Prelude.{ℕ, List, Bool, ◌&&◌}
 use Rattle.am_search.specs.Words.{AreSizes}
 use Rattle.am_first_sets.specs.declared.route_ends.RouteRefuter.{RouteRefuter}
 use Rattle.am_first_sets.specs.PossibleRefuter.{possible_sizes, possible_truth, possible_are_sizes}
-use Rattle.am_first_sets.specs.RouteCubes.{all_may_match, none_must_match}
+use Rattle.am_first_sets.specs.RouteCubes.{goes}
 
 -- The sizes of its labels, that they are sizes, and which choices are true: those that go the way
 -- and are possible.
@@ -15,5 +15,4 @@ refuter_are_sizes refuter = possible_are_sizes refuter.possible.now
 
 abbrev pub refuter_truth : RouteRefuter → List ℕ → Bool
 refuter_truth refuter choice =
-    (all_may_match choice refuter.wanted.now && none_must_match choice refuter.unwanted.now)
-    && possible_truth refuter.possible.now choice
+    goes choice refuter.way && possible_truth refuter.possible.now choice

@@ -1,12 +1,12 @@
 //! The matchers of routes as cubes, in a tree of the same shape.
 
-ghost use Rattle.std.specs.Prelude.{◌≡◌, ◌&&◌, ℕ, List, map, IfOk, IfSome, IfNone, OnOk, true};
+ghost use Rattle.std.specs.Prelude.{◌≡◌, ℕ, List, map, IfOk, IfSome, IfNone, true};
 ghost use Rattle.std.specs.Prelude.{IsTrue};
 ghost use Rattle.am_labels.specs.Words.{sizes, admits};
 ghost use Rattle.am_files.specs.Words.{route_view, routes_of};
 ghost use Rattle.am_first_sets.specs.Reasons.{IsReasonAgainst};
 ghost use Rattle.am_first_sets.specs.RouteCubes.{AreCubesOf, AreCubesOfEach, IsWayToEnd};
-ghost use Rattle.am_first_sets.specs.RouteCubes.{all_may_match, none_must_match, none_stops};
+ghost use Rattle.am_first_sets.specs.RouteCubes.{all_may_match, none_stops, nothing_stops};
 
 use am_files::{Path, Route};
 use am_labels::{Choice, Universe};
@@ -22,11 +22,14 @@ pub(crate) struct RouteCubes {
     routes: Vec<RouteCubes>,
 }
 
-/// What an alert has to match to end at a route, and what it must not match, by their cubes.
+/// The way to end at a route: the cubes of the routes that have to be matched; for each of them but
+/// the first, the siblings before it, of which those that lack `continue` must not be matched; and
+/// the children of the last, none of which must be matched.
 #[derive(Drop)]
 pub(crate) struct RouteWay<'a> {
-    pub(crate) wanted: Vec<&'a Cube>,
-    pub(crate) unwanted: Vec<&'a Cube>,
+    wanted: Vec<&'a Cube>,
+    before: Vec<&'a [RouteCubes]>,
+    children: &'a [RouteCubes],
 }
 
 impl RouteCubes {
@@ -50,9 +53,8 @@ impl RouteCubes {
         })
     }
 
-    /// The one way to end at the route at a path, or none where no route is there: the routes on
-    /// the way have to be matched; the siblings before them that lack `continue` and the children
-    /// of the last one must not be matched. An `Err` only where memory was refused.
+    /// The one way to end at the route at a path, or none where no route is there. An `Err` only
+    /// where memory was refused.
     pub(crate) fn way_to_end<'a>(
         &'a self,
         alloc: Global,
@@ -61,7 +63,7 @@ impl RouteCubes {
         ensures way { IfOk result (IsWayToEnd self.now path.now) }
     {
         let mut wanted = Vec::new(alloc);
-        let mut unwanted = Vec::new(alloc);
+        let mut before = Vec::new(alloc);
         let mut route = self;
         wanted.push(&route.cube)?;
         for i in 0..path.len() {
@@ -70,12 +72,15 @@ impl RouteCubes {
             if position >= children.len() {
                 return Ok(None);
             }
-            add_cubes(&children[..position], false, &mut unwanted)?;
+            before.push(&children[..position])?;
             route = &children[position];
             wanted.push(&route.cube)?;
         }
-        add_cubes(route.routes.as_slice(), true, &mut unwanted)?;
-        Ok(Some(RouteWay { wanted, unwanted }))
+        Ok(Some(RouteWay {
+            wanted,
+            before,
+            children: route.routes.as_slice(),
+        }))
     }
 }
 
@@ -97,48 +102,49 @@ fn cubes_of_routes(
     Ok(cubes)
 }
 
-/// Adds the cubes of some siblings: of those with `continue` only where all count.
-fn add_cubes<'a>(
-    siblings: &'a [RouteCubes],
-    all: bool,
-    cubes: &mut Vec<&'a Cube>,
-) -> Result<(), AllocError>
-    ensures added { OnOk result ((choice : List ℕ) → none_must_match choice cubes.new.items
-        ≡ (none_must_match choice cubes.old.items && none_stops all choice siblings.now)) }
+impl<'a> RouteWay<'a> {
+    /// Why no completion of a prefix matches all that is wanted, where the cubes say so: the reason
+    /// against the first that is excluded.
+    pub(crate) fn why_not_wanted(&self, prefix: &Choice) -> Option<Labels>
+        ensures some { IfSome result (λ labels.
+            IsReasonAgainst (λ c. all_may_match c self.now.wanted.items) labels prefix.now) }
+        ensures none { IfNone result (all_may_match prefix.now self.now.wanted.items ≡ true) }
+    {
+        for cube in self.wanted.as_slice() {
+            if let Some(labels) = cube.why_not(prefix) {
+                return Some(labels);
+            }
+        }
+        None
+    }
+
+    /// Why each completion of a prefix matches a route that stops it, where the cubes say so: the
+    /// reason of the first that is certain.
+    pub(crate) fn why_stopped(&self, prefix: &Choice) -> Option<Labels>
+        ensures some { IfSome result (λ labels.
+            IsReasonAgainst (λ c. nothing_stops c self.now) labels prefix.now) }
+        ensures none { IfNone result (nothing_stops prefix.now self.now ≡ true) }
+    {
+        for siblings in self.before.as_slice() {
+            if let Some(labels) = why_one_stops(siblings, false, prefix) {
+                return Some(labels);
+            }
+        }
+        why_one_stops(self.children, true, prefix)
+    }
+}
+
+/// The same for one of some siblings: of those with `continue` only where all count.
+fn why_one_stops(siblings: &[RouteCubes], all: bool, prefix: &Choice) -> Option<Labels>
+    ensures some { IfSome result (λ labels.
+        IsReasonAgainst (λ c. none_stops all c siblings.now) labels prefix.now) }
+    ensures none { IfNone result (none_stops all prefix.now siblings.now ≡ true) }
 {
     for sibling in siblings {
         if all || !sibling.continues {
-            cubes.push(&sibling.cube)?;
-        }
-    }
-    Ok(())
-}
-
-/// Why no completion of a prefix matches all of some cubes, where they say so: the reason against
-/// the first that is excluded.
-pub(crate) fn why_not_all(cubes: &[&Cube], prefix: &Choice) -> Option<Labels>
-    ensures some { IfSome result (λ labels.
-        IsReasonAgainst (λ c. all_may_match c cubes.now) labels prefix.now) }
-    ensures none { IfNone result (all_may_match prefix.now cubes.now ≡ true) }
-{
-    for cube in cubes {
-        if let Some(labels) = cube.why_not(prefix) {
-            return Some(labels);
-        }
-    }
-    None
-}
-
-/// Why each completion of a prefix matches one of some cubes, where they say so: the reason of the
-/// first that is certain.
-pub(crate) fn why_any(cubes: &[&Cube], prefix: &Choice) -> Option<Labels>
-    ensures some { IfSome result (λ labels.
-        IsReasonAgainst (λ c. none_must_match c cubes.now) labels prefix.now) }
-    ensures none { IfNone result (none_must_match prefix.now cubes.now ≡ true) }
-{
-    for cube in cubes {
-        if let Some(labels) = cube.why(prefix) {
-            return Some(labels);
+            if let Some(labels) = sibling.cube.why(prefix) {
+                return Some(labels);
+            }
         }
     }
     None

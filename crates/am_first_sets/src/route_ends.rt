@@ -9,10 +9,9 @@ ghost use Rattle.am_first_sets.specs.ChoiceEnds.{is_end_at};
 ghost use Rattle.am_first_sets.specs.RouteCubes.{AreCubesOf-prop, KnowsRoutes};
 
 use crate::possible_choices::PossibleRefuter;
-use crate::route_cubes::{RouteCubes, why_any, why_not_all};
+use crate::route_cubes::{RouteCubes, RouteWay};
 use am_files::{Config, Path};
 use am_labels::{Choice, Space};
-use am_masks::Cube;
 use am_search::{Labels, Refuter, first_by_jumps};
 use std::alloc::{AllocError, Global};
 
@@ -62,20 +61,17 @@ impl<'a> RouteEnds<'a> {
         };
         let refuter = RouteRefuter {
             possible: &self.possible,
-            wanted: way.wanted.as_slice(),
-            unwanted: way.unwanted.as_slice(),
+            way,
         };
         Ok(first_by_jumps(&refuter))
     }
 }
 
-/// What refutes prefixes none of whose completions is possible, matches all cubes that are wanted
-/// and none that is not.
+/// What refutes prefixes none of whose completions is possible and goes a way.
 #[derive(Drop)]
 struct RouteRefuter<'a> {
     possible: &'a PossibleRefuter<'a>,
-    wanted: &'a [&'a Cube],
-    unwanted: &'a [&'a Cube],
+    way: RouteWay<'a>,
 }
 
 impl<'a> Refuter for RouteRefuter<'a> {
@@ -96,15 +92,15 @@ impl<'a> Refuter for RouteRefuter<'a> {
         self.possible.size(i)
     }
 
-    // Those that are wanted come first: one that is excluded names a single label, so that the
-    // search goes back further than where an impossible list or an unwanted one is certain.
+    // What is wanted comes first: a cube that is excluded names a single label, so that the search
+    // goes back further than where one that is not wanted is certain.
     fn refute(&self, prefix: &Choice) -> Option<Labels> {
-        if let Some(labels) = why_not_all(self.wanted, prefix) {
+        if let Some(labels) = self.way.why_not_wanted(prefix) {
             return Some(labels);
         }
         if let Some(labels) = self.possible.refute(prefix) {
             return Some(labels);
         }
-        why_any(self.unwanted, prefix)
+        self.way.why_stopped(prefix)
     }
 }

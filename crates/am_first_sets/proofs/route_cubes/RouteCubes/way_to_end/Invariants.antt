@@ -11,5 +11,5 @@ abbrev pub invariant-loop-i : goal.invariant-loop-i
 invariant-loop-i l =
     (u : List Label) (c : Configuration) → KnowsRoutes u c l.self
     → (choice : List ℕ) → IsWhole (sizes u) choice
-    → IsOnWay u choice (is_end_at u c l.path choice) l.route l.wanted.items l.unwanted.items
+    → IsOnWay u choice (is_end_at u c l.path choice) l.route l.wanted.items l.before.items
     (drop l.i l.path)

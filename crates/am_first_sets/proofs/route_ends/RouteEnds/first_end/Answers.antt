@@ -5,7 +5,7 @@ use Rattle.am_search.proofs.FirstAlike.{first_alike}
 use Rattle.am_first_sets.specs.RouteEnds.{ends_space, ends_config}
 use Rattle.am_first_sets.specs.ChoiceEnds.{is_end_at}
 use Rattle.am_first_sets.specs.PossibleRefuter.{possible_truth}
-use Rattle.am_first_sets.specs.RouteCubes.{all_may_match, none_must_match, IsWayToEnd}
+use Rattle.am_first_sets.specs.RouteCubes.{goes, IsWayToEnd}
 use Rattle.am_first_sets.proofs.FirstPossible.{find_kept, find_none, found_of_space}
 use Rattle.am_first_sets.proofs.route_ends.RouteEnds.first_end.Goals as goal
 
@@ -16,17 +16,13 @@ returns-clause-first c =
     let path = c.args.path.now in
     let ends = is_end_at s.labels (ends_config self) path in
     let possible = possible_truth self.possible in
-    let wanted = c.as_slice.ensures.value in
-    let unwanted = c.as_slice-2.ensures.value in
     let to_end = subst (IsWayToEnd self.routes path) c.in-Some.is c.in_ok-way.ensures.way in
     c.first_by_jumps.ensures.first
     ∙ first_alike (sizes s.labels)
-    (λ d. (all_may_match d c.as_slice.result.now && none_must_match d c.as_slice-2.result.now)
-    && possible d)
+    (λ d. goes d c.in-Some.way && possible d)
     (λ d. ends d && is_possible_choice s d)
     (λ d whole.
-    (λ i. (all_may_match d (wanted i) && none_must_match d (unwanted i)) && possible d)
-    ∙ ap (λ b. b && possible d) (to_end s.labels (ends_config self) self.knows_routes d whole)
+    ap (λ b. b && possible d) (to_end s.labels (ends_config self) self.knows_routes d whole)
     ∙ ap (λ b. ends d && b) (self.possible.knows_possible d whole))
     ∙ find_kept ends (is_possible_choice s) (choices (sizes s.labels))
 
