@@ -77,7 +77,6 @@ returns-in_ok-new-in-And-2 g t c = record {
   exact = λ w prefix seen m knows serves.
       let u = c.args.universe.now in
       let V = g.L.JudgedList.verdict in
-      let truth = λ lists. question_by V prefix seen lists m in
       let left = question_view c.deref-in-And.result.now in
       let right = question_view c.deref-in-And-2.result.now in
       let seen_as = ap question_view c.in-And.is ∙ and_seen c.in-And.left c.in-And.right
@@ -86,10 +85,10 @@ returns-in_ok-new-in-And-2 g t c = record {
       ∙ ap (λ r. And left (question_view r)) (sym c.deref-in-And-2.ensures) in
       let both = subst (Serves u w prefix seen) seen_as serves in
       by_and V prefix seen m c.in_ok-new-in-And.field-0 c.in_ok-new-in-And-2.field-0
-      ∙ (λ i. (ap truth c.in_ok-new-in-And.ensures.ok
+      ∙ (λ i. (ap (λ lists. question_by V prefix seen lists m) c.in_ok-new-in-And.ensures.ok
       ∙ c.in_ok-left-in-And.ensures.exact w prefix seen m knows
       (serves_left u w prefix seen left right both)) i
-      && (ap truth c.in_ok-new-in-And-2.ensures.ok
+      && (ap (λ lists. question_by V prefix seen lists m) c.in_ok-new-in-And-2.ensures.ok
       ∙ c.in_ok-right-in-And.ensures.exact w prefix seen m knows
       (serves_right u w prefix seen left right both)) i)
       ∙ sym (passes_and m (verdict_of_question u w left prefix) (verdict_of_question u w right prefix))
@@ -101,7 +100,6 @@ returns-in_ok-new-in-Or-2 g t c = record {
   exact = λ w prefix seen m knows serves.
       let u = c.args.universe.now in
       let V = g.L.JudgedList.verdict in
-      let truth = λ lists. question_by V prefix seen lists m in
       let left = question_view c.deref-in-Or.result.now in
       let right = question_view c.deref-in-Or-2.result.now in
       let seen_as = ap question_view c.in-Or.is ∙ or_seen c.in-Or.left c.in-Or.right
@@ -110,10 +108,10 @@ returns-in_ok-new-in-Or-2 g t c = record {
       ∙ ap (λ r. Or left (question_view r)) (sym c.deref-in-Or-2.ensures) in
       let both = serves_or u w prefix seen left right (subst (Serves u w prefix seen) seen_as serves) in
       by_or V prefix seen m c.in_ok-new-in-Or.field-0 c.in_ok-new-in-Or-2.field-0
-      ∙ (λ i. (ap truth c.in_ok-new-in-Or.ensures.ok
+      ∙ (λ i. (ap (λ lists. question_by V prefix seen lists m) c.in_ok-new-in-Or.ensures.ok
       ∙ c.in_ok-left-in-Or.ensures.exact w prefix seen m knows
       (serves_left u w prefix seen left right both)) i
-      || (ap truth c.in_ok-new-in-Or-2.ensures.ok
+      || (ap (λ lists. question_by V prefix seen lists m) c.in_ok-new-in-Or-2.ensures.ok
       ∙ c.in_ok-right-in-Or.ensures.exact w prefix seen m knows
       (serves_right u w prefix seen left right both)) i)
       ∙ sym (passes_or m (verdict_of_question u w left prefix) (verdict_of_question u w right prefix))
