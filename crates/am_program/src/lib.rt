@@ -1,8 +1,8 @@
 //! The program `amcover`, as a function over a command line and two writers.
 //!
 //! [`run`] reads a command line and the files that it names, makes the call of the command and
-//! answers the exit status. [`run_with_notes`] does the same on a terminal. The program is that
-//! call and no more.
+//! answers the exit status. [`run_with_notes`] does the same on a terminal. [`run_process`] runs it
+//! on what a process was given, and `main` is that call and no more.
 #![tactic(auto)]
 
 // What is asked for, and the call that does it.
@@ -12,4 +12,4 @@ mod calling;
 mod program;
 mod read_file;
 
-pub use program::{refuse_arguments, run, run_with_notes};
+pub use program::{run, run_process, run_with_notes};

@@ -6,9 +6,10 @@ use am_notes::{Call, notes_of_answer, notes_of_refusal};
 use clap::Error;
 use clap::error::ErrorKind;
 use std::alloc::{AllocError, Global};
-use std::io;
-use std::io::{BufWriter, Write};
+use std::io::{BufWriter, IsTerminal, Write};
+use std::process::ExitCode;
 use std::rt::Files;
+use std::{env, io};
 
 const DONE: u8 = 0;
 
@@ -50,9 +51,29 @@ pub fn run_with_notes<R: Files + AllocGlobal, W: Write + Drop, E: Write + Drop>(
     }
 }
 
+/// Runs the program on what its process was given: the command line, the files, and the streams.
+/// Notes are wanted where standard error is a terminal.
+pub fn run_process(rt: &HostRuntime) -> ExitCode {
+    match arguments(rt) {
+        Ok(words) => ExitCode::from(run_with_notes(
+            rt,
+            words.as_slice(),
+            &mut io::writer(rt),
+            &mut rt.stderr(),
+            rt.stderr().is_terminal(),
+        )),
+        Err(error) => ExitCode::from(refuse_arguments(&error, rt.alloc(), &mut rt.stderr())),
+    }
+}
+
+/// The words of the command line, the program's name first.
+fn arguments(rt: &HostRuntime) -> io::Result<Vec<String>> {
+    Ok(env::args(rt)?.collect(rt.alloc())?)
+}
+
 /// Says on `err` why the words of a command line could not be had: memory ran out, or they are no
 /// text (UTF-8). The answer is the exit status.
-pub fn refuse_arguments<E: Write>(error: &io::Error, alloc: Global, err: &mut E) -> u8 {
+fn refuse_arguments<E: Write>(error: &io::Error, alloc: Global, err: &mut E) -> u8 {
     if error.kind() == io::ErrorKind::OutOfMemory {
         return report(alloc, &Fault::memory(alloc), err);
     }
