@@ -23,15 +23,16 @@ abbrev members : List (List ℕ × Data) → Members
 members [] = no_members
 members (pair ∷ pairs) = member pair.0 pair.1 (members pairs)
 
--- a file with one receiver, whose top-level route has this field too
+-- the one receiver of each file
+abbrev receivers : List ℕ × Data
+receivers = (
+  codes "receivers",
+  array (items (object (members ((codes "name", string (codes "a")) ∷ [])) ∷ [])),
+)
+
+-- a file with this top-level route
 abbrev config : Data → Data
-config route = object (members
-    ((
-      codes "receivers",
-      array
-          (items (object (members ((codes "name", string (codes "a")) ∷ [])) ∷ [])),
-    )
-    ∷ (codes "route", route) ∷ []))
+config route = object (members (receivers ∷ (codes "route", route) ∷ []))
 
 abbrev root : List ℕ → Data → Data
 root key d = object (members ((key, d) ∷ (codes "receiver", string (codes "a")) ∷ []))
@@ -192,13 +193,7 @@ unset = refl
 
 -- a file with this value in `inhibit_rules`, beside a route with the one receiver
 abbrev ruled : Data → Data
-ruled rules = object (members
-    ((codes "inhibit_rules", rules)
-    ∷ (
-      codes "receivers",
-      array
-          (items (object (members ((codes "name", string (codes "a")) ∷ [])) ∷ [])),
-    )
+ruled rules = object (members ((codes "inhibit_rules", rules) ∷ receivers
     ∷ (codes "route", object (members ((codes "receiver", string (codes "a")) ∷ []))) ∷ []))
 
 -- and one with one rule, which has this field

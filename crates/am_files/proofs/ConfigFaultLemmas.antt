@@ -1,5 +1,5 @@
 -- The fault that reading a configuration file meets first is the first by its places.
-use Rattle.std.proofs.Common.{Bool, List, None, Ok, Option, Some, [], ap, arith, codes, false}
+use Rattle.std.proofs.Common.{List, None, Ok, Option, Some, [], ap, arith, codes, false}
 use Rattle.std.proofs.Common.{length, map, option_and_then, refl, slice_get, subst, sym, unwrap_or}
 use Rattle.std.proofs.Common.{ℕ, ◌++◌, ◌∙◌, ◌∷◌, ◌≡◌}
 use Rattle.std.proofs.lemmas.List.{map_push}
@@ -16,10 +16,11 @@ use Rattle.am_files.specs.ConfigFaults.{config_route, config_rules, declared_nam
 use Rattle.am_files.specs.ConfigFaults.{receiver_fault_at, receiver_field_fault}
 use Rattle.am_files.specs.ConfigFaults.{receiver_field_path, receiver_name, receiver_name_fault}
 use Rattle.am_files.specs.ConfigFaults.{receiver_path, root_fault, route_at, route_field_path}
+use Rattle.am_files.specs.ConfigFaults.{rule_matcher}
 use Rattle.am_files.specs.ConfigFaults.{tree_matcher, way_path}
 use Rattle.am_json.specs.Places.{ArrayPlace, array_itself, in_field, in_item, items_in_field}
 use Rattle.am_json.specs.Places.{known_member, limit_fault, name_of, object_itself, object_path}
-use Rattle.am_json.specs.Places.{other_field, rank_of, shape_or, text_of}
+use Rattle.am_json.specs.Places.{rank_of, shape_or, text_of}
 use Rattle.am_files.specs.ConfigFile.{Configuration, FileSaysConfig, RouteTree, Rule, SaysConfig}
 use Rattle.am_files.specs.ConfigReading.{read_config, read_config_file}
 use Rattle.am_files.specs.ConfigReading.{read_next_receiver, read_receiver_names, read_receivers}
@@ -37,14 +38,15 @@ use Rattle.am_json.proofs.FieldLemmas.{items_form, items_seen, items_sequence, t
 use Rattle.am_json.proofs.FormLaws.{FormLaws, form_laws}
 use Rattle.am_json.specs.ReadingLaw.{IsReadExactly}
 use Rattle.am_json.proofs.ObjectLemmas.{no_open_pattern, open_form, open_judged, open_pattern}
-use Rattle.am_json.proofs.PlaceLemmas.{Clear, Form, IsPart, Judges, itself_refused}
-use Rattle.am_json.proofs.PlaceLemmas.{judges_plain, one_place, part_judges}
+use Rattle.am_json.proofs.PlaceLemmas.{Clear, Form, IsPart, Judges, all_accepted, itself_refused}
+use Rattle.am_json.proofs.PlaceLemmas.{none_yet, one_place, part_judges, same_judged}
 use Rattle.am_json.proofs.PlaceOrder.{lead}
-use Rattle.am_files.proofs.RuleFaultLemmas.{rule_pattern, rules_form, rules_judged, rules_seen}
+use Rattle.am_files.proofs.RuleFaultLemmas.{rules_form, rules_judged, rules_seen, rules_sequence}
 use Rattle.am_files.proofs.RuleFaultLemmas.{rules_within}
 use Rattle.am_files.proofs.RouteFaultLemmas.{tree_judged}
 use Rattle.am_files.proofs.RouteParts.{TreePlace}
-use Rattle.am_files.proofs.ConfigRanks.{config_tells}
+use Rattle.am_files.proofs.ConfigRanks.{config_number, config_tells, receiver_number}
+use Rattle.am_records.proofs.PatternFaultLemmas.{next_pattern}
 use Rattle.am_json.proofs.SameReadings.{items_within}
 use Rattle.am_json.proofs.SequenceLemmas.{Sequence, array_form, items_are_read, items_judged}
 use Rattle.am_json.proofs.SequenceLemmas.{next_form, required_array, required_array_gives}
@@ -70,13 +72,6 @@ module _ (before : List Data) (d : Data) where
       (text_of (field (codes "name") d)))) (λ _. receiver_name)
   name_part = record { rank = refl; seen = λ _. refl; covers = name_covers }
 
-  none_yet : Clear receiver_fields 2
-  none_yet receiver_name lt = absurd (omega (arith, lt))
-
-  receiver_clear : Clear receiver_fields 3 → (place : ReceiverField)
-      → receiver_field_fault before d place ≡ None
-  receiver_clear clear receiver_name = clear receiver_name (omega arith)
-
   abbrev name_reading : Reading (List ℕ)
   name_reading = do
     name ← required_text (codes "name") d
@@ -86,10 +81,9 @@ module _ (before : List Data) (d : Data) where
 
   name_judged : Judges receiver_fields name_reading
   name_judged =
-      text_field_judges receiver_fields 1 (codes "name") d
-      (receiver_name_fault (map name_of before)) (λ _. receiver_name) name_part none_yet
-      (λ name. accept name)
-      (λ name _ all. judges_plain receiver_fields (Ok name) (receiver_clear all))
+      text_field_judges receiver_fields (codes "name") d (receiver_name_fault (map name_of before))
+      name_part (none_yet receiver_fields 1 3 receiver_number) (λ name. accept name)
+      (λ name _ all. all_accepted receiver_fields 1 3 receiver_number name all)
 
   pub receiver_judged : Judges (open_form (find.as_object d) receiver_fields)
       (read_next_receiver (map name_of before) d)
@@ -199,20 +193,10 @@ module _ (d : Data) where
   abbrev rules_field : Option Data
   rules_field = field (codes "inhibit_rules") d
 
-  receivers_cover : (place : ConfigField) → lead (rank_of (config_field_path d place)) ≡ 2
-      → (inner : ArrayPlace ReceiverPlace) × (place ≡ config_receivers inner)
-  receivers_cover (config_receivers inner) e = (inner, refl)
-  receivers_cover place e = absurd (omega (arith, e))
-
   route_covers : (place : ConfigField) → lead (rank_of (config_field_path d place)) ≡ 3
       → (inner : TreePlace) × (place ≡ config_route inner.0 inner.1)
   route_covers (config_route way place) e = ((way, place), refl)
   route_covers place e = absurd (omega (arith, e))
-
-  rules_cover : (place : ConfigField) → lead (rank_of (config_field_path d place)) ≡ 4
-      → (inner : ArrayPlace RulePlace) × (place ≡ config_rules inner)
-  rules_cover (config_rules inner) e = (inner, refl)
-  rules_cover place e = absurd (omega (arith, e))
 
   receivers_part : IsPart fields_form 1 (known_member 1 (codes "receivers"))
       (receivers_form (field (codes "receivers") d)) config_receivers
@@ -221,7 +205,7 @@ module _ (d : Data) where
     seen = items_seen receiver_path receiver_fault_at (λ _. open_pattern (λ _. false))
         (limit_fault MAX_RECEIVERS) (codes "receivers") 1 (field (codes "receivers") d)
         (λ _ place. no_open_pattern place);
-    covers = receivers_cover;
+    covers = elim [ config_receivers p ↦ λ e. (p, refl) | _ ↦ λ e. absurd (omega (arith, e)) ];
   }
 
   route_part : IsPart fields_form 2 (known_member 2 (codes "route"))
@@ -233,7 +217,8 @@ module _ (d : Data) where
       → has_pattern d (in_field (config_rules place)) ≡ (rules_form rules_field).has_pattern place
   rules_pattern array_itself = refl
   rules_pattern (in_item i place) =
-      rule_pattern (items_in_field rules_field) (slice_get (items_in_field rules_field) i) place
+      next_pattern (rules_sequence (items_in_field rules_field)) place
+      (λ rule. rule_matcher rule place) (λ _. refl) (slice_get (items_in_field rules_field) i)
 
   rules_part : IsPart fields_form 3 (known_member 3 (codes "inhibit_rules"))
       (rules_form rules_field) config_rules
@@ -241,16 +226,8 @@ module _ (d : Data) where
     rank = refl;
     seen = rules_seen (known_member 3 (codes "inhibit_rules")) rules_field
         (λ place. has_pattern d (in_field (config_rules place))) rules_pattern;
-    covers = rules_cover;
+    covers = elim [ config_rules p ↦ λ e. (p, refl) | _ ↦ λ e. absurd (omega (arith, e)) ];
   }
-
-  nothing_yet : Clear fields_form 2
-  nothing_yet (config_receivers inner) lt = absurd (omega (arith, lt))
-  nothing_yet place lt = absurd (omega (arith, lt))
-
-  config_clear : Clear fields_form 5 → (place : ConfigField) → config_field_fault d place ≡ None
-  config_clear clear (config_receivers inner) = clear (config_receivers inner) (omega arith)
-  config_clear clear place = clear place (omega arith)
 
   abbrev made_config : List (List ℕ) → RouteTree → List Rule → Configuration
   made_config names root rules = record { receivers = names; root = root; rules = rules }
@@ -293,25 +270,21 @@ module _ (d : Data) where
   rules_judge : (names : List (List ℕ)) (root : RouteTree) → Clear fields_form 4
       → Judges fields_form (rules_then names root)
   rules_judge names root clear =
-      part_judges fields_form 3 (known_member 3 (codes "inhibit_rules"))
-      (rules_form rules_field) config_rules rules_part clear
-      rules_reading (λ rules. accept (made_config names root rules)) (rules_judged rules_field)
-      (λ rules _ all. judges_plain fields_form (Ok (made_config names root rules))
-      (config_clear all))
+      part_judges fields_form rules_part clear rules_reading
+      (λ rules. accept (made_config names root rules)) (rules_judged rules_field)
+      (λ rules _ all.
+      all_accepted fields_form 1 5 (config_number d) (made_config names root rules) all)
 
   root_judge : Clear fields_form 3 → Judges fields_form (root_then (declared_names d))
   root_judge clear =
-      part_judges fields_form 2 (known_member 2 (codes "route"))
-      (root_form (declared_names d) (field (codes "route") d))
-      (λ inner. config_route inner.0 inner.1) route_part clear
+      part_judges fields_form route_part clear
       (root_reading (declared_names d) (field (codes "route") d)) (rules_then (declared_names d))
       (root_judged (declared_names d) (field (codes "route") d))
       (λ root _ next. rules_judge (declared_names d) root next)
 
   fields_judge : Judges fields_form config_rest
   fields_judge =
-      part_judges fields_form 1 (known_member 1 (codes "receivers"))
-      (receivers_form (field (codes "receivers") d)) config_receivers receivers_part nothing_yet
+      part_judges fields_form receivers_part (none_yet fields_form 1 5 (config_number d))
       (accept_some receivers_found (refusal_here kinds.Shape) >>= read_receiver_names) root_then
       (receivers_judged receivers_found)
       (λ names ok next. subst (λ (ns : List (List ℕ)). Judges fields_form (root_then ns))
@@ -325,22 +298,13 @@ module _ (d : Data) where
     has_pattern = has_pattern d;
   }
 
-  same_pattern : (place : ConfigPlace)
-      → open_pattern (λ inner. has_pattern d (in_field inner)) place ≡ has_pattern d place
-  same_pattern object_itself = refl
-  same_pattern (other_field key) = refl
-  same_pattern (in_field place) = refl
-
   pub config_judged : Judges config_form (read_config d)
   unfolding read_config
   config_judged =
-      let judged = open_judged fields_form config_rest fields_judge (find.as_object d) in
-      let read = subst (λ (m : Reading Configuration). Judges
-      (open_form (find.as_object d) fields_form) (as_object d >>= λ _. m)) (sym rest_is) judged
-      in
-      subst (λ (pattern : ConfigPlace → Bool). Judges
-      (record { path = config_path d; fault_at = config_fault_at d; has_pattern = pattern })
-      (as_object d >>= λ _. rest_as_read)) (λ i place. same_pattern place i) read
+      same_judged config_form (open_form (find.as_object d) fields_form)
+      (elim [ object_itself ↦ refl | _ ↦ refl ]) (as_object d >>= λ _. rest_as_read)
+      (open_judged fields_form rest_as_read (subst (Judges fields_form) (sym rest_is) fields_judge)
+      (find.as_object d))
 
 -- ---- The laws.
 

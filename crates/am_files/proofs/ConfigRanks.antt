@@ -1,8 +1,9 @@
 -- The rank of a place of a configuration file tells which place it is.
 use Rattle.std.proofs.Common.{List, Option, [], ap, append-nil, arith, codes, option_and_then, refl}
-use Rattle.std.proofs.Common.{suc, zero, ℕ, ◌++◌, ◌<◌, ◌∷◌, ◌≡◌}
+use Rattle.std.proofs.Common.{suc, zero, ℕ, ◌++◌, ◌∷◌, ◌≡◌}
 use Rattle.serde_json.specs.Data.{Data}
-use Rattle.am_files.specs.ConfigFaults.{ConfigField, PairsPlace, ReceiverField, RoutePlace}
+use Rattle.am_files.specs.ConfigFaults.{ConfigField, PairsPlace, ReceiverField, RouteField}
+use Rattle.am_files.specs.ConfigFaults.{RoutePlace}
 use Rattle.am_files.specs.ConfigFaults.{RuleField, RulePlace, TextsPlace, config_field_path}
 use Rattle.am_files.specs.ConfigFaults.{config_path, config_receivers, config_route}
 use Rattle.am_files.specs.ConfigFaults.{config_route_at, config_rules, one_pair, one_text}
@@ -20,10 +21,9 @@ use Rattle.am_json.specs.Places.{ArrayPlace, OnlyPlace, array_itself, array_path
 use Rattle.am_json.specs.Places.{in_field, items_in_field, items_path, object_itself, object_path}
 use Rattle.am_json.specs.Places.{only_path, other_field, rank_of}
 use Rattle.am_json.proofs.ObjectLemmas.{array_tells, items_tell, object_tells, only_tells}
-use Rattle.am_json.proofs.PlaceLemmas.{RanksTell}
-use Rattle.am_json.proofs.PlaceOrder.{lead}
+use Rattle.am_json.proofs.PlaceLemmas.{IsBetween, RanksTell}
 use Rattle.am_files.proofs.RouteParts.{TreePlace}
-use Rattle.am_files.proofs.RuleFaultLemmas.{in_rule}
+use Rattle.am_files.proofs.RuleFaultLemmas.{rule_number}
 
 -- ---- Fields with matchers.
 
@@ -37,11 +37,7 @@ texts_at _ = texts_given
 
 texts_tell : (place : TextsPlace) → texts_at (rank_of (texts_path place)) ≡ place
 texts_tell texts_itself = refl
-texts_tell (one_text i) = refl
-texts_tell (text_alone i) = refl
-texts_tell (text_pattern i j) = refl
-texts_tell (text_total i) = refl
-texts_tell texts_given = refl
+texts_tell place = refl
 
 abbrev pairs_at : List ℕ → PairsPlace
 pairs_at [] = pairs_itself
@@ -52,48 +48,43 @@ pairs_at _ = pairs_given
 pairs_tell : (pairs : List (List ℕ × Data)) (place : PairsPlace)
     → pairs_at (rank_of (pairs_path pairs place)) ≡ place
 pairs_tell pairs pairs_itself = refl
-pairs_tell pairs (one_pair j) = refl
-pairs_tell pairs (pair_total j) = refl
-pairs_tell pairs pairs_given = refl
+pairs_tell pairs place = refl
 
 -- ---- Routes.
 
 abbrev child_of : ℕ → TreePlace → TreePlace
 child_of i place = (i ∷ place.0, place.1)
 
+-- a place in a field of the route itself
+abbrev here : RouteField → TreePlace
+here place = ([], in_field place)
+
+-- the pairs of a field of the value, if there is one
+abbrev pairs_in : List ℕ → Option Data → List (List ℕ × Data)
+pairs_in key found = field_pairs (option_and_then (field key) found)
+
 abbrev tree_at : List ℕ → TreePlace
 tree_at [] = ([], object_itself)
 tree_at (zero ∷ key) = ([], other_field key)
-tree_at (suc zero ∷ rank) = ([], in_field route_receiver)
-tree_at (suc (suc zero) ∷ rank) = ([], in_field (route_matchers (texts_at rank)))
-tree_at (suc (suc (suc zero)) ∷ rank) = ([], in_field (route_match (pairs_at rank)))
-tree_at (suc (suc (suc (suc zero))) ∷ rank) = ([], in_field (route_match_re (pairs_at rank)))
-tree_at (suc (suc (suc (suc (suc zero)))) ∷ rank) = ([], in_field route_continue)
-tree_at (suc (suc (suc (suc (suc (suc n))))) ∷ []) = ([], in_field route_routes)
+tree_at (suc zero ∷ rank) = here route_receiver
+tree_at (suc (suc zero) ∷ rank) = here (route_matchers (texts_at rank))
+tree_at (suc (suc (suc zero)) ∷ rank) = here (route_match (pairs_at rank))
+tree_at (suc (suc (suc (suc zero))) ∷ rank) = here (route_match_re (pairs_at rank))
+tree_at (suc (suc (suc (suc (suc zero)))) ∷ rank) = here route_continue
+tree_at (suc (suc (suc (suc (suc (suc n))))) ∷ []) = here route_routes
 tree_at (suc (suc (suc (suc (suc (suc n))))) ∷ i ∷ rank) = child_of i (tree_at rank)
 
 tree_tells : (found : Option Data) (way : List ℕ) (place : RoutePlace)
     → tree_at (rank_of (way_path way ++ object_path (route_field_path found) place)) ≡ (way, place)
-tree_tells found [] object_itself = refl
-tree_tells found [] (other_field key) = λ i. ([], other_field (append-nil key i))
-tree_tells found [] (in_field route_receiver) = refl
-tree_tells found [] (in_field (route_matchers place)) =
-    λ i. ([], in_field (route_matchers (texts_tell place i)))
-tree_tells found [] (in_field (route_match place)) =
-    λ i. (
-      [],
-      in_field (route_match
-          (pairs_tell (field_pairs (option_and_then (field (codes "match")) found)) place i)),
-    )
-tree_tells found [] (in_field (route_match_re place)) =
-    λ i. (
-      [],
-      in_field (route_match_re
-          (pairs_tell (field_pairs (option_and_then (field (codes "match_re")) found)) place i)),
-    )
-tree_tells found [] (in_field route_continue) = refl
-tree_tells found [] (in_field route_routes) = refl
 tree_tells found (i ∷ way) place = ap (child_of i) (tree_tells found way place)
+tree_tells found [] (other_field key) = λ i. ([], other_field (append-nil key i))
+tree_tells found [] (in_field (route_matchers place)) =
+    λ i. here (route_matchers (texts_tell place i))
+tree_tells found [] (in_field (route_match place)) =
+    λ i. here (route_match (pairs_tell (pairs_in (codes "match") found) place i))
+tree_tells found [] (in_field (route_match_re place)) =
+    λ i. here (route_match_re (pairs_tell (pairs_in (codes "match_re") found) place i))
+tree_tells found [] place = refl
 
 -- ---- Receivers.
 
@@ -102,12 +93,13 @@ receiver_tells = (λ _. receiver_name, is) where
   is : (place : ReceiverField) → receiver_name ≡ place
   is receiver_name = refl
 
-in_receiver : (place : ReceiverField) → 1 < lead (rank_of (receiver_field_path place))
-in_receiver receiver_name = omega arith
+pub receiver_number : (place : ReceiverField) → IsBetween 1 3 (receiver_field_path place)
+receiver_number receiver_name = (omega arith, omega arith)
 
 receivers_tell : RanksTell (array_path receiver_path)
-receivers_tell = array_tells receiver_path (object_tells receiver_field_path in_receiver
-    receiver_tells)
+receivers_tell =
+    array_tells receiver_path
+    (object_tells receiver_field_path (λ place. (receiver_number place).0) receiver_tells)
 
 -- ---- Inhibition rules.
 
@@ -127,10 +119,6 @@ rule_field_at names_at (suc (suc (suc (suc (suc (suc zero))))) ∷ rank) =
 rule_field_at names_at (suc (suc (suc (suc (suc (suc (suc n)))))) ∷ rank) =
     rule_equal (names_at rank)
 rule_field_at names_at _ = rule_equal array_itself
-
--- the pairs of a field of the value, if there is one
-abbrev pairs_in : List ℕ → Option Data → List (List ℕ × Data)
-pairs_in key found = field_pairs (option_and_then (field key) found)
 
 module _ (found : Option Data) where
   rule_field_tells : (place : RuleField)
@@ -155,7 +143,7 @@ module _ (found : Option Data) where
 
   rule_tells : RanksTell (rule_path found)
   rule_tells =
-      object_tells (rule_field_path found) (in_rule found)
+      object_tells (rule_field_path found) (λ place. (rule_number found place).0)
       (rule_field_at names_tell.0, rule_field_tells)
 
 rules_tell : (items : List Data) → RanksTell (items_path rule_path items)
@@ -184,12 +172,11 @@ module _ (d : Data) where
       (tree_tells (config_route_at d way) way place)
   field_tells (config_rules inner) = ap config_rules (rules_told.1 inner)
 
-  in_config : (place : ConfigField) → 1 < lead (rank_of (config_field_path d place))
-  in_config (config_receivers inner) = omega arith
-  in_config (config_route way place) = omega arith
-  in_config (config_rules inner) = omega arith
+  pub config_number : (place : ConfigField) → IsBetween 1 5 (config_field_path d place)
+  config_number (config_receivers inner) = (omega arith, omega arith)
+  config_number place = (omega arith, omega arith)
 
   pub config_tells : RanksTell (config_path d)
   config_tells =
-      object_tells (config_field_path d) in_config
+      object_tells (config_field_path d) (λ place. (config_number place).0)
       (config_field_at receivers_tell.0 rules_told.0, field_tells)

@@ -3,7 +3,7 @@
 use Rattle.std.proofs.Common.{◌≡◌, ℕ, zero, suc, ◌+◌, ◌≤◌, List, [], ◌∷◌, ◌++◌, true, false, Option}
 use Rattle.std.proofs.Common.{Some, None, Ok, refl, sym, ap, subst, ◌∙◌, append_assoc, append-nil, arith}
 use Rattle.std.specs.Prelude.{codes, is_none}
-use Rattle.serde_json.specs.Data.{Data, null, boolean, number, string, array, object, Members}
+use Rattle.serde_json.specs.Data.{Data}
 use Rattle.am_files.specs.declared.limits.TheConstants.{MAX_ROUTES, MAX_LEVELS}
 use Rattle.am_json.specs.Json.{field, HasOnlyFields}
 use Rattle.am_json.specs.Pointer.{to_field}
@@ -19,7 +19,7 @@ use Rattle.am_files.specs.ConfigReading.{RouteFields, read_receivers, read_route
 use Rattle.am_files.specs.ConfigReading.{read_next_child, read_rules, read_config}
 use Rattle.am_json.proofs.Readings.{bind_ok, within_ok, ok_or_some, same_read, check_count_fits}
 use Rattle.am_json.proofs.Readings.{Decides}
-use Rattle.am_json.proofs.Fields.{only_fields_read, boolean_or_says, boolean_or_reads}
+use Rattle.am_json.proofs.Fields.{only_fields_read, boolean_or_says, boolean_or_reads, object_of}
 use Rattle.am_json.proofs.Items.{item_first}
 use Rattle.am_files.proofs.Routing.{are_read, count_push}
 use Rattle.am_files.proofs.Sound.{is_read, no_level, root_unmatched, route_sound}
@@ -222,19 +222,10 @@ config_says d c h =
     } in
     subst (λ (x : Configuration). SaysConfig d x) is all
 
-has_members : (d value : Data) (key : List ℕ) → field key d ≡ Some value
-    → (ms : Members) × ((as_object d).result ≡ Ok ms)
-has_members null value key h = absurd cc
-has_members (boolean b) value key h = absurd cc
-has_members (number n) value key h = absurd cc
-has_members (string s) value key h = absurd cc
-has_members (array ds) value key h = absurd cc
-has_members (object ms) value key h = (ms, refl)
-
 config_reads : (d : Data) (c : Configuration) → SaysConfig d c → (read_config d).result ≡ Ok c
 unfolding read_config
 config_reads d c said =
-    let members = has_members d said.root (codes "route") said.has_root in
+    let members = object_of (codes "route") d said.root said.has_root in
     let names =
     names_read d c.receivers
     (record {

@@ -27,15 +27,17 @@ use Rattle.am_json.specs.Places.{shape_or, turn}
 use Rattle.am_json.specs.Pointer.{refusal_here, to_field, to_item}
 use Rattle.am_json.specs.Reading.{Reading, accept, accept_some, check_count, reading_within}
 use Rattle.am_json.specs.Reading.{refuse_for, ◌>>=◌}
-use Rattle.am_records.proofs.PatternFaultLemmas.{patterns_form, patterns_judge}
+use Rattle.am_records.proofs.PatternFaultLemmas.{next_pattern, patterns_form, patterns_judge}
 use Rattle.am_records.proofs.TextFaultLemmas.{spelled, spelled_judges, spelled_says}
-use Rattle.am_json.proofs.PlaceLemmas.{Clear, Form, IsPart, Judges, itself_refused, judges_plain}
-use Rattle.am_json.proofs.PlaceLemmas.{one_place, part_judges, refuse_judges}
+use Rattle.am_json.proofs.PlaceLemmas.{Clear, Form, IsBetween, IsPart, Judges, all_accepted}
+use Rattle.am_json.proofs.PlaceLemmas.{itself_refused, judges_plain, none_yet, one_place}
+use Rattle.am_json.proofs.PlaceLemmas.{part_judges, refuse_judges}
 use Rattle.am_json.proofs.PlaceOrder.{lead}
 use Rattle.am_json.proofs.Readings.{bind_ok, same_read, within_ok}
 use Rattle.am_json.proofs.SameReadings.{then_assoc, within_nothing}
 use Rattle.am_json.proofs.SequenceLemmas.{Loop, Sequence, all_judge, all_read, enumerate_loop}
-use Rattle.am_json.proofs.SequenceLemmas.{next_form, pattern_of_next, sequence_form}
+use Rattle.am_json.proofs.SequenceLemmas.{next_form, no_next_pattern, pattern_of_next}
+use Rattle.am_json.proofs.SequenceLemmas.{sequence_form}
 use Rattle.am_records.specs.MatcherTexts.{item_matchers, spelling_fault, read_matcher_text}
 
 -- ---- One text.
@@ -170,13 +172,9 @@ module _ (front : List Data) (d : Data) where
       (length (flat_map item_matchers front) + length (item_matchers d)))) (λ _. self_total)
   total_part = record { rank = refl; seen = λ _. refl; covers = total_covers }
 
-  none_yet : Clear text_form 1
-  none_yet self_text lt = absurd (omega (arith, lt))
-  none_yet place lt = absurd (omega (arith, lt))
-
-  text_clear : Clear text_form 5 → (place : OneText) → one_text_fault front d place ≡ None
-  text_clear clear self_text = clear self_text (omega arith)
-  text_clear clear place = clear place (omega arith)
+  text_number : (place : OneText) → IsBetween 0 5 (one_text_path (length front) place)
+  text_number self_text = (omega arith, omega arith)
+  text_number place = (omega arith, omega arith)
 
   -- behind its list
   list_judges : Clear text_form 2
@@ -185,35 +183,27 @@ module _ (front : List Data) (d : Data) where
   list_judges clear =
       let ms = item_matchers d in
       let a = flat_map item_matchers front in
-      part_judges text_form 1 (turn 1) (one_place (limit_fault MAX_MATCHERS (length ms)))
-      (λ _. self_alone) alone_part clear
-      (check_count MAX_MATCHERS (length ms))
+      part_judges text_form alone_part clear (check_count MAX_MATCHERS (length ms))
       (λ _. reading_within (to_item (length front)) (check_patterns ms)
       >>= λ _. reading_within [] (check_count MAX_MATCHERS (length a + length ms))
       >>= λ _. accept (a ++ ms))
       (refuse_judges (limit_fault MAX_MATCHERS (length ms)))
       (λ _ _ clear_patterns.
-      part_judges text_form 2 (array_item 2 (length front)) (patterns_form ms) self_pattern
-      pattern_part clear_patterns
-      (check_patterns ms)
+      part_judges text_form pattern_part clear_patterns (check_patterns ms)
       (λ _. reading_within [] (check_count MAX_MATCHERS (length a + length ms))
       >>= λ _. accept (a ++ ms))
       (patterns_judge ms)
       (λ _ _ clear_total.
-      part_judges text_form 3 (turn 3)
-      (one_place (limit_fault MAX_MATCHERS (length a + length ms))) (λ _. self_total)
-      total_part clear_total
+      part_judges text_form total_part clear_total
       (check_count MAX_MATCHERS (length a + length ms)) (λ _. accept (a ++ ms))
       (refuse_judges (limit_fault MAX_MATCHERS (length a + length ms)))
-      (λ _ _ clear_all. judges_plain text_form (Ok (a ++ ms)) (text_clear clear_all))))
+      (λ _ _ clear_all. all_accepted text_form 0 5 text_number (a ++ ms) clear_all)))
 
   text_judged : Judges text_form
       (read_next_matcher_text (flat_map item_matchers front) (length front, d))
   text_judged =
       rw (text_steps (length front) (flat_map item_matchers front) d)
-      (part_judges text_form 0 (array_item 0 (length front))
-      (one_place (shape_or spelling_fault (find.as_str d))) (λ _. self_text) self_part
-      none_yet
+      (part_judges text_form self_part (none_yet text_form 0 5 text_number)
       (spelled (find.as_str d)) (behind_spelled (length front) (flat_map item_matchers front))
       (spelled_judges d)
       (λ ms is clear.
@@ -296,34 +286,19 @@ module _ (is_root : Bool) (items : List Data) where
   abbrev whole_texts : Form TextsPlace
   whole_texts = texts_form is_root None items
 
-  -- a place that looks at no pattern
-  no_pattern_at : (place : OneText) (found : Option Data)
-      → ((d : Data) → one_text_pattern d place ≡ false)
-      → false ≡ pattern_of_next texts_sequence found place
-  no_pattern_at place None none = refl
-  no_pattern_at place (Some d) none = sym (none d)
-
-  pattern_at : (j : ℕ) (found : Option Data)
-      → is_profile_pattern (option_and_then (λ d. slice_get (item_matchers d) j) found)
-      ≡ pattern_of_next texts_sequence found (self_pattern j)
-  pattern_at j None = refl
-  pattern_at j (Some d) = refl
-
   texts_pattern : (place : ℕ × OneText)
       → is_profile_pattern (texts_matcher items (into_texts place))
       ≡ pattern_of_next texts_sequence (slice_get items place.0) place.1
-  texts_pattern (i, self_text) = no_pattern_at self_text (slice_get items i) (λ d. refl)
-  texts_pattern (i, self_alone) = no_pattern_at self_alone (slice_get items i) (λ d. refl)
-  texts_pattern (i, self_pattern j) = pattern_at j (slice_get items i)
-  texts_pattern (i, self_total) = no_pattern_at self_total (slice_get items i) (λ d. refl)
+  texts_pattern (i, self_pattern j) =
+      next_pattern texts_sequence (self_pattern j) (λ d. slice_get (item_matchers d) j) (λ _. refl)
+      (slice_get items i)
+  texts_pattern (i, place) = no_next_pattern texts_sequence place (λ _. refl) (slice_get items i)
 
   texts_path_is : (place : ℕ × OneText)
       → texts_path (into_texts place)
       ≡ turn 0 ∷ (turn place.0 ∷ one_text_path place.0 place.1)
   texts_path_is (i, self_text) = refl
-  texts_path_is (i, self_alone) = refl
-  texts_path_is (i, self_pattern j) = refl
-  texts_path_is (i, self_total) = refl
+  texts_path_is (i, place) = refl
 
   pattern_fault_at : (i j : ℕ) (found : Option Data)
       → if_there one_pattern_fault (option_and_then (λ d. slice_get (item_matchers d) j) found)
@@ -334,10 +309,8 @@ module _ (is_root : Bool) (items : List Data) where
   texts_fault_is : (place : ℕ × OneText)
       → texts_fault is_root None items (into_texts place)
       ≡ (sequence_form texts_sequence items).fault_at place
-  texts_fault_is (i, self_text) = refl
-  texts_fault_is (i, self_alone) = refl
   texts_fault_is (i, self_pattern j) = pattern_fault_at i j (slice_get items i)
-  texts_fault_is (i, self_total) = refl
+  texts_fault_is (i, place) = refl
 
   items_cover : (place : TextsPlace) → lead (rank_of (texts_path place)) ≡ 1
       → (inner : ℕ × OneText) × (place ≡ into_texts inner)
@@ -385,9 +358,7 @@ module _ (is_root : Bool) (items : List Data) where
   root_judged clear ms same =
       subst (λ (list : List Condition). Judges whole_texts (refuse_root_matchers is_root list)) same
       (subst (Judges whole_texts) (root_check (flat_map item_matchers items))
-      (part_judges whole_texts 1 (turn 1)
-      (one_place (given_fault is_root (flat_map item_matchers items))) (λ _. texts_given)
-      given_part clear
+      (part_judges whole_texts given_part clear
       (refuse_for (given_fault is_root (flat_map item_matchers items)))
       (λ _. accept (flat_map item_matchers items))
       (refuse_judges (given_fault is_root (flat_map item_matchers items)))
@@ -398,9 +369,8 @@ module _ (is_root : Bool) (items : List Data) where
   array_judged =
       subst (λ (m : Reading (List Condition)). Judges whole_texts
       (m >>= refuse_root_matchers is_root)) (within_nothing (read_matcher_texts items))
-      (part_judges whole_texts 0 (turn 0) (sequence_form texts_sequence items) into_texts
-      items_part array_clear
-      (read_matcher_texts items) (refuse_root_matchers is_root) (texts_judged items)
+      (part_judges whole_texts items_part array_clear (read_matcher_texts items)
+      (refuse_root_matchers is_root) (texts_judged items)
       (λ ms ok clear. root_judged clear ms (texts_spelled items ms ok)))
 
 -- what is read of a field of texts, from the field
@@ -415,12 +385,8 @@ texts_within is_root key (Some d) = refl
 
 absent_clear : (is_root : Bool) (place : TextsPlace) → texts_fault is_root None [] place ≡ None
 absent_clear is_root texts_itself = refl
-absent_clear is_root (one_text i) = refl
-absent_clear is_root (text_alone i) = refl
-absent_clear is_root (text_pattern i j) = refl
-absent_clear is_root (text_total i) = refl
 absent_clear true texts_given = refl
-absent_clear false texts_given = refl
+absent_clear is_root place = refl
 
 shaped_judged : (is_root : Bool) (found : Option (List Data))
     → Judges (texts_form is_root (shape_or (λ _. None) found) (unwrap_or found []))

@@ -1,6 +1,6 @@
 -- The first fault of pairs of a name and a text, by their places.
 use Rattle.std.proofs.Common.{Bool, List, None, Ok, Option, Some, [], add-zero, ap}
-use Rattle.std.proofs.Common.{arith, false, length, length-append, option_and_then, option_map}
+use Rattle.std.proofs.Common.{arith, false, length, length-append, option_map}
 use Rattle.std.proofs.Common.{refl, slice_get, subst, sym, take, true, unwrap_or, ℕ}
 use Rattle.std.proofs.Common.{◌++◌, ◌+◌, ◌∙◌, ◌∷◌, ◌≡◌}
 use Rattle.std.specs.Prelude.{⊤}
@@ -31,15 +31,15 @@ use Rattle.am_json.specs.Reading.{Reading, accept, accept_some}
 use Rattle.am_json.specs.Reading.{check_count, read_each, reading_within}
 use Rattle.am_json.specs.Reading.{refuse_for, ◌>>=◌}
 use Rattle.am_files.proofs.MatcherFaultLemmas.{root_gives}
-use Rattle.am_records.proofs.PatternFaultLemmas.{matcher_judged}
-use Rattle.am_json.proofs.PlaceLemmas.{Clear, Form, IsPart, Judges, itself_refused}
-use Rattle.am_json.proofs.PlaceLemmas.{judges_plain, one_place, one_refused, part_judges}
-use Rattle.am_json.proofs.PlaceLemmas.{refuse_judges, said, said_of}
+use Rattle.am_records.proofs.PatternFaultLemmas.{matcher_judged, next_pattern}
+use Rattle.am_json.proofs.PlaceLemmas.{Clear, Form, IsBetween, IsPart, Judges, all_accepted}
+use Rattle.am_json.proofs.PlaceLemmas.{itself_refused, judges_plain, none_yet, one_place}
+use Rattle.am_json.proofs.PlaceLemmas.{one_refused, part_judges, refuse_judges, said, said_of}
 use Rattle.am_json.proofs.PlaceOrder.{lead}
 use Rattle.am_json.proofs.Readings.{bind_ok, same_read}
 use Rattle.am_json.proofs.SameReadings.{within_nothing}
 use Rattle.am_json.proofs.SequenceLemmas.{Sequence, all_judge, all_read, each_loop, next_form}
-use Rattle.am_json.proofs.SequenceLemmas.{pair_name_at, pattern_of_next, sequence_form}
+use Rattle.am_json.proofs.SequenceLemmas.{no_next_pattern, pair_name_at, sequence_form}
 
 -- ---- One pair.
 
@@ -111,11 +111,6 @@ module _ (op : Op) (before : ℕ) (pairs : List (List ℕ × Data)) where
     named : pair_name pairs (length front) ≡ name
     named = pair_name_at pairs front (name, d) back e
 
-    self_covers : (place : OnePair) → lead (rank_of (one_pair_path (length front) place)) ≡ 1
-        → ⊤ × (place ≡ pair_self)
-    self_covers pair_self h = (tt, refl)
-    self_covers pair_sum h = absurd (omega (arith, h))
-
     sum_covers : (place : OnePair) → lead (rank_of (one_pair_path (length front) place)) ≡ 2
         → ⊤ × (place ≡ pair_sum)
     sum_covers pair_self h = absurd (omega (arith, h))
@@ -130,31 +125,25 @@ module _ (op : Op) (before : ℕ) (pairs : List (List ℕ × Data)) where
         pair_fault op (name, d),
         is_profile_pattern (pair_matcher op (name, d)),
       );
-      covers = self_covers;
+      covers = elim [ pair_self ↦ λ h. (tt, refl) | _ ↦ λ h. absurd (omega (arith, h)) ];
     }
 
     sum_part : IsPart next_pair_form 1 (turn 1)
         (one_place (limit_fault MAX_MATCHERS (before + (length front + 1)))) (λ _. pair_sum)
     sum_part = record { rank = refl; seen = λ _. refl; covers = sum_covers }
 
-    none_yet : Clear next_pair_form 1
-    none_yet pair_self lt = absurd (omega (arith, lt))
-    none_yet pair_sum lt = absurd (omega (arith, lt))
-
-    pair_clear : Clear next_pair_form 3 → (place : OnePair)
-        → one_pair_fault front (name, d) place ≡ None
-    pair_clear clear pair_self = clear pair_self (omega arith)
-    pair_clear clear pair_sum = clear pair_sum (omega arith)
+    pair_number : (place : OnePair) → IsBetween 0 3 (one_pair_path (length front) place)
+    pair_number pair_self = (omega arith, omega arith)
+    pair_number pair_sum = (omega arith, omega arith)
 
     sum_judged : (a : List Condition) (m : Condition) → length a ≡ before + length front
         → Clear next_pair_form 2 → Judges next_pair_form (append_matchers a (m ∷ []))
     sum_judged a m long clear =
         let count : before + (length front + 1) ≡ length a + 1 = omega (arith, long) in
         let cause = limit_fault MAX_MATCHERS (before + (length front + 1)) in
-        let judged = part_judges next_pair_form 1 (turn 1) (one_place cause) (λ _. pair_sum)
-        sum_part clear
-        (refuse_for cause) (λ _. accept (a ++ m ∷ [])) (refuse_judges cause)
-        (λ _ _ all. judges_plain next_pair_form (Ok (a ++ m ∷ [])) (pair_clear all)) in
+        let judged = part_judges next_pair_form sum_part clear (refuse_for cause)
+        (λ _. accept (a ++ m ∷ [])) (refuse_judges cause)
+        (λ _ _ all. all_accepted next_pair_form 0 3 pair_number (a ++ m ∷ []) all) in
         let plain = subst (λ (c : Reading ⊤). Judges next_pair_form
         (c >>= λ _. accept (a ++ m ∷ []))) (within_nothing (refuse_for cause)) judged in
         subst (λ (n : ℕ). Judges next_pair_form
@@ -164,8 +153,7 @@ module _ (op : Op) (before : ℕ) (pairs : List (List ℕ × Data)) where
         → Judges next_pair_form (read_next_pair op a (name, d))
     unfolding read_next_pair
     next_judged a long =
-        part_judges next_pair_form 0 (known_member 0 name) (pair_form op (name, d)) (λ _. pair_self)
-        self_part none_yet
+        part_judges next_pair_form self_part (none_yet next_pair_form 0 3 pair_number)
         (read_matcher_pair op name d) (λ m. append_matchers a (m ∷ [])) (pair_judged op name d)
         (λ m _ clear. sum_judged a m long clear)
 
@@ -233,16 +221,6 @@ module _ (is_root : Bool) (op : Op) (before : ℕ) (pairs : List (List ℕ × Da
   abbrev in_pairs : Sequence (List ℕ × Data) OnePair
   in_pairs = pairs_sequence op before pairs
 
-  pattern_at : (found : Option (List ℕ × Data))
-      → is_profile_pattern (option_and_then (pair_matcher op) found)
-      ≡ pattern_of_next in_pairs found pair_self
-  pattern_at None = refl
-  pattern_at (Some pair) = refl
-
-  no_pattern_at : (found : Option (List ℕ × Data)) → false ≡ pattern_of_next in_pairs found pair_sum
-  no_pattern_at None = refl
-  no_pattern_at (Some pair) = refl
-
   pairs_seen : (place : ℕ × OnePair)
       → said_of whole_pairs (into_pairs place)
       ≡ said (turn 0 ∷ (sequence_form in_pairs pairs).path place)
@@ -251,13 +229,13 @@ module _ (is_root : Bool) (op : Op) (before : ℕ) (pairs : List (List ℕ × Da
   pairs_seen (j, pair_self) = λ i. (
     turn 0 ∷ turn j ∷ known_member 0 (pair_name pairs j) ∷ [],
     if_there (pair_fault op) (slice_get pairs j),
-    pattern_at (slice_get pairs j) i,
+    next_pattern in_pairs pair_self (pair_matcher op) (λ _. refl) (slice_get pairs j) i,
   )
   pairs_seen (j, pair_sum) = λ i. (
     turn 0 ∷ turn j ∷ turn 1 ∷ [],
     if_there (λ _. limit_fault MAX_MATCHERS (before + (length (take j pairs) + 1)))
         (slice_get pairs j),
-    no_pattern_at (slice_get pairs j) i,
+    no_next_pattern in_pairs pair_sum (λ _. refl) (slice_get pairs j) i,
   )
 
   pairs_cover : (place : PairsPlace) → lead (rank_of (pairs_path pairs place)) ≡ 1
@@ -323,14 +301,13 @@ module _ (is_root : Bool) (op : Op) (before : ℕ) (pairs : List (List ℕ × Da
       subst (λ (m : Reading (List Condition)). Judges all_pairs
       (m >>= refuse_root_matchers is_root))
       (within_nothing (read_each (read_next_pair op) a pairs))
-      (part_judges all_pairs 0 (turn 0) (sequence_form (in_pairs is_root op before pairs) pairs)
-      into_pairs (pairs_part is_root op before pairs) (object_clear is_root op before pairs)
+      (part_judges all_pairs (pairs_part is_root op before pairs)
+      (object_clear is_root op before pairs)
       (read_each (read_next_pair op) a pairs) (refuse_root_matchers is_root)
       (pairs_judged op before pairs a long)
       (λ ms ok clear.
       subst (Judges all_pairs) (root_check ms (pairs_counted op before pairs a ms long ok))
-      (part_judges all_pairs 1 (turn 1) (one_place (given_fault is_root pairs))
-      (λ _. pairs_given) (given_part is_root op before pairs) clear
+      (part_judges all_pairs (given_part is_root op before pairs) clear
       (refuse_for (given_fault is_root pairs)) (λ _. accept ms)
       (refuse_judges (given_fault is_root pairs))
       (λ _ _ all. judges_plain all_pairs (Ok ms)
@@ -351,10 +328,8 @@ pairs_within is_root op key a (Some d) = refl
 absent_clear : (is_root : Bool) (op : Op) (before : ℕ) (place : PairsPlace)
     → pairs_fault is_root op before None [] place ≡ None
 absent_clear is_root op before pairs_itself = refl
-absent_clear is_root op before (one_pair j) = refl
-absent_clear is_root op before (pair_total j) = refl
 absent_clear true op before pairs_given = refl
-absent_clear false op before pairs_given = refl
+absent_clear is_root op before place = refl
 
 abbrev listed_pairs : Option Members → List (List ℕ × Data)
 listed_pairs found = unwrap_or (option_map member_list found) []

@@ -7,28 +7,25 @@ use Rattle.std.proofs.lemmas.List.Sums.{sum_by_push}
 use Rattle.serde_json.specs.Data.{Data}
 use Rattle.am_universe.specs.declared.kind.Kind.TheVariants as kinds
 use Rattle.am_labels.specs.Matcher.{Condition}
-use Rattle.am_files.specs.ConfigFaults.{array_shape, child_values, receiver_fault, route_at}
-use Rattle.am_files.specs.ConfigFaults.{route_continue, route_field_path, route_receiver, routes_in}
-use Rattle.am_files.specs.ConfigFaults.{tree_fault, tree_matcher, way_path}
+use Rattle.am_files.specs.ConfigFaults.{array_shape, child_values, route_at, route_field_path}
+use Rattle.am_files.specs.ConfigFaults.{routes_in, tree_fault, tree_matcher, way_path}
 use Rattle.am_files.specs.ConfigFile.{RouteTree, route_count, route_fields, route_matcher_fields}
 use Rattle.am_files.specs.ConfigFile.{routes_count, routes_of}
 use Rattle.am_files.specs.ConfigReading.{effective_receiver, read_matchers, read_route}
 use Rattle.am_json.specs.Json.{field}
-use Rattle.am_json.specs.Places.{ArrayPlace, in_field, items_in_field, known_member, boolean_fault}
-use Rattle.am_json.specs.Places.{object_itself, object_path}
+use Rattle.am_json.specs.Places.{ArrayPlace, items_in_field, object_itself, object_path}
 use Rattle.am_json.specs.Pointer.{to_field}
 use Rattle.am_json.specs.Reading.{Reading, accept, check_count, check_only_fields, read_items}
 use Rattle.am_json.specs.Reading.{boolean_or, reading_within, ◌>>=◌}
 use Rattle.am_json.proofs.FieldLemmas.{boolean_judged}
 use Rattle.am_files.specs.declared.limits.TheConstants.{MAX_ROUTES}
 use Rattle.am_records.specs.MatcherFaults.{is_profile_pattern}
-use Rattle.am_json.proofs.PlaceLemmas.{Clear, Form, Judges, itself_refused, judges_plain, one_place}
+use Rattle.am_json.proofs.PlaceLemmas.{Clear, Form, Judges, itself_refused, judges_plain}
 use Rattle.am_json.proofs.PlaceLemmas.{part_judges}
 use Rattle.am_json.proofs.Readings.{bind_ok, same_read, within_ok}
-use Rattle.am_files.proofs.RouteParts.{TreePlace, children_sequence, continue_part, into_tree}
-use Rattle.am_files.proofs.RouteParts.{matchers_side, of_side, reached_judged, receiver_judged}
-use Rattle.am_files.proofs.RouteParts.{receiver_part, routes_part, routes_rules, tree_clear}
-use Rattle.am_files.proofs.RouteParts.{tree_form}
+use Rattle.am_files.proofs.RouteParts.{TreePlace, children_sequence, continue_part, matchers_side}
+use Rattle.am_files.proofs.RouteParts.{of_side, reached_judged, receiver_judged, receiver_part}
+use Rattle.am_files.proofs.RouteParts.{routes_part, tree_clear, tree_form}
 use Rattle.am_files.proofs.RouteSteps.{children_reading, made_route, read_child, route_children}
 use Rattle.am_files.proofs.RouteSteps.{route_continues, route_matchers_on, route_rest, route_steps}
 use Rattle.am_files.proofs.Routing.{count_push}
@@ -142,9 +139,7 @@ module _ (names : List (List ℕ)) (left : ℕ) (sound : Sound names left) (pare
   routes_judged : (receiver : ℕ) (matchers : List Condition) (continues : Bool) → Clear one_more 7
       → Judges one_more (route_children names left parent before d receiver matchers continues)
   routes_judged receiver matchers continues clear =
-      part_judges one_more 6 (known_member 6 (codes "routes"))
-      (routes_rules names is_root left before d) into_tree
-      (routes_part names is_root left before d) clear
+      part_judges one_more (routes_part names is_root left before d) clear
       (children_reading names left receiver before (field (codes "routes") d))
       (λ children. accept (made_route receiver matchers continues children))
       (field_children names left sound receiver before d (field (codes "routes") d) refl)
@@ -155,10 +150,7 @@ module _ (names : List (List ℕ)) (left : ℕ) (sound : Sound names left) (pare
   continues_judged : (receiver : ℕ) (matchers : List Condition) → Clear one_more 6
       → Judges one_more (route_continues names left parent before d receiver matchers)
   continues_judged receiver matchers clear =
-      part_judges one_more 5 (known_member 5 (codes "continue"))
-      (one_place (boolean_fault (field (codes "continue") d)))
-      (λ _. ([], in_field route_continue))
-      (continue_part names is_root left before d) clear
+      part_judges one_more (continue_part names is_root left before d) clear
       (boolean_or false (field (codes "continue") d))
       (route_children names left parent before d receiver matchers)
       (boolean_judged false (field (codes "continue") d))
@@ -174,9 +166,7 @@ module _ (names : List (List ℕ)) (left : ℕ) (sound : Sound names left) (pare
 
   rest_judged : Clear one_more 2 → Judges one_more (route_rest names left parent before d)
   rest_judged clear =
-      part_judges one_more 1 (known_member 1 (codes "receiver"))
-      (one_place (receiver_fault names is_root (field (codes "receiver") d)))
-      (λ _. ([], in_field route_receiver)) (receiver_part names is_root left before d) clear
+      part_judges one_more (receiver_part names is_root left before d) clear
       (effective_receiver names parent (field (codes "receiver") d))
       (route_matchers_on names left parent before d)
       (receiver_judged names parent (field (codes "receiver") d))

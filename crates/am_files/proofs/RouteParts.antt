@@ -130,11 +130,7 @@ module _ (names : List (List ℕ)) (is_root : Bool) (left before : ℕ) (d : Dat
 
   pub matchers_side : IsSide 2 is_root route_matcher_fields d whole of_side
   matchers_side = record {
-    seen = elim [
-      | side_texts place ↦ refl
-      | side_equalities place ↦ refl
-      | side_patterns place ↦ refl
-    ];
+    seen = elim [ side_texts place ↦ refl | _ ↦ refl ];
     covers = matchers_cover;
   }
 
@@ -150,12 +146,10 @@ module _ (names : List (List ℕ)) (is_root : Bool) (left before : ℕ) (d : Dat
       → slice_get (child_values d) i ≡ found
       → is_profile_pattern (tree_matcher d (i ∷ way) place)
       ≡ pattern_of_next (children_sequence names left before d) found (way, place)
-  pattern_at way object_itself i None e = refl
-  pattern_at way (other_field key) i None e = refl
   pattern_at way (in_field place) i None e = rw e refl
-  pattern_at way object_itself i (Some child) e = refl
-  pattern_at way (other_field key) i (Some child) e = refl
   pattern_at way (in_field place) i (Some child) e = rw e refl
+  pattern_at way place i None e = refl
+  pattern_at way place i (Some child) e = refl
 
   routes_seen : (place : ArrayPlace TreePlace)
       → said_of whole (into_tree place)

@@ -1,6 +1,6 @@
 -- The first fault of inhibition rules, by their places.
-use Rattle.std.proofs.Common.{Bool, List, None, Ok, Option, Some, [], ap, arith, codes, false}
-use Rattle.std.proofs.Common.{length, option_and_then, refl, ℕ, ◌+◌, ◌<◌, ◌∷◌, ◌≡◌, ◌≤◌}
+use Rattle.std.proofs.Common.{Bool, List, Option, Some, [], ap, arith, codes, false, length}
+use Rattle.std.proofs.Common.{refl, ℕ, ◌+◌, ◌<◌, ◌∷◌, ◌≡◌, ◌≤◌}
 use Rattle.std.specs.Prelude.{⊤}
 use Rattle.serde_json.specs.Data.{Data}
 use Rattle.serde_json.specs.Find as find
@@ -9,8 +9,7 @@ use Rattle.am_labels.specs.Matcher.{Condition}
 use Rattle.am_files.specs.ConfigFaults.{RuleField, RulePlace, SidePlace, equal_name_fault}
 use Rattle.am_files.specs.ConfigFaults.{rule_equal, rule_fault_at}
 use Rattle.am_files.specs.ConfigFaults.{rule_field_fault, rule_field_path, rule_matcher, rule_path}
-use Rattle.am_files.specs.ConfigFaults.{rule_source, rule_target, side_equalities, side_path}
-use Rattle.am_files.specs.ConfigFaults.{side_patterns, side_texts}
+use Rattle.am_files.specs.ConfigFaults.{rule_source, rule_target, side_path, side_texts}
 use Rattle.am_files.specs.ConfigFile.{MatcherFields, Rule, rule_fields, source_matcher_fields}
 use Rattle.am_files.specs.ConfigFile.{target_matcher_fields}
 use Rattle.am_files.specs.ConfigReading.{read_equal, read_equal_name}
@@ -20,20 +19,19 @@ use Rattle.am_files.specs.ConfigReading.{read_rule_items, read_rules}
 use Rattle.am_json.specs.Json.{field}
 use Rattle.am_json.specs.Places.{ArrayPlace, OnlyPlace, Step, array_fault, array_itself, in_field}
 use Rattle.am_json.specs.Places.{in_item, items_in_field, items_path, known_member, limit_fault}
-use Rattle.am_json.specs.Places.{object_itself, only_path, other_field, rank_of}
+use Rattle.am_json.specs.Places.{object_itself, only_path, rank_of}
 use Rattle.am_json.specs.Pointer.{to_field}
 use Rattle.am_json.specs.Reading.{Reading, accept, read_items, reading_within, refuse_for, ◌>>=◌}
 use Rattle.am_files.specs.declared.limits.TheConstants.{MAX_EQUAL_NAMES, MAX_RULES}
 use Rattle.am_records.specs.MatcherFaults.{is_profile_pattern, label_name_fault}
 use Rattle.am_json.proofs.FieldLemmas.{items_sequence}
 use Rattle.am_json.proofs.ObjectLemmas.{closed_form, closed_judged}
-use Rattle.am_json.proofs.PlaceLemmas.{Clear, Form, IsPart, Judges, Said, cause_judges}
-use Rattle.am_json.proofs.PlaceLemmas.{judges_plain, one_place, part_judges, said, said_of}
-use Rattle.am_json.proofs.PlaceLemmas.{same_judged, shape_judged}
+use Rattle.am_json.proofs.PlaceLemmas.{Clear, Form, IsBetween, IsPart, Judges, Said}
+use Rattle.am_json.proofs.PlaceLemmas.{all_accepted, cause_judges, none_yet, one_place, part_judges}
+use Rattle.am_json.proofs.PlaceLemmas.{said, said_of, same_judged, shape_judged}
 use Rattle.am_json.proofs.PlaceOrder.{lead}
 use Rattle.am_json.proofs.SequenceLemmas.{Sequence, array_form, items_judged, no_item_pattern}
-use Rattle.am_json.proofs.SequenceLemmas.{pattern_of_next, valued_judged, valued_seen}
-use Rattle.am_json.proofs.SequenceLemmas.{valued_sequence}
+use Rattle.am_json.proofs.SequenceLemmas.{valued_judged, valued_seen, valued_sequence}
 use Rattle.am_json.proofs.OptionalArrays.{optional_array, optional_within}
 use Rattle.am_files.proofs.SideFaultLemmas.{IsSide, side_judges}
 use Rattle.am_json.specs.OptionalItems.{optional_array_fault, optional_items, read_optional_items}
@@ -75,28 +73,25 @@ equal_within d = optional_within (codes "equal") read_equal_names (field (codes 
 
 -- the numbers of the fields of one side, counted from 1, where so many fields come before them
 side_numbers : (before : ℕ) (fields : MatcherFields) (found : Option Data) (place : SidePlace)
-    → (before + 1 < lead (rank_of (side_path before fields found place)))
-    × (lead (rank_of (side_path before fields found place)) ≤ before + 4)
+    → IsBetween (before + 1) (before + 5) (side_path before fields found place)
 side_numbers before fields found (side_texts place) = (omega arith, omega arith)
-side_numbers before fields found (side_equalities place) = (omega arith, omega arith)
-side_numbers before fields found (side_patterns place) = (omega arith, omega arith)
+side_numbers before fields found place = (omega arith, omega arith)
 
 module _ (found : Option Data) where
   abbrev number_of : RuleField → ℕ
   number_of place = lead (rank_of (rule_field_path found place))
 
-  source_number : (inner : SidePlace)
-      → (1 < number_of (rule_source inner)) × (number_of (rule_source inner) ≤ 4)
+  source_number : (inner : SidePlace) → IsBetween 1 5 (rule_field_path found (rule_source inner))
   source_number inner = side_numbers 0 source_matcher_fields found inner
 
-  target_number : (inner : SidePlace)
-      → (4 < number_of (rule_target inner)) × (number_of (rule_target inner) ≤ 7)
+  target_number : (inner : SidePlace) → IsBetween 4 8 (rule_field_path found (rule_target inner))
   target_number inner = side_numbers 3 target_matcher_fields found inner
 
-  pub in_rule : (place : RuleField) → 1 < number_of place
-  in_rule (rule_source inner) = (source_number inner).0
-  in_rule (rule_target inner) = omega (arith, (target_number inner).0)
-  in_rule (rule_equal inner) = omega arith
+  pub rule_number : (place : RuleField) → IsBetween 1 9 (rule_field_path found place)
+  rule_number (rule_source inner) = ((source_number inner).0, omega (arith, (source_number inner).1))
+  rule_number (rule_target inner) =
+      (omega (arith, (target_number inner).0), omega (arith, (target_number inner).1))
+  rule_number (rule_equal inner) = (omega arith, omega arith)
 
 -- ---- A rule.
 
@@ -136,21 +131,13 @@ module _ (d : Data) where
 
   source_side : IsSide 1 false source_matcher_fields d fields_form rule_source
   source_side = record {
-    seen = elim [
-      | side_texts place ↦ refl
-      | side_equalities place ↦ refl
-      | side_patterns place ↦ refl
-    ];
+    seen = elim [ side_texts place ↦ refl | _ ↦ refl ];
     covers = source_covers;
   }
 
   target_side : IsSide 4 false target_matcher_fields d fields_form rule_target
   target_side = record {
-    seen = elim [
-      | side_texts place ↦ refl
-      | side_equalities place ↦ refl
-      | side_patterns place ↦ refl
-    ];
+    seen = elim [ side_texts place ↦ refl | _ ↦ refl ];
     covers = target_covers;
   }
 
@@ -169,16 +156,6 @@ module _ (d : Data) where
       rule_equal
   equal_part = record { rank = refl; seen = equal_seen; covers = equal_covers }
 
-  none_yet : Clear fields_form 2
-  none_yet place lt = absurd (omega (arith, lt, in_rule (Some d) place))
-
-  fields_clear : Clear fields_form 9 → (place : RuleField) → rule_field_fault d place ≡ None
-  fields_clear clear (rule_source inner) =
-      clear (rule_source inner) (omega (arith, (source_number (Some d) inner).1))
-  fields_clear clear (rule_target inner) =
-      clear (rule_target inner) (omega (arith, (target_number (Some d) inner).1))
-  fields_clear clear (rule_equal inner) = clear (rule_equal inner) (omega arith)
-
   abbrev made_rule : List Condition → List Condition → List (List ℕ) → Rule
   made_rule source target equal = record { source = source; target = target; equal = equal }
 
@@ -189,11 +166,10 @@ module _ (d : Data) where
       → Judges fields_form (equal_then source target)
   equal_judge source target clear =
       rw (equal_within d)
-      (part_judges fields_form 7 (known_member 7 (codes "equal")) (equal_form equal_field)
-      rule_equal equal_part clear (optional_items equal_field >>= read_equal_names)
+      (part_judges fields_form equal_part clear (optional_items equal_field >>= read_equal_names)
       (λ equal. accept (made_rule source target equal)) (equal_judged equal_field)
       (λ equal _ all.
-      judges_plain fields_form (Ok (made_rule source target equal)) (fields_clear all)))
+      all_accepted fields_form 1 9 (rule_number (Some d)) (made_rule source target equal) all))
 
   abbrev target_then : List Condition → Reading Rule
   target_then source = read_matchers target_matcher_fields false d >>= equal_then source
@@ -207,7 +183,7 @@ module _ (d : Data) where
       (λ source next.
       side_judges 4 false target_matcher_fields d fields_form rule_target target_side
       (equal_then source) (λ target last. equal_judge source target last) next)
-      none_yet
+      (none_yet fields_form 1 9 (rule_number (Some d)))
 
   abbrev rule_form : Form RulePlace
   rule_form = record {
@@ -216,19 +192,13 @@ module _ (d : Data) where
     has_pattern = λ place. is_profile_pattern (rule_matcher d place);
   }
 
-  same_in_rule : (place : RulePlace)
-      → said_of rule_form place
-      ≡ said_of (closed_form rule_fields (find.as_object d) fields_form) place
-  same_in_rule object_itself = refl
-  same_in_rule (other_field key) = refl
-  same_in_rule (in_field place) = refl
-
   rule_judged : Judges rule_form (read_rule d)
   unfolding read_rule
   rule_judged =
-      same_judged rule_form (closed_form rule_fields (find.as_object d) fields_form) same_in_rule
-      (read_rule d)
-      (closed_judged rule_fields fields_form (in_rule (Some d)) fields_reading fields_judge d)
+      same_judged rule_form (closed_form rule_fields (find.as_object d) fields_form)
+      (elim [ object_itself ↦ refl | _ ↦ refl ]) (read_rule d)
+      (closed_judged rule_fields fields_form (λ place. (rule_number (Some d) place).0)
+      fields_reading fields_judge d)
 
 -- ---- The rules of the file.
 
@@ -238,7 +208,7 @@ rule_fault_in before item at = rule_fault_at item at
 abbrev rule_pattern_in : Data → RulePlace → Bool
 rule_pattern_in item place = is_profile_pattern (rule_matcher item place)
 
-abbrev rules_sequence : List Data → Sequence Data RulePlace
+abbrev pub rules_sequence : List Data → Sequence Data RulePlace
 rules_sequence items = valued_sequence rule_path rule_fault_in rule_pattern_in items
 
 abbrev pub rules_form : Option Data → Form (ArrayPlace RulePlace)
@@ -262,13 +232,6 @@ pub rules_within : (d : Data)
 unfolding read_rules read_optional_items
 rules_within d =
     optional_within (codes "inhibit_rules") read_rule_items (field (codes "inhibit_rules") d)
-
--- the matcher of a rule, if there is one, has the pattern
-pub rule_pattern : (items : List Data) (item : Option Data) (place : RulePlace)
-    → is_profile_pattern (option_and_then (λ rule. rule_matcher rule place) item)
-    ≡ pattern_of_next (rules_sequence items) item place
-rule_pattern items None place = refl
-rule_pattern items (Some d) place = refl
 
 -- what is said of a place of the rules, behind the step to them
 pub rules_seen : (step : Step) (found : Option Data) (pattern : ArrayPlace RulePlace → Bool)

@@ -88,28 +88,19 @@ module _ (number : ℕ) (is_root : Bool) (fields : MatcherFields) (d : Data) whe
         → part_number form place ≡ suc number
         → (found : TextsPlace) × (place ≡ into (side_texts found))
     texts_among place (side_texts found) same e = (found, same)
-    texts_among place (side_equalities found) same e =
-        absurd (omega (arith, e, number_in place (side_equalities found) same))
-    texts_among place (side_patterns found) same e =
-        absurd (omega (arith, e, number_in place (side_patterns found) same))
+    texts_among place inner same e = absurd (omega (arith, e, number_in place inner same))
 
     equal_among : (place : F) (inner : SidePlace) → place ≡ into inner
         → part_number form place ≡ suc (suc number)
         → (found : PairsPlace) × (place ≡ into (side_equalities found))
-    equal_among place (side_texts found) same e =
-        absurd (omega (arith, e, number_in place (side_texts found) same))
     equal_among place (side_equalities found) same e = (found, same)
-    equal_among place (side_patterns found) same e =
-        absurd (omega (arith, e, number_in place (side_patterns found) same))
+    equal_among place inner same e = absurd (omega (arith, e, number_in place inner same))
 
     patterns_among : (place : F) (inner : SidePlace) → place ≡ into inner
         → part_number form place ≡ suc (suc (suc number))
         → (found : PairsPlace) × (place ≡ into (side_patterns found))
-    patterns_among place (side_texts found) same e =
-        absurd (omega (arith, e, number_in place (side_texts found) same))
-    patterns_among place (side_equalities found) same e =
-        absurd (omega (arith, e, number_in place (side_equalities found) same))
     patterns_among place (side_patterns found) same e = (found, same)
+    patterns_among place inner same e = absurd (omega (arith, e, number_in place inner same))
 
     texts_part : IsPart form number (known_member number fields.texts) texts_rules
         (λ inner. into (side_texts inner))
@@ -171,9 +162,7 @@ module _ (number : ℕ) (is_root : Bool) (fields : MatcherFields) (d : Data) whe
       patterns_judge : (equal : List Condition) → Given equal before_patterns
           → Clear form (suc (suc (suc number))) → Judges form (patterns_then equal)
       patterns_judge equal given clear =
-          part_judges form (suc (suc number)) (known_member (suc (suc number)) fields.patterns)
-          patterns_rules (λ inner. into (side_patterns inner)) patterns_part clear
-          (pairs_reading is_root Matches equal patterns_field) f
+          part_judges form patterns_part clear (pairs_reading is_root Matches equal patterns_field) f
           (pairs_field_judged is_root Matches before_patterns equal patterns_field
           (bare_count equal before_patterns given) given.0)
           (λ ms _ next. behind ms next)
@@ -181,9 +170,8 @@ module _ (number : ℕ) (is_root : Bool) (fields : MatcherFields) (d : Data) whe
       equal_judge : (texts : List Condition) → Given texts before_equal
           → Clear form (suc (suc number)) → Judges form (equal_then texts)
       equal_judge texts given clear =
-          part_judges form (suc number) (known_member (suc number) fields.equalities)
-          equal_rules (λ inner. into (side_equalities inner)) equal_part clear
-          (pairs_reading is_root Equal texts equal_field) patterns_then
+          part_judges form equal_part clear (pairs_reading is_root Equal texts equal_field)
+          patterns_then
           (pairs_field_judged is_root Equal before_equal texts equal_field
           (bare_count texts before_equal given) given.0)
           (λ equal ok next.
@@ -194,9 +182,8 @@ module _ (number : ℕ) (is_root : Bool) (fields : MatcherFields) (d : Data) whe
 
       texts_judge : Clear form (suc number) → Judges form texts_then
       texts_judge clear =
-          part_judges form number (known_member number fields.texts)
-          texts_rules (λ inner. into (side_texts inner)) texts_part clear
-          (texts_reading is_root texts_field) equal_then (texts_field_judged is_root texts_field)
+          part_judges form texts_part clear (texts_reading is_root texts_field) equal_then
+          (texts_field_judged is_root texts_field)
           (λ texts ok next.
           let gives = texts_field_gives is_root texts_field texts ok in
           equal_judge texts (sym (ap length gives.0), gives.1) next)

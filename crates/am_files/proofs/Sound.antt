@@ -15,10 +15,9 @@ use Rattle.am_universe.specs.declared.kind.Kind.TheVariants as kinds
 use Rattle.am_labels.specs.Matcher.{Condition}
 use Rattle.am_universe.specs.Text.{same_text}
 use Rattle.am_files.specs.declared.limits.TheConstants.{MAX_ROUTES, MAX_LEVELS}
-use Rattle.am_json.specs.Json.{field, member_list}
+use Rattle.am_json.specs.Json.{field}
 use Rattle.am_json.specs.Pointer.{refusal_here, to_field}
-use Rattle.am_json.specs.Reading.{reading_within, as_text, as_items, as_object, read_each}
-use Rattle.am_json.specs.Reading.{read_next_item, read_items}
+use Rattle.am_json.specs.Reading.{reading_within, as_text, read_each, read_next_item, read_items}
 use Rattle.am_files.specs.ConfigFile.{RouteSettings, RouteTree, route, Routes, no_routes, Rule}
 use Rattle.am_files.specs.ConfigFile.{IsConfig}
 use Rattle.am_files.specs.ConfigFile.{MatcherFields, route_matcher_fields, routes_of, matchers_of}
@@ -26,12 +25,12 @@ use Rattle.am_files.specs.ConfigFile.{route_count, routes_count, route_levels, r
 use Rattle.am_files.specs.ConfigFile.{has_receivers_below, have_receivers_below}
 use Rattle.am_files.specs.ConfigReading.{RouteFields, parent_receiver, receiver_position}
 use Rattle.am_files.specs.ConfigReading.{receiver_named, effective_receiver, read_receiver}
-use Rattle.am_files.specs.ConfigReading.{refuse_root_matchers, read_matcher_texts, read_next_pair}
-use Rattle.am_files.specs.ConfigReading.{read_texts, read_pairs, optional_texts, optional_pairs}
-use Rattle.am_files.specs.ConfigReading.{read_matchers, read_route_fields, read_route}
-use Rattle.am_files.specs.ConfigReading.{read_next_child}
+use Rattle.am_files.specs.ConfigReading.{optional_texts, optional_pairs, read_matchers}
+use Rattle.am_files.specs.ConfigReading.{read_route_fields, read_route, read_next_child}
 use Rattle.am_json.proofs.Readings.{bind_ok, within_ok, ok_or_some, same_read}
 use Rattle.am_json.proofs.Items.{item_first}
+use Rattle.am_files.proofs.MatcherFaultLemmas.{texts_field_gives, texts_reading}
+use Rattle.am_files.proofs.PairFaultLemmas.{pairs_field_gives, pairs_reading}
 use Rattle.am_files.proofs.Routing.{are_read, count_push}
 
 -- ---- Receivers.
@@ -77,34 +76,22 @@ receiver_below names parent d r below h =
 
 -- ---- The matchers of the top-level route.
 
-root_none : (ms all : List Condition) → (refuse_root_matchers true ms).result ≡ Ok all → all ≡ []
-root_none [] all h = sym (same_read [] all h)
-root_none (m ∷ ms) all h = absurd cc
-
 texts_none : (key : List ℕ) (found : Option Data) (all : List Condition)
     → (optional_texts true key found).result ≡ Ok all → all ≡ []
-unfolding read_texts
 texts_none key None all h = sym (same_read [] all h)
 texts_none key (Some d) all h =
-    let read = within_ok (to_field key) ((read_texts true d).result) all h in
-    let items = bind_ok ((as_items d).result) _ all read in
-    let ms =
-    bind_ok ((read_matcher_texts items.0).result) (λ ns. (refuse_root_matchers true ns).result)
-    all items.2 in
-    root_none ms.0 all ms.2
+    let read = within_ok (to_field key) ((texts_reading true (Some d)).result) all h in
+    let gives = texts_field_gives true (Some d) all read in
+    gives.1 refl
 
 pairs_none : (op : Op) (key : List ℕ) (before : List Condition) (found : Option Data)
     (all : List Condition) → before ≡ [] → (optional_pairs true op key before found).result ≡ Ok all
     → all ≡ []
-unfolding read_pairs
 pairs_none op key before None all none h = sym (same_read before all h) ∙ none
 pairs_none op key before (Some d) all none h =
-    let read = within_ok (to_field key) ((read_pairs true op before d).result) all h in
-    let members = bind_ok ((as_object d).result) _ all read in
-    let ms =
-    bind_ok ((read_each (read_next_pair op) before (member_list members.0)).result)
-    (λ ns. (refuse_root_matchers true ns).result) all members.2 in
-    root_none ms.0 all ms.2
+    let read = within_ok (to_field key) ((pairs_reading true op before (Some d)).result) all h in
+    let gives = pairs_field_gives true op before all (Some d) (λ _. none) read in
+    gives.1 refl
 
 root_matchers_none : (fields : MatcherFields) (d : Data) (all : List Condition)
     → (read_matchers fields true d).result ≡ Ok all → all ≡ []

@@ -32,8 +32,8 @@ ruled_gives : (rule : List ℕ → Option Kind) (found : Option (List ℕ)) (tex
 ruled_gives rule None text ok = absurd cc
 ruled_gives rule (Some t) text ok = ap (λ (s : List ℕ). Some s) (rule_gives (rule t) t text ok)
 
-pub text_field_judges : {P B : Type 0} (form : Form P) (number : ℕ) (key : List ℕ) (d : Data)
-    (rule : List ℕ → Option Kind) (into : OnlyPlace → P)
+pub text_field_judges : {P B : Type 0} (form : Form P) {number : ℕ} (key : List ℕ) (d : Data)
+    (rule : List ℕ → Option Kind) {into : OnlyPlace → P}
     → IsPart form number (known_member number key)
     (one_place (shape_or rule (text_of (field key d)))) into
     → Clear form (suc number) → (f : List ℕ → Reading B)
@@ -41,12 +41,10 @@ pub text_field_judges : {P B : Type 0} (form : Form P) (number : ℕ) (key : Lis
     → Judges form (f t))
     → Judges form (required_text key d
     >>= λ t. reading_within (to_field key) (refuse_for (rule t)) >>= λ _. f t)
-text_field_judges form number key d rule into part clear f behind =
+text_field_judges form key d rule part clear f behind =
     let found = text_of (field key d) in
     rw (text_within key rule f d)
-    (part_judges form number (known_member number key) (one_place (shape_or rule found)) into part
-    clear
-    (ruled_text rule found) f
+    (part_judges form part clear (ruled_text rule found) f
     (shape_judged rule found (λ t. refuse_for (rule t) >>= λ _. accept t)
     (λ t. cause_judges (rule t) t))
     (λ t ok next. behind t (ruled_gives rule found t ok) next))

@@ -4,8 +4,7 @@ use Rattle.std.proofs.Common.{Option, Some, None, option_and_then, Ok, inl, inr,
 use Rattle.std.proofs.Common.{cond}
 use Rattle.std.specs.Prelude.{⊤, IsTrue}
 use Rattle.std.proofs.Math.Bool.{and-false}
-use Rattle.serde_json.specs.Data.{Data, null, boolean, number, string, array, object, Members}
-use Rattle.serde_json.specs.Data.{no_members, member}
+use Rattle.serde_json.specs.Data.{Data, null, boolean, string, object, Members, no_members, member}
 use Rattle.serde_json.specs.Find as find
 use Rattle.am_universe.specs.declared.kind.Kind.TheVariants as kinds
 use Rattle.am_json.specs.declared.limits.TheConstants.{MAX_FILE_BYTES}
@@ -25,27 +24,15 @@ use Rattle.am_json.specs.Reading.{Reading}
 
 pub null_is : (d : Data) → is_null d ≡ true → d ≡ null
 null_is null h = refl
-null_is (boolean b) h = absurd cc
-null_is (number n) h = absurd cc
-null_is (string s) h = absurd cc
-null_is (array ds) h = absurd cc
-null_is (object ms) h = absurd cc
+null_is d h = absurd cc
 
 object_is : (d : Data) (ms : Members) → find.as_object d ≡ Some ms → d ≡ object ms
-object_is null ms h = absurd cc
-object_is (boolean b) ms h = absurd cc
-object_is (number n) ms h = absurd cc
-object_is (string s) ms h = absurd cc
-object_is (array ds) ms h = absurd cc
 object_is (object ns) ms h = cc
+object_is d ms h = absurd cc
 
 text_is : (d : Data) (t : List ℕ) → find.as_str d ≡ Some t → d ≡ string t
-text_is null t h = absurd cc
-text_is (boolean b) t h = absurd cc
-text_is (number n) t h = absurd cc
 text_is (string s) t h = cc
-text_is (array ds) t h = absurd cc
-text_is (object ms) t h = absurd cc
+text_is d t h = absurd cc
 
 pub as_text_says : (d : Data) (t : List ℕ) → (as_text d).result ≡ Ok t → d ≡ string t
 as_text_says d t h = text_is d t (ok_or_some (find.as_str d) (refusal_here kinds.Shape) t h)
@@ -63,12 +50,8 @@ as_object_reads d ms is = rw is refl
 -- an object, by a field that it has
 pub object_of : (key : List ℕ) (d : Data) (v : Data) → field key d ≡ Some v
     → (ms : Members) × ((as_object d).result ≡ Ok ms)
-object_of key null v h = absurd cc
-object_of key (boolean b) v h = absurd cc
-object_of key (number n) v h = absurd cc
-object_of key (string s) v h = absurd cc
-object_of key (array ds) v h = absurd cc
 object_of key (object ms) v h = (ms, refl)
+object_of key d v h = absurd cc
 
 -- ---- An object that has no fields but these.
 
@@ -174,12 +157,8 @@ required_items_read key d items h =
 -- ---- A truth value that may be absent.
 
 boolean_is : (d : Data) (b : Bool) → find.as_bool d ≡ Some b → d ≡ boolean b
-boolean_is null b h = absurd cc
 boolean_is (boolean c) b h = cc
-boolean_is (number n) b h = absurd cc
-boolean_is (string s) b h = absurd cc
-boolean_is (array ds) b h = absurd cc
-boolean_is (object ms) b h = absurd cc
+boolean_is d b h = absurd cc
 
 found_says : (default : Bool) (key : List ℕ) (d : Data) (found : Option Data) (b : Bool)
     → field key d ≡ found → (boolean_or default found).result ≡ Ok b → SaysBooleanOr default key d b

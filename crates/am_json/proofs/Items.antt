@@ -1,17 +1,19 @@
 -- Reading one behind the other: as a loop does, and what items with no fault say.
 use Rattle.std.proofs.Common.{◌≡◌, ℕ, ◌+◌, ◌<◌, ◌≤◌, List, [], ◌∷◌, ◌++◌, length, map, get_or, drop}
-use Rattle.std.proofs.Common.{◌⊎◌, Some, Ok, inl, inr, refl, sym, ap, subst, ◌∙◌, add-one}
-use Rattle.std.proofs.Common.{append_assoc, arith, drop-cons, length-append}
-use Rattle.std.specs.Prelude.{if◌then◌else◌, ⊤}
+use Rattle.std.proofs.Common.{Some, Ok, inl, inr, refl, sym, ap, subst, ◌∙◌, add-one}
+use Rattle.std.proofs.Common.{append_assoc, drop-cons}
+use Rattle.std.specs.Prelude.{⊤}
 use Rattle.std.specs.List.{AllZip}
-use Rattle.std.proofs.lemmas.List.{drop_all, append-nil, length-map}
-use Rattle.serde_json.specs.Data.{Data, null, boolean, number, string, array, object}
+use Rattle.std.proofs.lemmas.List.{drop_all, append-nil}
+use Rattle.serde_json.specs.Data.{Data, null}
 use Rattle.am_universe.specs.declared.kind.Kind.TheVariants as kinds
 use Rattle.am_json.specs.declared.read_error.ReadError.{ReadError}
-use Rattle.am_json.specs.Json.{is_null, items_of}
+use Rattle.am_json.specs.Json.{items_of}
+use Rattle.am_json.specs.OptionalItems.{AreItems, SaysItemsOrNull}
 use Rattle.am_json.specs.Pointer.{refusal_here, to_item}
 use Rattle.am_json.specs.Reading.{Reading, ◌>>=◌, accept, reading_within, read_each, as_items}
-use Rattle.am_json.specs.Reading.{check_count, read_next_item, read_items, Fails}
+use Rattle.am_json.specs.Reading.{check_count, read_next_item, read_items, read_item_array}
+use Rattle.am_json.specs.Reading.{read_items_or_null, Fails}
 use Rattle.am_json.proofs.Readings.{Leads, leads_on, fails_led, fails_first, bind_ok, within_ok}
 use Rattle.am_json.proofs.Readings.{check_count_ok, check_count_fits, ok_or_some, same_read}
 use Rattle.am_json.proofs.Readings.{Decides}
@@ -121,32 +123,6 @@ item_first {A} read before d ds all h =
           (sym (same_read (before ++ x.0 ∷ []) next.0 x.2)) next.2,
     )
 
--- as many are read as there are items
-items_counted : {A : Type 0} (read : List A → Data → Reading A) (before : List A) (ds : List Data)
-    (all : List A) → (read_items read before ds).result ≡ Ok all
-    → length all ≡ length before + length ds
-unfolding read_each read_next_item
-items_counted read before [] all h =
-    let same : before ≡ all = same_read before all h in omega (arith, ap length same)
-items_counted read before (d ∷ ds) all h =
-    let first = item_first read before d ds all h in
-    omega (
-      arith,
-      items_counted read (before ++ first.0 ∷ []) ds all first.2,
-      length-append before (first.0 ∷ []),
-    )
-
-pub few_are_read : {A X : Type 0} (view : X → Data) (read : List A → Data → Reading A) (limit : ℕ)
-    (items : List X) (all : List A) → (check_count limit (length items)).result ≡ Ok tt
-    → (read_items read [] (map view items)).result ≡ Ok all → length all ≤ limit
-few_are_read view read limit items all counted h =
-    omega (
-      arith,
-      check_count_ok limit (length items) tt counted,
-      items_counted read [] (map view items) all h,
-      length-map items view,
-    )
-
 -- each of the values may stand behind those before it
 abbrev pub AllFit : {A : Type 0} → (List A → A → Type 0) → List A → List A → Type 0
 AllFit Fits before [] = ⊤
@@ -193,6 +169,9 @@ all_fit : {A : Type 0} (before xs : List A) → AllFit AlwaysFits before xs
 all_fit before [] = tt
 all_fit before (x ∷ xs) = (tt, all_fit (before ++ x ∷ []) xs)
 
+items_of_null : (items : List Data) → items_of null ≡ Some items → ⊥
+items_of_null items h = cc
+
 -- where each is read by itself
 module _ {A : Type 0} (Says : Data → A → Type 0) (read : Data → Reading A) (decides : (d : Data)
     → Decides (Says d) ((read d).result)) where
@@ -212,68 +191,47 @@ module _ {A : Type 0} (Says : Data → A → Type 0) (read : Data → Reading A)
 
   -- an array of at most so many
   module _ (limit : ℕ) where
-    abbrev read_array : Data → Reading (List A)
-    read_array d =
-        as_items d >>= λ items. check_count limit (length items) >>= λ _.
-        read_items (λ before item. read item) [] items
-
-    abbrev AreItems : Data → List A → Type 0
-    AreItems d xs =
-        (items : List Data) × (items_of d ≡ Some items) × (length items ≤ limit)
-        × AllZip Says items xs
-
-    array_says : (d : Data) (xs : List A) → (read_array d).result ≡ Ok xs → AreItems d xs
+    array_says : (d : Data) (xs : List A) → (read_item_array limit read d).result ≡ Ok xs
+        → AreItems Says limit d xs
+    unfolding read_item_array
     array_says d xs h =
         let items = bind_ok ((as_items d).result) _ xs h in
         let few =
         bind_ok ((check_count limit (length items.0)).result)
-        (λ _. (read_items (λ before item. read item) [] items.0).result) xs items.2 in (
-          items.0,
-          ok_or_some (items_of d) (refusal_here kinds.Shape) items.0 items.1,
-          check_count_ok limit (length items.0) few.0 few.1,
-          each_says items.0 xs few.2,
-        )
+        (λ _. (read_items (λ before item. read item) [] items.0).result) xs items.2 in
+        record {
+          items = items.0;
+          is_array = ok_or_some (items_of d) (refusal_here kinds.Shape) items.0 items.1;
+          few = check_count_ok limit (length items.0) few.0 few.1;
+          each = each_says items.0 xs few.2;
+        }
 
-    array_reads : (d : Data) (xs : List A) → AreItems d xs → (read_array d).result ≡ Ok xs
+    array_reads : (d : Data) (xs : List A) → AreItems Says limit d xs
+        → (read_item_array limit read d).result ≡ Ok xs
+    unfolding read_item_array
     array_reads d xs said =
         rw (
-          said.1,
-          check_count_fits limit (length said.0) said.2,
-          each_reads said.0 xs said.3,
+          said.is_array,
+          check_count_fits limit (length said.items) said.few,
+          each_reads said.items xs said.each,
         ) refl
 
     -- or `null`, which says that there are none
-    module _ (Are : Data → List A → Type 0)
-        (are : (d : Data) (xs : List A) → AreItems d xs → Are d xs)
-        (are_items : (d : Data) (xs : List A) → Are d xs → AreItems d xs) where
-      abbrev SaysOrNull : Data → List A → Type 0
-      SaysOrNull d xs = ((d ≡ null) × (xs ≡ [])) ⊎ Are d xs
+    or_null_says : (d : Data) (xs : List A) → (read_items_or_null limit read d).result ≡ Ok xs
+        → SaysItemsOrNull Says limit d xs
+    or_null_says null xs h = inl (refl, sym (same_read [] xs h))
+    or_null_says d xs h = inr (array_says d xs h)
 
-      abbrev read_or_null : Data → Reading (List A)
-      read_or_null d = if (is_null d) then accept [] else read_array d
+    array_is_read : (d : Data) (xs : List A) → AreItems Says limit d xs
+        → (read_items_or_null limit read d).result ≡ Ok xs
+    array_is_read null xs said = absurd (items_of_null said.items said.is_array)
+    array_is_read d xs said = array_reads d xs said
 
-      or_null_says : (d : Data) (xs : List A) → (read_or_null d).result ≡ Ok xs → SaysOrNull d xs
-      or_null_says null xs h = inl (refl, sym (same_read [] xs h))
-      or_null_says (boolean b) xs h = inr (are (boolean b) xs (array_says (boolean b) xs h))
-      or_null_says (number n) xs h = inr (are (number n) xs (array_says (number n) xs h))
-      or_null_says (string t) xs h = inr (are (string t) xs (array_says (string t) xs h))
-      or_null_says (array ds) xs h = inr (are (array ds) xs (array_says (array ds) xs h))
-      or_null_says (object ms) xs h = inr (are (object ms) xs (array_says (object ms) xs h))
+    or_null_reads : (d : Data) (xs : List A) → SaysItemsOrNull Says limit d xs
+        → (read_items_or_null limit read d).result ≡ Ok xs
+    or_null_reads d xs (inl said) = rw (said.0, said.1) refl
+    or_null_reads d xs (inr said) = array_is_read d xs said
 
-      items_of_null : (items : List Data) → items_of null ≡ Some items → ⊥
-      items_of_null items h = cc
-
-      array_is_read : (d : Data) (xs : List A) → AreItems d xs → (read_or_null d).result ≡ Ok xs
-      array_is_read null xs said = absurd (items_of_null said.0 said.1)
-      array_is_read (boolean b) xs said = array_reads (boolean b) xs said
-      array_is_read (number n) xs said = array_reads (number n) xs said
-      array_is_read (string t) xs said = array_reads (string t) xs said
-      array_is_read (array ds) xs said = array_reads (array ds) xs said
-      array_is_read (object ms) xs said = array_reads (object ms) xs said
-
-      or_null_reads : (d : Data) (xs : List A) → SaysOrNull d xs → (read_or_null d).result ≡ Ok xs
-      or_null_reads d xs (inl said) = rw (said.0, said.1) refl
-      or_null_reads d xs (inr said) = array_is_read d xs (are_items d xs said)
-
-      pub or_null_decides : (d : Data) → Decides (SaysOrNull d) ((read_or_null d).result)
-      or_null_decides d = record { says = or_null_says d; reads = or_null_reads d }
+    pub or_null_decides : (d : Data)
+        → Decides (SaysItemsOrNull Says limit d) ((read_items_or_null limit read d).result)
+    or_null_decides d = record { says = or_null_says d; reads = or_null_reads d }

@@ -264,6 +264,10 @@ refusal_part part (p ∷ ps) r (inr h) =
 
 -- ---- One part after another.
 
+-- the steps begin with a part whose number, counted from 1, lies between these two
+abbrev pub IsBetween : ℕ → ℕ → List Step → Type 0
+IsBetween low high steps = (low < lead (rank_of steps)) × (lead (rank_of steps) < high)
+
 module _ {P : Type 0} (form : Form P) where
   -- the number of the part in which a place is, counted from 1, and 0 for the value itself
   abbrev pub part_number : P → ℕ
@@ -272,6 +276,15 @@ module _ {P : Type 0} (form : Form P) where
   -- no place in a part below this number is at fault
   abbrev pub Clear : ℕ → Type 0
   Clear n = (place : P) → part_number place < n → form.fault_at place ≡ None
+
+  -- where the numbers of all parts lie between two, nothing comes before them, and all is accepted
+  -- behind them
+  module _ (low high : ℕ) (numbers : (place : P) → IsBetween low high (form.path place)) where
+    pub none_yet : Clear (suc low)
+    none_yet place lt = absurd (omega (arith, lt, (numbers place).0))
+
+    pub all_accepted : {A : Type 0} (x : A) → Clear high → Judges form (accept x)
+    all_accepted x clear = judges_plain form (Ok x) (λ place. clear place (numbers place).1)
 
   -- The places of a part: the step to it has this number, they are seen through it, and they are
   -- those that are reached through it.
@@ -283,7 +296,7 @@ module _ {P : Type 0} (form : Form P) where
         ≡ said (step ∷ part.path place) (part.fault_at place) (part.has_pattern place)
     pub covers : (place : P) → part_number place ≡ suc number → (inner : Q) × (place ≡ into inner)
 
-  module _ {Q : Type 0} (number : ℕ) (step : Step) (part : Form Q) (into : Q → P)
+  module _ {Q : Type 0} {number : ℕ} {step : Step} {part : Form Q} {into : Q → P}
       (is_part : IsPart number step part into) (clear : Clear (suc number)) where
     path_in : (place : Q) → form.path (into place) ≡ step ∷ part.path place
     path_in place = ap (λ (s : Said). s.0) (is_part.seen place)

@@ -7,20 +7,20 @@ use Rattle.std.proofs.Common.{take_at, unwrap_or, ℕ, ◌++◌, ◌+◌, ◌∙
 use Rattle.std.proofs.lemmas.Bool.{cases_lt}
 use Rattle.std.proofs.lemmas.Option.{slice_get_past}
 use Rattle.std.specs.List.{enumerate_from}
-use Rattle.std.specs.Prelude.{if◌then◌else◌, ⊤}
+use Rattle.std.specs.Prelude.{⊤}
 use Rattle.std.specs.Result.{result_map_both}
-use Rattle.serde_json.specs.Data.{Data, array, boolean, null, number, object, string}
+use Rattle.serde_json.specs.Data.{Data, null}
 use Rattle.am_universe.specs.declared.kind.Kind.{Kind}
 use Rattle.am_universe.specs.declared.kind.Kind.TheVariants as kinds
-use Rattle.am_json.specs.Json.{is_null, items_of}
+use Rattle.am_json.specs.Json.{items_of}
 use Rattle.am_json.specs.Places.{ArrayPlace, Step, array_fault, array_item, array_itself, if_there}
 use Rattle.am_json.specs.Places.{in_item, items_or_null_fault, items_path, limit_fault}
 use Rattle.am_json.specs.Places.{name_of_pair, pair_name, rank_of, shape_or, step_pointer}
 use Rattle.am_json.specs.Places.{step_rank}
 use Rattle.am_json.specs.Pointer.{Refusal, refusal_here, refusal_within, to_item}
-use Rattle.am_json.specs.Reading.{Reading, accept, accept_some, as_items, check_count, read_each}
-use Rattle.am_json.specs.Reading.{read_items}
-use Rattle.am_json.specs.Reading.{read_next_item, reading_within, refuse_for, ◌>>=◌}
+use Rattle.am_json.specs.Reading.{Reading, accept, accept_some, read_each, read_item_array}
+use Rattle.am_json.specs.Reading.{read_items, read_items_or_null, read_next_item, reading_within}
+use Rattle.am_json.specs.Reading.{refuse_for, ◌>>=◌}
 use Rattle.am_json.proofs.PlaceLemmas.{Clear, Form, IsPart, Judges, accept_judges, itself_refused}
 use Rattle.am_json.proofs.PlaceLemmas.{judges_plain, part_judges, said, said_of, within_judged}
 use Rattle.am_json.proofs.PlaceOrder.{lead}
@@ -61,6 +61,12 @@ module _ {X Q : Type 0} (s : Sequence X Q) where
   pattern_of_next None place = false
   pattern_of_next (Some x) place = s.pattern_in x place
 
+  -- no pattern stands in this place of the next
+  pub no_next_pattern : (place : Q) → ((x : X) → s.pattern_in x place ≡ false)
+      → (found : Option X) → false ≡ pattern_of_next found place
+  no_next_pattern place none None = refl
+  no_next_pattern place none (Some x) = sym (none x)
+
   abbrev pub sequence_form : List X → Form (ℕ × Q)
   sequence_form xs = record {
     path = λ place. s.step place.0 ∷ s.path place.0 place.1;
@@ -95,15 +101,11 @@ module _ {Q : Type 0} (s : Sequence Data Q) where
   }
 
   -- where no pattern stands in them
-  module _ (none : (d : Data) (place : Q) → s.pattern_in d place ≡ false) where
-    none_in : (item : Option Data) (place : Q) → false ≡ pattern_of_next s item place
-    none_in None place = refl
-    none_in (Some d) place = sym (none d place)
-
-    pub no_item_pattern : (items : List Data) (place : ArrayPlace Q)
-        → false ≡ array_form_pattern items place
-    no_item_pattern items array_itself = refl
-    no_item_pattern items (in_item i place) = none_in (slice_get items i) place
+  pub no_item_pattern : ((d : Data) (place : Q) → s.pattern_in d place ≡ false)
+      → (items : List Data) (place : ArrayPlace Q) → false ≡ array_form_pattern items place
+  no_item_pattern none items array_itself = refl
+  no_item_pattern none items (in_item i place) =
+      no_next_pattern s place (λ d. none d place) (slice_get items i)
 
   in_items : (items : List Data) (place : ArrayPlace Q)
       → ((found : ℕ × Q) × (place ≡ in_item found.0 found.1))
@@ -139,7 +141,7 @@ module _ {Q : Type 0} (s : Sequence Data Q) where
       ruled_array (rule items) items (read items) (array_judged items (read items) all)
 
   -- one of at most so many, or `null`, which says that there are no items
-  module _ {A : Type 0} (limit : ℕ) (read : List Data → Reading (List A)) where
+  module _ {A : Type 0} (limit : ℕ) (read : Data → Reading A) where
     no_item : (place : ArrayPlace Q) → (array_form None []).fault_at place ≡ None
     no_item array_itself = refl
     no_item (in_item i place) = refl
@@ -147,28 +149,24 @@ module _ {Q : Type 0} (s : Sequence Data Q) where
     abbrev or_null_form : Data → Form (ArrayPlace Q)
     or_null_form d = array_form (items_or_null_fault limit d) (unwrap_or (items_of d) [])
 
-    abbrev or_null : Data → Reading (List A)
-    or_null d =
-        if (is_null d) then accept []
-        else (as_items d >>= λ items. check_count limit (length items) >>= λ _. read items)
-
     abbrev AreJudged : Data → Type 0
     AreJudged d =
-        Judges (sequence_form s (unwrap_or (items_of d) [])) (read (unwrap_or (items_of d) []))
+        Judges (sequence_form s (unwrap_or (items_of d) []))
+        (read_items (λ _ item. read item) [] (unwrap_or (items_of d) []))
 
     limited : (d : Data) → AreJudged d
         → Judges (array_form (shape_or (λ items. limit_fault limit (length items)) (items_of d))
         (unwrap_or (items_of d) []))
-        (as_items d >>= λ items. check_count limit (length items) >>= λ _. read items)
-    limited d all = required_array (λ items. limit_fault limit (length items)) read (items_of d) all
+        (read_item_array limit read d)
+    unfolding read_item_array
+    limited d all =
+        required_array (λ items. limit_fault limit (length items))
+        (read_items (λ _ item. read item) []) (items_of d) all
 
-    pub or_null_judged : (d : Data) → AreJudged d → Judges (or_null_form d) (or_null d)
+    pub or_null_judged : (d : Data) → AreJudged d
+        → Judges (or_null_form d) (read_items_or_null limit read d)
     or_null_judged null all = judges_plain (or_null_form null) (Ok []) no_item
-    or_null_judged (boolean b) all = limited (boolean b) all
-    or_null_judged (number n) all = limited (number n) all
-    or_null_judged (string t) all = limited (string t) all
-    or_null_judged (array ds) all = limited (array ds) all
-    or_null_judged (object ms) all = limited (object ms) all
+    or_null_judged d all = limited d all
 
 -- what is read of it is read of its items
 pub required_array_gives : {A : Type 0} (rule : List Data → Option Kind)
@@ -241,9 +239,8 @@ module _ {A X Q : Type 0} (l : Loop A X) (s : Sequence X Q) (xs : List X)
         (judges_plain in_all (Ok a) (past_clear (length front) (omega (arith, long)) clear))
     loop_judges front (x ∷ back) a e is clear =
         let next = next_judges front x back a e is in
-        let judged = part_judges in_all (length front) (s.step (length front)) (next_form s front x)
-        (λ found. (length front, found)) (next_part front x back e) clear
-        next.0 (λ b. l.loop (suc (length front)) b back) next.2
+        let judged = part_judges in_all (next_part front x back e) clear next.0
+        (λ b. l.loop (suc (length front)) b back) next.2
         (λ b ok ahead.
         let more : length (front ++ x ∷ []) ≡ suc (length front) =
         omega (arith, length-append front (x ∷ [])) in

@@ -1,7 +1,9 @@
 -- An array in a field that may be absent: which items it has, what is wrong with it, and reading
--- it. (This project's own.)
-use Rattle.std.specs.Prelude.{◌≡◌, ◌⊎◌, ℕ, List, [], length, Option, Some, None, option_and_then}
-use Rattle.serde_json.specs.Data.{Data}
+-- it; and what an array says that may be `null`. (This project's own.)
+use Rattle.std.specs.Prelude.{◌≡◌, ◌⊎◌, ◌≤◌, ℕ, List, [], length, Option, Some, None}
+use Rattle.std.specs.Prelude.{option_and_then}
+use Rattle.std.specs.List.{AllZip}
+use Rattle.serde_json.specs.Data.{Data, null}
 use Rattle.am_universe.specs.declared.kind.Kind.{Kind}
 use Rattle.am_json.specs.Json.{field, items_of}
 use Rattle.am_json.specs.Places.{shape_or, if_there, limit_fault}
@@ -13,6 +15,20 @@ abbrev pub HasItems : List ℕ → Data → List Data → Type 0
 HasItems key d items =
     ((field key d ≡ None) × (items ≡ []))
     ⊎ (option_and_then items_of (field key d) ≡ Some items)
+
+-- An array of at most so many items says what they say, in their order, and `null` says that there
+-- are none.
+-- Source: own choice.
+-- Example: of texts, `["a", "b"]` says two where so many may be, and nothing where one may be.
+pub record AreItems {A : Type 0} (Says : Data → A → Type 0) (limit : ℕ) (d : Data) (xs : List A)
+    : Type 0 where
+  pub items : List Data
+  pub is_array : items_of d ≡ Some items
+  pub few : length items ≤ limit
+  pub each : AllZip Says items xs
+
+abbrev pub SaysItemsOrNull : {A : Type 0} → (Data → A → Type 0) → ℕ → Data → List A → Type 0
+SaysItemsOrNull Says limit d xs = ((d ≡ null) × (xs ≡ [])) ⊎ AreItems Says limit d xs
 
 -- What is wrong with an array that may be absent: it is none, or has too many items.
 abbrev pub optional_array_fault : ℕ → Option Data → Option Kind

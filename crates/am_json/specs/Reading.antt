@@ -2,7 +2,7 @@
 -- Readings serve the proofs of the readers; what callers are told of a fault is said by places.
 use Rattle.std.specs.Prelude.{◌≡◌, ◌≢◌, ◌⊎◌, ℕ, List, [], ◌∷◌, ◌++◌, length, map}
 use Rattle.std.specs.Prelude.{Option, Some, None, option_map, ok_or, Result, Ok, Err}
-use Rattle.std.specs.Prelude.{Bool, IsErrAnd, string_bytes, ⊤}
+use Rattle.std.specs.Prelude.{Bool, IsErrAnd, if◌then◌else◌, string_bytes, ⊤}
 use Rattle.std.specs.Result.{result_map_both}
 use Rattle.serde_json.specs.Data.{Data, Members}
 use Rattle.serde_json.specs.Find as find
@@ -13,7 +13,7 @@ use Rattle.am_universe.specs.declared.fault.Fault.{Fault}
 use Rattle.am_json.specs.declared.read_error.ReadError.{ReadError}
 use Rattle.am_json.specs.declared.read_error.ReadError.TheVariants as errors
 use Rattle.am_json.specs.declared.limits.TheConstants.{MAX_FILE_BYTES}
-use Rattle.am_json.specs.Json.{json_of, field, unknown_field, items_of}
+use Rattle.am_json.specs.Json.{json_of, is_null, field, unknown_field, items_of}
 use Rattle.am_json.specs.Pointer.{Refusal, refusal_here, refusal_within, to_field, to_item}
 use Rattle.am_json.specs.Places.{limit_fault}
 
@@ -219,6 +219,17 @@ read_next_item read before d = do
 abbrev pub read_items : {A : Type 0} → (List A → Data → Reading A) → List A → List Data
     → Reading (List A)
 read_items read = read_each (read_next_item read)
+
+-- The items of an array of at most so many, each read by itself; and the same, where `null` says
+-- that there are none.
+unfoldable pub read_item_array : {A : Type 0} → ℕ → (Data → Reading A) → Data → Reading (List A)
+read_item_array limit read d = do
+  items ← as_items d
+  _ ← check_count limit (length items)
+  read_items (λ before item. read item) [] items
+
+abbrev pub read_items_or_null : {A : Type 0} → ℕ → (Data → Reading A) → Data → Reading (List A)
+read_items_or_null limit read d = if is_null d then accept [] else read_item_array limit read d
 
 -- ---- A file.
 

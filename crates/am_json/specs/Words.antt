@@ -10,6 +10,7 @@ pub use Rattle.am_json.specs.Reading.{check_count, as_object, as_text, as_items,
 pub use Rattle.am_json.specs.Reading.{boolean_or, accept}
 unfoldable pub use Rattle.am_json.specs.Reading.{check_only_fields, required_text, required_items}
 unfoldable pub use Rattle.am_json.specs.Reading.{read_boolean_or, read_each, read_json}
-pub use Rattle.am_json.specs.Reading.{reading_within, read_items}
+unfoldable pub use Rattle.am_json.specs.Reading.{read_item_array}
+pub use Rattle.am_json.specs.Reading.{reading_within, read_items, read_items_or_null}
 unfoldable pub use Rattle.am_json.specs.OptionalItems.{read_optional_items}
 pub use Rattle.am_json.specs.ReadingLaw.{IsReadExactly}

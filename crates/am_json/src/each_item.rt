@@ -1,6 +1,6 @@
 //! Reading the items of an array, and the members of an object, one after the other.
 
-ghost use Rattle.std.specs.Prelude.{[], ℕ, List, map};
+ghost use Rattle.std.specs.Prelude.{◌≤◌, [], ℕ, List, length, map, IfOk};
 ghost use Rattle.std.specs.Fn.{FnReturnsAt};
 ghost use Rattle.serde_json.specs.Data.{Data};
 ghost use Rattle.serde_json.specs.View.{members_view, view};
@@ -24,6 +24,7 @@ pub fn read_each_item<T: Drop, F: Fn(&Value) -> Result<T, ReadError>>(
         → Gives (λ x. x) found (reading (view value)))
         → Gives (λ found. found.items) result
         (read_items (λ _ d. reading d) [] (map view items.now)) }
+    ensures few { IfOk result (λ found. length found.items ≤ length items.now) }
 {
     let mut all = Vec::new(alloc);
     for item in items {

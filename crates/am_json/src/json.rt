@@ -1,6 +1,6 @@
 //! The parts of a JSON value, each refused where it is not of its kind.
 
-ghost use Rattle.std.specs.Prelude.{◌≡◌, ◌≢◌, Some, map, option_map};
+ghost use Rattle.std.specs.Prelude.{◌≡◌, ◌≢◌, ◌≤◌, Some, map, option_map, IfOk};
 ghost use Rattle.serde_json.specs.View.{view, members_view};
 ghost use Rattle.am_universe.specs.declared.kind.Kind.TheVariants as kinds;
 ghost use Rattle.am_json.specs.Words.{json_of, field, is_one_of, is_unknown, unknown_field};
@@ -47,6 +47,7 @@ fn value_of(alloc: Global, bytes: &[u8]) -> Result<Value, ReadError>
 /// `count`: the refusal is `Limit`. No memory is taken.
 pub fn check_count(alloc: Global, limit: usize, count: usize) -> Result<(), ReadError>
     ensures reading { Gives (λ _. tt) result (check_count limit count) }
+    ensures within { IfOk result (λ _. count ≤ limit) }
 {
     if count > limit {
         return Err(ReadError::refused(alloc, Kind::Limit));

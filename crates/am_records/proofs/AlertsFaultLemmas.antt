@@ -1,7 +1,7 @@
 -- The fault that reading alerts meets first is the first by its places.
-use Rattle.std.proofs.Common.{Bool, List, None, Ok, Option, Some, [], ap, arith, codes, false}
+use Rattle.std.proofs.Common.{Bool, List, None, Option, Some, [], ap, arith, codes, false}
 use Rattle.std.proofs.Common.{inl, inr, length, option_and_then, option_map, refl, slice_get, subst}
-use Rattle.std.proofs.Common.{sym, unwrap_or, ℕ, ◌++◌, ◌<◌, ◌∙◌, ◌∷◌, ◌≡◌, ◌⊎◌}
+use Rattle.std.proofs.Common.{sym, unwrap_or, ℕ, ◌++◌, ◌∙◌, ◌∷◌, ◌≡◌, ◌⊎◌}
 use Rattle.std.specs.FinMap as finite
 use Rattle.std.specs.Prelude.{⊤}
 use Rattle.serde_json.specs.Data.{Data, Members}
@@ -15,7 +15,7 @@ use Rattle.am_json.specs.Places.{if_there, items_or_null_fault, known_member, li
 use Rattle.am_json.specs.Places.{only_path, pair_name, rank_of, shape_or, step_pointer}
 use Rattle.am_json.specs.Pointer.{Refusal, refusal_here, to_field}
 use Rattle.am_json.specs.Reading.{MayRefuse, Reading, accept, accept_some}
-use Rattle.am_json.specs.Reading.{check_count, read_each, read_items, reading_within, refuse_for}
+use Rattle.am_json.specs.Reading.{check_count, read_each, reading_within, refuse_for}
 use Rattle.am_json.specs.Reading.{required_field, ◌>>=◌}
 use Rattle.am_records.specs.AlertsFaults.{AlertField, AlertPlace, AlertsPlace}
 use Rattle.am_records.specs.AlertsFaults.{IsFirstFaultOfAlertsFile, LabelsPlace, alert_fault_at}
@@ -23,9 +23,8 @@ use Rattle.am_records.specs.AlertsFaults.{alert_field_fault, alert_field_path, a
 use Rattle.am_records.specs.AlertsFaults.{alert_path, alerts_fault_at, alerts_path, label_fault}
 use Rattle.am_records.specs.AlertsFaults.{labels_itself, labels_path, one_label}
 use Rattle.am_records.specs.AlertsFile.{FileSaysAlerts, SaysAlerts}
-use Rattle.am_records.specs.AlertsReading.{read_alert, read_alert_array, read_alert_labels}
-use Rattle.am_records.specs.AlertsReading.{read_alerts, read_alerts_file, read_next_alert}
-use Rattle.am_records.specs.AlertsReading.{read_next_alert_label}
+use Rattle.am_records.specs.AlertsReading.{read_alert, read_alert_labels, read_alerts}
+use Rattle.am_records.specs.AlertsReading.{read_alerts_file, read_next_alert_label}
 use Rattle.am_records.specs.NamedText.{read_named_text}
 use Rattle.am_records.specs.declared.limits.TheConstants.{MAX_ALERTS, MAX_ALERT_LABELS}
 use Rattle.am_records.proofs.AlertsSays.{alerts_decide}
@@ -33,15 +32,15 @@ use Rattle.am_json.proofs.FormLaws.{FormLaws, first_refused, form_laws}
 use Rattle.am_json.specs.ReadingLaw.{IsReadExactly}
 use Rattle.am_json.proofs.ObjectLemmas.{items_tell, no_open_pattern, object_tells}
 use Rattle.am_json.proofs.ObjectLemmas.{open_judged, open_pattern}
-use Rattle.am_json.proofs.PlaceLemmas.{Clear, Form, IsPart, Judges, RanksTell, accept_judges}
-use Rattle.am_json.proofs.PlaceLemmas.{itself_refused, judges_plain}
-use Rattle.am_json.proofs.PlaceLemmas.{one_accepted, one_place, one_refused, part_judges}
-use Rattle.am_json.proofs.PlaceLemmas.{said_of, same_judged, within_judged}
+use Rattle.am_json.proofs.PlaceLemmas.{Form, IsBetween, IsPart, Judges, RanksTell, accept_judges}
+use Rattle.am_json.proofs.PlaceLemmas.{all_accepted, itself_refused, none_yet, one_accepted}
+use Rattle.am_json.proofs.PlaceLemmas.{one_place, one_refused, part_judges, said_of, same_judged}
+use Rattle.am_json.proofs.PlaceLemmas.{within_judged}
 use Rattle.am_json.proofs.PlaceOrder.{lead}
 use Rattle.am_json.proofs.SameReadings.{then_accept, value_read_within, within_accept}
 use Rattle.am_json.proofs.SequenceLemmas.{Sequence, all_judge, array_form, each_loop}
-use Rattle.am_json.proofs.SequenceLemmas.{next_form, no_item_pattern, or_null_judged}
-use Rattle.am_json.proofs.SequenceLemmas.{pair_name_at, pattern_of_next, sequence_form}
+use Rattle.am_json.proofs.SequenceLemmas.{next_form, no_item_pattern, no_next_pattern}
+use Rattle.am_json.proofs.SequenceLemmas.{or_null_judged, pair_name_at, sequence_form}
 use Rattle.am_json.proofs.SequenceLemmas.{valued_judged, valued_seen, valued_sequence}
 
 -- ---- The labels of an alert.
@@ -106,17 +105,13 @@ module _ (pairs : List (List ℕ × Data)) where
     has_pattern = λ _. false;
   }
 
-  no_pattern_in : (found : Option (List ℕ × Data)) → false ≡ pattern_of_next label_sequence found tt
-  no_pattern_in None = refl
-  no_pattern_in (Some pair) = refl
-
   labels_seen : (place : ℕ × OnlyPlace)
       → said_of (labels_form None) (one_label place.0)
       ≡ said_of (sequence_form label_sequence pairs) place
   labels_seen (j, _) = λ i. (
     known_member j (pair_name pairs j) ∷ [],
     if_there label_fault (slice_get pairs j),
-    no_pattern_in (slice_get pairs j) i,
+    no_next_pattern label_sequence tt (λ _. refl) (slice_get pairs j) i,
   )
 
   in_labels : (place : LabelsPlace)
@@ -152,6 +147,10 @@ object_judged (Some members) = counted_judged (member_list members) (count_fault
 
 -- ---- An alert.
 
+field_number : (found : Option Data) (place : AlertField)
+    → IsBetween 1 3 (alert_field_path found place)
+field_number found (alert_labels place) = (omega arith, omega arith)
+
 module _ (d : Data) where
   abbrev labels_field : Option Data
   labels_field = field (codes "labels") d
@@ -182,12 +181,6 @@ module _ (d : Data) where
   labels_part : IsPart alert_fields 1 (known_member 1 (codes "labels")) field_form alert_labels
   labels_part = record { rank = refl; seen = field_seen; covers = labels_cover }
 
-  none_yet : Clear alert_fields 2
-  none_yet (alert_labels place) lt = absurd (omega (arith, lt))
-
-  alert_clear : Clear alert_fields 3 → (place : AlertField) → alert_field_fault d place ≡ None
-  alert_clear clear (alert_labels place) = clear (alert_labels place) (omega arith)
-
   abbrev read_members : Members → Reading LabelMap
   read_members members = do
     _ ← check_count MAX_ALERT_LABELS (length (member_list members))
@@ -200,10 +193,10 @@ module _ (d : Data) where
       >>= λ value. reading_within (to_field (codes "labels")) (read_alert_labels value))
   unfolding read_alert_labels
   fields_judge =
-      let judged = part_judges alert_fields 1 (known_member 1 (codes "labels")) field_form
-      alert_labels labels_part none_yet labels_reading (λ s. accept s)
+      let judged = part_judges alert_fields labels_part
+      (none_yet alert_fields 1 3 (field_number (Some d))) labels_reading (λ s. accept s)
       (object_judged labels_object)
-      (λ s _ last. judges_plain alert_fields (Ok s) (alert_clear last)) in
+      (λ s _ last. all_accepted alert_fields 1 3 (field_number (Some d)) s last) in
       rw (value_read_within (codes "labels") find.as_object read_members d)
       (subst (Judges alert_fields)
       (then_accept (reading_within (to_field (codes "labels")) labels_reading)) judged)
@@ -246,9 +239,8 @@ module _ (d : Data) where
 
   items_judge : Judges
       (array_form alerts_sequence (items_or_null_fault MAX_ALERTS d) items_in) (read_alerts d)
-  unfolding read_alert_array
   items_judge =
-      or_null_judged alerts_sequence MAX_ALERTS (read_items read_next_alert []) d
+      or_null_judged alerts_sequence MAX_ALERTS read_alert d
       (valued_judged alert_path alert_fault_in no_alert_pattern items_in read_alert
       (λ _ item. alert_judged item))
 
@@ -283,14 +275,11 @@ field_tells found = (alert_field_at, is) where
       ap alert_labels
       (labels_tell (field_pairs (option_and_then (field (codes "labels")) found)) place)
 
-in_alert : (found : Option Data) (place : AlertField)
-    → 1 < lead (rank_of (alert_field_path found place))
-in_alert found (alert_labels place) = omega arith
-
 alerts_tell : (d : Data) → RanksTell (alerts_path d)
 alerts_tell d =
     items_tell alert_path
-    (λ found. object_tells (alert_field_path found) (in_alert found) (field_tells found))
+    (λ found. object_tells (alert_field_path found) (λ place. (field_number found place).0)
+    (field_tells found))
     (items_in d)
 
 -- ---- The laws.

@@ -8,9 +8,8 @@ use Rattle.am_universe.specs.LabelSet.{LabelMap, with_value}
 use Rattle.am_json.specs.Json.{member_list}
 use Rattle.am_json.specs.Pointer.{to_field}
 use Rattle.am_json.specs.Reading.{as_object, check_count, read_each, reading_within}
-use Rattle.am_records.specs.AlertsFile.{AreAlerts, SaysAlert, SaysAlerts}
-use Rattle.am_records.specs.AlertsReading.{read_alert, read_alert_array, read_alert_labels}
-use Rattle.am_records.specs.AlertsReading.{read_alerts}
+use Rattle.am_records.specs.AlertsFile.{SaysAlert, SaysAlerts}
+use Rattle.am_records.specs.AlertsReading.{read_alert, read_alert_labels, read_alerts}
 use Rattle.am_records.specs.AlertsReading.{read_next_alert_label}
 use Rattle.am_records.specs.NamedText.{SaysNamedText, read_named_text}
 use Rattle.am_records.specs.declared.limits.TheConstants.{MAX_ALERTS, MAX_ALERT_LABELS}
@@ -104,8 +103,4 @@ alert_decides : (d : Data) → Decides (SaysAlert d) ((read_alert d).result)
 alert_decides d = record { says = alert_says d; reads = alert_reads d }
 
 pub alerts_decide : (d : Data) → Decides (SaysAlerts d) ((read_alerts d).result)
-unfolding read_alert_array
-alerts_decide d =
-    or_null_decides SaysAlert read_alert alert_decides MAX_ALERTS AreAlerts
-    (λ _ _ are. record { items = are.0; is_array = are.1; few = are.2; each = are.3 })
-    (λ _ _ said. (said.items, said.is_array, said.few, said.each)) d
+alerts_decide = or_null_decides SaysAlert read_alert alert_decides MAX_ALERTS

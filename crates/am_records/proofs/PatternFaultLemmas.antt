@@ -12,14 +12,13 @@ use Rattle.am_labels.specs.Matcher.{Condition, takes_pattern}
 use Rattle.am_labels.specs.MatcherRefusals.{has_valid_pattern, pattern_refusal}
 use Rattle.am_labels.specs.PatternCut.{in_profile}
 use Rattle.serde_json.specs.Data.{Data}
-use Rattle.am_json.specs.Places.{IsBefore, IsMetPattern, OnlyPlace, Step, if_there, only_path}
+use Rattle.am_json.specs.Places.{IsBefore, IsMetPattern, OnlyPlace, if_there, only_path}
 use Rattle.am_json.specs.Places.{turn}
 use Rattle.am_json.specs.Pointer.{Refusal, refusal_here}
 use Rattle.am_json.specs.Reading.{IsPatternRefusal, accept, patterns_then, refuse_for, ◌>>=◌}
-use Rattle.am_json.proofs.FieldLemmas.{items_sequence}
 use Rattle.am_json.proofs.PlaceLemmas.{Form, Judges, Tells, one_place, one_refused}
 use Rattle.am_json.proofs.PlaceOrder.{none_before_itself}
-use Rattle.am_json.proofs.SequenceLemmas.{pattern_of_next}
+use Rattle.am_json.proofs.SequenceLemmas.{Sequence, pattern_of_next}
 use Rattle.am_records.specs.MatcherFaults.{check_patterns, is_profile_pattern, one_pattern_fault}
 use Rattle.am_records.specs.MatcherFaults.{pattern_fault, profile_patterns}
 
@@ -46,6 +45,16 @@ sound_none m e = rw e refl
 abbrev pub NoneBefore : List Condition → ℕ → Type 0
 NoneBefore ms j = (i : ℕ) → i < j → if_there one_pattern_fault (slice_get ms i) ≡ None
 
+-- the first refused pattern, and one of the profile that is met before it
+abbrev IsRefusedAt : List Condition → Kind → Type 0
+IsRefusedAt ms kind =
+    (j : ℕ) × (if_there one_pattern_fault (slice_get ms j) ≡ Some kind) × NoneBefore ms j
+
+abbrev pub IsMetAt : List Condition → Refusal → Type 0
+IsMetAt ms r =
+    (j : ℕ) × (is_profile_pattern (slice_get ms j) ≡ true) × (r ≡ refusal_here kinds.Pattern)
+    × NoneBefore ms j
+
 none_behind : (m : Condition) (ms : List Condition) (j : ℕ) → has_valid_pattern m ≡ true
     → NoneBefore ms j → NoneBefore (m ∷ ms) (suc j)
 none_behind m ms j sound none zero lt = sound_none m sound
@@ -68,32 +77,23 @@ no_pattern_fault [] e j = refl
 no_pattern_fault (m ∷ ms) e j = none_at m ms (has_valid_pattern m) refl (no_pattern_fault ms) e j
 
 first_at : (m : Condition) (ms : List Condition) (kind : Kind) (sound : Bool)
-    → has_valid_pattern m ≡ sound
-    → (pattern_fault ms ≡ Some kind
-    → (j : ℕ) × (if_there one_pattern_fault (slice_get ms j) ≡ Some kind) × NoneBefore ms j)
+    → has_valid_pattern m ≡ sound → (pattern_fault ms ≡ Some kind → IsRefusedAt ms kind)
     → (if sound then pattern_fault ms else Some (pattern_refusal m.value)) ≡ Some kind
-    → (j : ℕ) × (if_there one_pattern_fault (slice_get (m ∷ ms) j) ≡ Some kind)
-    × NoneBefore (m ∷ ms) j
+    → IsRefusedAt (m ∷ ms) kind
 first_at m ms kind true is behind e =
     let found = behind e in
     (suc found.0, found.1, none_behind m ms found.0 is found.2)
 first_at m ms kind false is behind e = (zero, rw is e, none_first (m ∷ ms))
 
--- the first refused pattern
 first_pattern : (ms : List Condition) (kind : Kind) → pattern_fault ms ≡ Some kind
-    → (j : ℕ) × (if_there one_pattern_fault (slice_get ms j) ≡ Some kind) × NoneBefore ms j
+    → IsRefusedAt ms kind
 first_pattern [] kind e = absurd cc
 first_pattern (m ∷ ms) kind e =
     first_at m ms kind (has_valid_pattern m) refl (first_pattern ms kind) e
 
 met_behind : (m : Condition) (ms : List Condition) (r : Refusal) (sound : Bool)
-    → has_valid_pattern m ≡ sound
-    → (IsPatternRefusal (profile_patterns ms) r
-    → (j : ℕ) × (is_profile_pattern (slice_get ms j) ≡ true) × (r ≡ refusal_here kinds.Pattern)
-    × NoneBefore ms j)
-    → IsPatternRefusal (if sound then profile_patterns ms else []) r
-    → (j : ℕ) × (is_profile_pattern (slice_get (m ∷ ms) j) ≡ true)
-    × (r ≡ refusal_here kinds.Pattern) × NoneBefore (m ∷ ms) j
+    → has_valid_pattern m ≡ sound → (IsPatternRefusal (profile_patterns ms) r → IsMetAt ms r)
+    → IsPatternRefusal (if sound then profile_patterns ms else []) r → IsMetAt (m ∷ ms) r
 met_behind m ms r true is behind h =
     let found = behind h in
     (suc found.0, found.1, found.2, none_behind m ms found.0 is found.3)
@@ -101,20 +101,15 @@ met_behind m ms r false is behind h = absurd h
 
 met_head : (m : Condition) (ms : List Condition) (r : Refusal) (profile : Bool)
     → (takes_pattern m.op && in_profile m.value) ≡ profile
-    → (IsPatternRefusal (profile_patterns ms) r
-    → (j : ℕ) × (is_profile_pattern (slice_get ms j) ≡ true) × (r ≡ refusal_here kinds.Pattern)
-    × NoneBefore ms j)
+    → (IsPatternRefusal (profile_patterns ms) r → IsMetAt ms r)
     → IsPatternRefusal ((if profile then [] ∷ [] else [])
-    ++ (if has_valid_pattern m then profile_patterns ms else [])) r
-    → (j : ℕ) × (is_profile_pattern (slice_get (m ∷ ms) j) ≡ true)
-    × (r ≡ refusal_here kinds.Pattern) × NoneBefore (m ∷ ms) j
+    ++ (if has_valid_pattern m then profile_patterns ms else [])) r → IsMetAt (m ∷ ms) r
 met_head m ms r true is behind (inl e) = (zero, is, e, none_first (m ∷ ms))
 met_head m ms r true is behind (inr h) = met_behind m ms r (has_valid_pattern m) refl behind h
 met_head m ms r false is behind h = met_behind m ms r (has_valid_pattern m) refl behind h
 
 pub met_pattern : (ms : List Condition) (r : Refusal) → IsPatternRefusal (profile_patterns ms) r
-    → (j : ℕ) × (is_profile_pattern (slice_get ms j) ≡ true) × (r ≡ refusal_here kinds.Pattern)
-    × NoneBefore ms j
+    → IsMetAt ms r
 met_pattern [] r h = absurd h
 met_pattern (m ∷ ms) r h =
     met_head m ms r (takes_pattern m.op && in_profile m.value) refl (met_pattern ms r) h
@@ -193,10 +188,9 @@ matcher_judged m = record {
 abbrev pub pattern_at : {Q : Type 0} → (Data → Q → Option Condition) → Data → Q → Bool
 pattern_at matcher_at item place = is_profile_pattern (matcher_at item place)
 
--- the matcher of an item, if there is one, has the pattern
-pub item_pattern : {Q : Type 0} (path : Q → List Step) (fault_in : List Data → Data → Q → Option Kind)
-    (matcher_at : Data → Q → Option Condition) (item : Option Data) (place : Q)
-    → is_profile_pattern (option_and_then (λ d. matcher_at d place) item)
-    ≡ pattern_of_next (items_sequence path fault_in (pattern_at matcher_at)) item place
-item_pattern path fault_in matcher_at None place = refl
-item_pattern path fault_in matcher_at (Some d) place = refl
+-- the matcher of the next, if there is one, has the pattern
+pub next_pattern : {X Q : Type 0} (s : Sequence X Q) (place : Q) (matcher_of : X → Option Condition)
+    → ((x : X) → is_profile_pattern (matcher_of x) ≡ s.pattern_in x place) → (found : Option X)
+    → is_profile_pattern (option_and_then matcher_of found) ≡ pattern_of_next s found place
+next_pattern s place matcher_of same None = refl
+next_pattern s place matcher_of same (Some x) = same x

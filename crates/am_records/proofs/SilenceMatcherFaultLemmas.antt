@@ -1,13 +1,13 @@
 -- The first fault of a matcher of a silence, by its places.
 use Rattle.std.proofs.Common.{Bool, List, None, Ok, Option, Some, [], arith, codes, false, refl}
-use Rattle.std.proofs.Common.{ap, subst, suc, sym, true, unwrap_or, zero, ℕ, ◌<◌, ◌∙◌, ◌≡◌}
+use Rattle.std.proofs.Common.{ap, subst, suc, sym, true, unwrap_or, zero, ℕ, ◌∙◌, ◌≡◌}
 use Rattle.serde_json.specs.Data.{Data}
 use Rattle.serde_json.specs.Find as find
 use Rattle.am_universe.specs.declared.kind.Kind.TheVariants as kinds
 use Rattle.am_labels.specs.Matcher.{Condition}
 use Rattle.am_json.specs.Json.{field}
-use Rattle.am_json.specs.Places.{OnlyPlace, boolean_fault, in_field, known_member, object_itself, other_field}
-use Rattle.am_json.specs.Places.{name_of, rank_of, shape_or, text_of}
+use Rattle.am_json.specs.Places.{OnlyPlace, boolean_fault, in_field, known_member, name_of}
+use Rattle.am_json.specs.Places.{object_itself, rank_of, shape_or, text_of}
 use Rattle.am_json.specs.Pointer.{refusal_here, to_field}
 use Rattle.am_json.specs.Reading.{Reading, accept, accept_some, reading_within, refuse_for}
 use Rattle.am_json.specs.Reading.{boolean_or, read_boolean_or, required_text, ◌>>=◌}
@@ -24,9 +24,8 @@ use Rattle.am_records.specs.MatcherFaults.{check_matcher, is_profile_pattern, la
 use Rattle.am_json.proofs.FieldLemmas.{boolean_judged, text_field_judges}
 use Rattle.am_json.proofs.ObjectLemmas.{object_tells, open_form, open_judged}
 use Rattle.am_records.proofs.PatternFaultLemmas.{matcher_form, matcher_judged}
-use Rattle.am_json.proofs.PlaceLemmas.{Clear, Form, IsPart, Judges, RanksTell, judges_plain}
-use Rattle.am_json.proofs.PlaceLemmas.{one_place, part_judges}
-use Rattle.am_json.proofs.PlaceLemmas.{said_of, same_judged}
+use Rattle.am_json.proofs.PlaceLemmas.{Clear, Form, IsBetween, IsPart, Judges, RanksTell}
+use Rattle.am_json.proofs.PlaceLemmas.{all_accepted, none_yet, one_place, part_judges, same_judged}
 use Rattle.am_json.proofs.PlaceOrder.{lead}
 use Rattle.am_json.proofs.Readings.{same_read}
 use Rattle.am_json.proofs.SameReadings.{then_accept, then_assoc}
@@ -56,15 +55,16 @@ field_led _ = matcher_pattern
 led : (place : SilenceMatcherField)
     → field_led (lead (rank_of (silence_matcher_field_path place))) ≡ place
 led matcher_name = refl
-led matcher_value = refl
-led matcher_is_regex = refl
-led matcher_is_equal = refl
-led matcher_pattern = refl
+led place = refl
 
 covered : (number : ℕ) (place : SilenceMatcherField)
     → lead (rank_of (silence_matcher_field_path place)) ≡ number
     → OnlyPlace × (place ≡ field_led number)
 covered number place e = (tt, sym (led place) ∙ ap field_led e)
+
+field_number : (place : SilenceMatcherField) → IsBetween 1 7 (silence_matcher_field_path place)
+field_number matcher_name = (omega arith, omega arith)
+field_number place = (omega arith, omega arith)
 
 module _ (d : Data) where
   abbrev matcher_fields : Form SilenceMatcherField
@@ -94,15 +94,6 @@ module _ (d : Data) where
       (matcher_form (silence_matcher d)) (λ _. matcher_pattern)
   pattern_part = record { rank = refl; seen = λ _. refl; covers = covered 6 }
 
-  none_yet : Clear matcher_fields 2
-  none_yet matcher_name lt = absurd (omega (arith, lt))
-  none_yet place lt = absurd (omega (arith, lt))
-
-  fields_clear : Clear matcher_fields 7 → (place : SilenceMatcherField)
-      → silence_matcher_field_fault d place ≡ None
-  fields_clear clear matcher_name = clear matcher_name (omega arith)
-  fields_clear clear place = clear place (omega arith)
-
   -- behind the four fields
   abbrev flagged : List ℕ → List ℕ → Bool → Bool → Reading Condition
   flagged name value is_regex is_equal =
@@ -124,10 +115,8 @@ module _ (d : Data) where
       let m = silence_matcher d in
       subst (Judges matcher_fields)
       (then_accept (reading_within (to_field (codes "value")) (check_matcher m)))
-      (part_judges matcher_fields 5 (known_member 5 (codes "value")) (matcher_form m)
-      (λ _. matcher_pattern) pattern_part clear (check_matcher m) (λ read. accept read)
-      (matcher_judged m)
-      (λ read _ last. judges_plain matcher_fields (Ok read) (fields_clear last)))
+      (part_judges matcher_fields pattern_part clear (check_matcher m) (λ read. accept read)
+      (matcher_judged m) (λ read _ last. all_accepted matcher_fields 1 7 field_number read last))
 
   equal_judges : Clear matcher_fields 5
       → Judges matcher_fields (read_boolean_or true (codes "isEqual") d
@@ -135,9 +124,8 @@ module _ (d : Data) where
   unfolding read_boolean_or
   equal_judges clear =
       let found = field (codes "isEqual") d in
-      part_judges matcher_fields 4 (known_member 4 (codes "isEqual"))
-      (one_place (boolean_fault found)) (λ _. matcher_is_equal) equal_part clear
-      (boolean_or true found) (flagged (name_of d) value_in regex_in) (boolean_judged true found)
+      part_judges matcher_fields equal_part clear (boolean_or true found)
+      (flagged (name_of d) value_in regex_in) (boolean_judged true found)
       (λ is_equal ok next.
       subst (λ (truth : Bool). Judges matcher_fields
       (flagged (name_of d) value_in regex_in truth)) (truth_gives true found is_equal ok)
@@ -154,9 +142,7 @@ module _ (d : Data) where
   unfolding read_boolean_or
   flags_judge clear =
       let found = field (codes "isRegex") d in
-      part_judges matcher_fields 3 (known_member 3 (codes "isRegex"))
-      (one_place (boolean_fault found)) (λ _. matcher_is_regex) regex_part clear
-      (boolean_or false found)
+      part_judges matcher_fields regex_part clear (boolean_or false found)
       (λ is_regex. read_boolean_or true (codes "isEqual") d >>= flagged (name_of d) value_in is_regex)
       (boolean_judged false found)
       (λ is_regex ok next.
@@ -167,8 +153,8 @@ module _ (d : Data) where
   value_judges : Clear matcher_fields 3
       → Judges matcher_fields (required_text (codes "value") d >>= flags_then (name_of d))
   value_judges clear =
-      text_field_judges matcher_fields 2 (codes "value") d (λ _. None) (λ _. matcher_value)
-      value_part clear (flags_then (name_of d))
+      text_field_judges matcher_fields (codes "value") d (λ _. None) value_part clear
+      (flags_then (name_of d))
       (λ value is next.
       subst (λ (text : List ℕ). Judges matcher_fields (flags_then (name_of d) text))
       (λ i. unwrap_or (is i) []) (flags_judge next))
@@ -195,8 +181,9 @@ module _ (d : Data) where
   fields_judge : Judges matcher_fields fields_reading
   fields_judge =
       rw (name_then (λ name. required_text (codes "value") d >>= flags_then name))
-      (text_field_judges matcher_fields 1 (codes "name") d label_name_fault (λ _. matcher_name)
-      name_part none_yet (λ name. required_text (codes "value") d >>= flags_then name)
+      (text_field_judges matcher_fields (codes "name") d label_name_fault name_part
+      (none_yet matcher_fields 1 7 field_number)
+      (λ name. required_text (codes "value") d >>= flags_then name)
       (λ name is next.
       subst (λ (text : List ℕ). Judges matcher_fields
       (required_text (codes "value") d >>= flags_then text)) (λ i. unwrap_or (is i) [])
@@ -209,18 +196,11 @@ module _ (d : Data) where
     has_pattern = λ place. is_profile_pattern (pattern_in_matcher d place);
   }
 
-  same_places : (place : SilenceMatcherPlace)
-      → said_of silence_matcher_form place
-      ≡ said_of (open_form (find.as_object d) matcher_fields) place
-  same_places object_itself = refl
-  same_places (other_field key) = refl
-  same_places (in_field place) = refl
-
   pub silence_matcher_judged : Judges silence_matcher_form (read_silence_matcher d)
   unfolding read_silence_matcher
   silence_matcher_judged =
-      same_judged silence_matcher_form (open_form (find.as_object d) matcher_fields) same_places
-      (read_silence_matcher d)
+      same_judged silence_matcher_form (open_form (find.as_object d) matcher_fields)
+      (elim [ object_itself ↦ refl | _ ↦ refl ]) (read_silence_matcher d)
       (open_judged matcher_fields fields_reading fields_judge (find.as_object d))
 
 -- ---- Ranks tell places.
@@ -228,9 +208,6 @@ module _ (d : Data) where
 field_tells : RanksTell silence_matcher_field_path
 field_tells = (λ rank. field_led (lead rank), led)
 
-in_matcher : (place : SilenceMatcherField) → 1 < lead (rank_of (silence_matcher_field_path place))
-in_matcher matcher_name = omega arith
-in_matcher place = omega arith
-
 pub silence_matcher_tells : RanksTell silence_matcher_path
-silence_matcher_tells = object_tells silence_matcher_field_path in_matcher field_tells
+silence_matcher_tells =
+    object_tells silence_matcher_field_path (λ place. (field_number place).0) field_tells

@@ -1,7 +1,6 @@
 -- The fault that reading silences meets first is the first by its places.
-use Rattle.std.proofs.Common.{List, None, Ok, Option, [], arith, codes, length}
-use Rattle.std.proofs.Common.{option_and_then, refl, slice_get, suc, unwrap_or, zero, ℕ}
-use Rattle.std.proofs.Common.{ℤ, ◌<◌, ◌∷◌, ◌≡◌}
+use Rattle.std.proofs.Common.{List, Option, [], arith, codes, length, option_and_then, refl}
+use Rattle.std.proofs.Common.{slice_get, suc, unwrap_or, zero, ℕ, ℤ, ◌∷◌, ◌≡◌}
 use Rattle.std.specs.Prelude.{⊤}
 use Rattle.serde_json.specs.Data.{Data}
 use Rattle.serde_json.specs.Find as find
@@ -12,8 +11,7 @@ use Rattle.am_records.specs.Instant.{instant_of}
 use Rattle.am_json.specs.Json.{field, items_of}
 use Rattle.am_json.specs.Places.{ArrayPlace, OnlyPlace, array_itself}
 use Rattle.am_json.specs.Places.{array_path, in_field, in_item, items_in_field, known_member}
-use Rattle.am_json.specs.Places.{object_itself, other_field, rank_of, shape_or}
-use Rattle.am_json.specs.Places.{text_of}
+use Rattle.am_json.specs.Places.{object_itself, rank_of, shape_or, text_of}
 use Rattle.am_json.specs.Pointer.{Refusal, refusal_here, to_field}
 use Rattle.am_json.specs.Reading.{MayRefuse, Reading, accept, accept_some}
 use Rattle.am_json.specs.Reading.{read_items, reading_within, required_items, ◌>>=◌}
@@ -29,25 +27,23 @@ use Rattle.am_records.specs.SilencesFaults.{silence_matcher_path, silence_matche
 use Rattle.am_records.specs.SilencesFaults.{silence_starts, silences_fault_at}
 use Rattle.am_records.specs.SilencesFaults.{silences_itself_fault, silences_path, time_fault}
 use Rattle.am_records.specs.SilencesFile.{FileSaysSilences, SaysSilences, Silence}
-use Rattle.am_records.specs.SilencesReading.{read_instant, read_next_silence}
-use Rattle.am_records.specs.SilencesReading.{read_next_silence_matcher, read_silence}
-use Rattle.am_records.specs.SilencesReading.{read_silence_array, read_silence_matchers}
-use Rattle.am_records.specs.SilencesReading.{read_silences, read_silences_file, required_instant}
+use Rattle.am_records.specs.SilencesReading.{read_instant, read_next_silence_matcher, read_silence}
+use Rattle.am_records.specs.SilencesReading.{read_silence_matchers, read_silences}
+use Rattle.am_records.specs.SilencesReading.{read_silences_file, required_instant}
 use Rattle.am_records.specs.declared.limits.TheConstants.{MAX_SILENCES}
 use Rattle.am_records.specs.MatcherFaults.{is_profile_pattern}
 use Rattle.am_json.proofs.FieldLemmas.{items_form, items_sequence, pattern_items_seen}
 use Rattle.am_json.proofs.FormLaws.{FormLaws, form_laws}
 use Rattle.am_json.specs.ReadingLaw.{IsReadExactly}
 use Rattle.am_json.proofs.ObjectLemmas.{array_tells, object_tells, open_form, open_judged}
-use Rattle.am_json.proofs.PlaceLemmas.{Clear, Form, IsPart, Judges, RanksTell}
-use Rattle.am_json.proofs.PlaceLemmas.{judges_plain, one_place, part_judges}
-use Rattle.am_json.proofs.PlaceLemmas.{said_of, same_judged, shape_judged}
-use Rattle.am_json.proofs.PlaceLemmas.{some_judged}
+use Rattle.am_json.proofs.PlaceLemmas.{Clear, Form, IsBetween, IsPart, Judges, RanksTell}
+use Rattle.am_json.proofs.PlaceLemmas.{all_accepted, none_yet, one_place, part_judges, said_of}
+use Rattle.am_json.proofs.PlaceLemmas.{same_judged, shape_judged, some_judged}
 use Rattle.am_json.proofs.PlaceOrder.{lead}
 use Rattle.am_json.proofs.SameReadings.{items_within_then, text_read_within}
 use Rattle.am_json.proofs.SequenceLemmas.{Sequence, array_form, items_judged, or_null_judged}
 use Rattle.am_json.proofs.SequenceLemmas.{required_array}
-use Rattle.am_records.proofs.PatternFaultLemmas.{item_pattern, pattern_at}
+use Rattle.am_records.proofs.PatternFaultLemmas.{next_pattern, pattern_at}
 use Rattle.am_records.proofs.SilenceMatcherFaultLemmas.{silence_matcher_judged}
 use Rattle.am_records.proofs.SilenceMatcherFaultLemmas.{silence_matcher_tells}
 use Rattle.am_records.proofs.SilencesSays.{silences_decide}
@@ -94,6 +90,10 @@ instant_within key d = text_read_within key read_instant d
 
 -- ---- A silence.
 
+field_number : (place : SilenceField) → IsBetween 1 5 (silence_field_path place)
+field_number (silence_matchers place) = (omega arith, omega arith)
+field_number place = (omega arith, omega arith)
+
 module _ (d : Data) where
   abbrev silence_fields : Form SilenceField
   silence_fields = record {
@@ -111,11 +111,6 @@ module _ (d : Data) where
   abbrev ends_field : Option (List ℕ)
   ends_field = text_of (field (codes "endsAt") d)
 
-  matchers_cover : (place : SilenceField) → lead (rank_of (silence_field_path place)) ≡ 2
-      → (inner : ArrayPlace SilenceMatcherPlace) × (place ≡ silence_matchers inner)
-  matchers_cover (silence_matchers inner) e = (inner, refl)
-  matchers_cover place e = absurd (omega (arith, e))
-
   starts_covers : (place : SilenceField) → lead (rank_of (silence_field_path place)) ≡ 3
       → OnlyPlace × (place ≡ silence_starts)
   starts_covers silence_starts e = (tt, refl)
@@ -131,8 +126,8 @@ module _ (d : Data) where
       ≡ (matchers_form matchers_field).has_pattern place
   matchers_pattern array_itself = refl
   matchers_pattern (in_item j place) =
-      item_pattern silence_matcher_path matcher_fault_in pattern_in_matcher
-      (slice_get (items_in_field matchers_field) j) place
+      next_pattern matchers_sequence place (λ item. pattern_in_matcher item place) (λ _. refl)
+      (slice_get (items_in_field matchers_field) j)
 
   matchers_part : IsPart silence_fields 1 (known_member 1 (codes "matchers"))
       (matchers_form matchers_field) silence_matchers
@@ -142,7 +137,7 @@ module _ (d : Data) where
         matcher_count_fault (codes "matchers") 1 matchers_field
         (λ place. is_profile_pattern (pattern_in_silence d (in_field (silence_matchers place))))
         matchers_pattern;
-    covers = matchers_cover;
+    covers = elim [ silence_matchers p ↦ λ e. (p, refl) | _ ↦ λ e. absurd (omega (arith, e)) ];
   }
 
   starts_part : IsPart silence_fields 2 (known_member 2 (codes "startsAt"))
@@ -153,15 +148,6 @@ module _ (d : Data) where
       (one_place (shape_or time_fault ends_field)) (λ _. silence_ends)
   ends_part = record { rank = refl; seen = λ _. refl; covers = ends_covers }
 
-  none_yet : Clear silence_fields 2
-  none_yet (silence_matchers inner) lt = absurd (omega (arith, lt))
-  none_yet place lt = absurd (omega (arith, lt))
-
-  fields_clear : Clear silence_fields 5 → (place : SilenceField)
-      → silence_field_fault d place ≡ None
-  fields_clear clear (silence_matchers inner) = clear (silence_matchers inner) (omega arith)
-  fields_clear clear place = clear place (omega arith)
-
   abbrev made_silence : List Condition → ℤ → ℤ → Silence
   made_silence matchers starts ends =
       record { matchers = matchers; starts = starts; ends = ends }
@@ -171,12 +157,11 @@ module _ (d : Data) where
       >>= λ ends. accept (made_silence matchers starts ends))
   ends_judge matchers starts clear =
       rw (instant_within (codes "endsAt") d)
-      (part_judges silence_fields 3 (known_member 3 (codes "endsAt"))
-      (one_place (shape_or time_fault ends_field)) (λ _. silence_ends) ends_part clear
+      (part_judges silence_fields ends_part clear
       (accept_some ends_field (refusal_here kinds.Shape) >>= read_instant)
       (λ ends. accept (made_silence matchers starts ends)) (instant_judged ends_field)
       (λ ends _ last.
-      judges_plain silence_fields (Ok (made_silence matchers starts ends)) (fields_clear last)))
+      all_accepted silence_fields 1 5 field_number (made_silence matchers starts ends) last))
 
   -- behind its matchers
   abbrev instants_then : List Condition → Reading Silence
@@ -189,8 +174,7 @@ module _ (d : Data) where
       → Judges silence_fields (instants_then matchers)
   instants_judge matchers clear =
       rw (instant_within (codes "startsAt") d)
-      (part_judges silence_fields 2 (known_member 2 (codes "startsAt"))
-      (one_place (shape_or time_fault starts_field)) (λ _. silence_starts) starts_part clear
+      (part_judges silence_fields starts_part clear
       (accept_some starts_field (refusal_here kinds.Shape) >>= read_instant)
       (λ starts. required_instant (codes "endsAt") d
       >>= λ ends. accept (made_silence matchers starts ends)) (instant_judged starts_field)
@@ -205,8 +189,7 @@ module _ (d : Data) where
   fields_judge : Judges silence_fields fields_reading
   fields_judge =
       rw (items_within_then (codes "matchers") read_silence_matchers d instants_then)
-      (part_judges silence_fields 1 (known_member 1 (codes "matchers"))
-      (matchers_form matchers_field) silence_matchers matchers_part none_yet
+      (part_judges silence_fields matchers_part (none_yet silence_fields 1 5 field_number)
       (accept_some (option_and_then items_of matchers_field) (refusal_here kinds.Shape)
       >>= read_silence_matchers) instants_then (matchers_judge matchers_field)
       (λ matchers _ next. instants_judge matchers next))
@@ -218,17 +201,12 @@ module _ (d : Data) where
     has_pattern = λ place. is_profile_pattern (pattern_in_silence d place);
   }
 
-  same_in_silence : (place : SilencePlace)
-      → said_of silence_form place ≡ said_of (open_form (find.as_object d) silence_fields) place
-  same_in_silence object_itself = refl
-  same_in_silence (other_field key) = refl
-  same_in_silence (in_field place) = refl
-
   silence_judged : Judges silence_form (read_silence d)
   unfolding read_silence
   silence_judged =
-      same_judged silence_form (open_form (find.as_object d) silence_fields) same_in_silence
-      (read_silence d) (open_judged silence_fields fields_reading fields_judge (find.as_object d))
+      same_judged silence_form (open_form (find.as_object d) silence_fields)
+      (elim [ object_itself ↦ refl | _ ↦ refl ]) (read_silence d)
+      (open_judged silence_fields fields_reading fields_judge (find.as_object d))
 
 -- ---- The file.
 
@@ -256,16 +234,16 @@ module _ (d : Data) where
   same_in_file (in_item i place) = λ j. (
     silences_path (in_item i place),
     silences_fault_at d (in_item i place),
-    item_pattern silence_path silence_fault_in pattern_in_silence (slice_get items_in i) place j,
+    next_pattern silences_sequence place (λ item. pattern_in_silence item place) (λ _. refl)
+        (slice_get items_in i) j,
   )
 
 items_judge : (d : Data)
     → Judges (array_form silences_sequence (silences_itself_fault d) (items_in d)) (read_silences d)
-unfolding read_silence_array
 items_judge d =
-    or_null_judged silences_sequence MAX_SILENCES (read_items read_next_silence []) d
-    (items_judged read_next_silence silences_sequence (λ i. refl) (λ _ _. ⊤) tt (items_in d)
-    (λ _ item _ _ _ _. silence_judged item) (λ _ _ _ _ _ _. tt))
+    or_null_judged silences_sequence MAX_SILENCES read_silence d
+    (items_judged (λ _ item. read_silence item) silences_sequence (λ i. refl) (λ _ _. ⊤) tt
+    (items_in d) (λ _ item _ _ _ _. silence_judged item) (λ _ _ _ _ _ _. tt))
 
 silences_judged : (d : Data) → Judges (silences_form d) (read_silences d)
 silences_judged d =
@@ -286,16 +264,12 @@ silence_field_tells : RanksTell silence_field_path
 silence_field_tells = (silence_field_at, is) where
   is : (place : SilenceField) → silence_field_at (rank_of (silence_field_path place)) ≡ place
   is (silence_matchers place) = λ i. silence_matchers (matchers_tell.1 place i)
-  is silence_starts = refl
-  is silence_ends = refl
-
-in_silence : (place : SilenceField) → 1 < lead (rank_of (silence_field_path place))
-in_silence (silence_matchers place) = omega arith
-in_silence place = omega arith
+  is place = refl
 
 silences_tell : RanksTell silences_path
-silences_tell = array_tells silence_path (object_tells silence_field_path in_silence
-    silence_field_tells)
+silences_tell =
+    array_tells silence_path
+    (object_tells silence_field_path (λ place. (field_number place).0) silence_field_tells)
 
 -- ---- The laws.
 

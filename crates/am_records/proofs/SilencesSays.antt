@@ -16,13 +16,12 @@ use Rattle.am_json.specs.Reading.{reading_within, refuse_for, read_items, as_obj
 use Rattle.am_json.specs.Reading.{required_text, required_items, read_boolean_or}
 use Rattle.am_records.specs.Instant.{instant_of}
 use Rattle.am_records.specs.SilencesFile.{Silence, flagged_op, SaysSilenceMatcher}
-use Rattle.am_records.specs.SilencesFile.{SaysInstant, SaysSilence, AreSilences, SaysSilences}
+use Rattle.am_records.specs.SilencesFile.{SaysInstant, SaysSilence, SaysSilences}
 use Rattle.am_records.specs.SilencesFaults.{matcher_count_fault}
 use Rattle.am_records.specs.SilencesReading.{read_label_name}
 use Rattle.am_records.specs.SilencesReading.{read_silence_matcher, read_next_silence_matcher}
 use Rattle.am_records.specs.SilencesReading.{read_silence_matchers, read_instant, required_instant}
-use Rattle.am_records.specs.SilencesReading.{read_silence, read_silence_array}
-use Rattle.am_records.specs.SilencesReading.{read_silences}
+use Rattle.am_records.specs.SilencesReading.{read_silence, read_silences}
 use Rattle.am_records.specs.MatcherFaults.{check_matcher, label_name_fault}
 use Rattle.am_json.proofs.Readings.{bind_ok, within_ok, refuse_for_ok, check_count_ok}
 use Rattle.am_json.proofs.Readings.{ok_or_some, same_read, Decides}
@@ -217,8 +216,4 @@ silence_decides : (d : Data) → Decides (SaysSilence d) ((read_silence d).resul
 silence_decides d = record { says = silence_says d; reads = silence_reads d }
 
 pub silences_decide : (d : Data) → Decides (SaysSilences d) ((read_silences d).result)
-unfolding read_silence_array
-silences_decide d =
-    or_null_decides SaysSilence read_silence silence_decides MAX_SILENCES AreSilences
-    (λ _ _ are. record { items = are.0; is_array = are.1; few = are.2; each = are.3 })
-    (λ _ _ said. (said.items, said.is_array, said.few, said.each)) d
+silences_decide = or_null_decides SaysSilence read_silence silence_decides MAX_SILENCES

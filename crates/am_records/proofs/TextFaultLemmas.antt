@@ -16,9 +16,9 @@ use Rattle.am_records.specs.UniverseFile.{read_impossible}
 use Rattle.am_json.specs.Places.{OnlyPlace, limit_fault, rank_of, shape_or, turn}
 use Rattle.am_json.specs.Pointer.{refusal_here}
 use Rattle.am_json.specs.Reading.{Reading, accept, accept_some, check_count, reading_within, ◌>>=◌}
-use Rattle.am_json.proofs.PlaceLemmas.{Clear, Form, IsPart, Judges, RanksTell, judges_plain}
-use Rattle.am_json.proofs.PlaceLemmas.{one_place, part_judges, refuse_judges, shape_judged}
-use Rattle.am_json.proofs.PlaceLemmas.{some_judged}
+use Rattle.am_json.proofs.PlaceLemmas.{Clear, Form, IsBetween, IsPart, Judges, RanksTell}
+use Rattle.am_json.proofs.PlaceLemmas.{all_accepted, none_yet, one_place, part_judges}
+use Rattle.am_json.proofs.PlaceLemmas.{refuse_judges, shape_judged, some_judged}
 use Rattle.am_json.proofs.PlaceOrder.{lead}
 use Rattle.am_records.proofs.PatternFaultLemmas.{patterns_form, patterns_judge}
 
@@ -103,31 +103,25 @@ module _ (d : Data) where
   pattern_part : IsPart list_form 2 (turn 2) (patterns_form (item_matchers d)) list_pattern
   pattern_part = record { rank = refl; seen = λ _. refl; covers = pattern_covers }
 
-  none_yet : Clear list_form 1
-  none_yet list_text lt = absurd (omega (arith, lt))
-  none_yet place lt = absurd (omega (arith, lt))
-
-  list_clear : Clear list_form 4 → (place : ListPlace) → list_fault_at d place ≡ None
-  list_clear clear list_text = clear list_text (omega arith)
-  list_clear clear place = clear place (omega arith)
+  list_number : (place : ListPlace) → IsBetween 0 4 (list_path place)
+  list_number list_text = (omega arith, omega arith)
+  list_number place = (omega arith, omega arith)
 
   checks_judge : Clear list_form 2 → Judges list_form (list_checks (item_matchers d))
   checks_judge clear =
       let ms = item_matchers d in
-      part_judges list_form 1 (turn 1) (one_place (limit_fault MAX_MATCHERS (length ms)))
-      (λ _. list_count) count_part clear (check_count MAX_MATCHERS (length ms))
+      part_judges list_form count_part clear (check_count MAX_MATCHERS (length ms))
       (λ _. reading_within [] (check_patterns ms) >>= λ _. accept ms)
       (refuse_judges (limit_fault MAX_MATCHERS (length ms)))
       (λ _ _ next.
-      part_judges list_form 2 (turn 2) (patterns_form ms) list_pattern pattern_part next
-      (check_patterns ms) (λ _. accept ms) (patterns_judge ms)
-      (λ _ _ last. judges_plain list_form (Ok ms) (list_clear last)))
+      part_judges list_form pattern_part next (check_patterns ms) (λ _. accept ms)
+      (patterns_judge ms) (λ _ _ last. all_accepted list_form 0 4 list_number ms last))
 
   pub list_judged : Judges list_form (read_impossible d)
   list_judged =
       rw (list_steps d)
-      (part_judges list_form 0 (turn 0) (one_place (shape_or spelling_fault (find.as_str d)))
-      (λ _. list_text) text_part none_yet (spelled (find.as_str d)) list_checks (spelled_judges d)
+      (part_judges list_form text_part (none_yet list_form 0 4 list_number)
+      (spelled (find.as_str d)) list_checks (spelled_judges d)
       (λ ms is clear.
       subst (λ (list : List Condition). Judges list_form (list_checks list))
       (spelled_says d ms is) (checks_judge clear)))
@@ -143,5 +137,4 @@ pub list_tells : RanksTell list_path
 list_tells = (list_place_at, is) where
   is : (place : ListPlace) → list_place_at (rank_of (list_path place)) ≡ place
   is list_text = refl
-  is list_count = refl
-  is (list_pattern j) = refl
+  is place = refl

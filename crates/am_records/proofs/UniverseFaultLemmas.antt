@@ -1,13 +1,14 @@
 -- The fault that reading a universe file meets first is the first by its places.
-use Rattle.std.proofs.Common.{Bool, List, None, Ok, Option, Some, [], ap, arith, codes, false}
-use Rattle.std.proofs.Common.{length, map, option_and_then, refl, slice_get, subst, suc, sym}
-use Rattle.std.proofs.Common.{unwrap_or, zero, ℕ, ◌++◌, ◌<◌, ◌||◌, ◌∙◌, ◌∷◌, ◌≡◌}
+use Rattle.std.proofs.Common.{List, None, Ok, Option, Some, [], ap, arith, codes, false, length}
+use Rattle.std.proofs.Common.{map, option_and_then, refl, slice_get, subst, suc, sym, unwrap_or}
+use Rattle.std.proofs.Common.{zero, ℕ, ◌++◌, ◌∙◌, ◌∷◌, ◌≡◌}
 use Rattle.std.proofs.lemmas.List.{map_push}
 use Rattle.std.specs.List.{list_any}
 use Rattle.std.specs.Prelude.{if◌then◌else◌, not, ⊤}
-use Rattle.serde_json.specs.Data.{Data, array, boolean, null, number, object, string}
+use Rattle.serde_json.specs.Data.{Data, null, string}
 use Rattle.serde_json.specs.Find.{as_str}
 use Rattle.serde_json.specs.Find as find
+use Rattle.am_universe.proofs.UniverseLemmas.{list_any-map}
 use Rattle.am_universe.specs.Text.{same_text}
 use Rattle.am_universe.specs.Universe.{Label, Values, count_fault, is_label_name}
 use Rattle.am_universe.specs.Universe.{name_fault, names, value_fault}
@@ -21,7 +22,7 @@ use Rattle.am_json.specs.Json.{field, items_of}
 use Rattle.am_json.specs.OptionalItems.{optional_array_fault, optional_items, read_optional_items}
 use Rattle.am_json.specs.Places.{ArrayPlace, OnlyPlace, array_itself, array_path, in_field, in_item}
 use Rattle.am_json.specs.Places.{items_in_field, known_member, limit_fault, object_itself, only_path}
-use Rattle.am_json.specs.Places.{other_field, rank_of, shape_or, text_of}
+use Rattle.am_json.specs.Places.{rank_of, shape_or, text_of}
 use Rattle.am_json.specs.Pointer.{Refusal, refusal_here, to_field}
 use Rattle.am_json.specs.Reading.{MayRefuse, Reading, accept, accept_some}
 use Rattle.am_json.specs.Reading.{read_items, reading_within, refuse_for, required_items}
@@ -47,15 +48,14 @@ use Rattle.am_json.specs.ReadingLaw.{IsReadExactly}
 use Rattle.am_json.proofs.ObjectLemmas.{array_tells, closed_form, closed_judged, no_open_pattern}
 use Rattle.am_json.proofs.ObjectLemmas.{object_tells, only_tells, open_pattern}
 use Rattle.am_json.proofs.OptionalArrays.{optional_array, optional_within}
-use Rattle.am_json.proofs.PlaceLemmas.{Clear, Form, IsPart, Judges, RanksTell, cause_judges}
-use Rattle.am_json.proofs.PlaceLemmas.{judges_plain, one_place}
-use Rattle.am_json.proofs.PlaceLemmas.{one_refused, part_judges, said, said_of}
-use Rattle.am_json.proofs.PlaceLemmas.{same_judged}
+use Rattle.am_json.proofs.PlaceLemmas.{Clear, Form, IsBetween, IsPart, Judges, RanksTell}
+use Rattle.am_json.proofs.PlaceLemmas.{all_accepted, cause_judges, none_yet, one_place}
+use Rattle.am_json.proofs.PlaceLemmas.{one_refused, part_judges, said, said_of, same_judged}
 use Rattle.am_json.proofs.PlaceOrder.{lead}
 use Rattle.am_json.proofs.SameReadings.{items_within, items_within_then}
 use Rattle.am_json.proofs.SequenceLemmas.{Sequence, array_form, items_judged, next_form}
 use Rattle.am_json.proofs.SequenceLemmas.{required_array}
-use Rattle.am_records.proofs.PatternFaultLemmas.{item_pattern, pattern_at}
+use Rattle.am_records.proofs.PatternFaultLemmas.{next_pattern, pattern_at}
 use Rattle.am_records.proofs.TextFaultLemmas.{list_judged, list_tells}
 use Rattle.am_records.proofs.UniverseSays.{label_says, universe_decides, value_says}
 
@@ -66,10 +66,7 @@ value_judged : (ds : List Data) (d : Data)
 unfolding read_next_value
 value_judged ds null = cause_judges (value_fault (map as_str ds) None) None
 value_judged ds (string s) = cause_judges (value_fault (map as_str ds) (Some s)) (Some s)
-value_judged ds (boolean b) = one_refused kinds.Shape
-value_judged ds (number n) = one_refused kinds.Shape
-value_judged ds (array items) = one_refused kinds.Shape
-value_judged ds (object ms) = one_refused kinds.Shape
+value_judged ds d = one_refused kinds.Shape
 
 said_value : (d : Data) (value : Option (List ℕ)) → SaysValue d value → as_str d ≡ value
 said_value d None said = ap as_str said
@@ -111,6 +108,10 @@ values_judge found =
 
 -- ---- A label.
 
+label_number : (place : LabelField) → IsBetween 1 4 (label_field_path place)
+label_number label_name = (omega arith, omega arith)
+label_number (label_values place) = (omega arith, omega arith)
+
 module _ (ds : List Data) (d : Data) where
   abbrev label_form : Form LabelField
   label_form = record {
@@ -128,11 +129,6 @@ module _ (ds : List Data) (d : Data) where
   name_covers label_name e = (tt, refl)
   name_covers (label_values place) e = absurd (omega (arith, e))
 
-  values_cover : (place : LabelField) → lead (rank_of (label_field_path place)) ≡ 3
-      → (inner : ArrayPlace OnlyPlace) × (place ≡ label_values inner)
-  values_cover label_name e = absurd (omega (arith, e))
-  values_cover (label_values place) e = (place, refl)
-
   name_part : IsPart label_form 1 (known_member 1 (codes "name"))
       (one_place (shape_or (name_fault (map named_label ds)) (text_of (field (codes "name") d))))
       (λ _. label_name)
@@ -144,16 +140,8 @@ module _ (ds : List Data) (d : Data) where
     rank = refl;
     seen = items_seen only_path value_fault_at (λ _ _. false) count_fault (codes "values") 2
         values_field (λ _ _. refl);
-    covers = values_cover;
+    covers = elim [ label_values place ↦ λ e. (place, refl) | _ ↦ λ e. absurd (omega (arith, e)) ];
   }
-
-  none_yet : Clear label_form 2
-  none_yet label_name lt = absurd (omega (arith, lt))
-  none_yet (label_values place) lt = absurd (omega (arith, lt))
-
-  label_clear : Clear label_form 4 → (place : LabelField) → label_field_fault ds d place ≡ None
-  label_clear clear label_name = clear label_name (omega arith)
-  label_clear clear (label_values place) = clear (label_values place) (omega arith)
 
 -- a label that was read
 abbrev made_label : List ℕ → Values → Label
@@ -171,31 +159,21 @@ fields_of_label rule d = do
 label_fields_judge : (ds : List Data) (d : Data)
     → Judges (label_form ds d) (fields_of_label (name_fault (map named_label ds)) d)
 label_fields_judge ds d =
-    text_field_judges (label_form ds d) 1 (codes "name") d (name_fault (map named_label ds))
-    (λ _. label_name) (name_part ds d) (none_yet ds d)
+    text_field_judges (label_form ds d) (codes "name") d (name_fault (map named_label ds))
+    (name_part ds d) (none_yet (label_form ds d) 1 4 label_number)
     (λ name. required_items (codes "values") d
     >>= λ items. reading_within (to_field (codes "values")) (read_values items)
     >>= λ values. accept (made_label name values))
     (λ name _ next.
     rw (items_within_then (codes "values") read_values d
     (λ values. accept (made_label name values)))
-    (part_judges (label_form ds d) 2 (known_member 2 (codes "values"))
-    (values_form (field (codes "values") d)) label_values (values_part ds d) next
+    (part_judges (label_form ds d) (values_part ds d) next
     (accept_some (option_and_then items_of (field (codes "values") d))
     (refusal_here kinds.Shape) >>= read_values)
     (λ values. accept (made_label name values))
     (values_judge (field (codes "values") d))
-    (λ values are last. judges_plain (label_form ds d) (Ok (made_label name values))
-    (label_clear ds d last))))
-
-in_label : (place : LabelField) → 1 < lead (rank_of (label_field_path place))
-in_label label_name = omega arith
-in_label (label_values place) = omega arith
-
-any-map : {X Y : Type 0} (p : Y → Bool) (f : X → Y) (xs : List X)
-    → list_any p (map f xs) ≡ list_any (λ x. p (f x)) xs
-any-map p f [] = refl
-any-map p f (x ∷ xs) = ap (λ (b : Bool). p (f x) || b) (any-map p f xs)
+    (λ values _ last.
+    all_accepted (label_form ds d) 1 4 label_number (made_label name values) last)))
 
 -- a fault of a name goes by the names of the other labels
 same_fault_of : (u v : List Label) → names u ≡ names v → (name : List ℕ)
@@ -208,9 +186,9 @@ same_fault_of u v e (c ∷ cs) = λ i.
   where
     same : (name : List ℕ)
         → list_any (λ l. same_text l.name name) u ≡ list_any (λ l. same_text l.name name) v
-    same name = sym (any-map (λ other. same_text other name) (λ (l : Label). l.name) u)
+    same name = sym (list_any-map (λ other. same_text other name) (λ (l : Label). l.name) u)
         ∙ (ap (list_any (λ other. same_text other name)) e
-        ∙ any-map (λ other. same_text other name) (λ (l : Label). l.name) v)
+        ∙ list_any-map (λ other. same_text other name) (λ (l : Label). l.name) v)
 
 same_name_fault : (u v : List Label) → names u ≡ names v → name_fault u ≡ name_fault v
 same_name_fault u v e = λ i name. same_fault_of u v e name i
@@ -230,8 +208,8 @@ labels_judged ds u d are =
     let judged = subst (λ (rule : List ℕ → Option Kind). Judges (label_form ds d)
     (fields_of_label rule d)) (same_name_fault (map named_label ds) u are)
     (label_fields_judge ds d) in
-    closed_judged label_fields (label_form ds d) in_label (fields_of_label (name_fault u) d) judged
-    d
+    closed_judged label_fields (label_form ds d) (λ place. (label_number place).0)
+    (fields_of_label (name_fault u) d) judged d
 
 labels_go_on : (ds : List Data) (u : List Label) (d : Data) (label : Label) → AreNamed ds u
     → (read_next_label u d).result ≡ Ok label → AreNamed (ds ++ d ∷ []) (u ++ label ∷ [])
@@ -297,6 +275,10 @@ lists_within : (d : Data)
 unfolding read_all_lists read_optional_items
 lists_within d = optional_within (codes "impossible") read_lists (field (codes "impossible") d)
 
+file_number : (place : UniverseField) → IsBetween 1 4 (universe_field_path place)
+file_number (file_labels place) = (omega arith, omega arith)
+file_number (file_impossible place) = (omega arith, omega arith)
+
 module _ (d : Data) where
   abbrev file_form : Form UniverseField
   file_form = record {
@@ -312,11 +294,6 @@ module _ (d : Data) where
   abbrev lists_field : Option Data
   lists_field = field (codes "impossible") d
 
-  labels_cover : (place : UniverseField) → lead (rank_of (universe_field_path place)) ≡ 2
-      → (inner : ArrayPlace LabelPlace) × (place ≡ file_labels inner)
-  labels_cover (file_labels place) e = (place, refl)
-  labels_cover (file_impossible place) e = absurd (omega (arith, e))
-
   lists_cover : (place : UniverseField) → lead (rank_of (universe_field_path place)) ≡ 3
       → (inner : ArrayPlace ListPlace) × (place ≡ file_impossible inner)
   lists_cover (file_labels place) e = absurd (omega (arith, e))
@@ -328,7 +305,7 @@ module _ (d : Data) where
     rank = refl;
     seen = items_seen label_path label_fault_at (λ _. open_pattern (λ _. false))
         (limit_fault MAX_LABELS) (codes "labels") 1 labels_field (λ _ place. no_open_pattern place);
-    covers = labels_cover;
+    covers = elim [ file_labels place ↦ λ e. (place, refl) | _ ↦ λ e. absurd (omega (arith, e)) ];
   }
 
   lists_seen : (place : ArrayPlace ListPlace)
@@ -339,21 +316,13 @@ module _ (d : Data) where
   lists_seen (in_item i place) = λ j. (
     universe_field_path (file_impossible (in_item i place)),
     universe_field_fault d (file_impossible (in_item i place)),
-    item_pattern list_path list_fault_in pattern_in_list
-        (slice_get (items_in_field lists_field) i) place j,
+    next_pattern lists_sequence place (λ item. pattern_in_list item place) (λ _. refl)
+        (slice_get (items_in_field lists_field) i) j,
   )
 
   lists_part : IsPart file_form 2 (known_member 2 (codes "impossible")) (lists_form lists_field)
       file_impossible
   lists_part = record { rank = refl; seen = lists_seen; covers = lists_cover }
-
-  nothing_yet : Clear file_form 2
-  nothing_yet (file_labels place) lt = absurd (omega (arith, lt))
-  nothing_yet (file_impossible place) lt = absurd (omega (arith, lt))
-
-  universe_clear : Clear file_form 4 → (place : UniverseField) → universe_field_fault d place ≡ None
-  universe_clear clear (file_labels place) = clear (file_labels place) (omega arith)
-  universe_clear clear (file_impossible place) = clear (file_impossible place) (omega arith)
 
   abbrev made_space : List Label → List (List Condition) → Space
   made_space labels impossible = record { labels = labels; impossible = impossible }
@@ -366,17 +335,15 @@ module _ (d : Data) where
       → Judges file_form (lists_then labels)
   lists_then_judge labels clear =
       rw (lists_within d)
-      (part_judges file_form 2 (known_member 2 (codes "impossible")) (lists_form lists_field)
-      file_impossible lists_part clear (optional_items lists_field >>= read_lists)
+      (part_judges file_form lists_part clear (optional_items lists_field >>= read_lists)
       (λ impossible. accept (made_space labels impossible)) (lists_judge lists_field)
       (λ impossible _ last.
-      judges_plain file_form (Ok (made_space labels impossible)) (universe_clear last)))
+      all_accepted file_form 1 4 file_number (made_space labels impossible) last))
 
   file_fields_judge : Judges file_form (read_all_labels d >>= lists_then)
   file_fields_judge =
       rw (labels_within d)
-      (part_judges file_form 1 (known_member 1 (codes "labels")) (labels_form labels_field)
-      file_labels labels_part nothing_yet
+      (part_judges file_form labels_part (none_yet file_form 1 4 file_number)
       (accept_some (option_and_then items_of labels_field) (refusal_here kinds.Shape)
       >>= read_labels) lists_then (labels_judge labels_field)
       (λ labels _ next. lists_then_judge labels next))
@@ -388,24 +355,13 @@ module _ (d : Data) where
     has_pattern = has_universe_pattern d;
   }
 
-  same_in_file : (place : UniversePlace)
-      → said_of universe_form place
-      ≡ said_of (closed_form file_fields (find.as_object d) file_form) place
-  same_in_file object_itself = refl
-  same_in_file (other_field key) = refl
-  same_in_file (in_field place) = refl
-
-in_file : (place : UniverseField) → 1 < lead (rank_of (universe_field_path place))
-in_file (file_labels place) = omega arith
-in_file (file_impossible place) = omega arith
-
 universe_judged : (d : Data) → Judges (universe_form d) (read_universe d)
 unfolding read_universe
 universe_judged d =
     same_judged (universe_form d) (closed_form file_fields (find.as_object d) (file_form d))
-    (same_in_file d) (read_universe d)
-    (closed_judged file_fields (file_form d) in_file (read_all_labels d >>= lists_then d)
-    (file_fields_judge d) d)
+    (elim [ object_itself ↦ refl | _ ↦ refl ]) (read_universe d)
+    (closed_judged file_fields (file_form d) (λ place. (file_number place).0)
+    (read_all_labels d >>= lists_then d) (file_fields_judge d) d)
 
 -- ---- Ranks tell places.
 
@@ -425,7 +381,9 @@ label_tells = (label_place_at values.0, is) where
   is (label_values place) = ap label_values (values.1 place)
 
 labels_tell : RanksTell (array_path label_path)
-labels_tell = array_tells label_path (object_tells label_field_path in_label label_tells)
+labels_tell =
+    array_tells label_path
+    (object_tells label_field_path (λ place. (label_number place).0) label_tells)
 
 lists_tell : RanksTell (array_path list_path)
 lists_tell = array_tells list_path list_tells
@@ -447,7 +405,7 @@ universe_tells = (universe_place_at, is) where
 pub universe_laws : FormLaws SaysUniverse read_universe universe_form
 universe_laws =
     form_laws SaysUniverse read_universe universe_form universe_decides universe_judged
-    (λ _. object_tells universe_field_path in_file universe_tells)
+    (λ _. object_tells universe_field_path (λ place. (file_number place).0) universe_tells)
 
 pub universe_file_read : IsReadExactly FileSaysUniverse read_universe_file IsFirstFaultOfUniverseFile
 unfolding read_universe_file

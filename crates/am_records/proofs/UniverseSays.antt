@@ -8,7 +8,7 @@ use Rattle.std.specs.List.{AllZip, IsDistinct}
 use Rattle.std.proofs.lemmas.List.{map-append}
 use Rattle.std.proofs.lemmas.Slice.Zip.{AllZip-long}
 use borrow.Author.Tests.{lt-leb}
-use Rattle.serde_json.specs.Data.{Data, null, boolean, number, string, array, object}
+use Rattle.serde_json.specs.Data.{Data, null}
 use Rattle.am_universe.specs.declared.kind.Kind.{Kind}
 use Rattle.am_universe.specs.declared.label_fault.LabelFault.{LabelFault}
 use Rattle.am_universe.specs.Text.{same_text}
@@ -65,11 +65,7 @@ read_value_says : (d : Data) (value : Option (List ℕ)) → (read_value d).resu
     → SaysValue d value
 read_value_says null None h = refl
 read_value_says null (Some t) h = absurd cc
-read_value_says (boolean b) value h = some_text_says (boolean b) value h
-read_value_says (number n) value h = some_text_says (number n) value h
-read_value_says (string s) value h = some_text_says (string s) value h
-read_value_says (array ds) value h = some_text_says (array ds) value h
-read_value_says (object ms) value h = some_text_says (object ms) value h
+read_value_says d value h = some_text_says d value h
 
 read_value_reads : (d : Data) (value : Option (List ℕ)) → SaysValue d value
     → (read_value d).result ≡ Ok value

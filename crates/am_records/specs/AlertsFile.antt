@@ -1,11 +1,12 @@
 -- Firing alerts, and which JSON value says which. (The form that `amtool alert query -o json`
 -- writes; the limits, and which fields are read, are this project's own.)
-use Rattle.std.specs.Prelude.{◌≡◌, ◌⊎◌, ◌≤◌, ℕ, List, [], length, fold, Some, codes}
+use Rattle.std.specs.Prelude.{◌≡◌, ◌≤◌, ℕ, List, length, fold, Some, codes}
 use Rattle.std.specs.FinMap as finite
 use Rattle.std.specs.List.{AllZip}
-use Rattle.serde_json.specs.Data.{Data, null, object, Members}
+use Rattle.serde_json.specs.Data.{Data, object, Members}
 use Rattle.am_universe.specs.LabelSet.{LabelMap, with_value}
-use Rattle.am_json.specs.Json.{FileSays, field, items_of, member_list}
+use Rattle.am_json.specs.Json.{FileSays, field, member_list}
+use Rattle.am_json.specs.OptionalItems.{SaysItemsOrNull}
 use Rattle.am_records.specs.declared.limits.TheConstants.{MAX_ALERTS, MAX_ALERT_LABELS}
 use Rattle.am_records.specs.NamedText.{SaysNamedText}
 
@@ -35,14 +36,8 @@ pub record SaysAlert (d : Data) (s : LabelMap) : Type 0 where
 -- Source: Alertmanager API v2, "gettableAlerts". Own choice: the limit, that `null` says none, and
 -- that the status of an alert means nothing: one that is silenced or inhibited fires too.
 -- Example: `[]` and `null` say no alerts, and `{}` says nothing.
-pub record AreAlerts (d : Data) (alerts : List LabelMap) : Type 0 where
-  pub items : List Data
-  pub is_array : items_of d ≡ Some items
-  pub few : length items ≤ MAX_ALERTS
-  pub each : AllZip SaysAlert items alerts
-
 abbrev pub SaysAlerts : Data → List LabelMap → Type 0
-SaysAlerts d alerts = ((d ≡ null) × (alerts ≡ [])) ⊎ AreAlerts d alerts
+SaysAlerts d alerts = SaysItemsOrNull SaysAlert MAX_ALERTS d alerts
 
 -- The bytes of a file, at most `MAX_FILE_BYTES`, say the alerts that their JSON value says.
 abbrev pub FileSaysAlerts : List ℕ → List LabelMap → Type 0

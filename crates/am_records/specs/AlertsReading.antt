@@ -1,13 +1,13 @@
 -- Reading alerts with the first fault that is met. What counts is the relation that it decides,
 -- `SaysAlerts`, and the first fault by places.
-use Rattle.std.specs.Prelude.{ℕ, List, [], length, if◌then◌else◌, codes}
+use Rattle.std.specs.Prelude.{ℕ, List, length, codes}
 use Rattle.std.specs.FinMap as finite
 use Rattle.serde_json.specs.Data.{Data}
 use Rattle.am_universe.specs.LabelSet.{LabelMap, with_value}
-use Rattle.am_json.specs.Json.{is_null, member_list}
+use Rattle.am_json.specs.Json.{member_list}
 use Rattle.am_json.specs.Pointer.{to_field}
 use Rattle.am_json.specs.Reading.{Reading, ◌>>=◌, accept, reading_within, check_count, read_each}
-use Rattle.am_json.specs.Reading.{read_items, as_object, as_items, required_field, read_json}
+use Rattle.am_json.specs.Reading.{read_items_or_null, as_object, required_field, read_json}
 use Rattle.am_records.specs.declared.limits.TheConstants.{MAX_ALERTS, MAX_ALERT_LABELS}
 use Rattle.am_records.specs.NamedText.{read_named_text}
 
@@ -31,20 +31,9 @@ read_alert d = do
   value ← required_field (codes "labels") d
   reading_within (to_field (codes "labels")) (read_alert_labels value)
 
--- An alert behind others, which it does not depend on.
-abbrev pub read_next_alert : List LabelMap → Data → Reading LabelMap
-read_next_alert before d = read_alert d
-
--- The alerts of an array.
-unfoldable pub read_alert_array : Data → Reading (List LabelMap)
-read_alert_array d = do
-  items ← as_items d
-  _ ← check_count MAX_ALERTS (length items)
-  read_items read_next_alert [] items
-
 -- The alerts that a value says, or its first fault.
 abbrev pub read_alerts : Data → Reading (List LabelMap)
-read_alerts d = if is_null d then accept [] else read_alert_array d
+read_alerts d = read_items_or_null MAX_ALERTS read_alert d
 
 -- The alerts that a file says, or its first fault.
 unfoldable pub read_alerts_file : List ℕ → Reading (List LabelMap)

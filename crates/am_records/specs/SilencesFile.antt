@@ -1,10 +1,10 @@
 -- Silences, and which JSON value says which. (The form that `amtool silence query -o json` writes
 -- and `amtool silence import` reads; the limits, and which fields are read, are this project's
 -- own.)
-use Rattle.std.specs.Prelude.{◌≡◌, ◌≢◌, ◌⊎◌, ◌≤◌, ℕ, ℤ, List, [], length, Bool, true, false, IsTrue}
+use Rattle.std.specs.Prelude.{◌≡◌, ◌≢◌, ◌≤◌, ℕ, ℤ, List, [], length, Bool, true, false, IsTrue}
 use Rattle.std.specs.Prelude.{Some, option_and_then, codes}
 use Rattle.std.specs.List.{AllZip}
-use Rattle.serde_json.specs.Data.{Data, null, string}
+use Rattle.serde_json.specs.Data.{Data, string}
 use Rattle.am_labels.specs.declared.limits.TheConstants.{MAX_MATCHERS}
 use Rattle.am_labels.specs.Matcher.{Condition}
 use Rattle.am_labels.specs.MatcherRefusals.{has_valid_pattern}
@@ -12,6 +12,7 @@ use Rattle.am_labels.specs.declared.op.Op.{Op}
 use Rattle.am_labels.specs.declared.op.Op.TheVariants.{Equal, NotEqual, Matches, NotMatches}
 use Rattle.am_records.specs.declared.limits.TheConstants.{MAX_SILENCES}
 use Rattle.am_json.specs.Json.{FileSays, field, items_of, SaysBooleanOr}
+use Rattle.am_json.specs.OptionalItems.{SaysItemsOrNull}
 use Rattle.am_records.specs.Instant.{instant_of}
 
 -- A silence: its matchers, and the instants at which it begins and ends, in nanoseconds since
@@ -74,14 +75,8 @@ pub record SaysSilence (d : Data) (s : Silence) : Type 0 where
 -- Source: Alertmanager API v2, "gettableSilences". Own choice: the limit, and that `null` says
 -- none.
 -- Example: `[]` and `null` say no silences, and `{}` says nothing.
-pub record AreSilences (d : Data) (silences : List Silence) : Type 0 where
-  pub items : List Data
-  pub is_array : items_of d ≡ Some items
-  pub few : length items ≤ MAX_SILENCES
-  pub each : AllZip SaysSilence items silences
-
 abbrev pub SaysSilences : Data → List Silence → Type 0
-SaysSilences d silences = ((d ≡ null) × (silences ≡ [])) ⊎ AreSilences d silences
+SaysSilences d silences = SaysItemsOrNull SaysSilence MAX_SILENCES d silences
 
 -- The bytes of a file, at most `MAX_FILE_BYTES`, say the silences that their JSON value says.
 abbrev pub FileSaysSilences : List ℕ → List Silence → Type 0

@@ -1,15 +1,14 @@
 -- Reading silences with the first fault that is met. What counts is the relation that it decides,
 -- `SaysSilences`, and the first fault by places.
-use Rattle.std.specs.Prelude.{ℕ, ℤ, List, [], length, true, false, if◌then◌else◌, codes}
+use Rattle.std.specs.Prelude.{ℕ, ℤ, List, [], length, true, false, codes}
 use Rattle.serde_json.specs.Data.{Data}
 use Rattle.am_universe.specs.declared.kind.Kind.TheVariants as kinds
 use Rattle.am_labels.specs.Matcher.{Condition}
 use Rattle.am_labels.specs.declared.op.Op.{Op}
 use Rattle.am_records.specs.declared.limits.TheConstants.{MAX_SILENCES}
-use Rattle.am_json.specs.Json.{is_null}
 use Rattle.am_json.specs.Pointer.{refusal_here, to_field}
 use Rattle.am_json.specs.Reading.{Reading, ◌>>=◌, accept, accept_some, reading_within, refuse_for}
-use Rattle.am_json.specs.Reading.{check_count, read_items, as_object, as_items}
+use Rattle.am_json.specs.Reading.{read_items, read_items_or_null, as_object}
 use Rattle.am_json.specs.Reading.{required_text, required_items, read_boolean_or, read_json}
 use Rattle.am_records.specs.MatcherFaults.{label_name_fault, check_matcher}
 use Rattle.am_records.specs.Instant.{instant_of}
@@ -69,20 +68,9 @@ read_silence d = do
   ends ← required_instant (codes "endsAt") d
   accept (record { matchers = matchers; starts = starts; ends = ends })
 
--- A silence behind others, which it does not depend on.
-abbrev pub read_next_silence : List Silence → Data → Reading Silence
-read_next_silence before d = read_silence d
-
--- The silences of an array.
-unfoldable pub read_silence_array : Data → Reading (List Silence)
-read_silence_array d = do
-  items ← as_items d
-  _ ← check_count MAX_SILENCES (length items)
-  read_items read_next_silence [] items
-
 -- The silences that a value says, or its first fault.
 abbrev pub read_silences : Data → Reading (List Silence)
-read_silences d = if is_null d then accept [] else read_silence_array d
+read_silences d = read_items_or_null MAX_SILENCES read_silence d
 
 -- The silences that a file says, or its first fault.
 unfoldable pub read_silences_file : List ℕ → Reading (List Silence)

@@ -21,12 +21,11 @@ pub use Rattle.am_records.specs.SilencesFaults.{SilencesPlace, silences_fault_at
 pub use Rattle.am_records.specs.SilencesFaults.{IsFirstFaultOfSilences, IsFirstFaultOfSilencesFile}
 pub use Rattle.am_records.specs.SilencesFaults.{IsMetPatternOfSilences, SilencesFileRefusedFor}
 pub use Rattle.am_records.specs.SilencesReading.{read_flagged_matcher, read_instant}
-pub use Rattle.am_records.specs.SilencesReading.{read_next_silence_matcher, read_next_silence}
+pub use Rattle.am_records.specs.SilencesReading.{read_next_silence_matcher}
 unfoldable pub use Rattle.am_records.specs.SilencesReading.{read_label_name}
 unfoldable pub use Rattle.am_records.specs.SilencesReading.{read_silence_matcher}
 unfoldable pub use Rattle.am_records.specs.SilencesReading.{read_silence_matchers, required_instant}
-unfoldable pub use Rattle.am_records.specs.SilencesReading.{read_silence, read_silence_array}
-unfoldable pub use Rattle.am_records.specs.SilencesReading.{read_silences_file}
+unfoldable pub use Rattle.am_records.specs.SilencesReading.{read_silence, read_silences_file}
 pub use Rattle.am_records.specs.SilencesReading.{read_silences}
 unfoldable pub use Rattle.am_records.specs.NamedText.{read_named_text}
 pub use Rattle.am_records.specs.AlertsFile.{SaysAlerts, FileSaysAlerts}
@@ -35,5 +34,5 @@ pub use Rattle.am_records.specs.AlertsFaults.{AlertsPlace, alerts_fault_at}
 pub use Rattle.am_records.specs.AlertsFaults.{IsFirstFaultOfAlerts, IsFirstFaultOfAlertsFile}
 unfoldable pub use Rattle.am_records.specs.AlertsReading.{read_next_alert_label}
 unfoldable pub use Rattle.am_records.specs.AlertsReading.{read_alert_labels, read_alert}
-pub use Rattle.am_records.specs.AlertsReading.{read_next_alert, read_alerts}
-unfoldable pub use Rattle.am_records.specs.AlertsReading.{read_alert_array, read_alerts_file}
+pub use Rattle.am_records.specs.AlertsReading.{read_alerts}
+unfoldable pub use Rattle.am_records.specs.AlertsReading.{read_alerts_file}

@@ -1,16 +1,15 @@
 //! Reading an export of alerts.
 
-ghost use Rattle.std.specs.Prelude.{[], map, IfOk, IfErr};
+ghost use Rattle.std.specs.Prelude.{◌≤◌, [], length, map, IfOk, IfErr};
 ghost use Rattle.std.specs.FinMap as finite;
 ghost use Rattle.serde_json.specs.View.{view, members_view};
 ghost use Rattle.am_universe.specs.declared.place.Place.TheVariants as places;
 ghost use Rattle.am_labels.specs.Words.{with_value};
 ghost use Rattle.am_json.specs.Words.{member_list, Gives, IsRefusalAt, accept, read_each};
-ghost use Rattle.am_json.specs.Words.{read_items};
+ghost use Rattle.am_json.specs.Words.{read_items, read_item_array};
 ghost use Rattle.am_records.specs.Words.{FileSaysAlerts, IsFirstFaultOfAlertsFile};
 ghost use Rattle.am_records.specs.Words.{read_next_alert_label, read_alert_labels, read_alert};
-ghost use Rattle.am_records.specs.Words.{read_next_alert, read_alert_array, read_alerts};
-ghost use Rattle.am_records.specs.Words.{read_alerts_file};
+ghost use Rattle.am_records.specs.Words.{read_alerts, read_alerts_file};
 
 use crate::alert::Alerts;
 use crate::limits::{MAX_ALERT_LABELS, MAX_ALERTS};
@@ -63,9 +62,10 @@ fn read_alerts_value(alloc: Global, value: &Value) -> Result<Alerts, ReadError>
     read_alert_array(alloc, value)
 }
 
-#[tactic(auto, using(am_json::proofs::Readings::steps), unfolding(crate::specs::AlertsReading::read_alert_array))]
+#[tactic(auto, using(am_json::proofs::Readings::steps), unfolding(am_json::specs::Reading::read_item_array))]
 fn read_alert_array(alloc: Global, value: &Value) -> Result<Alerts, ReadError>
-    ensures { Gives (λ alerts. alerts) result (read_alert_array (view value.now)) }
+    ensures { Gives (λ alerts. alerts) result
+        (read_item_array MAX_ALERTS read_alert (view value.now)) }
 {
     let items = as_items(alloc, value)?;
     check_count(alloc, MAX_ALERTS, items.len())?;
@@ -74,8 +74,9 @@ fn read_alert_array(alloc: Global, value: &Value) -> Result<Alerts, ReadError>
 }
 
 fn read_each_alert(alloc: Global, items: &[Value]) -> Result<Vec<LabelSet>, ReadError>
-    ensures { Gives (λ alerts. alerts.items) result
-        (read_items read_next_alert [] (map view items.now)) }
+    ensures reading { Gives (λ alerts. alerts.items) result
+        (read_items (λ _ d. read_alert d) [] (map view items.now)) }
+    ensures few { IfOk result (λ alerts. length alerts.items ≤ length items.now) }
 {
     read_each_item(alloc, items, |item| read_alert(alloc, item))
 }

@@ -5,14 +5,13 @@ ghost use Rattle.std.specs.Prelude.{IfOk, IfErr, OnOk};
 ghost use Rattle.serde_json.specs.View.{view};
 ghost use Rattle.am_universe.specs.declared.place.Place.TheVariants as places;
 ghost use Rattle.am_json.specs.declared.read_error.ReadError.TheVariants as errors;
-ghost use Rattle.am_json.specs.Words.{Gives, IsRefusalAt, read_items};
+ghost use Rattle.am_json.specs.Words.{Gives, IsRefusalAt, read_items, read_item_array};
 ghost use Rattle.am_records.specs.Words.{FileSaysSilences, SilencesFileRefusedFor, flagged_op};
 ghost use Rattle.am_records.specs.Words.{read_label_name, read_flagged_matcher};
 ghost use Rattle.am_records.specs.Words.{read_silence_matcher};
 ghost use Rattle.am_records.specs.Words.{read_next_silence_matcher, read_silence_matchers};
 ghost use Rattle.am_records.specs.Words.{read_instant, required_instant, read_silence};
-ghost use Rattle.am_records.specs.Words.{read_next_silence, read_silence_array, read_silences};
-ghost use Rattle.am_records.specs.Words.{read_silences_file, matcher_count_fault};
+ghost use Rattle.am_records.specs.Words.{read_silences, read_silences_file, matcher_count_fault};
 
 use crate::instant::parse_instant;
 use crate::limits::MAX_SILENCES;
@@ -73,9 +72,9 @@ fn read_silences_value(alloc: Global, value: &Value) -> Result<Silences, ReadErr
     read_silence_array(alloc, value)
 }
 
-#[tactic(auto, using(am_json::proofs::Readings::steps), unfolding(crate::specs::SilencesReading::read_silence_array))]
+#[tactic(auto, using(am_json::proofs::Readings::steps), unfolding(am_json::specs::Reading::read_item_array))]
 fn read_silence_array(alloc: Global, value: &Value) -> Result<Silences, ReadError>
-    ensures { Gives (λ s. s) result (read_silence_array (view value.now)) }
+    ensures { Gives (λ s. s) result (read_item_array MAX_SILENCES read_silence (view value.now)) }
 {
     let items = as_items(alloc, value)?;
     check_count(alloc, MAX_SILENCES, items.len())?;
@@ -84,8 +83,9 @@ fn read_silence_array(alloc: Global, value: &Value) -> Result<Silences, ReadErro
 }
 
 fn read_each_silence(alloc: Global, items: &[Value]) -> Result<Vec<Silence>, ReadError>
-    ensures { Gives (λ silences. silences.items) result
-        (read_items read_next_silence [] (map view items.now)) }
+    ensures reading { Gives (λ silences. silences.items) result
+        (read_items (λ _ d. read_silence d) [] (map view items.now)) }
+    ensures few { IfOk result (λ silences. length silences.items ≤ length items.now) }
 {
     read_each_item(alloc, items, |item| read_silence(alloc, item))
 }
