@@ -3,7 +3,6 @@ use Rattle.std.proofs.Common.{List, None, Ok, Option, Some, [], ap, arith, codes
 use Rattle.std.proofs.Common.{length, map, option_and_then, refl, slice_get, subst, sym, unwrap_or}
 use Rattle.std.proofs.Common.{ℕ, ◌++◌, ◌∙◌, ◌∷◌, ◌≡◌}
 use Rattle.std.proofs.lemmas.List.{map_push}
-use Rattle.std.specs.Prelude.{⊤}
 use Rattle.serde_json.specs.Data.{Data}
 use Rattle.serde_json.specs.Find as find
 use Rattle.am_universe.specs.declared.kind.Kind.TheVariants as kinds
@@ -39,7 +38,7 @@ use Rattle.am_json.proofs.FormLaws.{FormLaws, form_laws}
 use Rattle.am_json.specs.ReadingLaw.{IsReadExactly}
 use Rattle.am_json.proofs.ObjectLemmas.{no_open_pattern, open_form, open_judged, open_pattern}
 use Rattle.am_json.proofs.PlaceLemmas.{Clear, Form, IsPart, Judges, all_accepted, itself_refused}
-use Rattle.am_json.proofs.PlaceLemmas.{none_yet, one_place, part_judges, same_judged}
+use Rattle.am_json.proofs.PlaceLemmas.{none_yet, one_part, one_place, part_judges, same_judged}
 use Rattle.am_json.proofs.PlaceOrder.{lead}
 use Rattle.am_files.proofs.RuleFaultLemmas.{rules_form, rules_judged, rules_seen, rules_sequence}
 use Rattle.am_files.proofs.RuleFaultLemmas.{rules_within}
@@ -63,14 +62,10 @@ module _ (before : List Data) (d : Data) where
     has_pattern = λ _. false;
   }
 
-  name_covers : (place : ReceiverField) → lead (rank_of (receiver_field_path place)) ≡ 2
-      → ⊤ × (place ≡ receiver_name)
-  name_covers receiver_name e = (tt, refl)
-
   name_part : IsPart receiver_fields 1 (known_member 1 (codes "name"))
       (one_place (shape_or (receiver_name_fault (map name_of before))
       (text_of (field (codes "name") d)))) (λ _. receiver_name)
-  name_part = record { rank = refl; seen = λ _. refl; covers = name_covers }
+  name_part = one_part receiver_fields refl refl (elim [ receiver_name ↦ λ e. refl ])
 
   abbrev name_reading : Reading (List ℕ)
   name_reading = do
@@ -270,22 +265,18 @@ module _ (d : Data) where
   rules_judge : (names : List (List ℕ)) (root : RouteTree) → Clear fields_form 4
       → Judges fields_form (rules_then names root)
   rules_judge names root clear =
-      part_judges fields_form rules_part clear rules_reading
-      (λ rules. accept (made_config names root rules)) (rules_judged rules_field)
-      (λ rules _ all.
-      all_accepted fields_form 1 5 (config_number d) (made_config names root rules) all)
+      part_judges fields_form rules_part clear (rules_judged rules_field)
+      (λ rules _. all_accepted fields_form 1 5 (config_number d) (made_config names root rules))
 
   root_judge : Clear fields_form 3 → Judges fields_form (root_then (declared_names d))
   root_judge clear =
       part_judges fields_form route_part clear
-      (root_reading (declared_names d) (field (codes "route") d)) (rules_then (declared_names d))
       (root_judged (declared_names d) (field (codes "route") d))
-      (λ root _ next. rules_judge (declared_names d) root next)
+      (λ root _. rules_judge (declared_names d) root)
 
   fields_judge : Judges fields_form config_rest
   fields_judge =
       part_judges fields_form receivers_part (none_yet fields_form 1 5 (config_number d))
-      (accept_some receivers_found (refusal_here kinds.Shape) >>= read_receiver_names) root_then
       (receivers_judged receivers_found)
       (λ names ok next. subst (λ (ns : List (List ℕ)). Judges fields_form (root_then ns))
       (receivers_named receivers_found names ok) (root_judge next))

@@ -30,7 +30,7 @@ use Rattle.am_json.specs.Reading.{refuse_for, ◌>>=◌}
 use Rattle.am_records.proofs.PatternFaultLemmas.{next_pattern, patterns_form, patterns_judge}
 use Rattle.am_records.proofs.TextFaultLemmas.{spelled, spelled_judges, spelled_says}
 use Rattle.am_json.proofs.PlaceLemmas.{Clear, Form, IsBetween, IsPart, Judges, all_accepted}
-use Rattle.am_json.proofs.PlaceLemmas.{itself_refused, judges_plain, none_yet, one_place}
+use Rattle.am_json.proofs.PlaceLemmas.{itself_refused, judges_plain, none_yet, one_part, one_place}
 use Rattle.am_json.proofs.PlaceLemmas.{part_judges, refuse_judges}
 use Rattle.am_json.proofs.PlaceOrder.{lead}
 use Rattle.am_json.proofs.Readings.{bind_ok, same_read, within_ok}
@@ -136,32 +136,22 @@ module _ (front : List Data) (d : Data) where
   abbrev text_form : Form OneText
   text_form = next_form texts_sequence front d
 
-  abbrev text_lead : OneText → ℕ
-  text_lead place = lead (rank_of (one_text_path (length front) place))
-
-  self_covers : (place : OneText) → text_lead place ≡ 1 → ⊤ × (place ≡ self_text)
-  self_covers self_text e = (tt, refl)
-  self_covers place e = absurd (omega (arith, e))
-
-  alone_covers : (place : OneText) → text_lead place ≡ 2 → ⊤ × (place ≡ self_alone)
-  alone_covers self_alone e = (tt, refl)
-  alone_covers place e = absurd (omega (arith, e))
-
-  pattern_covers : (place : OneText) → text_lead place ≡ 3 → (j : ℕ) × (place ≡ self_pattern j)
+  pattern_covers : (place : OneText) → lead (rank_of (one_text_path (length front) place)) ≡ 3
+      → (j : ℕ) × (place ≡ self_pattern j)
   pattern_covers (self_pattern j) e = (j, refl)
   pattern_covers place e = absurd (omega (arith, e))
 
-  total_covers : (place : OneText) → text_lead place ≡ 4 → ⊤ × (place ≡ self_total)
-  total_covers self_total e = (tt, refl)
-  total_covers place e = absurd (omega (arith, e))
-
   self_part : IsPart text_form 0 (array_item 0 (length front))
       (one_place (shape_or spelling_fault (find.as_str d))) (λ _. self_text)
-  self_part = record { rank = refl; seen = λ _. refl; covers = self_covers }
+  self_part =
+      one_part text_form refl refl
+      (elim [ self_text ↦ λ e. refl | _ ↦ λ e. absurd (omega (arith, e)) ])
 
   alone_part : IsPart text_form 1 (turn 1)
       (one_place (limit_fault MAX_MATCHERS (length (item_matchers d)))) (λ _. self_alone)
-  alone_part = record { rank = refl; seen = λ _. refl; covers = alone_covers }
+  alone_part =
+      one_part text_form refl refl
+      (elim [ self_alone ↦ λ e. refl | _ ↦ λ e. absurd (omega (arith, e)) ])
 
   pattern_part : IsPart text_form 2 (array_item 2 (length front)) (patterns_form (item_matchers d))
       self_pattern
@@ -170,7 +160,9 @@ module _ (front : List Data) (d : Data) where
   total_part : IsPart text_form 3 (turn 3)
       (one_place (limit_fault MAX_MATCHERS
       (length (flat_map item_matchers front) + length (item_matchers d)))) (λ _. self_total)
-  total_part = record { rank = refl; seen = λ _. refl; covers = total_covers }
+  total_part =
+      one_part text_form refl refl
+      (elim [ self_total ↦ λ e. refl | _ ↦ λ e. absurd (omega (arith, e)) ])
 
   text_number : (place : OneText) → IsBetween 0 5 (one_text_path (length front) place)
   text_number self_text = (omega arith, omega arith)
@@ -183,29 +175,18 @@ module _ (front : List Data) (d : Data) where
   list_judges clear =
       let ms = item_matchers d in
       let a = flat_map item_matchers front in
-      part_judges text_form alone_part clear (check_count MAX_MATCHERS (length ms))
-      (λ _. reading_within (to_item (length front)) (check_patterns ms)
-      >>= λ _. reading_within [] (check_count MAX_MATCHERS (length a + length ms))
-      >>= λ _. accept (a ++ ms))
+      part_judges text_form alone_part clear
       (refuse_judges (limit_fault MAX_MATCHERS (length ms)))
-      (λ _ _ clear_patterns.
-      part_judges text_form pattern_part clear_patterns (check_patterns ms)
-      (λ _. reading_within [] (check_count MAX_MATCHERS (length a + length ms))
-      >>= λ _. accept (a ++ ms))
-      (patterns_judge ms)
-      (λ _ _ clear_total.
-      part_judges text_form total_part clear_total
-      (check_count MAX_MATCHERS (length a + length ms)) (λ _. accept (a ++ ms))
+      (λ _ _ next. part_judges text_form pattern_part next (patterns_judge ms)
+      (λ _ _ last. part_judges text_form total_part last
       (refuse_judges (limit_fault MAX_MATCHERS (length a + length ms)))
-      (λ _ _ clear_all. all_accepted text_form 0 5 text_number (a ++ ms) clear_all)))
+      (λ _ _. all_accepted text_form 0 5 text_number (a ++ ms))))
 
   text_judged : Judges text_form
       (read_next_matcher_text (flat_map item_matchers front) (length front, d))
   text_judged =
       rw (text_steps (length front) (flat_map item_matchers front) d)
-      (part_judges text_form self_part (none_yet text_form 0 5 text_number)
-      (spelled (find.as_str d)) (behind_spelled (length front) (flat_map item_matchers front))
-      (spelled_judges d)
+      (part_judges text_form self_part (none_yet text_form 0 5 text_number) (spelled_judges d)
       (λ ms is clear.
       subst (λ (list : List Condition). Judges text_form
       (behind_spelled (length front) (flat_map item_matchers front) list))
@@ -320,11 +301,6 @@ module _ (is_root : Bool) (items : List Data) where
   items_cover (text_total i) e = ((i, self_total), refl)
   items_cover place e = absurd (omega (arith, e))
 
-  given_covers : (place : TextsPlace) → lead (rank_of (texts_path place)) ≡ 2
-      → ⊤ × (place ≡ texts_given)
-  given_covers texts_given e = (tt, refl)
-  given_covers place e = absurd (omega (arith, e))
-
   items_part : IsPart whole_texts 0 (turn 0) (sequence_form texts_sequence items) into_texts
   items_part = record {
     rank = refl;
@@ -334,7 +310,9 @@ module _ (is_root : Bool) (items : List Data) where
 
   given_part : IsPart whole_texts 1 (turn 1)
       (one_place (given_fault is_root (flat_map item_matchers items))) (λ _. texts_given)
-  given_part = record { rank = refl; seen = λ _. refl; covers = given_covers }
+  given_part =
+      one_part whole_texts refl refl
+      (elim [ texts_given ↦ λ e. refl | _ ↦ λ e. absurd (omega (arith, e)) ])
 
   array_clear : Clear whole_texts 1
   array_clear texts_itself lt = refl
@@ -359,8 +337,6 @@ module _ (is_root : Bool) (items : List Data) where
       subst (λ (list : List Condition). Judges whole_texts (refuse_root_matchers is_root list)) same
       (subst (Judges whole_texts) (root_check (flat_map item_matchers items))
       (part_judges whole_texts given_part clear
-      (refuse_for (given_fault is_root (flat_map item_matchers items)))
-      (λ _. accept (flat_map item_matchers items))
       (refuse_judges (given_fault is_root (flat_map item_matchers items)))
       (λ _ _ all. judges_plain whole_texts (Ok (flat_map item_matchers items))
       (texts_clear all))))
@@ -369,8 +345,7 @@ module _ (is_root : Bool) (items : List Data) where
   array_judged =
       subst (λ (m : Reading (List Condition)). Judges whole_texts
       (m >>= refuse_root_matchers is_root)) (within_nothing (read_matcher_texts items))
-      (part_judges whole_texts items_part array_clear (read_matcher_texts items)
-      (refuse_root_matchers is_root) (texts_judged items)
+      (part_judges whole_texts items_part array_clear (texts_judged items)
       (λ ms ok clear. root_judged clear ms (texts_spelled items ms ok)))
 
 -- what is read of a field of texts, from the field

@@ -33,7 +33,7 @@ use Rattle.am_json.specs.Reading.{refuse_for, ◌>>=◌}
 use Rattle.am_files.proofs.MatcherFaultLemmas.{root_gives}
 use Rattle.am_records.proofs.PatternFaultLemmas.{matcher_judged, next_pattern}
 use Rattle.am_json.proofs.PlaceLemmas.{Clear, Form, IsBetween, IsPart, Judges, all_accepted}
-use Rattle.am_json.proofs.PlaceLemmas.{itself_refused, judges_plain, none_yet, one_place}
+use Rattle.am_json.proofs.PlaceLemmas.{itself_refused, judges_plain, none_yet, one_part, one_place}
 use Rattle.am_json.proofs.PlaceLemmas.{one_refused, part_judges, refuse_judges, said, said_of}
 use Rattle.am_json.proofs.PlaceOrder.{lead}
 use Rattle.am_json.proofs.Readings.{bind_ok, same_read}
@@ -111,11 +111,6 @@ module _ (op : Op) (before : ℕ) (pairs : List (List ℕ × Data)) where
     named : pair_name pairs (length front) ≡ name
     named = pair_name_at pairs front (name, d) back e
 
-    sum_covers : (place : OnePair) → lead (rank_of (one_pair_path (length front) place)) ≡ 2
-        → ⊤ × (place ≡ pair_sum)
-    sum_covers pair_self h = absurd (omega (arith, h))
-    sum_covers pair_sum h = (tt, refl)
-
     self_part : IsPart next_pair_form 0 (known_member 0 name) (pair_form op (name, d))
         (λ _. pair_self)
     self_part = record {
@@ -130,7 +125,9 @@ module _ (op : Op) (before : ℕ) (pairs : List (List ℕ × Data)) where
 
     sum_part : IsPart next_pair_form 1 (turn 1)
         (one_place (limit_fault MAX_MATCHERS (before + (length front + 1)))) (λ _. pair_sum)
-    sum_part = record { rank = refl; seen = λ _. refl; covers = sum_covers }
+    sum_part =
+        one_part next_pair_form refl refl
+        (elim [ pair_sum ↦ λ h. refl | _ ↦ λ h. absurd (omega (arith, h)) ])
 
     pair_number : (place : OnePair) → IsBetween 0 3 (one_pair_path (length front) place)
     pair_number pair_self = (omega arith, omega arith)
@@ -141,9 +138,8 @@ module _ (op : Op) (before : ℕ) (pairs : List (List ℕ × Data)) where
     sum_judged a m long clear =
         let count : before + (length front + 1) ≡ length a + 1 = omega (arith, long) in
         let cause = limit_fault MAX_MATCHERS (before + (length front + 1)) in
-        let judged = part_judges next_pair_form sum_part clear (refuse_for cause)
-        (λ _. accept (a ++ m ∷ [])) (refuse_judges cause)
-        (λ _ _ all. all_accepted next_pair_form 0 3 pair_number (a ++ m ∷ []) all) in
+        let judged = part_judges next_pair_form sum_part clear {f = λ _. accept (a ++ m ∷ [])}
+        (refuse_judges cause) (λ _ _. all_accepted next_pair_form 0 3 pair_number (a ++ m ∷ [])) in
         let plain = subst (λ (c : Reading ⊤). Judges next_pair_form
         (c >>= λ _. accept (a ++ m ∷ []))) (within_nothing (refuse_for cause)) judged in
         subst (λ (n : ℕ). Judges next_pair_form
@@ -154,8 +150,7 @@ module _ (op : Op) (before : ℕ) (pairs : List (List ℕ × Data)) where
     unfolding read_next_pair
     next_judged a long =
         part_judges next_pair_form self_part (none_yet next_pair_form 0 3 pair_number)
-        (read_matcher_pair op name d) (λ m. append_matchers a (m ∷ [])) (pair_judged op name d)
-        (λ m _ clear. sum_judged a m long clear)
+        (pair_judged op name d) (λ m _. sum_judged a m long)
 
   -- ---- All pairs.
 
@@ -244,11 +239,6 @@ module _ (is_root : Bool) (op : Op) (before : ℕ) (pairs : List (List ℕ × Da
   pairs_cover (pair_total j) e = ((j, pair_sum), refl)
   pairs_cover place e = absurd (omega (arith, e))
 
-  given_covers : (place : PairsPlace) → lead (rank_of (pairs_path pairs place)) ≡ 2
-      → ⊤ × (place ≡ pairs_given)
-  given_covers pairs_given e = (tt, refl)
-  given_covers place e = absurd (omega (arith, e))
-
   pairs_part : IsPart whole_pairs 0 (turn 0) (sequence_form in_pairs pairs) into_pairs
   pairs_part = record {
     rank = refl;
@@ -258,7 +248,9 @@ module _ (is_root : Bool) (op : Op) (before : ℕ) (pairs : List (List ℕ × Da
 
   given_part : IsPart whole_pairs 1 (turn 1) (one_place (given_fault is_root pairs))
       (λ _. pairs_given)
-  given_part = record { rank = refl; seen = λ _. refl; covers = given_covers }
+  given_part =
+      one_part whole_pairs refl refl
+      (elim [ pairs_given ↦ λ e. refl | _ ↦ λ e. absurd (omega (arith, e)) ])
 
   object_clear : Clear whole_pairs 1
   object_clear pairs_itself lt = refl
@@ -302,13 +294,10 @@ module _ (is_root : Bool) (op : Op) (before : ℕ) (pairs : List (List ℕ × Da
       (m >>= refuse_root_matchers is_root))
       (within_nothing (read_each (read_next_pair op) a pairs))
       (part_judges all_pairs (pairs_part is_root op before pairs)
-      (object_clear is_root op before pairs)
-      (read_each (read_next_pair op) a pairs) (refuse_root_matchers is_root)
-      (pairs_judged op before pairs a long)
+      (object_clear is_root op before pairs) (pairs_judged op before pairs a long)
       (λ ms ok clear.
       subst (Judges all_pairs) (root_check ms (pairs_counted op before pairs a ms long ok))
       (part_judges all_pairs (given_part is_root op before pairs) clear
-      (refuse_for (given_fault is_root pairs)) (λ _. accept ms)
       (refuse_judges (given_fault is_root pairs))
       (λ _ _ all. judges_plain all_pairs (Ok ms)
       (pairs_clear is_root op before pairs all)))))

@@ -140,8 +140,6 @@ module _ (names : List (List ℕ)) (left : ℕ) (sound : Sound names left) (pare
       → Judges one_more (route_children names left parent before d receiver matchers continues)
   routes_judged receiver matchers continues clear =
       part_judges one_more (routes_part names is_root left before d) clear
-      (children_reading names left receiver before (field (codes "routes") d))
-      (λ children. accept (made_route receiver matchers continues children))
       (field_children names left sound receiver before d (field (codes "routes") d) refl)
       (λ children _ all. judges_plain one_more
       (Ok (made_route receiver matchers continues children))
@@ -151,10 +149,8 @@ module _ (names : List (List ℕ)) (left : ℕ) (sound : Sound names left) (pare
       → Judges one_more (route_continues names left parent before d receiver matchers)
   continues_judged receiver matchers clear =
       part_judges one_more (continue_part names is_root left before d) clear
-      (boolean_or false (field (codes "continue") d))
-      (route_children names left parent before d receiver matchers)
       (boolean_judged false (field (codes "continue") d))
-      (λ continues _ next. routes_judged receiver matchers continues next)
+      (λ continues _. routes_judged receiver matchers continues)
 
   matchers_judged : (receiver : ℕ) → Clear one_more 3
       → Judges one_more (route_matchers_on names left parent before d receiver)
@@ -167,10 +163,8 @@ module _ (names : List (List ℕ)) (left : ℕ) (sound : Sound names left) (pare
   rest_judged : Clear one_more 2 → Judges one_more (route_rest names left parent before d)
   rest_judged clear =
       part_judges one_more (receiver_part names is_root left before d) clear
-      (effective_receiver names parent (field (codes "receiver") d))
-      (route_matchers_on names left parent before d)
       (receiver_judged names parent (field (codes "receiver") d))
-      (λ receiver _ next. matchers_judged receiver next)
+      (λ receiver _. matchers_judged receiver)
 
   route_judged : Judges one_more (read_route names (suc left) parent before d)
   route_judged = rw (route_steps names left parent before d) (reached_judged names is_root left

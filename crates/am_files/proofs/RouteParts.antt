@@ -4,7 +4,7 @@ use Rattle.std.proofs.Common.{false, is_none, nat_lt, position, refl, slice_get,
 use Rattle.std.proofs.Common.{true, ℕ, ◌++◌, ◌+◌, ◌<◌, ◌∙◌, ◌∷◌, ◌≡◌, ◌≤◌}
 use Rattle.std.specs.Cmp.Lexicographic.{slice_cmp}
 use Rattle.std.specs.Ordering.{nat_cmp}
-use Rattle.std.specs.Prelude.{if◌then◌else◌, ⊤}
+use Rattle.std.specs.Prelude.{if◌then◌else◌}
 use Rattle.serde_json.specs.Data.{Data, Members}
 use Rattle.serde_json.specs.Find as find
 use Rattle.am_universe.specs.Text.{same_text}
@@ -28,7 +28,7 @@ use Rattle.am_files.specs.declared.limits.TheConstants.{MAX_ROUTES}
 use Rattle.am_records.specs.MatcherFaults.{is_profile_pattern}
 use Rattle.am_json.proofs.ObjectLemmas.{least_unknown, not_unknown}
 use Rattle.am_json.proofs.PlaceLemmas.{Clear, Form, IsPart, Judges, itself_refused, one_accepted}
-use Rattle.am_json.proofs.PlaceLemmas.{one_place, one_refused, said, said_of, shape_judged}
+use Rattle.am_json.proofs.PlaceLemmas.{one_part, one_place, one_refused, said, said_of, shape_judged}
 use Rattle.am_json.proofs.PlaceLemmas.{some_judged}
 use Rattle.am_json.proofs.PlaceOrder.{lead, lead_le, rest_decides}
 use Rattle.am_json.proofs.SequenceLemmas.{Sequence, array_form, pattern_of_next}
@@ -100,9 +100,8 @@ module _ (names : List (List ℕ)) (is_root : Bool) (left before : ℕ) (d : Dat
   abbrev tree_lead : TreePlace → ℕ
   tree_lead place = lead (rank_of (whole.path place))
 
-  receiver_covers : (place : TreePlace) → tree_lead place ≡ 2
-      → ⊤ × (place ≡ ([], in_field route_receiver))
-  receiver_covers ([], in_field route_receiver) e = (tt, refl)
+  receiver_covers : (place : TreePlace) → tree_lead place ≡ 2 → place ≡ ([], in_field route_receiver)
+  receiver_covers ([], in_field route_receiver) e = refl
   receiver_covers place e = absurd (omega (arith, e))
 
   matchers_cover : (place : TreePlace) → 2 < tree_lead place → tree_lead place ≤ 5
@@ -112,9 +111,8 @@ module _ (names : List (List ℕ)) (is_root : Bool) (left before : ℕ) (d : Dat
   matchers_cover ([], in_field (route_match_re inner)) gt le = (side_patterns inner, refl)
   matchers_cover place gt le = absurd (omega (arith, gt, le))
 
-  continue_covers : (place : TreePlace) → tree_lead place ≡ 6
-      → ⊤ × (place ≡ ([], in_field route_continue))
-  continue_covers ([], in_field route_continue) e = (tt, refl)
+  continue_covers : (place : TreePlace) → tree_lead place ≡ 6 → place ≡ ([], in_field route_continue)
+  continue_covers ([], in_field route_continue) e = refl
   continue_covers place e = absurd (omega (arith, e))
 
   routes_cover : (place : TreePlace) → tree_lead place ≡ 7
@@ -126,7 +124,7 @@ module _ (names : List (List ℕ)) (is_root : Bool) (left before : ℕ) (d : Dat
   pub receiver_part : IsPart whole 1 (known_member 1 (codes "receiver"))
       (one_place (receiver_fault names is_root (field (codes "receiver") d)))
       (λ _. ([], in_field route_receiver))
-  receiver_part = record { rank = refl; seen = λ _. refl; covers = receiver_covers }
+  receiver_part = one_part whole refl refl receiver_covers
 
   pub matchers_side : IsSide 2 is_root route_matcher_fields d whole of_side
   matchers_side = record {
@@ -136,7 +134,7 @@ module _ (names : List (List ℕ)) (is_root : Bool) (left before : ℕ) (d : Dat
 
   pub continue_part : IsPart whole 5 (known_member 5 (codes "continue"))
       (one_place (boolean_fault (field (codes "continue") d))) (λ _. ([], in_field route_continue))
-  continue_part = record { rank = refl; seen = λ _. refl; covers = continue_covers }
+  continue_part = one_part whole refl refl continue_covers
 
   abbrev pub routes_rules : Form (ArrayPlace TreePlace)
   routes_rules = array_form (children_sequence names left before d) (array_shape

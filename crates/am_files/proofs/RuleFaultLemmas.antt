@@ -166,10 +166,9 @@ module _ (d : Data) where
       → Judges fields_form (equal_then source target)
   equal_judge source target clear =
       rw (equal_within d)
-      (part_judges fields_form equal_part clear (optional_items equal_field >>= read_equal_names)
-      (λ equal. accept (made_rule source target equal)) (equal_judged equal_field)
-      (λ equal _ all.
-      all_accepted fields_form 1 9 (rule_number (Some d)) (made_rule source target equal) all))
+      (part_judges fields_form equal_part clear (equal_judged equal_field)
+      (λ equal _.
+      all_accepted fields_form 1 9 (rule_number (Some d)) (made_rule source target equal)))
 
   abbrev target_then : List Condition → Reading Rule
   target_then source = read_matchers target_matcher_fields false d >>= equal_then source

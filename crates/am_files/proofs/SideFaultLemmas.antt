@@ -162,16 +162,14 @@ module _ (number : ℕ) (is_root : Bool) (fields : MatcherFields) (d : Data) whe
       patterns_judge : (equal : List Condition) → Given equal before_patterns
           → Clear form (suc (suc (suc number))) → Judges form (patterns_then equal)
       patterns_judge equal given clear =
-          part_judges form patterns_part clear (pairs_reading is_root Matches equal patterns_field) f
+          part_judges form patterns_part clear
           (pairs_field_judged is_root Matches before_patterns equal patterns_field
-          (bare_count equal before_patterns given) given.0)
-          (λ ms _ next. behind ms next)
+          (bare_count equal before_patterns given) given.0) (λ ms _. behind ms)
 
       equal_judge : (texts : List Condition) → Given texts before_equal
           → Clear form (suc (suc number)) → Judges form (equal_then texts)
       equal_judge texts given clear =
-          part_judges form equal_part clear (pairs_reading is_root Equal texts equal_field)
-          patterns_then
+          part_judges form equal_part clear
           (pairs_field_judged is_root Equal before_equal texts equal_field
           (bare_count texts before_equal given) given.0)
           (λ equal ok next.
@@ -182,8 +180,7 @@ module _ (number : ℕ) (is_root : Bool) (fields : MatcherFields) (d : Data) whe
 
       texts_judge : Clear form (suc number) → Judges form texts_then
       texts_judge clear =
-          part_judges form texts_part clear (texts_reading is_root texts_field) equal_then
-          (texts_field_judged is_root texts_field)
+          part_judges form texts_part clear (texts_field_judged is_root texts_field)
           (λ texts ok next.
           let gives = texts_field_gives is_root texts_field texts ok in
           equal_judge texts (sym (ap length gives.0), gives.1) next)

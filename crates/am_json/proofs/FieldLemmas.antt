@@ -44,7 +44,7 @@ pub text_field_judges : {P B : Type 0} (form : Form P) {number : ℕ} (key : Lis
 text_field_judges form key d rule part clear f behind =
     let found = text_of (field key d) in
     rw (text_within key rule f d)
-    (part_judges form part clear (ruled_text rule found) f
+    (part_judges form part clear
     (shape_judged rule found (λ t. refuse_for (rule t) >>= λ _. accept t)
     (λ t. cause_judges (rule t) t))
     (λ t ok next. behind t (ruled_gives rule found t ok) next))

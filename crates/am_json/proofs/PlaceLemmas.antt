@@ -296,6 +296,14 @@ module _ {P : Type 0} (form : Form P) where
         ≡ said (step ∷ part.path place) (part.fault_at place) (part.has_pattern place)
     pub covers : (place : P) → part_number place ≡ suc number → (inner : Q) × (place ≡ into inner)
 
+  -- a part of one place
+  pub one_part : {number : ℕ} {step : Step} {cause : Option Kind} {only : P}
+      → step_rank step ≡ number ∷ [] → said_of form only ≡ said (step ∷ []) cause false
+      → ((place : P) → part_number place ≡ suc number → place ≡ only)
+      → IsPart number step (one_place cause) (λ _. only)
+  one_part rank seen covers =
+      record { rank = rank; seen = λ _. seen; covers = λ place e. (tt, covers place e) }
+
   module _ {Q : Type 0} {number : ℕ} {step : Step} {part : Form Q} {into : Q → P}
       (is_part : IsPart number step part into) (clear : Clear (suc number)) where
     path_in : (place : Q) → form.path (into place) ≡ step ∷ part.path place
@@ -399,10 +407,10 @@ module _ {P : Type 0} (form : Form P) where
     meets_behind (Err e) f tells behind r h = absurd h
 
     -- reading a part, and then what is behind it
-    pub part_judges : {A B : Type 0} (m : Reading A) (f : A → Reading B) → Judges part m
+    pub part_judges : {A B : Type 0} {m : Reading A} {f : A → Reading B} → Judges part m
         → ((x : A) → m.result ≡ Ok x → Clear (suc (suc number)) → Judges form (f x))
         → Judges form (reading_within (step_pointer step) m >>= f)
-    part_judges m f judges behind = record {
+    part_judges {m = m} {f = f} judges behind = record {
       tells = tells_behind m.result f judges.tells behind;
       meets = λ r h.
           elim (refusal_append (map (λ pointer. step_pointer step ++ pointer) m.patterns)

@@ -239,8 +239,8 @@ module _ {A X Q : Type 0} (l : Loop A X) (s : Sequence X Q) (xs : List X)
         (judges_plain in_all (Ok a) (past_clear (length front) (omega (arith, long)) clear))
     loop_judges front (x ∷ back) a e is clear =
         let next = next_judges front x back a e is in
-        let judged = part_judges in_all (next_part front x back e) clear next.0
-        (λ b. l.loop (suc (length front)) b back) next.2
+        let judged = part_judges in_all (next_part front x back e) clear
+        {f = λ b. l.loop (suc (length front)) b back} next.2
         (λ b ok ahead.
         let more : length (front ++ x ∷ []) ≡ suc (length front) =
         omega (arith, length-append front (x ∷ [])) in

@@ -194,9 +194,8 @@ module _ (d : Data) where
   unfolding read_alert_labels
   fields_judge =
       let judged = part_judges alert_fields labels_part
-      (none_yet alert_fields 1 3 (field_number (Some d))) labels_reading (λ s. accept s)
-      (object_judged labels_object)
-      (λ s _ last. all_accepted alert_fields 1 3 (field_number (Some d)) s last) in
+      (none_yet alert_fields 1 3 (field_number (Some d))) {f = λ s. accept s}
+      (object_judged labels_object) (λ s _. all_accepted alert_fields 1 3 (field_number (Some d)) s) in
       rw (value_read_within (codes "labels") find.as_object read_members d)
       (subst (Judges alert_fields)
       (then_accept (reading_within (to_field (codes "labels")) labels_reading)) judged)

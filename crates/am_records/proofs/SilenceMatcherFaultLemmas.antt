@@ -115,8 +115,8 @@ module _ (d : Data) where
       let m = silence_matcher d in
       subst (Judges matcher_fields)
       (then_accept (reading_within (to_field (codes "value")) (check_matcher m)))
-      (part_judges matcher_fields pattern_part clear (check_matcher m) (λ read. accept read)
-      (matcher_judged m) (λ read _ last. all_accepted matcher_fields 1 7 field_number read last))
+      (part_judges matcher_fields pattern_part clear {f = λ read. accept read} (matcher_judged m)
+      (λ read _. all_accepted matcher_fields 1 7 field_number read))
 
   equal_judges : Clear matcher_fields 5
       → Judges matcher_fields (read_boolean_or true (codes "isEqual") d
@@ -124,8 +124,7 @@ module _ (d : Data) where
   unfolding read_boolean_or
   equal_judges clear =
       let found = field (codes "isEqual") d in
-      part_judges matcher_fields equal_part clear (boolean_or true found)
-      (flagged (name_of d) value_in regex_in) (boolean_judged true found)
+      part_judges matcher_fields equal_part clear (boolean_judged true found)
       (λ is_equal ok next.
       subst (λ (truth : Bool). Judges matcher_fields
       (flagged (name_of d) value_in regex_in truth)) (truth_gives true found is_equal ok)
@@ -142,9 +141,7 @@ module _ (d : Data) where
   unfolding read_boolean_or
   flags_judge clear =
       let found = field (codes "isRegex") d in
-      part_judges matcher_fields regex_part clear (boolean_or false found)
-      (λ is_regex. read_boolean_or true (codes "isEqual") d >>= flagged (name_of d) value_in is_regex)
-      (boolean_judged false found)
+      part_judges matcher_fields regex_part clear (boolean_judged false found)
       (λ is_regex ok next.
       subst (λ (truth : Bool). Judges matcher_fields
       (read_boolean_or true (codes "isEqual") d >>= flagged (name_of d) value_in truth))

@@ -9,7 +9,7 @@ use Rattle.am_universe.specs.declared.kind.Kind.TheVariants as kinds
 use Rattle.am_labels.specs.Matcher.{Condition}
 use Rattle.am_records.specs.Instant.{instant_of}
 use Rattle.am_json.specs.Json.{field, items_of}
-use Rattle.am_json.specs.Places.{ArrayPlace, OnlyPlace, array_itself}
+use Rattle.am_json.specs.Places.{ArrayPlace, array_itself}
 use Rattle.am_json.specs.Places.{array_path, in_field, in_item, items_in_field, known_member}
 use Rattle.am_json.specs.Places.{object_itself, rank_of, shape_or, text_of}
 use Rattle.am_json.specs.Pointer.{Refusal, refusal_here, to_field}
@@ -37,9 +37,8 @@ use Rattle.am_json.proofs.FormLaws.{FormLaws, form_laws}
 use Rattle.am_json.specs.ReadingLaw.{IsReadExactly}
 use Rattle.am_json.proofs.ObjectLemmas.{array_tells, object_tells, open_form, open_judged}
 use Rattle.am_json.proofs.PlaceLemmas.{Clear, Form, IsBetween, IsPart, Judges, RanksTell}
-use Rattle.am_json.proofs.PlaceLemmas.{all_accepted, none_yet, one_place, part_judges, said_of}
-use Rattle.am_json.proofs.PlaceLemmas.{same_judged, shape_judged, some_judged}
-use Rattle.am_json.proofs.PlaceOrder.{lead}
+use Rattle.am_json.proofs.PlaceLemmas.{all_accepted, none_yet, one_part, one_place, part_judges}
+use Rattle.am_json.proofs.PlaceLemmas.{said_of, same_judged, shape_judged, some_judged}
 use Rattle.am_json.proofs.SameReadings.{items_within_then, text_read_within}
 use Rattle.am_json.proofs.SequenceLemmas.{Sequence, array_form, items_judged, or_null_judged}
 use Rattle.am_json.proofs.SequenceLemmas.{required_array}
@@ -111,16 +110,6 @@ module _ (d : Data) where
   abbrev ends_field : Option (List ℕ)
   ends_field = text_of (field (codes "endsAt") d)
 
-  starts_covers : (place : SilenceField) → lead (rank_of (silence_field_path place)) ≡ 3
-      → OnlyPlace × (place ≡ silence_starts)
-  starts_covers silence_starts e = (tt, refl)
-  starts_covers place e = absurd (omega (arith, e))
-
-  ends_covers : (place : SilenceField) → lead (rank_of (silence_field_path place)) ≡ 4
-      → OnlyPlace × (place ≡ silence_ends)
-  ends_covers silence_ends e = (tt, refl)
-  ends_covers place e = absurd (omega (arith, e))
-
   matchers_pattern : (place : ArrayPlace SilenceMatcherPlace)
       → is_profile_pattern (pattern_in_silence d (in_field (silence_matchers place)))
       ≡ (matchers_form matchers_field).has_pattern place
@@ -142,11 +131,15 @@ module _ (d : Data) where
 
   starts_part : IsPart silence_fields 2 (known_member 2 (codes "startsAt"))
       (one_place (shape_or time_fault starts_field)) (λ _. silence_starts)
-  starts_part = record { rank = refl; seen = λ _. refl; covers = starts_covers }
+  starts_part =
+      one_part silence_fields refl refl
+      (elim [ silence_starts ↦ λ e. refl | _ ↦ λ e. absurd (omega (arith, e)) ])
 
   ends_part : IsPart silence_fields 3 (known_member 3 (codes "endsAt"))
       (one_place (shape_or time_fault ends_field)) (λ _. silence_ends)
-  ends_part = record { rank = refl; seen = λ _. refl; covers = ends_covers }
+  ends_part =
+      one_part silence_fields refl refl
+      (elim [ silence_ends ↦ λ e. refl | _ ↦ λ e. absurd (omega (arith, e)) ])
 
   abbrev made_silence : List Condition → ℤ → ℤ → Silence
   made_silence matchers starts ends =
@@ -157,11 +150,8 @@ module _ (d : Data) where
       >>= λ ends. accept (made_silence matchers starts ends))
   ends_judge matchers starts clear =
       rw (instant_within (codes "endsAt") d)
-      (part_judges silence_fields ends_part clear
-      (accept_some ends_field (refusal_here kinds.Shape) >>= read_instant)
-      (λ ends. accept (made_silence matchers starts ends)) (instant_judged ends_field)
-      (λ ends _ last.
-      all_accepted silence_fields 1 5 field_number (made_silence matchers starts ends) last))
+      (part_judges silence_fields ends_part clear (instant_judged ends_field)
+      (λ ends _. all_accepted silence_fields 1 5 field_number (made_silence matchers starts ends)))
 
   -- behind its matchers
   abbrev instants_then : List Condition → Reading Silence
@@ -174,11 +164,8 @@ module _ (d : Data) where
       → Judges silence_fields (instants_then matchers)
   instants_judge matchers clear =
       rw (instant_within (codes "startsAt") d)
-      (part_judges silence_fields starts_part clear
-      (accept_some starts_field (refusal_here kinds.Shape) >>= read_instant)
-      (λ starts. required_instant (codes "endsAt") d
-      >>= λ ends. accept (made_silence matchers starts ends)) (instant_judged starts_field)
-      (λ starts _ next. ends_judge matchers starts next))
+      (part_judges silence_fields starts_part clear (instant_judged starts_field)
+      (λ starts _. ends_judge matchers starts))
 
   abbrev fields_reading : Reading Silence
   fields_reading = do
@@ -190,9 +177,7 @@ module _ (d : Data) where
   fields_judge =
       rw (items_within_then (codes "matchers") read_silence_matchers d instants_then)
       (part_judges silence_fields matchers_part (none_yet silence_fields 1 5 field_number)
-      (accept_some (option_and_then items_of matchers_field) (refusal_here kinds.Shape)
-      >>= read_silence_matchers) instants_then (matchers_judge matchers_field)
-      (λ matchers _ next. instants_judge matchers next))
+      (matchers_judge matchers_field) (λ matchers _. instants_judge matchers))
 
   abbrev silence_form : Form SilencePlace
   silence_form = record {

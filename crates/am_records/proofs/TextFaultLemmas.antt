@@ -13,11 +13,11 @@ use Rattle.am_records.specs.MatcherTexts.{item_matchers, read_matcher_text, spel
 use Rattle.am_records.specs.UniverseFaults.{ListPlace, list_count, list_fault_at, list_path}
 use Rattle.am_records.specs.UniverseFaults.{list_pattern, list_text, pattern_in_list}
 use Rattle.am_records.specs.UniverseFile.{read_impossible}
-use Rattle.am_json.specs.Places.{OnlyPlace, limit_fault, rank_of, shape_or, turn}
+use Rattle.am_json.specs.Places.{limit_fault, rank_of, shape_or, turn}
 use Rattle.am_json.specs.Pointer.{refusal_here}
 use Rattle.am_json.specs.Reading.{Reading, accept, accept_some, check_count, reading_within, ◌>>=◌}
 use Rattle.am_json.proofs.PlaceLemmas.{Clear, Form, IsBetween, IsPart, Judges, RanksTell}
-use Rattle.am_json.proofs.PlaceLemmas.{all_accepted, none_yet, one_place, part_judges}
+use Rattle.am_json.proofs.PlaceLemmas.{all_accepted, none_yet, one_part, one_place, part_judges}
 use Rattle.am_json.proofs.PlaceLemmas.{refuse_judges, shape_judged, some_judged}
 use Rattle.am_json.proofs.PlaceOrder.{lead}
 use Rattle.am_records.proofs.PatternFaultLemmas.{patterns_form, patterns_judge}
@@ -77,28 +77,22 @@ module _ (d : Data) where
     has_pattern = λ place. is_profile_pattern (pattern_in_list d place);
   }
 
-  abbrev list_lead : ListPlace → ℕ
-  list_lead place = lead (rank_of (list_path place))
-
-  text_covers : (place : ListPlace) → list_lead place ≡ 1 → OnlyPlace × (place ≡ list_text)
-  text_covers list_text e = (tt, refl)
-  text_covers place e = absurd (omega (arith, e))
-
-  count_covers : (place : ListPlace) → list_lead place ≡ 2 → OnlyPlace × (place ≡ list_count)
-  count_covers list_count e = (tt, refl)
-  count_covers place e = absurd (omega (arith, e))
-
-  pattern_covers : (place : ListPlace) → list_lead place ≡ 3 → (j : ℕ) × (place ≡ list_pattern j)
+  pattern_covers : (place : ListPlace) → lead (rank_of (list_path place)) ≡ 3
+      → (j : ℕ) × (place ≡ list_pattern j)
   pattern_covers (list_pattern j) e = (j, refl)
   pattern_covers place e = absurd (omega (arith, e))
 
   text_part : IsPart list_form 0 (turn 0)
       (one_place (shape_or spelling_fault (find.as_str d))) (λ _. list_text)
-  text_part = record { rank = refl; seen = λ _. refl; covers = text_covers }
+  text_part =
+      one_part list_form refl refl
+      (elim [ list_text ↦ λ e. refl | _ ↦ λ e. absurd (omega (arith, e)) ])
 
   count_part : IsPart list_form 1 (turn 1)
       (one_place (limit_fault MAX_MATCHERS (length (item_matchers d)))) (λ _. list_count)
-  count_part = record { rank = refl; seen = λ _. refl; covers = count_covers }
+  count_part =
+      one_part list_form refl refl
+      (elim [ list_count ↦ λ e. refl | _ ↦ λ e. absurd (omega (arith, e)) ])
 
   pattern_part : IsPart list_form 2 (turn 2) (patterns_form (item_matchers d)) list_pattern
   pattern_part = record { rank = refl; seen = λ _. refl; covers = pattern_covers }
@@ -110,18 +104,15 @@ module _ (d : Data) where
   checks_judge : Clear list_form 2 → Judges list_form (list_checks (item_matchers d))
   checks_judge clear =
       let ms = item_matchers d in
-      part_judges list_form count_part clear (check_count MAX_MATCHERS (length ms))
-      (λ _. reading_within [] (check_patterns ms) >>= λ _. accept ms)
+      part_judges list_form count_part clear
       (refuse_judges (limit_fault MAX_MATCHERS (length ms)))
-      (λ _ _ next.
-      part_judges list_form pattern_part next (check_patterns ms) (λ _. accept ms)
-      (patterns_judge ms) (λ _ _ last. all_accepted list_form 0 4 list_number ms last))
+      (λ _ _ next. part_judges list_form pattern_part next (patterns_judge ms)
+      (λ _ _. all_accepted list_form 0 4 list_number ms))
 
   pub list_judged : Judges list_form (read_impossible d)
   list_judged =
       rw (list_steps d)
-      (part_judges list_form text_part (none_yet list_form 0 4 list_number)
-      (spelled (find.as_str d)) list_checks (spelled_judges d)
+      (part_judges list_form text_part (none_yet list_form 0 4 list_number) (spelled_judges d)
       (λ ms is clear.
       subst (λ (list : List Condition). Judges list_form (list_checks list))
       (spelled_says d ms is) (checks_judge clear)))

@@ -49,7 +49,7 @@ use Rattle.am_json.proofs.ObjectLemmas.{array_tells, closed_form, closed_judged,
 use Rattle.am_json.proofs.ObjectLemmas.{object_tells, only_tells, open_pattern}
 use Rattle.am_json.proofs.OptionalArrays.{optional_array, optional_within}
 use Rattle.am_json.proofs.PlaceLemmas.{Clear, Form, IsBetween, IsPart, Judges, RanksTell}
-use Rattle.am_json.proofs.PlaceLemmas.{all_accepted, cause_judges, none_yet, one_place}
+use Rattle.am_json.proofs.PlaceLemmas.{all_accepted, cause_judges, none_yet, one_part, one_place}
 use Rattle.am_json.proofs.PlaceLemmas.{one_refused, part_judges, said, said_of, same_judged}
 use Rattle.am_json.proofs.PlaceOrder.{lead}
 use Rattle.am_json.proofs.SameReadings.{items_within, items_within_then}
@@ -124,15 +124,12 @@ module _ (ds : List Data) (d : Data) where
   abbrev values_field : Option Data
   values_field = field (codes "values") d
 
-  name_covers : (place : LabelField) → lead (rank_of (label_field_path place)) ≡ 2
-      → OnlyPlace × (place ≡ label_name)
-  name_covers label_name e = (tt, refl)
-  name_covers (label_values place) e = absurd (omega (arith, e))
-
   name_part : IsPart label_form 1 (known_member 1 (codes "name"))
       (one_place (shape_or (name_fault (map named_label ds)) (text_of (field (codes "name") d))))
       (λ _. label_name)
-  name_part = record { rank = refl; seen = λ _. refl; covers = name_covers }
+  name_part =
+      one_part label_form refl refl
+      (elim [ label_name ↦ λ e. refl | _ ↦ λ e. absurd (omega (arith, e)) ])
 
   values_part : IsPart label_form 2 (known_member 2 (codes "values")) (values_form values_field)
       label_values
@@ -167,13 +164,8 @@ label_fields_judge ds d =
     (λ name _ next.
     rw (items_within_then (codes "values") read_values d
     (λ values. accept (made_label name values)))
-    (part_judges (label_form ds d) (values_part ds d) next
-    (accept_some (option_and_then items_of (field (codes "values") d))
-    (refusal_here kinds.Shape) >>= read_values)
-    (λ values. accept (made_label name values))
-    (values_judge (field (codes "values") d))
-    (λ values _ last.
-    all_accepted (label_form ds d) 1 4 label_number (made_label name values) last)))
+    (part_judges (label_form ds d) (values_part ds d) next (values_judge (field (codes "values") d))
+    (λ values _. all_accepted (label_form ds d) 1 4 label_number (made_label name values))))
 
 -- a fault of a name goes by the names of the other labels
 same_fault_of : (u v : List Label) → names u ≡ names v → (name : List ℕ)
@@ -335,18 +327,14 @@ module _ (d : Data) where
       → Judges file_form (lists_then labels)
   lists_then_judge labels clear =
       rw (lists_within d)
-      (part_judges file_form lists_part clear (optional_items lists_field >>= read_lists)
-      (λ impossible. accept (made_space labels impossible)) (lists_judge lists_field)
-      (λ impossible _ last.
-      all_accepted file_form 1 4 file_number (made_space labels impossible) last))
+      (part_judges file_form lists_part clear (lists_judge lists_field)
+      (λ impossible _. all_accepted file_form 1 4 file_number (made_space labels impossible)))
 
   file_fields_judge : Judges file_form (read_all_labels d >>= lists_then)
   file_fields_judge =
       rw (labels_within d)
       (part_judges file_form labels_part (none_yet file_form 1 4 file_number)
-      (accept_some (option_and_then items_of labels_field) (refusal_here kinds.Shape)
-      >>= read_labels) lists_then (labels_judge labels_field)
-      (λ labels _ next. lists_then_judge labels next))
+      (labels_judge labels_field) (λ labels _. lists_then_judge labels))
 
   abbrev universe_form : Form UniversePlace
   universe_form = record {
