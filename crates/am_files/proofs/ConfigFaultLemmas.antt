@@ -23,13 +23,13 @@ use Rattle.am_json.specs.Places.{rank_of, shape_or, text_of}
 use Rattle.am_files.specs.ConfigFile.{Configuration, FileSaysConfig, RouteTree, Rule, SaysConfig}
 use Rattle.am_files.specs.ConfigReading.{read_config, read_config_file}
 use Rattle.am_files.specs.ConfigReading.{read_next_receiver, read_receiver_names, read_receivers}
-use Rattle.am_files.specs.ConfigReading.{read_route, read_rule_items, read_rules}
+use Rattle.am_files.specs.ConfigReading.{read_route, read_rule, read_rules}
 use Rattle.am_json.specs.Json.{field, items_of}
 use Rattle.am_json.specs.Pointer.{Refusal, refusal_here, refusal_within, to_field}
 use Rattle.am_json.specs.Reading.{MayRefuse, Reading, accept, accept_some}
 use Rattle.am_json.specs.Reading.{as_object, read_items, reading_within, refuse_for, required_field}
 use Rattle.am_json.specs.Reading.{required_text, ◌>>=◌}
-use Rattle.am_files.specs.declared.limits.TheConstants.{MAX_LEVELS, MAX_RECEIVERS}
+use Rattle.am_files.specs.declared.limits.TheConstants.{MAX_LEVELS, MAX_RECEIVERS, MAX_RULES}
 use Rattle.am_records.specs.MatcherFaults.{is_profile_pattern}
 use Rattle.am_files.proofs.ConfigParts.{name_says}
 use Rattle.am_files.proofs.ConfigSays.{config_decides}
@@ -41,7 +41,6 @@ use Rattle.am_json.proofs.PlaceLemmas.{Clear, Form, IsPart, Judges, all_accepted
 use Rattle.am_json.proofs.PlaceLemmas.{none_yet, one_part, one_place, part_judges, same_judged}
 use Rattle.am_json.proofs.PlaceOrder.{lead}
 use Rattle.am_files.proofs.RuleFaultLemmas.{rules_form, rules_judged, rules_seen, rules_sequence}
-use Rattle.am_files.proofs.RuleFaultLemmas.{rules_within}
 use Rattle.am_files.proofs.RouteFaultLemmas.{tree_judged}
 use Rattle.am_files.proofs.RouteParts.{TreePlace}
 use Rattle.am_files.proofs.ConfigRanks.{config_number, config_tells, receiver_number}
@@ -49,7 +48,8 @@ use Rattle.am_records.proofs.PatternFaultLemmas.{next_pattern}
 use Rattle.am_json.proofs.SameReadings.{items_within}
 use Rattle.am_json.proofs.SequenceLemmas.{Sequence, array_form, items_are_read, items_judged}
 use Rattle.am_json.proofs.SequenceLemmas.{next_form, required_array, required_array_gives}
-use Rattle.am_json.specs.OptionalItems.{optional_items}
+use Rattle.am_json.specs.OptionalItems.{optional_items, read_counted}
+use Rattle.am_json.proofs.OptionalArrays.{optional_array_within}
 
 -- ---- One receiver.
 
@@ -228,7 +228,7 @@ module _ (d : Data) where
   made_config names root rules = record { receivers = names; root = root; rules = rules }
 
   abbrev rules_reading : Reading (List Rule)
-  rules_reading = optional_items rules_field >>= read_rule_items
+  rules_reading = optional_items rules_field >>= read_counted MAX_RULES read_rule
 
   abbrev rules_then : List (List ℕ) → RouteTree → Reading Configuration
   rules_then names root =
@@ -260,7 +260,7 @@ module _ (d : Data) where
       ∙ ap (λ (m : Reading (List Rule)). reading_within (to_field (codes "route"))
       (root_reading names (field (codes "route") d)) >>= λ root. m
       >>= λ rules. accept (made_config names root rules))
-      (rules_within d)) i
+      (optional_array_within (codes "inhibit_rules") MAX_RULES read_rule d)) i
 
   rules_judge : (names : List (List ℕ)) (root : RouteTree) → Clear fields_form 4
       → Judges fields_form (rules_then names root)

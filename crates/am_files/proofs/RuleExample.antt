@@ -5,14 +5,14 @@ use Rattle.am_records.specs.NamedText.{read_named_text}
 use Rattle.am_files.specs.ConfigFile.{SaysRule}
 use Rattle.am_files.specs.ConfigReading.{read_matchers, read_pairs}
 use Rattle.am_files.specs.ConfigReading.{read_next_pair, read_matcher_pair, read_equal_name}
-use Rattle.am_files.specs.ConfigReading.{read_equal_names, read_equal, read_rule}
+use Rattle.am_files.specs.ConfigReading.{read_rule}
 use Rattle.am_files.specs.RuleExample.{rule_example, example_rule}
 use Rattle.am_files.proofs.RuleSays.{rule_says}
-use Rattle.am_json.specs.OptionalItems.{read_optional_items}
+use Rattle.am_json.specs.OptionalItems.{read_counted, read_optional_array, read_optional_items}
 
 is_read : (read_rule rule_example).result ≡ Ok example_rule
 unfolding read_rule check_only_fields read_matchers read_pairs read_each read_next_pair
-    read_matcher_pair read_named_text read_equal read_optional_items read_equal_names
+    read_matcher_pair read_named_text read_optional_array read_optional_items read_counted
     read_next_item read_equal_name
 is_read = refl
 

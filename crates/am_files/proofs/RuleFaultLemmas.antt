@@ -12,16 +12,12 @@ use Rattle.am_files.specs.ConfigFaults.{rule_field_fault, rule_field_path, rule_
 use Rattle.am_files.specs.ConfigFaults.{rule_source, rule_target, side_path, side_texts}
 use Rattle.am_files.specs.ConfigFile.{MatcherFields, Rule, rule_fields, source_matcher_fields}
 use Rattle.am_files.specs.ConfigFile.{target_matcher_fields}
-use Rattle.am_files.specs.ConfigReading.{read_equal, read_equal_name}
-use Rattle.am_files.specs.ConfigReading.{read_equal_names, read_matchers, read_next_equal_name}
-use Rattle.am_files.specs.ConfigReading.{read_next_rule, read_rule}
-use Rattle.am_files.specs.ConfigReading.{read_rule_items, read_rules}
+use Rattle.am_files.specs.ConfigReading.{read_equal, read_equal_name, read_matchers, read_rule}
 use Rattle.am_json.specs.Json.{field}
 use Rattle.am_json.specs.Places.{ArrayPlace, OnlyPlace, Step, array_fault, array_itself, in_field}
 use Rattle.am_json.specs.Places.{in_item, items_in_field, items_path, known_member, limit_fault}
 use Rattle.am_json.specs.Places.{object_itself, only_path, rank_of}
-use Rattle.am_json.specs.Pointer.{to_field}
-use Rattle.am_json.specs.Reading.{Reading, accept, read_items, reading_within, refuse_for, ◌>>=◌}
+use Rattle.am_json.specs.Reading.{Reading, accept, read_items, refuse_for, ◌>>=◌}
 use Rattle.am_files.specs.declared.limits.TheConstants.{MAX_EQUAL_NAMES, MAX_RULES}
 use Rattle.am_records.specs.MatcherFaults.{is_profile_pattern, label_name_fault}
 use Rattle.am_json.proofs.FieldLemmas.{items_sequence}
@@ -32,9 +28,9 @@ use Rattle.am_json.proofs.PlaceLemmas.{said, said_of, same_judged, shape_judged}
 use Rattle.am_json.proofs.PlaceOrder.{lead}
 use Rattle.am_json.proofs.SequenceLemmas.{Sequence, array_form, items_judged, no_item_pattern}
 use Rattle.am_json.proofs.SequenceLemmas.{valued_judged, valued_seen, valued_sequence}
-use Rattle.am_json.proofs.OptionalArrays.{optional_array, optional_within}
+use Rattle.am_json.proofs.OptionalArrays.{optional_array, optional_array_within}
 use Rattle.am_files.proofs.SideFaultLemmas.{IsSide, side_judges}
-use Rattle.am_json.specs.OptionalItems.{optional_array_fault, optional_items, read_optional_items}
+use Rattle.am_json.specs.OptionalItems.{optional_array_fault, optional_items, read_counted}
 
 -- ---- The names in `equal`.
 
@@ -54,20 +50,14 @@ name_judged d =
     (λ name. cause_judges (label_name_fault name) name)
 
 equal_judged : (found : Option Data)
-    → Judges (equal_form found) (optional_items found >>= read_equal_names)
-unfolding read_equal_names
+    → Judges (equal_form found)
+    (optional_items found >>= read_counted MAX_EQUAL_NAMES read_equal_name)
+unfolding read_counted
 equal_judged found =
     optional_array (λ items. limit_fault MAX_EQUAL_NAMES (length items))
-    (read_items read_next_equal_name []) equal_sequence found refl
-    (items_judged read_next_equal_name equal_sequence (λ i. refl) (λ _ _. ⊤) tt
+    (read_items (λ _ d. read_equal_name d) []) equal_sequence found refl
+    (items_judged (λ _ d. read_equal_name d) equal_sequence (λ i. refl) (λ _ _. ⊤) tt
     (items_in_field found) (λ _ d _ _ _ _. name_judged d) (λ _ _ _ _ _ _. tt))
-
-equal_within : (d : Data)
-    → read_equal d
-    ≡ reading_within (to_field (codes "equal"))
-    (optional_items (field (codes "equal") d) >>= read_equal_names)
-unfolding read_equal read_optional_items
-equal_within d = optional_within (codes "equal") read_equal_names (field (codes "equal") d)
 
 -- ---- The fields of a rule, by their numbers.
 
@@ -165,7 +155,7 @@ module _ (d : Data) where
   equal_judge : (source target : List Condition) → Clear fields_form 8
       → Judges fields_form (equal_then source target)
   equal_judge source target clear =
-      rw (equal_within d)
+      rw (optional_array_within (codes "equal") MAX_EQUAL_NAMES read_equal_name d)
       (part_judges fields_form equal_part clear (equal_judged equal_field)
       (λ equal _.
       all_accepted fields_form 1 9 (rule_number (Some d)) (made_rule source target equal)))
@@ -216,21 +206,14 @@ rules_form found =
     (items_in_field found)
 
 pub rules_judged : (found : Option Data)
-    → Judges (rules_form found) (optional_items found >>= read_rule_items)
-unfolding read_rule_items
+    → Judges (rules_form found) (optional_items found >>= read_counted MAX_RULES read_rule)
+unfolding read_counted
 rules_judged found =
-    optional_array (λ items. limit_fault MAX_RULES (length items)) (read_items read_next_rule [])
+    optional_array (λ items. limit_fault MAX_RULES (length items))
+    (read_items (λ _ d. read_rule d) [])
     (rules_sequence (items_in_field found)) found refl
     (valued_judged rule_path rule_fault_in rule_pattern_in (items_in_field found) read_rule
     (λ before d. rule_judged d))
-
-pub rules_within : (d : Data)
-    → read_rules d
-    ≡ reading_within (to_field (codes "inhibit_rules"))
-    (optional_items (field (codes "inhibit_rules") d) >>= read_rule_items)
-unfolding read_rules read_optional_items
-rules_within d =
-    optional_within (codes "inhibit_rules") read_rule_items (field (codes "inhibit_rules") d)
 
 -- what is said of a place of the rules, behind the step to them
 pub rules_seen : (step : Step) (found : Option Data) (pattern : ArrayPlace RulePlace → Bool)

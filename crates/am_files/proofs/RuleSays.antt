@@ -9,8 +9,7 @@ use Rattle.am_files.specs.declared.limits.TheConstants.{MAX_RULES, MAX_EQUAL_NAM
 use Rattle.am_files.specs.ConfigFile.{Rule, rule_fields, source_matcher_fields}
 use Rattle.am_files.specs.ConfigFile.{target_matcher_fields, SaysEqualName, SaysRule}
 use Rattle.am_files.specs.ConfigReading.{read_matchers, read_equal_name}
-use Rattle.am_files.specs.ConfigReading.{read_equal_names, read_equal, read_rule, read_rule_items}
-use Rattle.am_files.specs.ConfigReading.{read_rules}
+use Rattle.am_files.specs.ConfigReading.{read_equal, read_rule, read_rules}
 use Rattle.am_json.proofs.Readings.{bind_ok, refuse_for_ok}
 use Rattle.am_json.proofs.Readings.{same_read, Decides}
 use Rattle.am_json.proofs.Fields.{as_text_says, as_text_reads, only_fields_say, only_fields_read}
@@ -38,11 +37,10 @@ equal_name_reads d name said = rw (as_text_reads d name said.0, named_passes nam
 
 equal_decides : (d : Data)
     → Decides (SaysEach SaysEqualName (codes "equal") MAX_EQUAL_NAMES d) ((read_equal d).result)
-unfolding read_equal read_equal_names
-equal_decides d =
+equal_decides =
     array_decides SaysEqualName read_equal_name
     (λ e. record { says = equal_name_says e; reads = equal_name_reads e }) (codes "equal")
-    MAX_EQUAL_NAMES d
+    MAX_EQUAL_NAMES
 
 -- ---- A rule.
 
@@ -86,7 +84,6 @@ rule_reads d rule said =
 
 pub rules_decide : (d : Data)
     → Decides (SaysEach SaysRule (codes "inhibit_rules") MAX_RULES d) ((read_rules d).result)
-unfolding read_rules read_rule_items
-rules_decide d =
+rules_decide =
     array_decides SaysRule read_rule (λ e. record { says = rule_says e; reads = rule_reads e })
-    (codes "inhibit_rules") MAX_RULES d
+    (codes "inhibit_rules") MAX_RULES

@@ -17,11 +17,10 @@ use Rattle.am_files.specs.ConfigFile.{FileSaysConfig}
 use Rattle.am_files.specs.ConfigReading.{read_config, read_receivers, read_receiver_names}
 use Rattle.am_files.specs.ConfigReading.{read_next_receiver, read_route, read_route_fields}
 use Rattle.am_files.specs.ConfigReading.{read_receiver, read_matchers}
-use Rattle.am_files.specs.ConfigReading.{read_rules, read_rule_items}
 use Rattle.am_files.specs.SmallestConfig.{smallest_config_file, smallest_config}
 use Rattle.am_json.proofs.Values.{json_of_text}
 use Rattle.am_files.proofs.ConfigSays.{config_says}
-use Rattle.am_json.specs.OptionalItems.{read_optional_items}
+use Rattle.am_json.specs.OptionalItems.{read_counted, read_optional_array, read_optional_items}
 
 abbrev value : Data
 value = object (member (codes "receivers")
@@ -48,7 +47,7 @@ has_value =
 says_smallest : (read_config value).result ≡ Ok smallest_config
 unfolding read_config read_receivers required_items read_receiver_names read_each read_next_item
     read_next_receiver required_text read_route read_route_fields check_only_fields read_receiver
-    read_matchers read_boolean_or read_optional_items read_rules read_rule_items
+    read_matchers read_boolean_or read_optional_items read_optional_array read_counted
 says_smallest = refl
 
 few_bytes : length smallest_config_file ≡ 59

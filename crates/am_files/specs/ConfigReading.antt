@@ -15,7 +15,7 @@ use Rattle.am_labels.specs.Matcher.{Condition}
 use Rattle.am_files.specs.declared.limits.TheConstants.{MAX_RECEIVERS, MAX_ROUTES, MAX_LEVELS}
 use Rattle.am_files.specs.declared.limits.TheConstants.{MAX_RULES, MAX_EQUAL_NAMES}
 use Rattle.am_json.specs.Json.{field, member_list}
-use Rattle.am_json.specs.OptionalItems.{read_optional_items}
+use Rattle.am_json.specs.OptionalItems.{read_optional_array, read_optional_items}
 use Rattle.am_json.specs.Pointer.{refusal_here, to_field, to_item}
 use Rattle.am_json.specs.Reading.{Reading, ◌>>=◌, accept, accept_some, refuse, reading_within}
 use Rattle.am_json.specs.Reading.{refuse_for, check_count, as_object, as_text, as_items}
@@ -198,20 +198,9 @@ read_equal_name d = do
   _ ← refuse_for (label_name_fault name)
   accept name
 
--- A name behind others, which it does not depend on.
-abbrev pub read_next_equal_name : List (List ℕ) → Data → Reading (List ℕ)
-read_next_equal_name before d = read_equal_name d
-
--- The names of a list, and those in `equal`.
-unfoldable pub read_equal_names : List Data → Reading (List (List ℕ))
-read_equal_names items = do
-  _ ← check_count MAX_EQUAL_NAMES (length items)
-  read_items read_next_equal_name [] items
-
-unfoldable pub read_equal : Data → Reading (List (List ℕ))
-read_equal d = do
-  items ← read_optional_items (codes "equal") d
-  reading_within (to_field (codes "equal")) (read_equal_names items)
+-- The names in `equal`.
+abbrev pub read_equal : Data → Reading (List (List ℕ))
+read_equal d = read_optional_array (codes "equal") MAX_EQUAL_NAMES read_equal_name d
 
 -- A rule.
 unfoldable pub read_rule : Data → Reading Rule
@@ -222,20 +211,9 @@ read_rule d = do
   equal ← read_equal d
   accept (record { source = source; target = target; equal = equal })
 
--- A rule behind others, which it does not depend on.
-abbrev pub read_next_rule : List Rule → Data → Reading Rule
-read_next_rule before d = read_rule d
-
--- The rules of a list, and those of the file, in `inhibit_rules`.
-unfoldable pub read_rule_items : List Data → Reading (List Rule)
-read_rule_items items = do
-  _ ← check_count MAX_RULES (length items)
-  read_items read_next_rule [] items
-
-unfoldable pub read_rules : Data → Reading (List Rule)
-read_rules d = do
-  items ← read_optional_items (codes "inhibit_rules") d
-  reading_within (to_field (codes "inhibit_rules")) (read_rule_items items)
+-- The rules of the file, in `inhibit_rules`.
+abbrev pub read_rules : Data → Reading (List Rule)
+read_rules d = read_optional_array (codes "inhibit_rules") MAX_RULES read_rule d
 
 -- ---- The file.
 

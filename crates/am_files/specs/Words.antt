@@ -23,10 +23,8 @@ pub use Rattle.am_files.specs.ConfigReading.{refuse_root_matchers}
 pub use Rattle.am_files.specs.ConfigReading.{optional_texts, optional_pairs}
 unfoldable pub use Rattle.am_files.specs.ConfigReading.{read_matchers, read_route_fields}
 unfoldable pub use Rattle.am_files.specs.ConfigReading.{read_route, read_config, read_config_file}
-pub use Rattle.am_files.specs.ConfigReading.{read_next_child, read_next_rule, read_next_equal_name}
-unfoldable pub use Rattle.am_files.specs.ConfigReading.{read_equal_name, read_equal_names}
-unfoldable pub use Rattle.am_files.specs.ConfigReading.{read_equal, read_rule, read_rule_items}
-unfoldable pub use Rattle.am_files.specs.ConfigReading.{read_rules}
+pub use Rattle.am_files.specs.ConfigReading.{read_next_child, read_equal, read_rules}
+unfoldable pub use Rattle.am_files.specs.ConfigReading.{read_equal_name, read_rule}
 pub use Rattle.am_files.specs.ConfigFaults.{receiver_name_fault, ConfigPlace, config_fault_at}
 pub use Rattle.am_files.specs.ConfigFaults.{IsFirstFaultOfConfig, IsFirstFaultOfConfigFile}
 pub use Rattle.am_files.specs.ConfigFaults.{IsMetPatternOfConfig, ConfigFileRefusedFor}

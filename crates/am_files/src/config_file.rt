@@ -5,7 +5,7 @@ ghost use Rattle.std.specs.Prelude.{string_bytes, option_map, false};
 ghost use Rattle.serde_json.specs.View.{view};
 ghost use Rattle.am_universe.specs.declared.place.Place.TheVariants as places;
 ghost use Rattle.am_json.specs.Words.{to_item, Gives, IsRefusalAt, reading_within};
-ghost use Rattle.am_json.specs.Words.{check_only_fields, read_items};
+ghost use Rattle.am_json.specs.Words.{check_only_fields, read_items, read_counted};
 ghost use Rattle.am_files.specs.Words.{FileSaysConfig, route_fields, route_matcher_fields};
 ghost use Rattle.am_files.specs.Words.{route_count, routes_count, routes_of, route_view, names_of};
 ghost use Rattle.am_files.specs.Words.{config_view, fields_view, read_next_receiver};
@@ -13,9 +13,8 @@ ghost use Rattle.am_files.specs.Words.{read_receiver_names, read_receivers, pare
 ghost use Rattle.am_files.specs.Words.{receiver_position, effective_receiver, read_receiver};
 ghost use Rattle.am_files.specs.Words.{read_matchers, read_route_fields};
 ghost use Rattle.am_files.specs.Words.{read_route, source_matcher_fields, target_matcher_fields};
-ghost use Rattle.am_files.specs.Words.{rule_fields, read_equal_name, read_next_equal_name};
-ghost use Rattle.am_files.specs.Words.{read_equal_names, read_equal};
-ghost use Rattle.am_files.specs.Words.{read_rule, read_next_rule, read_rule_items, read_rules};
+ghost use Rattle.am_files.specs.Words.{rule_fields, read_equal_name, read_equal};
+ghost use Rattle.am_files.specs.Words.{read_rule, read_rules};
 ghost use Rattle.am_files.specs.Words.{read_next_child, read_config};
 ghost use Rattle.am_files.specs.Words.{read_config_file, receiver_name_fault, ConfigFileRefusedFor};
 
@@ -399,7 +398,7 @@ const TARGET_FIELDS: MatcherFields<'static> = MatcherFields {
     patterns: "target_match_re",
 };
 
-#[tactic(auto, using(am_json::proofs::Readings::steps), unfolding(crate::specs::ConfigReading::read_rules))]
+#[tactic(auto, using(am_json::proofs::Readings::steps), unfolding(am_json::specs::OptionalItems::read_optional_array))]
 fn read_rules(alloc: Global, value: &Value) -> Result<Vec<Rule>, ReadError>
     ensures { Gives (λ rules. rules.items) result (read_rules (view value.now)) }
 {
@@ -407,9 +406,10 @@ fn read_rules(alloc: Global, value: &Value) -> Result<Vec<Rule>, ReadError>
     within_field(alloc, "inhibit_rules", read_rule_items(alloc, items))
 }
 
-#[tactic(auto, unfolding(crate::specs::ConfigReading::read_rule_items))]
+#[tactic(auto, unfolding(am_json::specs::OptionalItems::read_counted))]
 fn read_rule_items(alloc: Global, items: &[Value]) -> Result<Vec<Rule>, ReadError>
-    ensures { Gives (λ rules. rules.items) result (read_rule_items (map view items.now)) }
+    ensures { Gives (λ rules. rules.items) result
+        (read_counted MAX_RULES read_rule (map view items.now)) }
 {
     check_count(alloc, MAX_RULES, items.len())?;
     read_each_rule(alloc, items)
@@ -417,7 +417,7 @@ fn read_rule_items(alloc: Global, items: &[Value]) -> Result<Vec<Rule>, ReadErro
 
 fn read_each_rule(alloc: Global, items: &[Value]) -> Result<Vec<Rule>, ReadError>
     ensures { Gives (λ rules. rules.items) result
-        (read_items read_next_rule [] (map view items.now)) }
+        (read_items (λ _ d. read_rule d) [] (map view items.now)) }
 {
     read_each_item(alloc, items, |item| read_rule(alloc, item))
 }
@@ -458,7 +458,7 @@ fn read_target(alloc: Global, value: &Value) -> Result<Matchers, ReadError>
     read_matchers(alloc, TARGET_FIELDS, false, value)
 }
 
-#[tactic(auto, using(am_json::proofs::Readings::steps), unfolding(crate::specs::ConfigReading::read_equal))]
+#[tactic(auto, using(am_json::proofs::Readings::steps), unfolding(am_json::specs::OptionalItems::read_optional_array))]
 fn read_equal(alloc: Global, value: &Value) -> Result<Vec<String>, ReadError>
     ensures { Gives (λ names. names_of names.items) result (read_equal (view value.now)) }
 {
@@ -466,10 +466,10 @@ fn read_equal(alloc: Global, value: &Value) -> Result<Vec<String>, ReadError>
     within_field(alloc, "equal", read_equal_names(alloc, items))
 }
 
-#[tactic(auto, unfolding(crate::specs::ConfigReading::read_equal_names))]
+#[tactic(auto, unfolding(am_json::specs::OptionalItems::read_counted))]
 fn read_equal_names(alloc: Global, items: &[Value]) -> Result<Vec<String>, ReadError>
     ensures { Gives (λ names. names_of names.items) result
-        (read_equal_names (map view items.now)) }
+        (read_counted MAX_EQUAL_NAMES read_equal_name (map view items.now)) }
 {
     check_count(alloc, MAX_EQUAL_NAMES, items.len())?;
     read_each_equal_name(alloc, items)
@@ -477,7 +477,7 @@ fn read_equal_names(alloc: Global, items: &[Value]) -> Result<Vec<String>, ReadE
 
 fn read_each_equal_name(alloc: Global, items: &[Value]) -> Result<Vec<String>, ReadError>
     ensures { Gives (λ names. names_of names.items) result
-        (read_items read_next_equal_name [] (map view items.now)) }
+        (read_items (λ _ d. read_equal_name d) [] (map view items.now)) }
 {
     let mut names = Vec::new(alloc);
     for item in items {

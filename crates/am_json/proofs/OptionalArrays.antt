@@ -7,7 +7,8 @@ use Rattle.serde_json.specs.Data.{Data}
 use Rattle.am_universe.specs.declared.kind.Kind.{Kind}
 use Rattle.am_universe.specs.declared.kind.Kind.TheVariants as kinds
 use Rattle.am_json.specs.Json.{field, items_of}
-use Rattle.am_json.specs.OptionalItems.{HasItems, optional_items, read_optional_items}
+use Rattle.am_json.specs.OptionalItems.{HasItems, optional_items, read_counted}
+use Rattle.am_json.specs.OptionalItems.{read_optional_array, read_optional_items}
 use Rattle.am_json.specs.Places.{if_there, items_in_field, shape_or}
 use Rattle.am_json.specs.Pointer.{refusal_here, to_field}
 use Rattle.am_json.specs.Reading.{Reading, accept_some, check_count, read_items, reading_within}
@@ -46,6 +47,14 @@ module _ {A : Type 0} (key : List ℕ) (read : List Data → Reading A) where
       sym (then_assoc (reading_within (to_field key) (optional_items found))
       (λ items. reading_within (to_field key) (read items)) f)
       ∙ ap (λ (m : Reading A). m >>= f) (optional_within found)
+
+-- the items of at most so many, each read by itself
+pub optional_array_within : {A : Type 0} (key : List ℕ) (limit : ℕ) (read : Data → Reading A)
+    (d : Data) → read_optional_array key limit read d
+    ≡ reading_within (to_field key) (optional_items (field key d) >>= read_counted limit read)
+unfolding read_optional_array read_optional_items
+optional_array_within key limit read d =
+    optional_within key (read_counted limit read) (field key d)
 
 -- ---- Its places, where the items have a rule together that no items break.
 
@@ -111,24 +120,17 @@ pub record SaysEach {A : Type 0} (Says : Data → A → Type 0) (key : List ℕ)
 
 module _ {A : Type 0} (Says : Data → A → Type 0) (read : Data → Reading A) (decides : (d : Data)
     → Decides (Says d) ((read d).result)) (key : List ℕ) (limit : ℕ) where
-  abbrev pub read_counted : List Data → Reading (List A)
-  read_counted items =
-      check_count limit (length items) >>= λ _. read_items (λ before d. read d) [] items
-
-  abbrev pub read_array : Data → Reading (List A)
-  read_array d =
-      read_optional_items key d >>= λ items. reading_within (to_field key) (read_counted items)
-
-  array_says : (d : Data) (xs : List A) → (read_array d).result ≡ Ok xs
+  array_says : (d : Data) (xs : List A) → (read_optional_array key limit read d).result ≡ Ok xs
       → SaysEach Says key limit d xs
+  unfolding read_optional_array read_counted
   array_says d xs h =
       let items =
       bind_ok ((read_optional_items key d).result)
-      (λ ds. (reading_within (to_field key) (read_counted ds)).result) xs h in
+      (λ ds. (reading_within (to_field key) (read_counted limit read ds)).result) xs h in
       let counted =
       bind_ok ((check_count limit (length items.0)).result)
       (λ _. (read_items (λ before e. read e) [] items.0).result) xs
-      (within_ok (to_field key) ((read_counted items.0).result) xs items.2) in
+      (within_ok (to_field key) ((read_counted limit read items.0).result) xs items.2) in
       record {
         items = items.0;
         is_array = optional_array_says key d items.0 items.1;
@@ -137,7 +139,8 @@ module _ {A : Type 0} (Says : Data → A → Type 0) (read : Data → Reading A)
       }
 
   array_reads : (d : Data) (xs : List A) → SaysEach Says key limit d xs
-      → (read_array d).result ≡ Ok xs
+      → (read_optional_array key limit read d).result ≡ Ok xs
+  unfolding read_optional_array read_counted
   array_reads d xs said =
       rw (
         optional_array_reads key d said.items said.is_array,
@@ -145,5 +148,6 @@ module _ {A : Type 0} (Says : Data → A → Type 0) (read : Data → Reading A)
         each_reads Says read decides said.items xs said.each,
       ) refl
 
-  pub array_decides : (d : Data) → Decides (SaysEach Says key limit d) ((read_array d).result)
+  pub array_decides : (d : Data)
+      → Decides (SaysEach Says key limit d) ((read_optional_array key limit read d).result)
   array_decides d = record { says = array_says d; reads = array_reads d }

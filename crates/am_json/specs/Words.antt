@@ -12,5 +12,5 @@ unfoldable pub use Rattle.am_json.specs.Reading.{check_only_fields, required_tex
 unfoldable pub use Rattle.am_json.specs.Reading.{read_boolean_or, read_each, read_json}
 unfoldable pub use Rattle.am_json.specs.Reading.{read_item_array}
 pub use Rattle.am_json.specs.Reading.{reading_within, read_items, read_items_or_null}
-unfoldable pub use Rattle.am_json.specs.OptionalItems.{read_optional_items}
+unfoldable pub use Rattle.am_json.specs.OptionalItems.{read_optional_items, read_counted}
 pub use Rattle.am_json.specs.ReadingLaw.{IsReadExactly}

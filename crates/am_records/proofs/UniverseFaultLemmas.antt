@@ -19,7 +19,7 @@ use Rattle.am_labels.specs.Matcher.{Condition}
 use Rattle.am_labels.specs.Space.{Space}
 use Rattle.am_labels.specs.declared.limits.TheConstants.{MAX_IMPOSSIBLE}
 use Rattle.am_json.specs.Json.{field, items_of}
-use Rattle.am_json.specs.OptionalItems.{optional_array_fault, optional_items, read_optional_items}
+use Rattle.am_json.specs.OptionalItems.{optional_array_fault, optional_items, read_counted}
 use Rattle.am_json.specs.Places.{ArrayPlace, OnlyPlace, array_itself, array_path, in_field, in_item}
 use Rattle.am_json.specs.Places.{items_in_field, known_member, limit_fault, object_itself, only_path}
 use Rattle.am_json.specs.Places.{rank_of, shape_or, text_of}
@@ -39,15 +39,15 @@ use Rattle.am_records.specs.UniverseFaults.{pattern_in_universe, universe_fault_
 use Rattle.am_records.specs.UniverseFaults.{universe_field_fault, universe_field_path}
 use Rattle.am_records.specs.UniverseFaults.{universe_path, value_fault_at}
 use Rattle.am_records.specs.UniverseFile.{FileSaysUniverse, SaysUniverse, SaysValue, file_fields, label_fields}
-use Rattle.am_records.specs.UniverseFile.{read_all_labels, read_all_lists, read_labels, read_lists}
-use Rattle.am_records.specs.UniverseFile.{read_next_impossible, read_next_label, read_next_value}
+use Rattle.am_records.specs.UniverseFile.{read_all_labels, read_all_lists, read_impossible}
+use Rattle.am_records.specs.UniverseFile.{read_labels, read_next_label, read_next_value}
 use Rattle.am_records.specs.UniverseFile.{read_universe, read_universe_file, read_values}
 use Rattle.am_json.proofs.FieldLemmas.{items_form, items_seen, items_sequence, text_field_judges}
 use Rattle.am_json.proofs.FormLaws.{FormLaws, form_laws}
 use Rattle.am_json.specs.ReadingLaw.{IsReadExactly}
 use Rattle.am_json.proofs.ObjectLemmas.{array_tells, closed_form, closed_judged, no_open_pattern}
 use Rattle.am_json.proofs.ObjectLemmas.{object_tells, only_tells, open_pattern}
-use Rattle.am_json.proofs.OptionalArrays.{optional_array, optional_within}
+use Rattle.am_json.proofs.OptionalArrays.{optional_array, optional_array_within}
 use Rattle.am_json.proofs.PlaceLemmas.{Clear, Form, IsBetween, IsPart, Judges, RanksTell}
 use Rattle.am_json.proofs.PlaceLemmas.{all_accepted, cause_judges, none_yet, one_part, one_place}
 use Rattle.am_json.proofs.PlaceLemmas.{one_refused, part_judges, said, said_of, same_judged}
@@ -242,12 +242,12 @@ lists_form found =
     array_form lists_sequence (optional_array_fault MAX_IMPOSSIBLE found) (items_in_field found)
 
 lists_judge : (found : Option Data)
-    → Judges (lists_form found) (optional_items found >>= read_lists)
-unfolding read_lists
+    → Judges (lists_form found) (optional_items found >>= read_counted MAX_IMPOSSIBLE read_impossible)
+unfolding read_counted
 lists_judge found =
     optional_array (λ items. limit_fault MAX_IMPOSSIBLE (length items))
-    (read_items read_next_impossible []) lists_sequence found refl
-    (items_judged read_next_impossible lists_sequence (λ i. refl) (λ _ _. ⊤) tt
+    (read_items (λ _ d. read_impossible d) []) lists_sequence found refl
+    (items_judged (λ _ d. read_impossible d) lists_sequence (λ i. refl) (λ _ _. ⊤) tt
     (items_in_field found) (λ _ d _ _ _ _. list_judged d) (λ _ _ _ _ _ _. tt))
 
 -- ---- The file.
@@ -259,13 +259,6 @@ labels_within : (d : Data)
     >>= read_labels)
 unfolding read_all_labels
 labels_within d = items_within (codes "labels") read_labels d
-
-lists_within : (d : Data)
-    → read_all_lists d
-    ≡ reading_within (to_field (codes "impossible"))
-    (optional_items (field (codes "impossible") d) >>= read_lists)
-unfolding read_all_lists read_optional_items
-lists_within d = optional_within (codes "impossible") read_lists (field (codes "impossible") d)
 
 file_number : (place : UniverseField) → IsBetween 1 4 (universe_field_path place)
 file_number (file_labels place) = (omega arith, omega arith)
@@ -326,7 +319,7 @@ module _ (d : Data) where
   lists_then_judge : (labels : List Label) → Clear file_form 3
       → Judges file_form (lists_then labels)
   lists_then_judge labels clear =
-      rw (lists_within d)
+      rw (optional_array_within (codes "impossible") MAX_IMPOSSIBLE read_impossible d)
       (part_judges file_form lists_part clear (lists_judge lists_field)
       (λ impossible _. all_accepted file_form 1 4 file_number (made_space labels impossible)))
 

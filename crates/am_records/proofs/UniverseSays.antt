@@ -37,7 +37,7 @@ use Rattle.am_records.specs.UniverseFile.{file_fields, label_fields, SaysValue, 
 use Rattle.am_records.specs.UniverseFile.{SaysImpossible, SaysUniverse}
 use Rattle.am_records.specs.UniverseFile.{read_value, read_next_value, read_values}
 use Rattle.am_records.specs.UniverseFile.{read_next_label, read_labels, read_all_labels}
-use Rattle.am_records.specs.UniverseFile.{read_impossible, read_lists, read_all_lists}
+use Rattle.am_records.specs.UniverseFile.{read_impossible, read_all_lists}
 use Rattle.am_records.specs.UniverseFile.{read_universe}
 use Rattle.am_json.proofs.Readings.{bind_ok, within_ok, fails_first, refuse_for_ok, check_count_ok}
 use Rattle.am_json.proofs.Readings.{check_count_fits, same_read, Decides}
@@ -332,10 +332,9 @@ list_reads d ms said =
 lists_decide : (d : Data)
     → Decides (SaysEach SaysImpossible (codes "impossible") MAX_IMPOSSIBLE d)
     ((read_all_lists d).result)
-unfolding read_all_lists read_lists
-lists_decide d =
+lists_decide =
     array_decides SaysImpossible read_impossible
-    (λ e. record { says = list_says e; reads = list_reads e }) (codes "impossible") MAX_IMPOSSIBLE d
+    (λ e. record { says = list_says e; reads = list_reads e }) (codes "impossible") MAX_IMPOSSIBLE
 
 -- ---- The file.
 

@@ -12,7 +12,7 @@ use Rattle.am_labels.specs.Matcher.{Condition}
 use Rattle.am_labels.specs.MatcherRefusals.{have_valid_patterns}
 use Rattle.am_labels.specs.Space.{Space}
 use Rattle.am_json.specs.Json.{FileSays, is_null, field, items_of, HasOnlyFields}
-use Rattle.am_json.specs.OptionalItems.{HasItems, read_optional_items}
+use Rattle.am_json.specs.OptionalItems.{HasItems, read_optional_array}
 use Rattle.am_json.specs.Pointer.{to_field}
 use Rattle.am_json.specs.Reading.{Reading, ◌>>=◌, accept, reading_within, refuse_for, check_count}
 use Rattle.am_json.specs.Reading.{read_items, as_text, check_only_fields, required_text}
@@ -126,20 +126,9 @@ read_impossible d = do
   text ← as_text d
   read_matcher_text [] [] text
 
--- A list behind others, which it does not depend on.
-abbrev pub read_next_impossible : List (List Condition) → Data → Reading (List Condition)
-read_next_impossible before d = read_impossible d
-
--- The lists of an array, and those in `impossible`.
-unfoldable pub read_lists : List Data → Reading (List (List Condition))
-read_lists items = do
-  _ ← check_count MAX_IMPOSSIBLE (length items)
-  read_items read_next_impossible [] items
-
-unfoldable pub read_all_lists : Data → Reading (List (List Condition))
-read_all_lists d = do
-  items ← read_optional_items (codes "impossible") d
-  reading_within (to_field (codes "impossible")) (read_lists items)
+-- The lists in `impossible`.
+abbrev pub read_all_lists : Data → Reading (List (List Condition))
+read_all_lists d = read_optional_array (codes "impossible") MAX_IMPOSSIBLE read_impossible d
 
 -- The space that a value says, or its first fault.
 unfoldable pub read_universe : Data → Reading Space

@@ -3,8 +3,7 @@ pub use Rattle.am_records.specs.UniverseFile.{SaysUniverse, FileSaysUniverse, re
 unfoldable pub use Rattle.am_records.specs.UniverseFile.{read_next_value, read_values}
 unfoldable pub use Rattle.am_records.specs.UniverseFile.{read_next_label, read_labels}
 unfoldable pub use Rattle.am_records.specs.UniverseFile.{read_all_labels, read_impossible}
-pub use Rattle.am_records.specs.UniverseFile.{read_next_impossible}
-unfoldable pub use Rattle.am_records.specs.UniverseFile.{read_lists, read_all_lists}
+pub use Rattle.am_records.specs.UniverseFile.{read_all_lists}
 unfoldable pub use Rattle.am_records.specs.UniverseFile.{read_universe, read_universe_file}
 pub use Rattle.am_records.specs.UniverseFaults.{UniversePlace, universe_fault_at}
 pub use Rattle.am_records.specs.UniverseFaults.{IsFirstFaultOfUniverse, IsFirstFaultOfUniverseFile}

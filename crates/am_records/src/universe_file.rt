@@ -7,10 +7,11 @@ ghost use Rattle.am_universe.specs.declared.place.Place.TheVariants as places;
 ghost use Rattle.am_json.specs.declared.read_error.ReadError.TheVariants as errors;
 ghost use Rattle.am_labels.specs.Words.{label_fault, label_of, texts_of};
 ghost use Rattle.am_json.specs.Words.{to_item, Gives, IsRefusalAt, reading_within, read_items};
+ghost use Rattle.am_json.specs.Words.{read_counted};
 ghost use Rattle.am_records.specs.Words.{FileSaysUniverse, read_value, read_next_value};
 ghost use Rattle.am_records.specs.Words.{read_values, read_next_label, read_labels};
-ghost use Rattle.am_records.specs.Words.{read_all_labels, read_impossible, read_next_impossible};
-ghost use Rattle.am_records.specs.Words.{read_lists, read_all_lists, read_matcher_text};
+ghost use Rattle.am_records.specs.Words.{read_all_labels, read_impossible};
+ghost use Rattle.am_records.specs.Words.{read_all_lists, read_matcher_text};
 ghost use Rattle.am_records.specs.Words.{read_universe, read_universe_file};
 ghost use Rattle.am_records.specs.Words.{UniverseFileRefusedFor};
 
@@ -226,7 +227,7 @@ fn owned(alloc: Global, value: Option<&str>) -> Result<Option<String>, AllocErro
 // ---- The lists that are impossible.
 
 /// The space of these labels, without the lists of the file.
-#[tactic(auto, using(am_json::proofs::Readings::steps), unfolding(crate::specs::UniverseFile::read_all_lists))]
+#[tactic(auto, using(am_json::proofs::Readings::steps), unfolding(am_json::specs::OptionalItems::read_optional_array))]
 fn read_all_lists(alloc: Global, universe: Universe, value: &Value) -> Result<Space, ReadError>
     ensures lists { Gives (λ s. s.impossible) result (read_all_lists (view value.now)) }
     ensures labels { IfOk result (λ s. s.labels ≡ universe) }
@@ -235,9 +236,10 @@ fn read_all_lists(alloc: Global, universe: Universe, value: &Value) -> Result<Sp
     within_field(alloc, "impossible", read_lists(alloc, universe, items))
 }
 
-#[tactic(auto, unfolding(crate::specs::UniverseFile::read_lists))]
+#[tactic(auto, unfolding(am_json::specs::OptionalItems::read_counted))]
 fn read_lists(alloc: Global, universe: Universe, items: &[Value]) -> Result<Space, ReadError>
-    ensures lists { Gives (λ s. s.impossible) result (read_lists (map view items.now)) }
+    ensures lists { Gives (λ s. s.impossible) result
+        (read_counted MAX_IMPOSSIBLE read_impossible (map view items.now)) }
     ensures labels { IfOk result (λ s. s.labels ≡ universe) }
 {
     check_count(alloc, MAX_IMPOSSIBLE, items.len())?;
@@ -247,7 +249,7 @@ fn read_lists(alloc: Global, universe: Universe, items: &[Value]) -> Result<Spac
 fn read_each_list(alloc: Global, universe: Universe, items: &[Value]) -> Result<Space, ReadError>
     requires { length items.now ≤ MAX_IMPOSSIBLE }
     ensures lists { Gives (λ s. s.impossible) result
-        (read_items read_next_impossible [] (map view items.now)) }
+        (read_items (λ _ d. read_impossible d) [] (map view items.now)) }
     ensures labels { IfOk result (λ s. s.labels ≡ universe) }
 {
     let mut space = Space::of(alloc, universe);
