@@ -16,6 +16,7 @@ use Rattle.am_files.specs.ConfigFile.{routes_count, route_levels, routes_levels,
 use Rattle.am_files.specs.ConfigFile.{SaysMatchers, SaysReceiver, SaysContinue, SaysRoute}
 use Rattle.am_files.specs.ConfigFile.{SaysRoutes, SaysConfig}
 use Rattle.am_files.specs.ConfigReading.{RouteFields, read_receivers, read_route_fields, read_route}
+use Rattle.am_files.specs.Path.{list_of}
 use Rattle.am_files.specs.ConfigReading.{read_next_child, read_rules, read_config}
 use Rattle.am_json.proofs.Readings.{bind_ok, within_ok, ok_or_some, same_read, check_count_fits}
 use Rattle.am_json.proofs.Readings.{Decides}
@@ -116,11 +117,6 @@ route_says names (suc left) parent before d t h =
       children = are;
     } in
     subst (λ (s : RouteTree). SaysRoute names parent d s) read.is whole
-
--- the routes as a list
-abbrev list_of : Routes → List RouteTree
-list_of no_routes = []
-list_of (next_route t ts) = t ∷ list_of ts
 
 of_list : (ts : Routes) → routes_of (list_of ts) ≡ ts
 of_list no_routes = refl

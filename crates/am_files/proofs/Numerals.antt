@@ -1,12 +1,13 @@
 -- Numbers in decimal: what a text must be to be one, and which number it is.
 use Rattle.std.proofs.Common.{◌≡◌, ℕ, zero, suc, ◌+◌, ◌*◌, ◌/◌, ◌%◌, ◌^◌, ◌<◌, ◌≤◌, List, []}
-use Rattle.std.proofs.Common.{◌∷◌, ◌++◌, map, length, get_or, Bool, true, false, cond}
+use Rattle.std.proofs.Common.{◌∷◌, ◌++◌, ◌&&◌, map, length, get_or, Bool, true, false, cond}
 use Rattle.std.proofs.Common.{refl, sym, ap}
 use Rattle.std.proofs.Common.{◌∙◌, subst, arith, inl, inr, Result, Ok, Err}
 use Rattle.std.proofs.Common.{length-append, append_assoc, append-nil}
 use Rattle.std.specs.Prelude.{codes}
 use Rattle.std.specs.List.{list_all}
 use Rattle.std.specs.Char.{digit_value, is_ascii_digit}
+use Rattle.std.specs.Str.{all_ascii_digits}
 use Rattle.std.specs.Fmt.{decimal}
 use Rattle.std.specs.Int.Digits.{digits_of}
 use Rattle.std.specs.Str.Parse.{AllDigits, digits_value, digits_value_after, ParsesUnsigned}
@@ -14,15 +15,13 @@ use Rattle.std.specs.Result.{OkIff}
 use Rattle.std.specs.Cmp.Lexicographic.{bytes_decides}
 use Rattle.std.proofs.lemmas.Fmt.{decimal-digits_of, decimal_digit, decimal_is_IsNumeral}
 use Rattle.std.proofs.lemmas.Fmt.{first_decimal}
-use Rattle.std.proofs.lemmas.Int.Digits.{digits_of_step, digits_value_push}
+use Rattle.std.proofs.lemmas.Int.Digits.{digits_of_step, digits_push, digits_value_push}
 use Rattle.std.proofs.lemmas.List.{map_push}
 use Rattle.std.proofs.Math.ListN.{get_or-append}
 use Rattle.std.proofs.lemmas.Str.{digit_value_digit}
-use Rattle.std.proofs.lemmas.Str.Parse.{digit_from_value, parse_digits, numerals_by_value}
-use Rattle.std.proofs.lemmas.Str.Parse.{tells_digits}
+use Rattle.std.proofs.lemmas.Str.Parse.{IsNumeralModel, digit_from_value, parse_digits}
+use Rattle.std.proofs.lemmas.Str.Parse.{numerals_by_value, tells_all_ascii_digits, tells_digits}
 use Rattle.std.proofs.lemmas.Bool.{false≢true, false_from_ne_true, cases_lt, cases_Bool}
-use Rattle.std.proofs.lemmas.Bool.{and_parts, and_from}
-use Rattle.std.proofs.lemmas.Bool.Decides.{nat_tests}
 use borrow.Author.Tests.{ne_eqb}
 use Rattle.am_universe.specs.Text.{same_text}
 use Rattle.am_files.specs.Path.{numeral}
@@ -61,11 +60,6 @@ pub record IsNumeral (text : List ℕ) : Type 0 where
   pub digits : AllDigits 10 text
   pub lead : get_or text 0 0 ≡ 48 → length text ≡ 1
 
-digits_pushed : (text : List ℕ) (c : ℕ) → AllDigits 10 text → digit_value c < 10
-    → AllDigits 10 (text ++ (c ∷ []))
-digits_pushed [] c h last = (last, tt)
-digits_pushed (d ∷ ds) c h last = (h.0, digits_pushed ds c h.1 last)
-
 -- the text of a number, of which more is not needed
 record Says (n : ℕ) (text : List ℕ) : Type 0 where
   is : IsNumeral text
@@ -95,7 +89,7 @@ says_more n large h =
     subst (Says n) (sym (numeral_step n large)) (record {
       is = record {
         some = omega (arith, length-append front (c ∷ []));
-        digits = digits_pushed front c h.is.digits (omega (arith, digit));
+        digits = digits_push 10 front c h.is.digits (omega (arith, digit));
         lead = λ zero_first. omega (arith, first);
       };
       positive = λ _. omega (arith, first);
@@ -160,33 +154,24 @@ is_no_numeral text h =
     ((bytes_decides (numeral (digits_value 10 text)) text).0 yes)
     (IsNumeral-numeral (digits_value 10 text)))))
 
-digit : (c : ℕ) → is_ascii_digit c ≡ true → digit_value c < 10
-digit c h = let range : (48 ≤ c) × (c ≤ 57) = grind (arith, nat_tests) in
-    omega (arith, digit_value_digit c (omega arith))
+all_digits : (text : List ℕ) → list_all is_ascii_digit text ≡ all_ascii_digits text
+all_digits [] = refl
+all_digits (c ∷ cs) = ap (λ b. is_ascii_digit c && b) (all_digits cs)
 
-digit_back : (c : ℕ) → digit_value c < 10 → is_ascii_digit c ≡ true
-digit_back c h = let range = digit_from_value c h in grind (arith, nat_tests)
-
-all_digits : (text : List ℕ) → list_all is_ascii_digit text ≡ true → AllDigits 10 text
-all_digits [] h = tt
-all_digits (c ∷ cs) h =
-    let p = and_parts (is_ascii_digit c) (list_all is_ascii_digit cs) h in
-    (digit c p.0, all_digits cs p.1)
-
-all_digits_back : (text : List ℕ) → AllDigits 10 text → list_all is_ascii_digit text ≡ true
-all_digits_back [] h = refl
-all_digits_back (c ∷ cs) h =
-    and_from (is_ascii_digit c) (list_all is_ascii_digit cs) (digit_back c h.0)
-    (all_digits_back cs h.1)
+-- what the test tells of the digits
+told : IsNumeralModel (λ text. all_ascii_digits text ≡ true) (digits_value 10)
+told = numerals_by_value (λ text. all_ascii_digits text ≡ true) tells_all_ascii_digits
 
 -- with a byte, and no zero in front of others, the digits alone decide
 pub digits_decide : (text : List ℕ) → 0 < length text → (get_or text 0 0 ≡ 48 → length text ≡ 1)
     → list_all is_ascii_digit text ≡ reads_back text
 digits_decide text some lead = elim (cases_Bool (list_all is_ascii_digit text)) [
-  | inl all ↦ all
-      ∙ is_numeral text (record { some = some; digits = all_digits text all; lead = lead })
+  | inl all ↦
+      let digits = told.to text (sym (all_digits text) ∙ all) in
+      all ∙ is_numeral text (record { some = some; digits = digits; lead = lead })
   | inr other ↦ other
-      ∙ is_no_numeral text (λ h. false≢true (sym other ∙ all_digits_back text h.digits))
+      ∙ is_no_numeral text (λ h.
+      false≢true (sym other ∙ (all_digits text ∙ told.from text h.digits)))
 ]
 
 -- ---- What `parse` gives of the text of a number.
