@@ -1,10 +1,11 @@
 //! Reading the configuration file.
 
-ghost use Rattle.std.specs.Prelude.{◌≡◌, ◌≤◌, ◌+◌, [], length, map, None, IfOk, IfErr};
+ghost use Rattle.std.specs.Prelude.{◌≡◌, ◌≤◌, ◌+◌, ℕ, List, [], map, None, IfOk, IfErr};
 ghost use Rattle.std.specs.Prelude.{string_bytes, option_map, false};
+ghost use Rattle.serde_json.specs.Data.{Data};
 ghost use Rattle.serde_json.specs.View.{view};
 ghost use Rattle.am_universe.specs.declared.place.Place.TheVariants as places;
-ghost use Rattle.am_json.specs.Words.{to_item, Gives, IsRefusalAt, reading_within};
+ghost use Rattle.am_json.specs.Words.{Gives, IsRefusalAt, Reading};
 ghost use Rattle.am_json.specs.Words.{check_only_fields, read_items, read_counted};
 ghost use Rattle.am_files.specs.Words.{FileSaysConfig, route_fields, route_matcher_fields};
 ghost use Rattle.am_files.specs.Words.{route_count, routes_count, routes_of, route_view, names_of};
@@ -131,21 +132,32 @@ fn read_each_receiver(alloc: Global, items: &[Value]) -> Result<Vec<String>, Rea
     ensures { Gives (λ names. names_of names.items) result
         (read_items read_next_receiver [] (map view items.now)) }
 {
+    read_each_name(alloc, items, |before, item| {
+        read_next_receiver(alloc, before, item)
+    })
+}
+
+/// The names that `read` gives of the items, each behind those before it. The first refusal is the
+/// one answered, at its item.
+fn read_each_name<F: Fn(&[String], &Value) -> Result<String, ReadError>>(
+    alloc: Global,
+    items: &[Value],
+    read: F,
+) -> Result<Vec<String>, ReadError>
+    requires { F.IsAlwaysCallable read }
+    ensures reading { (reading : List (List ℕ) → Data → Reading (List ℕ))
+        → ((before : _) (value : _) (found : _) → F.post read before value found
+        → Gives string_bytes found (reading (names_of before.now) (view value.now)))
+        → Gives (λ names. names_of names.items) result
+        (read_items reading [] (map view items.now)) }
+{
     let mut names = Vec::new(alloc);
     for item in items {
-        let name = read_receiver_item(alloc, names.as_slice(), item)?;
+        let found = read(names.as_slice(), item);
+        let name = within_item(alloc, names.len(), found)?;
         names.push(name)?;
     }
     Ok(names)
-}
-
-/// The item whose position is the number of names so far.
-fn read_receiver_item(alloc: Global, before: &[String], item: &Value) -> Result<String, ReadError>
-    ensures { Gives string_bytes result
-        (reading_within (to_item (length (names_of before.now)))
-        (read_next_receiver (names_of before.now) (view item.now))) }
-{
-    within_item(alloc, before.len(), read_next_receiver(alloc, before, item))
 }
 
 /// The name of a receiver behind others.
@@ -479,13 +491,7 @@ fn read_each_equal_name(alloc: Global, items: &[Value]) -> Result<Vec<String>, R
     ensures { Gives (λ names. names_of names.items) result
         (read_items (λ _ d. read_equal_name d) [] (map view items.now)) }
 {
-    let mut names = Vec::new(alloc);
-    for item in items {
-        let found = read_equal_name(alloc, item);
-        let name = within_item(alloc, names.len(), found)?;
-        names.push(name)?;
-    }
-    Ok(names)
+    read_each_name(alloc, items, |_, item| read_equal_name(alloc, item))
 }
 
 /// The name of a label, which is not empty.
