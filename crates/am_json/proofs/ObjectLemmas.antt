@@ -114,8 +114,7 @@ open_pattern pattern (in_field place) = pattern place
 
 pub no_open_pattern : {F : Type 0} (place : ObjectPlace F) → open_pattern (λ _. false) place ≡ false
 no_open_pattern object_itself = refl
-no_open_pattern (other_field key) = refl
-no_open_pattern (in_field place) = refl
+no_open_pattern place = refl
 
 abbrev pub open_form : {F : Type 0} → Option Members → Form F → Form (ObjectPlace F)
 open_form found fields = record {
@@ -127,9 +126,8 @@ open_form found fields = record {
 in_open : {F : Type 0} (fields : Form F) (ms : Members) (place : ObjectPlace F)
     → ((found : F) × (place ≡ in_field found))
     ⊎ ((open_form (Some ms) fields).fault_at place ≡ None)
-in_open fields ms object_itself = inr refl
-in_open fields ms (other_field key) = inr refl
 in_open fields ms (in_field place) = inl (place, refl)
+in_open fields ms place = inr refl
 
 pub open_judged : {F A : Type 0} (fields : Form F) (m : Reading A) → Judges fields m
     → (found : Option Members)

@@ -252,14 +252,6 @@ lists_judge found =
 
 -- ---- The file.
 
-labels_within : (d : Data)
-    → read_all_labels d
-    ≡ reading_within (to_field (codes "labels"))
-    (accept_some (option_and_then items_of (field (codes "labels") d)) (refusal_here kinds.Shape)
-    >>= read_labels)
-unfolding read_all_labels
-labels_within d = items_within (codes "labels") read_labels d
-
 file_number : (place : UniverseField) → IsBetween 1 4 (universe_field_path place)
 file_number (file_labels place) = (omega arith, omega arith)
 file_number (file_impossible place) = (omega arith, omega arith)
@@ -324,8 +316,10 @@ module _ (d : Data) where
       (λ impossible _. all_accepted file_form 1 4 file_number (made_space labels impossible)))
 
   file_fields_judge : Judges file_form (read_all_labels d >>= lists_then)
+  unfolding read_all_labels
   file_fields_judge =
-      rw (labels_within d)
+      subst (λ (m : Reading (List Label)). Judges file_form (m >>= lists_then))
+      (sym (items_within (codes "labels") read_labels d))
       (part_judges file_form labels_part (none_yet file_form 1 4 file_number)
       (labels_judge labels_field) (λ labels _. lists_then_judge labels))
 

@@ -38,7 +38,6 @@ loop-item-preserved g c =
           c.item-item.result c.in_ok-next.next _ c.loop-item-test.true c.item-item.is next
           (l.invariant.leads reading gives);
       count = omega (arith, more, l.invariant.count);
-      few = omega (arith, more, l.invariant.count, c.loop-item-test.true);
     })
 
 pub returns-clause-reading : goal.returns-clause-reading

@@ -1,4 +1,4 @@
-use Rattle.std.proofs.Common.{◌≡◌, ◌≤◌, [], length, map, drop}
+use Rattle.std.proofs.Common.{◌≡◌, [], length, map, drop}
 use Rattle.std.specs.Fn.{FnReturnsAt}
 use Rattle.serde_json.specs.Data.{Data}
 use Rattle.serde_json.specs.View.{view}
@@ -15,5 +15,4 @@ invariant-loop-item g l = record {
       → Leads (read_items (λ _ d. reading d) l.all.items (map view (drop l.item-index l.items)))
       (read_items (λ _ d. reading d) [] (map view l.items));
   count : length l.all.items ≡ l.item-index;
-  few : length l.all.items ≤ length l.items;
 }
