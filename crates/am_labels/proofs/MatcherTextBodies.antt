@@ -3,10 +3,11 @@ use Rattle.std.proofs.Common.{◌≡◌, refl, sym, ◌∙◌, ap, subst, inl, i
 use Rattle.std.specs.Prelude.{◌==◌}
 use Rattle.std.specs.List.{prefix_len}
 use Rattle.std.proofs.lemmas.List.{length-append, reverse-append, take-append-le, take_at, take_all, take_more, get_or_append_left, get_or_at}
-use Rattle.std.proofs.lemmas.Bool.{and_parts, cases_Bool, eqb-true, eq-eqb, ne_eqb, not-true, false≢true}
+use Rattle.std.proofs.lemmas.Bool.{and_parts, cases_Bool, eqb-true, eq-eqb, ne_eqb, not-true}
 use Rattle.std.proofs.lemmas.Option.{cond_some}
 use Rattle.am_labels.specs.MatcherText.{is_escaped, is_quote, HasBody}
 use Rattle.am_labels.specs.MatcherReading.{first_quote, read_body}
+use Rattle.am_labels.proofs.MatcherTextLists.{one_byte}
 use Rattle.am_labels.proofs.MatcherTextPlaces.{first_quote_is, first_quote_before, first_quote_found}
 
 -- ---- places of a part
@@ -78,17 +79,13 @@ bare_body : (raw body : List ℕ) → (get_or raw 0 0 == 34) ≡ false → first
 bare_body raw body first e b =
     rw (← b) (inr (first, refl), λ i l. first_quote_before raw i (rw e l))
 
-opened : (raw : List ℕ) → (get_or raw 0 0 == 34) ≡ true → raw ≡ 34 ∷ drop 1 raw
-opened [] e = absurd (false≢true e)
-opened (c ∷ more) e = rw (eqb-true c 34 e) refl
-
 pub read_is_body : (raw body : List ℕ) → read_body raw ≡ Some body → IsBody raw body
 unfolding read_body
 read_is_body raw body e = elim (cases_Bool (get_or raw 0 0 == 34)) [
   | inl quote ↦
       let f = rw quote at e in
       let g = cond_some (first_quote (drop 1 raw) + 1 == length (drop 1 raw)) (take (length (drop 1 raw) - 1) (drop 1 raw)) body f in
-      subst (λ (r : List ℕ). IsBody r body) (sym (opened raw quote)) (quoted_body (drop 1 raw) body (eqb-true (first_quote (drop 1 raw) + 1) (length (drop 1 raw)) g.0) g.1)
+      subst (λ (r : List ℕ). IsBody r body) (sym (one_byte 34 raw (omega arith) quote)) (quoted_body (drop 1 raw) body (eqb-true (first_quote (drop 1 raw) + 1) (length (drop 1 raw)) g.0) g.1)
   | inr bare ↦
       let f = rw bare at e in
       let g = cond_some (first_quote raw == length raw) raw body f in

@@ -1,11 +1,22 @@
 -- Lists that begin or end with elements that pass a test.
 use Rattle.std.proofs.Common.{◌≡◌, refl, sym, ◌∙◌, inl, inr, ℕ, ◌+◌, ◌-◌, ◌<◌, List, [], ◌∷◌, ◌++◌, length, take, drop, get_or, Bool, true, false, arith, reverse}
+use Rattle.std.specs.Prelude.{◌==◌}
 use Rattle.std.specs.List.{prefix_len, suffix_len, list_all}
 use Rattle.std.proofs.lemmas.List.{drop_at, take_at, length-append, length-reverse, get_or-reverse, get_or-drop, get_or-take, get_or_past, length-drop, length-take-le, get_or_append_left, get_or-append-add}
 use Rattle.std.proofs.lemmas.List.Sums.{prefix_len_passes, prefix_len_stops, prefix_len-le-length, suffix_len_is, suffix_len-le-length, list_all-from_AllPass, AllPass-from_list_all}
-use Rattle.std.proofs.lemmas.Bool.{and_parts, and_from, cases_lt}
+use Rattle.std.proofs.lemmas.Bool.{and_parts, and_from, cases_lt, eqb-true}
 
 -- ---- from the front
+
+pub one_byte : (c : ℕ) (text : List ℕ) → 0 < c → (get_or text 0 0 == c) ≡ true → text ≡ c ∷ drop 1 text
+one_byte c [] l e = absurd (omega (arith, eqb-true 0 c e))
+one_byte c (d ∷ text) l e = rw (eqb-true d c e) refl
+
+pub prefix_all : (p : ℕ → Bool) (xs : List ℕ) → list_all p xs ≡ true → prefix_len p xs ≡ length xs
+prefix_all p [] h = refl
+prefix_all p (x ∷ xs) h =
+    let parts = and_parts (p x) (list_all p xs) h in
+    rw (parts.0, prefix_all p xs parts.1) (omega arith)
 
 pub prefix_whole : (p : ℕ → Bool) (xs ys : List ℕ) → list_all p xs ≡ true → p (get_or ys 0 0) ≡ false → prefix_len p (xs ++ ys) ≡ length xs
 prefix_whole p [] [] h e = refl

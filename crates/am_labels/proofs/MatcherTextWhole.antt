@@ -15,7 +15,7 @@ use Rattle.am_labels.specs.Matcher.{Condition}
 use Rattle.am_labels.specs.MatcherText.{is_space, is_blank, begins_name, continues_name, is_name, operator_text, unescaped_text, is_trimmed, SpellsOne, Spells, matcher_pieces, without_opening, without_closing, pieces_of_words, WordsSpell}
 use Rattle.am_labels.specs.MatcherReading.{ReturnsReading, read_body, read_operator, read_name, read_piece, read_each_piece, read_list, read_words, without_leading_blanks, without_trailing_blanks, ◌>>=◌}
 use Rattle.am_labels.proofs.MatcherTextSteps.{whole_piece}
-use Rattle.am_labels.proofs.MatcherTextLists.{drop_prefix, take_prefix, all_of_prefix, first_after_prefix, all_append, all_of_suffix, last_before_suffix, take_before_suffix}
+use Rattle.am_labels.proofs.MatcherTextLists.{one_byte, drop_prefix, take_prefix, all_of_prefix, first_after_prefix, all_append, all_of_suffix, last_before_suffix, take_before_suffix}
 use Rattle.am_labels.proofs.MatcherTextBodies.{body_is_read, read_is_body}
 
 -- ---- bytes
@@ -31,15 +31,11 @@ space_ends_name c h = grind (arith, nat_tests)
 
 operator_no_space : (op : Op) (rest : List ℕ) → is_space (get_or (operator_text op ++ rest) 0 0) ≡ false
 operator_no_space Equal rest = refl
-operator_no_space NotEqual rest = refl
-operator_no_space Matches rest = refl
-operator_no_space NotMatches rest = refl
+operator_no_space _ rest = refl
 
 operator_ends_name : (between : List ℕ) (op : Op) (rest : List ℕ) → is_blank between ≡ true → continues_name (get_or (between ++ (operator_text op ++ rest)) 0 0) ≡ false
 operator_ends_name [] Equal rest b = refl
-operator_ends_name [] NotEqual rest b = refl
-operator_ends_name [] Matches rest b = refl
-operator_ends_name [] NotMatches rest b = refl
+operator_ends_name [] _ rest b = refl
 operator_ends_name (c ∷ cs) op rest b = space_ends_name c (and_parts (is_space c) (is_blank cs) b).0
 
 name_continues : (name : List ℕ) → is_name name ≡ true → list_all continues_name name ≡ true
@@ -62,9 +58,7 @@ name_is_read name rest h e =
 operator_is_read : (op : Op) (rest : List ℕ) → (op ≡ Equal → (get_or rest 0 0 == 126) ≡ false) → read_operator (operator_text op ++ rest) ≡ Some (op, rest)
 unfolding read_operator
 operator_is_read Equal rest h = rw (h refl) refl
-operator_is_read NotEqual rest h = refl
-operator_is_read Matches rest h = refl
-operator_is_read NotMatches rest h = refl
+operator_is_read _ rest h = refl
 
 raw_is_cut : (after raw behind : List ℕ) → is_blank after ≡ true → is_blank behind ≡ true → is_trimmed raw ≡ true → without_trailing_blanks (without_leading_blanks (after ++ (raw ++ behind))) ≡ raw
 raw_is_cut after [] behind a b t =
@@ -111,10 +105,6 @@ name_parts text name rest e =
     let r : drop (prefix_len continues_name text) text ≡ rest = ap (λ (p : List ℕ × List ℕ). p.1) f.1 in
     (rw (← n, ← r) (sym (take-append-drop (prefix_len continues_name text) text)), rw (← n) (named text f.0))
 
-one_byte : (c : ℕ) (text : List ℕ) → 0 < c → (get_or text 0 0 == c) ≡ true → text ≡ c ∷ drop 1 text
-one_byte c [] l e = absurd (omega (arith, eqb-true 0 c e))
-one_byte c (d ∷ text) l e = rw (eqb-true d c e) refl
-
 two_bytes : (b c : ℕ) (text : List ℕ) → 0 < b → 0 < c → (get_or text 0 0 == b) ≡ true → (get_or text 1 0 == c) ≡ true → text ≡ b ∷ c ∷ drop 2 text
 two_bytes b c [] l k e f = absurd (omega (arith, eqb-true 0 b e))
 two_bytes b c (d ∷ text) l k e f = rw (eqb-true d b e) (ap (λ r. b ∷ r) (one_byte c text k f))
@@ -123,10 +113,10 @@ two_bytes b c (d ∷ text) l k e f = rw (eqb-true d b e) (ap (λ r. b ∷ r) (on
 abbrev Stand : List ℕ → Op → List ℕ → Type 0
 Stand text op rest = (text ≡ operator_text op ++ rest) × (op ≡ Equal → (get_or rest 0 0 == 126) ≡ false)
 
-stand_same : (text : List ℕ) (o op : Op) (r rest : List ℕ) → ◌≡◌ {A = Option (Op × List ℕ)} (Some (o, r)) (Some (op, rest)) → Stand text o r → Stand text op rest
-stand_same text o op r rest e s =
-    let parts = some_pair_parts o op r rest e in
-    rw (← parts.0, ← parts.1) s
+-- what is said of what is read is said of the same again
+pub said_again : {A B : Type 0} (P : A → B → Type 0) (a x : A) (b y : B)
+    → ◌≡◌ {A = Option (A × B)} (Some (a, b)) (Some (x, y)) → P a b → P x y
+said_again P a x b y e said = let same = some_pair_parts a x b y e in rw (← same.0, ← same.1) said
 
 get_or-drop_one : (text : List ℕ) → get_or (drop 1 text) 0 0 ≡ get_or text 1 0
 get_or-drop_one [] = refl
@@ -138,8 +128,8 @@ operator_parts text op rest e = elim (cases_Bool (get_or text 0 0 == 61)) [
   | inl equals ↦
       let f = rw equals at e in
       elim (cases_Bool (get_or text 1 0 == 126)) [
-        | inl tilde ↦ stand_same text Matches op (drop 2 text) rest (rw tilde at f) (two_bytes 61 126 text (omega arith) (omega arith) equals tilde, λ q. cc)
-        | inr other ↦ stand_same text Equal op (drop 1 text) rest (rw other at f) (one_byte 61 text (omega arith) equals, λ _. rw (get_or-drop_one text) other)
+        | inl tilde ↦ said_again (Stand text) Matches op (drop 2 text) rest (rw tilde at f) (two_bytes 61 126 text (omega arith) (omega arith) equals tilde, λ q. cc)
+        | inr other ↦ said_again (Stand text) Equal op (drop 1 text) rest (rw other at f) (one_byte 61 text (omega arith) equals, λ _. rw (get_or-drop_one text) other)
       ]
   | inr not_equals ↦
       let f = rw not_equals at e in
@@ -147,11 +137,11 @@ operator_parts text op rest e = elim (cases_Bool (get_or text 0 0 == 61)) [
         | inl bang ↦
             let g = rw bang at f in
             elim (cases_Bool (get_or text 1 0 == 61)) [
-              | inl equals ↦ stand_same text NotEqual op (drop 2 text) rest (rw equals at g) (two_bytes 33 61 text (omega arith) (omega arith) bang equals, λ q. cc)
+              | inl equals ↦ said_again (Stand text) NotEqual op (drop 2 text) rest (rw equals at g) (two_bytes 33 61 text (omega arith) (omega arith) bang equals, λ q. cc)
               | inr other ↦
                   let h = rw other at g in
                   elim (cases_Bool (get_or text 1 0 == 126)) [
-                    | inl tilde ↦ stand_same text NotMatches op (drop 2 text) rest (rw tilde at h) (two_bytes 33 126 text (omega arith) (omega arith) bang tilde, λ q. cc)
+                    | inl tilde ↦ said_again (Stand text) NotMatches op (drop 2 text) rest (rw tilde at h) (two_bytes 33 126 text (omega arith) (omega arith) bang tilde, λ q. cc)
                     | inr none ↦ absurd (none-some (op, rest) (rw none at h))
                   ]
             ]

@@ -1,10 +1,10 @@
 -- Each form of a piece is cut off as one, and is refused as one.
-use Rattle.std.proofs.Common.{◌≡◌, ◌≢◌, refl, sym, ◌∙◌, ap, inl, inr, ℕ, suc, ◌+◌, ◌-◌}
+use Rattle.std.proofs.Common.{◌≡◌, ◌≢◌, refl, sym, ◌∙◌, ap, inl, inr, ℕ, ◌+◌, ◌-◌}
 use Rattle.std.proofs.Common.{◌<◌, List, [], ◌∷◌, ◌++◌, length, take, drop, get_or, Bool, true}
 use Rattle.std.proofs.Common.{false, not, ◌&&◌, ◌||◌, cond, arith, Option, Some, None, option_map}
 use Rattle.std.proofs.Common.{Contains, nat_eq, nat_lt}
 use Rattle.std.specs.Prelude.{◌==◌}
-use Rattle.std.specs.List.{list_all, list_any, find, starts_with, prefix_len, AllByRecursion}
+use Rattle.std.specs.List.{list_all, list_any, find, starts_with, AllByRecursion}
 use Rattle.std.specs.Char.{is_ascii_digit}
 use Rattle.std.proofs.lemmas.List.{append_assoc, append-nil, length-append, length-take-le}
 use Rattle.std.proofs.lemmas.List.{take-append-drop, drop_at, drop_all}
@@ -30,7 +30,7 @@ use Rattle.am_labels.specs.PatternCut.{begins_count, class_start_len, named_clas
 use Rattle.am_labels.specs.PatternCut.{unescaped_step, has_no_refused_piece}
 use Rattle.am_labels.proofs.PatternCuts.{by_step, by_none}
 use Rattle.std.proofs.lemmas.List.Sums.{prefix_len-le-length}
-use Rattle.am_labels.proofs.MatcherTextLists.{prefix_whole, drop_prefix, take_prefix, all_of_prefix}
+use Rattle.am_labels.proofs.MatcherTextLists.{prefix_all, prefix_whole, drop_prefix, take_prefix, all_of_prefix}
 
 -- a step to what is left
 stepped : (context : ClassContext) (c : ℕ) (t : List ℕ) (next : ClassContext) (width : ℕ)
@@ -58,15 +58,20 @@ clean_escape context d u e = elim (cases_Bool (is_refused_escape d)) [
       (escaped_step context d u (Some 2) (rw (f, e) refl)) refl)
 ]
 
--- the characters that take braces may be escaped
-braces_escape : (d : ℕ) → takes_braces d ≡ true → is_refused_escape d ≡ false
-braces_escape d h = elim (cases_Bool (d == 120)) [
-  | inl e ↦ rw (eqb-true d 120 e) refl
-  | inr f ↦ elim (cases_Bool (d == 112)) [
-    | inl e ↦ rw (eqb-true d 112 e) refl
-    | inr g ↦ let last = rw (f, g) at h in rw (eqb-true d 80 last) refl
+-- what is said of three characters is said of one of them
+pub of_three : (P : ℕ → Type 0) (x y z c : ℕ) → ((c == x) || ((c == y) || (c == z))) ≡ true
+    → P x → P y → P z → P c
+of_three P x y z c h at_x at_y at_z = elim (or_cases (c == x) ((c == y) || (c == z)) h) [
+  | inl e ↦ rw (eqb-true c x e) at_x
+  | inr more ↦ elim (or_cases (c == y) (c == z) more) [
+    | inl e ↦ rw (eqb-true c y e) at_y
+    | inr e ↦ rw (eqb-true c z e) at_z
   ]
 ]
+
+-- the characters that take braces may be escaped
+braces_escape : (d : ℕ) → takes_braces d ≡ true → is_refused_escape d ≡ false
+braces_escape d h = of_three (λ c. is_refused_escape c ≡ false) 120 112 80 d h refl refl refl
 
 up_closed : (inner rest : List ℕ) → has_no_closing inner ≡ true
     → up_to_brace (123 ∷ (inner ++ 125 ∷ rest)) ≡ (1 + length inner) + 1
@@ -77,18 +82,12 @@ up_closed inner rest h =
     lt-ltb (1 + length inner) (length (123 ∷ (inner ++ 125 ∷ rest))) (omega arith) in
     rw (n, below) refl
 
-all_prefix : (p : ℕ → Bool) (xs : List ℕ) → list_all p xs ≡ true → prefix_len p xs ≡ length xs
-all_prefix p [] h = refl
-all_prefix p (x ∷ xs) h =
-    let parts = and_parts (p x) (list_all p xs) h in
-    rw (parts.0, all_prefix p xs parts.1) (omega arith)
-
 up_open : (inner : List ℕ) → has_no_closing inner ≡ true
     → up_to_brace (123 ∷ inner) ≡ length (123 ∷ inner)
 up_open inner h =
     let past : nat_lt (1 + length inner) (length (123 ∷ inner)) ≡ false =
     le-ltb (1 + length inner) (length (123 ∷ inner)) (omega arith) in
-    rw (all_prefix (λ c. not (c == 125)) inner h, past) refl
+    rw (prefix_all (λ c. not (c == 125)) inner h, past) refl
 
 clean_braced : (context : ClassContext) (d : ℕ) (inner rest : List ℕ) → takes_braces d ≡ true
     → has_no_closing inner ≡ true
@@ -124,9 +123,6 @@ flipped x c e = ne_eqb x c (λ h. false≢true (sym e ∙ eq-eqb c x (sym h)))
 -- none of the characters that begin something outside a class
 abbrev is_safe : ℕ → Bool
 is_safe c = not (c ∈ "\\{[(")
-
-flag_safe : (c : ℕ) → is_flag c ≡ true → is_safe c ≡ true
-flag_safe c h = grind (arith, nat_tests)
 
 digit_safe : (c : ℕ) → is_ascii_digit c ≡ true → is_safe c ≡ true
 digit_safe c h = grind (arith, nat_tests)
@@ -186,7 +182,7 @@ clean_flags run rest h =
       | inr f ↦
           rw f (stepped OutsideClass 40 (63 ∷ (run ++ rest)) OutsideClass 2 (run ++ rest)
           (flags_step (run ++ rest) false (same ∙ f)) refl
-          ∙ clean_run is_flag run rest flag_safe parts.0)
+          ∙ clean_run is_flag run rest (λ c g. grind (arith, nat_tests)) parts.0)
     ]
 
 pub upper_ends_digits : (more rest : List ℕ) → is_upper_bound more ≡ true
@@ -312,16 +308,14 @@ start_step : (t : List ℕ) (width : ℕ) → class_start_len (91 ∷ t) ≡ wid
 unfolding first_step unescaped_step
 start_step t width e = rw e refl
 
+pub not_hat : (r : ℕ) → ((nat_eq 94 r && true) || (nat_eq 93 r && true)) ≡ false
+    → (nat_eq 94 r ≡ false) × (nat_eq 93 r ≡ false)
+not_hat r h = (grind (arith, nat_tests), grind (arith, nat_tests))
+
 short_start : (rest : List ℕ)
     → (begins "^" rest || begins "]" rest) ≡ false → class_start_len (91 ∷ rest) ≡ 1
 short_start [] h = refl
-short_start (r ∷ rest) h =
-    let parts = or_parts (nat_eq 94 r && true) (nat_eq 93 r && true) h in
-    let hat : nat_eq 94 r ≡ false =
-    elim (cases_Bool (nat_eq 94 r)) [ inl e ↦ let g = rw e at parts.0 in cc | inr f ↦ f ] in
-    let closing : nat_eq 93 r ≡ false =
-    elim (cases_Bool (nat_eq 93 r)) [ inl e ↦ let g = rw e at parts.1 in cc | inr f ↦ f ] in
-    rw (hat, closing) refl
+short_start (r ∷ rest) h = let first = not_hat r h in rw (first.0, first.1) refl
 
 clean_start : (negated closing : Bool) (rest : List ℕ)
     → is_longest_start negated closing rest ≡ true
@@ -363,10 +357,7 @@ clean_bracket rest h =
 -- a named class is found at its own front, which is a `[`
 abbrev pub IsFoundFirst : List ℕ → Type 0
 IsFoundFirst named =
-    (rest : List ℕ)
-    → (named_class_at (named ++ rest) ≡ Some named) × (named ++ rest ≡ 91 ∷ drop 1 (named ++ rest))
-    × (drop (length named - 1) (drop 1 (named ++ rest)) ≡ rest) ×
-    (length named ≡ suc (length (drop 1 named)))
+    ((rest : List ℕ) → named_class_at (named ++ rest) ≡ Some named) × (named ≡ 91 ∷ drop 1 named)
 
 infixr 20 ◌⟫◌
 ◌⟫◌ : {A B : Type 0} → A → B → A × B
@@ -375,20 +366,13 @@ a ⟫ b = (a, b)
 each_found : AllByRecursion IsFoundFirst named_classes
 unfolding named_classes class_names
 each_found =
-    (λ r. (refl, refl, refl, refl)) ⟫ (λ r. (refl, refl, refl, refl)) ⟫
-    (λ r. (refl, refl, refl, refl)) ⟫ (λ r. (refl, refl, refl, refl)) ⟫
-    (λ r. (refl, refl, refl, refl)) ⟫ (λ r. (refl, refl, refl, refl)) ⟫
-    (λ r. (refl, refl, refl, refl)) ⟫ (λ r. (refl, refl, refl, refl)) ⟫
-    (λ r. (refl, refl, refl, refl)) ⟫ (λ r. (refl, refl, refl, refl)) ⟫
-    (λ r. (refl, refl, refl, refl)) ⟫ (λ r. (refl, refl, refl, refl)) ⟫
-    (λ r. (refl, refl, refl, refl)) ⟫ (λ r. (refl, refl, refl, refl)) ⟫
-    (λ r. (refl, refl, refl, refl)) ⟫ (λ r. (refl, refl, refl, refl)) ⟫
-    (λ r. (refl, refl, refl, refl)) ⟫ (λ r. (refl, refl, refl, refl)) ⟫
-    (λ r. (refl, refl, refl, refl)) ⟫ (λ r. (refl, refl, refl, refl)) ⟫
-    (λ r. (refl, refl, refl, refl)) ⟫ (λ r. (refl, refl, refl, refl)) ⟫
-    (λ r. (refl, refl, refl, refl)) ⟫ (λ r. (refl, refl, refl, refl)) ⟫
-    (λ r. (refl, refl, refl, refl)) ⟫ (λ r. (refl, refl, refl, refl)) ⟫
-    (λ r. (refl, refl, refl, refl)) ⟫ (λ r. (refl, refl, refl, refl)) ⟫ tt
+    (λ r. refl, refl) ⟫ (λ r. refl, refl) ⟫ (λ r. refl, refl) ⟫ (λ r. refl, refl) ⟫
+    (λ r. refl, refl) ⟫ (λ r. refl, refl) ⟫ (λ r. refl, refl) ⟫ (λ r. refl, refl) ⟫
+    (λ r. refl, refl) ⟫ (λ r. refl, refl) ⟫ (λ r. refl, refl) ⟫ (λ r. refl, refl) ⟫
+    (λ r. refl, refl) ⟫ (λ r. refl, refl) ⟫ (λ r. refl, refl) ⟫ (λ r. refl, refl) ⟫
+    (λ r. refl, refl) ⟫ (λ r. refl, refl) ⟫ (λ r. refl, refl) ⟫ (λ r. refl, refl) ⟫
+    (λ r. refl, refl) ⟫ (λ r. refl, refl) ⟫ (λ r. refl, refl) ⟫ (λ r. refl, refl) ⟫
+    (λ r. refl, refl) ⟫ (λ r. refl, refl) ⟫ (λ r. refl, refl) ⟫ (λ r. refl, refl) ⟫ tt
 
 pub found_first : (named : List ℕ) → Contains named_classes named → IsFoundFirst named
 found_first named h =
@@ -398,23 +382,20 @@ found_first named h =
 clean_named : (named rest : List ℕ) → Contains named_classes named
     → has_no_refused_piece InsideClass (named ++ rest) ≡ has_no_refused_piece InsideClass rest
 clean_named named rest h =
-    let found = found_first named h rest in
-    let t : List ℕ = drop 1 (named ++ rest) in
-    let at : named_class_at (91 ∷ t) ≡ Some named = ap named_class_at (sym found.1) ∙ found.0 in
-    ap (has_no_refused_piece InsideClass) found.1
+    let found = found_first named h in
+    let t : List ℕ = drop 1 named ++ rest in
+    let whole : named ++ rest ≡ 91 ∷ t = ap (λ n. n ++ rest) found.1 in
+    let size : length (drop 1 named) ≡ length named - 1 = omega (arith, ap length found.1) in
+    ap (has_no_refused_piece InsideClass) whole
     ∙ stepped InsideClass 91 t InsideClass (length named) rest
-    (bracket_step t (Some named) at) found.2
+    (bracket_step t (Some named) (ap named_class_at (sym whole) ∙ found.0 rest))
+    (drop_at (drop 1 named) rest (length named - 1) size)
 
 pair_step : (c : ℕ) (rest : List ℕ) → (c ∈ "&-~") ≡ true
     → first_step InsideClass (c ∷ c ∷ rest) ≡ None
 unfolding first_step unescaped_step
-pair_step c rest h = elim (cases_Bool (c == 38)) [
-  | inl e ↦ rw (eqb-true c 38 e) refl
-  | inr f ↦ elim (cases_Bool (c == 45)) [
-    | inl e ↦ rw (eqb-true c 45 e) refl
-    | inr g ↦ let last = rw (f, g) at h in rw (eqb-true c 126 last) refl
-  ]
-]
+pair_step c rest h =
+    of_three (λ d. first_step InsideClass (d ∷ d ∷ rest) ≡ None) 38 45 126 c h refl refl refl
 
 no_pair : (x c : ℕ) (rest : List ℕ) → 0 < x → ((c == x) ≡ true → (get_or rest 0 0 == c) ≡ false)
     → starts_with nat_eq (c ∷ rest) (x ∷ x ∷ []) ≡ false
@@ -468,23 +449,16 @@ cut_off (open_escape c inner) context rest h =
     rw (h.1, append-nil inner) (clean_open context c inner parts.0 parts.1)
 cut_off last_backslash context rest h = rw h (clean_last context)
 cut_off (flags run) OutsideClass rest h = clean_flags run rest h
-cut_off (flags run) InsideClass rest h = absurd h
 cut_off (count least more) OutsideClass rest h =
     ap (λ t. has_no_refused_piece OutsideClass (123 ∷ t))
     (append_assoc least (more ++ 125 ∷ []) rest ∙ ap (λ t. least ++ t)
     (append_assoc more (125 ∷ []) rest)) ∙ clean_count least more rest h
-cut_off (count least more) InsideClass rest h = absurd h
 cut_off brace OutsideClass rest h = clean_brace rest h
-cut_off brace InsideClass rest h = absurd h
 cut_off (class_start negated closing) OutsideClass rest h = clean_start negated closing rest h
-cut_off (class_start negated closing) InsideClass rest h = absurd h
-cut_off (named_class text) OutsideClass rest h = absurd h
 cut_off (named_class text) InsideClass rest h = clean_named text rest h
-cut_off bracket OutsideClass rest h = absurd h
 cut_off bracket InsideClass rest h = clean_bracket rest h
-cut_off (pair c) OutsideClass rest h = absurd h
 cut_off (pair c) InsideClass rest h = by_none InsideClass c (c ∷ rest) (pair_step c rest h)
-cut_off class_end OutsideClass rest h = absurd h
 cut_off class_end InsideClass rest h = clean_class_end rest
 cut_off (plain c) OutsideClass rest h = clean_plain_outside c rest h
 cut_off (plain c) InsideClass rest h = clean_plain_inside c rest h
+cut_off piece context rest h = absurd h

@@ -1,10 +1,11 @@
 -- Every pattern is a join of pieces, and it is of the profile where none of them is refused.
 use Rattle.std.proofs.Common.{◌≡◌, ◌↔◌, refl, sym, ◌∙◌, ap, subst, inl, inr, ◌⊎◌, ℕ, zero, suc, ◌+◌}
 use Rattle.std.proofs.Common.{◌<◌, ◌≤◌, List, [], ◌∷◌, ◌++◌, length, take, drop, get_or, Bool}
-use Rattle.std.proofs.Common.{true, false, not, ◌&&◌, ◌||◌, cond, arith, Contains, nat_eq, IsTrue}
+use Rattle.std.proofs.Common.{true, false, not, ◌&&◌, ◌||◌, cond, arith, nat_eq, IsTrue}
 use Rattle.std.specs.Prelude.{◌==◌}
 use Rattle.std.specs.List.{list_all, list_any, flat_map, starts_with, prefix_len}
 use Rattle.std.proofs.lemmas.List.{append_assoc, append-nil, length-append, take-append-drop}
+use Rattle.std.proofs.lemmas.List.Folds.{Any-from_list_any}
 use Rattle.std.proofs.lemmas.Bool.{and_parts, and_from, cases_Bool, eqb-true, not-true}
 use Rattle.std.proofs.lemmas.Bool.{not_from_false, false≢true}
 use Rattle.regex_syntax.specs.Reading.{◌∈◌, begins}
@@ -31,6 +32,10 @@ record Front (context : ClassContext) (text : List ℕ) : Type 0 where
   rest : List ℕ
   whole : text ≡ piece_text piece ++ rest
   stands : StandsIn context piece rest
+
+begun : {context : ClassContext} (piece : Piece) (rest : List ℕ) {text : List ℕ}
+    → text ≡ piece_text piece ++ rest → StandsIn context piece rest → Front context text
+begun piece rest is stands = record { piece = piece; rest = rest; whole = is; stands = stands }
 
 -- a text up to its first `}`
 record Closed (text : List ℕ) : Type 0 where
@@ -62,41 +67,31 @@ up_to_closing (c ∷ text) = elim (cases_Bool (c == 125)) [
 ]
 
 escape_front : (context : ClassContext) (t : List ℕ) → Front context (92 ∷ t)
-escape_front context [] = record { piece = last_backslash; rest = []; whole = refl; stands = refl }
+escape_front context [] = begun last_backslash [] refl refl
 escape_front context (d ∷ u) = elim (cases_Bool (takes_braces d && begins "{" u)) [
   | inl taken ↦
       let parts = and_parts (takes_braces d) (begins "{" u) taken in
       let opened : u ≡ 123 ∷ drop 1 u = begins_one 123 u parts.1 in
       elim (up_to_closing (drop 1 u)) [
-        | inl s ↦ record {
-          piece = braced_escape d s.inner;
-          rest = s.rest;
-          whole = ap (λ r. 92 ∷ d ∷ r)
-              (opened ∙ ap (λ r. 123 ∷ r) (s.whole ∙ sym (append_assoc s.inner (125 ∷ []) s.rest)));
-          stands = and_from (takes_braces d) (has_no_closing s.inner) parts.0 s.free;
-        }
-        | inr free ↦ record {
-          piece = open_escape d (drop 1 u);
-          rest = [];
-          whole = ap (λ r. 92 ∷ d ∷ r) (opened ∙ ap (λ r. 123 ∷ r) (sym (append-nil (drop 1 u))));
-          stands = (and_from (takes_braces d) (has_no_closing (drop 1 u)) parts.0 free, refl);
-        }
+        | inl s ↦
+            begun (braced_escape d s.inner) s.rest (ap (λ r. 92 ∷ d ∷ r)
+            (opened ∙ ap (λ r. 123 ∷ r) (s.whole ∙ sym (append_assoc s.inner (125 ∷ []) s.rest))))
+            (and_from (takes_braces d) (has_no_closing s.inner) parts.0 s.free)
+        | inr free ↦
+            begun (open_escape d (drop 1 u)) []
+            (ap (λ r. 92 ∷ d ∷ r) (opened ∙ ap (λ r. 123 ∷ r) (sym (append-nil (drop 1 u)))))
+            (and_from (takes_braces d) (has_no_closing (drop 1 u)) parts.0 free, refl)
       ]
-  | inr alone ↦ record { piece = escape d; rest = u; whole = refl; stands = alone }
+  | inr alone ↦ begun (escape d) u refl alone
 ]
 
 flags_front : (t : List ℕ) → Front OutsideClass (40 ∷ 63 ∷ t)
 flags_front t =
     let run : List ℕ = take (prefix_len is_flag t) t in
     let rest : List ℕ = drop (prefix_len is_flag t) t in
-    record {
-      piece = flags run;
-      rest = rest;
-      whole = ap (λ r. 40 ∷ 63 ∷ r) (sym (take-append-drop (prefix_len is_flag t) t));
-      stands = and_from (list_all is_flag run) (not (is_flag (get_or rest 0 0)))
-          (all_of_prefix is_flag t)
-          (not_from_false (is_flag (get_or rest 0 0)) (first_after_prefix is_flag t refl));
-    }
+    begun (flags run) rest (ap (λ r. 40 ∷ 63 ∷ r) (sym (take-append-drop (prefix_len is_flag t) t)))
+    (and_from (list_all is_flag run) (not (is_flag (get_or rest 0 0))) (all_of_prefix is_flag t)
+    (not_from_false (is_flag (get_or rest 0 0)) (first_after_prefix is_flag t refl)))
 
 no_count : (t : List ℕ) → begins_count t ≡ false → (least more after : List ℕ)
     → (is_number least && is_upper_bound more) ≡ true → t ≡ least ++ (more ++ 125 ∷ after) → ⊥
@@ -107,51 +102,26 @@ brace_front : (t : List ℕ) → Front OutsideClass (123 ∷ t)
 brace_front t = elim (cases_Bool (begins_count t)) [
   | inl here ↦
       let c = count_at t here in
-      record {
-        piece = count c.least c.more;
-        rest = c.after;
-        whole = ap (λ r. 123 ∷ r)
-            (c.whole ∙ ap (λ r. c.least ++ r) (sym (append_assoc c.more (125 ∷ []) c.after)) ∙ sym
-            (append_assoc c.least (c.more ++ 125 ∷ []) c.after));
-        stands = c.is_count;
-      }
-  | inr other ↦ record { piece = brace; rest = t; whole = refl; stands = no_count t other }
+      begun (count c.least c.more) c.after (ap (λ r. 123 ∷ r)
+      (c.whole ∙ ap (λ r. c.least ++ r) (sym (append_assoc c.more (125 ∷ []) c.after))
+      ∙ sym (append_assoc c.least (c.more ++ 125 ∷ []) c.after))) c.is_count
+  | inr other ↦ begun brace t refl (no_count t other)
 ]
 
 start_behind : (t : List ℕ) → Front OutsideClass (91 ∷ 94 ∷ t)
-start_behind [] = record { piece = class_start true false; rest = []; whole = refl; stands = refl }
+start_behind [] = begun (class_start true false) [] refl refl
 start_behind (r ∷ t) = elim (cases_Bool (93 == r)) [
-  | inl e ↦ record {
-    piece = class_start true true;
-    rest = t;
-    whole = ap (λ x. 91 ∷ 94 ∷ x ∷ t) (sym (eqb-true 93 r e));
-    stands = refl;
-  }
-  | inr f ↦ record {
-    piece = class_start true false;
-    rest = r ∷ t;
-    whole = refl;
-    stands = rw f refl;
-  }
+  | inl e ↦ begun (class_start true true) t (ap (λ x. 91 ∷ 94 ∷ x ∷ t) (sym (eqb-true 93 r e))) refl
+  | inr f ↦ begun (class_start true false) (r ∷ t) refl (rw f refl)
 ]
 
 start_front : (t : List ℕ) → Front OutsideClass (91 ∷ t)
-start_front [] = record { piece = class_start false false; rest = []; whole = refl; stands = refl }
+start_front [] = begun (class_start false false) [] refl refl
 start_front (r ∷ t) = elim (cases_Bool (94 == r)) [
   | inl e ↦ subst (λ (x : ℕ). Front OutsideClass (91 ∷ x ∷ t)) (eqb-true 94 r e) (start_behind t)
   | inr f ↦ elim (cases_Bool (93 == r)) [
-    | inl e ↦ record {
-      piece = class_start false true;
-      rest = t;
-      whole = ap (λ x. 91 ∷ x ∷ t) (sym (eqb-true 93 r e));
-      stands = refl;
-    }
-    | inr g ↦ record {
-      piece = class_start false false;
-      rest = r ∷ t;
-      whole = refl;
-      stands = rw (f, g) refl;
-    }
+    | inl e ↦ begun (class_start false true) t (ap (λ x. 91 ∷ x ∷ t) (sym (eqb-true 93 r e))) refl
+    | inr g ↦ begun (class_start false false) (r ∷ t) refl (rw (f, g) refl)
   ]
 ]
 
@@ -173,12 +143,7 @@ outside_front c t = elim (cases_Bool (c == 92)) [
             at_first OutsideClass 40 c t parts.0
             (subst (λ (u : List ℕ). Front OutsideClass (40 ∷ u)) (sym (begins_one 63 t parts.1))
             (flags_front (drop 1 t)))
-        | inr none ↦ record {
-          piece = plain c;
-          rest = t;
-          whole = refl;
-          stands = rw (backslash, not_brace, not_bracket, none) refl;
-        }
+        | inr none ↦ begun (plain c) t refl (rw (backslash, not_brace, not_bracket, none) refl)
       ]
     ]
   ]
@@ -191,28 +156,13 @@ starts_split (c ∷ t) (x ∷ w) h =
     let parts = and_parts (x == c) (starts_with nat_eq t w) h in
     ap (λ d. d ∷ t) (sym (eqb-true x c parts.0)) ∙ ap (λ r. x ∷ r) (starts_split t w parts.1)
 
--- the elements of a list that pass a test
-any_of : {X : Type 0} (test : X → Bool) (xs : List X) → list_any test xs ≡ true
-    → (x : X) × Contains xs x × (test x ≡ true)
-any_of test [] h = absurd (false≢true h)
-any_of test (y ∷ ys) h = elim (cases_Bool (test y)) [
-  | inl passes ↦ (y, (0, omega arith, refl), passes)
-  | inr fails ↦
-      let later = any_of test ys (rw fails at h) in
-      (later.0, (suc later.1.0, omega (arith, later.1.1), later.1.2), later.2)
-]
-
 bracket_front : (t : List ℕ) → Front InsideClass (91 ∷ t)
 bracket_front t = elim (cases_Bool (begins_named_class (91 ∷ t))) [
   | inl here ↦
-      let named = any_of (λ named. starts_with nat_eq (91 ∷ t) named) named_classes here in
-      record {
-        piece = named_class named.0;
-        rest = drop (length named.0) (91 ∷ t);
-        whole = starts_split (91 ∷ t) named.0 named.2;
-        stands = named.1;
-      }
-  | inr other ↦ record { piece = bracket; rest = t; whole = refl; stands = other }
+      let h = Any-from_list_any (λ named. starts_with nat_eq (91 ∷ t) named) named_classes here in
+      begun (named_class h.1) (drop (length h.1) (91 ∷ t)) (starts_split (91 ∷ t) h.1 h.4)
+      (h.0, h.2, h.3)
+  | inr other ↦ begun bracket t refl other
 ]
 
 twice : (c : ℕ) (t : List ℕ) → (c ∈ "&-~") ≡ true → (get_or t 0 0 == c) ≡ true → t ≡ c ∷ drop 1 t
@@ -226,28 +176,12 @@ inside_front c t = elim (cases_Bool (c == 92)) [
   | inr backslash ↦ elim (cases_Bool (c == 91)) [
     | inl e ↦ at_first InsideClass 91 c t e (bracket_front t)
     | inr not_bracket ↦ elim (cases_Bool (c == 93)) [
-      | inl e ↦
-          at_first InsideClass 93 c t e (record {
-            piece = class_end;
-            rest = t;
-            whole = refl;
-            stands = tt;
-          })
+      | inl e ↦ at_first InsideClass 93 c t e (begun class_end t refl tt)
       | inr closing ↦ elim (cases_Bool (c ∈ "&-~" && get_or t 0 0 == c)) [
         | inl both ↦
             let parts = and_parts (c ∈ "&-~") (get_or t 0 0 == c) both in
-            record {
-              piece = pair c;
-              rest = drop 1 t;
-              whole = ap (λ r. c ∷ r) (twice c t parts.0 parts.1);
-              stands = parts.0;
-            }
-        | inr single ↦ record {
-          piece = plain c;
-          rest = t;
-          whole = refl;
-          stands = rw (backslash, not_bracket, closing, single) refl;
-        }
+            begun (pair c) (drop 1 t) (ap (λ r. c ∷ r) (twice c t parts.0 parts.1)) parts.0
+        | inr single ↦ begun (plain c) t refl (rw (backslash, not_bracket, closing, single) refl)
       ]
     ]
   ]
@@ -262,20 +196,9 @@ front InsideClass c t = inside_front c t
 pub some_text : (context : ClassContext) (piece : Piece) (rest : List ℕ)
     → StandsIn context piece rest
     → 0 < length (piece_text piece)
-some_text context (escape c) rest h = omega arith
-some_text context (braced_escape c inner) rest h = omega arith
-some_text context (open_escape c inner) rest h = omega arith
-some_text context last_backslash rest h = omega arith
-some_text context (flags run) rest h = omega arith
-some_text context (count least more) rest h = omega arith
-some_text context brace rest h = omega arith
-some_text context (class_start negated closing) rest h = omega arith
 some_text OutsideClass (named_class text) rest h = absurd h
-some_text InsideClass (named_class text) rest h = omega (arith, (found_first text h []).3)
-some_text context bracket rest h = omega arith
-some_text context (pair c) rest h = omega arith
-some_text context class_end rest h = omega arith
-some_text context (plain c) rest h = omega arith
+some_text InsideClass (named_class text) rest h = omega (arith, ap length (found_first text h).1)
+some_text context piece rest h = omega arith
 
 record Join (context : ClassContext) (text : List ℕ) : Type 0 where
   pieces : List Piece

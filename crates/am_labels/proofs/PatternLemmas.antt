@@ -1,7 +1,5 @@
 -- What a compiled pattern finds.
-use Rattle.std.proofs.Common.{◌≡◌, ℕ, List, true, Option, None, Some, refl, sym, ap, ◌∙◌, length, take, drop, ◌++◌, ◌-◌, codes, arith}
-use Rattle.std.proofs.lemmas.List.{length-append}
-use Rattle.std.proofs.Math.Seq.{take-append_seam}
+use Rattle.std.proofs.Common.{◌≡◌, ℕ, List, true, Option, None, Some, refl, ◌∙◌, ◌-◌}
 use Rattle.std.specs.Prelude.{chars}
 use Rattle.regex_syntax.specs.Brackets.{Nested}
 use Rattle.regex_syntax.specs.Grammar.{Names, read}
@@ -11,7 +9,7 @@ use Rattle.regex.specs.Strings.{regex_pattern, regex_source, regex_config, IsRea
 use Rattle.regex.specs.declared.string.regex.Regex.{Regex}
 use Rattle.regex.proofs.OnLiterals.{is_match_as_written, same_refl}
 use Rattle.am_labels.specs.Pattern.{anchored_pattern, pattern_reading, is_pattern}
-use Rattle.am_labels.specs.PatternView.{pattern_text, IsAnchored, SearchesFor}
+use Rattle.am_labels.specs.PatternView.{SearchesFor}
 
 module _ (r : Regex) (p : List ℕ) (source : regex_source r ≡ anchored_pattern p) (config : regex_config r ≡ default_config) (is_read : IsReadFromSource r) where
   -- by what the grammar answers

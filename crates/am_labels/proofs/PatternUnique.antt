@@ -1,7 +1,7 @@
 -- A pattern is a join of pieces in one way: the piece at the front of a text is told by the text.
 use Rattle.std.proofs.Common.{◌≡◌, refl, sym, ◌∙◌, ap, subst, inl, inr, ℕ, ◌+◌, List, [], ◌∷◌, ◌++◌}
 use Rattle.std.proofs.Common.{length, take, drop, get_or, Bool, true, false, not, ◌&&◌, ◌||◌, cond}
-use Rattle.std.proofs.Common.{arith, Option, Some, None, nat_eq}
+use Rattle.std.proofs.Common.{arith, Option, Some, None}
 use Rattle.std.specs.Prelude.{◌==◌}
 use Rattle.std.specs.List.{list_all, flat_map, take_while}
 use Rattle.std.specs.Char.{is_ascii_digit}
@@ -22,7 +22,7 @@ use Rattle.am_labels.specs.PatternProfile.{is_plain_inside, StandsIn, context_af
 use Rattle.am_labels.specs.PatternProfile.{IsJoinOf}
 use Rattle.am_labels.specs.PatternCut.{flag_run, digits_len, begins_count, named_class_at}
 use Rattle.am_labels.proofs.PatternForms.{count_at, count_begins, upper_ends_digits, none_found}
-use Rattle.am_labels.proofs.PatternForms.{found_first}
+use Rattle.am_labels.proofs.PatternForms.{found_first, not_hat, of_three}
 use Rattle.am_labels.proofs.PatternJoins.{some_text}
 use Rattle.am_labels.proofs.MatcherTextLists.{drop_prefix, take_prefix}
 
@@ -125,11 +125,7 @@ at_count least more rest h =
 short_front : (rest : List ℕ)
     → (begins "^" rest || begins "]" rest) ≡ false → start_piece rest ≡ class_start false false
 short_front [] h = refl
-short_front (r ∷ rest) h =
-    let parts = or_parts (nat_eq 94 r && true) (nat_eq 93 r && true) h in
-    let hat : nat_eq 94 r ≡ false =
-    elim (cases_Bool (nat_eq 94 r)) [ inl e ↦ let g = rw e at parts.0 in cc | inr f ↦ f ] in
-    rw hat (rw parts.1 refl)
+short_front (r ∷ rest) h = let first = not_hat r h in rw first.0 (rw first.1 refl)
 
 at_start : (negated closing : Bool) (rest : List ℕ) → is_longest_start negated closing rest ≡ true
     → front_piece OutsideClass (piece_text (class_start negated closing) ++ rest)
@@ -157,13 +153,8 @@ at_plain_inside c rest h =
 
 at_pair : (c : ℕ) (rest : List ℕ) → (c ∈ "&-~") ≡ true
     → front_piece InsideClass (c ∷ c ∷ rest) ≡ pair c
-at_pair c rest h = elim (cases_Bool (c == 38)) [
-  | inl e ↦ rw (eqb-true c 38 e) refl
-  | inr f ↦ elim (cases_Bool (c == 45)) [
-    | inl e ↦ rw (eqb-true c 45 e) refl
-    | inr g ↦ let last = rw (f, g) at h in rw (eqb-true c 126 last) refl
-  ]
-]
+at_pair c rest h =
+    of_three (λ d. front_piece InsideClass (d ∷ d ∷ rest) ≡ pair d) 38 45 126 c h refl refl refl
 
 at_named : (named rest : List ℕ) (t : List ℕ) → named_class_at (named ++ rest) ≡ Some named
     → named ++ rest ≡ 91 ∷ t → front_piece InsideClass (named ++ rest) ≡ named_class named
@@ -185,32 +176,25 @@ front_is last_backslash context rest h = at_backslash context rest ∙ rw h refl
 front_is (flags run) OutsideClass rest h =
     let parts = and_parts (list_all is_flag run) (not (is_flag (get_or rest 0 0))) h in
     ap flags (take_prefix is_flag run rest parts.0 (not-true (is_flag (get_or rest 0 0)) parts.1))
-front_is (flags run) InsideClass rest h = absurd h
 front_is (count least more) OutsideClass rest h =
     ap count_piece
     (append_assoc least (more ++ 125 ∷ []) rest ∙ ap (λ t. least ++ t)
     (append_assoc more (125 ∷ []) rest)) ∙ at_count least more rest h
-front_is (count least more) InsideClass rest h = absurd h
 front_is brace OutsideClass rest h =
     let none =
     false_from_ne_true (begins_count rest)
     (λ b. let t = count_at rest b in h t.least t.more t.after t.is_count t.whole) in
     rw none refl
-front_is brace InsideClass rest h = absurd h
 front_is (class_start negated closing) OutsideClass rest h = at_start negated closing rest h
-front_is (class_start negated closing) InsideClass rest h = absurd h
-front_is (named_class text) OutsideClass rest h = absurd h
 front_is (named_class text) InsideClass rest h =
-    let found = found_first text h rest in
-    at_named text rest _ found.0 found.1
-front_is bracket OutsideClass rest h = absurd h
+    let found = found_first text h in
+    at_named text rest _ (found.0 rest) (ap (λ n. n ++ rest) found.1)
 front_is bracket InsideClass rest h = ap named_piece (none_found _ named_classes h)
-front_is (pair c) OutsideClass rest h = absurd h
 front_is (pair c) InsideClass rest h = at_pair c rest h
-front_is class_end OutsideClass rest h = absurd h
 front_is class_end InsideClass rest h = refl
 front_is (plain c) OutsideClass rest h = at_plain_outside c rest h
 front_is (plain c) InsideClass rest h = at_plain_inside c rest h
+front_is piece context rest h = absurd h
 
 -- ---- So are all pieces.
 
