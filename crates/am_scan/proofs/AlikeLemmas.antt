@@ -10,7 +10,7 @@ use Rattle.regex_nfa.specs.Run.{state_of, measure, run}
 use Rattle.regex_nfa.specs.States.{next_on, byte_below, visit, read}
 use Rattle.regex_nfa.specs.declared.nfa.Nfa.{Nfa}
 use Rattle.regex_nfa.specs.declared.state.State.{State}
-use Rattle.regex_nfa.specs.declared.state.State.TheVariants.{ByteRange, Sparse, Split, Save, Look, Match, Fail}
+use Rattle.regex_nfa.specs.declared.state.State.TheVariants.{Split, Save, Look, Match, Fail}
 use Rattle.regex_nfa.proofs.RunLemmas.{sound_of, run_unfold, measure_falls_empty, measure_falls_byte, measure_induction, byte_below-length, byte_below_some, next_on_within}
 use Rattle.am_scan.specs.Kinds.{kind_of, kind_beside, is_plain}
 use Rattle.am_scan.specs.Closure.{start_at, leads}
@@ -76,8 +76,6 @@ module _ (nfa : Nfa) (plain : list_all is_plain nfa.states.items ≡ true) (hay 
       is_some (visit nfa.transitions.items hay (length hay) (run nfa hay (length hay)) state i)
       ≡ is_some (visit nfa.transitions.items other (length other) (run nfa other (length other)) state j)
   unfolding holds
-  by_kind q i j (ByteRange t) is h s = by_read q i j _ is h s
-  by_kind q i j (Sparse from to) is h s = by_read q i j _ is h s
   by_kind q i j (Split first second) is h s =
       let below = sound_of nfa q _ is in
       is_some-option_or _ _
@@ -97,6 +95,7 @@ module _ (nfa : Nfa) (plain : list_all is_plain nfa.states.items ≡ true) (hay 
       ∙ sym (is_some-cond (holds l other j) _)
   by_kind q i j Match is h s = refl
   by_kind q i j Fail is h s = refl
+  by_kind q i j state is h s = by_read q i j state is h s
 
   -- so each state leads to a match at both, or at neither
   leads_alike : (q i : ℕ) → LeadsAlike q i

@@ -8,7 +8,7 @@ use Rattle.regex_hir.proofs.OptionLemmas.{is_some-write}
 use Rattle.regex_nfa.specs.Run.{state_of, measure, run}
 use Rattle.regex_nfa.specs.States.{visit, read, IsBelow}
 use Rattle.regex_nfa.specs.declared.state.State.{State}
-use Rattle.regex_nfa.specs.declared.state.State.TheVariants.{ByteRange, Sparse, Split, Save, Look, Match, Fail}
+use Rattle.regex_nfa.specs.declared.state.State.TheVariants.{Split, Save, Look, Match, Fail}
 use Rattle.regex_nfa.specs.declared.nfa.Nfa.{Nfa}
 use Rattle.regex_nfa.proofs.RunLemmas.{sound_of, run_unfold, measure_falls_empty, measure_induction}
 use Rattle.am_scan.specs.Kinds.{kind_beside, is_plain}
@@ -34,10 +34,6 @@ module _ (nfa : Nfa) (plain : list_all is_plain nfa.states.items ≡ true) (hay 
       accepts after before accepted (slice_index_or reads q false) state
       ≡ is_some (visit nfa.transitions.items hay (length hay) (run nfa hay (length hay)) state i)
   unfolding holds
-  by_state q inside (ByteRange t) is h =
-      read_is q inside ∙ ap (λ s. is_some (read nfa.transitions.items hay (length hay) (run nfa hay (length hay)) s i)) is
-  by_state q inside (Sparse from to) is h =
-      read_is q inside ∙ ap (λ s. is_some (read nfa.transitions.items hay (length hay) (run nfa hay (length hay)) s i)) is
   by_state q inside (Split first second) is h =
       let s = sound_of nfa q _ is in
       ap₂ ◌||◌ (h first s.0) (h second s.1) ∙ sym (is_some-option_or _ _)
@@ -48,6 +44,8 @@ module _ (nfa : Nfa) (plain : list_all is_plain nfa.states.items ≡ true) (hay 
       ap₂ ◌&&◌ (rw (after_is, before_is) (sym kinds)) (h next (sound_of nfa q _ is)) ∙ sym (is_some-cond (holds l hay i) _)
   by_state q inside Match is h = refl
   by_state q inside Fail is h = refl
+  by_state q inside state is h =
+      read_is q inside ∙ ap (λ s. is_some (read nfa.transitions.items hay (length hay) (run nfa hay (length hay)) s i)) is
 
   -- a state is accepted exactly where it leads to a match
   pub leads_where_accepted : IsClosed nfa after before reads accepted → (q : ℕ) → q < vec_len nfa.states →

@@ -7,9 +7,6 @@ use Rattle.regex_hir.specs.Looks.{holds_between}
 use Rattle.regex_hir.specs.Text.{is_some_and}
 use Rattle.regex_hir.specs.declared.look.Look as look
 use Rattle.regex_hir.specs.declared.look.Look.TheVariants.{Start, End, StartLf, EndLf, StartCrlf, EndCrlf}
-use Rattle.regex_hir.specs.declared.look.Look.TheVariants.{WordAscii, WordAsciiNegate, WordUnicode, WordUnicodeNegate}
-use Rattle.regex_hir.specs.declared.look.Look.TheVariants.{WordStartAscii, WordEndAscii, WordStartUnicode, WordEndUnicode}
-use Rattle.regex_hir.specs.declared.look.Look.TheVariants.{WordStartHalfAscii, WordEndHalfAscii, WordStartHalfUnicode, WordEndHalfUnicode}
 use Rattle.regex_nfa.specs.declared.state.State.{State}
 use Rattle.regex_nfa.specs.declared.state.State.TheVariants.{Look}
 use Rattle.regex_nfa.specs.States.{state_at}
@@ -58,18 +55,7 @@ holds_between-kinds StartLf a b c d h = simp (edge-kind, lf-kind)
 holds_between-kinds EndLf a b c d h = simp (edge-kind, lf-kind)
 holds_between-kinds StartCrlf a b c d h = simp (edge-kind, lf-kind, cr-kind)
 holds_between-kinds EndCrlf a b c d h = simp (edge-kind, lf-kind, cr-kind)
-holds_between-kinds WordAscii a b c d h = absurd (true≢false (sym h))
-holds_between-kinds WordAsciiNegate a b c d h = absurd (true≢false (sym h))
-holds_between-kinds WordUnicode a b c d h = absurd (true≢false (sym h))
-holds_between-kinds WordUnicodeNegate a b c d h = absurd (true≢false (sym h))
-holds_between-kinds WordStartAscii a b c d h = absurd (true≢false (sym h))
-holds_between-kinds WordEndAscii a b c d h = absurd (true≢false (sym h))
-holds_between-kinds WordStartUnicode a b c d h = absurd (true≢false (sym h))
-holds_between-kinds WordEndUnicode a b c d h = absurd (true≢false (sym h))
-holds_between-kinds WordStartHalfAscii a b c d h = absurd (true≢false (sym h))
-holds_between-kinds WordEndHalfAscii a b c d h = absurd (true≢false (sym h))
-holds_between-kinds WordStartHalfUnicode a b c d h = absurd (true≢false (sym h))
-holds_between-kinds WordEndHalfUnicode a b c d h = absurd (true≢false (sym h))
+holds_between-kinds l a b c d h = absurd (true≢false (sym h))
 
 -- where all states are plain, the state with each number is
 plain_at : (states : List State) → list_all is_plain states ≡ true → (q : ℕ) → is_plain (state_at states q) ≡ true
