@@ -1,5 +1,6 @@
 -- Truth values that are compared.
 use Rattle.std.proofs.Common.{◌≡◌, Bool, true, false, not, Decides, refl}
+use Rattle.std.proofs.lemmas.Bool.{both_ways, not-true, not-false}
 use mathlib.Core.Bool.{beq}
 
 -- Truth values are compared right.
@@ -11,14 +12,8 @@ beq-Decides false false = (λ _. refl, λ _. refl)
 
 -- What is found to differ differs.
 pub differs : (a b : Bool) → not (beq a b) ≡ true → a ≡ b → ⊥
-differs true true e same = absurd cc
-differs true false e same = absurd cc
-differs false true e same = absurd cc
-differs false false e same = absurd cc
+differs a b e same = both_ways (beq a b) (not-true (beq a b) e) ((beq-Decides a b).1 same)
 
 -- What is not found to differ is the same.
 pub agrees : (a b : Bool) → not (beq a b) ≡ false → a ≡ b
-agrees true true e = refl
-agrees true false e = absurd cc
-agrees false true e = absurd cc
-agrees false false e = refl
+agrees a b e = (beq-Decides a b).0 (not-false (beq a b) e)

@@ -1,41 +1,20 @@
 -- What stands at the front of the end of a text: which bytes may, and where a character begins.
-use Rattle.std.proofs.Common.{◌≡◌, ℕ, ◌<◌, Bool, not, true, Some, List, [], ◌∷◌, All, zero, suc, refl, ap, ◌∙◌, arith}
+use Rattle.std.proofs.Common.{◌≡◌, ℕ, ◌<◌, Bool, not, true, Some, List, [], ◌∷◌, All, refl, ap, ◌∙◌, arith}
 use Rattle.std.specs.Option.{option_map_or}
 use Rattle.std.specs.Int.{is_in_range}
 use Rattle.std.proofs.lemmas.Bool.{agree_below_at}
 use Rattle.std.proofs.lemmas.Bool.Decides.{nat_tests}
+use Rattle.std.proofs.lemmas.List.Elements.{All-nil, All-cons}
 use Rattle.std.proofs.lemmas.Option.{option_and_then_some, same_Some}
 use Rattle.regex_hir.specs.Text.{is_boundary}
 use Rattle.am_classes.specs.declared.tail.Tail.{Tail}
-use Rattle.am_classes.specs.declared.tail.Tail.TheVariants.{Whole, One, TwoLow, TwoHigh, ThreeLow, ThreeHigh}
+use Rattle.am_classes.specs.declared.tail.Tail.TheVariants.{Whole}
 use Rattle.am_classes.specs.Utf8.{tail_step, tail_of, is_whole}
-
-bytes_whole : (next : Tail) (b : ℕ) → tail_step Whole b ≡ Some next → b < 256
-bytes_whole next b e = grind (arith, nat_tests)
-
-bytes_one : (next : Tail) (b : ℕ) → tail_step One b ≡ Some next → b < 256
-bytes_one next b e = grind (arith, nat_tests)
-
-bytes_two_low : (next : Tail) (b : ℕ) → tail_step TwoLow b ≡ Some next → b < 256
-bytes_two_low next b e = grind (arith, nat_tests)
-
-bytes_two_high : (next : Tail) (b : ℕ) → tail_step TwoHigh b ≡ Some next → b < 256
-bytes_two_high next b e = grind (arith, nat_tests)
-
-bytes_three_low : (next : Tail) (b : ℕ) → tail_step ThreeLow b ≡ Some next → b < 256
-bytes_three_low next b e = grind (arith, nat_tests)
-
-bytes_three_high : (next : Tail) (b : ℕ) → tail_step ThreeHigh b ≡ Some next → b < 256
-bytes_three_high next b e = grind (arith, nat_tests)
 
 -- What UTF-8 has in front is a byte.
 pub step_byte : (tail next : Tail) (b : ℕ) → tail_step tail b ≡ Some next → b < 256
-step_byte Whole next b e = bytes_whole next b e
-step_byte One next b e = bytes_one next b e
-step_byte TwoLow next b e = bytes_two_low next b e
-step_byte TwoHigh next b e = bytes_two_high next b e
-step_byte ThreeLow next b e = bytes_three_low next b e
-step_byte ThreeHigh next b e = bytes_three_high next b e
+step_byte Whole next b e = grind (arith, nat_tests)
+step_byte tail next b e = grind (arith, nat_tests)
 
 -- No byte that continues a character.
 abbrev begins : ℕ → Bool
@@ -47,11 +26,7 @@ made_whole tail b = option_map_or is_whole (tail_step tail b) (begins b)
 
 begins_where_whole : (tail : Tail) (b : ℕ) → b < 256 → begins b ≡ made_whole tail b
 begins_where_whole Whole b h = agree_below_at begins (made_whole Whole) 256 b refl h
-begins_where_whole One b h = agree_below_at begins (made_whole One) 256 b refl h
-begins_where_whole TwoLow b h = agree_below_at begins (made_whole TwoLow) 256 b refl h
-begins_where_whole TwoHigh b h = agree_below_at begins (made_whole TwoHigh) 256 b refl h
-begins_where_whole ThreeLow b h = agree_below_at begins (made_whole ThreeLow) 256 b refl h
-begins_where_whole ThreeHigh b h = agree_below_at begins (made_whole ThreeHigh) 256 b refl h
+begins_where_whole tail b h = agree_below_at begins (made_whole tail) 256 b refl h
 
 -- A tail is whole exactly where a character begins, or the text ends.
 pub boundary_where_whole : (text : List ℕ) (tail : Tail) → tail_of text ≡ Some tail
@@ -65,20 +40,12 @@ boundary_where_whole (b ∷ text) tail e =
 -- All of what has a tail are bytes.
 pub bytes_of_tail : (text : List ℕ) (tail : Tail) → tail_of text ≡ Some tail
     → All (λ b. b < 256) text
-bytes_of_tail [] tail e = λ k d h. absurd (omega arith)
+bytes_of_tail [] tail e = All-nil (λ b. b < 256)
 bytes_of_tail (b ∷ text) tail e =
     option_and_then_some (λ last. tail_step last b) (tail_of text) tail e
-    (λ last before step k. byte_at b text (step_byte last tail b step) (bytes_of_tail text last before) k)
-  where
-    byte_at : (b : ℕ) (text : List ℕ) → b < 256 → All (λ x. x < 256) text → All (λ x. x < 256) (b ∷ text)
-    byte_at b text here rest zero d h = here
-    byte_at b text here rest (suc k) d h = rest k d (omega arith)
+    (λ last before step. All-cons (λ x. x < 256) b text (step_byte last tail b step) (bytes_of_tail text last before))
 
 -- A tail that is whole.
 pub whole_from : (tail : Tail) → is_whole tail ≡ true → tail ≡ Whole
 whole_from Whole e = refl
-whole_from One e = absurd cc
-whole_from TwoLow e = absurd cc
-whole_from TwoHigh e = absurd cc
-whole_from ThreeLow e = absurd cc
-whole_from ThreeHigh e = absurd cc
+whole_from tail e = absurd cc
