@@ -1,13 +1,13 @@
 -- What the pages of a search under a budget are: what came before the stop, and what is left.
 use Rattle.std.proofs.Common.{◌≡◌, ◌⊎◌, ℕ, zero, suc, ◌+◌, ◌-◌, ◌<◌, ◌≤◌, Bool, true, false, not, cond, nat_eq, List, [], ◌∷◌, ◌++◌, length, take, drop, get_or, slice_get, Option, Some, None, IfSome, length-append, ap, sym, subst, ◌∙◌, refl, inl, inr, arith, append-nil}
 use Rattle.std.specs.List.{filter, flat_map, starts_with}
-use Rattle.std.proofs.lemmas.Bool.{false≢true, cases_Bool, cases_lt}
+use Rattle.std.proofs.lemmas.Bool.{false≢true, false_from_ne_true, cases_Bool, cases_lt}
 use Rattle.std.proofs.lemmas.Grind.{flat_map-append}
 use Rattle.std.proofs.lemmas.List.{take-append-le, take-append-drop, get_or_append_left, take_all}
 use Rattle.std.proofs.lemmas.List.Elements.{filter-append}
 use Rattle.am_universe.specs.Choice.{choices}
 use Rattle.am_universe.specs.Completions.{completions}
-use Rattle.am_universe.proofs.ListLemmas.{IsIn}
+use Rattle.am_universe.proofs.ListLemmas.{IsIn, IsIn-left}
 use Rattle.am_search.specs.declared.start.Start.{Start}
 use Rattle.am_search.specs.declared.start.Start.TheVariants.{At}
 use Rattle.am_search.specs.declared.trailer.Trailer.{Trailer}
@@ -19,11 +19,11 @@ use Rattle.am_search.specs.Start.{comes_before, first_of_start, at_or_after, cho
 use Rattle.am_search.specs.Visits.{visited, completions_from, given_at, given_by, given_under}
 use Rattle.am_search.specs.Page.{page_ending, page_of, page_from, rest_after}
 use Rattle.am_search.specs.BudgetPage.{stop_of, trailer_at, page_under, IsEnough}
-use Rattle.am_search.proofs.ChoiceOrder.{Ascends, above_first, ascends_rest, not_back, before_trans, filter_all, filter_none, in_filter}
+use Rattle.am_search.proofs.ChoiceOrder.{got_at, Ascends, above_first, ascends_rest, not_back, before_trans, filter_all, filter_none, in_filter}
 use Rattle.am_search.proofs.Odometer.{admits_at_most}
 use Rattle.am_search.proofs.PrefixOrder.{before_nothing, before_parts, begins_parts, begins_behind, before_begins, before_beside, front_passes}
 use Rattle.am_search.proofs.VisitedPrefixes.{ReachesTo, visited_sorted, in_visited, IsVisited}
-use Rattle.am_search.proofs.VisitSteps.{got_at, past_length}
+use Rattle.am_search.proofs.VisitSteps.{past_length}
 use Rattle.am_search.proofs.VisitsGive.{visited_give}
 use Rattle.am_search.proofs.WalkSteps.{HasBegun, begun_at}
 use Rattle.am_search.proofs.PageLines.{all_page, page_of_part, page_of_all}
@@ -31,10 +31,8 @@ use Rattle.am_search.proofs.Pages.{choices_at, filters_swapped, filter_within, p
 
 -- what does not come before a later choice does not come before an earlier one
 pub stays_from : (f p c : List ℕ) → comes_before f p ≡ true → not (comes_before c p) ≡ true → not (comes_before c f) ≡ true
-stays_from f p c less late = elim (cases_Bool (comes_before c f)) [
-  | inl early ↦ absurd (false≢true (sym (ap not (before_trans c f p early less)) ∙ late))
-  | inr e ↦ ap not e
-]
+stays_from f p c less late = ap not (false_from_ne_true (comes_before c f) (λ early.
+    false≢true (sym (ap not (before_trans c f p early less)) ∙ late)))
 
 -- ---- Before and after a place in a list that ascends.
 
@@ -51,11 +49,7 @@ from_at (x ∷ xs) zero p q s e (inr i) = let here : x ≡ p = cc in inr (ap (λ
 from_at (x ∷ xs) (suc k) p q s e i = from_at xs k p q (ascends_rest x xs s) e i
 
 pub in_taken : (xs : List (List ℕ)) (k : ℕ) (q : List ℕ) → IsIn (take k xs) q → IsIn xs q
-in_taken [] zero q i = absurd i
-in_taken [] (suc k) q i = absurd i
-in_taken (x ∷ xs) zero q i = absurd i
-in_taken (x ∷ xs) (suc k) q (inl same) = inl same
-in_taken (x ∷ xs) (suc k) q (inr i) = inr (in_taken xs k q i)
+in_taken xs k q i = subst (λ l. IsIn l q) (take-append-drop k xs) (IsIn-left (take k xs) (drop k xs) q i)
 
 -- a filter of joined lists whose members all pass, or all fail
 all_joined : (test : List ℕ → Bool) (f : List ℕ → List (List ℕ)) (ps : List (List ℕ)) → ((p c : List ℕ) → IsIn ps p → IsIn (f p) c → test c ≡ true) → filter test (flat_map f ps) ≡ flat_map f ps

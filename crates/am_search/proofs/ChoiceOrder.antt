@@ -1,5 +1,5 @@
 -- The order of choices, and lists of choices that ascend in it.
-use Rattle.std.proofs.Common.{◌≡◌, ◌⊎◌, ℕ, zero, suc, ◌-◌, ◌<◌, Bool, true, false, not, cond, List, [], ◌∷◌, length, take, drop, get_or, Option, Some, None, IfSome, ap, sym, subst, ◌∙◌, refl, inl, inr, arith}
+use Rattle.std.proofs.Common.{◌≡◌, ◌⊎◌, ℕ, zero, suc, ◌-◌, ◌<◌, Bool, true, false, not, cond, List, [], ◌∷◌, length, take, drop, get_or, Option, Some, None, IfSome, slice_get, ap, sym, subst, ◌∙◌, refl, inl, inr, arith}
 use Rattle.std.specs.List.{filter, find}
 use Rattle.std.specs.List.Sorted.{IsStrictlySortedBy}
 use Rattle.std.specs.Ordering.{nat_cmp, is_lt, ordering_reverse}
@@ -8,7 +8,9 @@ use Rattle.std.specs.declared.cmp.Ordering.TheVariants.{Less, Equal, Greater}
 use Rattle.std.specs.Cmp.Lexicographic.{slice_cmp}
 use Rattle.std.proofs.lemmas.Bool.{false≢true}
 use Rattle.std.proofs.lemmas.Cmp.{nat_list_cmp_total}
-use Rattle.am_universe.proofs.ListLemmas.{IsIn, AllByRecursion-at}
+use Rattle.std.proofs.lemmas.List.Elements.{Contains-get_or}
+use Rattle.std.proofs.lemmas.Option.{slice_get_within, get_or_from_slice_get}
+use Rattle.am_universe.proofs.ListLemmas.{IsIn, IsIn-from_Contains, AllByRecursion-at}
 use Rattle.am_search.specs.Start.{comes_before, at_or_after}
 
 -- ---- The order.
@@ -74,6 +76,16 @@ into_filter test (y ∷ xs) x (inr i) h = by (test y) (into_filter test xs x i h
     by : (b : Bool) → IsIn (filter test xs) x → IsIn (cond b (y ∷ filter test xs) (filter test xs)) x
     by true j = inr j
     by false j = j
+
+-- what is at a place is one of them
+pub got_at : {X : Type 0} (xs : List X) (k : ℕ) (x : X) → slice_get xs k ≡ Some x → IsIn xs x
+got_at xs k x e = IsIn-from_Contains xs x (k, slice_get_within xs k x e, get_or_from_slice_get xs k x x e)
+
+-- where none passes, none is found
+pub none_found : {X : Type 0} (test : X → Bool) (xs : List X) → ((x : X) → IsIn xs x → test x ≡ false)
+    → find test xs ≡ None
+none_found test [] none = refl
+none_found test (x ∷ xs) none = rw (none x (inl refl)) (none_found test xs (λ y i. none y (inr i)))
 
 -- the first that passes is one of them
 found_cond : (test : List ℕ → Bool) (x : List ℕ) (xs : List (List ℕ)) (b : Bool) → IfSome (find test xs) (λ f. IsIn xs f) → IfSome (cond b (Some x) (find test xs)) (λ f. IsIn (x ∷ xs) f)
@@ -146,9 +158,7 @@ member_then_rest xs c s i = from_member xs c s i ∙ ap (λ l. c ∷ l) (sym (fr
 -- ---- What is left behind so many of them.
 
 in_at : (ys : List (List ℕ)) (k : ℕ) → k < length ys → IsIn ys (get_or ys k [])
-in_at [] k h = absurd (omega arith)
-in_at (y ∷ ys) zero h = inl refl
-in_at (y ∷ ys) (suc k) h = inr (in_at ys k (omega arith))
+in_at ys k h = IsIn-from_Contains ys (get_or ys k []) (Contains-get_or ys k [] h)
 
 after_nth : (xs : List (List ℕ)) (n : ℕ) → Ascends xs → n < length xs → filter (comes_before (get_or xs n [])) xs ≡ drop (suc n) xs
 after_nth [] n s h = absurd (omega arith)

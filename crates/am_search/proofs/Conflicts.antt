@@ -4,6 +4,8 @@ use Rattle.std.specs.Prelude.{IsTrue}
 use Rattle.std.specs.List.{find, flat_map, range_with_len, starts_with}
 use Rattle.std.specs.Option.{option_or}
 use Rattle.std.proofs.lemmas.Bool.{cases_Bool, cases_eq, cases_lt, and_parts, and_from, or_right, eqb-true, ltb-true, lt-ltb}
+use Rattle.std.proofs.lemmas.List.{length_push, get_or_push, get_or_append_left, same_from_push}
+use Rattle.std.proofs.lemmas.List.Folds.{find-append}
 use Rattle.std.proofs.Math.Nat.{eq-or-lt_of_le}
 use Rattle.am_universe.specs.Choice.{choices, admits, IsWhole}
 use Rattle.am_universe.specs.Completions.{completions}
@@ -15,51 +17,22 @@ use Rattle.am_search.specs.declared.labels.Labels.{Labels}
 use Rattle.am_search.specs.Labels.{has_label}
 use Rattle.am_search.specs.Conflict.{IsConflict}
 use Rattle.am_search.specs.Jumps.{IsConflictUpTo}
-use Rattle.am_search.proofs.ChoiceOrder.{in_filter, found_in}
-use Rattle.am_search.proofs.Odometer.{find_append}
+use Rattle.am_search.proofs.ChoiceOrder.{none_found}
 use Rattle.am_search.proofs.PrefixOrder.{begins_front}
+use Rattle.am_search.proofs.Walks.{found, completion_whole}
 
 -- ---- One position more.
-
-pub at_front : (prefix more : List ℕ) (i : ℕ) → i < length prefix
-    → slice_index (prefix ++ more) i ≡ slice_index prefix i
-at_front [] more i h = absurd (omega arith)
-at_front (p ∷ prefix) more zero h = refl
-at_front (p ∷ prefix) more (suc i) h = at_front prefix more i (omega arith)
-
-pub at_end : (prefix : List ℕ) (p : ℕ) → slice_index (prefix ++ p ∷ []) (length prefix) ≡ p
-at_end [] p = refl
-at_end (q ∷ prefix) p = at_end prefix p
-
-pub longer : (prefix : List ℕ) (p : ℕ) → length (prefix ++ p ∷ []) ≡ length prefix + 1
-longer [] p = omega arith
-longer (q ∷ prefix) p = omega (arith, longer prefix p)
-
--- a last position taken off again
-not_empty : (c : List ℕ) (p : ℕ) → [] ≡ c ++ p ∷ [] → ⊥
-not_empty [] p e = cc
-not_empty (q ∷ c) p e = cc
-
-last_off : (old new : List ℕ) (p q : ℕ) → old ++ p ∷ [] ≡ new ++ q ∷ [] → new ≡ old
-last_off [] [] p q e = refl
-last_off [] (m ∷ new) p q e =
-    let rest : [] ≡ new ++ q ∷ [] = cc in absurd (not_empty new q rest)
-last_off (n ∷ old) [] p q e =
-    let rest : [] ≡ old ++ p ∷ [] = cc in absurd (not_empty old p rest)
-last_off (n ∷ old) (m ∷ new) p q e =
-    let first : m ≡ n = cc in
-    let rest : old ++ p ∷ [] ≡ new ++ q ∷ [] = cc in
-    ap (λ x. x ∷ new) first ∙ ap (λ l. n ∷ l) (last_off old new p q rest)
 
 pub taken_off : (r : Option ℕ) (old before after : List ℕ) (p : ℕ)
     → IfSome r (λ q. before ≡ after ++ q ∷ []) → IfNone r ((before ≡ []) × (after ≡ []))
     → before ≡ old ++ p ∷ [] → after ≡ old
 taken_off None old before after p last none e =
-    absurd (not_empty old p (sym none.0 ∙ e))
-taken_off (Some q) old before after p last none e = last_off old after p q (sym e ∙ last)
+    absurd (omega (arith, length_push old p, ap length (sym none.0 ∙ e)))
+taken_off (Some q) old before after p last none e =
+    (same_from_push after old q p (sym last ∙ e)).0
 
 -- a choice that begins with a prefix has its positions
-begins_at : (c prefix : List ℕ) (i : ℕ) → starts_with nat_eq c prefix ≡ true → i < length prefix
+pub begins_at : (c prefix : List ℕ) (i : ℕ) → starts_with nat_eq c prefix ≡ true → i < length prefix
     → slice_index c i ≡ slice_index prefix i
 begins_at c [] i e h = absurd (omega arith)
 begins_at [] (p ∷ prefix) i e h = cc
@@ -68,28 +41,24 @@ begins_at (q ∷ c) (p ∷ prefix) zero e h =
 begins_at (q ∷ c) (p ∷ prefix) (suc i) e h =
     begins_at c prefix i (and_parts (nat_eq p q) (starts_with nat_eq c prefix) e).1 (omega arith)
 
-nothing_admitted : (ns : List ℕ) → admits ns [] ≡ true
-nothing_admitted [] = refl
-nothing_admitted (n ∷ ns) = refl
-
 -- ---- Conflicts.
 
 module _ (ns : List ℕ) (truth : List ℕ → Bool) where
-  -- a conflict of a longer prefix that leaves its last label out is one of the prefix
+  -- a conflict of a length_push prefix that leaves its last label out is one of the prefix
   pub jump : (labels : Labels) (prefix : List ℕ) (p : ℕ)
       → IsConflict ns truth labels (prefix ++ p ∷ [])
       → has_label labels (length prefix) ≡ false → IsConflict ns truth labels prefix
   jump labels prefix p h out = record {
     within = within;
     none_true = λ c whole agrees. h.none_true c whole (λ i has.
-        agrees i has ∙ sym (at_front prefix (p ∷ []) i (within i has)));
+        agrees i has ∙ sym (get_or_append_left prefix (p ∷ []) 0 i (within i has)));
   }
     where
       within : (i : ℕ) → IsTrue (has_label labels i) → i < length prefix
       within i has = elim (cases_eq i (length prefix)) [
         | inl same ↦
             let both : true ≡ false = sym has ∙ ap (has_label labels) same ∙ out in cc
-        | inr other ↦ let low = h.within i has in omega (arith, low, longer prefix p, other)
+        | inr other ↦ let low = h.within i has in omega (arith, low, length_push prefix p, other)
       ]
 
   -- what is to blame for one position more is to blame, as far as it stands before, for all of them
@@ -112,11 +81,11 @@ module _ (ns : List ℕ) (truth : List ℕ → Bool) where
       | inr most ↦
           let at : slice_index c (length prefix) ≡ p = omega (arith, low, most) in
           here.none_true c whole (λ i has. elim (cases_lt i (length prefix)) [
-            | inl front ↦ agrees i (from_labels i has front) ∙ sym (at_front prefix (p ∷ []) i front)
+            | inl front ↦ agrees i (from_labels i has front) ∙ sym (get_or_append_left prefix (p ∷ []) 0 i front)
             | inr behind ↦
                 let within = here.within i has in
-                let last : i ≡ length prefix = omega (arith, within, behind, longer prefix p) in
-                ap (slice_index c) last ∙ at ∙ sym (at_end prefix p)
+                let last : i ≡ length prefix = omega (arith, within, behind, length_push prefix p) in
+                ap (slice_index c) last ∙ at ∙ sym (get_or_push prefix p 0 (length prefix) refl)
                 ∙ ap (slice_index (prefix ++ p ∷ [])) (sym last)
           ])
     ];
@@ -144,12 +113,6 @@ module _ (ns : List ℕ) (truth : List ℕ → Bool) where
 
   -- ---- The first true choice.
 
-  finds_none : (cs : List (List ℕ)) → ((c : List ℕ) → IsIn cs c → truth c ≡ false)
-      → find truth cs ≡ None
-  finds_none [] each = refl
-  finds_none (c ∷ cs) each =
-      rw (each c (inl refl), finds_none cs (λ d there. each d (inr there))) refl
-
   -- the first list in which one is found has the first of all
   finds_in : (lists : ℕ → List (List ℕ)) (p first count : ℕ) (c : List ℕ)
       → ((q : ℕ) → q < p → find truth (lists q) ≡ None) → find truth (lists p) ≡ Some c
@@ -157,7 +120,7 @@ module _ (ns : List ℕ) (truth : List ℕ → Bool) where
       → find truth (flat_map lists (range_with_len first count)) ≡ Some c
   finds_in lists p first zero c before here low high = absurd (omega arith)
   finds_in lists p first (suc count) c before here low high =
-      find_append truth (lists first) (flat_map lists (range_with_len (first + 1) count))
+      find-append truth (lists first) (flat_map lists (range_with_len (first + 1) count))
       ∙ elim (eq-or-lt_of_le low) [
         | inl same ↦
             ap (λ o. option_or o (find truth (flat_map lists (range_with_len (first + 1) count))))
@@ -167,12 +130,6 @@ module _ (ns : List ℕ) (truth : List ℕ → Bool) where
             (before first less)
             ∙ finds_in lists p (first + 1) count c before here (omega (arith, less)) (omega arith)
       ]
-
-  completion_is : (prefix c : List ℕ) → IsIn (completions ns prefix) c
-      → IsWhole ns c × (starts_with nat_eq c prefix ≡ true)
-  completion_is prefix c there =
-      let r = in_filter (λ d. starts_with nat_eq d prefix) (choices ns) c there in
-      (whole_from_in ns c r.0, r.1)
 
   -- the first true completion of a prefix with the first position that has one
   pub found_next : (labels : Labels) (prefix : List ℕ) (p : ℕ) (c : List ℕ)
@@ -193,11 +150,11 @@ module _ (ns : List ℕ) (truth : List ℕ → Bool) where
       none : (q : ℕ) → q < p → find truth (below ns (prefix ++ q ∷ [])) ≡ None
       none q less =
           ap (find truth) (sym (are_below q (omega (arith, less, low))))
-          ∙ finds_none (completions ns (prefix ++ q ∷ [])) (λ d there.
-          let is = completion_is (prefix ++ q ∷ []) d there in
+          ∙ none_found truth (completions ns (prefix ++ q ∷ [])) (λ d there.
+          let is = completion_whole ns (prefix ++ q ∷ []) d there in
           let at : slice_index d (length prefix) ≡ q =
-          begins_at d (prefix ++ q ∷ []) (length prefix) is.1 (omega (arith, longer prefix q))
-          ∙ at_end prefix q in
+          begins_at d (prefix ++ q ∷ []) (length prefix) is.1 (omega (arith, length_push prefix q))
+          ∙ get_or_push prefix q 0 (length prefix) refl in
           before.none_true d is.0 (λ i has.
           begins_at d prefix i (begins_front prefix d q is.1) (before.within i has))
           (omega (arith, at, less)))
@@ -205,7 +162,7 @@ module _ (ns : List ℕ) (truth : List ℕ → Bool) where
   pub refuted : (labels : Labels) (prefix c : List ℕ) → IsConflict ns truth labels prefix
       → IsIn (completions ns prefix) c → truth c ≡ false
   refuted labels prefix c conflict there =
-      let is = completion_is prefix c there in
+      let is = completion_whole ns prefix c there in
       conflict.none_true c is.0 (λ i has. begins_at c prefix i is.1 (conflict.within i has))
 
   -- a prefix that is a whole choice, and true
@@ -216,7 +173,7 @@ module _ (ns : List ℕ) (truth : List ℕ → Bool) where
 
   -- below the empty prefix stand all choices
   all_below : completions ns [] ≡ choices ns
-  all_below = completions_are_below ns [] (nothing_admitted ns)
+  all_below = completions_are_below ns [] refl
 
   pub found_first : (prefix c : List ℕ) → prefix ≡ []
       → find truth (completions ns prefix) ≡ Some c → Some c ≡ find truth (choices ns)
@@ -226,16 +183,12 @@ module _ (ns : List ℕ) (truth : List ℕ → Bool) where
   pub found_none : (labels : Labels) (prefix : List ℕ) → prefix ≡ []
       → IsConflict ns truth labels prefix → None ≡ find truth (choices ns)
   found_none labels prefix empty conflict =
-      sym (finds_none (choices ns) (λ c there.
+      sym (none_found truth (choices ns) (λ c there.
       conflict.none_true c (whole_from_in ns c there) (λ i has.
       let within : i < length {A = ℕ} [] = subst (λ p. i < length p) empty (conflict.within i has) in
       absurd (omega (arith, within)))))
 
   pub found_is_whole : (prefix c : List ℕ) → find truth (completions ns prefix) ≡ Some c
       → IsWhole ns c
-  found_is_whole prefix c found = (completion_is prefix c (by (find truth (completions ns prefix)) (found_in truth (completions ns prefix)) found)).0
-    where
-      by : (o : Option (List ℕ)) → IfSome o (λ d. IsIn (completions ns prefix) d) → o ≡ Some c
-          → IsIn (completions ns prefix) c
-      by None there e = cc
-      by (Some d) there e = let same : d ≡ c = cc in subst (IsIn (completions ns prefix)) same there
+  found_is_whole prefix c is =
+      (completion_whole ns prefix c (found truth (completions ns prefix) c is)).0

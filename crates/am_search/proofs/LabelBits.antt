@@ -1,7 +1,8 @@
 -- Sets of labels, bit by bit.
-use Rattle.std.proofs.Common.{◌≡◌, ℕ, zero, suc, ◌*◌, ◌/◌, ◌%◌, ◌^◌, ◌<◌, Bool, true, false, ◌&&◌, ◌||◌, ◌==◌, nat_eq, nat_lt, bit_and, bit_or, min, max, ◌-◌, refl, ap, sym, ◌∙◌, inl, inr, arith}
+use Rattle.std.proofs.Common.{◌≡◌, ℕ, ◌*◌, ◌/◌, ◌%◌, ◌^◌, ◌<◌, Bool, true, false, ◌&&◌, ◌||◌, ◌==◌, nat_eq, nat_lt, bit_and, bit_or, min, max, ◌-◌, refl, ap, sym, ◌∙◌, inl, inr, arith}
 use Rattle.std.specs.Int.{bit_at}
 use Rattle.std.proofs.lemmas.Bool.{cases_eq, cases_lt, eq-eqb, ne_eqb, lt-ltb, le-ltb, and_right, or_right}
+use Rattle.std.proofs.lemmas.Bool.Decides.{nat_tests}
 use Rattle.std.proofs.lemmas.Nat.Bits.{bit_at-zero, shr_and_one, bit_at_or, bit_at-lt, bit_at_set_same, bit_at_set_other, bit_at_and, bit_at_ones, bit_at_ones_above}
 use Rattle.std.proofs.Math.Nat.{mod-eq_of_lt}
 use Rattle.std.proofs.Math.Pow.{pow-lt}
@@ -34,13 +35,7 @@ has_with bits label i h = elim (cases_eq i label) [
 ]
 
 greater : (a b : ℕ) → a < 2 → b < 2 → nat_eq (max a b) 1 ≡ (nat_eq a 1 || nat_eq b 1)
-greater zero zero h k = refl
-greater zero (suc zero) h k = refl
-greater (suc zero) zero h k = refl
-greater (suc zero) (suc zero) h k = refl
-greater zero (suc (suc b)) h k = absurd (omega arith)
-greater (suc zero) (suc (suc b)) h k = absurd (omega arith)
-greater (suc (suc a)) b h k = absurd (omega arith)
+greater a b h k = grind (arith, nat_tests)
 
 -- the bits of both
 pub has_either : (a b i : ℕ)
@@ -69,9 +64,7 @@ has_before bits label i ones same =
     min_none n = omega arith
 
     kept : (n : ℕ) → n < 2 → nat_eq (min n 1) 1 ≡ (nat_eq n 1 && true)
-    kept zero h = refl
-    kept (suc zero) h = refl
-    kept (suc (suc n)) h = absurd (omega arith)
+    kept n h = grind (arith, nat_tests)
 
 pub ones_of : (label : ℕ) → label < ROOM → 1 * 2 ^ label % 2 ^ ROOM - 1 ≡ 2 ^ label - 1
 ones_of label h =

@@ -3,7 +3,7 @@ use Rattle.std.proofs.Common.{◌≡◌, ◌⊎◌, ℕ, zero, suc, ◌+◌, ◌
 use Rattle.std.specs.Prelude.{option_map}
 use Rattle.std.specs.Option.{option_or}
 use Rattle.std.specs.List.{starts_with, list_all}
-use Rattle.std.proofs.lemmas.Bool.{false≢true, and_parts, and_from, cases_Bool}
+use Rattle.std.proofs.lemmas.Bool.{false≢true, false_from_ne_true, and_parts, and_from}
 use borrow.Author.Tests.{lt-ltb, le-ltb}
 use Rattle.std.proofs.lemmas.Bool.Decides.{nat_tests}
 use Rattle.am_universe.specs.Choice.{admits}
@@ -118,13 +118,11 @@ behind_last size sizes prefix p a none below = record {
     ]
       where
         not_less : (q : ℕ) (x : List ℕ) → p < q → comes_before (q ∷ x) ((p + 1) ∷ []) ≡ false
-        not_less q x l = elim (cases_Bool (comes_before (q ∷ x) ((p + 1) ∷ []))) [
-          | inl less ↦ elim (before_parts q (p + 1) x [] less) [
-            | inl k ↦ absurd (omega (arith, l, k))
-            | inr same ↦ absurd (false≢true (sym (before_nothing x) ∙ same.1))
-          ]
-          | inr e ↦ e
-        ]
+        not_less q x l = false_from_ne_true (comes_before (q ∷ x) ((p + 1) ∷ [])) (λ less.
+            elim (before_parts q (p + 1) x [] less) [
+              | inl k ↦ omega (arith, l, k)
+              | inr same ↦ false≢true (sym (before_nothing x) ∙ same.1)
+            ])
 
 pub beside_is : (sizes prefix next : List ℕ) → admits sizes prefix ≡ true → next_beside sizes prefix ≡ Some next → IsBeside sizes prefix next
 beside_is sizes [] next a e = cc

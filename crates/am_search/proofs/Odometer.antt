@@ -7,6 +7,7 @@ use Rattle.std.specs.Ordering.{is_lt}
 use Rattle.std.proofs.Math.Nat.{eq-or-lt_of_le}
 use Rattle.std.proofs.lemmas.Bool.{and_parts, and_from}
 use Rattle.std.proofs.lemmas.Bool.Decides.{nat_tests}
+use Rattle.std.proofs.lemmas.List.Folds.{find-append}
 use Rattle.std.proofs.lemmas.Option.{get_or_from_slice_get}
 use borrow.Author.Tests.{lt-ltb, le-ltb}
 use Rattle.am_universe.specs.Choice.{choices, admits, IsWhole}
@@ -16,7 +17,7 @@ use Rattle.am_universe.proofs.ChoiceLemmas.{behind, same_first, less_first}
 use Rattle.am_universe.proofs.CompletionLemmas.{below, completions_are_below}
 use Rattle.am_search.specs.Start.{comes_before}
 use Rattle.am_search.specs.NextPrefix.{next_beside}
-use Rattle.am_search.proofs.ChoiceOrder.{not_itself, not_back}
+use Rattle.am_search.proofs.ChoiceOrder.{none_found, not_itself, not_back}
 
 -- ---- A prefix and the position 0 of each label left.
 
@@ -84,14 +85,6 @@ beside_last (size ∷ sizes) (q ∷ prefix) p h =
 
 -- ---- The first choice after a whole one.
 
-pub find_append : (test : List ℕ → Bool) (xs ys : List (List ℕ)) → find test (xs ++ ys) ≡ option_or (find test xs) (find test ys)
-find_append test [] ys = refl
-find_append test (x ∷ xs) ys = by (test x) (find_append test xs ys)
-  where
-    by : (b : Bool) → find test (xs ++ ys) ≡ option_or (find test xs) (find test ys) → cond b (Some x) (find test (xs ++ ys)) ≡ option_or (cond b (Some x) (find test xs)) (find test ys)
-    by true e = refl
-    by false e = e
-
 find_mapped : (test own : List ℕ → Bool) (f : List ℕ → List ℕ) (xs : List (List ℕ)) → ((x : List ℕ) → test (f x) ≡ own x) → find test (map f xs) ≡ option_map f (find own xs)
 find_mapped test own f [] same = refl
 find_mapped test own f (x ∷ xs) same = by (test (f x)) (own x) (same x) (find_mapped test own f xs same)
@@ -101,10 +94,6 @@ find_mapped test own f (x ∷ xs) same = by (test (f x)) (own x) (same x) (find_
     by false false e h = h
     by true false e h = cc
     by false true e h = cc
-
-find_none : (xs : List (List ℕ)) → find (λ x. false) xs ≡ None
-find_none [] = refl
-find_none (x ∷ xs) = find_none xs
 
 -- behind greater positions the first is the one
 found_higher : (p first n : ℕ) (c : List ℕ) (cs : List (List ℕ)) (d : List ℕ) (others : List (List ℕ)) → p < first → cs ≡ d ∷ others
@@ -119,13 +108,13 @@ found_behind : (p first n : ℕ) (c : List ℕ) (cs : List (List ℕ)) (d : List
     → find (comes_before (p ∷ c)) (behind first n cs) ≡ option_or (option_map (λ t. p ∷ t) (find (comes_before c) cs)) (cond (nat_lt (p + 1) (first + n)) (Some ((p + 1) ∷ d)) None)
 found_behind p first zero c cs d others low high e = absurd (omega arith)
 found_behind p first (suc n) c cs d others low high e =
-    find_append (comes_before (p ∷ c)) (map (λ t. first ∷ t) cs) (behind (first + 1) n cs)
+    find-append (comes_before (p ∷ c)) (map (λ t. first ∷ t) cs) (behind (first + 1) n cs)
     ∙ elim (eq-or-lt_of_le low) [
       | inl same ↦ at_same same
       | inr less ↦
           ap (λ o. option_or o (find (comes_before (p ∷ c)) (behind (first + 1) n cs)))
           (find_mapped (comes_before (p ∷ c)) (λ x. false) (λ t. first ∷ t) cs (λ t. not_back (first ∷ t) (p ∷ c) (ap is_lt (less_first first p t c less)))
-          ∙ ap (option_map (λ t. first ∷ t)) (find_none cs))
+          ∙ ap (option_map (λ t. first ∷ t)) (none_found (λ x. false) cs (λ x i. refl)))
           ∙ found_behind p (first + 1) n c cs d others (omega (arith, less)) (omega arith) e
           ∙ ap (λ m. option_or (option_map (λ t. p ∷ t) (find (comes_before c) cs)) (cond (nat_lt (p + 1) m) (Some ((p + 1) ∷ d)) None)) (omega arith)
     ]

@@ -1,12 +1,11 @@
 -- The choices from a start on, and the pages of the answers among them.
-use Rattle.std.proofs.Common.{◌≡◌, ◌↔◌, ℕ, zero, suc, ◌+◌, ◌-◌, ◌<◌, ◌≤◌, Bool, true, false, not, cond, List, [], ◌∷◌, ◌++◌, length, take, drop, get_or, slice_get, nat_lt, Contains, Option, Some, None, IfSome, MatchOption, codes, ap, sym, subst, ◌∙◌, refl, inl, inr, arith, append-nil}
+use Rattle.std.proofs.Common.{◌≡◌, ◌↔◌, ℕ, zero, suc, ◌+◌, ◌-◌, ◌<◌, ◌≤◌, Bool, true, false, not, cond, List, [], ◌∷◌, ◌++◌, length, take, drop, get_or, nat_lt, Contains, Option, Some, None, IfSome, MatchOption, codes, ap, sym, subst, ◌∙◌, refl, inl, inr, arith, append-nil}
 use Rattle.std.specs.Prelude.{IsTrue}
-use Rattle.std.specs.List.{filter, find, AllByRecursion}
+use Rattle.std.specs.List.{filter}
 use Rattle.std.specs.List.Sorted.{IsStrictlySortedBy}
 use Rattle.std.specs.Ordering.{nat_cmp, is_lt, ordering_then}
 use Rattle.std.specs.Cmp.Lexicographic.{slice_cmp}
-use Rattle.std.proofs.lemmas.Bool.{false≢true, and_parts}
-use Rattle.std.proofs.lemmas.Bool.Decides.{nat_tests}
+use Rattle.std.proofs.lemmas.Bool.{false≢true, false_from_ne_true, and_parts, cases_lt}
 use Rattle.std.proofs.lemmas.List.{take-append-drop}
 use Rattle.std.proofs.lemmas.List.Kept.{IsStrictlySortedBy-filter}
 use Rattle.am_universe.specs.Choice.{choices, admits, IsWhole}
@@ -24,6 +23,7 @@ use Rattle.am_search.specs.TrailerText.{trailer_text}
 use Rattle.am_search.proofs.ChoiceOrder.{Ascends, before_trans, not_back, filter_all, filter_same, in_filter, into_filter, from_found, after_taken, up_to_taken, taken_last}
 use Rattle.am_search.proofs.Odometer.{filled, first_completion_is, positive}
 use Rattle.am_search.proofs.Walks.{first_is_whole, one_more}
+use Rattle.am_search.proofs.PageLines.{page_of_part, page_of_all}
 
 -- ---- The choices from a start on.
 
@@ -122,17 +122,10 @@ filters_swapped f g (x ∷ xs) =
 pub filter_within : {X : Type 0} (f g : X → Bool) (xs : List X) → ((x : X) → f x ≡ true → g x ≡ true) → filter f (filter g xs) ≡ filter f xs
 filter_within f g xs h = filters_swapped f g xs ∙ filter_all g (filter f xs) (λ y i. h y (in_filter f xs y i).1)
 
-is_not : (b : Bool) → not b ≡ true → b ≡ false
-is_not true h = absurd (false≢true h)
-is_not false h = refl
-
 -- a choice after one that is at or after the first is so too
 stays_after : (first c d : List ℕ) → not (comes_before c first) ≡ true → comes_before c d ≡ true → not (comes_before d first) ≡ true
-stays_after first c d h k = by (comes_before d first) refl
-  where
-    by : (b : Bool) → comes_before d first ≡ b → not b ≡ true
-    by true e = absurd (false≢true (sym (is_not (comes_before c first) h) ∙ before_trans c d first k e))
-    by false e = refl
+stays_after first c d h k = ap not (false_from_ne_true (comes_before d first) (λ e.
+    false≢true (sym (ap not (before_trans c d first k e)) ∙ h)))
 
 after_from : (o : Option (List ℕ)) (cs : List (List ℕ)) (c : List ℕ) → IsIn (at_or_after o cs) c → filter (comes_before c) (at_or_after o cs) ≡ filter (comes_before c) cs
 after_from None cs c i = absurd i
@@ -168,17 +161,14 @@ pub data PageKind (ending : Trailer) (xs : List (List ℕ)) (page : AnswerPage) 
 
 pub kind_of : (ending : Trailer) (xs : List (List ℕ)) (limit : Option ℕ) → IfSome limit (λ n. 0 < n) → PageKind ending xs (page_ending ending xs limit)
 kind_of ending xs None h = whole (record { choices = refl; trailer = refl })
-kind_of ending xs (Some n) h = by (nat_lt n (length xs)) refl
-  where
-    by : (b : Bool) → nat_lt n (length xs) ≡ b → PageKind ending xs (page_ending ending xs (Some n))
-    by true e =
-        let same : page_ending ending xs (Some n) ≡ record { choices = take n xs; trailer = Next (get_or xs (n - 1) []) } =
-        ap (λ b. cond b (record { choices = take n xs; trailer = Next (get_or xs (n - 1) []) }) (record { choices = xs; trailer = ending })) e in
-        part (get_or xs (n - 1) []) n (record { choices = ap (λ p. p.choices) same; trailer = ap (λ p. p.trailer) same; last = refl; some = h; more = grind (arith, nat_tests, e) })
-    by false e =
-        let same : page_ending ending xs (Some n) ≡ record { choices = xs; trailer = ending } =
-        ap (λ b. cond b (record { choices = take n xs; trailer = Next (get_or xs (n - 1) []) }) (record { choices = xs; trailer = ending })) e in
-        whole (record { choices = ap (λ p. p.choices) same; trailer = ap (λ p. p.trailer) same })
+kind_of ending xs (Some n) h = elim (cases_lt n (length xs)) [
+  | inl more ↦
+      let same = page_of_part ending xs n more in
+      part (get_or xs (n - 1) []) n (record { choices = ap (λ p. p.choices) same; trailer = ap (λ p. p.trailer) same; last = refl; some = h; more = more })
+  | inr few ↦
+      let same = page_of_all ending xs (Some n) few in
+      whole (record { choices = ap (λ p. p.choices) same; trailer = ap (λ p. p.trailer) same })
+]
 
 page_kind : (ns : List ℕ) (truth : List ℕ → Bool) (start : Start) (page : AnswerPage) → IsPage ns truth start page → PageKind End (answers_from ns truth start) page
 page_kind ns truth start page h = subst (PageKind End (answers_from ns truth start)) (sym h.from_start) (kind_of End (answers_from ns truth start) h.limit h.at_least_one)
@@ -234,38 +224,32 @@ to_the_end ns truth start page h e = elim (page_kind ns truth start page h) [
   | whole w ↦ w.choices
 ]
 
--- the page under a limit, by whether there is more than that
-abbrev page_if : List (List ℕ) → ℕ → Bool → AnswerPage
-page_if xs n b =
-    cond b (record { choices = take n xs; trailer = Next (get_or xs (n - 1) []) })
-    (record { choices = xs; trailer = End })
-
 pub within_limit : (ns : List ℕ) (truth : List ℕ → Bool) (start : Start) (n : ℕ)
     → length (page_from ns truth start (Some n)).choices ≤ n
-within_limit ns truth start n = by (nat_lt n (length xs)) refl
-  where
-    xs : List (List ℕ)
-    xs = answers_from ns truth start
-
-    by : (b : Bool) → nat_lt n (length xs) ≡ b → length (page_if xs n b).choices ≤ n
-    by true e = omega (arith, Rattle.std.proofs.Common.length-take n xs)
-    by false e = let few : length xs ≤ n = grind (arith, nat_tests, e) in few
+within_limit ns truth start n =
+    let xs : List (List ℕ) = answers_from ns truth start in
+    elim (cases_lt n (length xs)) [
+      | inl more ↦
+          let same = ap (λ (p : AnswerPage). length p.choices) (page_of_part End xs n more) in
+          omega (arith, same, Rattle.std.proofs.Common.length-take n xs)
+      | inr few ↦
+          let same = ap (λ (p : AnswerPage). length p.choices) (page_of_all End xs (Some n) few) in
+          omega (arith, same, few)
+    ]
 
 -- a page that leaves something has as many choices as its limit
 pub limit_reached : (ns c : List ℕ) (truth : List ℕ → Bool) (start : Start) (n : ℕ)
     → (page_from ns truth start (Some n)).trailer ≡ Next c
     → length (page_from ns truth start (Some n)).choices ≡ n
-limit_reached ns c truth start n = by (nat_lt n (length xs)) refl
-  where
-    xs : List (List ℕ)
-    xs = answers_from ns truth start
-
-    by : (b : Bool) → nat_lt n (length xs) ≡ b → (page_if xs n b).trailer ≡ Next c
-        → length (page_if xs n b).choices ≡ n
-    by true e ends =
-        let more : n < length xs = grind (arith, nat_tests, e) in
-        omega (arith, Rattle.std.proofs.Common.length-take n xs, more)
-    by false e ends = absurd (cc)
+limit_reached ns c truth start n ends =
+    let xs : List (List ℕ) = answers_from ns truth start in
+    elim (cases_lt n (length xs)) [
+      | inl more ↦
+          let same = ap (λ (p : AnswerPage). length p.choices) (page_of_part End xs n more) in
+          omega (arith, same, Rattle.std.proofs.Common.length-take n xs, more)
+      | inr few ↦
+          let end : End ≡ Next c = sym (ap (λ p. p.trailer) (page_of_all End xs (Some n) few)) ∙ ends in cc
+    ]
 
 -- ---- Trailers.
 

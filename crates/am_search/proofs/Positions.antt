@@ -7,7 +7,7 @@ use Rattle.std.specs.Result.{OkIff}
 use Rattle.std.specs.Str.Parse.{AllDigits, digits_value, ParsesUnsigned}
 use Rattle.std.proofs.lemmas.Fmt.{decimal_is_IsNumeral}
 use Rattle.std.proofs.lemmas.Str.Parse.{digit_from_value, parse_digits, numerals_by_value, tells_digits}
-use Rattle.std.proofs.lemmas.List.{take_more}
+use Rattle.std.proofs.lemmas.List.{take_more, drop_more, take-append-drop}
 use Rattle.std.proofs.lemmas.List.Splits.{slice_split_none, slice_split_at}
 use borrow.Author.Tests.{ne_eqb}
 
@@ -105,9 +105,8 @@ joined_among (o ∷ ps) p qs =
     ∙ ap (λ t. t ++ following (p ∷ qs)) (sym (joined-cons o ps))
 
 split_at : (c : List ℕ) (i p : ℕ) → i < length c → p ≡ get_or c i 0 → c ≡ take i c ++ p ∷ drop (i + 1) c
-split_at [] i p h is = absurd (omega arith)
-split_at (q ∷ c) zero p h is = ap (λ x. x ∷ c) (sym is)
-split_at (q ∷ c) (suc i) p h is = rw add-one (ap (λ l. q ∷ l) (rw add-one at (split_at c i p (omega arith) is)))
+split_at c i p h is =
+    sym (take-append-drop i c) ∙ ap (λ l. take i c ++ l) (drop_more c i 0 h ∙ ap (λ x. x ∷ drop (i + 1) c) (sym is))
 
 -- the number at i stands between those before it and those behind it
 pub joined_through : (c : List ℕ) (i p : ℕ) (s : List ℕ) → i < length c → p ≡ get_or c i 0 → s ≡ separator (take i c)

@@ -3,6 +3,7 @@ use Rattle.std.proofs.Common.{◌≡◌, ◌≢◌, ◌⊎◌, ℕ, zero, suc, �
 use Rattle.std.specs.List.{starts_with, list_all}
 use Rattle.std.specs.Ordering.{is_lt}
 use Rattle.std.proofs.lemmas.Bool.{false≢true, and_parts, and_from, ne_eqb, cases_order}
+use Rattle.std.proofs.lemmas.List.Folds.{list_all-map}
 use borrow.Author.Tests.{eqb-true}
 use Rattle.am_universe.proofs.ChoiceLemmas.{same_first, less_first}
 use Rattle.am_search.specs.Start.{comes_before}
@@ -178,21 +179,17 @@ begins_whole (p ∷ c) (q ∷ d) e h =
 
 -- ---- Proper fronts.
 
-pub all_map : {X Y : Type 0} (test : Y → Bool) (f : X → Y) (xs : List X) → list_all test (map f xs) ≡ list_all (λ x. test (f x)) xs
-all_map test f [] = refl
-all_map test f (x ∷ xs) = ap (λ b. test (f x) && b) (all_map test f xs)
-
 -- a test of the proper fronts is one of the empty prefix, and of the others behind their first position
 pub fronts_parts : (test : List ℕ → Bool) (p : ℕ) (prefix : List ℕ) → list_all test (proper_fronts (p ∷ prefix)) ≡ true
     → (test [] ≡ true) × (list_all (λ front. test (p ∷ front)) (proper_fronts prefix) ≡ true)
 fronts_parts test p prefix h =
     let parts = and_parts (test []) (list_all test (map (λ front. p ∷ front) (proper_fronts prefix))) h in
-    (parts.0, sym (all_map test (λ front. p ∷ front) (proper_fronts prefix)) ∙ parts.1)
+    (parts.0, sym (list_all-map test (λ front. p ∷ front) (proper_fronts prefix)) ∙ parts.1)
 
 pub fronts_from : (test : List ℕ → Bool) (p : ℕ) (prefix : List ℕ) → test [] ≡ true → list_all (λ front. test (p ∷ front)) (proper_fronts prefix) ≡ true
     → list_all test (proper_fronts (p ∷ prefix)) ≡ true
 fronts_from test p prefix first others =
-    and_from (test []) (list_all test (map (λ front. p ∷ front) (proper_fronts prefix))) first (all_map test (λ front. p ∷ front) (proper_fronts prefix) ∙ others)
+    and_from (test []) (list_all test (map (λ front. p ∷ front) (proper_fronts prefix))) first (list_all-map test (λ front. p ∷ front) (proper_fronts prefix) ∙ others)
 
 -- what passes at all proper fronts passes at a shorter prefix
 pub front_passes : (test : List ℕ → Bool) (prefix x : List ℕ) → list_all test (proper_fronts x) ≡ true → starts_with nat_eq x prefix ≡ true → comes_before prefix x ≡ true → test prefix ≡ true

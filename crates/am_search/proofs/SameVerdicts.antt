@@ -1,7 +1,8 @@
 -- Verdicts that are the same at all prefixes of choices make the same search.
-use Rattle.std.proofs.Common.{◌≡◌, ℕ, Bool, true, cond, nat_lt, ◌&&◌, List, [], ◌∷◌, ◌++◌, length, map, slice_get, Option, Some, None, ap, sym, ◌∙◌, refl, inl, inr}
-use Rattle.std.specs.List.{flat_map, list_all}
+use Rattle.std.proofs.Common.{◌≡◌, ℕ, Bool, true, cond, nat_lt, ◌&&◌, List, [], ◌∷◌, length, map, slice_get, Option, Some, None, ap, sym, ◌∙◌, refl}
+use Rattle.std.specs.List.{list_all}
 use Rattle.std.proofs.lemmas.Bool.{and_parts, and_from}
+use Rattle.std.proofs.lemmas.List.Folds.{list_all-map}
 use Rattle.am_universe.specs.Choice.{admits}
 use Rattle.am_universe.proofs.ListLemmas.{IsIn}
 use Rattle.am_search.specs.declared.start.Start.{Start}
@@ -11,7 +12,7 @@ use Rattle.am_search.specs.Visits.{all_prefixes, proper_fronts, completions_from
 use Rattle.am_search.specs.Page.{page_ending}
 use Rattle.am_search.specs.BudgetPage.{stop_of, trailer_at, page_under}
 use Rattle.am_search.proofs.ChoiceOrder.{in_filter, filter_same}
-use Rattle.am_search.proofs.PrefixOrder.{all_map}
+use Rattle.am_search.proofs.VisitsGive.{joined_same}
 use Rattle.am_search.proofs.VisitedPrefixes.{admitted_in}
 use Rattle.am_search.proofs.BudgetPages.{in_taken}
 
@@ -25,13 +26,9 @@ fronts_same (n ∷ ns) (p ∷ prefix) f g same a =
     let parts = and_parts (nat_lt p n) (admits ns prefix) a in
     ap (λ b. b && list_all f (map (λ front. p ∷ front) (proper_fronts prefix))) (same [] refl)
     ∙ ap (λ b. g [] && b)
-    (all_map f (λ front. p ∷ front) (proper_fronts prefix)
+    (list_all-map f (λ front. p ∷ front) (proper_fronts prefix)
     ∙ fronts_same ns prefix (λ q. f (p ∷ q)) (λ q. g (p ∷ q)) (λ q b. same (p ∷ q) (and_from (nat_lt p n) (admits ns q) parts.0 b)) parts.1
-    ∙ sym (all_map g (λ front. p ∷ front) (proper_fronts prefix)))
-
-joined_same : (f g : List ℕ → List (List ℕ)) (ps : List (List ℕ)) → ((p : List ℕ) → IsIn ps p → f p ≡ g p) → flat_map f ps ≡ flat_map g ps
-joined_same f g [] same = refl
-joined_same f g (p ∷ ps) same = ap (λ l. l ++ flat_map f ps) (same p (inl refl)) ∙ ap (λ l. g p ++ l) (joined_same f g ps (λ q i. same q (inr i)))
+    ∙ sym (list_all-map g (λ front. p ∷ front) (proper_fronts prefix)))
 
 in_budget : (budget : Option ℕ) (ps : List (List ℕ)) (p : List ℕ) → IsIn (up_to_budget budget ps) p → IsIn ps p
 in_budget None ps p i = i

@@ -14,27 +14,15 @@ use Rattle.am_search.specs.Start.{comes_before, IsStart, first_of_start, at_or_a
 use Rattle.am_search.specs.Visits.{visited}
 use Rattle.am_search.specs.Page.{AnswerPage, page_from, rest_after, IsPage, start_after, answers_from_any, all_choices_of}
 use Rattle.am_search.specs.BudgetPage.{page_under, IsSearchPage, IsSearchChain, BeginsLater}
-use Rattle.am_search.proofs.ChoiceOrder.{filter_step, in_filter, taken_last, not_itself, before_trans}
+use Rattle.am_search.proofs.ChoiceOrder.{got_at, filter_step, in_filter, taken_last, not_itself, before_trans}
 use Rattle.am_search.proofs.Odometer.{ArePositive, positive, filled, first_completion_is}
 use Rattle.am_search.proofs.PrefixOrder.{before_begins}
-use Rattle.am_search.proofs.Walks.{in_choices, first_is_whole}
-use Rattle.am_search.proofs.VisitSteps.{got_at}
-use Rattle.am_search.proofs.WalkSteps.{completion_begins}
+use Rattle.am_search.proofs.Walks.{in_choices, first_is_whole, completion_whole}
+use Rattle.am_search.proofs.VisitsBound.{kept_all, kept_more}
 use Rattle.am_search.proofs.Pages.{choices_after, begins_with, next_is_start, more_left, part, whole, kind_of}
 use Rattle.am_search.proofs.BudgetPages.{begun, visited_is, past_first, under_kind, without, stopped, rest_under, stays_from, enough_steps}
 
 -- ---- Lists of which fewer pass.
-
-fewer_pass : (few more : List ℕ → Bool) (xs : List (List ℕ)) → ((x : List ℕ) → few x ≡ true → more x ≡ true) → length (filter few xs) ≤ length (filter more xs)
-fewer_pass few more [] within = omega arith
-fewer_pass few more (x ∷ xs) within = by (few x) (more x) refl refl (fewer_pass few more xs within)
-  where
-    by : (a b : Bool) → few x ≡ a → more x ≡ b → length (filter few xs) ≤ length (filter more xs)
-        → length (cond a (x ∷ filter few xs) (filter few xs)) ≤ length (cond b (x ∷ filter more xs) (filter more xs))
-    by true true a b h = omega arith
-    by true false a b h = absurd (false≢true (sym b ∙ within x a))
-    by false true a b h = omega arith
-    by false false a b h = h
 
 fewer_by_one : (few more : List ℕ → Bool) (xs : List (List ℕ)) (y : List ℕ) → ((x : List ℕ) → few x ≡ true → more x ≡ true) → IsIn xs y → few y ≡ false → more y ≡ true
     → length (filter few xs) < length (filter more xs)
@@ -42,7 +30,7 @@ fewer_by_one few more [] y within i out kept = absurd i
 fewer_by_one few more (x ∷ xs) y within (inl same) out kept =
     omega (
       arith,
-      fewer_pass few more xs within,
+      kept_more few more xs within,
       ap length (filter_step few x xs false (ap few same ∙ out)),
       ap length (filter_step more x xs true (ap more same ∙ kept)),
     )
@@ -107,7 +95,7 @@ at_later ns f p start some begins a less =
       begins = begins;
       next_first = filled ns p;
       next_begins = is;
-      later = before_begins f p (filled ns p) less (completion_begins ns p (filled ns p) (got_at (completions ns p) 0 (filled ns p) is)).1;
+      later = before_begins f p (filled ns p) less (completion_whole ns p (filled ns p) (got_at (completions ns p) 0 (filled ns p) is)).1;
     }
 
 -- fewer choices are left from there on
@@ -141,8 +129,7 @@ in_answers ns c truth start n some more last =
     (in_filter truth (choices_from ns start) c (subst (IsIn (answers_from ns truth start)) (sym last) (taken_last (answers_from ns truth start) n some more))).0
 
 some_answer : (truth : List ℕ → Bool) (cs : List (List ℕ)) → 0 < length (filter truth cs) → 0 < length cs
-some_answer truth [] h = absurd (omega arith)
-some_answer truth (c ∷ cs) h = omega arith
+some_answer truth cs h = omega (arith, h, kept_all truth cs)
 
 goes_on_from : (ns : List ℕ) (truth : List ℕ → Bool) (start next : Start) (limit : Option ℕ) → IfSome limit (λ n. 0 < n)
     → start_after (page_from ns truth start limit).trailer ≡ Some next → GoesOn ns start next
@@ -217,20 +204,12 @@ at_most_from ns truth verdict start (page ∷ pages) law h =
           | inr most ↦ inr (omega (arith, most, fewer))
         ]
 
-filtered_at_most : (test : List ℕ → Bool) (xs : List (List ℕ)) → length (filter test xs) ≤ length xs
-filtered_at_most test [] = omega arith
-filtered_at_most test (x ∷ xs) = by (test x) (filtered_at_most test xs)
-  where
-    by : (b : Bool) → length (filter test xs) ≤ length xs → length (cond b (x ∷ filter test xs) (filter test xs)) ≤ length (x ∷ xs)
-    by true h = omega arith
-    by false h = omega arith
-
 pub from_at_most : (ns : List ℕ) (start : Start) → length (choices_from ns start) ≤ length (choices ns)
 from_at_most ns start = by (first_of_start ns start)
   where
     by : (o : Option (List ℕ)) → length (at_or_after o (choices ns)) ≤ length (choices ns)
     by None = omega arith
-    by (Some f) = filtered_at_most (λ c. not (comes_before c f)) (choices ns)
+    by (Some f) = kept_all (λ c. not (comes_before c f)) (choices ns)
 
 pub some_choice : (ns : List ℕ) → AreSizes ns → 0 < length (choices ns)
 some_choice ns are =

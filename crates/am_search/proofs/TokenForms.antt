@@ -4,6 +4,7 @@ use Rattle.std.specs.Prelude.{codes}
 use Rattle.std.specs.List.{AllPass}
 use Rattle.std.specs.Result.{result_ok}
 use Rattle.std.proofs.lemmas.List.{append_cancel_left}
+use Rattle.std.proofs.lemmas.Option.{same_Some}
 use Rattle.std.proofs.Math.Seq.{take-append_seam}
 use Rattle.hex.specs.Hex.{decode_of, decode_sized, encode_lower, is_hex_digit, lower_digits}
 use Rattle.hex.specs.declared.error.FromHexError.{FromHexError}
@@ -21,9 +22,6 @@ use Rattle.am_search.proofs.Positions.{joined-injective}
 use Rattle.am_search.proofs.TokenTexts.{small_positions}
 
 -- ---- Digits.
-
-some_same : (h k : List ℕ) → Some h ≡ Some k → h ≡ k
-some_same h k e = cc
 
 -- no digit is a colon
 pub no_colon : (h : List ℕ) → IsFingerprint h → (i : ℕ) → i < length (encode_lower h) → get_or (encode_lower h) i 0 ≢ 58
@@ -52,7 +50,7 @@ no_digits text h none is e =
 pub other_digits : (text x h : List ℕ) → result_ok (decode_sized text 16) ≡ Some x → IsFingerprint h → encode_lower h ≡ text → encode_lower x ≡ text
 other_digits text x h some is e =
     let read : decode_sized text 16 ≡ Ok h = ap (λ t. decode_sized t 16) (sym e) ∙ decode_sized-encode_lower h 16 is.0 is.1 in
-    let same : x ≡ h = some_same x h (sym some ∙ ap result_ok read) in
+    let same : x ≡ h = same_Some x h (sym some ∙ ap result_ok read) in
     ap encode_lower same ∙ e
 
 -- the 32 digits of 16 bytes are those of a fingerprint
@@ -64,7 +62,7 @@ is_fingerprint text h some = by (decode_sized text 16) refl some
     by (Ok x) is same =
         let size = decode_sized-ok text 16 x is in
         let read = decode_of-ok text x (sym (decode_sized-twice text 16 size) ∙ is) in
-        subst IsFingerprint (some_same x h same) (omega (arith, size, read.2), read.3)
+        subst IsFingerprint (same_Some x h same) (omega (arith, size, read.2), read.3)
 
 -- ---- Forms.
 
@@ -161,7 +159,7 @@ pub same_written : (ns ms h k : List ℕ) (s t : Start) → AreSizes ns → AreS
     → token_text h s ≡ token_text k t → (s ≡ t) × (h ≡ k)
 same_written ns ms h k s t sizes others a b is it e =
     let same = same_spelled ns ms (Some h) (Some k) s t sizes others a b is it e in
-    (same.0, some_same h k same.1)
+    (same.0, same_Some h k same.1)
 
 pub different : (h : List ℕ) (s t : Start) → token_text h s ≢ old_token_text t
 different h s t e =

@@ -1,7 +1,7 @@
 -- From one judged prefix to the next, and from one given choice to the next.
-use Rattle.std.proofs.Common.{◌≡◌, ◌⊎◌, ℕ, zero, suc, ◌<◌, ◌≤◌, true, false, nat_eq, List, [], ◌∷◌, ◌++◌, length, take, slice_index, slice_get, Some, None, ap, sym, ◌∙◌, refl, inl, inr, arith}
+use Rattle.std.proofs.Common.{◌≡◌, ℕ, zero, suc, ◌<◌, ◌≤◌, true, false, nat_eq, List, [], ◌∷◌, ◌++◌, length, take, slice_index, slice_get, Some, None, ap, sym, ◌∙◌, refl, inl, inr, arith}
 use Rattle.std.specs.List.{starts_with}
-use Rattle.std.proofs.lemmas.Bool.{false≢true, cases_Bool}
+use Rattle.std.proofs.lemmas.Bool.{false≢true, false_from_ne_true}
 use Rattle.am_universe.specs.Choice.{IsWhole}
 use Rattle.am_universe.proofs.ListLemmas.{IsIn}
 use Rattle.am_universe.proofs.CompletionLemmas.{admits_next}
@@ -13,18 +13,13 @@ use Rattle.am_search.specs.Judge.{is_open}
 use Rattle.am_search.specs.Start.{comes_before, first_of_start}
 use Rattle.am_search.specs.Visits.{visited}
 use Rattle.am_search.specs.NextPrefix.{next_beside}
-use Rattle.am_search.proofs.ChoiceOrder.{Ascends, above_first, ascends_rest, not_itself, not_back, before_trans}
+use Rattle.am_search.proofs.ChoiceOrder.{got_at, Ascends, above_first, ascends_rest, not_itself, not_back, before_trans}
 use Rattle.am_search.proofs.Odometer.{ArePositive, positive_at}
 use Rattle.am_search.proofs.PrefixOrder.{begins_same, begins_parts, begins_pushed, before_pushed, before_begins, before_beside, between_pushed, begins_one, fronts_pushed, front_passes}
 use Rattle.am_search.proofs.NextPrefix.{beside_is, none_beside}
 use Rattle.am_search.proofs.VisitedPrefixes.{visited_sorted, in_visited, into_visited, IsVisited}
 
 -- ---- One after another in a list that ascends.
-
-pub got_at : (xs : List (List ℕ)) (k : ℕ) (p : List ℕ) → slice_get xs k ≡ Some p → IsIn xs p
-got_at [] k p e = cc
-got_at (x ∷ xs) zero p e = inl cc
-got_at (x ∷ xs) (suc k) p e = inr (got_at xs k p e)
 
 second_is : (p : List ℕ) (xs : List (List ℕ)) (next : List ℕ) → Ascends (p ∷ xs) → IsIn xs next
     → ((x : List ℕ) → IsIn (p ∷ xs) x → comes_before p x ≡ true → comes_before x next ≡ false) → slice_get xs 0 ≡ Some next
@@ -98,18 +93,12 @@ module _ (sizes : List ℕ) (verdict : List ℕ → Verdict) (start : Start) (f 
       } in
       next_at (visited sizes verdict start) k p next (visited_sorted sizes verdict start) at_k
       (into_visited sizes verdict start f begins next some w there) (before_pushed p q)
-      (λ x i less. least x i less goes (cases_Bool (comes_before x next)))
-    where
-      least : (x : List ℕ) → IsIn (visited sizes verdict start) x → comes_before p x ≡ true → starts_with nat_eq f (p ++ slice_index f (length p) ∷ []) ≡ true
-          → (comes_before x (p ++ slice_index f (length p) ∷ []) ≡ true) ⊎ (comes_before x (p ++ slice_index f (length p) ∷ []) ≡ false) → comes_before x (p ++ slice_index f (length p) ∷ []) ≡ false
-      least x i less goes (inr e) = e
-      least x i less goes (inl high) =
-          let between = between_pushed p x (slice_index f (length p)) less high in
-          let x_first : comes_before x f ≡ true = before_begins x (p ++ slice_index f (length p) ∷ []) f high goes in
-          absurd (elim (in_visited sizes verdict start f begins x i).reaches_to [
-            | inl a ↦ false≢true (sym (begins_one p between.rest f (slice_index f (length p)) between.position goes between.less) ∙ ap (starts_with nat_eq f) (sym between.is) ∙ a)
-            | inr a ↦ false≢true (sym (not_back x f x_first) ∙ a)
-          ])
+      (λ x i less. false_from_ne_true (comes_before x next) (λ high.
+      let between = between_pushed p x q less high in
+      elim (in_visited sizes verdict start f begins x i).reaches_to [
+        | inl a ↦ false≢true (sym (begins_one p between.rest f q between.position goes between.less) ∙ ap (starts_with nat_eq f) (sym between.is) ∙ a)
+        | inr a ↦ false≢true (sym (not_back x f (before_begins x next f high goes)) ∙ a)
+      ]))
 
   -- below an open prefix behind it
   pub open_behind : verdict p ≡ Open → length p < length sizes → starts_with nat_eq f p ≡ false → slice_get (visited sizes verdict start) (suc k) ≡ Some (p ++ 0 ∷ [])
@@ -124,18 +113,12 @@ module _ (sizes : List ℕ) (verdict : List ℕ → Verdict) (start : Start) (f 
       } in
       next_at (visited sizes verdict start) k p next (visited_sorted sizes verdict start) at_k
       (into_visited sizes verdict start f begins next some w there) (before_pushed p 0)
-      (λ x i l. least x l (cases_Bool (comes_before x next)))
-    where
-      least : (x : List ℕ) → comes_before p x ≡ true → (comes_before x (p ++ 0 ∷ []) ≡ true) ⊎ (comes_before x (p ++ 0 ∷ []) ≡ false) → comes_before x (p ++ 0 ∷ []) ≡ false
-      least x l (inr e) = e
-      least x l (inl high) = let between = between_pushed p x 0 l high in absurd (omega (arith, between.less))
+      (λ x i l. false_from_ne_true (comes_before x next) (λ high. omega (arith, (between_pushed p x 0 l high).less)))
 
   -- nothing that is judged begins with a prefix that is not open
   apart_from : is_open (verdict p) ≡ false → (x : List ℕ) → IsIn (visited sizes verdict start) x → comes_before p x ≡ true → starts_with nat_eq x p ≡ false
-  apart_from closed x i less = elim (cases_Bool (starts_with nat_eq x p)) [
-    | inl b ↦ absurd (false≢true (sym closed ∙ front_passes (λ front. is_open (verdict front)) p x (in_visited sizes verdict start f begins x i).fronts b less))
-    | inr e ↦ e
-  ]
+  apart_from closed x i less = false_from_ne_true (starts_with nat_eq x p) (λ b.
+      false≢true (sym closed ∙ front_passes (λ front. is_open (verdict front)) p x (in_visited sizes verdict start f begins x i).fronts b less))
 
   -- past a prefix that is not open
   pub closed_next : is_open (verdict p) ≡ false → (next : List ℕ) → next_beside sizes p ≡ Some next → (slice_get (visited sizes verdict start) (suc k) ≡ Some next) × (comes_before f next ≡ true)

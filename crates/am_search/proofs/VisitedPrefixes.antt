@@ -1,12 +1,12 @@
 -- Which prefixes are judged, and their order.
-use Rattle.std.proofs.Common.{◌≡◌, ◌⊎◌, ◌↔◌, ℕ, ◌+◌, ◌<◌, Bool, true, false, not, nat_eq, nat_lt, ◌&&◌, List, [], ◌∷◌, length, slice_get, Contains, Some, None, ap, sym, subst, ◌∙◌, refl, inl, inr, arith}
+use Rattle.std.proofs.Common.{◌≡◌, ◌⊎◌, ◌↔◌, ℕ, ◌+◌, ◌<◌, true, false, not, nat_eq, nat_lt, ◌&&◌, List, [], ◌∷◌, length, Contains, Some, None, ap, sym, subst, ◌∙◌, refl, inl, inr, arith}
 use Rattle.std.specs.Prelude.{IsTrue}
-use Rattle.std.specs.List.{filter, list_all, starts_with, AllByRecursion}
+use Rattle.std.specs.List.{list_all, starts_with, AllByRecursion}
 use Rattle.std.specs.List.Sorted.{IsStrictlySortedBy}
 use Rattle.std.specs.Ordering.{nat_cmp}
 use Rattle.std.specs.Cmp.Lexicographic.{slice_cmp}
 use Rattle.std.specs.declared.cmp.Ordering.TheVariants.{Less}
-use Rattle.std.proofs.lemmas.Bool.{false≢true, and_parts, and_from, cases_Bool}
+use Rattle.std.proofs.lemmas.Bool.{false≢true, and_parts, and_from, and_right, cases_Bool}
 use Rattle.std.proofs.lemmas.Bool.Decides.{nat_tests}
 use Rattle.std.proofs.lemmas.List.Kept.{IsStrictlySortedBy-filter}
 use borrow.Author.Tests.{lt-ltb}
@@ -19,10 +19,10 @@ use Rattle.am_search.specs.declared.verdict.Verdict.{Verdict}
 use Rattle.am_search.specs.Judge.{is_open}
 use Rattle.am_search.specs.Start.{comes_before, first_of_start, at_or_after}
 use Rattle.am_search.specs.Visits.{all_prefixes, proper_fronts, completions_from, is_visited, visited}
-use Rattle.am_search.proofs.ChoiceOrder.{in_filter, into_filter, filter_step, not_itself, not_back}
+use Rattle.am_search.proofs.ChoiceOrder.{got_at, in_filter, into_filter, filter_none, not_itself, not_back}
 use Rattle.am_search.proofs.Odometer.{ArePositive, filled, first_completion_is}
 use Rattle.am_search.proofs.PrefixOrder.{before_begins, before_beside, other_before}
-use Rattle.am_search.proofs.Walks.{in_choices}
+use Rattle.am_search.proofs.Walks.{in_choices, completion_whole}
 
 -- ---- All prefixes.
 
@@ -80,7 +80,7 @@ pub reaches : (sizes f prefix : List ℕ) → nat_lt 0 (length (at_or_after (Som
 reaches sizes f prefix h =
     let member = some_member (at_or_after (Some f) (completions sizes prefix)) h in
     let late = in_filter (λ c. not (comes_before c f)) (completions sizes prefix) member.0 member.1 in
-    let begins : starts_with nat_eq member.0 prefix ≡ true = (in_filter (λ c. starts_with nat_eq c prefix) (choices sizes) member.0 late.0).1 in
+    let begins : starts_with nat_eq member.0 prefix ≡ true = (completion_whole sizes prefix member.0 late.0).1 in
     elim (cases_Bool (starts_with nat_eq f prefix)) [
       | inl e ↦ inl e
       | inr other ↦ elim (cases_Bool (comes_before f prefix)) [
@@ -94,10 +94,6 @@ reaches sizes f prefix h =
 pub in_completions : (sizes prefix c : List ℕ) → IsWhole sizes c → starts_with nat_eq c prefix ≡ true → IsIn (completions sizes prefix) c
 in_completions sizes prefix c w h = into_filter (λ d. starts_with nat_eq d prefix) (choices sizes) c (in_choices sizes c w) h
 
-got : {X : Type 0} (xs : List X) (x : X) → slice_get xs 0 ≡ Some x → IsIn xs x
-got [] x e = cc
-got (y ∷ xs) x e = inl cc
-
 pub reached : (sizes f prefix : List ℕ) → ArePositive sizes → IsWhole sizes f → admits sizes prefix ≡ true → ReachesTo f prefix
     → nat_lt 0 (length (at_or_after (Some f) (completions sizes prefix))) ≡ true
 reached sizes f prefix some w a (inl begins) =
@@ -105,8 +101,8 @@ reached sizes f prefix some w a (inl begins) =
     (into_filter (λ c. not (comes_before c f)) (completions sizes prefix) f (in_completions sizes prefix f w begins) (ap not (not_itself f)))
 reached sizes f prefix some w a (inr less) =
     let c : List ℕ = filled sizes prefix in
-    let i : IsIn (completions sizes prefix) c = got (completions sizes prefix) c (first_completion_is sizes prefix some a) in
-    let begins : starts_with nat_eq c prefix ≡ true = (in_filter (λ d. starts_with nat_eq d prefix) (choices sizes) c i).1 in
+    let i : IsIn (completions sizes prefix) c = got_at (completions sizes prefix) 0 c (first_completion_is sizes prefix some a) in
+    let begins : starts_with nat_eq c prefix ≡ true = (completion_whole sizes prefix c i).1 in
     member_some (at_or_after (Some f) (completions sizes prefix)) c
     (into_filter (λ d. not (comes_before d f)) (completions sizes prefix) c i (ap not (not_back f c (before_begins f prefix c less begins))))
 
@@ -136,17 +132,8 @@ module _ (sizes : List ℕ) (verdict : List ℕ → Verdict) (start : Start) (f 
 
 -- where it begins nowhere, none is
 pub none_visited : (sizes : List ℕ) (verdict : List ℕ → Verdict) (start : Start) → first_of_start sizes start ≡ None → visited sizes verdict start ≡ []
-none_visited sizes verdict start e = by (all_prefixes sizes)
-  where
-    fails : (prefix : List ℕ) → is_visited sizes verdict start prefix ≡ false
-    fails prefix =
-        ap (λ o. list_all (λ front. is_open (verdict front)) (proper_fronts prefix) && nat_lt 0 (length (at_or_after o (completions sizes prefix)))) e
-        ∙ and_none (list_all (λ front. is_open (verdict front)) (proper_fronts prefix))
-      where
-        and_none : (b : Bool) → (b && false) ≡ false
-        and_none true = refl
-        and_none false = refl
-
-    by : (ps : List (List ℕ)) → filter (is_visited sizes verdict start) ps ≡ []
-    by [] = refl
-    by (p ∷ ps) = filter_step (is_visited sizes verdict start) p ps false (fails p) ∙ by ps
+none_visited sizes verdict start e =
+    filter_none (is_visited sizes verdict start) (all_prefixes sizes)
+    (λ prefix i.
+    ap (λ o. list_all (λ front. is_open (verdict front)) (proper_fronts prefix) && nat_lt 0 (length (at_or_after o (completions sizes prefix)))) e
+    ∙ and_right (list_all (λ front. is_open (verdict front)) (proper_fronts prefix)) false refl)

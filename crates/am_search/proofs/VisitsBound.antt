@@ -1,17 +1,16 @@
 -- How many prefixes a search judges at most, where the judge is exact.
 use Rattle.std.proofs.Common.{◌≡◌, ◌≢◌, ℕ, zero, suc, ◌+◌, ◌*◌, ◌<◌, ◌≤◌, Bool, true, false, not, cond, nat_eq, nat_lt, ◌&&◌, ◌||◌, List, [], ◌∷◌, length, map, Option, Some, None, ap, sym, subst, ◌∙◌, refl, inl, inr, arith}
-use Rattle.std.specs.List.{filter, list_all, list_any, sum, starts_with}
+use Rattle.std.specs.List.{filter, list_any, sum, starts_with}
 use Rattle.std.proofs.Math.Nat.{add-mul, mul-add, eq-or-lt_of_le}
-use Rattle.std.proofs.lemmas.Bool.{false≢true, and_parts, and_from, cases_order}
+use Rattle.std.proofs.lemmas.Bool.{false≢true, and_parts, and_from, and_right, cases_order}
 use Rattle.std.proofs.lemmas.Bool.Decides.{nat_tests}
 use Rattle.std.proofs.lemmas.List.{length-append, length-map}
 use Rattle.std.proofs.lemmas.List.Elements.{filter-append}
-use Rattle.std.proofs.lemmas.List.Sums.{sum_by-cons}
+use Rattle.std.proofs.lemmas.List.Sums.{sum_by-cons, length-filter, count_by-le-length}
 use borrow.Author.Tests.{lt-ltb}
 use Rattle.am_universe.specs.Choice.{choices, admits, IsWhole}
 use Rattle.am_universe.specs.Completions.{completions}
-use Rattle.am_universe.proofs.ListLemmas.{IsIn}
-use Rattle.am_universe.proofs.ChoiceLemmas.{behind, from_behind}
+use Rattle.am_universe.proofs.ChoiceLemmas.{behind}
 use Rattle.am_universe.proofs.CompletionLemmas.{at_its_own, completions_are_below, filter_of_map}
 use Rattle.am_search.specs.declared.start.Start.{Start}
 use Rattle.am_search.specs.declared.start.Start.TheVariants.{At}
@@ -20,11 +19,12 @@ use Rattle.am_search.specs.declared.verdict.Verdict.TheVariants.{Yes, No, Open}
 use Rattle.am_search.specs.Judge.{is_open}
 use Rattle.am_search.specs.ExactJudge.{IsExactJudge}
 use Rattle.am_search.specs.Start.{comes_before, first_of_start, at_or_after, answers_from}
-use Rattle.am_search.specs.Visits.{all_prefixes, proper_fronts, completions_from, is_visited, visited}
+use Rattle.am_search.specs.Visits.{all_prefixes, completions_from, is_visited, visited}
 use Rattle.am_search.proofs.ChoiceOrder.{filter_none, filter_same, not_back}
-use Rattle.am_search.proofs.PrefixOrder.{all_map, before_less, before_same, begins_same, begins_other}
+use Rattle.am_search.proofs.PrefixOrder.{before_less, before_same, begins_same, begins_other}
 use Rattle.am_search.proofs.Walks.{first_is_whole, first_of_all}
 use Rattle.am_search.proofs.VisitedPrefixes.{ReachesTo, reaches, none_visited}
+use Rattle.am_search.proofs.VisitsGive.{is_reached, reached_behind, none_reached}
 
 -- what a function gives for the lists that begin with a position, by what follows it
 abbrev past : {X : Type 0} → ℕ → (List ℕ → X) → List ℕ → X
@@ -32,18 +32,13 @@ past q f rest = f (q ∷ rest)
 
 -- ---- How many of a list pass a test.
 
-abbrev kept : {X : Type 0} → (X → Bool) → List X → ℕ
+abbrev pub kept : {X : Type 0} → (X → Bool) → List X → ℕ
 kept test xs = length (filter test xs)
 
-kept_all : {X : Type 0} (test : X → Bool) (xs : List X) → kept test xs ≤ length xs
-kept_all test [] = omega arith
-kept_all test (x ∷ xs) = by (test x) (kept_all test xs)
-  where
-    by : (b : Bool) → kept test xs ≤ length xs → length (cond b (x ∷ filter test xs) (filter test xs)) ≤ length (x ∷ xs)
-    by true h = omega (arith, h)
-    by false h = omega (arith, h)
+pub kept_all : {X : Type 0} (test : X → Bool) (xs : List X) → kept test xs ≤ length xs
+kept_all test xs = rw (length-filter test xs) (count_by-le-length test xs)
 
-kept_more : {X : Type 0} (f g : X → Bool) (xs : List X) → ((x : X) → f x ≡ true → g x ≡ true) → kept f xs ≤ kept g xs
+pub kept_more : {X : Type 0} (f g : X → Bool) (xs : List X) → ((x : X) → f x ≡ true → g x ≡ true) → kept f xs ≤ kept g xs
 kept_more f g [] h = omega arith
 kept_more f g (x ∷ xs) h = by (f x) (g x) refl refl (kept_more f g xs h)
   where
@@ -145,25 +140,6 @@ open_behind size sizes truth verdict q below some prefix a e =
     (ap (kept truth) (at_its_own q 0 size prefix (choices sizes) (omega arith) (omega (arith, below))) ∙ kept_map truth q (completions sizes prefix))
     (some (q ∷ prefix) (and_from (nat_lt q size) (admits sizes prefix) (lt-ltb q size below) a) e)
 
--- the proper fronts of a prefix are all judged `Open`
-abbrev is_reached : (List ℕ → Verdict) → List ℕ → Bool
-is_reached verdict prefix = list_all (λ front. is_open (verdict front)) (proper_fronts prefix)
-
-reached_behind : (verdict : List ℕ → Verdict) (q : ℕ) (prefix : List ℕ) → verdict [] ≡ Open → is_reached verdict (q ∷ prefix) ≡ is_reached (past q verdict) prefix
-reached_behind verdict q prefix open_ =
-    ap (λ v. is_open v && list_all (λ front. is_open (verdict front)) (map (λ front. q ∷ front) (proper_fronts prefix))) open_
-    ∙ all_map (λ front. is_open (verdict front)) (λ front. q ∷ front) (proper_fronts prefix)
-
--- below a verdict that is not `Open` no prefix is reached
-none_reached : (verdict : List ℕ → Verdict) (first count : ℕ) (prefixes : List (List ℕ)) → is_open (verdict []) ≡ false → kept (is_reached verdict) (behind first count prefixes) ≡ 0
-none_reached verdict first count prefixes closed = ap length (filter_none (is_reached verdict) (behind first count prefixes) fails)
-  where
-    fails : (prefix : List ℕ) → IsIn (behind first count prefixes) prefix → is_reached verdict prefix ≡ false
-    fails prefix i =
-        let r = from_behind first count prefixes prefix i in
-        subst (λ c. is_reached verdict c ≡ false) r.same
-        (ap (λ b. b && list_all (λ front. is_open (verdict front)) (map (λ front. r.position ∷ front) (proper_fronts r.rest))) closed)
-
 -- ---- Below a prefix that is judged `Open`, and one that is not.
 
 one_alone : (count most n : ℕ) → count ≤ most → most ≡ 0 → suc count ≤ 1 + n
@@ -192,7 +168,7 @@ reached_at_most (size ∷ sizes) truth verdict some =
     closed : is_open (verdict []) ≡ false → IsBounded (size ∷ sizes) truth verdict
     closed e =
         let count : ℕ = kept (is_reached verdict) (behind 0 size (all_prefixes sizes)) in
-        one_alone count count _ (omega arith) (none_reached verdict 0 size (all_prefixes sizes) e)
+        one_alone count count _ (omega arith) (ap length (none_reached verdict 0 size (all_prefixes sizes) e))
 
     by : (v : Verdict) → verdict [] ≡ v → ((q : ℕ) → q < size → IsBounded sizes (past q truth) (past q verdict)) → IsBounded (size ∷ sizes) truth verdict
     by Yes e others = closed (ap is_open e)
@@ -230,11 +206,7 @@ reached_before : (verdict : List ℕ → Verdict) (q p : ℕ) (f prefix : List �
 reached_before verdict q p f prefix less =
     ap (λ b. is_reached verdict (q ∷ prefix) && (b || comes_before (p ∷ f) (q ∷ prefix))) (begins_other p q f prefix (λ e. omega (arith, less, e)))
     ∙ ap (λ b. is_reached verdict (q ∷ prefix) && b) (not_back (q ∷ prefix) (p ∷ f) (before_less q p prefix f less))
-    ∙ and_false (is_reached verdict (q ∷ prefix))
-  where
-    and_false : (b : Bool) → (b && false) ≡ false
-    and_false true = refl
-    and_false false = refl
+    ∙ and_right (is_reached verdict (q ∷ prefix)) false refl
 
 reached_at : (verdict : List ℕ → Verdict) (p : ℕ) (f prefix : List ℕ) → verdict [] ≡ Open → is_reached_from (p ∷ f) verdict (p ∷ prefix) ≡ is_reached_from f (past p verdict) prefix
 reached_at verdict p f prefix open_ =
@@ -294,7 +266,7 @@ reached_from_at_most (size ∷ sizes) truth verdict (p ∷ f) some w =
         let prefixes : List (List ℕ) = behind 0 size (all_prefixes sizes) in
         one_alone (kept (is_reached_from (p ∷ f) verdict) prefixes) (kept (is_reached verdict) prefixes) _
         (kept_more (is_reached_from (p ∷ f) verdict) (is_reached verdict) prefixes (reached_alone (p ∷ f) verdict))
-        (none_reached verdict 0 size (all_prefixes sizes) e)
+        (ap length (none_reached verdict 0 size (all_prefixes sizes) e))
 
     by : p < size → (v : Verdict) → verdict [] ≡ v → ((q : ℕ) → q < size → IsBounded sizes (past q truth) (past q verdict))
         → IsBoundedFrom f sizes (past p truth) (past p verdict) → IsBoundedFrom (p ∷ f) (size ∷ sizes) truth verdict

@@ -1,10 +1,11 @@
 -- What the judged prefixes give: the true choices from the start on.
-use Rattle.std.proofs.Common.{◌≡◌, ℕ, zero, suc, ◌+◌, ◌<◌, ◌≤◌, Bool, true, false, not, cond, nat_lt, ◌&&◌, List, [], ◌∷◌, ◌++◌, length, map, Option, Some, None, ap, sym, subst, ◌∙◌, refl, arith, append-nil}
+use Rattle.std.proofs.Common.{◌≡◌, ℕ, zero, suc, ◌+◌, ◌<◌, ◌≤◌, Bool, true, false, not, cond, nat_lt, ◌&&◌, List, [], ◌∷◌, ◌++◌, length, map, Option, Some, None, ap, sym, subst, ◌∙◌, refl, inl, inr, arith, append-nil}
 use Rattle.std.specs.Prelude.{IsTrue}
 use Rattle.std.specs.List.{filter, flat_map, list_all}
 use Rattle.std.proofs.lemmas.Bool.{false≢true, and_from}
 use Rattle.std.proofs.lemmas.List.Elements.{filter-append}
 use Rattle.std.proofs.lemmas.Grind.{flat_map-append}
+use Rattle.std.proofs.lemmas.List.Folds.{flat_map-map, list_all-map}
 use borrow.Author.Tests.{lt-ltb}
 use Rattle.am_universe.specs.Choice.{choices, admits, IsWhole}
 use Rattle.am_universe.specs.Completions.{completions}
@@ -18,7 +19,6 @@ use Rattle.am_search.specs.Judge.{IsJudge, is_open, is_yes}
 use Rattle.am_search.specs.Start.{comes_before, first_of_start, at_or_after, answers_from}
 use Rattle.am_search.specs.Visits.{all_prefixes, proper_fronts, completions_from, given_at, given_under}
 use Rattle.am_search.proofs.ChoiceOrder.{filter_all, filter_none, filter_same, in_filter}
-use Rattle.am_search.proofs.PrefixOrder.{all_map}
 
 -- ---- What holds of a judge, and of one that looks behind a first position.
 
@@ -53,7 +53,7 @@ lawful_behind size sizes truth verdict q below law = record {
 
 -- ---- What all prefixes give that are reached by verdicts that are `Open`, of choices that pass a test.
 
-abbrev is_reached : (List ℕ → Verdict) → List ℕ → Bool
+abbrev pub is_reached : (List ℕ → Verdict) → List ℕ → Bool
 is_reached verdict prefix = list_all (λ front. is_open (verdict front)) (proper_fronts prefix)
 
 abbrev passing : List ℕ → (List ℕ → Verdict) → (List ℕ → Bool) → List ℕ → List (List ℕ)
@@ -63,7 +63,7 @@ abbrev all_passing : List ℕ → (List ℕ → Verdict) → (List ℕ → Bool)
 all_passing sizes verdict test prefixes = flat_map (passing sizes verdict test) (filter (is_reached verdict) prefixes)
 
 -- below a verdict that is not `Open` nothing is reached
-none_reached : (verdict : List ℕ → Verdict) (first count : ℕ) (prefixes : List (List ℕ)) → is_open (verdict []) ≡ false → filter (is_reached verdict) (behind first count prefixes) ≡ []
+pub none_reached : (verdict : List ℕ → Verdict) (first count : ℕ) (prefixes : List (List ℕ)) → is_open (verdict []) ≡ false → filter (is_reached verdict) (behind first count prefixes) ≡ []
 none_reached verdict first count prefixes closed = filter_none (is_reached verdict) (behind first count prefixes) fails
   where
     fails : (prefix : List ℕ) → IsIn (behind first count prefixes) prefix → is_reached verdict prefix ≡ false
@@ -77,22 +77,19 @@ passing_at : (sizes : List ℕ) (verdict : List ℕ → Verdict) (test : List �
 passing_at sizes verdict test prefix v e = ap (λ w. cond (is_yes w) (filter test (completions sizes prefix)) []) e
 
 -- behind one position
-flat_map_of_map : {X Y Z : Type 0} (f : Y → List Z) (g : X → Y) (xs : List X) → flat_map f (map g xs) ≡ flat_map (λ x. f (g x)) xs
-flat_map_of_map f g [] = refl
-flat_map_of_map f g (x ∷ xs) = ap (λ l. f (g x) ++ l) (flat_map_of_map f g xs)
-
-flat_map_same : {X Y : Type 0} (f g : X → List Y) (xs : List X) → ((x : X) → f x ≡ g x) → flat_map f xs ≡ flat_map g xs
-flat_map_same f g [] same = refl
-flat_map_same f g (x ∷ xs) same = ap (λ l. l ++ flat_map f xs) (same x) ∙ ap (λ l. g x ++ l) (flat_map_same f g xs same)
+pub joined_same : {X Y : Type 0} (f g : X → List Y) (xs : List X) → ((x : X) → IsIn xs x → f x ≡ g x)
+    → flat_map f xs ≡ flat_map g xs
+joined_same f g [] same = refl
+joined_same f g (x ∷ xs) same = ap (λ l. l ++ flat_map f xs) (same x (inl refl)) ∙ ap (λ l. g x ++ l) (joined_same f g xs (λ y i. same y (inr i)))
 
 map_of_given : (q : ℕ) (b : Bool) (cs : List (List ℕ)) → cond b (map (λ c. q ∷ c) cs) [] ≡ map (λ c. q ∷ c) (cond b cs [])
 map_of_given q true cs = refl
 map_of_given q false cs = refl
 
-reached_behind : (verdict : List ℕ → Verdict) (q : ℕ) (prefix : List ℕ) → verdict [] ≡ Open → is_reached verdict (q ∷ prefix) ≡ is_reached (λ p. verdict (q ∷ p)) prefix
+pub reached_behind : (verdict : List ℕ → Verdict) (q : ℕ) (prefix : List ℕ) → verdict [] ≡ Open → is_reached verdict (q ∷ prefix) ≡ is_reached (λ p. verdict (q ∷ p)) prefix
 reached_behind verdict q prefix open_ =
     ap (λ v. is_open v && list_all (λ front. is_open (verdict front)) (map (λ front. q ∷ front) (proper_fronts prefix))) open_
-    ∙ all_map (λ front. is_open (verdict front)) (λ front. q ∷ front) (proper_fronts prefix)
+    ∙ list_all-map (λ front. is_open (verdict front)) (λ front. q ∷ front) (proper_fronts prefix)
 
 passing_behind : (size : ℕ) (sizes : List ℕ) (verdict : List ℕ → Verdict) (test : List ℕ → Bool) (q : ℕ) (prefix : List ℕ) → q < size
     → passing (size ∷ sizes) verdict test (q ∷ prefix) ≡ map (λ c. q ∷ c) (passing sizes (λ p. verdict (q ∷ p)) (λ c. test (q ∷ c)) prefix)
@@ -108,9 +105,9 @@ all_passing_behind size sizes verdict test q prefixes below open_ =
     ap (flat_map (passing (size ∷ sizes) verdict test))
     (filter_of_map (λ prefix. q ∷ prefix) (is_reached verdict) prefixes
     ∙ ap (map (λ prefix. q ∷ prefix)) (filter_same (λ prefix. is_reached verdict (q ∷ prefix)) (is_reached (λ p. verdict (q ∷ p))) prefixes (λ prefix i. reached_behind verdict q prefix open_)))
-    ∙ flat_map_of_map (passing (size ∷ sizes) verdict test) (λ prefix. q ∷ prefix) kept
-    ∙ flat_map_same (λ prefix. passing (size ∷ sizes) verdict test (q ∷ prefix)) (λ prefix. map (λ c. q ∷ c) (passing sizes (λ p. verdict (q ∷ p)) (λ c. test (q ∷ c)) prefix)) kept
-    (λ prefix. passing_behind size sizes verdict test q prefix below)
+    ∙ flat_map-map (passing (size ∷ sizes) verdict test) (λ prefix. q ∷ prefix) kept
+    ∙ joined_same (λ prefix. passing (size ∷ sizes) verdict test (q ∷ prefix)) (λ prefix. map (λ c. q ∷ c) (passing sizes (λ p. verdict (q ∷ p)) (λ c. test (q ∷ c)) prefix)) kept
+    (λ prefix i. passing_behind size sizes verdict test q prefix below)
     ∙ sym (map_of_flat_map q (passing sizes (λ p. verdict (q ∷ p)) (λ c. test (q ∷ c))) kept)
 
 -- ---- They give the true choices that pass the test.
@@ -217,7 +214,7 @@ visited_give sizes truth verdict start law =
     let first : Option (List ℕ) = first_of_start sizes start in
     left_out (given_at sizes verdict start) (is_reached verdict) (λ p. nat_lt 0 (length (completions_from sizes start p))) (all_prefixes sizes)
     (λ p e. ap (λ cs. cond (is_yes (verdict p)) cs []) (nothing (completions_from sizes start p) e) ∙ none_either (is_yes (verdict p)))
-    ∙ flat_map_same (given_at sizes verdict start) (passing sizes verdict (is_from first)) (filter (is_reached verdict) (all_prefixes sizes))
-    (λ p. ap (λ cs. cond (is_yes (verdict p)) cs []) (from_filter first (completions sizes p)))
+    ∙ joined_same (given_at sizes verdict start) (passing sizes verdict (is_from first)) (filter (is_reached verdict) (all_prefixes sizes))
+    (λ p i. ap (λ cs. cond (is_yes (verdict p)) cs []) (from_filter first (completions sizes p)))
     ∙ gives_true sizes truth verdict (is_from first) (lawful sizes truth verdict law)
     ∙ ap (filter truth) (sym (from_filter first (choices sizes)))

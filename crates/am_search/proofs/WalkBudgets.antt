@@ -1,10 +1,9 @@
 -- What a search has given and what it has left, under a budget.
-use Rattle.std.proofs.Common.{◌≡◌, ℕ, ◌+◌, ◌-◌, ◌<◌, ◌≤◌, List, [], ◌∷◌, ◌++◌, length, take, drop, slice_get, get_or, Option, Some, None, IfSome, ap, sym, subst, ◌∙◌, refl, arith, append-nil, append_assoc, length-append, length-take}
+use Rattle.std.proofs.Common.{◌≡◌, ℕ, ◌+◌, ◌-◌, ◌<◌, ◌≤◌, List, [], ◌∷◌, ◌++◌, length, take, drop, get_or, Option, Some, None, IfSome, ap, sym, subst, ◌∙◌, refl, arith, append-nil, append_assoc, length-append, length-take}
 use Rattle.std.specs.Prelude.{option_map}
 use Rattle.std.specs.Iterator.{YieldsFirst}
 use Rattle.std.proofs.Math.Seq.{take-add, take-append_seam}
 use Rattle.std.proofs.lemmas.List.{drop_at, drop_all, take_all, take-append-drop}
-use Rattle.std.proofs.lemmas.Option.{slice_get_past}
 use Rattle.std.proofs.lemmas.Grind.{flat_map-append}
 use Rattle.am_universe.specs.Completions.{completions}
 use Rattle.am_search.specs.declared.answers.Answers.{Answers}

@@ -1,8 +1,8 @@
 -- Where the search stands after it has judged a prefix, and after it has given a choice.
-use Rattle.std.proofs.Common.{◌≡◌, ◌⊎◌, ℕ, suc, ◌-◌, ◌<◌, ◌≤◌, Bool, true, false, not, cond, nat_eq, List, [], ◌∷◌, ◌++◌, length, map, nat_lt, take, drop, slice_get, slice_index, Option, Some, None, IfSome, MatchOption, ap, sym, subst, ◌∙◌, refl, inl, inr, arith, append-nil, append_assoc, length-append}
+use Rattle.std.proofs.Common.{◌≡◌, ℕ, suc, ◌-◌, ◌<◌, ◌≤◌, Bool, true, false, not, cond, nat_eq, List, [], ◌∷◌, ◌++◌, length, map, nat_lt, take, drop, slice_get, slice_index, Option, Some, None, IfSome, MatchOption, ap, sym, subst, ◌∙◌, refl, inl, inr, arith, append-nil, append_assoc, length-append}
 use Rattle.std.specs.Prelude.{option_map}
 use Rattle.std.specs.List.{filter, find, flat_map, range_with_len, starts_with}
-use Rattle.std.proofs.lemmas.Bool.{false≢true, cases_Bool, cases_lt}
+use Rattle.std.proofs.lemmas.Bool.{false≢true, false_from_ne_true, cases_Bool, cases_lt}
 use Rattle.std.proofs.lemmas.List.{length-take-le}
 use Rattle.std.proofs.lemmas.List.Kept.{IsStrictlySortedBy-filter}
 use Rattle.std.proofs.lemmas.Grind.{flat_map-append}
@@ -11,7 +11,7 @@ use Rattle.std.specs.Cmp.Lexicographic.{slice_cmp}
 use Rattle.am_universe.specs.Choice.{choices, admits, IsWhole}
 use Rattle.am_universe.specs.Completions.{completions}
 use Rattle.am_universe.proofs.ListLemmas.{IsIn}
-use Rattle.am_universe.proofs.ChoiceLemmas.{choices_sorted, whole_from_in}
+use Rattle.am_universe.proofs.ChoiceLemmas.{choices_sorted}
 use Rattle.am_search.specs.declared.start.Start.{Start}
 use Rattle.am_search.specs.declared.stage.Stage.{Stage}
 use Rattle.am_search.specs.declared.stage.Stage.TheVariants.{Judging, Giving, Done}
@@ -22,13 +22,13 @@ use Rattle.am_search.specs.Start.{comes_before, first_of_start, at_or_after}
 use Rattle.am_search.specs.Visits.{all_prefixes, is_visited, completions_from, visited, given_at, given_by}
 use Rattle.am_search.specs.NextPrefix.{next_beside}
 use Rattle.am_search.specs.Walk.{if_begins, first_position, IsJudging, IsGiving, IsDone, IsWalk}
-use Rattle.am_search.proofs.ChoiceOrder.{Ascends, not_itself, not_back, in_filter, filter_all, filter_step, from_first, member_then_rest}
+use Rattle.am_search.proofs.ChoiceOrder.{got_at, none_found, Ascends, not_itself, not_back, filter_all, filter_step, from_first, member_then_rest}
 use Rattle.am_search.proofs.Odometer.{ArePositive, admits_at_most, filled, first_completion_is, next_choice_is}
 use Rattle.am_search.proofs.PrefixOrder.{begins_same, begins_parts, before_begins, before_beside, begins_front, begins_taken, taken_is, begins_length, begins_whole, begins_behind}
 use Rattle.am_search.proofs.NextPrefix.{IsBeside, beside_is, none_beside, none_of_front, beside_front, beside_begins}
 use Rattle.am_search.proofs.VisitedPrefixes.{none_visited, in_completions, reached}
-use Rattle.am_search.proofs.VisitSteps.{got_at, taken_pushed, past_length, begins_next, judged_is, open_along, open_behind, closed_next, closed_none}
-use Rattle.am_search.proofs.Walks.{first_is_whole}
+use Rattle.am_search.proofs.VisitSteps.{taken_pushed, past_length, begins_next, judged_is, open_along, open_behind, closed_next, closed_none}
+use Rattle.am_search.proofs.Walks.{first_is_whole, completion_whole}
 
 -- ---- Where completions begin.
 
@@ -39,18 +39,13 @@ at_first : (cs : List (List ℕ)) (c : List ℕ) → Ascends cs → slice_get cs
 at_first [] c s e = cc
 at_first (d ∷ cs) c s e = let same : d ≡ c = cc in ap (λ x. at_or_after (Some x) (d ∷ cs)) (sym same) ∙ from_first d cs s
 
-pub completion_begins : (sizes prefix c : List ℕ) → IsIn (completions sizes prefix) c → IsWhole sizes c × (starts_with nat_eq c prefix ≡ true)
-completion_begins sizes prefix c i =
-    let r = in_filter (λ d. starts_with nat_eq d prefix) (choices sizes) c i in
-    (whole_from_in sizes c r.0, r.1)
-
 -- where a choice comes before a prefix, all its completions are from the choice on
 all_from : (sizes prefix f c : List ℕ) → comes_before f prefix ≡ true → slice_get (completions sizes prefix) 0 ≡ Some c
     → at_or_after (Some c) (completions sizes prefix) ≡ at_or_after (Some f) (completions sizes prefix)
 all_from sizes prefix f c less e =
     at_first (completions sizes prefix) c (completions_ascend sizes prefix) e
     ∙ sym (filter_all (λ d. not (comes_before d f)) (completions sizes prefix)
-    (λ d i. ap not (not_back f d (before_begins f prefix d less (completion_begins sizes prefix d i).1))))
+    (λ d i. ap not (not_back f d (before_begins f prefix d less (completion_whole sizes prefix d i).1))))
 
 -- ---- Where the start begins.
 
@@ -74,13 +69,8 @@ along_false prefix f b = ap (λ x. cond x (Some f) None) b
 
 -- what comes after the choice does not lie along it
 behind_false : (prefix f : List ℕ) → comes_before f prefix ≡ true → starts_with nat_eq f prefix ≡ false
-behind_false prefix f less = elim (cases_Bool (starts_with nat_eq f prefix)) [
-  | inl b ↦ absurd (false≢true (sym (begins_behind prefix f b) ∙ less))
-  | inr e ↦ e
-]
-
-not_open : (v : Verdict) → v ≡ Yes → is_open v ≡ false
-not_open v e = ap is_open e
+behind_false prefix f less = false_from_ne_true (starts_with nat_eq f prefix) (λ b.
+    false≢true (sym (begins_behind prefix f b) ∙ less))
 
 -- ---- The stages.
 
@@ -125,25 +115,22 @@ module _ (sizes : List ℕ) (verdict : List ℕ → Verdict) (start : Start) (so
   pub judged_admits : admits sizes p ≡ true
   judged_admits = (judged_is sizes verdict start begun.first begun.begins begun.whole some (length judged) p here.next).admitted
 
+  along_of : {o : Option (List ℕ)} → along ≡ o → if_begins p (Some begun.first) ≡ o
+  along_of e = ap (if_begins p) (sym begun.begins) ∙ sym here.along_is ∙ e
+
   -- the choice along which the prefix lies
   pub along_some : (f : List ℕ) → along ≡ Some f → (first_of_start sizes start ≡ Some f) × IsWhole sizes f × (starts_with nat_eq f p ≡ true)
-  along_some f e = by (cases_Bool (starts_with nat_eq begun.first p))
-    where
-      by : ((starts_with nat_eq begun.first p ≡ true) ⊎ (starts_with nat_eq begun.first p ≡ false)) → (first_of_start sizes start ≡ Some f) × IsWhole sizes f × (starts_with nat_eq f p ≡ true)
-      by (inl b) =
-          let all : Some begun.first ≡ Some f = sym (along_true p begun.first b) ∙ ap (if_begins p) (sym begun.begins) ∙ sym here.along_is ∙ e in
-          let same : begun.first ≡ f = cc in
-          (begun.begins ∙ ap Some same, subst (IsWhole sizes) same begun.whole, subst (λ x. starts_with nat_eq x p ≡ true) same b)
-      by (inr b) =
-          let none : None ≡ Some f = sym (along_false p begun.first b) ∙ ap (if_begins p) (sym begun.begins) ∙ sym here.along_is ∙ e in
-          cc
+  along_some f e = elim (cases_Bool (starts_with nat_eq begun.first p)) [
+    | inl b ↦
+        let all : Some begun.first ≡ Some f = sym (along_true p begun.first b) ∙ along_of e in
+        let same : begun.first ≡ f = cc in
+        (begun.begins ∙ ap Some same, subst (IsWhole sizes) same begun.whole, subst (λ x. starts_with nat_eq x p ≡ true) same b)
+    | inr b ↦ let none : None ≡ Some f = sym (along_false p begun.first b) ∙ along_of e in cc
+  ]
 
   along_none : along ≡ None → starts_with nat_eq begun.first p ≡ false
-  along_none e = by (cases_Bool (starts_with nat_eq begun.first p))
-    where
-      by : ((starts_with nat_eq begun.first p ≡ true) ⊎ (starts_with nat_eq begun.first p ≡ false)) → starts_with nat_eq begun.first p ≡ false
-      by (inl b) = let none : Some begun.first ≡ None = sym (along_true p begun.first b) ∙ ap (if_begins p) (sym begun.begins) ∙ sym here.along_is ∙ e in cc
-      by (inr b) = b
+  along_none e = false_from_ne_true (starts_with nat_eq begun.first p) (λ b.
+      let none : Some begun.first ≡ None = sym (along_true p begun.first b) ∙ along_of e in cc)
 
   less_none : along ≡ None → comes_before begun.first p ≡ true
   less_none e = elim (judged_is sizes verdict start begun.first begun.begins begun.whole some (length judged) p here.next).reaches_to [
@@ -158,13 +145,9 @@ module _ (sizes : List ℕ) (verdict : List ℕ → Verdict) (start : Start) (so
       let next = open_behind sizes verdict start begun.first begun.begins begun.whole some (length judged) p here.next e room b in
       at_judging front_more (record {
         next = ap (slice_get (visited sizes verdict start)) (sym longer) ∙ next;
-        along_is = none ∙ sym (along_false (p ++ 0 ∷ []) begun.first (still b (cases_Bool (starts_with nat_eq begun.first (p ++ 0 ∷ []))))) ∙ ap (if_begins (p ++ 0 ∷ [])) (sym begun.begins);
+        along_is = none ∙ sym (along_false (p ++ 0 ∷ []) begun.first (false_from_ne_true (starts_with nat_eq begun.first (p ++ 0 ∷ [])) (λ h. false≢true (sym b ∙ begins_front p begun.first 0 h)))) ∙ ap (if_begins (p ++ 0 ∷ [])) (sym begun.begins);
         given_all = given_none (ap is_yes e);
       })
-    where
-      still : starts_with nat_eq begun.first p ≡ false → ((starts_with nat_eq begun.first (p ++ 0 ∷ []) ≡ true) ⊎ (starts_with nat_eq begun.first (p ++ 0 ∷ []) ≡ false)) → starts_with nat_eq begun.first (p ++ 0 ∷ []) ≡ false
-      still b (inl h) = absurd (false≢true (sym b ∙ begins_front p begun.first 0 h))
-      still b (inr h) = h
   after_open e room (Some f) is =
       let parts = along_some f is in
       let q : ℕ = slice_index f (length p) in
@@ -204,7 +187,7 @@ module _ (sizes : List ℕ) (verdict : List ℕ → Verdict) (start : Start) (so
 
   pub after_yes_behind : verdict p ≡ Yes → along ≡ None → (c : List ℕ) → slice_get (completions sizes p) 0 ≡ Some c → IsGiving sizes verdict start (length p) c (judged ++ p ∷ []) given
   after_yes_behind e none c first =
-      let member = completion_begins sizes p c (got_at (completions sizes p) 0 c first) in
+      let member = completion_whole sizes p c (got_at (completions sizes p) 0 c first) in
       after_yes e begun.first c begun.begins member.0 member.1 (all_from sizes p begun.first c (less_none none) first)
 
   pub after_yes_at : verdict p ≡ Yes → (o : Option (List ℕ)) → along ≡ o → (c : List ℕ) → MatchOption o (slice_get (completions sizes p) 0 ≡ Some c) (λ f. c ≡ f)
@@ -244,10 +227,6 @@ found_kept test keep (x ∷ xs) d e k = by (test x) (keep x) refl refl e (λ h. 
     by false true s t h rest = ap (λ b. cond b (Some x) (find test (filter keep xs))) s ∙ rest h
     by false false s t h rest = rest h
 
-found_none : (test : List ℕ → Bool) (xs : List (List ℕ)) → ((x : List ℕ) → IsIn xs x → test x ≡ false) → find test xs ≡ None
-found_none test [] none = refl
-found_none test (x ∷ xs) none = ap (λ b. cond b (Some x) (find test xs)) (none x (inl refl)) ∙ found_none test xs (λ y i. none y (inr i))
-
 module _ (sizes : List ℕ) (verdict : List ℕ → Verdict) (start : Start) (some : ArePositive sizes) (depth : ℕ) (c : List ℕ) (judged given : List (List ℕ))
     (front : judged ≡ take (length judged) (visited sizes verdict start)) (here : IsGiving sizes verdict start depth c judged given) where
   begun_giving : HasBegun sizes start
@@ -265,7 +244,7 @@ module _ (sizes : List ℕ) (verdict : List ℕ → Verdict) (start : Start) (so
   given_longer next d e long first =
       let beside = beside_is sizes c next here.whole.0 e in
       let is : filled sizes next ≡ d = (let both : Some (filled sizes next) ≡ Some d = sym (first_completion_is sizes next some beside.admitted) ∙ first in cc) in
-      let member = completion_begins sizes next d (got_at (completions sizes next) 0 d first) in
+      let member = completion_whole sizes next d (got_at (completions sizes next) 0 d first) in
       let next_begins : starts_with nat_eq next (take depth c) ≡ true = beside_begins sizes c next depth e long in
       let d_begins : starts_with nat_eq d (take depth c) ≡ true = begins_through (take depth c) next d next_begins member.1 in
       let length_is : length (take depth c) ≡ depth = length-take-le depth c here.depth_is in
@@ -294,12 +273,9 @@ module _ (sizes : List ℕ) (verdict : List ℕ → Verdict) (start : Start) (so
 
   -- a later completion of the front is not the choice itself
   other_choice : (x : List ℕ) → IsWhole sizes x → comes_before c x ≡ true → starts_with nat_eq x c ≡ false
-  other_choice x w less = elim (cases_Bool (starts_with nat_eq x c)) [
-    | inl b ↦
-        let same : x ≡ c = begins_whole x c (omega (arith, w.1, here.whole.1)) b in
-        absurd (false≢true (sym (not_itself c) ∙ ap (comes_before c) (sym same) ∙ less))
-    | inr e ↦ e
-  ]
+  other_choice x w less = false_from_ne_true (starts_with nat_eq x c) (λ b.
+      let same : x ≡ c = begins_whole x c (omega (arith, w.1, here.whole.1)) b in
+      false≢true (sym (not_itself c) ∙ ap (comes_before c) (sym same) ∙ less))
 
   given_all_of : find (comes_before c) (completions sizes (take depth c)) ≡ None → given ++ c ∷ [] ≡ given_by sizes verdict start judged
   given_all_of none = sym (append-nil (given ++ c ∷ [])) ∙ ap (λ o. (given ++ c ∷ []) ++ at_or_after o (completions sizes (take depth c))) (sym none) ∙ given_one
@@ -316,7 +292,7 @@ module _ (sizes : List ℕ) (verdict : List ℕ → Verdict) (start : Start) (so
       let y_admits = (judged_is sizes verdict start begun_giving.first begun_giving.begins begun_giving.whole some (length judged - 1) y here.last).admitted in
       let beside = beside_is sizes c next here.whole.0 e in
       let beside_y = beside_is sizes y next y_admits from_front in
-      let none : find (comes_before c) (completions sizes y) ≡ None = found_none (comes_before c) (completions sizes y) (λ x i. none_of beside beside_y x i (cases_Bool (comes_before c x))) in
+      let none : find (comes_before c) (completions sizes y) ≡ None = none_found (comes_before c) (completions sizes y) (none_of beside beside_y) in
       at_judging front (record {
         next = ap (slice_get (visited sizes verdict start)) (sym upcoming) ∙ r.0;
         along_is = sym (along_false next begun_giving.first (behind_false next begun_giving.first r.1)) ∙ ap (if_begins next) (sym begun_giving.begins);
@@ -324,29 +300,27 @@ module _ (sizes : List ℕ) (verdict : List ℕ → Verdict) (start : Start) (so
       })
     where
       none_of : IsBeside sizes c next → IsBeside sizes (take depth c) next → (x : List ℕ) → IsIn (completions sizes (take depth c)) x
-          → ((comes_before c x ≡ true) ⊎ (comes_before c x ≡ false)) → comes_before c x ≡ false
-      none_of beside beside_y x i (inr e) = e
-      none_of beside beside_y x i (inl less) =
-          let member = completion_begins sizes (take depth c) x i in
+          → comes_before c x ≡ false
+      none_of beside beside_y x i = false_from_ne_true (comes_before c x) (λ less.
+          let member = completion_whole sizes (take depth c) x i in
           let late : comes_before x next ≡ false = beside.least x member.0.0 less (other_choice x member.0 less) in
-          absurd (false≢true (sym late ∙ before_beside (take depth c) next x beside_y.after beside_y.apart member.1))
+          false≢true (sym late ∙ before_beside (take depth c) next x beside_y.after beside_y.apart member.1))
 
   -- nothing is left
   pub given_end : next_beside sizes c ≡ None → {current : List ℕ} {other : Option (List ℕ)} → IsWalk sizes verdict start Done current other judged (given ++ c ∷ [])
   given_end e =
       let y : List ℕ = take depth c in
       let after = closed_none sizes verdict start begun_giving.first begun_giving.begins begun_giving.whole some (length judged - 1) y here.last (ap is_open here.yes) (none_of_front sizes c depth e) in
-      let none : find (comes_before c) (completions sizes y) ≡ None = found_none (comes_before c) (completions sizes y) (λ x i. none_of x i (cases_Bool (comes_before c x))) in
+      let none : find (comes_before c) (completions sizes y) ≡ None = none_found (comes_before c) (completions sizes y) none_of in
       at_done front (record {
         all = omega (arith, past_length (visited sizes verdict start) (suc (length judged - 1)) after, upcoming);
         given_all = given_all_of none;
       })
     where
-      none_of : (x : List ℕ) → IsIn (completions sizes (take depth c)) x → ((comes_before c x ≡ true) ⊎ (comes_before c x ≡ false)) → comes_before c x ≡ false
-      none_of x i (inr l) = l
-      none_of x i (inl less) =
-          let member = completion_begins sizes (take depth c) x i in
-          absurd (false≢true (sym (other_choice x member.0 less) ∙ none_beside sizes c x e here.whole.0 member.0.0 less))
+      none_of : (x : List ℕ) → IsIn (completions sizes (take depth c)) x → comes_before c x ≡ false
+      none_of x i = false_from_ne_true (comes_before c x) (λ less.
+          let member = completion_whole sizes (take depth c) x i in
+          false≢true (sym (other_choice x member.0 less) ∙ none_beside sizes c x e here.whole.0 member.0.0 less))
 
 -- ---- The same current under other names.
 

@@ -1,7 +1,7 @@
 -- Where a start begins, and the first answer.
-use Rattle.std.proofs.Common.{◌≡◌, ℕ, true, false, cond, Bool, List, [], ◌∷◌, length, Option, Some, None, IfSome, MatchOption, slice_get, ap, sym, subst, ◌∙◌, refl, inl, arith}
+use Rattle.std.proofs.Common.{◌≡◌, ℕ, true, false, cond, Bool, List, [], ◌∷◌, length, Option, Some, None, IfSome, MatchOption, slice_get, nat_eq, ap, sym, subst, ◌∙◌, refl, arith}
 use Rattle.std.specs.Prelude.{⊤}
-use Rattle.std.specs.List.{filter, find}
+use Rattle.std.specs.List.{filter, find, starts_with}
 use Rattle.std.specs.Iterator.{YieldsFirst, MakesProgress, item_count}
 use Rattle.am_universe.specs.Choice.{choices, IsWhole}
 use Rattle.am_universe.specs.Completions.{completions}
@@ -11,21 +11,22 @@ use Rattle.am_universe.proofs.CompletionLemmas.{completions_are_below}
 use Rattle.am_search.specs.declared.start.Start.{Start}
 use Rattle.am_search.specs.declared.start.Start.TheVariants.{At, After}
 use Rattle.am_search.specs.Start.{comes_before, first_of_start, at_or_after, choices_from}
-use Rattle.am_search.proofs.ChoiceOrder.{found_in, in_filter, filter_step, from_first, member_then_rest}
+use Rattle.am_search.proofs.ChoiceOrder.{got_at, found_in, in_filter, from_first, member_then_rest}
 
 -- ---- A start begins at a whole choice.
 
-got_in : (cs : List (List ℕ)) (c : List ℕ) → slice_get cs 0 ≡ Some c → IsIn cs c
-got_in [] c e = cc
-got_in (d ∷ cs) c e = inl cc
+pub found : (test : List ℕ → Bool) (cs : List (List ℕ)) (c : List ℕ) → find test cs ≡ Some c → IsIn cs c
+found test cs c e = subst (λ o. IfSome o (IsIn cs)) e (found_in test cs)
 
-found : (o : Option (List ℕ)) (cs : List (List ℕ)) (c : List ℕ) → IfSome o (λ f. IsIn cs f) → o ≡ Some c → IsIn cs c
-found None cs c h e = cc
-found (Some f) cs c h e = let same : f ≡ c = cc in subst (IsIn cs) same h
+pub completion_whole : (ns prefix c : List ℕ) → IsIn (completions ns prefix) c
+    → IsWhole ns c × (starts_with nat_eq c prefix ≡ true)
+completion_whole ns prefix c i =
+    let r = in_filter (λ d. starts_with nat_eq d prefix) (choices ns) c i in
+    (whole_from_in ns c r.0, r.1)
 
 pub first_is_whole : (ns : List ℕ) (start : Start) (c : List ℕ) → first_of_start ns start ≡ Some c → IsWhole ns c
-first_is_whole ns (At prefix) c e = whole_from_in ns c (in_filter _ (choices ns) c (got_in (completions ns prefix) c e)).0
-first_is_whole ns (After d) c e = whole_from_in ns c (found (find (comes_before d) (choices ns)) (choices ns) c (found_in (comes_before d) (choices ns)) e)
+first_is_whole ns (At prefix) c e = (completion_whole ns prefix c (got_at (completions ns prefix) 0 c e)).0
+first_is_whole ns (After d) c e = whole_from_in ns c (found (comes_before d) (choices ns) c e)
 
 -- ---- One choice, and then those behind it.
 

@@ -6,7 +6,8 @@ use Rattle.am_universe.proofs.CompletionLemmas.{admits_next}
 use Rattle.am_search.specs.Labels.{has_label}
 use Rattle.am_search.specs.Conflict.{IsConflict}
 use Rattle.am_search.specs.Jumps.{IsConflictUpTo}
-use Rattle.am_search.proofs.Conflicts.{jump, up_to_next, up_to_all, found_next, found_whole, taken_off, longer}
+use Rattle.am_search.proofs.Conflicts.{jump, up_to_next, up_to_all, found_next, found_whole, taken_off}
+use Rattle.std.proofs.lemmas.List.{length_push}
 use Rattle.am_search.proofs.Odometer.{size_at, limited_at, admits_at_most}
 use Rattle.am_search.proofs.jumps.+search_below.Goals as goal
 
@@ -49,7 +50,7 @@ search_below-requires g t c κs within =
     let now : c.push.new.self ≡ c.args.prefix.now ++ c.loop-position.position ∷ [] =
     c.push.ensures.added ∙ ap (λ p. p ++ c.loop-position.position ∷ []) c.loop-position.invariant.same in
     let more : length c.push.new.self ≡ length c.args.prefix.now + 1 =
-    ap length now ∙ longer c.args.prefix.now c.loop-position.position in (
+    ap length now ∙ length_push c.args.prefix.now c.loop-position.position in (
       omega (arith, c.decreases, more, short),
       (
         within,
