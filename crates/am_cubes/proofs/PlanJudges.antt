@@ -9,7 +9,7 @@ use Rattle.am_search.specs.Words.{AreSizes, is_yes}
 use Rattle.am_search.specs.declared.verdict.Verdict.TheVariants.{Yes, No}
 use Rattle.am_masks.specs.GroupView.{verdicts_in}
 use Rattle.am_masks.specs.Words.{MaskedLabels, verdict_at, verdict_of_list}
-use Rattle.am_masks.proofs.Completed.{completion_whole}
+use Rattle.am_search.proofs.Walks.{completion_whole}
 use Rattle.am_eval.specs.Words.{World, Question, is_answer}
 use Rattle.am_eval.proofs.ConditionLaws as conditions
 use Rattle.am_cubes.specs.declared.judged_question.JudgedQuestion.{JudgedQuestion}

@@ -10,7 +10,7 @@ use Rattle.am_labels.specs.Row.{rows_hold}
 use Rattle.am_labels.proofs.RowLawLemmas.{rows_decide}
 use Rattle.am_search.specs.declared.verdict.Verdict.TheVariants.{Yes}
 use Rattle.am_masks.specs.Words.{matches_at, verdict_over, verdict_of_list}
-use Rattle.am_masks.proofs.Completed.{completion_whole}
+use Rattle.am_search.proofs.Walks.{completion_whole}
 use Rattle.am_masks.proofs.VerdictLemmas.{same_verdict}
 use Rattle.am_eval.specs.Tree.{Part}
 use Rattle.am_eval.specs.Question.{Any}

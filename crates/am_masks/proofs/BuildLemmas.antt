@@ -1,7 +1,7 @@
 -- A cube that is built label by label, from the rows of a list of matchers.
 use Rattle.std.proofs.Common.{◌≡◌, ℕ, zero, suc, ◌+◌, ◌<◌, Bool, true, false, not, ◌&&◌, List, [], ◌∷◌, ◌++◌, length, map, get_or, Option, Some, slice_get, All, refl, ap, sym, ◌∙◌, subst, inl, inr, arith}
 use Rattle.std.specs.List.{list_all, list_any, range_with_len, AllByRecursion}
-use Rattle.std.proofs.lemmas.Bool.{cases_Bool, and_right, not-false, not-true}
+use Rattle.std.proofs.lemmas.Bool.{true_from_ne_false, cond_both, and_right, not-false, not-true}
 use Rattle.std.proofs.lemmas.List.{length-map, length-append, get_or_append_left, get_or-append-add}
 use Rattle.std.proofs.lemmas.List.Folds.{list_all-append, list_all-map, list_all_at}
 use Rattle.std.proofs.lemmas.List.FromFn.{get_or-range_with_len, length-range_with_len}
@@ -24,7 +24,7 @@ use Rattle.am_masks.specs.Rows.{all_allow, is_any_of, is_never_true}
 use Rattle.am_masks.specs.Cube.{MaskedLabels, may_at, IsCubeOf}
 use Rattle.am_masks.specs.CubeView.{AscendByLabel, permits_all, permits_none, restricted}
 use Rattle.am_masks.proofs.ListLemmas.{each_map, each_pushed, one_fails, and_true}
-use Rattle.am_masks.proofs.Completed.{completion_whole}
+use Rattle.am_search.proofs.Walks.{completion_whole}
 use Rattle.am_masks.proofs.VerdictLemmas.{same_verdict}
 use Rattle.am_masks.proofs.RowLemmas.{allow_first, allow_first_more, IsRowBelow, rows_by_labels}
 use Rattle.am_masks.proofs.RowLemmas.{all_allow_joined, others_allow, grouped}
@@ -39,13 +39,10 @@ in_range first (suc count) j (inl e) = omega (arith, e)
 in_range first (suc count) j (inr i) = omega (arith, in_range (first + 1) count j i)
 
 at_each : (test : ℕ → Bool) (count j : ℕ) → j < count → list_all test (range_with_len 0 count) ≡ true → test j ≡ true
-at_each test count j h all = elim (cases_Bool (test j)) [
-  | inl passes ↦ passes
-  | inr fails ↦
-      let here : test (get_or (range_with_len 0 count) j 0) ≡ false = ap test (get_or-range_with_len 0 count j 0 h ∙ omega arith) ∙ fails in
-      let not_each = list_all_at test (range_with_len 0 count) j 0 (rw (length-range_with_len 0 count) h) here in
-      let apart : true ≡ false = sym all ∙ not_each in cc
-]
+at_each test count j h all = true_from_ne_false (test j) (λ fails.
+    let here : test (get_or (range_with_len 0 count) j 0) ≡ false = ap test (get_or-range_with_len 0 count j 0 h ∙ omega arith) ∙ fails in
+    let not_each = list_all_at test (range_with_len 0 count) j 0 (rw (length-range_with_len 0 count) h) here in
+    let apart : true ≡ false = sym all ∙ not_each in cc)
 
 -- ---- One label more.
 
@@ -63,55 +60,50 @@ module _ (cube : MaskedLabels) (label : ℕ) (mask : List Bool) (size : ℕ) whe
       ap (λ b. not cube.empty && b) (list_all-append (fits c) cube.masks (m ∷ []) ∙ ap (λ b. list_all (fits c) cube.masks && (b && true)) (fits_at c m h))
       ∙ regrouped (not cube.empty) (list_all (fits c) cube.masks) (get_or mask (get_or c label 0) false)
 
+  -- the cube that is made, by whether the mask permits all, none or some
+  by_mask : (P : MaskedLabels → Type 0) → (permits_all size mask ≡ true → P cube)
+      → (permits_none size mask ≡ true → P (record { empty = true; masks = cube.masks }))
+      → (permits_all size mask ≡ false → permits_none size mask ≡ false
+      → P (record { empty = cube.empty; masks = cube.masks ++ record { label = label; mask = mask } ∷ [] }))
+      → P (restricted cube label mask size)
+  by_mask P all none some =
+      cond_both (permits_all size mask) _ _ P all
+      (λ not_each. cond_both (permits_none size mask) _ _ P none (some not_each))
+
   pub may_restricted : (c : List ℕ) → label < length c → get_or c label 0 < size
       → may_at (restricted cube label mask size) c ≡ (may_at cube c && get_or mask (get_or c label 0) false)
-  may_restricted c h within = elim (cases_Bool (permits_all size mask)) [
-    | inl all ↦
-        let here : get_or mask (get_or c label 0) false ≡ true = at_each (λ j. get_or mask j false) size (get_or c label 0) within all in
-        rw all (sym (and_true (may_at cube c)) ∙ ap (λ b. may_at cube c && b) (sym here))
-    | inr not_each ↦ elim (cases_Bool (permits_none size mask)) [
-      | inl none ↦
-          let here : get_or mask (get_or c label 0) false ≡ false = not-true (get_or mask (get_or c label 0) false) (at_each (λ j. not (get_or mask j false)) size (get_or c label 0) within none) in
-          rw (not_each, none) (sym (and_right (may_at cube c) false refl) ∙ ap (λ b. may_at cube c && b) (sym here))
-      | inr some ↦ rw (not_each, some) (may_of_pushed c h)
-    ]
-  ]
+  may_restricted c h within =
+      by_mask (λ made. may_at made c ≡ (may_at cube c && get_or mask (get_or c label 0) false))
+      (λ all.
+      let here : get_or mask (get_or c label 0) false ≡ true = at_each (λ j. get_or mask j false) size (get_or c label 0) within all in
+      sym (and_true (may_at cube c)) ∙ ap (λ b. may_at cube c && b) (sym here))
+      (λ none.
+      let here : get_or mask (get_or c label 0) false ≡ false = not-true (get_or mask (get_or c label 0) false) (at_each (λ j. not (get_or mask j false)) size (get_or c label 0) within none) in
+      sym (and_right (may_at cube c) false refl) ∙ ap (λ b. may_at cube c && b) (sym here))
+      (λ _ _. may_of_pushed c h)
 
   pub ascend_restricted : AscendByLabel cube.masks → AllByRecursion (λ m. m.label < label) cube.masks → AscendByLabel (restricted cube label mask size).masks
-  ascend_restricted ascend before = elim (cases_Bool (permits_all size mask)) [
-    | inl all ↦ rw all ascend
-    | inr not_each ↦ elim (cases_Bool (permits_none size mask)) [
-      | inl none ↦ rw (not_each, none) ascend
-      | inr some ↦ rw (not_each, some) (ascend_pushed cube.masks (record { label = label; mask = mask }) ascend before)
-    ]
-  ]
+  ascend_restricted ascend before =
+      by_mask (λ made. AscendByLabel made.masks) (λ all. ascend) (λ none. ascend)
+      (λ _ _. ascend_pushed cube.masks (record { label = label; mask = mask }) ascend before)
 
   pub before_restricted : AllByRecursion (λ m. m.label < label) cube.masks → AllByRecursion (λ m. m.label < label + 1) (restricted cube label mask size).masks
   before_restricted before =
       let up = each_map (λ m. m.label < label) (λ m. m.label < label + 1) cube.masks (λ m h. omega (arith, h)) before in
-      elim (cases_Bool (permits_all size mask)) [
-        | inl all ↦ rw all up
-        | inr not_each ↦ elim (cases_Bool (permits_none size mask)) [
-          | inl none ↦ rw (not_each, none) up
-          | inr some ↦ rw (not_each, some) (each_pushed (λ m. m.label < label + 1) cube.masks (record { label = label; mask = mask }) up (omega arith))
-        ]
-      ]
+      by_mask (λ made. AllByRecursion (λ m. m.label < label + 1) made.masks) (λ all. up) (λ none. up)
+      (λ _ _. each_pushed (λ m. m.label < label + 1) cube.masks (record { label = label; mask = mask }) up (omega arith))
 
   pub proper_restricted : (ns : List ℕ) → label < length ns → size ≡ get_or ns label 0 → AllByRecursion (IsProper ns) cube.masks → AllByRecursion (IsProper ns) (restricted cube label mask size).masks
-  proper_restricted ns h e proper = elim (cases_Bool (permits_all size mask)) [
-    | inl all ↦ rw all proper
-    | inr not_each ↦ elim (cases_Bool (permits_none size mask)) [
-      | inl none ↦ rw (not_each, none) proper
-      | inr some ↦
-          let out = one_fails (λ j. get_or mask j false) (range_with_len 0 size) not_each in
-          let free = one_fails (λ j. not (get_or mask j false)) (range_with_len 0 size) some in
-          rw (not_each, some) (each_pushed (IsProper ns) cube.masks (record { label = label; mask = mask }) proper (record {
-            within = h;
-            some = (free.0, omega (arith, in_range 0 size free.0 free.1, e), not-false (get_or mask free.0 false) free.2);
-            not_each = (out.0, omega (arith, in_range 0 size out.0 out.1, e), out.2);
-          }))
-    ]
-  ]
+  proper_restricted ns h e proper =
+      by_mask (λ made. AllByRecursion (IsProper ns) made.masks) (λ all. proper) (λ none. proper)
+      (λ not_each some.
+      let out = one_fails (λ j. get_or mask j false) (range_with_len 0 size) not_each in
+      let free = one_fails (λ j. not (get_or mask j false)) (range_with_len 0 size) some in
+      each_pushed (IsProper ns) cube.masks (record { label = label; mask = mask }) proper (record {
+        within = h;
+        some = (free.0, omega (arith, in_range 0 size free.0 free.1, e), not-false (get_or mask free.0 false) free.2);
+        not_each = (out.0, omega (arith, in_range 0 size out.0 out.1, e), out.2);
+      }))
 
 -- ---- The labels so far.
 

@@ -1,36 +1,16 @@
 -- The completions of a prefix: which they are, and one that goes on as a function says.
-use Rattle.std.proofs.Common.{◌≡◌, ℕ, zero, suc, ◌<◌, ◌≤◌, Bool, true, List, [], ◌∷◌, ◌++◌, length, get_or, nat_eq, nat_lt, refl, ap, sym, arith}
+use Rattle.std.proofs.Common.{◌≡◌, ℕ, zero, suc, ◌<◌, ◌≤◌, Bool, true, List, [], ◌∷◌, ◌++◌, length, get_or, nat_eq, nat_lt, refl, ap, arith}
 use Rattle.std.specs.List.{starts_with, AllByRecursion}
-use Rattle.std.proofs.lemmas.Bool.{and_parts, and_from, eq-eqb, eqb-true, lt-ltb}
-use Rattle.am_universe.specs.Choice.{choices, admits, IsWhole}
+use Rattle.std.proofs.lemmas.Bool.{and_parts, and_from, eq-eqb, lt-ltb}
+use Rattle.am_universe.specs.Choice.{admits}
 use Rattle.am_universe.specs.Completions.{completions}
-use Rattle.am_universe.proofs.ListLemmas.{IsIn, IsIn-from_Contains, AllByRecursion-at, AllByRecursion-each}
-use Rattle.am_universe.proofs.ChoiceLemmas.{whole_from_in, choices_whole}
-use Rattle.am_masks.proofs.ListLemmas.{from_filter, into_filter}
+use Rattle.am_universe.proofs.ListLemmas.{IsIn, AllByRecursion-at, AllByRecursion-each}
+use Rattle.am_search.proofs.VisitedPrefixes.{in_completions}
+use Rattle.am_search.proofs.Walks.{completion_whole}
 
 -- a choice begins with a prefix
 abbrev pub begins : List ℕ → List ℕ → Bool
 begins c prefix = starts_with nat_eq c prefix
-
-pub completion_whole : (ns prefix c : List ℕ) → IsIn (completions ns prefix) c → IsWhole ns c × (begins c prefix ≡ true)
-completion_whole ns prefix c i =
-    let r = from_filter (λ d. starts_with nat_eq d prefix) (choices ns) c i in (whole_from_in ns c r.0, r.1)
-
-pub is_completion : (ns prefix c : List ℕ) → IsWhole ns c → begins c prefix ≡ true → IsIn (completions ns prefix) c
-is_completion ns prefix c whole e = into_filter (λ d. starts_with nat_eq d prefix) (choices ns) c (IsIn-from_Contains (choices ns) c ((choices_whole ns c).1 whole)) e
-
--- it is as long at least, and has its positions
-pub begins_long : (c prefix : List ℕ) → begins c prefix ≡ true → length prefix ≤ length c
-begins_long c [] e = omega arith
-begins_long [] (p ∷ prefix) e = cc
-begins_long (q ∷ c) (p ∷ prefix) e =
-    let rest = begins_long c prefix (and_parts (nat_eq p q) (begins c prefix) e).1 in omega arith
-
-pub begins_at : (c prefix : List ℕ) (i : ℕ) → begins c prefix ≡ true → i < length prefix → get_or c i 0 ≡ get_or prefix i 0
-begins_at c [] i e h = absurd (omega arith)
-begins_at [] (p ∷ prefix) i e h = cc
-begins_at (q ∷ c) (p ∷ prefix) zero e h = sym (eqb-true p q (and_parts (nat_eq p q) (begins c prefix) e).0)
-begins_at (q ∷ c) (p ∷ prefix) (suc i) e h = begins_at c prefix i (and_parts (nat_eq p q) (begins c prefix) e).1 (omega arith)
 
 -- a choice that begins with a longer prefix begins with its front
 begins_with_front : (c prefix more : List ℕ) → begins c (prefix ++ more) ≡ true
@@ -45,7 +25,7 @@ pub completion_of_front : (ns prefix more c : List ℕ) → IsIn (completions ns
     → IsIn (completions ns prefix) c
 completion_of_front ns prefix more c i =
     let r = completion_whole ns (prefix ++ more) c i in
-    is_completion ns prefix c r.0 (begins_with_front c prefix more r.1)
+    in_completions ns prefix c r.0 (begins_with_front c prefix more r.1)
 
 -- what holds of each completion of a prefix holds of each of a longer one
 pub each_completion : (P : List ℕ → Type 0) (ns prefix more : List ℕ)
@@ -71,16 +51,12 @@ completed_length f [] prefix = refl
 completed_length f (n ∷ ns) [] = ap suc (completed_length (λ i. f (suc i)) ns [])
 completed_length f (n ∷ ns) (p ∷ prefix) = ap suc (completed_length (λ i. f (suc i)) ns prefix)
 
-nothing_admitted : (ns : List ℕ) → admits ns [] ≡ true
-nothing_admitted [] = refl
-nothing_admitted (n ∷ ns) = refl
-
 completed_admitted : (f : ℕ → ℕ) (ns prefix : List ℕ) → admits ns prefix ≡ true → IsBelow f ns → admits ns (completed f ns prefix) ≡ true
 unfolding completed
 completed_admitted f [] prefix a below = refl
 completed_admitted f (n ∷ ns) [] a below =
     and_from (nat_lt (f 0) n) (admits ns (completed (λ i. f (suc i)) ns [])) (lt-ltb (f 0) n (below 0 (omega arith)))
-    (completed_admitted (λ i. f (suc i)) ns [] (nothing_admitted ns) (λ i h. below (suc i) (omega arith)))
+    (completed_admitted (λ i. f (suc i)) ns [] refl (λ i h. below (suc i) (omega arith)))
 completed_admitted f (n ∷ ns) (p ∷ prefix) a below =
     let parts = and_parts (nat_lt p n) (admits ns prefix) a in
     and_from (nat_lt p n) (admits ns (completed (λ i. f (suc i)) ns prefix)) parts.0
@@ -98,7 +74,7 @@ completed_begins f (n ∷ ns) (p ∷ prefix) a =
 -- it is a completion, and goes on as it should
 pub completed_in : (f : ℕ → ℕ) (ns prefix : List ℕ) → admits ns prefix ≡ true → IsBelow f ns → IsIn (completions ns prefix) (completed f ns prefix)
 completed_in f ns prefix a below =
-    is_completion ns prefix (completed f ns prefix) (completed_admitted f ns prefix a below, completed_length f ns prefix) (completed_begins f ns prefix a)
+    in_completions ns prefix (completed f ns prefix) (completed_admitted f ns prefix a below, completed_length f ns prefix) (completed_begins f ns prefix a)
 
 pub completed_at : (f : ℕ → ℕ) (ns prefix : List ℕ) (i : ℕ) → length prefix ≤ i → i < length ns → get_or (completed f ns prefix) i 0 ≡ f i
 unfolding completed

@@ -10,7 +10,10 @@ use Rattle.am_masks.specs.Verdicts.{verdict_over}
 use Rattle.am_masks.specs.Cube.{reaches, permits_at, may_at, verdict_at}
 use Rattle.am_masks.specs.CubeView.{AscendByLabel}
 use Rattle.am_masks.proofs.ListLemmas.{each_both, each_map, each_passes, all_pass, one_fails, not_all, some_passes, none_passes}
-use Rattle.am_masks.proofs.Completed.{begins, completion_whole, begins_long, begins_at, IsBelow, completed, completed_in, completed_at}
+use Rattle.am_search.proofs.Conflicts.{begins_at}
+use Rattle.am_search.proofs.PrefixOrder.{begins_length}
+use Rattle.am_search.proofs.Walks.{completion_whole}
+use Rattle.am_masks.proofs.Completed.{begins, IsBelow, completed, completed_in, completed_at}
 use Rattle.am_masks.proofs.VerdictLemmas.{verdict_yes, verdict_open, verdict_no}
 
 -- ---- One mask.
@@ -31,7 +34,7 @@ fits_at prefix m h = ap (λ b. not b || permits_at prefix m) (lt-ltb m.label (le
 -- what fits a choice fits its prefixes, and the other way round where the prefix has the position
 pub fits_prefix : (c prefix : List ℕ) (m : LabelMask) → begins c prefix ≡ true → fits c m ≡ true → fits prefix m ≡ true
 fits_prefix c prefix m b e = fits_from prefix m (λ h.
-    let long = begins_long c prefix b in
+    let long = begins_length prefix c b in
     let within : m.label < length c = omega (arith, h) in
     ap (λ p. get_or m.mask p false) (sym (begins_at c prefix m.label b h)) ∙ sym (fits_at c m within) ∙ e)
 

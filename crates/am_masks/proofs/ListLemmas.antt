@@ -1,6 +1,6 @@
--- Tests over lists, and what stands in a filtered list.
-use Rattle.std.proofs.Common.{◌≡◌, ◌≢◌, ℕ, zero, suc, ◌+◌, ◌<◌, ◌≤◌, Bool, true, false, ◌&&◌, ◌||◌, List, [], ◌∷◌, ◌++◌, refl, ap, sym, ◌∙◌, inl, inr, arith}
-use Rattle.std.specs.List.{list_all, list_any, filter, range_with_len, AllByRecursion}
+-- Tests over lists.
+use Rattle.std.proofs.Common.{◌≡◌, ◌≢◌, ℕ, zero, suc, ◌+◌, ◌<◌, ◌≤◌, Bool, true, false, ◌&&◌, ◌||◌, List, [], ◌∷◌, ◌++◌, refl, ap, ◌∙◌, inl, inr, arith}
+use Rattle.std.specs.List.{list_all, list_any, range_with_len, AllByRecursion}
 use Rattle.std.proofs.lemmas.Bool.{cases_Bool, and_parts, and_from, or_left, or_right, cases_eq}
 use Rattle.am_universe.proofs.ListLemmas.{IsIn}
 
@@ -57,24 +57,6 @@ same_all p q (x ∷ xs) all = ap (λ b. b && list_all p xs) all.0 ∙ ap (λ b. 
 pub same_any : {X : Type 0} (p q : X → Bool) (xs : List X) → AllByRecursion (λ x. p x ≡ q x) xs → list_any p xs ≡ list_any q xs
 same_any p q [] all = refl
 same_any p q (x ∷ xs) all = ap (λ b. b || list_any p xs) all.0 ∙ ap (λ b. q x || b) (same_any p q xs all.1)
-
--- ---- A filtered list.
-
-pub from_filter : {X : Type 0} (test : X → Bool) (xs : List X) (x : X) → IsIn (filter test xs) x → IsIn xs x × (test x ≡ true)
-from_filter test [] x i = absurd i
-from_filter test (y ∷ xs) x i = elim (cases_Bool (test y)) [
-  | inl passes ↦ let j : IsIn (y ∷ filter test xs) x = rw passes at i in
-      elim j [ inl same ↦ (inl same, ap test (sym same) ∙ passes) | inr k ↦ let r = from_filter test xs x k in (inr r.0, r.1) ]
-  | inr fails ↦ let r = from_filter test xs x (rw fails at i) in (inr r.0, r.1)
-]
-
-pub into_filter : {X : Type 0} (test : X → Bool) (xs : List X) (x : X) → IsIn xs x → test x ≡ true → IsIn (filter test xs) x
-into_filter test [] x i e = absurd i
-into_filter test (y ∷ xs) x (inl same) e = rw (ap test same ∙ e) (inl same)
-into_filter test (y ∷ xs) x (inr i) e = elim (cases_Bool (test y)) [
-  | inl passes ↦ rw passes (inr (into_filter test xs x i e))
-  | inr fails ↦ rw fails (into_filter test xs x i e)
-]
 
 -- ---- Numbers in a row.
 
