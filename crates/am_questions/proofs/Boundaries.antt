@@ -1,5 +1,5 @@
 -- Where a text may be cut.
-use Rattle.std.proofs.Common.{◌≡◌, sym, subst, ℕ, ◌<◌, List, length, get_or, Bool, false, not}
+use Rattle.std.proofs.Common.{◌≡◌, sym, subst, ℕ, ◌<◌, List, get_or, Bool, false, not}
 use Rattle.std.proofs.Common.{Some, arith}
 use Rattle.std.specs.Prelude.{◌==◌}
 use Rattle.std.specs.List.{prefix_len}
@@ -38,10 +38,6 @@ behind_plain bs n e = at_stop is_plain bs n plain_stops e
 
 pub behind_word : (bs : List ℕ) (n : ℕ) → n ≡ prefix_len is_word_character bs → IsCharBoundary bs n
 behind_word bs n e = at_stop is_word_character bs n word_stops e
-
-pub behind_first : (bs : List ℕ) → IsUtf8 bs → 0 < length bs → get_or bs 0 0 < 128
-    → IsCharBoundary bs 1
-behind_first bs u l small = IsCharBoundary-after_ascii bs 0 u l small
 
 pub behind_brace : (bs : List ℕ) (n : ℕ) → IsUtf8 bs → brace_len bs ≡ Some n → IsCharBoundary bs n
 behind_brace bs n u e =

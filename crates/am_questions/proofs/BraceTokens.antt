@@ -4,28 +4,21 @@ use Rattle.std.proofs.Common.{List, ◌++◌, length, take, drop, get_or, Bool, 
 use Rattle.std.proofs.Common.{Some, arith}
 use Rattle.std.specs.Prelude.{◌==◌}
 use Rattle.std.specs.List.{find, range_with_len}
-use Rattle.std.proofs.lemmas.List.{take-append-drop, take-append-le, get_or_append_left}
+use Rattle.std.proofs.lemmas.List.{take-append-drop, get_or_append_left}
 use Rattle.std.proofs.lemmas.List.{length-append, length-take-le}
 use Rattle.std.proofs.lemmas.Bool.{cases_lt, cases_Bool, eqb-true}
-use Rattle.am_labels.specs.MatcherText.{is_escaped, is_quote, quotes_before}
+use Rattle.am_labels.specs.MatcherText.{quotes_before}
 use Rattle.am_labels.specs.BraceToken.{is_closing_brace, first_closing, brace_len}
 use Rattle.am_labels.proofs.BraceTokenLemmas.{find_at, opened}
+use Rattle.am_labels.proofs.MatcherTextBodies.{quote_front}
 
 -- ---- a place says the same, whatever stands behind
-
-escaped_before : (xs ys : List ℕ) (i : ℕ) → i ≤ length xs
-    → is_escaped (xs ++ ys) i ≡ is_escaped xs i
-escaped_before xs ys i l = rw take-append-le refl
-
-quote_before : (xs ys : List ℕ) (i : ℕ) → i < length xs → is_quote (xs ++ ys) i ≡ is_quote xs i
-quote_before xs ys i l =
-    rw (get_or_append_left xs ys 0 i l, escaped_before xs ys i (omega arith)) refl
 
 same_before : (xs ys : List ℕ) (i : ℕ) → i ≤ length xs
     → quotes_before (xs ++ ys) i ≡ quotes_before xs i
 same_before xs ys zero l = refl
 same_before xs ys (suc i) l =
-    rw (same_before xs ys i (omega arith), quote_before xs ys i (omega arith)) refl
+    rw (same_before xs ys i (omega arith), quote_front xs ys i (omega arith)) refl
 
 closes_before : (xs ys : List ℕ) (i : ℕ) → i < length xs → is_closing_brace (xs ++ ys) i ≡ is_closing_brace xs i
 closes_before xs ys i l =

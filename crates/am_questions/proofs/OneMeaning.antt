@@ -6,7 +6,7 @@ use Rattle.am_files.specs.ConfigFile.{Configuration}
 use Rattle.am_files.proofs.PathTexts.{path_text-injective}
 use Rattle.am_eval.specs.Tree.{Tree, Part, Not, And, Or}
 use Rattle.am_eval.specs.Question.{Question, Simple, Receiver, Ends, Enters, Braces}
-use Rattle.am_questions.specs.Grammar.{Written, WrittenAny, WrittenSilenced, WrittenInhibited}
+use Rattle.am_questions.specs.Grammar.{Written}
 use Rattle.am_questions.specs.Grammar.{WrittenReceiver, WrittenEnds, WrittenEnters, WrittenBraces}
 use Rattle.am_questions.specs.Tokens.{Token}
 use Rattle.am_questions.specs.Grammar.{IsQuestion}
@@ -15,9 +15,6 @@ use Rattle.am_questions.proofs.TokenTexts.{one_list as one_tokens}
 use Rattle.am_questions.proofs.Takes.{one_tree}
 
 one_simple : (c : Configuration) (w : Written) (p q : Simple) → Means c w p → Means c w q → p ≡ q
-one_simple c WrittenAny p q h k = h ∙ sym k
-one_simple c WrittenSilenced p q h k = h ∙ sym k
-one_simple c WrittenInhibited p q h k = h ∙ sym k
 one_simple c (WrittenReceiver name) p q h k =
     h.2 ∙ ap Receiver (same_Some h.0 k.0 (sym h.1 ∙ k.1)) ∙ sym k.2
 one_simple c (WrittenEnds text) p q h k =
@@ -25,6 +22,7 @@ one_simple c (WrittenEnds text) p q h k =
 one_simple c (WrittenEnters text) p q h k =
     h.2 ∙ ap Enters (path_text-injective h.0 k.0 (sym h.1.0 ∙ k.1.0)) ∙ sym k.2
 one_simple c (WrittenBraces text) p q h k = h.4 ∙ ap Braces (one_list text h.0 k.0 h.1 k.1) ∙ sym k.4
+one_simple c _ p q h k = h ∙ sym k
 
 pub one_meaning : (c : Configuration) (tree : Tree Written) (p q : Question)
     → TreeMeans c tree p → TreeMeans c tree q → p ≡ q

@@ -1,5 +1,5 @@
 -- What is read between quotes is what is spelled there, and nothing else is.
-use Rattle.std.proofs.Common.{◌≡◌, refl, sym, ◌∙◌, ap, subst, inl, inr, ℕ, zero, suc, ◌+◌, ◌<◌, ◌≤◌}
+use Rattle.std.proofs.Common.{◌≡◌, refl, sym, ◌∙◌, ap, inl, inr, ℕ, zero, suc, ◌+◌, ◌<◌, ◌≤◌}
 use Rattle.std.proofs.Common.{List, [], ◌∷◌, ◌++◌}
 use Rattle.std.proofs.Common.{length, take, drop, get_or, true, false, Option, Some, None}
 use Rattle.std.proofs.Common.{option_map, arith, append_assoc, add-one, drop-cons}
@@ -8,10 +8,10 @@ use Rattle.std.proofs.lemmas.List.Sums.{prefix_len_stops}
 use Rattle.std.specs.Prelude.{◌==◌, ◌≢◌}
 use Rattle.std.specs.List.{list_all, prefix_len}
 use Rattle.std.proofs.lemmas.Bool.{and_parts, cases_Bool, cases_lt, eqb-true}
-use Rattle.std.proofs.lemmas.Option.{some_pair_parts}
 use Rattle.std.proofs.lemmas.Bool.Decides.{nat_tests}
 use Rattle.am_labels.specs.MatcherText.{has_escape, byte_of_escape}
 use Rattle.am_labels.proofs.MatcherTextLists.{all_of_prefix}
+use Rattle.am_labels.proofs.MatcherTextWhole.{said_again}
 use Rattle.am_questions.specs.Tokens.{SpellsCharacter, SpellsQuoted}
 use Rattle.am_questions.specs.TokenReading.{is_plain, begun_with, read_quoted}
 
@@ -90,23 +90,17 @@ byte_before : (c : ℕ) (head text value rest : List ℕ) (read : Option (List �
 byte_before c head text value rest None s h e = absurd cc
 byte_before c head text value rest (Some p) s h e =
     let given = h p.0 p.1 refl in
-    let same = some_pair_parts (c ∷ p.0) value p.1 rest e in
-    let value_is : c ∷ p.0 ≡ value = same.0 in
-    let rest_is : p.1 ≡ rest = same.1 in
-    let now : IsQuoted (head ++ text) (c ∷ p.0) p.1 = (
+    said_again (IsQuoted (head ++ text)) (c ∷ p.0) value p.1 rest e (
       head ++ given.0,
       rw (append_assoc, given.1) refl,
       (head, given.0, refl, s, given.2),
-    ) in
-    rw (← value_is, ← rest_is) now
+    )
 
 -- at the closing quote
 closed : (text value rest : List ℕ) → read_quoted (34 ∷ text) ≡ Some (value, rest)
     → IsQuoted (34 ∷ text) value rest
 closed text value rest e =
-    let same = some_pair_parts [] value text rest (sym (quote_step text) ∙ e) in
-    let now : IsQuoted (34 ∷ text) [] text = ([], refl, refl) in
-    rw (← same.0, ← same.1) now
+    said_again (IsQuoted (34 ∷ text)) [] value text rest (sym (quote_step text) ∙ e) ([], refl, refl)
 
 escape_spells : (d : ℕ) → has_escape d ≡ true → SpellsCharacter (92 ∷ d ∷ []) (byte_of_escape d)
 escape_spells d h = elim (cases_Bool (d == 34)) [
@@ -139,18 +133,13 @@ read_within n [] value rest l e = absurd (let z = read_empty in cc)
 read_within zero (c ∷ text) value rest l e = absurd (omega arith)
 read_within (suc n) (c ∷ text) value rest l e = elim (cases_Bool (c == 34)) [
   | inl q ↦
-      let is : c ≡ 34 = eqb-true c 34 q in
-      let e' : read_quoted (34 ∷ text) ≡ Some (value, rest) =
-      subst (λ (b : ℕ). read_quoted (b ∷ text) ≡ Some (value, rest)) is e in
-      rw is (closed text value rest e')
+      let is : c ≡ 34 = eqb-true c 34 q in rw is (closed text value rest (rw is at e))
   | inr q ↦ elim (cases_Bool (c == 92)) [
     | inl b ↦
         let is : c ≡ 92 = eqb-true c 92 b in
-        let e' : read_quoted (92 ∷ text) ≡ Some (value, rest) =
-        subst (λ (b : ℕ). read_quoted (b ∷ text) ≡ Some (value, rest)) is e in
         rw is (escaped text value rest
         (λ d more v r same read.
-        read_within n more v r (let t = ap length same in omega arith) read) e')
+        read_within n more v r (let t = ap length same in omega arith) read) (rw is at e))
     | inr b ↦
         let one : c ≢ 34 = grind (arith, nat_tests) in
         let two : c ≢ 92 = grind (arith, nat_tests) in

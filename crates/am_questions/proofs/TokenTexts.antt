@@ -1,6 +1,6 @@
 -- A text begins with a token exactly where one is read there, and its tokens are read one by one.
 use Rattle.std.proofs.Common.{◌≡◌, refl, sym, ◌∙◌, ap, subst, inl, inr, ℕ, suc, ◌+◌, ◌<◌}
-use Rattle.std.proofs.Common.{List, [], ◌∷◌, ◌++◌, length, take, drop, get_or, Bool, true, false}
+use Rattle.std.proofs.Common.{List, [], ◌∷◌, ◌++◌, length, take, drop, get_or, true, false}
 use Rattle.std.proofs.Common.{Option, Some, None, option_map, arith, append_assoc, length-append}
 use Rattle.std.proofs.Common.{length-drop}
 use Rattle.std.specs.Prelude.{◌==◌, ◌≢◌}
@@ -14,8 +14,9 @@ use Rattle.std.proofs.lemmas.Bool.Decides.{nat_tests}
 use Rattle.am_labels.specs.MatcherText.{is_space, is_blank}
 use Rattle.am_labels.specs.MatcherReading.{without_leading_blanks}
 use Rattle.am_labels.specs.BraceToken.{brace_len}
-use Rattle.am_labels.proofs.MatcherTextLists.{prefix_whole, drop_prefix, all_of_prefix, all_append}
+use Rattle.am_labels.proofs.MatcherTextLists.{prefix_all, prefix_whole, drop_prefix, all_of_prefix, all_append}
 use Rattle.am_labels.proofs.MatcherTextLists.{first_after_prefix}
+use Rattle.am_labels.proofs.MatcherTextWhole.{said_again}
 use Rattle.am_questions.specs.Tokens.{Token, Open, Close, Word, Quoted, BraceList, is_word_character}
 use Rattle.am_questions.specs.Tokens.{SpellsToken, MayFollow, SpellsTokens}
 use Rattle.am_questions.specs.TokenReading.{cut, quoted_token, read_quoted, read_token}
@@ -50,45 +51,27 @@ brace_step text e = rw e refl
 abbrev word_len : List ℕ → ℕ
 word_len text = prefix_len is_word_character text
 
-word_step : (c : ℕ) (text : List ℕ)
-    → (c == 40) ≡ false → (c == 41) ≡ false → (c == 34) ≡ false → (c == 123) ≡ false
-    → read_token (c ∷ text) ≡ Some (cut Word (c ∷ text) (word_len (c ∷ text)))
-unfolding read_token
-word_step c text e f g h = rw (e, f, g, h) refl
-
 -- ---- words
 
 -- what a word does not begin with
-pub record IsNoOther (c : ℕ) : Type 0 where
-  pub no_open : (c == 40) ≡ false
-  pub no_close : (c == 41) ≡ false
-  pub no_quote : (c == 34) ≡ false
-  pub no_brace : (c == 123) ≡ false
-  pub no_space : is_space c ≡ false
+begins_no_other : (c : ℕ) → is_word_character c ≡ true → ((c == 40) ≡ false) × ((c == 41) ≡ false)
+    × ((c == 34) ≡ false) × ((c == 123) ≡ false) × (is_space c ≡ false)
+begins_no_other c h = (
+  grind (arith, nat_tests),
+  grind (arith, nat_tests),
+  grind (arith, nat_tests),
+  grind (arith, nat_tests),
+  grind (arith, nat_tests),
+)
 
-begins_no_other : (c : ℕ) → is_word_character c ≡ true → IsNoOther c
-begins_no_other c h = record {
-  no_open = grind (arith, nat_tests);
-  no_close = grind (arith, nat_tests);
-  no_quote = grind (arith, nat_tests);
-  no_brace = grind (arith, nat_tests);
-  no_space = grind (arith, nat_tests);
-}
-
-begins_word : (c : ℕ) → IsNoOther c → is_word_character c ≡ true
-begins_word c n = rw (n.no_space, n.no_open, n.no_close, n.no_brace, n.no_quote) refl
-
-run_at_end : (p : ℕ → Bool) (xs : List ℕ) → list_all p xs ≡ true
-    → prefix_len p (xs ++ []) ≡ length xs
-run_at_end p [] h = refl
-run_at_end p (x ∷ xs) h =
-    let parts = and_parts (p x) (list_all p xs) h in
-    let more = run_at_end p xs parts.1 in
-    rw (parts.0, more) (omega arith)
+word_step : (c : ℕ) (text : List ℕ) → is_word_character c ≡ true
+    → read_token (c ∷ text) ≡ Some (cut Word (c ∷ text) (word_len (c ∷ text)))
+unfolding read_token
+word_step c text h = let n = begins_no_other c h in rw (n.0, n.1, n.2, n.3) refl
 
 word_length : (word rest : List ℕ) → list_all is_word_character word ≡ true
     → MayFollow (Word word) rest → word_len (word ++ rest) ≡ length word
-word_length word [] h e = run_at_end is_word_character word h
+word_length word [] h e = rw append-nil (prefix_all is_word_character word h)
 word_length word (c ∷ rest) h e = prefix_whole is_word_character word (c ∷ rest) h e
 
 word_is_read : (word rest : List ℕ) → word ≢ [] → list_all is_word_character word ≡ true
@@ -96,12 +79,11 @@ word_is_read : (word rest : List ℕ) → word ≢ [] → list_all is_word_chara
     → read_token (word ++ rest) ≡ Some (Word word, rest)
 word_is_read [] rest some h e = absurd (some refl)
 word_is_read (c ∷ cs) rest some h e =
-    let n = begins_no_other c
-    (and_parts (is_word_character c) (list_all is_word_character cs) h).0 in
+    let first = (and_parts (is_word_character c) (list_all is_word_character cs) h).0 in
     let len = word_length (c ∷ cs) rest h e in
     let front = take_at (c ∷ cs) rest (word_len ((c ∷ cs) ++ rest)) (sym len) in
     let back = drop_at (c ∷ cs) rest (word_len ((c ∷ cs) ++ rest)) (sym len) in
-    word_step c (cs ++ rest) n.no_open n.no_close n.no_quote n.no_brace ∙ rw (front, back) refl
+    word_step c (cs ++ rest) first ∙ rw (front, back) refl
 
 ends_word : (word text : List ℕ) → MayFollow (Word word) (drop (word_len text) text)
 ends_word word [] = tt
@@ -112,26 +94,23 @@ ends_word word (c ∷ text) = elim (cases_Bool (is_word_character c)) [
   | inr n ↦ rw n n
 ]
 
-read_is_word : (c : ℕ) (text : List ℕ) (token : Token) (rest : List ℕ) → IsNoOther c
+read_is_word : (c : ℕ) (text : List ℕ) (token : Token) (rest : List ℕ) → is_word_character c ≡ true
     → read_token (c ∷ text) ≡ Some (token, rest)
     → BeginsWith (c ∷ text) token rest
-read_is_word c text token rest none e =
+read_is_word c text token rest begins e =
     let n : ℕ = word_len (c ∷ text) in
     let word : List ℕ = take n (c ∷ text) in
-    let same =
-    some_pair_parts (Word word) token (drop n (c ∷ text)) rest
-    (sym (word_step c text none.no_open none.no_close none.no_quote none.no_brace) ∙ e) in
-    let one : n ≡ 1 + word_len text = rw (begins_word c none) refl in
+    let one : n ≡ 1 + word_len text = rw begins refl in
     let len : length word ≡ n =
     length-take-le n (c ∷ text) (prefix_len-le-length is_word_character (c ∷ text)) in
     let some : word ≢ [] = λ z. (let l : length word ≡ 0 = ap length z in absurd (omega arith)) in
-    let now : BeginsWith (c ∷ text) (Word word) (drop n (c ∷ text)) = (
+    said_again (BeginsWith (c ∷ text)) (Word word) token (drop n (c ∷ text)) rest
+    (sym (word_step c text begins) ∙ e) (
       word,
       sym (take-append-drop n (c ∷ text)),
       (refl, some, all_of_prefix is_word_character (c ∷ text)),
       ends_word word (c ∷ text),
-    ) in
-    rw (← same.0, ← same.1) now
+    )
 
 -- ---- what is spelled is read
 
@@ -164,15 +143,13 @@ read_is_quote : (text : List ℕ) (token : Token) (rest : List ℕ) (read : Opti
     → BeginsWith (34 ∷ text) token rest
 read_is_quote text token rest None h e = absurd (none-some (token, rest) e)
 read_is_quote text token rest (Some p) h e =
-    let same = some_pair_parts (Quoted p.0) token p.1 rest e in
     let q = read_is_quoted text p.0 p.1 (h p.0 p.1 refl) in
-    let now : BeginsWith (34 ∷ text) (Quoted p.0) p.1 = (
+    said_again (BeginsWith (34 ∷ text)) (Quoted p.0) token p.1 rest e (
       34 ∷ (q.0 ++ 34 ∷ []),
       ap (λ (t : List ℕ). 34 ∷ t) (q.1 ∙ sym (append_assoc q.0 (34 ∷ []) p.1)),
       (q.0, refl, q.2),
       tt,
-    ) in
-    rw (← same.0, ← same.1) now
+    )
 
 read_is_brace : (text : List ℕ) (token : Token) (rest : List ℕ) (read : Option ℕ)
     → ((n : ℕ) → read ≡ Some n → brace_len text ≡ Some n)
@@ -180,13 +157,11 @@ read_is_brace : (text : List ℕ) (token : Token) (rest : List ℕ) (read : Opti
     → BeginsWith text token rest
 read_is_brace text token rest None h e = absurd (none-some (token, rest) e)
 read_is_brace text token rest (Some n) h e =
-    let same = some_pair_parts (BraceList (take n text)) token (drop n text) rest e in
     let short = brace_shorter text n (h n refl) in
     let whole : brace_len (take n text) ≡ Some (length (take n text)) =
     short.1 ∙ ap (λ (k : ℕ). Some k) (sym short.0) in
-    let now : BeginsWith text (BraceList (take n text)) (drop n text) =
-    (take n text, sym (take-append-drop n text), (refl, whole), tt) in
-    rw (← same.0, ← same.1) now
+    said_again (BeginsWith text) (BraceList (take n text)) token (drop n text) rest e
+    (take n text, sym (take-append-drop n text), (refl, whole), tt)
 
 pub read_is_token : (text : List ℕ) (token : Token) (rest : List ℕ) → 0 < length text
     → is_space (get_or text 0 0) ≡ false
@@ -195,40 +170,27 @@ read_is_token [] token rest l start e = absurd (omega arith)
 read_is_token (c ∷ text) token rest l start e = elim (cases_Bool (c == 40)) [
   | inl y ↦
       let is : c ≡ 40 = eqb-true c 40 y in
-      let e' : read_token (40 ∷ text) ≡ Some (token, rest) =
-      subst (λ (b : ℕ). read_token (b ∷ text) ≡ Some (token, rest)) is e in
-      let same = some_pair_parts Open token text rest (sym (open_step text) ∙ e') in
-      let now : BeginsWith (40 ∷ text) Open text = (40 ∷ [], refl, refl, tt) in
-      rw (is, ← same.0, ← same.1) now
+      rw is (said_again (BeginsWith (40 ∷ text)) Open token text rest
+      (sym (open_step text) ∙ rw is at e) (40 ∷ [], refl, refl, tt))
   | inr not_open ↦ elim (cases_Bool (c == 41)) [
     | inl y ↦
         let is : c ≡ 41 = eqb-true c 41 y in
-        let e' : read_token (41 ∷ text) ≡ Some (token, rest) =
-        subst (λ (b : ℕ). read_token (b ∷ text) ≡ Some (token, rest)) is e in
-        let same = some_pair_parts Close token text rest (sym (close_step text) ∙ e') in
-        let now : BeginsWith (41 ∷ text) Close text = (41 ∷ [], refl, refl, tt) in
-        rw (is, ← same.0, ← same.1) now
+        rw is (said_again (BeginsWith (41 ∷ text)) Close token text rest
+        (sym (close_step text) ∙ rw is at e) (41 ∷ [], refl, refl, tt))
     | inr not_close ↦ elim (cases_Bool (c == 34)) [
       | inl y ↦
           let is : c ≡ 34 = eqb-true c 34 y in
-          let e' : read_token (34 ∷ text) ≡ Some (token, rest) =
-          subst (λ (b : ℕ). read_token (b ∷ text) ≡ Some (token, rest)) is e in
           rw is (read_is_quote text token rest (read_quoted text) (λ v r h. h)
-          (sym (quote_step text) ∙ e'))
+          (sym (quote_step text) ∙ rw is at e))
       | inr not_quote ↦ elim (cases_Bool (c == 123)) [
         | inl y ↦
             let is : c ≡ 123 = eqb-true c 123 y in
             read_is_brace (c ∷ text) token rest (brace_len (c ∷ text)) (λ n h. h)
             (sym (brace_step (c ∷ text) is) ∙ e)
         | inr not_brace ↦
-            let none : IsNoOther c = record {
-              no_open = not_open;
-              no_close = not_close;
-              no_quote = not_quote;
-              no_brace = not_brace;
-              no_space = start;
-            } in
-            read_is_word c text token rest none e
+            let begins : is_word_character c ≡ true =
+            rw (start, not_open, not_close, not_brace, not_quote) refl in
+            read_is_word c text token rest begins e
       ]
     ]
   ]
@@ -246,8 +208,7 @@ word_begins [] some h = absurd (some refl)
 word_begins (c ∷ cs) some h = record {
   some = omega arith;
   no_space =
-      (begins_no_other c
-      (and_parts (is_word_character c) (list_all is_word_character cs) h).0).no_space;
+      (begins_no_other c (and_parts (is_word_character c) (list_all is_word_character cs) h).0).4;
 }
 
 pub token_begins : (token : Token) (here : List ℕ) → SpellsToken here token → Begins here
@@ -268,10 +229,7 @@ blanks_go blanks here rest b begins =
     (ap is_space (get_or_append_left here rest 0 0 begins.some) ∙ begins.no_space)
 
 blank_goes : (text : List ℕ) → is_blank text ≡ true → without_leading_blanks text ≡ []
-blank_goes text b =
-    let none = drop_prefix is_space text [] b refl in
-    let none' = rw append-nil at none in
-    none'
+blank_goes text b = rw append-nil at (drop_prefix is_space text [] b refl)
 
 trimmed_stays : (text : List ℕ) → is_space (get_or text 0 0) ≡ false → without_leading_blanks text ≡ text
 trimmed_stays text h = drop_prefix is_space [] text refl h

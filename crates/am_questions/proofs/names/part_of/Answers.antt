@@ -4,56 +4,55 @@ use Rattle.am_files.specs.ConfigFile.{Configuration}
 use Rattle.am_files.specs.ConfigView.{config_view}
 use Rattle.am_questions.specs.declared.grammar.Written as kept
 use Rattle.am_eval.specs.Tree.{Part}
-use Rattle.am_eval.specs.Question.{Question, Simple, Any, Silenced, Inhibited, Receiver, Ends, Enters, Braces}
+use Rattle.am_eval.specs.Question.{Question, Simple}
 use Rattle.am_questions.specs.QuestionText.{Means, TreeMeans}
 use Rattle.am_questions.specs.TreeView.{written_view}
 use Rattle.am_eval.proofs.QuestionSeen.{any_seen, silenced_seen, inhibited_seen, receiver_seen}
 use Rattle.am_eval.proofs.QuestionSeen.{ends_seen, enters_seen, braces_seen}
 use Rattle.am_questions.proofs.names.part_of.Goals as goal
 
-meant_by : (config : Configuration) {w v : kept.Written} {question : Question} (simple : Simple)
+meant_by : (config : Configuration) {w v : kept.Written} {question : Question} {simple : Simple}
     → w ≡ v → Means config (written_view v) simple → question ≡ Part simple
     → TreeMeans config (Part (written_view w)) question
-meant_by config simple is means seen =
+meant_by config {simple = simple} is means seen =
     (simple, subst (λ (w : kept.Written). Means config (written_view w) simple) (sym is) means, seen)
 
 pub returns-in-Any-clause-meant : goal.returns-in-Any-clause-meant
 returns-in-Any-clause-meant c =
-    meant_by (config_view c.args.config.now) Any c.in-Any.is refl any_seen
+    meant_by (config_view c.args.config.now) c.in-Any.is refl any_seen
 
 pub returns-in-Silenced-clause-meant : goal.returns-in-Silenced-clause-meant
 returns-in-Silenced-clause-meant c =
-    meant_by (config_view c.args.config.now) Silenced c.in-Silenced.is refl silenced_seen
+    meant_by (config_view c.args.config.now) c.in-Silenced.is refl silenced_seen
 
 pub returns-in-Inhibited-clause-meant : goal.returns-in-Inhibited-clause-meant
 returns-in-Inhibited-clause-meant c =
-    meant_by (config_view c.args.config.now) Inhibited c.in-Inhibited.is refl inhibited_seen
+    meant_by (config_view c.args.config.now) c.in-Inhibited.is refl inhibited_seen
 
 pub returns-in-Some-clause-meant : goal.returns-in-Some-clause-meant
 returns-in-Some-clause-meant c =
-    let receiver = c.in-Some.receiver in
-    meant_by (config_view c.args.config.now) (Receiver receiver) c.in-Receiver.is
-    (receiver, sym c.receiver_position.ensures.position ∙ c.in-Some.is, refl)
-    (receiver_seen receiver)
+    meant_by (config_view c.args.config.now) c.in-Receiver.is
+    (c.in-Some.receiver, sym c.receiver_position.ensures.position ∙ c.in-Some.is, refl)
+    (receiver_seen c.in-Some.receiver)
 
 pub returns-in_ok-path_of_route-in-Ends-clause-meant :
     goal.returns-in_ok-path_of_route-in-Ends-clause-meant
 returns-in_ok-path_of_route-in-Ends-clause-meant c =
-    let path = c.in_ok-path_of_route-in-Ends.field-0 in
-    meant_by (config_view c.args.config.now) (Ends path) c.in-Ends.is
-    (path, c.in_ok-path_of_route-in-Ends.ensures.found, refl) (ends_seen path)
+    meant_by (config_view c.args.config.now) c.in-Ends.is
+    (_, c.in_ok-path_of_route-in-Ends.ensures.found, refl)
+    (ends_seen c.in_ok-path_of_route-in-Ends.field-0)
 
 pub returns-in_ok-path_of_route-in-Enters-clause-meant :
     goal.returns-in_ok-path_of_route-in-Enters-clause-meant
 returns-in_ok-path_of_route-in-Enters-clause-meant c =
-    let path = c.in_ok-path_of_route-in-Enters.field-0 in
-    meant_by (config_view c.args.config.now) (Enters path) c.in-Enters.is
-    (path, c.in_ok-path_of_route-in-Enters.ensures.found, refl) (enters_seen path)
+    meant_by (config_view c.args.config.now) c.in-Enters.is
+    (_, c.in_ok-path_of_route-in-Enters.ensures.found, refl)
+    (enters_seen c.in_ok-path_of_route-in-Enters.field-0)
 
 pub returns-in_ok-parse_matchers-in-Braces-clause-meant :
     goal.returns-in_ok-parse_matchers-in-Braces-clause-meant
 returns-in_ok-parse_matchers-in-Braces-clause-meant c =
-    let matchers = c.in_ok-parse_matchers-in-Braces.field-0 in
     let h = c.in_ok-parse_matchers-in-Braces.ensures in
-    meant_by (config_view c.args.config.now) (Braces matchers) c.in-Braces.is
-    (matchers, h.spelled, h.at_most, h.valid_patterns, refl) (braces_seen matchers)
+    meant_by (config_view c.args.config.now) c.in-Braces.is
+    (_, h.spelled, h.at_most, h.valid_patterns, refl)
+    (braces_seen c.in_ok-parse_matchers-in-Braces.field-0)
