@@ -22,5 +22,4 @@ find_none test start (suc count) none = rw (none start (omega arith)) (find_none
 -- a token has a length where its text begins with `{` and a closing brace follows
 pub opened : (b : Bool) (o : Option ℕ) (n : ℕ) → cond b (option_map (λ i. i + 1) o) None ≡ Some n → (b ≡ true) × ((i : ℕ) × (o ≡ Some i) × (i + 1 ≡ n))
 opened true (Some i) n e = (refl, (i, refl, cc))
-opened true None n e = absurd cc
-opened false o n e = absurd cc
+opened b o n e = absurd cc

@@ -152,15 +152,13 @@ pub read_one_word : {X Y : Type 0} (text : X → List ℕ) (ws : List X) (d : X)
     → ReturnsReading view r (read_list (text (get_or ws 0 d)))
     → ReturnsReading view r (read_words (map text ws))
 unfolding read_words read_list
-read_one_word text [] d view r one told = absurd (omega (arith, one))
 read_one_word text (w ∷ []) d view r one told = told
-read_one_word text (w ∷ v ∷ more) d view r one told = absurd (omega (arith, one))
+read_one_word text ws d view r one told = absurd (omega (arith, one))
 
 pub read_other_words : {X Y : Type 0} (text : X → List ℕ) (ws : List X)
     (view : Y → List Condition) (r : Result Y Kind) → length ws ≢ 1
     → ReturnsReading view r (read_each_piece (map text ws))
     → ReturnsReading view r (read_words (map text ws))
 unfolding read_words
-read_other_words text [] view r other told = told
 read_other_words text (w ∷ []) view r other told = absurd (other refl)
-read_other_words text (w ∷ v ∷ more) view r other told = told
+read_other_words text ws view r other told = told

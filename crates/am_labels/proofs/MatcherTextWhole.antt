@@ -216,9 +216,8 @@ read_is_spelled piece m e =
 each_is_read : (ps : List (List ℕ)) (ms : List Condition) → AllZip SpellsOne ps ms → read_each_piece ps ≡ Some ms
 unfolding read_each_piece
 each_is_read [] [] s = refl
-each_is_read [] (m ∷ ms) s = absurd s
-each_is_read (p ∷ ps) [] s = absurd s
 each_is_read (p ∷ ps) (m ∷ ms) s = rw (spelled_is_read p m s.0, each_is_read ps ms s.1) refl
+each_is_read ps ms s = absurd s
 
 each_is_spelled : (ps : List (List ℕ)) (ms : List Condition) → read_each_piece ps ≡ Some ms → AllZip SpellsOne ps ms
 unfolding read_each_piece

@@ -17,16 +17,13 @@ same_on (Some s) f g same = same s
 within-enough : (n m : ℕ) (context : ClassContext) (t : List ℕ) → length t ≤ n → length t ≤ m
     → has_no_refused_piece_within n context t ≡ has_no_refused_piece_within m context t
 unfolding has_no_refused_piece_within
-within-enough zero zero context t i j = refl
-within-enough zero (suc m) context [] i j = refl
 within-enough zero (suc m) context (c ∷ t) i j = absurd (omega arith)
-within-enough (suc n) zero context [] i j = refl
 within-enough (suc n) zero context (c ∷ t) i j = absurd (omega arith)
-within-enough (suc n) (suc m) context [] i j = refl
 within-enough (suc n) (suc m) context (c ∷ t) i j =
     same_on (first_step context (c ∷ t)) _ _ (λ s.
     let left = length-drop (s.width - 1) t in
     within-enough n m s.next (drop (s.width - 1) t) (omega arith) (omega arith))
+within-enough n m context t i j = refl
 
 -- a step leaves it to what stands behind, and where there is none the text is not clean
 pub by_step : (context : ClassContext) (c : ℕ) (t : List ℕ) (s : PieceStep)

@@ -1,6 +1,6 @@
 -- Each form of a piece is cut off as one, and is refused as one.
 use Rattle.std.proofs.Common.{◌≡◌, ◌≢◌, refl, sym, ◌∙◌, ap, inl, inr, ℕ, ◌+◌, ◌-◌}
-use Rattle.std.proofs.Common.{◌<◌, List, [], ◌∷◌, ◌++◌, length, take, drop, get_or, Bool, true}
+use Rattle.std.proofs.Common.{List, [], ◌∷◌, ◌++◌, length, take, drop, get_or, Bool, true}
 use Rattle.std.proofs.Common.{false, not, ◌&&◌, ◌||◌, cond, arith, Option, Some, None, option_map}
 use Rattle.std.proofs.Common.{Contains, nat_eq, nat_lt}
 use Rattle.std.specs.Prelude.{◌==◌}
@@ -9,8 +9,8 @@ use Rattle.std.specs.Char.{is_ascii_digit}
 use Rattle.std.proofs.lemmas.List.{append_assoc, append-nil, length-append, length-take-le}
 use Rattle.std.proofs.lemmas.List.{take-append-drop, drop_at, drop_all}
 use Rattle.std.proofs.lemmas.List.Elements.{All-contains, All-from_recursion}
-use Rattle.std.proofs.lemmas.Bool.{and_parts, and_from, or_parts, or_cases, or_left, or_right}
-use Rattle.std.proofs.lemmas.Bool.{cases_Bool, eqb-true, ne_eqb, eq-eqb, lt-ltb, le-ltb, not-true}
+use Rattle.std.proofs.lemmas.Bool.{and_parts, and_from, or_parts, or_cases}
+use Rattle.std.proofs.lemmas.Bool.{cases_Bool, eqb-true, lt-ltb, le-ltb, not-true}
 use Rattle.std.proofs.lemmas.Bool.{false≢true, false_from_ne_true}
 use Rattle.std.proofs.lemmas.Bool.Decides.{nat_tests}
 use Rattle.regex_syntax.specs.Reading.{◌∈◌, begins}
@@ -58,20 +58,9 @@ clean_escape context d u e = elim (cases_Bool (is_refused_escape d)) [
       (escaped_step context d u (Some 2) (rw (f, e) refl)) refl)
 ]
 
--- what is said of three characters is said of one of them
-pub of_three : (P : ℕ → Type 0) (x y z c : ℕ) → ((c == x) || ((c == y) || (c == z))) ≡ true
-    → P x → P y → P z → P c
-of_three P x y z c h at_x at_y at_z = elim (or_cases (c == x) ((c == y) || (c == z)) h) [
-  | inl e ↦ rw (eqb-true c x e) at_x
-  | inr more ↦ elim (or_cases (c == y) (c == z) more) [
-    | inl e ↦ rw (eqb-true c y e) at_y
-    | inr e ↦ rw (eqb-true c z e) at_z
-  ]
-]
-
 -- the characters that take braces may be escaped
 braces_escape : (d : ℕ) → takes_braces d ≡ true → is_refused_escape d ≡ false
-braces_escape d h = of_three (λ c. is_refused_escape c ≡ false) 120 112 80 d h refl refl refl
+braces_escape d h = grind (arith, nat_tests)
 
 up_closed : (inner rest : List ℕ) → has_no_closing inner ≡ true
     → up_to_brace (123 ∷ (inner ++ 125 ∷ rest)) ≡ (1 + length inner) + 1
@@ -117,9 +106,6 @@ clean_last context = stepped context 92 [] context 1 [] refl refl
 
 -- ---- What is plain outside a class.
 
-flipped : (x c : ℕ) → (c == x) ≡ false → (x == c) ≡ false
-flipped x c e = ne_eqb x c (λ h. false≢true (sym e ∙ eq-eqb c x (sym h)))
-
 -- none of the characters that begin something outside a class
 abbrev is_safe : ℕ → Bool
 is_safe c = not (c ∈ "\\{[(")
@@ -128,28 +114,13 @@ digit_safe : (c : ℕ) → is_ascii_digit c ≡ true → is_safe c ≡ true
 digit_safe c h = grind (arith, nat_tests)
 
 safe_plain : (c : ℕ) (rest : List ℕ) → is_safe c ≡ true → is_plain_outside c rest ≡ true
-safe_plain c rest h =
-    let a = or_parts (c == 92) ((c == 123) || ((c == 91) || (c == 40))) (not-true _ h) in
-    let b = or_parts (c == 123) ((c == 91) || (c == 40)) a.1 in
-    let d = or_parts (c == 91) (c == 40) b.1 in
-    rw (a.0, b.0, d.0, d.1) refl
-
-group_test : (c : ℕ) (rest : List ℕ) → (c == 40 && begins "?" rest) ≡ false
-    → begins "(?" (c ∷ rest) ≡ false
-group_test c rest h = elim (cases_Bool (c == 40)) [
-  | inl e ↦ let g = rw e at h in rw (eqb-true c 40 e, g) refl
-  | inr f ↦ rw (flipped 40 c f) refl
-]
+safe_plain c rest h = grind (arith, nat_tests)
 
 clean_plain_outside : (c : ℕ) (rest : List ℕ) → is_plain_outside c rest ≡ true
     → has_no_refused_piece OutsideClass (c ∷ rest) ≡ has_no_refused_piece OutsideClass rest
 unfolding first_step unescaped_step
 clean_plain_outside c rest h =
-    let a = or_parts (c ∈ "\\{[") (c == 40 && begins "?" rest) (not-true _ h) in
-    let b = or_parts (c == 92) ((c == 123) || (c == 91)) a.0 in
-    let d = or_parts (c == 123) (c == 91) b.1 in
-    stepped OutsideClass c rest OutsideClass 1 rest
-    (rw (flipped 92 c b.0, group_test c rest a.1, flipped 123 c d.0, flipped 91 c d.1) refl) refl
+    stepped OutsideClass c rest OutsideClass 1 rest (grind (arith, nat_tests)) refl
 
 -- characters that are plain wherever they stand
 clean_run : (p : ℕ → Bool) (run rest : List ℕ) → ((c : ℕ) → p c ≡ true → is_safe c ≡ true)
@@ -394,41 +365,23 @@ clean_named named rest h =
 pair_step : (c : ℕ) (rest : List ℕ) → (c ∈ "&-~") ≡ true
     → first_step InsideClass (c ∷ c ∷ rest) ≡ None
 unfolding first_step unescaped_step
-pair_step c rest h =
-    of_three (λ d. first_step InsideClass (d ∷ d ∷ rest) ≡ None) 38 45 126 c h refl refl refl
+pair_step c rest h = grind (arith, nat_tests)
 
-no_pair : (x c : ℕ) (rest : List ℕ) → 0 < x → ((c == x) ≡ true → (get_or rest 0 0 == c) ≡ false)
+no_pair : (x c : ℕ) (rest : List ℕ) → (x ∈ "&-~") ≡ true
+    → (c ∈ "&-~" && get_or rest 0 0 == c) ≡ false
     → starts_with nat_eq (c ∷ rest) (x ∷ x ∷ []) ≡ false
-no_pair x c [] some h = elim (cases_Bool (x == c)) [ inl e ↦ rw e refl | inr f ↦ rw f refl ]
-no_pair x c (r ∷ rest) some h = elim (cases_Bool (c == x)) [
-  | inl e ↦
-      let same : c ≡ x = eqb-true c x e in
-      let other : (x == r) ≡ false = flipped x r (rw same at (h e)) in
-      rw (eq-eqb x c (sym same), other) refl
-  | inr f ↦ rw (flipped x c f) refl
-]
-
-not_twice : (c : ℕ) (rest : List ℕ) → (c ∈ "&-~" && get_or rest 0 0 == c) ≡ false
-    → (c ∈ "&-~") ≡ true → (get_or rest 0 0 == c) ≡ false
-not_twice c rest h among = rw among at h
+no_pair x c [] among h = grind (arith, nat_tests)
+no_pair x c (r ∷ rest) among h = grind (arith, nat_tests)
 
 clean_plain_inside : (c : ℕ) (rest : List ℕ) → is_plain_inside c rest ≡ true
     → has_no_refused_piece InsideClass (c ∷ rest) ≡ has_no_refused_piece InsideClass rest
 unfolding first_step unescaped_step
 clean_plain_inside c rest h =
     let a = or_parts (c ∈ "\\[]") (c ∈ "&-~" && get_or rest 0 0 == c) (not-true _ h) in
-    let b = or_parts (c == 92) ((c == 91) || (c == 93)) a.0 in
-    let d = or_parts (c == 91) (c == 93) b.1 in
-    let amp : starts_with nat_eq (c ∷ rest) (38 ∷ 38 ∷ []) ≡ false =
-    no_pair 38 c rest (omega arith) (λ e. not_twice c rest a.1 (or_left (c == 38) _ e)) in
-    let dash : starts_with nat_eq (c ∷ rest) (45 ∷ 45 ∷ []) ≡ false =
-    no_pair 45 c rest (omega arith)
-    (λ e. not_twice c rest a.1 (or_right (c == 38) _ (or_left (c == 45) (c == 126) e))) in
-    let tilde : starts_with nat_eq (c ∷ rest) (126 ∷ 126 ∷ []) ≡ false =
-    no_pair 126 c rest (omega arith)
-    (λ e. not_twice c rest a.1 (or_right (c == 38) _ (or_right (c == 45) (c == 126) e))) in
-    stepped InsideClass c rest InsideClass 1 rest
-    (rw (flipped 92 c b.0, flipped 91 c d.0, amp, dash, tilde, flipped 93 c d.1) refl) refl
+    let amp = no_pair 38 c rest refl a.1 in
+    let dash = no_pair 45 c rest refl a.1 in
+    let tilde = no_pair 126 c rest refl a.1 in
+    stepped InsideClass c rest InsideClass 1 rest (grind (arith, nat_tests)) refl
 
 clean_class_end : (rest : List ℕ) → has_no_refused_piece InsideClass (93 ∷ rest) ≡ has_no_refused_piece OutsideClass rest
 unfolding first_step unescaped_step

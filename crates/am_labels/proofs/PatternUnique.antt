@@ -6,7 +6,7 @@ use Rattle.std.specs.Prelude.{◌==◌}
 use Rattle.std.specs.List.{list_all, flat_map, take_while}
 use Rattle.std.specs.Char.{is_ascii_digit}
 use Rattle.std.proofs.lemmas.List.{append_assoc, append-nil, length-append, append_cancel_left}
-use Rattle.std.proofs.lemmas.Bool.{and_parts, or_parts, cases_Bool, eqb-true, not-true}
+use Rattle.std.proofs.lemmas.Bool.{and_parts, cases_Bool, eqb-true, not-true}
 use Rattle.std.proofs.lemmas.Bool.{false_from_ne_true}
 use Rattle.std.proofs.lemmas.Bool.Decides.{nat_tests}
 use Rattle.regex_syntax.specs.Reading.{◌∈◌, begins}
@@ -22,7 +22,7 @@ use Rattle.am_labels.specs.PatternProfile.{is_plain_inside, StandsIn, context_af
 use Rattle.am_labels.specs.PatternProfile.{IsJoinOf}
 use Rattle.am_labels.specs.PatternCut.{flag_run, digits_len, begins_count, named_class_at}
 use Rattle.am_labels.proofs.PatternForms.{count_at, count_begins, upper_ends_digits, none_found}
-use Rattle.am_labels.proofs.PatternForms.{found_first, not_hat, of_three}
+use Rattle.am_labels.proofs.PatternForms.{found_first, not_hat}
 use Rattle.am_labels.proofs.PatternJoins.{some_text}
 use Rattle.am_labels.proofs.MatcherTextLists.{drop_prefix, take_prefix}
 
@@ -137,24 +137,15 @@ at_start false false rest h = short_front rest (not-true (begins "^" rest || beg
 
 at_plain_outside : (c : ℕ) (rest : List ℕ) → is_plain_outside c rest ≡ true
     → front_piece OutsideClass (c ∷ rest) ≡ plain c
-at_plain_outside c rest h =
-    let a = or_parts (c ∈ "\\{[") (c == 40 && begins "?" rest) (not-true _ h) in
-    let b = or_parts (c == 92) ((c == 123) || (c == 91)) a.0 in
-    let d = or_parts (c == 123) (c == 91) b.1 in
-    rw (b.0, d.0, d.1) (rw a.1 refl)
+at_plain_outside c rest h = grind (arith, nat_tests)
 
 at_plain_inside : (c : ℕ) (rest : List ℕ) → is_plain_inside c rest ≡ true
     → front_piece InsideClass (c ∷ rest) ≡ plain c
-at_plain_inside c rest h =
-    let a = or_parts (c ∈ "\\[]") (c ∈ "&-~" && get_or rest 0 0 == c) (not-true _ h) in
-    let b = or_parts (c == 92) ((c == 91) || (c == 93)) a.0 in
-    let d = or_parts (c == 91) (c == 93) b.1 in
-    rw (b.0, d.0, d.1) (rw a.1 refl)
+at_plain_inside c rest h = grind (arith, nat_tests)
 
 at_pair : (c : ℕ) (rest : List ℕ) → (c ∈ "&-~") ≡ true
     → front_piece InsideClass (c ∷ c ∷ rest) ≡ pair c
-at_pair c rest h =
-    of_three (λ d. front_piece InsideClass (d ∷ d ∷ rest) ≡ pair d) 38 45 126 c h refl refl refl
+at_pair c rest h = grind (arith, nat_tests)
 
 at_named : (named rest : List ℕ) (t : List ℕ) → named_class_at (named ++ rest) ≡ Some named
     → named ++ rest ≡ 91 ∷ t → front_piece InsideClass (named ++ rest) ≡ named_class named
