@@ -1,5 +1,5 @@
 -- A plain assertion sees of a byte no more than its kind.
-use Rattle.std.proofs.Common.{◌≡◌, ℕ, Bool, true, false, cond, eqb, Option, Some, None, is_some, refl, sym, true≢false, arith, List, [], ◌∷◌, zero, suc, ap, ◌∙◌}
+use Rattle.std.proofs.Common.{◌≡◌, ℕ, true, eqb, Option, Some, None, is_some, refl, sym, true≢false, arith, List, [], ◌∷◌, zero, suc, ap, ◌∙◌}
 use Rattle.std.specs.List.{list_all}
 use Rattle.std.proofs.lemmas.Bool.{and_parts}
 use Rattle.std.proofs.lemmas.Bool.Decides.{nat_tests}
@@ -17,32 +17,15 @@ edge-kind : (o : Option ℕ) → is_some (kind_beside o) ≡ is_some o
 edge-kind None = refl
 edge-kind (Some b) = refl
 
--- a line feed is seen in its kind, by the two tests of which the kind is made
-lf_by_test : (x y : Bool) → eqb (cond x 10 (cond y 13 0)) 10 ≡ x
-lf_by_test true y = refl
-lf_by_test false true = refl
-lf_by_test false false = refl
-
 -- a side shows a line feed exactly where its kind does
 lf-kind : (o : Option ℕ) → is_some_and (kind_beside o) (λ b. eqb b 10) ≡ is_some_and o (λ b. eqb b 10)
 lf-kind None = refl
-lf-kind (Some b) = lf_by_test (eqb b 10) (eqb b 13)
-
--- a carriage return is seen in its kind too
-cr_by_test : (x y : Bool) → (x ≡ true → y ≡ false) → eqb (cond x 10 (cond y 13 0)) 13 ≡ y
-cr_by_test true true h = sym (h refl)
-cr_by_test true false h = refl
-cr_by_test false true h = refl
-cr_by_test false false h = refl
-
--- no byte is both
-apart : (b : ℕ) → eqb b 10 ≡ true → eqb b 13 ≡ false
-apart b h = grind (arith, nat_tests)
+lf-kind (Some b) = grind (arith, nat_tests)
 
 -- a side shows a carriage return exactly where its kind does
 cr-kind : (o : Option ℕ) → is_some_and (kind_beside o) (λ b. eqb b 13) ≡ is_some_and o (λ b. eqb b 13)
 cr-kind None = refl
-cr-kind (Some b) = cr_by_test (eqb b 10) (eqb b 13) (apart b)
+cr-kind (Some b) = grind (arith, nat_tests)
 
 -- between two bytes such an assertion holds exactly where it does between their kinds
 pub holds_between-kinds : (l : look.Look) (a b c d : Option ℕ) → is_plain_look l ≡ true →
