@@ -6,9 +6,8 @@ use mathlib.Core.Bool.{beq}
 -- Truth values are compared right.
 pub beq-Decides : (a b : Bool) → Decides (beq a b) (a ≡ b)
 beq-Decides true true = (λ _. refl, λ _. refl)
-beq-Decides true false = (λ e. absurd cc, λ e. absurd cc)
-beq-Decides false true = (λ e. absurd cc, λ e. absurd cc)
 beq-Decides false false = (λ _. refl, λ _. refl)
+beq-Decides a b = (λ e. absurd cc, λ e. absurd cc)
 
 -- What is found to differ differs.
 pub differs : (a b : Bool) → not (beq a b) ≡ true → a ≡ b → ⊥

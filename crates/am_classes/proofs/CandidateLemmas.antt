@@ -1,5 +1,5 @@
 -- Candidates: with one more, and for all texts.
-use Rattle.std.proofs.Common.{◌≡◌, ℕ, zero, suc, refl, List, [], ◌∷◌, ◌++◌, Some, slice_get, string_bytes, inl, inr, subst, sym, ap, ◌∙◌}
+use Rattle.std.proofs.Common.{◌≡◌, ℕ, refl, List, [], ◌∷◌, ◌++◌, Some, slice_get, string_bytes, inl, inr, subst, sym, ap, ◌∙◌}
 use Rattle.std.proofs.lemmas.Option.{same_Some}
 use Rattle.am_classes.specs.declared.questions.Questions.{Questions}
 use Rattle.am_classes.specs.declared.label_state.LabelState.{LabelState}
@@ -60,21 +60,8 @@ pub one_candidate : (q : Questions) (cs : List Candidate) (x : Candidate) → cs
 one_candidate q cs x is scans found unnamed =
     let none : (text : List ℕ) → x.found.items ≡ found_by q.scans.items text = λ text. found ∙ sym (ap (λ ss. found_by ss text) scans) in
     let all : AreCandidates q (x ∷ []) = record {
-      distinct = record {
-        own = only_own q x (none (string_bytes x.text), unnamed);
-        apart = only_apart x;
-      };
+      distinct = apart_pushed q [] x (record { own = λ k y at. cc; apart = λ i j y z at also same. cc })
+          (none (string_bytes x.text), unnamed) (λ has. let at = has.2 in cc);
       all = λ text utf8 missed. (0, x, refl, none text);
     } in
     subst (AreCandidates q) (sym is) all
-  where
-    only_own : (q : Questions) (x : Candidate) → IsCandidate q x → (k : ℕ) (y : Candidate)
-        → slice_get (x ∷ []) k ≡ Some y → IsCandidate q y
-    only_own q x own zero y at = subst (IsCandidate q) (same_Some x y at) own
-    only_own q x own (suc k) y at = absurd cc
-
-    only_apart : (x : Candidate) (i j : ℕ) (y z : Candidate) → slice_get (x ∷ []) i ≡ Some y
-        → slice_get (x ∷ []) j ≡ Some z → y.found.items ≡ z.found.items → i ≡ j
-    only_apart x zero zero y z at also same = refl
-    only_apart x zero (suc j) y z at also same = absurd cc
-    only_apart x (suc i) j y z at also same = absurd cc

@@ -27,9 +27,8 @@ record SameAnswers (q : Questions) (x y : List ℕ) : Type 0 where
 
 not_same : (a b : Bool) → not a ≡ not b → a ≡ b
 not_same true true e = refl
-not_same true false e = absurd cc
-not_same false true e = absurd cc
 not_same false false e = refl
+not_same a b e = absurd cc
 
 -- An operator is as true of one text as of another where its question has the same answer.
 holds_same : (op : Op) (value x y : List ℕ)
@@ -44,15 +43,13 @@ text_answer : (op : Op) (value x y : List ℕ) → takes_pattern op ≡ false
     → holds op value x ≡ holds op value y → same_text x value ≡ same_text y value
 text_answer Equal value x y e h = h
 text_answer NotEqual value x y e h = not_same (same_text x value) (same_text y value) h
-text_answer Matches value x y e h = absurd cc
-text_answer NotMatches value x y e h = absurd cc
+text_answer op value x y e h = absurd cc
 
 pattern_answer : (op : Op) (value x y : List ℕ) → takes_pattern op ≡ true
     → holds op value x ≡ holds op value y → finds value x ≡ finds value y
-pattern_answer Equal value x y e h = absurd cc
-pattern_answer NotEqual value x y e h = absurd cc
 pattern_answer Matches value x y e h = h
 pattern_answer NotMatches value x y e h = not_same (finds value x) (finds value y) h
+pattern_answer op value x y e h = absurd cc
 
 -- Texts with the same answers are alike.
 alike_from : (ms : List Condition) (q : Questions) → AreAsked ms q → (x y : List ℕ)

@@ -98,16 +98,14 @@ pub pushed_or_kept : {E : Type 0} (r : Result (Option ℕ) E) (n : ℕ) (old new
     → IfOk r (λ found. IfSome found (λ place. (place ≡ n) × (new ≡ old ++ item ∷ [])))
     → (((place : ℕ) → r ≢ Ok (Some place)) → new ≡ old) → (new ≡ old ++ item ∷ []) ⊎ (new ≡ old)
 pushed_or_kept (Ok (Some place)) n old new item pushed kept = inl pushed.1
-pushed_or_kept (Ok None) n old new item pushed kept = inr (kept (λ place e. absurd cc))
-pushed_or_kept (Err e) n old new item pushed kept = inr (kept (λ place e. absurd cc))
+pushed_or_kept r n old new item pushed kept = inr (kept (λ place e. absurd cc))
 
 -- What follows where a place was found.
 pub where_found : {E : Type 0} {P Q : ℕ → Type 0} (r : Result (Option ℕ) E)
     → IfOk r (λ found. IfSome found P) → ((place : ℕ) → P place → Q place)
     → IfOk r (λ found. IfSome found Q)
 where_found (Ok (Some place)) h f = f place h
-where_found (Ok None) h f = tt
-where_found (Err e) h f = tt
+where_found r h f = tt
 
 -- What follows where something was done.
 pub where_done : {E P Q : Type 0} (r : Result Bool E) → IfOk r (λ done. IsTrue done → P) → (P → Q)

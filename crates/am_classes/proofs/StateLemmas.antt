@@ -1,5 +1,5 @@
 -- What states say of texts.
-use Rattle.std.proofs.Common.{Result, Ok, Err, Vec, Bool, IfOk, IfSome, subst}
+use Rattle.std.proofs.Common.{Result, Ok, Vec, Bool, IfOk, IfSome, subst}
 use Rattle.std.specs.declared.alloc.Global.{Global}
 use Rattle.am_scan.specs.declared.pattern_scan.PatternScan.{PatternScan}
 use Rattle.am_scan.specs.declared.pattern_state.PatternState.{PatternState}
@@ -52,12 +52,11 @@ pub found_of_states : {E : Type 0} (q : Questions) (state : LabelState) (scans :
     → All (λ b. b < 256) text → is_boundary text 0 ≡ true → answers.items ≡ found_by scans text))
     → IfOk r (λ found. IfSome found (λ answers. (text : List ℕ) → FollowsLabel q state text
     → state.tail ≡ Whole → answers.items ≡ found_by q.scans.items text))
-found_of_states q state scans states (Err e) s t h = tt
-found_of_states q state scans states (Ok None) s t h = tt
 found_of_states q state scans states (Ok (Some answers)) s t h = λ text follows whole.
     let own : FollowEach q.scans.items states text = subst (λ xs. FollowEach q.scans.items xs text) (sym t) follows.patterns in
     let each : FollowEach scans states text = subst (λ xs. FollowEach xs states text) (sym s) own in
     h text each (bytes_of_followed q state text follows) (whole_begins q state text follows whole) ∙ ap (λ xs. found_by xs text) s
+found_of_states q state scans states r s t h = tt
 
 -- What a state follows, one that is the same follows.
 pub same_follows : (q : Questions) (state other : LabelState) (text : List ℕ)
