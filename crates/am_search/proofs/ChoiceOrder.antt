@@ -4,7 +4,7 @@ use Rattle.std.specs.List.{filter, find}
 use Rattle.std.specs.List.Sorted.{IsStrictlySortedBy}
 use Rattle.std.specs.Ordering.{nat_cmp, is_lt, ordering_reverse}
 use Rattle.std.specs.declared.cmp.Ordering.{Ordering}
-use Rattle.std.specs.declared.cmp.Ordering.TheVariants.{Less, Equal, Greater}
+use Rattle.std.specs.declared.cmp.Ordering.TheVariants.{Less}
 use Rattle.std.specs.Cmp.Lexicographic.{slice_cmp}
 use Rattle.std.proofs.lemmas.Bool.{false≢true}
 use Rattle.std.proofs.lemmas.Cmp.{nat_list_cmp_total}
@@ -17,13 +17,11 @@ use Rattle.am_search.specs.Start.{comes_before, at_or_after}
 
 is_less : (o : Ordering) → is_lt o ≡ true → o ≡ Less
 is_less Less h = refl
-is_less Equal h = absurd (false≢true h)
-is_less Greater h = absurd (false≢true h)
+is_less o h = absurd (false≢true h)
 
 not_both : (o : Ordering) → o ≡ ordering_reverse o → is_lt o ≡ false
 not_both Less e = ap is_lt e
-not_both Equal e = refl
-not_both Greater e = refl
+not_both o e = refl
 
 pub not_itself : (c : List ℕ) → comes_before c c ≡ false
 not_itself c = not_both (slice_cmp nat_cmp c c) (nat_list_cmp_total.antisymm c c)

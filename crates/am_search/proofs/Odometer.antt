@@ -136,8 +136,6 @@ mapped_or f g h (Some t) b x same = ap Some (sym (same t))
 
 pub next_choice_is : (sizes c : List ℕ) → ArePositive sizes → IsWhole sizes c → find (comes_before c) (choices sizes) ≡ option_map (filled sizes) (next_beside sizes c)
 next_choice_is [] [] some w = ap (λ b. cond b (Some []) None) (not_itself [])
-next_choice_is [] (p ∷ c) some w = absurd (omega (arith, w.1))
-next_choice_is (size ∷ sizes) [] some w = absurd (omega (arith, w.1))
 next_choice_is (size ∷ sizes) (p ∷ c) some w =
     let parts = and_parts (nat_lt p size) (admits sizes c) w.0 in
     let high : p < 0 + size = grind (arith, nat_tests, parts.0) in
@@ -146,6 +144,7 @@ next_choice_is (size ∷ sizes) (p ∷ c) some w =
     ∙ ap (λ m. option_or (option_map (λ t. p ∷ t) (find (comes_before c) (choices sizes))) (cond (nat_lt (p + 1) m) (Some ((p + 1) ∷ filled sizes [])) None)) (omega arith)
     ∙ ap (λ o. option_or (option_map (λ t. p ∷ t) o) (cond (nat_lt (p + 1) size) (Some ((p + 1) ∷ filled sizes [])) None)) (next_choice_is sizes c some.1 (parts.1, omega (arith, w.1)))
     ∙ mapped_or (filled sizes) (λ t. p ∷ t) (filled (size ∷ sizes)) (next_beside sizes c) (nat_lt (p + 1) size) ((p + 1) ∷ []) (λ t. refl)
+next_choice_is sizes c some w = absurd (omega (arith, w.1))
 
 -- ---- Position by position.
 

@@ -57,11 +57,10 @@ pieces_of_joined p (q ∷ qs) small =
 
 pub decimals-injective : (c d : List ℕ) → AreSmall c → AreSmall d → map decimal c ≡ map decimal d → c ≡ d
 decimals-injective [] [] h k same = refl
-decimals-injective [] (q ∷ d) h k same = absurd (omega (arith, ap length same))
-decimals-injective (p ∷ c) [] h k same = absurd (omega (arith, ap length same))
 decimals-injective (p ∷ c) (q ∷ d) h k same =
     ap₂ (λ x xs. x ∷ xs) (decimal-injective p q h.0 k.0 (ap (λ ts. get_or ts 0 []) same))
     (decimals-injective c d h.1 k.1 (ap (drop 1) same))
+decimals-injective c d h k same = absurd (omega (arith, ap length same))
 
 some_digits : (p : ℕ) (ps : List ℕ) → AreSmall (p ∷ ps) → 0 < length (join_with_byte 46 (map decimal (p ∷ ps)))
 some_digits p [] small = (decimal_is_IsNumeral p small.0).0.0

@@ -171,11 +171,10 @@ begins_length (p ∷ prefix) (q ∷ c) h = omega (arith, begins_length prefix c 
 -- of two of one length neither begins with the other, unless they are the same
 pub begins_whole : (c d : List ℕ) → length c ≡ length d → starts_with nat_eq c d ≡ true → c ≡ d
 begins_whole [] [] e h = refl
-begins_whole [] (q ∷ d) e h = absurd (omega arith)
-begins_whole (p ∷ c) [] e h = absurd (omega arith)
 begins_whole (p ∷ c) (q ∷ d) e h =
     let parts = begins_parts p q c d h in
     ap (λ r. r ∷ c) parts.0 ∙ ap (λ l. q ∷ l) (begins_whole c d (omega arith) parts.1)
+begins_whole c d e h = absurd (omega arith)
 
 -- ---- Proper fronts.
 

@@ -18,6 +18,7 @@ use Rattle.am_search.proofs.ChoiceOrder.{got_at, filter_step, in_filter, taken_l
 use Rattle.am_search.proofs.Odometer.{ArePositive, positive, filled, first_completion_is}
 use Rattle.am_search.proofs.PrefixOrder.{before_begins}
 use Rattle.am_search.proofs.Walks.{in_choices, first_is_whole, completion_whole}
+use Rattle.am_search.proofs.VisitedPrefixes.{member_some}
 use Rattle.am_search.proofs.VisitsBound.{kept_all, kept_more}
 use Rattle.am_search.proofs.Pages.{choices_after, begins_with, next_is_start, more_left, part, whole, kind_of}
 use Rattle.am_search.proofs.BudgetPages.{begun, visited_is, past_first, under_kind, without, stopped, rest_under, stays_from, enough_steps}
@@ -56,10 +57,6 @@ has_first ns start some = by (first_of_start ns start) refl
     by : (o : Option (List ℕ)) → first_of_start ns start ≡ o → HasFirst ns start
     by None e = absurd (omega (arith, some, ap length (ap (λ x. at_or_after x (choices ns)) e)))
     by (Some c) e = record { first = c; begins = e }
-
-member_some : (xs : List (List ℕ)) (c : List ℕ) → IsIn xs c → 0 < length xs
-member_some [] c i = absurd i
-member_some (x ∷ xs) c i = omega arith
 
 first_member : (xs ys : List (List ℕ)) (c : List ℕ) → xs ≡ c ∷ ys → IsIn xs c
 first_member xs ys c e = subst (λ l. IsIn l c) (sym e) (inl refl)

@@ -77,14 +77,13 @@ IsForm form = IfSome form IsFingerprint
 -- a form and what follows it are known from their text
 pub same_form : (f g : Option (List ℕ)) (a b : List ℕ) → IsForm f → IsForm g → form_text f a ≡ form_text g b → (f ≡ g) × (a ≡ b)
 same_form None None a b h k e = (refl, ap (drop 2) e)
-same_form None (Some x) a b h k e = absurd (omega (arith, ap (λ t. get_or t 0 0) e))
-same_form (Some x) None a b h k e = absurd (omega (arith, ap (λ t. get_or t 0 0) e))
 same_form (Some x) (Some y) a b h k e =
     let size : length (encode_lower x) ≡ length (encode_lower y) = digits_length x h ∙ sym (digits_length y k) in
     let behind : encode_lower x ++ (codes ":" ++ a) ≡ encode_lower y ++ (codes ":" ++ b) = ap (drop 2) e in
     let digits : encode_lower x ≡ encode_lower y = fronts (encode_lower x) (encode_lower y) (codes ":" ++ a) (codes ":" ++ b) size behind in
     let rest : codes ":" ++ a ≡ codes ":" ++ b = append_cancel_left (encode_lower x) (codes ":" ++ a) (codes ":" ++ b) (behind ∙ ap (λ d. d ++ (codes ":" ++ b)) (sym digits)) in
     (ap Some (digits-injective x y h k digits), ap (drop 1) rest)
+same_form f g a b h k e = absurd (omega (arith, ap (λ t. get_or t 0 0) e))
 
 -- ---- A token is a letter, a form and positions.
 
@@ -98,9 +97,8 @@ positions (After c) = c
 
 pub spelled_parts : (form : Option (List ℕ)) (start : Start) → spelled_text form start ≡ letter start ∷ form_text form (positions_text (positions start))
 spelled_parts None (At prefix) = refl
-spelled_parts None (After c) = refl
 spelled_parts (Some h) (At prefix) = refl
-spelled_parts (Some h) (After c) = refl
+spelled_parts form start = refl
 
 pub start_positions : (ns : List ℕ) (start : Start) → IsStart ns start → admits ns (positions start) ≡ true
 start_positions ns (At prefix) is = is
@@ -109,9 +107,8 @@ start_positions ns (After c) is = is.0
 -- starts of one letter with the same positions are the same
 same_parts : (s t : Start) → letter s ≡ letter t → positions s ≡ positions t → s ≡ t
 same_parts (At c) (At d) l e = ap At e
-same_parts (At c) (After d) l e = absurd (omega (arith, l))
-same_parts (After c) (At d) l e = absurd (omega (arith, l))
 same_parts (After c) (After d) l e = ap After e
+same_parts s t l e = absurd (omega (arith, l))
 
 -- the start and the form are known from the text, whatever the sizes are
 pub same_spelled : (ns ms : List ℕ) (f g : Option (List ℕ)) (s t : Start) → AreSizes ns → AreSizes ms → IsStart ns s → IsStart ms t → IsForm f → IsForm g

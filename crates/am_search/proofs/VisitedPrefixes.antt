@@ -36,13 +36,12 @@ admitted_in (size ∷ sizes) prefix (inr i) =
     subst (λ c. admits (size ∷ sizes) c ≡ true) r.same (and_from (nat_lt r.position size) (admits sizes r.rest) below (admitted_in sizes r.rest r.others))
 
 pub in_admitted : (sizes prefix : List ℕ) → admits sizes prefix ≡ true → IsIn (all_prefixes sizes) prefix
-in_admitted [] [] a = inl refl
 in_admitted [] (p ∷ prefix) a = absurd (false≢true a)
-in_admitted (size ∷ sizes) [] a = inl refl
 in_admitted (size ∷ sizes) (p ∷ prefix) a =
     let parts = and_parts (nat_lt p size) (admits sizes prefix) a in
     let below : p < 0 + size = grind (arith, nat_tests, parts.0) in
     inr (into_behind 0 size (all_prefixes sizes) p prefix (omega arith) below (in_admitted sizes prefix parts.1))
+in_admitted sizes prefix a = inl refl
 
 pub prefixes_admitted : (sizes prefix : List ℕ) → (Contains (all_prefixes sizes) prefix ↔ IsTrue (admits sizes prefix))
 prefixes_admitted sizes prefix = (
@@ -67,9 +66,9 @@ some_member : {X : Type 0} (xs : List X) → nat_lt 0 (length xs) ≡ true → (
 some_member [] h = absurd (false≢true h)
 some_member (x ∷ xs) h = (x, inl refl)
 
-member_some : {X : Type 0} (xs : List X) (x : X) → IsIn xs x → nat_lt 0 (length xs) ≡ true
+pub member_some : {X : Type 0} (xs : List X) (x : X) → IsIn xs x → 0 < length xs
 member_some [] x i = absurd i
-member_some (y ∷ xs) x i = lt-ltb 0 (length (y ∷ xs)) (omega arith)
+member_some (y ∷ xs) x i = omega arith
 
 -- ---- A prefix has a completion from a choice on: the choice begins with it, or comes before it.
 
@@ -97,14 +96,14 @@ in_completions sizes prefix c w h = into_filter (λ d. starts_with nat_eq d pref
 pub reached : (sizes f prefix : List ℕ) → ArePositive sizes → IsWhole sizes f → admits sizes prefix ≡ true → ReachesTo f prefix
     → nat_lt 0 (length (at_or_after (Some f) (completions sizes prefix))) ≡ true
 reached sizes f prefix some w a (inl begins) =
-    member_some (at_or_after (Some f) (completions sizes prefix)) f
-    (into_filter (λ c. not (comes_before c f)) (completions sizes prefix) f (in_completions sizes prefix f w begins) (ap not (not_itself f)))
+    lt-ltb 0 _ (member_some (at_or_after (Some f) (completions sizes prefix)) f
+    (into_filter (λ c. not (comes_before c f)) (completions sizes prefix) f (in_completions sizes prefix f w begins) (ap not (not_itself f))))
 reached sizes f prefix some w a (inr less) =
     let c : List ℕ = filled sizes prefix in
     let i : IsIn (completions sizes prefix) c = got_at (completions sizes prefix) 0 c (first_completion_is sizes prefix some a) in
     let begins : starts_with nat_eq c prefix ≡ true = (completion_whole sizes prefix c i).1 in
-    member_some (at_or_after (Some f) (completions sizes prefix)) c
-    (into_filter (λ d. not (comes_before d f)) (completions sizes prefix) c i (ap not (not_back f c (before_begins f prefix c less begins))))
+    lt-ltb 0 _ (member_some (at_or_after (Some f) (completions sizes prefix)) c
+    (into_filter (λ d. not (comes_before d f)) (completions sizes prefix) c i (ap not (not_back f c (before_begins f prefix c less begins)))))
 
 -- ---- The prefixes that are judged, where the start begins at a choice.
 

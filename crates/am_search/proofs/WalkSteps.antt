@@ -61,11 +61,8 @@ begun_at sizes verdict start k p e = by (first_of_start sizes start) refl
     by None begins = absurd (subst (λ xs. IsIn xs p) (none_visited sizes verdict start begins) (got_at (visited sizes verdict start) k p e))
     by (Some f) begins = record { first = f; begins = begins; whole = first_is_whole sizes start f begins }
 
-along_true : (prefix f : List ℕ) → starts_with nat_eq f prefix ≡ true → if_begins prefix (Some f) ≡ Some f
-along_true prefix f b = ap (λ x. cond x (Some f) None) b
-
-along_false : (prefix f : List ℕ) → starts_with nat_eq f prefix ≡ false → if_begins prefix (Some f) ≡ None
-along_false prefix f b = ap (λ x. cond x (Some f) None) b
+along_if : (prefix f : List ℕ) {b : Bool} → starts_with nat_eq f prefix ≡ b → if_begins prefix (Some f) ≡ cond b (Some f) None
+along_if prefix f e = ap (λ x. cond x (Some f) None) e
 
 -- what comes after the choice does not lie along it
 behind_false : (prefix f : List ℕ) → comes_before f prefix ≡ true → starts_with nat_eq f prefix ≡ false
@@ -122,15 +119,15 @@ module _ (sizes : List ℕ) (verdict : List ℕ → Verdict) (start : Start) (so
   pub along_some : (f : List ℕ) → along ≡ Some f → (first_of_start sizes start ≡ Some f) × IsWhole sizes f × (starts_with nat_eq f p ≡ true)
   along_some f e = elim (cases_Bool (starts_with nat_eq begun.first p)) [
     | inl b ↦
-        let all : Some begun.first ≡ Some f = sym (along_true p begun.first b) ∙ along_of e in
+        let all : Some begun.first ≡ Some f = sym (along_if p begun.first b) ∙ along_of e in
         let same : begun.first ≡ f = cc in
         (begun.begins ∙ ap Some same, subst (IsWhole sizes) same begun.whole, subst (λ x. starts_with nat_eq x p ≡ true) same b)
-    | inr b ↦ let none : None ≡ Some f = sym (along_false p begun.first b) ∙ along_of e in cc
+    | inr b ↦ let none : None ≡ Some f = sym (along_if p begun.first b) ∙ along_of e in cc
   ]
 
   along_none : along ≡ None → starts_with nat_eq begun.first p ≡ false
   along_none e = false_from_ne_true (starts_with nat_eq begun.first p) (λ b.
-      let none : Some begun.first ≡ None = sym (along_true p begun.first b) ∙ along_of e in cc)
+      let none : Some begun.first ≡ None = sym (along_if p begun.first b) ∙ along_of e in cc)
 
   less_none : along ≡ None → comes_before begun.first p ≡ true
   less_none e = elim (judged_is sizes verdict start begun.first begun.begins begun.whole some (length judged) p here.next).reaches_to [
@@ -145,7 +142,7 @@ module _ (sizes : List ℕ) (verdict : List ℕ → Verdict) (start : Start) (so
       let next = open_behind sizes verdict start begun.first begun.begins begun.whole some (length judged) p here.next e room b in
       at_judging front_more (record {
         next = ap (slice_get (visited sizes verdict start)) (sym longer) ∙ next;
-        along_is = none ∙ sym (along_false (p ++ 0 ∷ []) begun.first (false_from_ne_true (starts_with nat_eq begun.first (p ++ 0 ∷ [])) (λ h. false≢true (sym b ∙ begins_front p begun.first 0 h)))) ∙ ap (if_begins (p ++ 0 ∷ [])) (sym begun.begins);
+        along_is = none ∙ sym (along_if (p ++ 0 ∷ []) begun.first (false_from_ne_true (starts_with nat_eq begun.first (p ++ 0 ∷ [])) (λ h. false≢true (sym b ∙ begins_front p begun.first 0 h)))) ∙ ap (if_begins (p ++ 0 ∷ [])) (sym begun.begins);
         given_all = given_none (ap is_yes e);
       })
   after_open e room (Some f) is =
@@ -154,7 +151,7 @@ module _ (sizes : List ℕ) (verdict : List ℕ → Verdict) (start : Start) (so
       let next = open_along sizes verdict start f parts.0 parts.1 some (length judged) p here.next e room parts.2 in
       at_judging front_more (record {
         next = ap (slice_get (visited sizes verdict start)) (sym longer) ∙ next;
-        along_is = is ∙ sym (along_true (p ++ q ∷ []) f (begins_next p f parts.2 (omega (arith, parts.1.1, room)))) ∙ ap (if_begins (p ++ q ∷ [])) (sym parts.0);
+        along_is = is ∙ sym (along_if (p ++ q ∷ []) f (begins_next p f parts.2 (omega (arith, parts.1.1, room)))) ∙ ap (if_begins (p ++ q ∷ [])) (sym parts.0);
         given_all = given_none (ap is_yes e);
       })
 
@@ -201,7 +198,7 @@ module _ (sizes : List ℕ) (verdict : List ℕ → Verdict) (start : Start) (so
       let r = closed_next sizes verdict start begun.first begun.begins begun.whole some (length judged) p here.next (ap is_open e) next beside in
       at_judging front_more (record {
         next = ap (slice_get (visited sizes verdict start)) (sym longer) ∙ r.0;
-        along_is = sym (along_false next begun.first (behind_false next begun.first r.1)) ∙ ap (if_begins next) (sym begun.begins);
+        along_is = sym (along_if next begun.first (behind_false next begun.first r.1)) ∙ ap (if_begins next) (sym begun.begins);
         given_all = given_none (ap is_yes e);
       })
 
@@ -295,7 +292,7 @@ module _ (sizes : List ℕ) (verdict : List ℕ → Verdict) (start : Start) (so
       let none : find (comes_before c) (completions sizes y) ≡ None = none_found (comes_before c) (completions sizes y) (none_of beside beside_y) in
       at_judging front (record {
         next = ap (slice_get (visited sizes verdict start)) (sym upcoming) ∙ r.0;
-        along_is = sym (along_false next begun_giving.first (behind_false next begun_giving.first r.1)) ∙ ap (if_begins next) (sym begun_giving.begins);
+        along_is = sym (along_if next begun_giving.first (behind_false next begun_giving.first r.1)) ∙ ap (if_begins next) (sym begun_giving.begins);
         given_all = given_all_of none;
       })
     where

@@ -17,6 +17,7 @@ impl Labels {
     ghost use Rattle.am_search.specs.Labels.{has_label};
 
     /// The set without labels.
+    #[tactic(auto, using(crate::proofs::LabelBits::has_none))]
     pub fn none() -> Labels
         ensures none { (i : ℕ) → has_label result i ≡ false }
     {
@@ -24,6 +25,7 @@ impl Labels {
     }
 
     /// The set with one label more.
+    #[tactic(auto, using(crate::proofs::LabelBits::has_with))]
     pub fn with(self, label: usize) -> Labels
         requires room { label < MAX_LABELS }
         ensures with { (i : ℕ) → has_label result i ≡ (has_label self i || i == label) }
@@ -34,6 +36,7 @@ impl Labels {
     }
 
     /// The labels that are in one of two sets.
+    #[tactic(auto, using(crate::proofs::LabelBits::has_either))]
     pub fn union(self, other: Labels) -> Labels
         ensures either { (i : ℕ) → has_label result i ≡ (has_label self i || has_label other i) }
     {
@@ -53,6 +56,7 @@ impl Labels {
     }
 
     /// Whether a label is in the set.
+    #[tactic(auto, using(crate::proofs::LabelBits::tested))]
     pub fn contains(self, label: usize) -> bool
         requires room { label < MAX_LABELS }
         ensures contains { result ≡ has_label self label }
