@@ -64,12 +64,11 @@ completed_admitted f (n ∷ ns) (p ∷ prefix) a below =
 
 completed_begins : (f : ℕ → ℕ) (ns prefix : List ℕ) → admits ns prefix ≡ true → begins (completed f ns prefix) prefix ≡ true
 unfolding completed
-completed_begins f [] [] a = refl
 completed_begins f [] (p ∷ prefix) a = cc
-completed_begins f (n ∷ ns) [] a = refl
 completed_begins f (n ∷ ns) (p ∷ prefix) a =
     and_from (nat_eq p p) (begins (completed (λ i. f (suc i)) ns prefix) prefix) (eq-eqb p p refl)
     (completed_begins (λ i. f (suc i)) ns prefix (and_parts (nat_lt p n) (admits ns prefix) a).1)
+completed_begins f ns prefix a = refl
 
 -- it is a completion, and goes on as it should
 pub completed_in : (f : ℕ → ℕ) (ns prefix : List ℕ) → admits ns prefix ≡ true → IsBelow f ns → IsIn (completions ns prefix) (completed f ns prefix)
@@ -78,8 +77,7 @@ completed_in f ns prefix a below =
 
 pub completed_at : (f : ℕ → ℕ) (ns prefix : List ℕ) (i : ℕ) → length prefix ≤ i → i < length ns → get_or (completed f ns prefix) i 0 ≡ f i
 unfolding completed
-completed_at f [] prefix i low high = absurd (omega arith)
 completed_at f (n ∷ ns) [] zero low high = refl
 completed_at f (n ∷ ns) [] (suc i) low high = completed_at (λ k. f (suc k)) ns [] i (omega arith) (omega arith)
-completed_at f (n ∷ ns) (p ∷ prefix) zero low high = absurd (omega arith)
 completed_at f (n ∷ ns) (p ∷ prefix) (suc i) low high = completed_at (λ k. f (suc k)) ns prefix i (omega arith) (omega arith)
+completed_at f ns prefix i low high = absurd (omega arith)

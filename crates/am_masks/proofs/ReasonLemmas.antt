@@ -2,8 +2,9 @@
 use Rattle.std.proofs.Common.{◌≡◌, ℕ, ◌<◌, Bool, true, false, not, ◌&&◌, ◌||◌, ◌==◌, cond, List, [], ◌∷◌, ◌++◌, length, get_or, slice_index, zero, suc, ◌+◌, take, drop, refl, ap, sym, subst, ◌∙◌, inl, inr, arith}
 use Rattle.std.specs.Prelude.{IsTrue}
 use Rattle.std.specs.List.{list_all, AllByRecursion}
-use Rattle.std.proofs.lemmas.Bool.{cases_Bool, and_parts, and_from, or_right, lt-ltb, ltb-true, eqb-true, eq-eqb}
-use Rattle.std.proofs.lemmas.List.{take_more}
+use Rattle.std.proofs.lemmas.Bool.{cases_Bool, not-true, and_parts, and_from, or_right, lt-ltb, ltb-true, eqb-true, eq-eqb}
+use Rattle.std.proofs.lemmas.List.{take_more, take-append-drop}
+use Rattle.std.proofs.lemmas.List.Folds.{list_all-append}
 use Rattle.am_search.specs.declared.labels.Labels.{Labels}
 use Rattle.am_search.specs.declared.verdict.Verdict.TheVariants.{Yes, No, Open}
 use Rattle.am_search.specs.Words.{has_label, is_yes, is_no}
@@ -39,14 +40,10 @@ pub one_label : (none one : Labels) (label : ℕ) → ((i : ℕ) → has_label n
     → (i : ℕ) → has_label one i ≡ (i == label)
 one_label none one label empty with i = with i ∙ ap (λ b. b || i == label) (empty i)
 
-not_no : (b : Bool) → not b ≡ true → b ≡ false
-not_no true e = sym e
-not_no false e = refl
-
 pub no_reason : (cube : MaskedLabels) (prefix : List ℕ) → cube.empty ≡ false
     → list_all (fits prefix) cube.masks ≡ true → is_no (verdict_at cube prefix) ≡ false
 no_reason cube prefix some fit =
-    not_no (is_no (verdict_at cube prefix)) (may_is cube prefix
+    not-true (is_no (verdict_at cube prefix)) (may_is cube prefix
     ∙ and_from (not cube.empty) (list_all (fits prefix) cube.masks) (ap not some) fit)
 
 -- ---- Why the verdict is `Yes`.
@@ -137,8 +134,6 @@ labels_next masks k m old new prefix before low is within with =
 pub all_of_parts : (test : LabelMask → Bool) (masks : List LabelMask) (k : ℕ)
     → list_all test (take k masks) ≡ true → list_all test (drop k masks) ≡ true
     → list_all test masks ≡ true
-all_of_parts test [] k front back = refl
-all_of_parts test (m ∷ masks) zero front back = back
-all_of_parts test (m ∷ masks) (suc k) front back =
-    let parts = and_parts (test m) (list_all test (take k masks)) front in
-    and_from (test m) (list_all test masks) parts.0 (all_of_parts test masks k parts.1 back)
+all_of_parts test masks k front back =
+    subst (λ ms. list_all test ms ≡ true) (take-append-drop k masks)
+    (list_all-append test (take k masks) (drop k masks) ∙ and_from _ _ front back)

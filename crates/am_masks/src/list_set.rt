@@ -20,6 +20,7 @@ impl ListSet {
     }
 
     /// The set of all lists for which there is room.
+    #[tactic(auto, using(crate::proofs::SetLemmas::in_all))]
     pub(crate) fn all() -> ListSet
         ensures all { (k : ℕ) → k < ROOM → IsTrue (has result k) }
     {
@@ -27,6 +28,7 @@ impl ListSet {
     }
 
     /// Puts in the list at a place.
+    #[tactic(auto, using(crate::proofs::SetLemmas::inserted, crate::proofs::SetLemmas::kept_in))]
     pub(crate) fn insert(&mut self, place: usize)
         requires { place < ROOM }
         ensures there { IsTrue (has self.new place) }
@@ -36,6 +38,7 @@ impl ListSet {
     }
 
     /// Takes out the list at a place.
+    #[tactic(auto, using(crate::proofs::SetLemmas::still_in))]
     pub(crate) fn remove(&mut self, place: usize)
         requires { place < ROOM }
         ensures others { (k : ℕ) → k < ROOM → k ≢ place
@@ -45,6 +48,7 @@ impl ListSet {
     }
 
     /// The lists that are in both sets.
+    #[tactic(auto, using(crate::proofs::SetLemmas::in_both))]
     pub(crate) fn and(self, other: ListSet) -> ListSet
         ensures both { (k : ℕ) → IsTrue (has self k) → IsTrue (has other k)
             → IsTrue (has result k) }

@@ -6,17 +6,13 @@ use Rattle.am_masks.proofs.group.Group.next.Goals as goal
 
 pub returns-in-Lists-clause-some : goal.returns-in-Lists-clause-some
 returns-in-Lists-clause-some g c =
-    let V = g.L.JudgedList.verdict in
-    let prefix = c.args.prefix.now in
     rw (c.in-Lists.is, sym c.as_slice.ensures.value)
-    (if_some_next (passes c.args.modality) (λ list. V list prefix) c.as_slice.result.now c.args.from c.next_list.result c.next_list.ensures.some)
+    (if_some_next (passes c.args.modality) (λ list. g.L.JudgedList.verdict list c.args.prefix.now) c.as_slice.result.now c.args.from c.next_list.result c.next_list.ensures.some)
 
 pub returns-in-Lists-clause-none : goal.returns-in-Lists-clause-none
 returns-in-Lists-clause-none g c =
-    let V = g.L.JudgedList.verdict in
-    let prefix = c.args.prefix.now in
     rw (c.in-Lists.is, sym c.as_slice.ensures.value)
-    (if_none_next (passes c.args.modality) (λ list. V list prefix) c.as_slice.result.now c.args.from c.next_list.result c.next_list.ensures.none)
+    (if_none_next (passes c.args.modality) (λ list. g.L.JudgedList.verdict list c.args.prefix.now) c.as_slice.result.now c.args.from c.next_list.result c.next_list.ensures.none)
 
 pub returns-in-Cubes-clause-some : goal.returns-in-Cubes-clause-some
 returns-in-Cubes-clause-some g c =
