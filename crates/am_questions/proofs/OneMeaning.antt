@@ -1,5 +1,5 @@
 -- A tree means at most one question, and so a text is read as at most one.
-use Rattle.std.proofs.Common.{◌≡◌, ℕ, List, ap, sym, ◌∙◌, subst}
+use Rattle.std.proofs.Common.{◌≡◌, ℕ, List, ap, ap₂, sym, ◌∙◌, subst}
 use Rattle.std.proofs.lemmas.Option.{same_Some}
 use Rattle.am_labels.proofs.MatcherTextWhole.{one_list}
 use Rattle.am_files.specs.ConfigFile.{Configuration}
@@ -29,11 +29,9 @@ pub one_meaning : (c : Configuration) (tree : Tree Written) (p q : Question)
 one_meaning c (Part w) p q h k = h.2 ∙ ap Part (one_simple c w h.0 k.0 h.1 k.1) ∙ sym k.2
 one_meaning c (Not t) p q h k = h.2 ∙ ap Not (one_meaning c t h.0 k.0 h.1 k.1) ∙ sym k.2
 one_meaning c (And t u) p q h k =
-    h.4 ∙ ap (λ (x : Question). And x h.1) (one_meaning c t h.0 k.0 h.2 k.2)
-    ∙ ap (λ (x : Question). And k.0 x) (one_meaning c u h.1 k.1 h.3 k.3) ∙ sym k.4
+    h.4 ∙ ap₂ And (one_meaning c t h.0 k.0 h.2 k.2) (one_meaning c u h.1 k.1 h.3 k.3) ∙ sym k.4
 one_meaning c (Or t u) p q h k =
-    h.4 ∙ ap (λ (x : Question). Or x h.1) (one_meaning c t h.0 k.0 h.2 k.2)
-    ∙ ap (λ (x : Question). Or k.0 x) (one_meaning c u h.1 k.1 h.3 k.3) ∙ sym k.4
+    h.4 ∙ ap₂ Or (one_meaning c t h.0 k.0 h.2 k.2) (one_meaning c u h.1 k.1 h.3 k.3) ∙ sym k.4
 
 -- a text has one list of tokens, which is one tree, which means one question
 pub one_question : (c : Configuration) (text : List ℕ) (p q : Question)

@@ -18,8 +18,7 @@ meant_by config {simple = simple} is means seen =
     (simple, subst (λ (w : kept.Written). Means config (written_view w) simple) (sym is) means, seen)
 
 pub returns-in-Any-clause-meant : goal.returns-in-Any-clause-meant
-returns-in-Any-clause-meant c =
-    meant_by (config_view c.args.config.now) c.in-Any.is refl any_seen
+returns-in-Any-clause-meant c = meant_by (config_view c.args.config.now) c.in-Any.is refl any_seen
 
 pub returns-in-Silenced-clause-meant : goal.returns-in-Silenced-clause-meant
 returns-in-Silenced-clause-meant c =
