@@ -25,11 +25,13 @@ pub fn limit_of_matchers()
 {}
 
 /// Every pattern is a join of pieces.
+#[tactic(auto, using(crate::proofs::PatternJoins::each_is_join))]
 pub fn each_pattern_is_a_join()
     ensures joined { (pattern : List ℕ) → (pieces : List Piece) × IsJoinOf pattern pieces }
 {}
 
 /// It is the join of no other pieces.
+#[tactic(auto, using(crate::proofs::PatternUnique::one_join))]
 pub fn one_join_a_pattern()
     ensures same_pieces { (pattern : List ℕ) (a b : List Piece)
         → IsJoinOf pattern a → IsJoinOf pattern b → a ≡ b }
@@ -41,6 +43,7 @@ pub fn the_profile_is_decided()
 {}
 
 /// A text spells at most one list of matchers.
+#[tactic(auto, using(crate::proofs::MatcherTextWhole::one_list))]
 pub fn one_list_a_text()
     ensures same_list { (text : List ℕ) (ms ns : List Condition)
         → Spells text ms → Spells text ns → ms ≡ ns }
@@ -61,6 +64,7 @@ pub fn texts_are_read()
 {}
 
 /// In the set of a list that repeats no name, each name of the list has its value.
+#[tactic(auto, using(crate::proofs::ParsedLabelSetLemmas::value_of_listed))]
 pub fn listed_value()
     ensures value { (ms : List Condition) (m : Condition)
         → repeats_name ms ≡ false → Contains ms m
@@ -68,6 +72,7 @@ pub fn listed_value()
 {}
 
 /// In the set of a list a name that is not in the list has the empty text.
+#[tactic(auto, using(crate::proofs::ParsedLabelSetLemmas::value_of_unlisted))]
 pub fn unlisted_value()
     ensures value { (ms : List Condition) (name : List ℕ)
         → ¬ Contains (map (λ m. m.name) ms) name
@@ -75,6 +80,7 @@ pub fn unlisted_value()
 {}
 
 /// The truth of a matcher on the label set of a whole choice is its row's truth at that choice.
+#[tactic(auto, using(crate::proofs::RowLawLemmas::row_decides))]
 pub fn a_row_decides_a_matcher()
     ensures same_truth { (u : List Label) (c : List ℕ) (m : Condition)
         → IsUniverse u → IsWhole (sizes u) c
@@ -83,6 +89,7 @@ pub fn a_row_decides_a_matcher()
 
 /// The truth of a list of matchers on the label set of a whole choice: each one's row is true at
 /// that choice.
+#[tactic(auto, using(crate::proofs::RowLawLemmas::rows_decide))]
 pub fn rows_decide_a_list()
     ensures same_truth { (u : List Label) (c : List ℕ) (ms : List Condition)
         → IsUniverse u → IsWhole (sizes u) c
@@ -96,6 +103,7 @@ pub fn choices_of_a_space_are_the_possible_ones()
 {}
 
 /// Where nothing is impossible, they are all whole choices; where the empty list is, there is none.
+#[tactic(auto, using(crate::proofs::SpaceLaws::all_without_lists, crate::proofs::SpaceLaws::none_of_empty_list))]
 pub fn an_impossible_list_takes_away_what_it_matches()
     ensures all { (labels : List Label) → all_choices (record { labels = labels; impossible = [] })
         ≡ choices (sizes labels) }

@@ -18,12 +18,14 @@ ghost use Rattle.am_questions.specs.Words.{Inputs, AcceptsInputs, ask_stages};
 ghost use Rattle.am_questions.specs.Words.{any_word, not_word, and_word, or_word, any_tree};
 
 /// A text has at most one list of tokens.
+#[tactic(auto, using(crate::proofs::TokenTexts::one_list))]
 pub fn one_list_of_tokens_a_text()
     ensures one { (text : List ℕ) (ts us : List Token) → SpellsTokens text ts
         → SpellsTokens text us → ts ≡ us }
 {}
 
 /// A list of tokens is at most one tree.
+#[tactic(auto, using(crate::proofs::Takes::one_tree))]
 pub fn one_tree_a_list_of_tokens()
     ensures one { (tokens : List Token) (tree other : Tree Written) → IsQuestion tokens tree
         → IsQuestion tokens other → tree ≡ other }
@@ -32,6 +34,7 @@ pub fn one_tree_a_list_of_tokens()
 /// The simple parts of a question, from left to right, which is the order in which they are looked
 /// at, stand in its tokens in that order, and between them stand the words and parentheses that
 /// join them, and nothing else.
+#[tactic(auto, using(crate::proofs::PartsInOrder::parts_in_order))]
 pub fn parts_stand_in_the_order_of_their_tokens()
     ensures order { (tokens : List Token) (tree : Tree Written) → IsQuestion tokens tree
         → StandInOrder (parts_of tree) tokens }

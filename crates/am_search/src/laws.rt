@@ -36,6 +36,7 @@ pub fn sizes_of_a_universe()
 
 /// At a prefix begin the choices that do not stand before it in the order of a dictionary. There is
 /// at least one.
+#[tactic(auto, using(crate::proofs::Pages::choices_at, crate::proofs::Pages::some_at))]
 pub fn choices_at_a_prefix()
     ensures choices { (ns prefix : List ℕ) → AreSizes ns → IsTrue (admits ns prefix)
         → choices_from ns (At prefix) ≡ filter (λ c. not (comes_before c prefix)) (choices ns) }
@@ -44,11 +45,13 @@ pub fn choices_at_a_prefix()
 {}
 
 /// At the empty prefix begin all choices.
+#[tactic(auto, using(crate::proofs::Walks::first_of_all))]
 pub fn choices_from_the_first_on()
     ensures all { (ns : List ℕ) → choices_from ns (At []) ≡ choices ns }
 {}
 
 /// After a choice come those that it stands before in the order of a dictionary.
+#[tactic(auto, using(crate::proofs::Pages::choices_after))]
 pub fn choices_after_a_choice()
     ensures choices { (ns c : List ℕ)
         → choices_from ns (After c) ≡ filter (comes_before c) (choices ns) }
@@ -70,6 +73,7 @@ pub fn answers_are_the_true_choices()
 {}
 
 /// Which choices are answers is decided at whole choices alone.
+#[tactic(auto, using(crate::proofs::Pages::same_answers))]
 pub fn answers_are_decided_at_whole_choices()
     ensures same { (ns : List ℕ) (f g : List ℕ → Bool) (start : Start)
         → ((c : List ℕ) → IsWhole ns c → f c ≡ g c)
@@ -77,12 +81,14 @@ pub fn answers_are_decided_at_whole_choices()
 {}
 
 /// Each answer comes before those after it in the order of a dictionary, so none stands twice.
+#[tactic(auto, using(crate::proofs::Pages::answers_sorted))]
 pub fn answers_ascend()
     ensures ascending { (ns : List ℕ) (truth : List ℕ → Bool) (start : Start)
         → IsStrictlySortedBy (slice_cmp nat_cmp) (answers_from ns truth start) }
 {}
 
 /// A page has no more choices than its limit, and exactly so many where it leaves answers.
+#[tactic(auto, using(crate::proofs::Pages::within_limit, crate::proofs::Pages::limit_reached))]
 pub fn a_page_keeps_its_limit()
     ensures within { (ns : List ℕ) (truth : List ℕ → Bool) (start : Start) (n : ℕ)
         → length (page_from ns truth start (Some n)).choices ≤ n }
@@ -93,6 +99,7 @@ pub fn a_page_keeps_its_limit()
 
 /// The text of a trailer behind which a page begins is `# next` or `# stopped` and the token of the
 /// start of that page; that of a trailer behind which none does is `# end`.
+#[tactic(auto, using(crate::proofs::Pages::trailer_next, crate::proofs::Pages::trailer_stopped, crate::proofs::Pages::trailer_end))]
 pub fn a_trailer_has_the_token_of_its_start()
     ensures next { (fingerprint c : List ℕ) (start : Start) → start_after (Next c) ≡ Some start
         → trailer_text fingerprint (Next c)
@@ -158,6 +165,7 @@ pub fn a_stopped_page_has_the_answers_before_its_prefix()
 {}
 
 /// A search judges no more prefixes than it visits in all, and no more than its budget allows.
+#[tactic(auto, using(crate::proofs::WalkBudgets::judged_within, crate::proofs::WalkBudgets::judged_budget))]
 pub fn a_search_keeps_its_budget()
     ensures within { (ns : List ℕ) (verdict : List ℕ → Verdict) (start : Start) (budget : Option ℕ)
         (judged given : List (List ℕ)) → IsPartOfSearch ns verdict start budget judged given
@@ -194,6 +202,7 @@ pub fn pages_under_budgets_come_to_an_end()
 
 /// The choices of pages in a row, joined, are the answers from the first page's start on, whatever
 /// the limits of the pages are, and whatever their budgets, where these are enough.
+#[tactic(auto, using(crate::proofs::SearchChains::search_chain_joined))]
 pub fn pages_under_budgets_are_the_answers()
     ensures joined { (ns : List ℕ) (truth : List ℕ → Bool) (verdict : List ℕ → Verdict)
         (start : Start) (pages : List AnswerPage) → IsJudge ns truth verdict
@@ -202,6 +211,7 @@ pub fn pages_under_budgets_are_the_answers()
 {}
 
 /// The choices of pages in a row, joined, are the answers from the first page's start on.
+#[tactic(auto, using(crate::proofs::Pages::chain_joined))]
 pub fn pages_in_a_row_are_the_answers()
     ensures joined { (ns : List ℕ) (truth : List ℕ → Bool) (start : Start) (pages : List AnswerPage)
         → IsChain ns truth start pages → all_choices_of pages ≡ answers_from ns truth start }
@@ -210,6 +220,7 @@ pub fn pages_in_a_row_are_the_answers()
 /// Two different starts have different tokens, of the old form as of the other, also where they are
 /// starts over different sizes, and a token that is written is made under one fingerprint alone. So
 /// a text is read as one start at most, whatever the inputs and whatever their labels.
+#[tactic(auto, using(crate::proofs::TokenForms::same_old, crate::proofs::TokenForms::same_written, crate::proofs::TokenForms::same_start, crate::proofs::TokenForms::same_fingerprint))]
 pub fn one_start_a_token()
     ensures old { (ns ms : List ℕ) (s t : Start) → AreSizes ns → AreSizes ms
         → IsStart ns s → IsStart ms t → old_token_text s ≡ old_token_text t → s ≡ t }
@@ -227,6 +238,7 @@ pub fn one_start_a_token()
 /// A token of a start over some sizes is no token over other sizes of which that is no start,
 /// whatever the inputs are. Where it is a start over these too, a token that was written for it is
 /// refused under any other fingerprint.
+#[tactic(auto, using(crate::proofs::TokenForms::no_start_there, crate::proofs::TokenForms::of_other_inputs))]
 pub fn a_token_of_another_universe_is_refused()
     ensures no_start_there { (ns ms h k text : List ℕ) (start : Start) → AreSizes ns → AreSizes ms
         → IsFingerprint h → ReadsToken ns h text start → (IsStart ms start → ⊥)
@@ -261,6 +273,7 @@ pub fn one_answer_a_token()
 {}
 
 /// All prefixes are those that the sizes admit.
+#[tactic(auto, using(crate::proofs::VisitedPrefixes::prefixes_admitted))]
 pub fn prefixes_are_those_admitted()
     ensures exactly { (ns prefix : List ℕ)
         → Contains (all_prefixes ns) prefix ↔ IsTrue (admits ns prefix) }
@@ -268,6 +281,7 @@ pub fn prefixes_are_those_admitted()
 
 /// The prefixes that are judged come in the order of a dictionary, a prefix before those that begin
 /// with it, so none is judged twice.
+#[tactic(auto, using(crate::proofs::VisitedPrefixes::visited_sorted))]
 pub fn judged_prefixes_ascend()
     ensures ascending { (ns : List ℕ) (verdict : List ℕ → Verdict) (start : Start)
         → IsStrictlySortedBy (slice_cmp nat_cmp) (visited ns verdict start) }
@@ -275,6 +289,7 @@ pub fn judged_prefixes_ascend()
 
 /// The prefixes that are judged give exactly the answers from the start on: the true choices among
 /// those from there on, in order, each once.
+#[tactic(auto, using(crate::proofs::VisitsGive::visited_give))]
 pub fn judged_prefixes_give_the_answers()
     ensures exactly { (ns : List ℕ) (truth : List ℕ → Bool) (verdict : List ℕ → Verdict)
         (start : Start) → IsJudge ns truth verdict
@@ -285,6 +300,7 @@ pub fn judged_prefixes_give_the_answers()
 /// and `z` the number of values that all labels have together: then at most `1 + (n + 1) * z`
 /// prefixes are judged. From the first choice on it is at most `1 + n * z`, so no more than one
 /// where there is no answer.
+#[tactic(auto, using(crate::proofs::VisitsBound::visited_at_most, crate::proofs::VisitsBound::visited_from_first))]
 pub fn judged_prefixes_are_few()
     ensures at_most { (ns : List ℕ) (truth : List ℕ → Bool) (verdict : List ℕ → Verdict)
         (start : Start) → IsExactJudge ns truth verdict
