@@ -1,8 +1,6 @@
--- Texts of which no two are alike: in another order, with one more, and how many there are.
-use Rattle.std.proofs.Common.{◌≡◌, ◌≤◌, ◌⊎◌, ℕ, zero, suc, Bool, true, false, List, [], ◌∷◌, ◌++◌}
-use Rattle.std.proofs.Common.{length, map, String, string_bytes, get_or, refl, sym, ap, ◌∙◌}
-use Rattle.std.proofs.Common.{subst, inl, inr, arith}
-use Rattle.std.specs.Prelude.{Some, slice_get, IsPermutation}
+-- Texts of which no two are alike: that they are distinct, with one more, and how many there are.
+use Rattle.std.proofs.Common.{◌≡◌, ◌≤◌, ℕ, true, List, [], ◌∷◌, ◌++◌, length, map, String}
+use Rattle.std.proofs.Common.{string_bytes, get_or, sym, ◌∙◌, subst, inl, inr, arith}
 use Rattle.std.specs.List.{AllByRecursion, IsDistinct}
 use Rattle.std.specs.Str.{IsUtf8}
 use Rattle.std.specs.declared.alloc.Global.{Global}
@@ -10,33 +8,25 @@ use Rattle.std.specs.Cmp.{IsEquivalence}
 use Rattle.std.specs.Cmp.Lexicographic.{bytes_decides}
 use Rattle.std.proofs.lemmas.Bool.{cases_Bool}
 use Rattle.std.proofs.lemmas.Str.{IsUtf8-string_bytes}
-use Rattle.std.proofs.lemmas.Map.Keys.{IsDistinct-IsPermutation, IsDistinct-from_apart}
+use Rattle.std.proofs.lemmas.Map.Keys.{IsDistinct-from_apart}
 use Rattle.std.proofs.lemmas.Map.Made.{length-le_from_is_member}
 use Rattle.std.proofs.lemmas.Option.{slice_get-get_or}
 use Rattle.am_universe.specs.Text.{same_text}
-use Rattle.am_universe.proofs.ListLemmas.{IsIn, IsIn-from_Contains}
-use Rattle.am_universe.proofs.ListLemmas.{AllByRecursion-at}
+use Rattle.am_universe.proofs.ListLemmas.{IsIn, IsIn-from_Contains, AllByRecursion-at}
 use Rattle.am_labels.specs.Matcher.{Condition}
 use Rattle.am_labels.proofs.Passing.{any_in, in_any}
 use Rattle.am_universe.proofs.Members.{in_at}
 use Rattle.am_classes.specs.Alike.{AreAlike, AreApart, HasAlikeIn}
 use Rattle.am_complete.proofs.Alike.{alike_itself, alike_turned, alike_joined}
 use Rattle.am_complete.proofs.ChosenTexts.{alike, alike_is, is_alike, turned, distinct_from_apart}
-use Rattle.am_complete.proofs.ChosenTexts.{apart_from_distinct_texts}
+use Rattle.am_complete.proofs.ChosenTexts.{same_where_both}
+use Rattle.am_complete.proofs.Pushed.{got_either}
 
 -- ---- Texts in memory are UTF-8.
 
 pub utf8_texts : (texts : List (String Global)) → AllByRecursion IsUtf8 (map string_bytes texts)
 utf8_texts [] = tt
 utf8_texts (text ∷ texts) = (IsUtf8-string_bytes text, utf8_texts texts)
-
--- ---- Another order.
-
-pub apart_moved : (ms : List Condition) (xs ys : List (List ℕ)) → IsPermutation xs ys
-    → AreApart ms xs → AreApart ms ys
-apart_moved ms xs ys moved apart =
-    apart_from_distinct_texts ms ys
-    (IsDistinct-IsPermutation (alike ms) (turned ms) xs ys moved (distinct_from_apart ms xs apart))
 
 -- ---- What is apart is distinct.
 
@@ -58,16 +48,6 @@ distinct_where_apart ms xs apart =
 
 -- ---- One text more.
 
-got_either : (xs : List (List ℕ)) (y x : List ℕ) (i : ℕ) → slice_get (xs ++ y ∷ []) i ≡ Some x
-    → (slice_get xs i ≡ Some x) ⊎ ((i ≡ length xs) × (y ≡ x))
-got_either [] y x zero h = inr (refl, cc)
-got_either [] y x (suc i) h = absurd (cc)
-got_either (z ∷ xs) y x zero h = inl h
-got_either (z ∷ xs) y x (suc i) h = elim (got_either xs y x i h) [
-  | inl a ↦ inl a
-  | inr b ↦ inr (ap suc b.0, b.1)
-]
-
 pub apart_pushed : (ms : List Condition) (xs : List (List ℕ)) (x : List ℕ) → AreApart ms xs
     → ((y : List ℕ) → IsIn xs y → AreAlike ms y x → ⊥) → AreApart ms (xs ++ x ∷ [])
 apart_pushed ms xs x apart none i j y z at_y at_z same = elim (got_either xs x y i at_y) [
@@ -87,12 +67,6 @@ apart_pushed ms xs x apart none i j y z at_y at_z same = elim (got_either xs x y
 
 alike_itself_is : (ms : List Condition) (x : List ℕ) → alike ms x x ≡ true
 alike_itself_is ms x = alike_is ms x x (alike_itself ms x)
-
--- truths are the same where each gives the other
-pub same_where_both : (a b : Bool) → (a ≡ true → b ≡ true) → (b ≡ true → a ≡ true) → a ≡ b
-same_where_both true b f g = sym (f refl)
-same_where_both false true f g = g refl
-same_where_both false false f g = refl
 
 alike_through : (ms : List Condition) (x y z : List ℕ) → alike ms x y ≡ true
     → alike ms x z ≡ alike ms y z

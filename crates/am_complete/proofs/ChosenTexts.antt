@@ -1,12 +1,13 @@
 -- Texts that stand for classes of texts: others of their classes do too, and so they do in another
 -- order.
 use Rattle.std.proofs.Common.{◌≡◌, ◌<◌, ◌&&◌, ℕ, zero, suc, Bool, true, false, List, [], ◌∷◌, ◌++◌}
-use Rattle.std.proofs.Common.{length, map, take, String, string_bytes, get_or, Option, Some, None, refl, sym, ap, ◌∙◌, subst, inl, inr, arith}
+use Rattle.std.proofs.Common.{length, map, take, String, string_bytes, get_or, Option, Some, None}
+use Rattle.std.proofs.Common.{refl, sym, ap, ◌∙◌, subst, inl, inr, arith}
 use Rattle.std.specs.Prelude.{slice_get, IsPermutation, IfSome, is_some}
 use Rattle.std.specs.List.{AllByRecursion, IsDistinct}
 use Rattle.std.specs.declared.alloc.Global.{Global}
 use mathlib.Core.Bool.{beq}
-use Rattle.std.proofs.lemmas.Bool.{cases_Bool, cases_lt, and_parts}
+use Rattle.std.proofs.lemmas.Bool.{both_ways, cases_Bool, cases_lt, and_parts}
 use Rattle.std.proofs.lemmas.List.{take_all}
 use Rattle.std.proofs.lemmas.List.Sorted.{Contains-permutation}
 use Rattle.std.proofs.lemmas.Map.Keys.{IsDistinct-IsPermutation, IsDistinct-from_apart}
@@ -89,23 +90,23 @@ abbrev pub alike : List Condition → List ℕ → List ℕ → Bool
 alike [] x y = true
 alike (m ∷ ms) x y = beq (holds m.op m.value x) (holds m.op m.value y) && alike ms x y
 
-same_truths : (a b : Bool) → a ≡ b → beq a b ≡ true
+pub same_truths : (a b : Bool) → a ≡ b → beq a b ≡ true
 same_truths true true e = refl
 same_truths true false e = absurd (cc)
 same_truths false true e = absurd (cc)
 same_truths false false e = refl
 
-one_truth : (a b : Bool) → beq a b ≡ true → a ≡ b
+pub one_truth : (a b : Bool) → beq a b ≡ true → a ≡ b
 one_truth true true e = refl
 one_truth true false e = absurd (cc)
 one_truth false true e = absurd (cc)
 one_truth false false e = refl
 
-truths_turned : (a b : Bool) → beq a b ≡ beq b a
-truths_turned true true = refl
-truths_turned true false = refl
-truths_turned false true = refl
-truths_turned false false = refl
+-- truths are the same where each gives the other
+pub same_where_both : (a b : Bool) → (a ≡ true → b ≡ true) → (b ≡ true → a ≡ true) → a ≡ b
+same_where_both true b f g = sym (f refl)
+same_where_both false true f g = g refl
+same_where_both false false f g = refl
 
 pub alike_is : (ms : List Condition) (x y : List ℕ) → AreAlike ms x y → alike ms x y ≡ true
 alike_is [] x y h = refl
@@ -118,9 +119,10 @@ is_alike (m ∷ ms) x y h =
     let both = and_parts _ _ h in (one_truth _ _ both.0, is_alike ms x y both.1)
 
 pub turned : (ms : List Condition) (x y : List ℕ) → alike ms x y ≡ alike ms y x
-turned [] x y = refl
-turned (m ∷ ms) x y =
-    λ i. truths_turned (holds m.op m.value x) (holds m.op m.value y) i && turned ms x y i
+turned ms x y =
+    same_where_both (alike ms x y) (alike ms y x)
+    (λ h. alike_is ms y x (alike_turned ms x y (is_alike ms x y h)))
+    (λ h. alike_is ms x y (alike_turned ms y x (is_alike ms y x h)))
 
 pub distinct_from_apart : (ms : List Condition) (xs : List (List ℕ)) → AreApart ms xs
     → IsDistinct (alike ms) xs
@@ -145,7 +147,7 @@ apart_before ms xs i j x y distinct at_x at_y h before =
     let same : alike ms (get_or xs i x) (get_or xs j x) ≡ true =
     ap (λ w. alike ms w (get_or xs j x)) (get_or_from_slice_get xs i x x at_x)
     ∙ ap (alike ms x) (get_or_from_slice_get xs j y x at_y) ∙ alike_is ms x y h in
-    let both : true ≡ false = sym same ∙ differs in cc
+    both_ways (alike ms (get_or xs i x) (get_or xs j x)) differs same
 
 pub apart_from_distinct_texts : (ms : List Condition) (xs : List (List ℕ))
     → IsDistinct (alike ms) xs → AreApart ms xs
@@ -159,13 +161,17 @@ apart_from_distinct_texts ms xs distinct i j x y at_x at_y h =
       ]
     ]
 
+pub apart_moved : (ms : List Condition) (xs ys : List (List ℕ)) → IsPermutation xs ys
+    → AreApart ms xs → AreApart ms ys
+apart_moved ms xs ys moved apart =
+    apart_from_distinct_texts ms ys
+    (IsDistinct-IsPermutation (alike ms) (turned ms) xs ys moved (distinct_from_apart ms xs apart))
+
 pub stand_moved : (ms : List Condition) (xs ys : List (List ℕ)) → IsPermutation xs ys
     → StandForAll ms xs → StandForAll ms ys
 stand_moved ms xs ys moved stand = (
   λ text valid.
       let one = stand.0 text valid in
       (one.0, Contains-permutation xs ys one.0 moved one.1, one.2),
-  apart_from_distinct_texts ms ys
-      (IsDistinct-IsPermutation (alike ms) (turned ms) xs ys moved
-      (distinct_from_apart ms xs stand.1)),
+  apart_moved ms xs ys moved stand.1,
 )

@@ -1,9 +1,8 @@
 -- Where a universe and a space are complete: at labels that no matcher is on, and by those alone that
 -- matchers ask of.
-use Rattle.std.proofs.Common.{◌≡◌, ◌≢◌, ◌⊎◌, ℕ, ◌<◌, List, [], ◌∷◌, length, map, Option, Some, None}
-use Rattle.std.proofs.Common.{Bool, ◌&&◌, refl, sym, ◌∙◌, subst, inl, inr, arith, Contains}
+use Rattle.std.proofs.Common.{◌≡◌, ◌≢◌, ◌⊎◌, ℕ, ◌<◌, List, [], ◌∷◌, length, map, Bool, ◌&&◌, refl}
+use Rattle.std.proofs.Common.{sym, ◌∙◌, subst, inl, inr, arith, Contains}
 use Rattle.std.specs.Prelude.{unwrap_or, IsTrue}
-use Rattle.std.specs.List.{find}
 use Rattle.std.specs.Cmp.Lexicographic.{bytes_decides}
 use Rattle.std.proofs.lemmas.Bool.{cases_Bool, and_parts}
 use Rattle.am_universe.specs.Text.{same_text}
@@ -14,11 +13,10 @@ use Rattle.am_universe.proofs.ListLemmas.{AllByRecursion-at, IsIn-unmap}
 use Rattle.am_labels.specs.Matcher.{Condition, holds, all_hold}
 use Rattle.am_labels.specs.Space.{Space}
 use Rattle.am_classes.specs.Alike.{AreAlike}
-use Rattle.am_complete.specs.Complete.{about, label_texts, texts_of_label, IsCompleteAt, IsComplete}
-use Rattle.am_complete.specs.Complete.{asks_only_of, matches_text}
-use Rattle.am_complete.specs.Complete.{IsSpaceCompleteAt, IsSpaceComplete}
+use Rattle.am_complete.specs.Complete.{about, label_texts, IsCompleteAt, IsComplete, asks_only_of}
+use Rattle.am_complete.specs.Complete.{matches_text, IsSpaceCompleteAt, IsSpaceComplete}
 use Rattle.am_complete.specs.AskedLabel.{AskedLabel, asked_names, IsAskedOf}
-use Rattle.am_complete.proofs.LabelTexts.{has_name, found_in}
+use Rattle.am_complete.proofs.LabelTexts.{texts_by}
 
 -- ---- At a label.
 
@@ -30,14 +28,9 @@ some_value_text (v ∷ values) h = (unwrap_or v [], inl refl)
 
 some_text : (u : List Label) (name : List ℕ) → IsUniverse u
     → (x : List ℕ) × IsIn (label_texts u name) x
-some_text u name h = by (find (has_name name) u) refl
-  where
-    by : (o : Option Label) → find (has_name name) u ≡ o
-        → (x : List ℕ) × IsIn (texts_of_label o) x
-    by None e = ([], inl refl)
-    by (Some l) e =
-        some_value_text l.values
-        (AllByRecursion-at IsLabel u l h.labels (found_in name u l e).0).some_value
+some_text u name h =
+    texts_by (λ texts. (x : List ℕ) × IsIn texts x) u name ([], inl refl) (λ l i same.
+    some_value_text l.values (AllByRecursion-at IsLabel u l h.labels i).some_value)
 
 pub complete_without_matchers : (u : List Label) (ms : List Condition) (name : List ℕ)
     → IsUniverse u → about name ms ≡ [] → IsCompleteAt u ms name

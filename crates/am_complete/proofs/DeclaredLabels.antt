@@ -1,11 +1,10 @@
 -- Why a label is not declared: for a new label name and distinct texts there is no room.
-use Rattle.std.proofs.Common.{◌≡◌, ◌≢◌, ◌<◌, ◌≤◌, ℕ, List, [], ◌∷◌, length, map}
-use Rattle.std.proofs.Common.{false, refl, sym, ap, ◌∙◌, subst, inl, inr, arith, Some, None}
-use Rattle.std.proofs.Common.{Contains, length-append}
+use Rattle.std.proofs.Common.{◌≡◌, ◌≢◌, ◌<◌, ◌≤◌, ℕ, List, [], ◌∷◌, length, map, false, refl, sym}
+use Rattle.std.proofs.Common.{ap, ◌∙◌, subst, inl, inr, arith, Some, None, Contains, length-append}
 use Rattle.std.specs.Prelude.{IsTrue, unwrap_or, Option}
 use Rattle.std.specs.List.{AllByRecursion, IsDistinct, list_any}
 use Rattle.std.specs.Cmp.Lexicographic.{bytes_decides}
-use Rattle.std.proofs.lemmas.Bool.{cases_Bool, cases_lt}
+use Rattle.std.proofs.lemmas.Bool.{false_from_ne_true, cases_lt}
 use Rattle.std.proofs.lemmas.List.{length-map, map-append}
 use Rattle.am_universe.specs.declared.kind.Kind.TheVariants as kinds
 use Rattle.am_universe.specs.declared.label_fault.LabelFault.{LabelFault}
@@ -19,38 +18,41 @@ use Rattle.am_universe.proofs.ListLemmas.{IsIn, Contains-from_IsIn}
 use Rattle.am_labels.proofs.Passing.{any_in}
 use Rattle.am_complete.specs.Room.{IsFullFor}
 
--- ---- Values with distinct texts are distinct.
+-- ---- Values are distinct where their texts are, if none of them is the empty text.
 
-differ : (v w : Option (List ℕ)) → same_text (unwrap_or v []) (unwrap_or w []) ≡ false
-    → same_value v w ≡ false
-differ None None h = h
-differ None (Some t) h = refl
-differ (Some s) None h = refl
-differ (Some s) (Some t) h = h
+same_tests : (v w : Option (List ℕ)) → is_empty_text v ≡ false → is_empty_text w ≡ false
+    → same_value v w ≡ same_text (unwrap_or v []) (unwrap_or w [])
+same_tests None None full whole = refl
+same_tests None (Some []) full whole = absurd (cc)
+same_tests None (Some (c ∷ cs)) full whole = refl
+same_tests (Some []) w full whole = absurd (cc)
+same_tests (Some (c ∷ cs)) None full whole = refl
+same_tests (Some (c ∷ cs)) (Some y) full whole = refl
 
-each_differs : (v : Option (List ℕ)) (values : Values)
-    → AllByRecursion (λ t. same_text (unwrap_or v []) t ≡ false) (map (λ w. unwrap_or w []) values)
-    → AllByRecursion (λ w. same_value v w ≡ false) values
-each_differs v [] h = tt
-each_differs v (w ∷ values) h = (differ v w h.0, each_differs v values h.1)
+each_differs : (v : Option (List ℕ)) (vs : Values) → is_empty_text v ≡ false
+    → AllByRecursion (λ w. is_empty_text w ≡ false) vs
+    → AllByRecursion (λ w. same_value v w ≡ false) vs
+    ≡ AllByRecursion (λ y. same_text (unwrap_or v []) y ≡ false) (map (λ w. unwrap_or w []) vs)
+each_differs v [] full whole = refl
+each_differs v (w ∷ vs) full whole =
+    λ i. (same_tests v w full whole.0 i ≡ false) × each_differs v vs full whole.1 i
 
-distinct_values : (values : Values) → IsDistinct same_text (map (λ v. unwrap_or v []) values)
-    → IsDistinct same_value values
+pub distinct_texts : (vs : Values) → AllByRecursion (λ w. is_empty_text w ≡ false) vs
+    → IsDistinct same_value vs ≡ IsDistinct same_text (map (λ w. unwrap_or w []) vs)
 unfolding IsDistinct
-distinct_values [] h = tt
-distinct_values (v ∷ values) h = (each_differs v values h.0, distinct_values values h.1)
+distinct_texts [] whole = refl
+distinct_texts (v ∷ vs) whole =
+    λ i. each_differs v vs whole.0 whole.1 i × distinct_texts vs whole.1 i
 
 -- ---- A new name.
 
 pub no_such_name : (ns : List (List ℕ)) (name : List ℕ) → (Contains ns name → ⊥)
     → list_any (λ n. same_text n name) ns ≡ false
-no_such_name ns name fresh = elim (cases_Bool (list_any (λ n. same_text n name) ns)) [
-  | inl some ↦
-      let found = any_in (λ n. same_text n name) ns some in
-      absurd (fresh (Contains-from_IsIn ns name
-      (subst (IsIn ns) ((bytes_decides found.0 name).0 found.2) found.1)))
-  | inr none ↦ none
-]
+no_such_name ns name fresh =
+    false_from_ne_true (list_any (λ n. same_text n name) ns) (λ some.
+    let found = any_in (λ n. same_text n name) ns some in
+    fresh (Contains-from_IsIn ns name
+    (subst (IsIn ns) ((bytes_decides found.0 name).0 found.2) found.1)))
 
 some_of : (texts : List (List ℕ)) → texts ≢ [] → 0 < length texts
 some_of [] h = absurd (h refl)
@@ -74,7 +76,7 @@ fits u name values texts h named fresh are texts_of some distinct room few =
       some_value = omega (arith, long, positive);
       at_most = omega (arith, long, few);
       texts = texts_of;
-      distinct = distinct_values values (subst (IsDistinct same_text) (sym are) distinct);
+      distinct = rw (distinct_texts values texts_of, are) distinct;
     } in
     universe_was_added u l (record {
       at_most = omega (arith, length-append u (l ∷ []), room);

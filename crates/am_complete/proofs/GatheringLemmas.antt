@@ -1,15 +1,14 @@
 -- The labels that matchers ask of, and the position of each by its name, with one matcher more.
-use Rattle.std.proofs.Common.{◌≡◌, ◌⊎◌, ℕ, zero, suc, ◌<◌, Bool, true, cond, List, [], ◌∷◌}
-use Rattle.std.proofs.Common.{◌++◌, length, map, set, Some, None, refl, sym, ap}
-use Rattle.std.proofs.Common.{◌∙◌, subst, inl, inr, arith, Bor, bytes_eq, ◌↔◌}
-use Rattle.std.specs.Prelude.{slice_get}
+use Rattle.std.proofs.Common.{◌≡◌, ℕ, zero, suc, ◌<◌, Bool, true, cond, List, [], ◌∷◌, ◌++◌, length}
+use Rattle.std.proofs.Common.{map, set, Some, None, refl, sym, ap, ◌∙◌, subst, inl, inr, arith, Bor}
+use Rattle.std.proofs.Common.{bytes_eq, ◌↔◌, option_map, slice_get}
 use Rattle.std.specs.BTreeMap.{BTreeMap}
 use Rattle.std.specs.Map.{update}
 use Rattle.std.specs.List.{list_any}
 use Rattle.std.specs.Cmp.Lexicographic.{bytes_decides}
 use Rattle.std.proofs.lemmas.Bool.{cases_Bool}
 use Rattle.std.proofs.lemmas.List.{map-append, length-map}
-use Rattle.std.proofs.lemmas.Option.{slice_get_within}
+use Rattle.std.proofs.lemmas.Option.{slice_get_within, slice_get-map, same_Some}
 use Rattle.am_universe.specs.Text.{same_text}
 use Rattle.am_labels.specs.Matcher.{Condition}
 use Rattle.am_labels.proofs.Passing.{any_in, in_any}
@@ -17,37 +16,27 @@ use Rattle.am_universe.proofs.Members.{at_in, in_at}
 use Rattle.am_complete.specs.declared.origin.Origin.{Origin}
 use Rattle.am_complete.specs.AskedLabel.{AskedLabel, asked_names, and_asked, label_of, with_asked}
 use Rattle.am_complete.specs.Gathering.{position_in, IsIndexed}
+use Rattle.am_complete.proofs.Pushed.{got_front, got_last, got_either}
 
--- ---- What stands where in a list with one more behind it.
+-- ---- The name of the label at a position.
 
-got_front : {X : Type 0} (xs ys : List X) (i : ℕ) (x : X) → slice_get xs i ≡ Some x
-    → slice_get (xs ++ ys) i ≡ Some x
-got_front [] ys i x h = absurd (cc)
-got_front (y ∷ xs) ys zero x h = h
-got_front (y ∷ xs) ys (suc i) x h = got_front xs ys i x h
+pub name_at : (labels : List AskedLabel) (i : ℕ) (l : AskedLabel) (name : List ℕ)
+    → slice_get labels i ≡ Some l → l.name ≡ name → slice_get (asked_names labels) i ≡ Some name
+name_at labels i l name at named =
+    slice_get-map (λ x. x.name) labels i ∙ ap (option_map (λ (x : AskedLabel). x.name)) at
+    ∙ ap Some named
 
-got_last : {X : Type 0} (xs : List X) (y : X) → slice_get (xs ++ y ∷ []) (length xs) ≡ Some y
-got_last [] y = refl
-got_last (x ∷ xs) y = got_last xs y
+-- the label that stands where a name does has that name
+pub named_at : (labels : List AskedLabel) (i : ℕ) (l : AskedLabel) (name : List ℕ)
+    → slice_get labels i ≡ Some l → slice_get (asked_names labels) i ≡ Some name → l.name ≡ name
+named_at labels i l name at there =
+    same_Some l.name name (sym (name_at labels i l l.name at refl) ∙ there)
 
-got_either : {X : Type 0} (xs : List X) (y x : X) (i : ℕ) → slice_get (xs ++ y ∷ []) i ≡ Some x
-    → (slice_get xs i ≡ Some x) ⊎ ((i ≡ length xs) × (y ≡ x))
-got_either [] y x zero h = inr (refl, cc)
-got_either [] y x (suc i) h = absurd (cc)
-got_either (z ∷ xs) y x zero h = inl h
-got_either (z ∷ xs) y x (suc i) h = elim (got_either xs y x i h) [
-  | inl a ↦ inl a
-  | inr b ↦ inr (ap suc b.0, b.1)
-]
-
--- the name of the label at a position
-name_at : (labels : List AskedLabel) (i : ℕ) (l : AskedLabel) (name : List ℕ)
-    → slice_get labels i ≡ Some l → l.name ≡ name
-    → slice_get (asked_names labels) i ≡ Some name
-name_at [] i l name h e = absurd (cc)
-name_at (x ∷ labels) zero l name h e =
-    let same : x ≡ l = cc in ap (λ y. Some y.name) same ∙ ap Some e
-name_at (x ∷ labels) (suc i) l name h e = name_at labels i l name h e
+-- there are as many labels as names
+pub within_names : (labels : List AskedLabel) (i : ℕ) (name : List ℕ)
+    → slice_get (asked_names labels) i ≡ Some name → i < length labels
+within_names labels i name at =
+    omega (arith, slice_get_within (asked_names labels) i name at, length-map labels (λ l. l.name))
 
 -- ---- A label that was not asked of before.
 
@@ -107,19 +96,10 @@ asked_first positions labels origin m indexed absent =
           let is = (bytes_decides found.0.name m.name).0 found.2 in
           let there = (indexed m.name at.0).1 (name_at labels at.0 found.0 m.name at.1 is) in
           absurd (cc)
-      | inr none ↦ sym (ap (λ b. cond b (map (and_asked m) labels)
-          (labels ++ label_of (origin, m) ∷ [])) none)
+      | inr none ↦ rw none refl
     ]
 
 -- ---- A label that was asked of before.
-
--- the label that stands where a name does has that name
-pub named_at : (labels : List AskedLabel) (i : ℕ) (l : AskedLabel) (name : List ℕ)
-    → slice_get labels i ≡ Some l → slice_get (asked_names labels) i ≡ Some name → l.name ≡ name
-named_at [] i l name h there = absurd (cc)
-named_at (x ∷ labels) zero l name h there =
-    let same : x ≡ l = cc in let is : x.name ≡ name = cc in ap (λ y. y.name) (sym same) ∙ is
-named_at (x ∷ labels) (suc i) l name h there = named_at labels i l name h there
 
 -- a label in the place of one with the same name
 names_set : (labels : List AskedLabel) (i : ℕ) (l next : AskedLabel) → slice_get labels i ≡ Some l
@@ -139,10 +119,7 @@ none_gain m (x ∷ labels) none =
     let later = none_gain m labels (λ j h. none (suc j) h) in
     elim (cases_Bool (same_text x.name m.name)) [
       | inl same ↦ absurd (none 0 (ap Some ((bytes_decides x.name m.name).0 same)))
-      | inr other ↦
-          let here : and_asked m x ≡ x =
-          ap (λ b. cond b (record x { matchers = x.matchers ++ m ∷ [] }) x) other in
-          λ i. sym here i ∷ later i
+      | inr other ↦ rw other (ap (λ ls. x ∷ ls) later)
     ]
 
 one_gains : (m : Condition) (labels : List AskedLabel) (i : ℕ) (l : AskedLabel)
@@ -151,23 +128,17 @@ one_gains : (m : Condition) (labels : List AskedLabel) (i : ℕ) (l : AskedLabel
     → set labels i (record l { matchers = l.matchers ++ m ∷ [] }) ≡ map (and_asked m) labels
 one_gains m [] i l h named alone = absurd (cc)
 one_gains m (x ∷ labels) zero l h named alone =
-    let is : l ≡ x = cc in
+    let is : x ≡ l = cc in
     let same : same_text l.name m.name ≡ true = (bytes_decides l.name m.name).1 named in
-    let here : and_asked m x ≡ record l { matchers = l.matchers ++ m ∷ [] } =
-    ap (and_asked m) (sym is)
-    ∙ ap (λ b. cond b (record l { matchers = l.matchers ++ m ∷ [] }) l) same in
     let later = none_gain m labels (λ j at. absurd (omega (arith, alone (suc j) at))) in
-    λ k. sym here k ∷ later k
+    rw (is, same) (ap (λ ls. record l { matchers = l.matchers ++ m ∷ [] } ∷ ls) later)
 one_gains m (x ∷ labels) (suc i) l h named alone =
     let later = one_gains m labels i l h named (λ j at.
     let e = alone (suc j) at in omega (arith, e)) in
     elim (cases_Bool (same_text x.name m.name)) [
       | inl same ↦
           let e = alone 0 (ap Some ((bytes_decides x.name m.name).0 same)) in absurd (omega (arith, e))
-      | inr other ↦
-          let here : and_asked m x ≡ x =
-          ap (λ b. cond b (record x { matchers = x.matchers ++ m ∷ [] }) x) other in
-          λ k. sym here k ∷ later k
+      | inr other ↦ rw other (ap (λ ls. x ∷ ls) later)
     ]
 
 -- where a label has the name, that label has one matcher more, and is the only one
@@ -183,7 +154,7 @@ asked_again positions labels origin m i l indexed at there =
     one_gains m labels i l there name (λ j h.
     let other = (indexed m.name j).1 h in
     let same : Some j ≡ Some i = sym other ∙ at in cc)
-    ∙ sym (ap (λ b. cond b (map (and_asked m) labels) (labels ++ label_of (origin, m) ∷ [])) some)
+    ∙ rw some refl
 
 -- and the names stay where they are
 pub indexed_again : (positions : BTreeMap (Bor (List ℕ)) ℕ) (labels : List AskedLabel)
@@ -198,6 +169,4 @@ indexed_again positions labels i l next indexed there same q j =
 pub within : (positions : BTreeMap (Bor (List ℕ)) ℕ) (labels : List AskedLabel) (name : List ℕ)
     (i : ℕ) → IsIndexed positions labels → position_in positions name ≡ Some i
     → i < length labels
-within positions labels name i indexed at =
-    let there = slice_get_within (asked_names labels) i name ((indexed name i).0 at) in
-    omega (arith, there, length-map labels (λ l. l.name))
+within positions labels name i indexed at = within_names labels i name ((indexed name i).0 at)

@@ -1,6 +1,6 @@
 -- The texts that a label has in the label sets of a universe.
 use Rattle.std.proofs.Common.{◌≡◌, ℕ, List, [], ◌∷◌, map, Option, Some, None, Bool, true, false}
-use Rattle.std.proofs.Common.{refl, sym, ap, ◌∙◌, subst, inl, inr}
+use Rattle.std.proofs.Common.{Contains, refl, sym, ap, ◌∙◌, subst, inl, inr}
 use Rattle.std.specs.Prelude.{unwrap_or, IsTrue}
 use Rattle.std.specs.List.{find, IsDistinct}
 use Rattle.std.specs.Cmp.Lexicographic.{bytes_decides}
@@ -8,7 +8,8 @@ use Rattle.std.proofs.lemmas.Bool.{cases_Bool}
 use Rattle.std.proofs.lemmas.Map.Keys.{IsDistinct-head, IsDistinct-tail}
 use Rattle.am_universe.specs.Text.{same_text}
 use Rattle.am_universe.specs.Universe.{Label, IsLabel, IsUniverse, names, is_label_name}
-use Rattle.am_universe.proofs.ListLemmas.{IsIn, IsIn-map, AllByRecursion-at}
+use Rattle.am_universe.proofs.ListLemmas.{IsIn, IsIn-map, IsIn-unmap, AllByRecursion-at}
+use Rattle.am_universe.proofs.ListLemmas.{IsIn-from_Contains, Contains-from_IsIn}
 use Rattle.am_complete.specs.Complete.{label_texts, texts_of_label}
 
 -- ---- The label of a name.
@@ -45,14 +46,34 @@ pub declared_texts : (u : List Label) (l : Label) → IsUniverse u → IsIn u l
     → label_texts u l.name ≡ map (λ v. unwrap_or v []) l.values
 declared_texts u l h i = ap texts_of_label (finds_label u l h.distinct i)
 
--- a name that is none of a label is not declared
+-- the texts of a name are so where absence alone is, and those of each label of that name
+pub texts_by : (P : List (List ℕ) → Type 0) (u : List Label) (name : List ℕ) → P ([] ∷ [])
+    → ((l : Label) → IsIn u l → l.name ≡ name → P (texts_of_label (Some l)))
+    → P (label_texts u name)
+texts_by P u name absent declared = by (find (has_name name) u) refl
+  where
+    by : (o : Option Label) → find (has_name name) u ≡ o → P (texts_of_label o)
+    by None e = absent
+    by (Some l) e = let r = found_in name u l e in declared l r.0 r.1
+
+-- a label that no name is of is not declared
+pub unnamed_texts : (u : List Label) (name : List ℕ) → (Contains (names u) name → ⊥)
+    → label_texts u name ≡ [] ∷ []
+unnamed_texts u name fresh =
+    texts_by (λ texts. texts ≡ [] ∷ []) u name refl (λ l i same.
+    absurd (fresh (Contains-from_IsIn (names u) name
+    (subst (IsIn (names u)) same (IsIn-map (λ k. k.name) u l i)))))
+
+-- nor is one whose name is none of a label
+pub named_labels : (u : List Label) (name : List ℕ) → IsUniverse u → IsIn (names u) name
+    → IsTrue (is_label_name name)
+named_labels u name h i =
+    let r = IsIn-unmap (λ l. l.name) u name i in
+    subst (λ n. IsTrue (is_label_name n)) r.2
+    ((AllByRecursion-at IsLabel u r.0 h.labels r.1).name)
+
 pub undeclared_texts : (u : List Label) (name : List ℕ) → IsUniverse u
     → (IsTrue (is_label_name name) → ⊥) → label_texts u name ≡ [] ∷ []
-undeclared_texts u name h no_name = by (find (has_name name) u) refl
-  where
-    by : (o : Option Label) → find (has_name name) u ≡ o → texts_of_label o ≡ [] ∷ []
-    by None e = refl
-    by (Some l) e =
-        let r = found_in name u l e in
-        let named = (AllByRecursion-at IsLabel u l h.labels r.0).name in
-        absurd (no_name (subst (λ n. IsTrue (is_label_name n)) r.1 named))
+undeclared_texts u name h no_name =
+    unnamed_texts u name (λ there.
+    no_name (named_labels u name h (IsIn-from_Contains (names u) name there)))

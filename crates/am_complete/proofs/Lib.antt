@@ -1,3 +1,4 @@
+pub mod Pushed
 pub mod GatheringLemmas
 pub mod Alike
 pub mod LabelTexts

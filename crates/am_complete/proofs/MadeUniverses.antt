@@ -1,24 +1,25 @@
 -- Universes that are made label by label of what matchers ask.
-use Rattle.std.proofs.Common.{◌≡◌, ◌≢◌, ◌⊎◌, ◌<◌, ◌≤◌, ◌+◌, ℕ, zero, suc, List, [], ◌∷◌, ◌++◌, length}
-use Rattle.std.proofs.Common.{take, drop, get_or, Option, Some, None, Contains, true, false, refl, sym, ap}
-use Rattle.std.proofs.Common.{◌∙◌, subst, inl, inr, arith, map, String, string_bytes}
-use Rattle.std.specs.Prelude.{IsTrue, slice_get}
+use Rattle.std.proofs.Common.{◌≡◌, ◌≢◌, ◌⊎◌, ◌<◌, ◌≤◌, ◌+◌, ℕ, zero, suc, List, [], ◌∷◌, ◌++◌}
+use Rattle.std.proofs.Common.{length, take, drop, Some, Contains, refl, sym, ap, ◌∙◌, subst, inl}
+use Rattle.std.proofs.Common.{inr, arith, map, String, string_bytes, IsTrue, slice_get}
 use Rattle.std.specs.List.{find, AllByRecursion, IsDistinct, list_any}
 use Rattle.std.specs.Cmp.Lexicographic.{bytes_decides}
 use Rattle.std.specs.declared.alloc.Global.{Global}
-use Rattle.std.proofs.lemmas.Bool.{cases_Bool}
+use Rattle.std.proofs.lemmas.Bool.{both_ways, cases_Bool}
 use Rattle.std.proofs.lemmas.Str.{IsUtf8-nil}
-use Rattle.std.proofs.lemmas.List.{map-append, length-map, take_more, length-take-le, length-append}
-use Rattle.std.proofs.lemmas.List.{take-append-drop}
+use Rattle.std.proofs.lemmas.List.{map-append, length-map, take-append-drop, length-take-le}
+use Rattle.std.proofs.lemmas.List.{length-append}
+use Rattle.std.proofs.lemmas.Option.{slice_get_within}
 use Rattle.am_universe.specs.Text.{same_text}
-use Rattle.am_universe.specs.Universe.{Label, IsLabel, IsUniverse, names, is_label_name}
-use Rattle.am_universe.proofs.ListLemmas.{IsIn, IsIn-left, IsIn-right, IsIn-split, IsIn-map}
-use Rattle.am_universe.proofs.ListLemmas.{IsIn-unmap, IsIn-from_Contains, Contains-from_IsIn}
-use Rattle.am_universe.proofs.ListLemmas.{AllByRecursion-at, AllByRecursion-each}
-use Rattle.am_universe.proofs.DistinctLists.{all_push, distinct_push, distinct_pushed, distinct_front}
+use Rattle.am_universe.specs.Universe.{Label, IsUniverse, names, is_label_name}
+use Rattle.am_universe.proofs.ListLemmas.{IsIn, IsIn-left, IsIn-right, IsIn-map, IsIn-from_Contains}
+use Rattle.am_universe.proofs.ListLemmas.{Contains-from_IsIn, AllByRecursion-at}
+use Rattle.am_universe.proofs.ListLemmas.{AllByRecursion-each}
+use Rattle.am_universe.proofs.DistinctLists.{all_push, distinct_push, distinct_pushed}
+use Rattle.am_universe.proofs.DistinctLists.{distinct_front}
 use Rattle.am_labels.specs.Matcher.{Condition}
 use Rattle.am_labels.proofs.Passing.{in_any}
-use Rattle.am_classes.specs.Alike.{AreAlike, Covers, AreApart}
+use Rattle.am_classes.specs.Alike.{Covers, AreApart}
 use Rattle.am_universe.proofs.Members.{in_at, at_in}
 use Rattle.am_complete.specs.Complete.{about, label_texts, texts_of_label, IsComplete, IsCompleteAt}
 use Rattle.am_complete.specs.AskedLabel.{AskedLabel, asked_names, IsAskedOf}
@@ -26,26 +27,14 @@ use Rattle.am_complete.specs.Covering.{StandForAll, StandsForEachBut, IsWithAtMo
 use Rattle.am_complete.specs.Covering.{HasApartValues}
 use Rattle.am_complete.specs.Room.{HasMoreClasses, NeedsMoreValues, HaveNoRoom, MayBeUnproved}
 use Rattle.am_complete.specs.Room.{AreUnproved, IsFullFor, HasNoRoomIn, IsSettled}
-use Rattle.am_complete.proofs.Alike.{alike_joined, alike_turned}
+use Rattle.am_complete.proofs.Alike.{only, absence_alike}
 use Rattle.am_complete.proofs.CompleteUniverses.{complete_where_asked}
 use Rattle.am_complete.proofs.ApartTexts.{utf8_texts}
 use Rattle.am_complete.proofs.DeclaredLabels.{no_such_name}
-use Rattle.am_complete.proofs.LabelTexts.{has_name, found_in, declared_texts}
+use Rattle.am_complete.proofs.LabelTexts.{has_name, declared_texts, unnamed_texts, named_labels}
+use Rattle.am_complete.proofs.Pushed.{got_front, got_last, got_either, in_pushed, one_longer}
 
 -- ---- The texts of one label.
-
--- a label that no name is of is not declared
-pub unnamed_texts : (u : List Label) (name : List ℕ) → (Contains (names u) name → ⊥)
-    → label_texts u name ≡ [] ∷ []
-unnamed_texts u name fresh = by (find (has_name name) u) refl
-  where
-    by : (o : Option Label) → find (has_name name) u ≡ o → texts_of_label o ≡ [] ∷ []
-    by None e = refl
-    by (Some l) e =
-        let r = found_in name u l e in
-        let there : IsIn (names u) name =
-        subst (IsIn (names u)) r.1 (IsIn-map (λ k. k.name) u l r.0) in
-        absurd (fresh (Contains-from_IsIn (names u) name there))
 
 -- a label more leaves those of other names as they are
 other_found : (u : List Label) (l : Label) (name : List ℕ) → (l.name ≡ name → ⊥)
@@ -73,19 +62,7 @@ lone_covers : (ms : List Condition) (texts : List (List ℕ)) → length texts �
 lone_covers ms [] few covers text valid =
     let one = covers text valid in absurd (IsIn-from_Contains [] one.0 one.1)
 lone_covers ms (t ∷ []) few covers text valid =
-    let one = covers text valid in
-    let none = covers [] IsUtf8-nil in
-    let of_one : t ≡ one.0 = only t one.0 (IsIn-from_Contains (t ∷ []) one.0 one.1) in
-    let of_none : t ≡ none.0 = only t none.0 (IsIn-from_Contains (t ∷ []) none.0 none.1) in (
-      [],
-      Contains-from_IsIn ([] ∷ []) [] (inl refl),
-      alike_joined ms [] none.0 text (alike_turned ms none.0 [] none.2)
-          (subst (λ x. AreAlike ms x text) (sym of_one ∙ of_none) one.2),
-    )
-  where
-    only : (t x : List ℕ) → IsIn (t ∷ []) x → t ≡ x
-    only t x (inl e) = e
-    only t x (inr h) = absurd h
+    absence_alike ms t text (covers [] IsUtf8-nil) (covers text valid)
 lone_covers ms (t ∷ s ∷ texts) few covers text valid = absurd (omega (arith, few))
 
 one_apart : (ms : List Condition) (t : List ℕ) → AreApart ms (t ∷ [])
@@ -133,50 +110,39 @@ pub record IsMadeOf (u : List Label) (asked : List AskedLabel) (unproved : List 
   pub noted : AreUnproved asked unproved
 
 -- the next label is of none of the names so far
+other_name : (asked : List AskedLabel) (l x : AskedLabel)
+    → IsDistinct same_text (asked_names (asked ++ l ∷ [])) → IsIn asked x → x.name ≡ l.name → ⊥
+other_name asked l x distinct among same =
+    let split = distinct_pushed same_text (asked_names asked) l.name
+    (subst (IsDistinct same_text) (map-append (λ y. y.name) asked (l ∷ [])) distinct) in
+    both_ways (list_any (λ z. same_text z l.name) (asked_names asked)) split.1
+    (in_any (λ z. same_text z l.name) (asked_names asked) x.name
+    (IsIn-map (λ y. y.name) asked x among) ((bytes_decides x.name l.name).1 same))
+
 pub fresh_name : (u : List Label) (asked : List AskedLabel) (l : AskedLabel) (unproved : List ℕ)
     → IsMadeOf u asked unproved → IsDistinct same_text (asked_names (asked ++ l ∷ []))
     → Contains (names u) l.name → ⊥
 fresh_name u asked l unproved made distinct h =
     let declared = made.named l.name (IsIn-from_Contains (names u) l.name h) in
-    let there = subst (IsIn (asked_names asked)) declared.2
-    (IsIn-map (λ x. x.name) asked declared.0 declared.1) in
-    let split = distinct_pushed same_text (asked_names asked) l.name
-    (subst (IsDistinct same_text) (map-append (λ x. x.name) asked (l ∷ [])) distinct) in
-    let some = in_any (λ z. same_text z l.name) (asked_names asked) l.name there
-    ((bytes_decides l.name l.name).1 refl) in
-    let both : true ≡ false = sym some ∙ split.1 in absurd (cc)
-
-got_either : {X : Type 0} (xs : List X) (y x : X) (i : ℕ) → slice_get (xs ++ y ∷ []) i ≡ Some x
-    → (slice_get xs i ≡ Some x) ⊎ ((i ≡ length xs) × (y ≡ x))
-got_either [] y x zero h = inr (refl, cc)
-got_either [] y x (suc i) h = absurd (cc)
-got_either (z ∷ xs) y x zero h = inl h
-got_either (z ∷ xs) y x (suc i) h = elim (got_either xs y x i h) [
-  | inl a ↦ inl a
-  | inr b ↦ inr (ap suc b.0, b.1)
-]
+    other_name asked l declared.0 distinct declared.1 declared.2
 
 -- ---- The positions that are noted.
 
 kept_noted : (u : List Label) (l : AskedLabel) (n : ℕ) (before after : List ℕ)
     → IsSettled u l n before after → (k : ℕ) → Contains before k → Contains after k
-kept_noted u l n before after (inl same) k h = subst (λ (xs : List ℕ). Contains xs k) (sym same.0) h
+kept_noted u l n before after (inl same) k h = rw same.0 h
 kept_noted u l n before after (inr more) k h =
-    subst (λ (xs : List ℕ). Contains xs k) (sym more.0)
-    (Contains-from_IsIn (before ++ n ∷ []) k
+    rw more.0 (Contains-from_IsIn (before ++ n ∷ []) k
     (IsIn-left before (n ∷ []) k (IsIn-from_Contains before k h)))
 
 alone_noted : (u : List Label) (l : AskedLabel) (n : ℕ) (before after : List ℕ)
     → IsSettled u l n before after → (k : ℕ) → Contains after k
     → Contains before k ⊎ ((k ≡ n) × MayBeUnproved l)
-alone_noted u l n before after (inl same) k h =
-    inl (subst (λ (xs : List ℕ). Contains xs k) same.0 h)
+alone_noted u l n before after (inl same) k h = inl (rw same.0 at h)
 alone_noted u l n before after (inr more) k h =
-    let among = IsIn-from_Contains (before ++ n ∷ []) k
-    (subst (λ (xs : List ℕ). Contains xs k) more.0 h) in
-    elim (IsIn-split before (n ∷ []) k among) [
+    elim (in_pushed before n k (IsIn-from_Contains (before ++ n ∷ []) k (rw more.0 at h))) [
       | inl a ↦ inl (Contains-from_IsIn before k a)
-      | inr b ↦ elim b [ inl e ↦ inr (sym e, more.1) | inr none ↦ absurd none ]
+      | inr e ↦ inr (sym e, more.1)
     ]
 
 -- the first of them stays the first
@@ -184,22 +150,14 @@ first_noted : (before : List ℕ) (n : ℕ) → ((k : ℕ) → Contains before k
     → ((i k : ℕ) → slice_get before 0 ≡ Some i → Contains before k → i ≤ k)
     → (i k : ℕ) → slice_get (before ++ n ∷ []) 0 ≡ Some i → Contains (before ++ n ∷ []) k → i ≤ k
 first_noted [] n within first i k at h =
-    let here : n ≡ i = cc in
-    elim (IsIn-from_Contains (n ∷ []) k h) [
-      | inl e ↦ omega (arith, here, e)
-      | inr none ↦ absurd none
-    ]
+    let here : n ≡ i = cc in omega (arith, here, only n k h)
 first_noted (b ∷ before) n within first i k at h =
-    let here : slice_get (b ∷ before) 0 ≡ Some i = at in
     let is : b ≡ i = cc in
-    elim (IsIn-split (b ∷ before) (n ∷ []) k (IsIn-from_Contains (b ∷ before ++ n ∷ []) k h)) [
-      | inl a ↦ first i k here (Contains-from_IsIn (b ∷ before) k a)
-      | inr c ↦ elim c [
-        | inl e ↦
-            let lt = within b (Contains-from_IsIn (b ∷ before) b (inl refl)) in
-            omega (arith, lt, is, e)
-        | inr none ↦ absurd none
-      ]
+    elim (in_pushed (b ∷ before) n k (IsIn-from_Contains (b ∷ before ++ n ∷ []) k h)) [
+      | inl a ↦ first i k at (Contains-from_IsIn (b ∷ before) k a)
+      | inr e ↦
+          let lt = within b (Contains-from_IsIn (b ∷ before) b (inl refl)) in
+          omega (arith, lt, is, e)
     ]
 
 first_settled : (u : List Label) (l : AskedLabel) (n : ℕ) (before after : List ℕ)
@@ -207,25 +165,11 @@ first_settled : (u : List Label) (l : AskedLabel) (n : ℕ) (before after : List
     → ((i k : ℕ) → slice_get before 0 ≡ Some i → Contains before k → i ≤ k)
     → (i k : ℕ) → slice_get after 0 ≡ Some i → Contains after k → i ≤ k
 first_settled u l n before after (inl same) within first i k at h =
-    first i k (subst (λ (xs : List ℕ). slice_get xs 0 ≡ Some i) same.0 at)
-    (subst (λ (xs : List ℕ). Contains xs k) same.0 h)
+    first i k (rw same.0 at at) (rw same.0 at h)
 first_settled u l n before after (inr more) within first i k at h =
-    first_noted before n within first i k
-    (subst (λ (xs : List ℕ). slice_get xs 0 ≡ Some i) more.0 at)
-    (subst (λ (xs : List ℕ). Contains xs k) more.0 h)
+    first_noted before n within first i k (rw more.0 at at) (rw more.0 at h)
 
 -- ---- One label more.
-
--- what is asked at a position stays so
-got_front : {X : Type 0} (xs : List X) (y x : X) (i : ℕ) → slice_get xs i ≡ Some x
-    → slice_get (xs ++ y ∷ []) i ≡ Some x
-got_front [] y x i h = absurd (cc)
-got_front (z ∷ xs) y x zero h = h
-got_front (z ∷ xs) y x (suc i) h = got_front xs y x i h
-
-got_last : {X : Type 0} (xs : List X) (y : X) → slice_get (xs ++ y ∷ []) (length xs) ≡ Some y
-got_last [] y = refl
-got_last (z ∷ xs) y = got_last xs y
 
 pub made_step : (u v : List Label) (asked : List AskedLabel) (l : AskedLabel)
     (unproved next : List ℕ) → IsMadeOf u asked unproved
@@ -239,8 +183,9 @@ made_step u v asked l unproved next made distinct universe more settled =
       stands = λ i x at proved.
           elim (got_either asked l x i at) [
             | inl before ↦
-                let apart : l.name ≡ x.name → ⊥ = λ same. earlier x (in_at asked i x before) same in
-                subst (StandForAll x.matchers) (sym (other_texts u v l x.name more apart))
+                let apart = other_name asked l x distinct (in_at asked i x before) in
+                subst (StandForAll x.matchers)
+                (sym (other_texts u v l x.name more (λ same. apart (sym same))))
                 (made.stands i x before
                 (λ h. proved (kept_noted v l (length asked) unproved next settled i h)))
             | inr last ↦
@@ -255,7 +200,7 @@ made_step u v asked l unproved next made distinct universe more settled =
       noted = record {
         each = λ k h. elim (alone_noted v l (length asked) unproved next settled k h) [
           | inl before ↦
-              let r = made.noted.each k before in (r.0, got_front asked l r.0 k r.1, r.2)
+              let r = made.noted.each k before in (r.0, got_front asked (l ∷ []) k r.0 r.1, r.2)
           | inr last ↦ (
             l,
             subst (λ n. slice_get (asked ++ l ∷ []) n ≡ Some l) (sym last.0) (got_last asked l),
@@ -270,28 +215,16 @@ made_step u v asked l unproved next made distinct universe more settled =
         → (Contains next (length asked) → ⊥) → StandForAll l.matchers (label_texts v l.name)
     here (inl stands) proved = stands.1
     here (inr noted) proved =
-        absurd (proved (subst (λ (xs : List ℕ). Contains xs (length asked)) (sym noted.0)
-        (Contains-from_IsIn (unproved ++ length asked ∷ []) (length asked)
-        (IsIn-right unproved (length asked ∷ []) (length asked) (inl refl)))))
-
-    split : IsDistinct same_text (asked_names asked)
-        × (list_any (λ z. same_text z l.name) (asked_names asked) ≡ false)
-    split = distinct_pushed same_text (asked_names asked) l.name
-        (subst (IsDistinct same_text) (map-append (λ x. x.name) asked (l ∷ [])) distinct)
-
-    earlier : (x : AskedLabel) → IsIn asked x → l.name ≡ x.name → ⊥
-    earlier x among same =
-        let there = IsIn-map (λ y. y.name) asked x among in
-        let some = in_any (λ z. same_text z l.name) (asked_names asked) x.name there
-        ((bytes_decides x.name l.name).1 (sym same)) in
-        let both : true ≡ false = sym some ∙ split.1 in absurd (cc)
+        let n = length asked in
+        absurd (proved (rw noted.0 (Contains-from_IsIn (unproved ++ n ∷ []) n
+        (IsIn-right unproved (n ∷ []) n (inl refl)))))
 
     -- a label that was declared before
     before : (name : List ℕ) → IsWithAtMost u v l → IsIn (names u) name
         → IsDeclaredFor v (asked ++ l ∷ []) name
     before name more h =
         let r = made.named name h in
-        let apart : l.name ≡ name → ⊥ = λ same. earlier r.0 r.1 (same ∙ sym r.2) in (
+        let apart : l.name ≡ name → ⊥ = λ e. other_name asked l r.0 distinct r.1 (r.2 ∙ sym e) in (
           r.0,
           IsIn-left asked (l ∷ []) r.0 r.1,
           r.2,
@@ -301,55 +234,46 @@ made_step u v asked l unproved next made distinct universe more settled =
 
     named_step : IsWithAtMost u v l → (name : List ℕ) → IsIn (names v) name
         → IsDeclaredFor v (asked ++ l ∷ []) name
-    named_step (inl same) name h =
-        before name (inl same) (subst (λ w. IsIn (names w) name) same h)
+    named_step (inl same) name h = before name (inl same) (rw same at h)
     named_step (inr more) name h =
         let label : Label = more.1.0 in
         let among : IsIn (names u ++ label.name ∷ []) name =
         subst (λ ns. IsIn ns name)
         (ap names more.1.1 ∙ map-append (λ x. x.name) u (label ∷ [])) h in
-        elim (IsIn-split (names u) (label.name ∷ []) name among) [
+        elim (in_pushed (names u) label.name name among) [
           | inl a ↦ before name (inr more) a
-          | inr b ↦ elim b [
-            | inl e ↦
-                let is : l.name ≡ name = sym more.1.2 ∙ e in (
-                  l,
-                  IsIn-right asked (l ∷ []) l (inl refl),
-                  is,
-                  subst (λ n. AreApart l.matchers (label_texts v n)) is
-                      (subst (AreApart l.matchers)
-                      (sym (texts_declared u v l.name more.0 universe more.1)) more.4),
-                  (more.0, more.2, more.3, more.4),
-                )
-            | inr none ↦ absurd none
-          ]
+          | inr e ↦
+              let is : l.name ≡ name = sym more.1.2 ∙ e in (
+                l,
+                IsIn-right asked (l ∷ []) l (inl refl),
+                is,
+                subst (λ n. AreApart l.matchers (label_texts v n)) is
+                    (subst (AreApart l.matchers)
+                    (sym (texts_declared u v l.name more.0 universe more.1)) more.4),
+                (more.0, more.2, more.3, more.4),
+              )
         ]
 
--- the labels up to one that is asked of
-pub up_to : (asked : List AskedLabel) (i : ℕ) (l : AskedLabel) → i < length asked
-    → l ≡ get_or asked i l → take (i + 1) asked ≡ take i asked ++ l ∷ []
-up_to asked i l lt is =
-    take_more asked i l lt ∙ ap (λ x. take i asked ++ x ∷ []) (sym is)
-
 -- the names of the labels up to one that are asked of are distinct
-pub distinct_so_far : (asked : List AskedLabel) (i : ℕ) (l : AskedLabel) → i < length asked
-    → l ≡ get_or asked i l → IsDistinct same_text (asked_names asked)
+pub distinct_so_far : (asked : List AskedLabel) (i : ℕ) (l : AskedLabel)
+    → slice_get asked i ≡ Some l → IsDistinct same_text (asked_names asked)
     → IsDistinct same_text (asked_names (take i asked ++ l ∷ []))
-distinct_so_far asked i l lt is distinct =
-    let names : asked_names asked
-    ≡ asked_names (take i asked ++ l ∷ []) ++ asked_names (drop (i + 1) asked) =
-    ap asked_names (sym (take-append-drop (i + 1) asked))
-    ∙ map-append (λ x. x.name) (take (i + 1) asked) (drop (i + 1) asked)
-    ∙ ap (λ xs. asked_names xs ++ asked_names (drop (i + 1) asked)) (up_to asked i l lt is) in
-    distinct_front same_text (asked_names (take i asked ++ l ∷ []))
-    (asked_names (drop (i + 1) asked)) (subst (IsDistinct same_text) names distinct)
+distinct_so_far asked i l at distinct =
+    let first = take (i + 1) asked in
+    let last = drop (i + 1) asked in
+    let names : asked_names asked ≡ asked_names first ++ asked_names last =
+    ap asked_names (sym (take-append-drop (i + 1) asked)) ∙ map-append (λ x. x.name) first last in
+    subst (λ (xs : List AskedLabel). IsDistinct same_text (asked_names xs))
+    (sym (one_longer asked i l at))
+    (distinct_front same_text (asked_names first) (asked_names last)
+    (subst (IsDistinct same_text) names distinct))
 
 -- so many labels stand before a position
 pub settled_so_far : (asked : List AskedLabel) (i : ℕ) (l : AskedLabel) (v : List Label)
-    (unproved noted : List ℕ) → i < length asked → IsSettled v l i unproved noted
+    (unproved noted : List ℕ) → slice_get asked i ≡ Some l → IsSettled v l i unproved noted
     → IsSettled v l (length (take i asked)) unproved noted
-settled_so_far asked i l v unproved noted lt settled =
-    let long : length (take i asked) ≡ i = length-take-le i asked (omega arith) in
+settled_so_far asked i l v unproved noted at settled =
+    let long = length-take-le i asked (omega (arith, slice_get_within asked i l at)) in
     subst (λ n. IsSettled v l n unproved noted) (sym long) settled
 
 -- ---- No room.
@@ -374,13 +298,6 @@ collected u asked (n ∷ ns) form h =
         rest.2,
       ),
     )
-
-named_labels : (u : List Label) (name : List ℕ) → IsUniverse u → IsIn (names u) name
-    → IsTrue (is_label_name name)
-named_labels u name h i =
-    let r = IsIn-unmap (λ l. l.name) u name i in
-    subst (λ n. IsTrue (is_label_name n)) r.2
-    ((AllByRecursion-at IsLabel u r.0 h.labels r.1).name)
 
 longer_names : (labels : List AskedLabel) (ns : List (List ℕ)) → asked_names labels ≡ ns
     → length labels ≡ length ns
@@ -466,11 +383,8 @@ complete_at_asked : (u : List Label) (asked : List AskedLabel) (unproved : List 
     → IsAskedOf asked ms → IsIn asked l → l.name ≢ [] → IsCompleteAt u ms l.name
 complete_at_asked u asked unproved l stands none ms asks i some =
     let at = at_in asked l i in
-    let proved : Contains unproved at.0 → ⊥ = λ h.
-    IsIn-from_Contains [] at.0 (subst (λ (xs : List ℕ). Contains xs at.0) none h) in
-    let covers = (stands at.0 l at.1 proved).0 in
-    subst (λ (ns : List Condition). Covers ns (label_texts u l.name)) (on_name asked ms l asks i some)
-    covers
+    rw (← on_name asked ms l asks i some)
+    (stands at.0 l at.1 (λ h. IsIn-from_Contains [] at.0 (rw none at h))).0
 
 -- where texts stand for all at each label that is asked of, the universe is complete
 pub complete_where_each_stands : (u : List Label) (asked : List AskedLabel) (unproved : List ℕ)

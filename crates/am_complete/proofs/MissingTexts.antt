@@ -1,55 +1,32 @@
 -- Texts that a label lacks, and that it has enough where it lacks none.
-use Rattle.std.proofs.Common.{◌≡◌, ◌<◌, ◌≤◌, ◌==◌, ℕ, zero, suc, Bool, false, true, List, [], ◌∷◌, length}
-use Rattle.std.proofs.Common.{map, take, drop, min, Option, Some, None, Contains, String, string_bytes, refl, sym, ap, ◌∙◌, subst}
-use Rattle.std.proofs.Common.{inl, inr, arith, lit≤, lit<}
+use Rattle.std.proofs.Common.{◌≡◌, ◌<◌, ◌≤◌, ◌==◌, ℕ, zero, suc, Bool, false, true, List, [], ◌∷◌}
+use Rattle.std.proofs.Common.{length, map, take, drop, min, Some, Contains, String, string_bytes}
+use Rattle.std.proofs.Common.{sym, ap, ◌∙◌, subst, inl, inr, arith, lit≤, lit<}
 use Rattle.std.specs.Prelude.{IsTrue, slice_get, unwrap_or}
-use Rattle.std.specs.List.{AllByRecursion, IsDistinct, find}
+use Rattle.std.specs.List.{AllByRecursion, IsDistinct}
 use Rattle.std.specs.Str.{IsUtf8}
 use Rattle.std.specs.declared.alloc.Global.{Global}
 use Rattle.std.proofs.lemmas.Bool.{cases_lt}
-use Rattle.std.proofs.lemmas.List.{length-map, length-take-le}
+use Rattle.std.proofs.lemmas.List.{length-map, length-take-le, take-append-drop, map-append}
 use Rattle.std.proofs.lemmas.Bool.Decides.{nat_tests}
 use Rattle.am_universe.specs.declared.limits.TheConstants.{MAX_VALUES}
 use Rattle.am_universe.specs.Text.{same_text}
-use Rattle.am_universe.specs.Universe.{Label, Values, IsLabel, IsUniverse, is_label_name}
-use Rattle.am_universe.specs.Universe.{same_value, is_empty_text}
-use Rattle.am_universe.proofs.ListLemmas.{IsIn, IsIn-from_Contains, AllByRecursion-at}
+use Rattle.am_universe.specs.Universe.{Label, IsLabel, IsUniverse, is_label_name}
+use Rattle.am_universe.proofs.ListLemmas.{IsIn, IsIn-left, IsIn-right, IsIn-from_Contains}
+use Rattle.am_universe.proofs.ListLemmas.{AllByRecursion-at}
 use Rattle.am_labels.specs.Matcher.{Condition}
 use Rattle.am_labels.specs.Space.{Space}
 use Rattle.am_classes.specs.Alike.{HasAlikeIn, AreApart}
 use Rattle.am_complete.specs.declared.label_state.Completeness.TheVariants as state_is
-use Rattle.am_complete.specs.Complete.{label_texts, texts_of_label, may_have}
+use Rattle.am_complete.specs.Complete.{label_texts, may_have}
 use Rattle.am_complete.specs.AskedLabel.{AskedLabel}
 use Rattle.am_complete.specs.FoundState.{IsFoundAt}
 use Rattle.am_complete.specs.LabelState.{StandForPossible}
 use Rattle.am_complete.proofs.ApartTexts.{apart_are_no_more, distinct_where_apart}
-use Rattle.am_complete.proofs.LabelTexts.{has_name, found_in}
+use Rattle.am_complete.proofs.DeclaredLabels.{distinct_texts}
+use Rattle.am_complete.proofs.LabelTexts.{texts_by}
 
 -- ---- The texts that a label has in a universe could be its values.
-
-other_text : (v w : Option (List ℕ)) → is_empty_text v ≡ false → is_empty_text w ≡ false
-    → same_value v w ≡ false → same_text (unwrap_or v []) (unwrap_or w []) ≡ false
-other_text None None full whole differ = absurd (cc)
-other_text None (Some []) full whole differ = absurd (cc)
-other_text None (Some (c ∷ cs)) full whole differ = refl
-other_text (Some []) w full whole differ = absurd (cc)
-other_text (Some (c ∷ cs)) None full whole differ = refl
-other_text (Some (c ∷ cs)) (Some y) full whole differ = differ
-
-other_texts : (v : Option (List ℕ)) (vs : Values) → is_empty_text v ≡ false
-    → AllByRecursion (λ w. is_empty_text w ≡ false) vs
-    → AllByRecursion (λ w. same_value v w ≡ false) vs
-    → AllByRecursion (λ y. same_text (unwrap_or v []) y ≡ false) (map (λ w. unwrap_or w []) vs)
-other_texts v [] full whole differ = tt
-other_texts v (w ∷ vs) full whole differ =
-    (other_text v w full whole.0 differ.0, other_texts v vs full whole.1 differ.1)
-
-distinct_texts : (vs : Values) → AllByRecursion (λ w. is_empty_text w ≡ false) vs
-    → IsDistinct same_value vs → IsDistinct same_text (map (λ w. unwrap_or w []) vs)
-unfolding IsDistinct
-distinct_texts [] whole distinct = tt
-distinct_texts (v ∷ vs) whole distinct =
-    (other_texts v vs whole.0 whole.1 distinct.0, distinct_texts vs whole.1 distinct.1)
 
 one_distinct : (x : List ℕ) → IsDistinct same_text (x ∷ [])
 unfolding IsDistinct
@@ -62,22 +39,16 @@ record AreValues (texts : List (List ℕ)) : Type 0 where
   pub few : length texts ≤ MAX_VALUES
 
 of_label : (u : List Label) (name : List ℕ) → IsUniverse u → AreValues (label_texts u name)
-of_label u name h = by (find (has_name name) u) refl
-  where
-    by : (o : Option Label) → find (has_name name) u ≡ o → AreValues (texts_of_label o)
-    by None e = record {
-      distinct = one_distinct [];
-      some = lit< tt;
-      few = lit≤ tt;
-    }
-    by (Some l) e =
-        let is = AllByRecursion-at IsLabel u l h.labels (found_in name u l e).0 in
-        let long = length-map l.values (λ v. unwrap_or v []) in
-        record {
-          distinct = distinct_texts l.values is.texts is.distinct;
-          some = omega (arith, long, is.some_value);
-          few = omega (arith, long, is.at_most);
-        }
+of_label u name h =
+    texts_by AreValues u name
+    (record { distinct = one_distinct []; some = lit< tt; few = lit≤ tt }) (λ l i same.
+    let is = AllByRecursion-at IsLabel u l h.labels i in
+    let long = length-map l.values (λ v. unwrap_or v []) in
+    record {
+      distinct = rw (← distinct_texts l.values is.texts) is.distinct;
+      some = omega (arith, long, is.some_value);
+      few = omega (arith, long, is.at_most);
+    })
 
 -- so truths of them are never refused
 pub never_refused : (u : List Label) (name : List ℕ) (texts : List (String Global))
@@ -125,18 +96,17 @@ taken_apart ms texts n apart i j x y at_x at_y alike =
 
 pub taken_in : (texts : List (String Global)) (n : ℕ) (x : List ℕ)
     → IsIn (map string_bytes (take n texts)) x → IsIn (map string_bytes texts) x
-taken_in [] zero x i = i
-taken_in [] (suc n) x i = i
-taken_in (t ∷ texts) zero x i = absurd i
-taken_in (t ∷ texts) (suc n) x (inl here) = inl here
-taken_in (t ∷ texts) (suc n) x (inr later) = inr (taken_in texts n x later)
+taken_in texts n x i =
+    let first = map string_bytes (take n texts) in
+    rw (← take-append-drop n texts, map-append)
+    (IsIn-left first (map string_bytes (drop n texts)) x i)
 
-dropped_in : (texts : List (String Global)) (n : ℕ) (x : List ℕ)
-    → IsIn (map string_bytes (drop n texts)) x → IsIn (map string_bytes texts) x
-dropped_in [] zero x i = i
-dropped_in [] (suc n) x i = i
-dropped_in (t ∷ texts) zero x i = i
-dropped_in (t ∷ texts) (suc n) x i = inr (dropped_in texts n x i)
+pub is_later_part : (texts : List (String Global)) (k n : ℕ) (x : List ℕ)
+    → IsIn (map string_bytes (take k (drop n texts))) x → IsIn (map string_bytes texts) x
+is_later_part texts k n x i =
+    let last = map string_bytes (drop n texts) in
+    rw (← take-append-drop n texts, map-append)
+    (IsIn-right (map string_bytes (take n texts)) last x (taken_in (drop n texts) k x i))
 
 -- what holds of the first of them, and of one more
 all_taken : (P : List ℕ → Type 0) (texts : List (String Global)) (n : ℕ)
@@ -157,10 +127,6 @@ cut n most few is some = elim (cases_lt most n) [
 ]
 
 -- ---- What is missing.
-
-pub is_later_part : (texts : List (String Global)) (k n : ℕ) (x : List ℕ)
-    → IsIn (map string_bytes (take k (drop n texts))) x → IsIn (map string_bytes texts) x
-is_later_part texts k n x i = dropped_in texts n x (taken_in (drop n texts) k x i)
 
 -- a text of a part that stands for what the label may have
 pub lacks : (s : Space) (l : AskedLabel) (have part : List (List ℕ))

@@ -1,16 +1,16 @@
 -- The truths of matchers on texts, as the rows of a universe of one label.
-use Rattle.std.proofs.Common.{◌≡◌, ◌<◌, ◌+◌, ℕ, Bool, true, false, List, [], ◌∷◌, ◌++◌, length}
-use Rattle.std.proofs.Common.{map, take, get_or, Option, Some, None, option_map, unwrap_or, refl, sym}
-use Rattle.std.proofs.Common.{ap, ◌∙◌, subst, arith, slice_get, not, IfSome}
+use Rattle.std.proofs.Common.{◌≡◌, ◌<◌, ◌+◌, ℕ, Bool, true, false, List, [], ◌∷◌, length, map, take}
+use Rattle.std.proofs.Common.{get_or, Option, Some, None, option_map, unwrap_or, refl, sym, ap, ◌∙◌}
+use Rattle.std.proofs.Common.{subst, arith, slice_get, not, IfSome}
 use mathlib.Core.Bool.{beq}
 use Rattle.std.specs.List.{AllByRecursion}
 use Rattle.std.specs.Cmp.Lexicographic.{bytes_decides}
-use Rattle.std.proofs.lemmas.List.{get_or-map, length-map, take_more}
+use Rattle.std.proofs.lemmas.Bool.{both_ways, not-true, not-false}
+use Rattle.std.proofs.lemmas.List.{get_or-map, length-map}
 use Rattle.std.proofs.lemmas.Option.{slice_get-map, slice_get_read, slice_get_within}
 use Rattle.std.proofs.lemmas.Option.{get_or_from_slice_get}
 use Rattle.am_universe.specs.Text.{same_text}
 use Rattle.am_universe.specs.Universe.{Label, label_position}
-use Rattle.am_universe.proofs.DistinctLists.{all_push}
 use Rattle.am_universe.proofs.ListLemmas.{AllByRecursion-at}
 use Rattle.am_labels.specs.Matcher.{Condition, holds}
 use Rattle.am_labels.specs.Row.{TruthRow, truth_on_value, truths_of, truth_at, row_of}
@@ -18,6 +18,8 @@ use Rattle.am_universe.proofs.Members.{in_at}
 use Rattle.am_classes.specs.Alike.{AreAlike}
 use Rattle.am_complete.specs.Covering.{IsWithLabel}
 use Rattle.am_complete.specs.Truths.{TestedTexts, truth_row}
+use Rattle.am_complete.proofs.ChosenTexts.{same_truths, one_truth}
+use Rattle.am_complete.proofs.Pushed.{one_more_passes}
 
 -- ---- The rows.
 
@@ -87,16 +89,10 @@ readable texts m row k is lt =
 
 -- two truths that a test finds unequal, or equal
 pub unequal_truths : (a b : Bool) → not (beq a b) ≡ true → a ≡ b → ⊥
-unequal_truths true true h e = cc
-unequal_truths true false h e = cc
-unequal_truths false true h e = cc
-unequal_truths false false h e = cc
+unequal_truths a b h e = both_ways (beq a b) (not-true (beq a b) h) (same_truths a b e)
 
 pub equal_truths : (a b : Bool) → not (beq a b) ≡ false → a ≡ b
-equal_truths true true h = refl
-equal_truths true false h = absurd (cc)
-equal_truths false true h = absurd (cc)
-equal_truths false false h = refl
+equal_truths a b h = one_truth a b (not-false (beq a b) h)
 
 pub same_length : (rows others : List TruthRow) (texts texts' : List (List ℕ))
     (ms ns : List Condition) → rows ≡ map (truth_row texts) ms
@@ -146,12 +142,7 @@ pub one_more_alike : (ms : List Condition) (i : ℕ) (m : Condition) (x y : List
     → slice_get ms i ≡ Some m → AreAlike (take i ms) x y
     → holds m.op m.value x ≡ holds m.op m.value y → AreAlike (take (i + 1) ms) x y
 one_more_alike ms i m x y there before here =
-    let lt = slice_get_within ms i m there in
-    let longer : take i ms ++ m ∷ [] ≡ take (i + 1) ms =
-    ap (λ z. take i ms ++ z ∷ []) (sym (get_or_from_slice_get ms i m m there))
-    ∙ sym (take_more ms i m lt) in
-    subst (λ (ns : List Condition). AreAlike ns x y) longer
-    (all_push (λ n. holds n.op n.value x ≡ holds n.op n.value y) (take i ms) m before here)
+    one_more_passes (λ n. holds n.op n.value x ≡ holds n.op n.value y) ms i m there before here
 
 pub alike_at : (ms : List Condition) (i : ℕ) (m : Condition) (x y : List ℕ)
     → slice_get ms i ≡ Some m → AreAlike ms x y → holds m.op m.value x ≡ holds m.op m.value y

@@ -1,4 +1,5 @@
-use Rattle.std.proofs.Common.{◌≡◌, ◌+◌, ◌-◌, length, map, take, drop, string_bytes, sym, ap, ◌∙◌, subst, arith}
+use Rattle.std.proofs.Common.{◌≡◌, ◌+◌, ◌-◌, length, map, take, drop, string_bytes, sym, ap, ◌∙◌}
+use Rattle.std.proofs.Common.{subst, arith}
 use Rattle.std.specs.Prelude.{IsTrue}
 use Rattle.std.proofs.lemmas.List.{length-map}
 use Rattle.am_universe.specs.Universe.{is_label_name}
@@ -10,6 +11,15 @@ use Rattle.am_complete.proofs.LabelStates.{covered}
 use Rattle.am_complete.proofs.MissingTexts.{never_refused, taken_apart, taken_in, is_later_part}
 use Rattle.am_complete.proofs.MissingTexts.{lacks, one_is_missing}
 use Rattle.am_complete.proofs.completeness_at.completeness_over.Goals as goal
+use Rattle.am_complete.proofs.completeness_at.completeness_over.Goals.{In-Some}
+
+-- the texts that the label has
+have_are : (c : In-Some) → c.in-Some.have.texts
+    ≡ label_texts c.args.space.now.labels c.args.label.now.name
+have_are c =
+    (rw c.in-Some.is at c.in_ok-have.ensures.texts)
+    ∙ ap (map string_bytes) c.as_slice.ensures.value ∙ c.in_ok-values.ensures
+    ∙ (λ i. label_texts (c.universe.ensures.labels i) (c.name.ensures.name i))
 
 pub unreachable-requires : goal.unreachable-requires
 unreachable-requires c =
@@ -31,10 +41,7 @@ returns-in-Some-2 c =
     let texts = c.args.texts.now in
     let part = map string_bytes (take c.min-few.result texts) in
     lacks c.args.space.now c.args.label.now c.in-Some.have.texts part texts c.in-Some-2.text
-    c.requires.named c.requires.stand
-    ((rw c.in-Some.is at c.in_ok-have.ensures.texts)
-    ∙ ap (map string_bytes) c.as_slice.ensures.value ∙ c.in_ok-values.ensures
-    ∙ (λ i. label_texts (c.universe.ensures.labels i) (c.name.ensures.name i)))
+    c.requires.named c.requires.stand (have_are (goal.at.returns-in-Some-2 c).In-Some)
     (taken_in texts c.min-few.result) (rw c.in-Some-2.is at c.in_ok-text.ensures.missing)
 
 pub returns-then-few-texts : goal.returns-then-few-texts
@@ -45,10 +52,7 @@ returns-then-few-texts c =
     let texts = map string_bytes c.args.texts.now in
     let each = each_of_all (HasAlikeIn l.matchers have) c.args.texts.now c.min-few.result
     c.if-few-texts.true (rw c.in_default-2.is at c.in_ok-text.ensures.none) in
-    let are : have ≡ label_texts s.labels l.name =
-    (rw c.in-Some.is at c.in_ok-have.ensures.texts)
-    ∙ ap (map string_bytes) c.as_slice.ensures.value ∙ c.in_ok-values.ensures
-    ∙ (λ i. label_texts (c.universe.ensures.labels i) (c.name.ensures.name i)) in
+    let are = have_are (goal.at.returns-then-few-texts c).In-Some in
     let count : length texts ≡ c.min-few.result =
     length-map c.args.texts.now string_bytes ∙ sym c.if-few-texts.true in (
       subst (CoverPossible s.impossible l.name l.matchers) are
@@ -71,8 +75,5 @@ returns c =
     let few = c.min-few.result in
     let part = map string_bytes (take (few + 1 - few) (drop few texts)) in
     lacks c.args.space.now c.args.label.now c.in-Some.have.texts part texts c.in-Some-3.text
-    c.requires.named c.requires.stand
-    ((rw c.in-Some.is at c.in_ok-have.ensures.texts)
-    ∙ ap (map string_bytes) c.as_slice.ensures.value ∙ c.in_ok-values.ensures
-    ∙ (λ i. label_texts (c.universe.ensures.labels i) (c.name.ensures.name i)))
+    c.requires.named c.requires.stand (have_are (goal.at.returns c).In-Some)
     (is_later_part texts (few + 1 - few) few) (rw c.in-Some-3.is at c.in_ok-text-2.ensures.missing)

@@ -1,8 +1,8 @@
 use Rattle.std.proofs.Common.{◌<◌, [], length, get_or, arith}
 use Rattle.std.proofs.lemmas.Option.{slice_get-get_or}
 use Rattle.am_classes.specs.Alike.{HasAlikeIn}
-use Rattle.am_complete.proofs.LabelStates.{one_more_passes}
 use Rattle.am_complete.proofs.ChosenTexts.{found_among}
+use Rattle.am_complete.proofs.Pushed.{one_more_passes}
 use Rattle.am_complete.proofs.completeness_at.first_missing.Goals as goal
 
 pub loop-j-preserved : goal.loop-j-preserved

@@ -1,9 +1,6 @@
-use Rattle.std.proofs.Common.{List, ℕ, Contains, map, string_bytes, ap, ◌∙◌, subst}
-use Rattle.std.specs.Prelude.{IfOk, IfSome, IsTrue}
-use Rattle.std.specs.Str.{IsUtf8}
+use Rattle.std.proofs.Common.{ap, ◌∙◌}
+use Rattle.std.specs.Prelude.{IsTrue}
 use Rattle.am_universe.specs.Universe.{is_label_name}
-use Rattle.am_labels.specs.Matcher.{Condition}
-use Rattle.am_classes.specs.Alike.{HasAlikeIn}
 use Rattle.am_complete.proofs.MissingTexts.{never_refused_apart, is_some_list}
 use Rattle.am_complete.proofs.completeness_at.missing_text.Goals as goal
 
@@ -18,14 +15,5 @@ unreachable-requires c =
 
 pub returns-clause-missing : goal.returns-clause-missing
 returns-clause-missing c =
-    let have = c.args.have.now in
-    subst
-    (λ (ms : List Condition). IfOk c.first_missing.result (λ found. IfSome found (λ text.
-    IsUtf8 (string_bytes text) × Contains (map string_bytes c.args.texts.now) (string_bytes text)
-    × (HasAlikeIn ms have.texts (string_bytes text) → ⊥))))
-    c.requires.matchers
-    (subst
-    (λ (ts : List (List ℕ)). IfOk c.first_missing.result (λ found. IfSome found (λ text.
-    IsUtf8 (string_bytes text) × Contains ts (string_bytes text)
-    × (HasAlikeIn have.matchers have.texts (string_bytes text) → ⊥))))
-    (rw c.in-Some.is at c.in_ok-wanted.ensures.texts) c.first_missing.ensures.missing)
+    let texts = rw c.in-Some.is at c.in_ok-wanted.ensures.texts in
+    rw (← c.requires.matchers, ← texts) c.first_missing.ensures.missing

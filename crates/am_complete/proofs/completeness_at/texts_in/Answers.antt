@@ -1,7 +1,7 @@
 use Rattle.std.proofs.Common.{sym, ◌∙◌}
 use Rattle.std.proofs.lemmas.Result.{IfOk-weaker}
 use Rattle.am_complete.proofs.LabelStates.{texts_at}
-use Rattle.am_complete.proofs.MadeUniverses.{unnamed_texts}
+use Rattle.am_complete.proofs.LabelTexts.{unnamed_texts}
 use Rattle.am_complete.proofs.completeness_at.texts_in.Goals as goal
 
 pub returns-in-Some : goal.returns-in-Some

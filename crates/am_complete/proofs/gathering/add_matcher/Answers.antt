@@ -14,36 +14,29 @@ index_mut-requires c =
     c.in-Some.position c.requires.indexed at in
     omega (arith, lt, c.args.gathering.now.labels.ok.0)
 
-pub returns-in-Some-clause-indexed : goal.returns-in-Some-clause-indexed
-returns-in-Some-clause-indexed c =
+pub returns-in-Some : goal.returns-in-Some
+returns-in-Some c =
     let positions = c.args.gathering.now.positions in
     let items = c.args.gathering.now.labels.items in
-    let at : position_in positions c.name.result.now ≡ Some c.in-Some.position =
+    let i = c.in-Some.position in
+    let label = c.index_mut.result.now in
+    let at : position_in positions c.name.result.now ≡ Some i =
     sym c.get.ensures.value ∙ sym c.copied.ensures ∙ c.in-Some.is in
-    let lt = within positions items c.name.result.now c.in-Some.position c.requires.indexed at in
-    let there = slice_get_read items (length items) c.in-Some.position c.index_mut.result.now refl
-    lt c.index_mut.ensures.value in
-    on_ok_weaker c.add_to_label.result (λ e.
-    indexed_again positions items c.in-Some.position c.index_mut.result.now
-    c.add_to_label.new.label c.requires.indexed there (ap (λ l. l.name) e))
-    c.add_to_label.ensures
-
-pub returns-in-Some-clause-added : goal.returns-in-Some-clause-added
-returns-in-Some-clause-added c =
-    let positions = c.args.gathering.now.positions in
-    let items = c.args.gathering.now.labels.items in
-    let at : position_in positions c.name.result.now ≡ Some c.in-Some.position =
-    sym c.get.ensures.value ∙ sym c.copied.ensures ∙ c.in-Some.is in
-    let lt = within positions items c.name.result.now c.in-Some.position c.requires.indexed at in
-    let there = slice_get_read items (length items) c.in-Some.position c.index_mut.result.now refl
-    lt c.index_mut.ensures.value in
-    let found : position_in positions c.args.matcher.now.name ≡ Some c.in-Some.position =
+    let lt = within positions items c.name.result.now i c.requires.indexed at in
+    let there = slice_get_read items (length items) i label refl lt c.index_mut.ensures.value in
+    let found : position_in positions c.args.matcher.now.name ≡ Some i =
     ap (position_in positions) (sym c.name.ensures.name) ∙ at in
-    on_ok_weaker c.add_to_label.result (λ e.
-    ap (slice_set items c.in-Some.position) e
-    ∙ asked_again positions items c.args.origin.now c.args.matcher.now c.in-Some.position
-    c.index_mut.result.now c.requires.indexed found there)
-    c.add_to_label.ensures
+    record {
+      indexed = on_ok_weaker c.add_to_label.result (λ e.
+          indexed_again positions items i label c.add_to_label.new.label c.requires.indexed there
+          (ap (λ l. l.name) e))
+          c.add_to_label.ensures;
+      added = on_ok_weaker c.add_to_label.result (λ e.
+          ap (slice_set items i) e
+          ∙ asked_again positions items c.args.origin.now c.args.matcher.now i label
+          c.requires.indexed found there)
+          c.add_to_label.ensures;
+    }
 
 pub returns-in-None-clause-added : goal.returns-in-None-clause-added
 returns-in-None-clause-added c =

@@ -25,12 +25,11 @@ loop-label-preserved c =
     let alerts = option_map (λ a. a.now) c.args.alerts in
     let before = c.loop-label.states.items in
     let after = c.add_if_undeclared.new.states.items in
+    let at = stands_at asked i l c.loop-label-test.true c.label-item.is in
     record {
-      names = state_names s asked i l alerts c.args.states.now.items before after
-          c.loop-label-test.true c.label-item.is c.loop-label.invariant.names
-          c.in_ok-add_if_undeclared.ensures;
+      names = state_names s asked i l alerts c.args.states.now.items before after at
+          c.loop-label.invariant.names c.in_ok-add_if_undeclared.ensures;
       each = λ first.
-          states_so s asked l alerts before after
-          (in_at asked i l (stands_at asked i l c.loop-label-test.true c.label-item.is))
+          states_so s asked l alerts before after (in_at asked i l at)
           c.in_ok-add_if_undeclared.ensures (c.loop-label.invariant.each first);
     }

@@ -1,11 +1,9 @@
-use Rattle.std.proofs.Common.{◌≡◌, ◌<◌, Contains, length, option_map, sym, ap, ◌∙◌, subst, arith, string_bytes}
-use Rattle.std.proofs.lemmas.List.{length-map}
-use Rattle.std.proofs.lemmas.Option.{slice_get_within}
+use Rattle.std.proofs.Common.{◌≡◌, Contains, option_map, sym, ap, ◌∙◌, subst, string_bytes}
 use Rattle.std.proofs.lemmas.Result.{IfOk-weaker}
 use Rattle.am_universe.proofs.Members.{in_at}
 use Rattle.am_complete.specs.AskedLabel.{asked_names}
 use Rattle.am_complete.specs.FoundState.{is_unseen}
-use Rattle.am_complete.proofs.GatheringLemmas.{named_at}
+use Rattle.am_complete.proofs.GatheringLemmas.{named_at, within_names}
 use Rattle.am_complete.proofs.LabelStates.{asked_for, stands_at, state_is_so, not_asked}
 use Rattle.am_complete.proofs.states_of_labels.declared_state.Goals as goal
 
@@ -14,12 +12,7 @@ asked_state-requires c =
     let asked = c.args.asked.now in
     let i = c.in-Some.i in
     let l = c.index-asked-i.result in
-    let lt : i < length asked =
-    omega (
-      arith,
-      slice_get_within (asked_names asked) i c.args.name.now c.in-Some.ensures.found,
-      length-map asked (λ x. x.name),
-    ) in
+    let lt = within_names asked i c.args.name.now c.in-Some.ensures.found in
     let there = in_at asked i l (stands_at asked i l lt c.index-asked-i.is) in
     record {
       universe = c.requires.universe;
@@ -28,37 +21,21 @@ asked_state-requires c =
           c.requires.asked.2 there some;
     }
 
-pub returns-in-Some-clause-name : goal.returns-in-Some-clause-name
-returns-in-Some-clause-name c =
+pub returns-in-Some : goal.returns-in-Some
+returns-in-Some c =
     let asked = c.args.asked.now in
     let i = c.in-Some.i in
     let l = c.index-asked-i.result in
-    let lt : i < length asked =
-    omega (
-      arith,
-      slice_get_within (asked_names asked) i c.args.name.now c.in-Some.ensures.found,
-      length-map asked (λ x. x.name),
-    ) in
-    let named : l.name ≡ c.args.name.now =
-    named_at asked i l c.args.name.now (stands_at asked i l lt c.index-asked-i.is)
-    c.in-Some.ensures.found in
-    IfOk-weaker c.asked_state.result _ _ (λ s h. h.name ∙ named) c.asked_state.ensures
-
-pub returns-in-Some-clause-so : goal.returns-in-Some-clause-so
-returns-in-Some-clause-so c =
-    let asked = c.args.asked.now in
-    let i = c.in-Some.i in
-    let l = c.index-asked-i.result in
-    let lt : i < length asked =
-    omega (
-      arith,
-      slice_get_within (asked_names asked) i c.args.name.now c.in-Some.ensures.found,
-      length-map asked (λ x. x.name),
-    ) in
-    IfOk-weaker c.asked_state.result _ _ (λ s h.
-    state_is_so c.args.space.now asked (option_map (λ a. a.now) c.args.alerts) l s
-    (in_at asked i l (stands_at asked i l lt c.index-asked-i.is)) h)
-    c.asked_state.ensures
+    let lt = within_names asked i c.args.name.now c.in-Some.ensures.found in
+    let at = stands_at asked i l lt c.index-asked-i.is in
+    let named = named_at asked i l c.args.name.now at c.in-Some.ensures.found in
+    record {
+      name = IfOk-weaker c.asked_state.result _ _ (λ s h. h.name ∙ named) c.asked_state.ensures;
+      so = IfOk-weaker c.asked_state.result _ _ (λ s h.
+          state_is_so c.args.space.now asked (option_map (λ a. a.now) c.args.alerts) l s
+          (in_at asked i l at) h)
+          c.asked_state.ensures;
+    }
 
 pub returns-in_ok-from_str-in-None-clause-so : goal.returns-in_ok-from_str-in-None-clause-so
 returns-in_ok-from_str-in-None-clause-so c =

@@ -1,4 +1,5 @@
-use Rattle.std.proofs.Common.{List, [], ◌∷◌, ◌++◌, map, string_bytes, option_map, sym, ap, ◌∙◌, subst}
+use Rattle.std.proofs.Common.{List, [], ◌∷◌, ◌++◌, map, string_bytes, option_map, sym, ap, ◌∙◌}
+use Rattle.std.proofs.Common.{subst}
 use Rattle.std.specs.Prelude.{slice_get}
 use Rattle.std.specs.List.{AllByRecursion}
 use Rattle.std.proofs.lemmas.List.{map-append}
@@ -6,7 +7,7 @@ use Rattle.am_universe.specs.Universe.{names}
 use Rattle.am_universe.proofs.DistinctLists.{all_push}
 use Rattle.am_complete.specs.declared.label_state.LabelState.{LabelState}
 use Rattle.am_complete.specs.FoundState.{IsSoOfName}
-use Rattle.am_complete.proofs.LabelStates.{one_longer}
+use Rattle.am_complete.proofs.Pushed.{one_longer}
 use Rattle.am_complete.proofs.states_of_labels.declared_states.Goals as goal
 
 pub loop-i-preserved : goal.loop-i-preserved

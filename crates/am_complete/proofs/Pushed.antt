@@ -1,0 +1,53 @@
+-- A list with one item more: what stands where, what is in it, and what holds of all of it.
+use Rattle.std.proofs.Common.{◌≡◌, ◌⊎◌, ℕ, zero, suc, ◌+◌, List, [], ◌∷◌, ◌++◌, length, take, Some}
+use Rattle.std.proofs.Common.{refl, sym, ap, ◌∙◌, inl, inr}
+use Rattle.std.specs.Prelude.{slice_get}
+use Rattle.std.specs.List.{AllByRecursion}
+use Rattle.std.proofs.lemmas.List.{take_more}
+use Rattle.std.proofs.lemmas.Option.{get_or_from_slice_get, slice_get_within}
+use Rattle.am_universe.proofs.DistinctLists.{all_push}
+use Rattle.am_universe.proofs.ListLemmas.{IsIn}
+
+-- ---- Behind the others.
+
+pub got_front : {X : Type 0} (xs ys : List X) (i : ℕ) (x : X) → slice_get xs i ≡ Some x
+    → slice_get (xs ++ ys) i ≡ Some x
+got_front [] ys i x h = absurd (cc)
+got_front (y ∷ xs) ys zero x h = h
+got_front (y ∷ xs) ys (suc i) x h = got_front xs ys i x h
+
+pub got_last : {X : Type 0} (xs : List X) (y : X) → slice_get (xs ++ y ∷ []) (length xs) ≡ Some y
+got_last [] y = refl
+got_last (x ∷ xs) y = got_last xs y
+
+pub got_either : {X : Type 0} (xs : List X) (y x : X) (i : ℕ)
+    → slice_get (xs ++ y ∷ []) i ≡ Some x
+    → (slice_get xs i ≡ Some x) ⊎ ((i ≡ length xs) × (y ≡ x))
+got_either [] y x zero h = inr (refl, cc)
+got_either [] y x (suc i) h = absurd (cc)
+got_either (z ∷ xs) y x zero h = inl h
+got_either (z ∷ xs) y x (suc i) h = elim (got_either xs y x i h) [
+  | inl a ↦ inl a
+  | inr b ↦ inr (ap suc b.0, b.1)
+]
+
+pub in_pushed : {X : Type 0} (xs : List X) (y x : X) → IsIn (xs ++ y ∷ []) x
+    → IsIn xs x ⊎ (y ≡ x)
+in_pushed [] y x (inl e) = inr e
+in_pushed [] y x (inr none) = absurd none
+in_pushed (z ∷ xs) y x (inl e) = inl (inl e)
+in_pushed (z ∷ xs) y x (inr h) = elim (in_pushed xs y x h) [ inl a ↦ inl (inr a) | inr e ↦ inr e ]
+
+-- ---- At a position.
+
+pub one_longer : {X : Type 0} (xs : List X) (i : ℕ) (x : X) → slice_get xs i ≡ Some x
+    → take i xs ++ x ∷ [] ≡ take (i + 1) xs
+one_longer xs i x at =
+    ap (λ y. take i xs ++ y ∷ []) (sym (get_or_from_slice_get xs i x x at))
+    ∙ sym (take_more xs i x (slice_get_within xs i x at))
+
+pub one_more_passes : {X : Type 0} (P : X → Type 0) (xs : List X) (i : ℕ) (x : X)
+    → slice_get xs i ≡ Some x → AllByRecursion P (take i xs) → P x
+    → AllByRecursion P (take (i + 1) xs)
+one_more_passes P xs i x at before here =
+    rw (← one_longer xs i x at) (all_push P (take i xs) x before here)
