@@ -1,14 +1,15 @@
 -- The labels that gathered matchers make are those that the matchers ask of.
-use Rattle.std.proofs.Common.{◌≡◌, ◌≢◌, ℕ, Bool, true, false, cond, List, [], ◌∷◌, ◌++◌, map}
-use Rattle.std.proofs.Common.{◌||◌, fold, Contains, refl, sym, ap, ◌∙◌, subst, inl, inr, append_assoc}
+use Rattle.std.proofs.Common.{◌≡◌, ◌≢◌, ℕ, Bool, true, false, cond, List, [], ◌∷◌, ◌++◌, map, ◌||◌}
+use Rattle.std.proofs.Common.{fold, Contains, refl, sym, ap, ◌∙◌, subst, inl, inr, append_assoc}
 use Rattle.std.specs.List.{AllByRecursion, IsDistinct, list_any, filter}
 use Rattle.std.specs.Cmp.Lexicographic.{bytes_decides}
-use Rattle.std.proofs.lemmas.Bool.{cases_Bool}
+use Rattle.std.proofs.lemmas.Bool.{both_ways, cases_Bool, false_from_ne_true}
 use Rattle.std.proofs.lemmas.List.{map-append, append-nil}
 use Rattle.std.proofs.lemmas.List.Elements.{filter-append}
 use Rattle.am_universe.specs.Text.{same_text}
 use Rattle.am_universe.proofs.ListLemmas.{IsIn, IsIn-left, IsIn-right, IsIn-map, IsIn-unmap}
-use Rattle.am_universe.proofs.ListLemmas.{Contains-from_IsIn, AllByRecursion-each, AllByRecursion-at}
+use Rattle.am_universe.proofs.ListLemmas.{Contains-from_IsIn, AllByRecursion-each}
+use Rattle.am_universe.proofs.ListLemmas.{AllByRecursion-at}
 use Rattle.am_universe.proofs.DistinctLists.{all_push, distinct_none, distinct_push}
 use Rattle.am_labels.specs.Matcher.{Condition}
 use Rattle.am_labels.proofs.Passing.{any_in, in_any, passes_from_kept, kept_from_passes}
@@ -50,20 +51,17 @@ about_same name ms m e =
 
 about_other : (name : List ℕ) (ms : List Condition) (m : Condition)
     → same_text name m.name ≡ false → about name (ms ++ m ∷ []) ≡ about name ms
-about_other name ms m e = elim (cases_Bool (same_text m.name name)) [
-  | inl same ↦
-      let is = (bytes_decides m.name name).0 same in
-      let again : same_text name m.name ≡ true = (bytes_decides name m.name).1 (sym is) in
-      absurd (cc)
-  | inr other ↦
-      about_push name ms m ∙ ap (λ b. about name ms ++ cond b (m ∷ []) []) other
-      ∙ append-nil (about name ms)
-]
+about_other name ms m e =
+    let other = false_from_ne_true (same_text m.name name) (λ same.
+    both_ways (same_text name m.name) e
+    ((bytes_decides name m.name).1 (sym ((bytes_decides m.name name).0 same)))) in
+    about_push name ms m ∙ ap (λ b. about name ms ++ cond b (m ∷ []) []) other
+    ∙ append-nil (about name ms)
 
 name_stays : (m : Condition) (l : AskedLabel) → (and_asked m l).name ≡ l.name
 name_stays m l = elim (cases_Bool (same_text l.name m.name)) [
-  | inl same ↦ ap (λ b. (cond b (record l { matchers = l.matchers ++ m ∷ [] }) l).name) same
-  | inr other ↦ ap (λ b. (cond b (record l { matchers = l.matchers ++ m ∷ [] }) l).name) other
+  | inl same ↦ rw same refl
+  | inr other ↦ rw other refl
 ]
 
 names_stay : (m : Condition) (labels : List AskedLabel)
@@ -73,17 +71,12 @@ names_stay m (l ∷ labels) = λ i. name_stays m l i ∷ names_stay m labels i
 
 gains : (m : Condition) (ms : List Condition) (l : AskedLabel) → l.matchers ≡ about l.name ms
     → (and_asked m l).matchers ≡ about (and_asked m l).name (ms ++ m ∷ [])
-gains m ms l here =
-    let more = record l { matchers = l.matchers ++ m ∷ [] } in
-    let P : AskedLabel → Type 0 = λ x. x.matchers ≡ about x.name (ms ++ m ∷ []) in
-    elim (cases_Bool (same_text l.name m.name)) [
-      | inl same ↦
-          subst P (sym (ap (λ b. cond b more l) same))
-          (ap (λ xs. xs ++ m ∷ []) here
-          ∙ sym (about_same l.name ms m (sym ((bytes_decides l.name m.name).0 same))))
-      | inr other ↦
-          subst P (sym (ap (λ b. cond b more l) other)) (here ∙ sym (about_other l.name ms m other))
-    ]
+gains m ms l here = elim (cases_Bool (same_text l.name m.name)) [
+  | inl same ↦
+      rw same (ap (λ xs. xs ++ m ∷ []) here
+      ∙ sym (about_same l.name ms m (sym ((bytes_decides l.name m.name).0 same))))
+  | inr other ↦ rw other (here ∙ sym (about_other l.name ms m other))
+]
 
 all_gain : (m : Condition) (ms : List Condition) (labels : List AskedLabel)
     → AllByRecursion (λ l. l.matchers ≡ about l.name ms) labels
@@ -102,33 +95,24 @@ any_named name (l ∷ labels) =
 other : (labels : List AskedLabel) (name : List ℕ)
     → list_any (λ l. same_text l.name name) labels ≡ false → (l : AskedLabel) → IsIn labels l
     → same_text l.name name ≡ false
-other labels name none l i = elim (cases_Bool (same_text l.name name)) [
-  | inl same ↦
-      let some = in_any (λ x. same_text x.name name) labels l i same in absurd (cc)
-  | inr differs ↦ differs
-]
+other labels name none l i =
+    false_from_ne_true (same_text l.name name) (λ same.
+    both_ways _ none (in_any (λ x. same_text x.name name) labels l i same))
 
 none_about : (labels : List AskedLabel) (ms : List Condition) (name : List ℕ)
     → AllByRecursion (λ m. IsIn (asked_names labels) m.name) ms
     → list_any (λ l. same_text l.name name) labels ≡ false → about name ms ≡ []
 none_about labels [] name every none = refl
-none_about labels (m ∷ ms) name every none = elim (cases_Bool (same_text m.name name)) [
-  | inl same ↦
-      let found = IsIn-unmap (λ l. l.name) labels m.name every.0 in
-      let is : found.0.name ≡ name = found.2 ∙ (bytes_decides m.name name).0 same in
-      let passes = (bytes_decides found.0.name name).1 is in
-      let fails = other labels name none found.0 found.1 in absurd (cc)
-  | inr differs ↦
-      ap (λ b. cond b (m ∷ about name ms) (about name ms)) differs
-      ∙ none_about labels ms name every.1 none
-]
+none_about labels (m ∷ ms) name every none =
+    let found = IsIn-unmap (λ l. l.name) labels m.name every.0 in
+    let differs : same_text m.name name ≡ false =
+    subst (λ n. same_text n name ≡ false) found.2 (other labels name none found.0 found.1) in
+    rw differs (none_about labels ms name every.1 none)
 
 step : (labels : List AskedLabel) (ms : List Condition) (origin : Origin) (m : Condition)
     → Gathers labels ms → Gathers (with_asked labels (origin, m)) (ms ++ m ∷ [])
 step labels ms origin m h =
     let test : AskedLabel → Bool = λ l. same_text l.name m.name in
-    let P : List AskedLabel → Type 0 = λ ls. Gathers ls (ms ++ m ∷ []) in
-    let again = map (and_asked m) labels in
     let new = labels ++ label_of (origin, m) ∷ [] in
     elim (cases_Bool (list_any test labels)) [
       | inl some ↦
@@ -137,7 +121,7 @@ step labels ms origin m h =
           let here : IsIn (asked_names labels) m.name =
           subst (IsIn (asked_names labels)) is
           (IsIn-map (λ l. l.name) labels found.0 found.1) in
-          subst P (sym (ap (λ b. cond b again new) some)) (record {
+          rw some (record {
             distinct = subst (IsDistinct same_text) (sym (names_stay m labels)) h.distinct;
             matchers = all_gain m ms labels h.matchers;
             every = subst (λ (names : List (List ℕ)).
@@ -147,7 +131,7 @@ step labels ms origin m h =
       | inr none ↦
           let names : asked_names labels ++ m.name ∷ [] ≡ asked_names new =
           sym (map-append (λ l. l.name) labels (label_of (origin, m) ∷ [])) in
-          subst P (sym (ap (λ b. cond b again new) none)) (record {
+          rw none (record {
             distinct = subst (IsDistinct same_text) names
                 (distinct_push same_text (asked_names labels) m.name h.distinct
                 (any_named m.name labels ∙ none));
@@ -184,18 +168,11 @@ about_named name [] some = refl
 about_named name (m ∷ ms) some =
     let later = about_named name ms some in
     elim (cases_Bool (is_named m)) [
-      | inl named ↦
-          ap (λ b. about name (cond b (m ∷ filter is_named ms) (filter is_named ms))) named
-          ∙ ap (λ rest. cond (same_text m.name name) (m ∷ rest) rest) later
+      | inl named ↦ rw named (ap (λ rest. cond (same_text m.name name) (m ∷ rest) rest) later)
       | inr unnamed ↦
-          let empty : m.name ≡ [] = no_text m.name unnamed in
-          let apart : same_text m.name name ≡ false = elim (cases_Bool (same_text m.name name)) [
-            | inl same ↦
-                absurd (some (sym ((bytes_decides m.name name).0 same) ∙ empty))
-            | inr differs ↦ differs
-          ] in
-          ap (λ b. about name (cond b (m ∷ filter is_named ms) (filter is_named ms))) unnamed
-          ∙ later ∙ sym (ap (λ b. cond b (m ∷ about name ms) (about name ms)) apart)
+          let apart = false_from_ne_true (same_text m.name name) (λ same.
+          some (sym ((bytes_decides m.name name).0 same) ∙ no_text m.name unnamed)) in
+          rw (unnamed, apart) later
     ]
 
 -- labels that gather some matchers are those that others ask of which are the same but for those

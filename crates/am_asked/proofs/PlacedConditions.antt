@@ -1,6 +1,6 @@
 -- The matchers that stand somewhere, without their places, are those that decide.
-use Rattle.std.proofs.Common.{◌≡◌, ℕ, ◌+◌, Bool, cond, List, [], ◌∷◌, ◌++◌, map, refl}
-use Rattle.std.proofs.Common.{sym, ap, ◌∙◌, inl, inr}
+use Rattle.std.proofs.Common.{◌≡◌, ℕ, ◌+◌, Bool, List, [], ◌∷◌, ◌++◌, map, refl, sym, ap, ◌∙◌, inl}
+use Rattle.std.proofs.Common.{inr}
 use Rattle.std.specs.List.{flat_map, filter, enumerate_from}
 use Rattle.std.proofs.lemmas.Bool.{cases_Bool}
 use Rattle.std.proofs.lemmas.Grind.{flat_map-append}
@@ -17,8 +17,8 @@ use Rattle.am_complete.specs.declared.origin.Origin.{Origin}
 use Rattle.am_complete.specs.declared.origin.Origin.TheVariants as origin_is
 use Rattle.am_asked.specs.Asked.{route_conditions, routes_conditions, rule_conditions}
 use Rattle.am_asked.specs.Asked.{equal_to_alert, equal_conditions, silence_conditions}
-use Rattle.am_complete.specs.Complete.{impossible_conditions}
 use Rattle.am_asked.specs.Asked.{world_conditions}
+use Rattle.am_complete.specs.Complete.{impossible_conditions}
 use Rattle.am_asked.specs.Placed.{placed_at, placed_by_route, placed_in_routes, placed_in_rule}
 use Rattle.am_asked.specs.Placed.{placed_in_rules, placed_by_alert, placed_in_equal, is_named}
 use Rattle.am_asked.specs.Placed.{placed_in_silence, placed_in_silences, placed_in_list}
@@ -121,69 +121,48 @@ filter_twice : {X : Type 0} (test : X → Bool) (xs : List X)
     → filter test (filter test xs) ≡ filter test xs
 filter_twice test [] = refl
 filter_twice test (x ∷ xs) = elim (cases_Bool (test x)) [
-  | inl passes ↦
-      ap (λ b. filter test (cond b (x ∷ filter test xs) (filter test xs))) passes
-      ∙ ap (λ b. cond b (x ∷ filter test (filter test xs)) (filter test (filter test xs))) passes
-      ∙ ap (λ rest. x ∷ rest) (filter_twice test xs)
-      ∙ sym (ap (λ b. cond b (x ∷ filter test xs) (filter test xs)) passes)
-  | inr fails ↦
-      ap (λ b. filter test (cond b (x ∷ filter test xs) (filter test xs))) fails
-      ∙ filter_twice test xs
-      ∙ sym (ap (λ b. cond b (x ∷ filter test xs) (filter test xs)) fails)
+  | inl passes ↦ rw (passes, passes) (ap (λ rest. x ∷ rest) (filter_twice test xs))
+  | inr fails ↦ rw fails (filter_twice test xs)
 ]
 
 -- matchers that are the same but for those without a name
 abbrev pub SameNamed : List Condition → List Condition → Type 0
 SameNamed ms ns = filter is_named ms ≡ filter is_named ns
 
-same_append : (ms ns xs ys : List Condition) → SameNamed ms ns → SameNamed xs ys
-    → SameNamed (ms ++ xs) (ns ++ ys)
-same_append ms ns xs ys p q =
-    filter-append is_named ms xs ∙ (λ i. p i ++ q i) ∙ sym (filter-append is_named ns ys)
+both_placed : (ps qs : List (Origin × Condition)) (ms ns : List Condition)
+    → SameNamed (conditions_of ps) ms → SameNamed (conditions_of qs) ns
+    → SameNamed (conditions_of (ps ++ qs)) (ms ++ ns)
+both_placed ps qs ms ns p q =
+    ap (filter is_named) (map-append (λ x. x.1) ps qs)
+    ∙ filter-append is_named (conditions_of ps) (conditions_of qs)
+    ∙ (λ i. p i ++ q i) ∙ sym (filter-append is_named ms ns)
 
 pub of_world : (w : World) (lists : List (List Condition))
     → SameNamed (conditions_of (placed_in_world w ++ placed_in_lists lists))
     (world_conditions w ++ impossible_conditions lists)
 of_world w lists =
-    let routes = placed_in_routes w.config in
     let rules = placed_in_rules w.config.rules in
     let equal = placed_in_equal w in
     let silences = placed_in_silences w.silences in
-    let named = filter is_named (equal_conditions w.config.rules w.alerts) in
-    let last : conditions_of (equal ++ silences) ≡ named ++ silence_conditions w.silences =
-    map-append (λ q. q.1) equal silences ∙ (λ i. of_equal w i ++ of_silences w.silences i) in
-    let later : conditions_of (rules ++ (equal ++ silences))
-    ≡ rule_conditions w.config.rules ++ (named ++ silence_conditions w.silences) =
-    map-append (λ q. q.1) rules (equal ++ silences)
-    ∙ (λ i. of_rules w.config.rules i ++ last i) in
-    let all : conditions_of (placed_in_world w)
-    ≡ route_conditions w.config.root
-    ++ (rule_conditions w.config.rules ++ (named ++ silence_conditions w.silences)) =
-    map-append (λ q. q.1) routes (rules ++ (equal ++ silences))
-    ∙ (λ i. of_route [] w.config.root i ++ later i) in
-    let twice : SameNamed named (equal_conditions w.config.rules w.alerts) =
-    filter_twice is_named (equal_conditions w.config.rules w.alerts) in
-    ap (filter is_named) (map-append (λ q. q.1) (placed_in_world w) (placed_in_lists lists)
-    ∙ (λ i. all i ++ of_lists lists i))
-    ∙ same_append
-    (route_conditions w.config.root
-    ++ (rule_conditions w.config.rules ++ (named ++ silence_conditions w.silences)))
-    (world_conditions w) (impossible_conditions lists) (impossible_conditions lists)
-    (same_append (route_conditions w.config.root) (route_conditions w.config.root)
-    (rule_conditions w.config.rules ++ (named ++ silence_conditions w.silences))
-    (rule_conditions w.config.rules
-    ++ (equal_conditions w.config.rules w.alerts ++ silence_conditions w.silences)) refl
-    (same_append (rule_conditions w.config.rules) (rule_conditions w.config.rules)
-    (named ++ silence_conditions w.silences)
-    (equal_conditions w.config.rules w.alerts ++ silence_conditions w.silences) refl
-    (same_append named (equal_conditions w.config.rules w.alerts)
-    (silence_conditions w.silences) (silence_conditions w.silences) twice refl)))
-    refl
+    let asked_by_rules = rule_conditions w.config.rules in
+    let asked_by_equal = equal_conditions w.config.rules w.alerts in
+    let asked_by_silences = silence_conditions w.silences in
+    both_placed (placed_in_world w) (placed_in_lists lists) (world_conditions w)
+    (impossible_conditions lists)
+    (both_placed (placed_in_routes w.config) (rules ++ (equal ++ silences))
+    (route_conditions w.config.root) (asked_by_rules ++ (asked_by_equal ++ asked_by_silences))
+    (ap (filter is_named) (of_route [] w.config.root))
+    (both_placed rules (equal ++ silences) asked_by_rules (asked_by_equal ++ asked_by_silences)
+    (ap (filter is_named) (of_rules w.config.rules))
+    (both_placed equal silences asked_by_equal asked_by_silences
+    (ap (filter is_named) (of_equal w) ∙ filter_twice is_named asked_by_equal)
+    (ap (filter is_named) (of_silences w.silences)))))
+    (ap (filter is_named) (of_lists lists))
 
 pub of_routes_and_lists : (c : Configuration) (lists : List (List Condition))
     → SameNamed (conditions_of (placed_in_routes c ++ placed_in_lists lists))
     (route_conditions c.root ++ impossible_conditions lists)
 of_routes_and_lists c lists =
-    ap (filter is_named)
-    (map-append (λ q. q.1) (placed_in_routes c) (placed_in_lists lists)
-    ∙ (λ i. of_route [] c.root i ++ of_lists lists i))
+    both_placed (placed_in_routes c) (placed_in_lists lists) (route_conditions c.root)
+    (impossible_conditions lists) (ap (filter is_named) (of_route [] c.root))
+    (ap (filter is_named) (of_lists lists))
