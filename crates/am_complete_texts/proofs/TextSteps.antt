@@ -1,60 +1,43 @@
 -- The text of one more value, and of one more label.
-use Rattle.std.proofs.Common.{◌≡◌, ◌≤◌, ◌<◌, ◌+◌, ℕ, zero, suc, List, [], ◌∷◌, ◌++◌, length, take, Option, Some, None, sym, ap, ◌∙◌, append_assoc, append-nil, add-one, codes, slice_get, get_or, option_map, ap₂, option_and_then, arith}
+use Rattle.std.proofs.Common.{◌≡◌, ◌≤◌, ◌<◌, ◌+◌, ℕ, zero, suc, List, [], ◌∷◌, ◌++◌, length, take}
+use Rattle.std.proofs.Common.{Option, Some, None, sym, ap, ◌∙◌, append_assoc, append-nil, add-one}
+use Rattle.std.proofs.Common.{codes, slice_get, get_or, option_map, ap₂, option_and_then, arith, cond}
+use Rattle.std.proofs.Common.{◌==◌, Bool, true, false, refl}
 use Rattle.std.proofs.lemmas.List.{take_all}
 use Rattle.std.proofs.lemmas.Bool.Decides.{nat_tests}
 use Rattle.std.proofs.lemmas.Option.{slice_get-map, slice_get-get_or}
 use Rattle.json.specs.Print.{quoted}
 use Rattle.am_universe.specs.Universe.{Label, Values, sizes, names}
 use Rattle.am_universe.specs.LabelSet.{value_at}
-use Rattle.am_complete_texts.specs.UniverseText.{value_text, later_values_text, values_text, label_text, later_labels_text, labels_text, gap_before_label, gap_before_value}
+use Rattle.am_complete_texts.specs.UniverseText.{value_text, texts_behind, values_text, label_text}
+use Rattle.am_complete_texts.specs.UniverseText.{labels_text, gap_before_label, gap_before_value}
 
--- behind the first stands a comma
-gap_later_value : (j : ℕ) → gap_before_value (suc j) ≡ codes ", "
-gap_later_value j = grind (arith, nat_tests)
+-- ---- One thing more.
 
-gap_later_label : (i : ℕ) → gap_before_label (suc i) ≡ codes ",\n  "
-gap_later_label i = grind (arith, nat_tests)
+either : (b : Bool) (x : List ℕ) → cond b x x ≡ x
+either true x = refl
+either false x = refl
 
-later_value : (vs : Values) (j : ℕ) (v : Option (List ℕ)) → slice_get vs j ≡ Some v
-    → later_values_text (take (suc j) vs) ≡ later_values_text (take j vs) ++ (codes ", " ++ value_text v)
-later_value [] j v e = cc
-later_value (w ∷ vs) zero v e =
-    let same : w ≡ v = cc in
-    ap (λ l. codes ", " ++ l) (append-nil (value_text w) ∙ ap value_text same)
-later_value (w ∷ vs) (suc j) v e =
-    ap (λ l. codes ", " ++ (value_text w ++ l)) (later_value vs j v e)
-    ∙ ap (λ l. codes ", " ++ l) (sym (append_assoc (value_text w) (later_values_text (take j vs)) (codes ", " ++ value_text v)))
+one_more : {X : Type 0} (first gap : List ℕ) (text : X → List ℕ) (xs : List X) (i : ℕ) (x : X)
+    → slice_get xs i ≡ Some x
+    → texts_behind first gap text (take (suc i) xs)
+    ≡ texts_behind first gap text (take i xs) ++ (cond (i == 0) first gap ++ text x)
+one_more first gap text [] i x e = absurd (cc)
+one_more first gap text (y ∷ xs) zero x e =
+    let same : y ≡ x = cc in ap (λ t. first ++ t) (append-nil (text y) ∙ ap text same)
+one_more first gap text (y ∷ xs) (suc i) x e =
+    let later : (suc i == 0) ≡ false = grind (arith, nat_tests) in
+    rw (later, one_more gap gap text xs i x e, either (i == 0) gap) (simp append_assoc)
 
-one_value_more : (vs : Values) (j : ℕ) (v : Option (List ℕ)) → slice_get vs j ≡ Some v
-    → values_text (take (suc j) vs) ≡ values_text (take j vs) ++ (gap_before_value j ++ value_text v)
-one_value_more [] j v e = cc
-one_value_more (w ∷ vs) zero v e =
-    let same : w ≡ v = cc in append-nil (value_text w) ∙ ap value_text same
-one_value_more (w ∷ vs) (suc j) v e =
-    ap (λ l. value_text w ++ l) (later_value vs j v e)
-    ∙ sym (append_assoc (value_text w) (later_values_text (take j vs)) (codes ", " ++ value_text v))
-    ∙ ap (λ gap. (value_text w ++ later_values_text (take j vs)) ++ (gap ++ value_text v)) (sym (gap_later_value j))
+one_pushed : {X : Type 0} (first gap : List ℕ) (text : X → List ℕ) (xs : List X) (i : ℕ) (x : X)
+    (old before between gapped after : List ℕ) → slice_get xs i ≡ Some x
+    → before ≡ old ++ texts_behind first gap text (take i xs) → between ≡ cond (i == 0) first gap
+    → gapped ≡ before ++ between → after ≡ gapped ++ text x
+    → after ≡ old ++ texts_behind first gap text (take (i + 1) xs)
+one_pushed first gap text xs i x old before between gapped after at so_far is put pushed =
+    rw (pushed, put, so_far, is, add-one i, one_more first gap text xs i x at) (simp append_assoc)
 
-later_label : (u : List Label) (i : ℕ) (label : Label) → slice_get u i ≡ Some label
-    → later_labels_text (take (suc i) u) ≡ later_labels_text (take i u) ++ (codes ",\n  " ++ label_text label)
-later_label [] i label e = cc
-later_label (k ∷ u) zero label e =
-    let same : k ≡ label = cc in
-    ap (λ l. codes ",\n  " ++ l) (append-nil (label_text k) ∙ ap label_text same)
-later_label (k ∷ u) (suc i) label e =
-    ap (λ l. codes ",\n  " ++ (label_text k ++ l)) (later_label u i label e)
-    ∙ ap (λ l. codes ",\n  " ++ l) (sym (append_assoc (label_text k) (later_labels_text (take i u)) (codes ",\n  " ++ label_text label)))
-
-pub one_label_more : (u : List Label) (i : ℕ) (label : Label) → slice_get u i ≡ Some label
-    → labels_text (take (suc i) u) ≡ labels_text (take i u) ++ (gap_before_label i ++ label_text label)
-one_label_more [] i label e = cc
-one_label_more (k ∷ u) zero label e =
-    let same : k ≡ label = cc in
-    ap (λ l. codes "\n  " ++ l) (append-nil (label_text k) ∙ ap label_text same)
-one_label_more (k ∷ u) (suc i) label e =
-    ap (λ l. codes "\n  " ++ (label_text k ++ l)) (later_label u i label e)
-    ∙ ap (λ l. codes "\n  " ++ l) (sym (append_assoc (label_text k) (later_labels_text (take i u)) (codes ",\n  " ++ label_text label)))
-    ∙ ap (λ gap. (codes "\n  " ++ (label_text k ++ later_labels_text (take i u))) ++ (gap ++ label_text label)) (sym (gap_later_label i))
+-- ---- Values and labels.
 
 -- what the code reads of a label
 name_here : (u : List Label) (i : ℕ) (label : Label) (name : List ℕ) → slice_get u i ≡ Some label
@@ -84,12 +67,8 @@ value_pushed u i n j label value old text gap gapped new here sized below is so_
     let at = slice_get-get_or vs j None within in
     let same : value ≡ v =
     is ∙ ap (option_and_then (λ l. value_at l j)) here ∙ ap (option_and_then (λ w. w)) at in
-    pushed ∙ ap (λ t. gapped ++ value_text t) same
-    ∙ ap (λ l. l ++ value_text v) (gap_put ∙ ap₂ (λ l g. l ++ g) so_far gap_is)
-    ∙ append_assoc (old ++ values_text (take j vs)) (gap_before_value j) (value_text v)
-    ∙ append_assoc old (values_text (take j vs)) (gap_before_value j ++ value_text v)
-    ∙ ap (λ l. old ++ l) (sym (one_value_more vs j v at))
-    ∙ ap (λ k. old ++ values_text (take k vs)) (sym (add-one j))
+    one_pushed [] (codes ", ") value_text vs j v old text gap gapped new at so_far gap_is gap_put
+    (pushed ∙ ap (λ w. gapped ++ value_text w) same)
 
 pub values_pushed : (u : List Label) (i n j : ℕ) (label : Label) (old text : List ℕ)
     → slice_get u i ≡ Some label → slice_get (sizes u) i ≡ Some n → n ≤ j
@@ -117,9 +96,5 @@ one_label_pushed u i front text gap gapped new within so_far gap_is gap_put push
     let none : Label = record { name = []; values = [] } in
     let label = get_or u i none in
     let at = slice_get-get_or u i none within in
-    pushed label at
-    ∙ ap (λ l. l ++ label_text label) (gap_put ∙ ap₂ (λ l g. l ++ g) so_far gap_is)
-    ∙ append_assoc (front ++ labels_text (take i u)) (gap_before_label i) (label_text label)
-    ∙ append_assoc front (labels_text (take i u)) (gap_before_label i ++ label_text label)
-    ∙ ap (λ l. front ++ l) (sym (one_label_more u i label at))
-    ∙ ap (λ k. front ++ labels_text (take k u)) (sym (add-one i))
+    one_pushed (codes "\n  ") (codes ",\n  ") label_text u i label front text gap gapped new at
+    so_far gap_is gap_put (pushed label at)

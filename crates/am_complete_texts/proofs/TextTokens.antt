@@ -1,5 +1,6 @@
 -- The text of a universe has the tokens of its JSON value.
-use Rattle.std.proofs.Common.{◌≡◌, ℕ, List, [], ◌∷◌, ◌++◌, Option, Some, None, refl, sym, ap, ap₂, ◌∙◌, append_assoc, codes}
+use Rattle.std.proofs.Common.{◌≡◌, ℕ, List, [], ◌∷◌, ◌++◌, Option, Some, None, refl, sym, ap, ap₂}
+use Rattle.std.proofs.Common.{◌∙◌, append_assoc, codes, drop}
 use Rattle.json.specs.Token.{Token, begin_object, end_object, begin_array, end_array, key, string, null}
 use Rattle.json.specs.Word.{word}
 use Rattle.json.specs.Text.{content}
@@ -9,8 +10,8 @@ use Rattle.json.specs.Json as json
 use Rattle.json.specs.Tree.{json_tokens, items_tokens}
 use Rattle.json.proofs.Printed.Strings.{content-escape, lex-escape}
 use Rattle.am_universe.specs.Universe.{Label, Values}
-use Rattle.am_complete_texts.specs.UniverseText.{value_text, later_values_text, values_text}
-use Rattle.am_complete_texts.specs.UniverseText.{label_text, later_labels_text, labels_text, universe_text}
+use Rattle.am_complete_texts.specs.UniverseText.{value_text, texts_behind, values_text, label_text}
+use Rattle.am_complete_texts.specs.UniverseText.{labels_text, universe_text}
 
 -- ---- The JSON value.
 
@@ -61,6 +62,13 @@ later_label_lexemes (label ∷ later) rest = comma ∷ label_lexemes label (late
 abbrev labels_lexemes : List Label → List Lexeme → List Lexeme
 labels_lexemes [] rest = rest
 labels_lexemes (label ∷ later) rest = label_lexemes label (later_label_lexemes later rest)
+
+-- the texts of the values and of the labels behind the first
+abbrev later_values_text : Values → List ℕ
+later_values_text values = texts_behind (codes ", ") (codes ", ") value_text values
+
+abbrev later_labels_text : List Label → List ℕ
+later_labels_text u = texts_behind (codes ",\n  ") (codes ",\n  ") label_text u
 
 lex-quoted : (s r : List ℕ) → lex between (quoted s ++ r) ≡ token (string s) ∷ lex between r
 unfolding lex content
@@ -127,10 +135,7 @@ lex_labels : (u : List Label) (r : List ℕ)
     → lex between (labels_text u ++ r) ≡ labels_lexemes u (lex between r)
 unfolding lex content
 lex_labels [] r = refl
-lex_labels (label ∷ u) r =
-    ap (lex between) (append_assoc (label_text label) (later_labels_text u) r)
-    ∙ lex_label label (later_labels_text u ++ r)
-    ∙ ap (label_lexemes label) (lex_later_labels u r)
+lex_labels (label ∷ u) r = ap (drop 1) (lex_later_labels (label ∷ u) r)
 
 lex_universe : (u : List Label) → lex between (universe_text u)
     ≡ token begin_object ∷ token (string (codes "labels")) ∷ colon ∷ token begin_array
@@ -160,9 +165,8 @@ place_values : (vs : Values) (rest : List Lexeme)
     ≡ later_value_tokens vs (end_array ∷ punctuate after_value rest)
 unfolding punctuate
 place_values [] rest = refl
-place_values (None ∷ vs) rest = ap (λ l. null ∷ l) (place_later vs rest)
-place_values (Some text ∷ []) rest = refl
-place_values (Some text ∷ w ∷ vs) rest = ap (λ l. string text ∷ l) (place_later (w ∷ vs) rest)
+place_values (None ∷ vs) rest = place_later (None ∷ vs) rest
+place_values (Some text ∷ vs) rest = place_later (Some text ∷ vs) rest
 
 abbrev label_tokens : Label → List Token → List Token
 label_tokens label rest =
@@ -194,9 +198,7 @@ place_labels : (u : List Label) (rest : List Lexeme)
     ≡ later_label_tokens u (end_array ∷ punctuate after_value rest)
 unfolding punctuate
 place_labels [] rest = refl
-place_labels (label ∷ u) rest =
-    place_label label (later_label_lexemes u (token end_array ∷ rest))
-    ∙ ap (label_tokens label) (place_later_labels u rest)
+place_labels (label ∷ u) rest = place_later_labels (label ∷ u) rest
 
 -- ---- They are those of the value.
 

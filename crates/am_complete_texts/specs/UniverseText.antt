@@ -9,14 +9,14 @@ abbrev pub value_text : Option (List ℕ) → List ℕ
 value_text None = codes "null"
 value_text (Some text) = quoted text
 
--- The values of a label, between commas; and those behind the first.
-abbrev pub later_values_text : Values → List ℕ
-later_values_text [] = []
-later_values_text (value ∷ later) = codes ", " ++ (value_text value ++ later_values_text later)
+-- The texts of some things, the first behind one text, and each other behind another.
+abbrev pub texts_behind : {X : Type 0} → List ℕ → List ℕ → (X → List ℕ) → List X → List ℕ
+texts_behind first gap text [] = []
+texts_behind first gap text (x ∷ xs) = first ++ (text x ++ texts_behind gap gap text xs)
 
+-- The values of a label, between commas.
 abbrev pub values_text : Values → List ℕ
-values_text [] = []
-values_text (value ∷ later) = value_text value ++ later_values_text later
+values_text values = texts_behind [] (codes ", ") value_text values
 
 -- A label, in one line.
 -- Source: own choice.
@@ -26,14 +26,9 @@ label_text label =
     codes "{\"name\": " ++ (quoted label.name
     ++ (codes ", \"values\": [" ++ (values_text label.values ++ codes "]}")))
 
--- The labels, each on a line of its own; and those behind the first.
-abbrev pub later_labels_text : List Label → List ℕ
-later_labels_text [] = []
-later_labels_text (label ∷ later) = codes ",\n  " ++ (label_text label ++ later_labels_text later)
-
+-- The labels, each on a line of its own.
 abbrev pub labels_text : List Label → List ℕ
-labels_text [] = []
-labels_text (label ∷ later) = codes "\n  " ++ (label_text label ++ later_labels_text later)
+labels_text u = texts_behind (codes "\n  ") (codes ",\n  ") label_text u
 
 -- The file: an object that has the labels alone.
 -- Source: own choice.
