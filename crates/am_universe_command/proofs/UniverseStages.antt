@@ -1,6 +1,6 @@
 -- Where the first fault of making a universe, or of checking one, stands.
-use Rattle.std.proofs.Common.{ℕ, ◌≡◌, ◌∙◌, ◌∷◌, ◌<◌, List, [], false, inl, inr, sym, length}
-use Rattle.std.proofs.Common.{Some, slice_get, string_bytes, subst}
+use Rattle.std.proofs.Common.{ℕ, ◌≡◌, ◌∙◌, ◌∷◌, ◌<◌, List, [], false, inl, inr, sym, length, Some}
+use Rattle.std.proofs.Common.{slice_get, string_bytes, subst}
 use Rattle.am_universe.specs.declared.fault.Fault.{Fault}
 use Rattle.am_universe.specs.declared.kind.Kind.{Kind}
 use Rattle.am_universe.specs.declared.kind.Kind.TheVariants as kinds
@@ -23,9 +23,9 @@ use Rattle.am_complete.specs.Room.{HaveNoRoom, AreUnproved}
 use Rattle.am_complete_texts.specs.CheckText.{origin_pointer}
 use Rattle.am_complete_texts.specs.UniverseText.{universe_text}
 use Rattle.am_universe_command.specs.declared.universe_form.UniverseForm.{UniverseForm}
-use Rattle.am_universe_command.specs.Universes.{deciding_labels}
-use Rattle.am_universe_command.specs.Universes.{deciding_conditions, origin_place, made_stages}
-use Rattle.am_universe_command.specs.Universes.{UnprovedFor, unproved_stage, length_stage}
+use Rattle.am_universe_command.specs.Universes.{deciding_labels, deciding_conditions, origin_place}
+use Rattle.am_universe_command.specs.Universes.{made_stages, UnprovedFor, TooLongFor}
+use Rattle.am_universe_command.specs.Universes.{unproved_stage, length_stage}
 
 -- a fault at a place as a whole, without a pointer
 pub refused_here : (fault : Fault) (kind : Kind) → fault.kind ≡ kind
@@ -40,12 +40,7 @@ pub room_first : (files : Files) (form : UniverseForm) (w : World)
 room_first files form w found place r accepts are full at refusal =
     inl (
       at,
-      record {
-        world = w;
-        accepts = accepts;
-        full = subst HaveNoRoom are full;
-        refusal = refusal;
-      },
+      record { world = w; accepts = accepts; full = subst HaveNoRoom are full; refusal = refusal },
     )
 
 -- a label that is unproved, by where it is first asked of
@@ -107,28 +102,14 @@ pub length_first : (files : Files) (form : UniverseForm) (w : World) (u : List L
     → MAX_FILE_BYTES < length (universe_text u) → place ≡ places.Universe
     → r ≡ refusal_here kinds.Limit → IsFirstFaultOfCall (made_stages files form) place r
 length_first files form w u place r accepts universe complete apart long at refusal =
-    inr (
-      tt,
-      inr (
-        tt,
-        inr (
-          tt,
-          inr (
-            tt,
-            inl (
-              at,
-              record {
-                world = w;
-                accepts = accepts;
-                labels = u;
-                universe = universe;
-                complete = complete;
-                apart = apart;
-                long = long;
-                refusal = refusal;
-              },
-            ),
-          ),
-        ),
-      ),
-    )
+    let found : TooLongFor files form r = record {
+      world = w;
+      accepts = accepts;
+      labels = u;
+      universe = universe;
+      complete = complete;
+      apart = apart;
+      long = long;
+      refusal = refusal;
+    } in
+    inr (tt, inr (tt, inr (tt, inr (tt, inl (at, found)))))

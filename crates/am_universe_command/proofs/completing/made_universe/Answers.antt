@@ -1,11 +1,9 @@
 -- What is refused for the labels that are asked of.
-use Rattle.std.proofs.Common.{◌≡◌, ◌≢◌, ◌<◌, List, ℕ, length, inl, inr, subst, sym, ◌∙◌}
-use Rattle.std.specs.List.{AllByRecursion}
+use Rattle.std.proofs.Common.{◌≡◌, ◌≢◌, inl, inr, sym, ◌∙◌}
 use Rattle.am_universe.specs.declared.kind.Kind.{Kind}
 use Rattle.am_universe.specs.declared.kind.Kind.TheVariants as kinds
-use Rattle.am_complete.specs.AskedLabel.{AskedLabel}
 use Rattle.am_complete.specs.Covering.{IsLimitOrMemory}
-use Rattle.am_universe_command.proofs.UniverseStages.{room_first, unproved_first, IsFirstAt, refused_here}
+use Rattle.am_universe_command.proofs.UniverseStages.{room_first, unproved_first, refused_here}
 use Rattle.am_universe_command.proofs.completing.made_universe.Goals as goal
 
 -- a fault that is not of memory is that there is no room
@@ -24,28 +22,10 @@ returns-in-Err-clause-first c = λ files accepts remembered.
     (c.in-Err.ensures.limit limit) place
     (refused_here c.at.result kinds.Limit (c.at.ensures.kind ∙ limit) c.at.ensures.pointer)
 
--- positions within labels are so by other names of both
-within : (found asked : List AskedLabel) (positions unproved : List ℕ) → found ≡ asked
-    → positions ≡ unproved → AllByRecursion (λ i. i < length asked) unproved
-    → AllByRecursion (λ i. i < length found) positions
-within found asked positions unproved are is each =
-    subst (λ (ls : List AskedLabel). AllByRecursion (λ i. i < length ls) positions) (sym are)
-    (subst (λ (ps : List ℕ). AllByRecursion (λ i. i < length asked) ps) (sym is) each)
-
 pub first_unproved-requires : goal.first_unproved-requires
 first_unproved-requires c =
-    within c.as_slice-3.result.now c.as_slice-2.result.now c.as_slice-4.result.now
-    c.in-Ok-universe_of.made.unproved.items
-    (c.as_slice-3.ensures.value ∙ sym c.as_slice-2.ensures.value) c.as_slice-4.ensures.value
+    rw (c.as_slice-3.ensures.value ∙ sym c.as_slice-2.ensures.value, c.as_slice-4.ensures.value)
     c.in-Ok-universe_of.ensures.within
-
--- and so is the first of them
-first_at : (found asked : List AskedLabel) (positions unproved : List ℕ) (label : AskedLabel)
-    → found ≡ asked → positions ≡ unproved → IsFirstAt found positions label
-    → IsFirstAt asked unproved label
-first_at found asked positions unproved label are is first =
-    subst (λ (ls : List AskedLabel). IsFirstAt ls unproved label) are
-    (subst (λ (ps : List ℕ). IsFirstAt found ps label) is first)
 
 pub returns-in-Some-clause-first : goal.returns-in-Some-clause-first
 returns-in-Some-clause-first c = λ files accepts remembered.
@@ -58,7 +38,6 @@ returns-in-Some-clause-first c = λ files accepts remembered.
     (c.as_slice-2.ensures.value ∙ c.in-Ok-labels_asked.ensures.labels)
     c.in-Ok-universe_of.ensures.unproved c.in-Ok-universe_of.ensures.universe
     c.in-Ok-universe_of.ensures.stands
-    (first_at c.as_slice-3.result.now found c.as_slice-4.result.now made.unproved.items label
-    (c.as_slice-3.ensures.value ∙ sym c.as_slice-2.ensures.value) c.as_slice-4.ensures.value
-    c.in-Some.ensures.some.1)
+    (rw (c.as_slice-3.ensures.value ∙ sym c.as_slice-2.ensures.value, c.as_slice-4.ensures.value)
+    at c.in-Some.ensures.some.1)
     told.0 told.1
