@@ -1,52 +1,43 @@
 -- An example: a universe that is complete for `team="db"`, and one that is not.
-use Rattle.std.proofs.Common.{◌≡◌, [], ◌∷◌, codes, true, false, not, ◌&&◌, ◌||◌}
-use Rattle.std.proofs.Common.{refl, sym, ap, ◌∙◌, lit<, lit≤, inl, inr}
+use Rattle.std.proofs.Common.{◌≡◌, [], ◌∷◌, codes, true, false, not, ◌&&◌, ◌||◌, refl, sym, ap, ◌∙◌}
+use Rattle.std.proofs.Common.{lit<, lit≤, inl, inr}
 use Rattle.std.proofs.lemmas.Bool.{cases_Bool}
 use Rattle.std.specs.List.{IsDistinct}
 use Rattle.std.proofs.lemmas.Str.{IsUtf8-nil}
 use Rattle.am_universe.specs.Text.{same_text}
-use Rattle.am_universe.specs.Universe.{IsUniverse}
+use Rattle.am_universe.specs.Universe.{Label, IsLabel, IsUniverse}
 use Rattle.am_universe.proofs.ListLemmas.{IsIn-from_Contains, Contains-from_IsIn}
 use Rattle.am_eval.specs.RoutingExamples.{team_db}
-use Rattle.am_complete.specs.Complete.{HasAlike, IsCompleteAt, IsComplete}
-use Rattle.am_complete.specs.Complete.{IsSpaceCompleteAt, IsSpaceComplete}
+use Rattle.am_complete.specs.Complete.{HasAlike, IsCompleteAt, IsComplete, IsSpaceCompleteAt}
+use Rattle.am_complete.specs.Complete.{IsSpaceComplete}
 use Rattle.am_every_alert.specs.CompleteExample.{team_universe, db_or_absent, db_alone, team_not_db}
 use Rattle.am_every_alert.specs.CompleteExample.{db_alone_possible}
 use Rattle.am_every_alert.proofs.CompleteSpaces.{complete_by_names, space_complete_by_names}
 
+-- a label alone is a universe
+lone_is_universe : (l : Label) → IsLabel l → IsUniverse (l ∷ [])
+unfolding IsDistinct
+lone_is_universe l is = record { at_most = lit≤ tt; labels = (is, tt); distinct = (tt, tt) }
+
 team_is_universe : IsUniverse (team_universe db_or_absent)
 unfolding IsDistinct
-team_is_universe = record {
+team_is_universe = lone_is_universe _ (record {
+  name = refl;
+  some_value = lit< tt;
   at_most = lit≤ tt;
-  labels = (
-    record {
-      name = refl;
-      some_value = lit< tt;
-      at_most = lit≤ tt;
-      texts = (refl, (refl, tt));
-      distinct = ((refl, tt), (tt, tt));
-    },
-    tt,
-  );
-  distinct = (tt, tt);
-}
+  texts = (refl, (refl, tt));
+  distinct = ((refl, tt), (tt, tt));
+})
 
 db_alone_is_universe : IsUniverse (team_universe db_alone)
 unfolding IsDistinct
-db_alone_is_universe = record {
+db_alone_is_universe = lone_is_universe _ (record {
+  name = refl;
+  some_value = lit< tt;
   at_most = lit≤ tt;
-  labels = (
-    record {
-      name = refl;
-      some_value = lit< tt;
-      at_most = lit≤ tt;
-      texts = (refl, tt);
-      distinct = (tt, tt);
-    },
-    tt,
-  );
+  texts = (refl, tt);
   distinct = (tt, tt);
-}
+})
 
 complete_at_team : IsCompleteAt (team_universe db_or_absent) (team_db ∷ []) (codes "team")
 complete_at_team text valid = elim (cases_Bool (same_text text (codes "db"))) [

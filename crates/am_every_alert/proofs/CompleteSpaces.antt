@@ -1,24 +1,24 @@
 -- Where a universe and a space are complete: by texts that cover all, and for matchers that are among
 -- others.
-use Rattle.std.proofs.Common.{◌≡◌, ◌≢◌, ℕ, List, [], ◌∷◌, ◌++◌, ap}
+use Rattle.std.proofs.Common.{◌≡◌, ◌≢◌, ℕ, List, [], ◌∷◌, ◌++◌, refl, ap}
 use Rattle.std.specs.List.{AllByRecursion}
 use Rattle.am_universe.specs.Universe.{Label, IsUniverse}
-use Rattle.am_universe.proofs.ListLemmas.{IsIn, IsIn-from_Contains, AllByRecursion-at}
-use Rattle.am_universe.proofs.ListLemmas.{AllByRecursion-each}
+use Rattle.am_universe.proofs.ListLemmas.{IsIn, AllByRecursion-at, AllByRecursion-each}
 use Rattle.am_labels.specs.Matcher.{Condition, holds}
 use Rattle.am_labels.specs.Space.{Space}
 use Rattle.am_files.specs.ConfigFile.{Configuration}
 use Rattle.am_eval.specs.World.{World}
 use Rattle.am_classes.specs.Alike.{AreAlike, Covers}
-use Rattle.am_complete.specs.Complete.{about, HasAlike, IsCompleteAt, IsComplete, AreAmong, may_have}
-use Rattle.am_complete.specs.Complete.{IsSpaceCompleteAt, IsSpaceComplete}
+use Rattle.am_complete.specs.Complete.{about, HasAlike, IsCompleteAt, IsComplete, AreAmong}
+use Rattle.am_complete.specs.Complete.{may_have, label_texts, IsSpaceCompleteAt, IsSpaceComplete}
+use Rattle.am_complete.specs.Complete.{impossible_conditions}
 use Rattle.am_asked.specs.Asked.{route_conditions, rule_conditions, equal_conditions}
 use Rattle.am_asked.specs.Asked.{silence_conditions, world_conditions}
-use Rattle.am_complete.specs.Complete.{impossible_conditions}
-use Rattle.am_complete.proofs.Alike.{alike_joined, is_about, about_is, is_among}
+use Rattle.am_complete.proofs.Alike.{is_about, about_is, is_among}
 use Rattle.am_complete.proofs.AmongMatchers.{first_among, last_among, among_through}
 use Rattle.am_complete.proofs.CompleteUniverses.{complete_without_matchers, by_names}
 use Rattle.am_complete.proofs.CompleteUniverses.{space_complete_without_matchers}
+use Rattle.am_complete.proofs.LabelStates.{covered}
 use Rattle.am_every_alert.specs.Deciding.{coverage_conditions}
 
 -- ---- By texts that cover all.
@@ -27,10 +27,8 @@ pub complete_by_cover : (u : List Label) (ms : List Condition) (name : List ℕ)
     (texts : List (List ℕ)) → Covers (about name ms) texts
     → AllByRecursion (λ x. HasAlike u ms name x) texts → IsCompleteAt u ms name
 complete_by_cover u ms name texts covers each text valid =
-    let one = covers text valid in
-    let there = AllByRecursion-at (λ x. HasAlike u ms name x) texts one.0 each
-    (IsIn-from_Contains texts one.0 one.1) in
-    (there.0, there.1, alike_joined (about name ms) there.0 one.0 text there.2 one.2)
+    covered [] name (about name ms) (label_texts u name) texts (λ t is possible. covers t is) each
+    text valid refl
 
 -- ---- For fewer matchers.
 

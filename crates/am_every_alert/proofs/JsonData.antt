@@ -1,7 +1,6 @@
 -- The strings of the JSON value of a file are UTF-8, and so the texts of a universe file are.
 use Rattle.std.proofs.Common.{◌≡◌, ℕ, List, [], ◌∷◌, Bool, true, false, cond, Option, Some, None}
-use Rattle.std.proofs.Common.{option_map, option_and_then, IsUtf8, subst, inl, inr}
-use Rattle.std.proofs.Common.{codes}
+use Rattle.std.proofs.Common.{option_map, option_and_then, IsUtf8, subst, inl, inr, codes}
 use Rattle.std.specs.Prelude.{⊤, IfSome}
 use Rattle.std.specs.Str.{is_utf8}
 use Rattle.std.specs.List.{AllByRecursion, AllZip}
@@ -10,6 +9,7 @@ use Rattle.std.specs.Cmp.Lexicographic.{slice_cmp}
 use Rattle.std.specs.declared.cmp.Ordering.{Ordering}
 use Rattle.std.specs.declared.cmp.Ordering.TheVariants.{Less, Equal, Greater}
 use Rattle.std.proofs.lemmas.Bool.{cases_Bool}
+use Rattle.std.proofs.lemmas.Option.{same_Some}
 use Rattle.std.proofs.lemmas.Str.{IsUtf8-from_is_utf8}
 use Rattle.json.specs.Json as json
 use Rattle.serde_json.specs.Data.{Data, null, boolean, number, string, array, object, Items}
@@ -21,19 +21,17 @@ use Rattle.am_labels.specs.Space.{Space}
 use Rattle.am_json.specs.Json.{json_of, is_null, non_null, field, item_list, items_of}
 use Rattle.am_records.specs.UniverseFile.{SaysValue, SaysLabel, FileSaysUniverse}
 use Rattle.am_every_alert.specs.EveryAlert.{HasUtf8Texts}
-use Rattle.am_every_alert.proofs.OptionParts.{some_same, mapped, then_some}
+use Rattle.am_every_alert.proofs.OptionParts.{mapped, then_some}
 use Rattle.am_every_alert.proofs.JsonGrammar.{HasTexts, ItemsHaveTexts, MembersHaveTexts}
 use Rattle.am_every_alert.proofs.JsonGrammar.{json_of_text}
 
 -- each string that is a value, here or inside, is UTF-8
 abbrev mutual
   HasText : Data → Type 0
-  HasText null = ⊤
-  HasText (boolean b) = ⊤
-  HasText (number n) = ⊤
   HasText (string s) = IsUtf8 s
   HasText (array ds) = ItemsHaveText ds
   HasText (object ms) = MembersHaveText ms
+  HasText d = ⊤
 
   ItemsHaveText : Items → Type 0
   ItemsHaveText no_items = ⊤
@@ -60,11 +58,11 @@ put_text k d (member l other ms) h hs =
 
 mutual
   data_text : (j : json.Json) (d : Data) → HasTexts j → of_json j ≡ Some d → HasText d
-  data_text json.null d h e = subst HasText (some_same null d e) tt
-  data_text (json.boolean b) d h e = subst HasText (some_same (boolean b) d e) tt
+  data_text json.null d h e = subst HasText (same_Some null d e) tt
+  data_text (json.boolean b) d h e = subst HasText (same_Some (boolean b) d e) tt
   data_text (json.number s) d h e =
       let n = mapped number (number_of s) d e in subst HasText n.2 tt
-  data_text (json.string s) d h e = subst HasText (some_same (string s) d e) h
+  data_text (json.string s) d h e = subst HasText (same_Some (string s) d e) h
   data_text (json.array js) d h e =
       let ds = mapped array (of_items js) d e in
       subst HasText ds.2 (items_text js ds.0 h ds.1)
@@ -74,7 +72,7 @@ mutual
 
   items_text : (js : json.Items) (ds : Items) → ItemsHaveTexts js → of_items js ≡ Some ds
       → ItemsHaveText ds
-  items_text json.no_items ds h e = subst ItemsHaveText (some_same no_items ds e) tt
+  items_text json.no_items ds h e = subst ItemsHaveText (same_Some no_items ds e) tt
   items_text (json.item j js) ds h e =
       let first = then_some (λ d. option_map (item d) (of_items js)) (of_json j) ds e in
       let later = mapped (item first.0) (of_items js) ds first.2 in
@@ -84,7 +82,7 @@ mutual
   members_text : (ms : json.Members) (before after : Members) → MembersHaveTexts ms
       → MembersHaveText before → of_members ms before ≡ Some after → MembersHaveText after
   members_text json.no_members before after h hs e =
-      subst MembersHaveText (some_same before after e) hs
+      subst MembersHaveText (same_Some before after e) hs
   members_text (json.member k j ms) before after h hs e =
       let first = then_some (λ d. of_members ms (put k d before)) (of_json j) after e in
       members_text ms (put k first.0 before) after h.1
@@ -112,16 +110,12 @@ member_text k (member l other ms) d h e =
         → match_ordering order (get_member k ms) (Some other) (get_member k ms) ≡ Some d
         → (get_member k ms ≡ Some d → HasText d) → HasText d
     by Less e later = later e
-    by Equal e later = subst HasText (some_same other d e) h.0
+    by Equal e later = subst HasText (same_Some other d e) h.0
     by Greater e later = later e
 
 get_text : (k : List ℕ) (d part : Data) → HasText d → get k d ≡ Some part → HasText part
-get_text k null part h e = absurd (cc)
-get_text k (boolean b) part h e = absurd (cc)
-get_text k (number n) part h e = absurd (cc)
-get_text k (string s) part h e = absurd (cc)
-get_text k (array ds) part h e = absurd (cc)
 get_text k (object ms) part h e = member_text k ms part h e
+get_text k d part h e = absurd (cc)
 
 field_text : (k : List ℕ) (d part : Data) → HasText d → field k d ≡ Some part → HasText part
 field_text k d part h e =
@@ -131,7 +125,7 @@ field_text k d part h e =
     by : (b : Bool) (found : Data) → HasText found → cond b None (Some found) ≡ Some part
         → HasText part
     by true found k e = absurd (cc)
-    by false found k e = subst HasText (some_same found part e) k
+    by false found k e = subst HasText (same_Some found part e) k
 
 listed_text : (ds : Items) → ItemsHaveText ds → AllByRecursion HasText (item_list ds)
 listed_text no_items h = tt
@@ -139,13 +133,9 @@ listed_text (item d ds) h = (h.0, listed_text ds h.1)
 
 array_text : (d : Data) (items : List Data) → HasText d → items_of d ≡ Some items
     → AllByRecursion HasText items
-array_text null items h e = absurd (cc)
-array_text (boolean b) items h e = absurd (cc)
-array_text (number n) items h e = absurd (cc)
-array_text (string s) items h e = absurd (cc)
 array_text (array ds) items h e =
-    subst (AllByRecursion HasText) (some_same (item_list ds) items e) (listed_text ds h)
-array_text (object ms) items h e = absurd (cc)
+    subst (AllByRecursion HasText) (same_Some (item_list ds) items e) (listed_text ds h)
+array_text d items h e = absurd (cc)
 
 items_in : (k : List ℕ) (d : Data) (items : List Data) → HasText d
     → option_and_then items_of (field k d) ≡ Some items → AllByRecursion HasText items

@@ -2,6 +2,7 @@
 use Rattle.std.proofs.Common.{◌≡◌, ℕ, zero, suc, List, [], ◌∷◌, length, Option, Some, None}
 use Rattle.std.proofs.Common.{option_and_then, IsUtf8, refl, ap, ◌∙◌, subst}
 use Rattle.std.specs.Prelude.{⊤}
+use Rattle.std.proofs.lemmas.Option.{some_pair_parts}
 use Rattle.json.specs.Token.{Token}
 use Rattle.json.specs.Lex.{tokens}
 use Rattle.json.specs.Json.{Json, null, boolean, number, string, array, object, Items, no_items}
@@ -9,17 +10,15 @@ use Rattle.json.specs.Json.{item, Members, no_members, member, Parse, parse_map,
 use Rattle.json.specs.Json.{read_key, items_step, members_step, items, members, value_with, value}
 use Rattle.json.specs.Json.{if_last}
 use Rattle.am_every_alert.proofs.JsonTokens.{AreTokens, tokens_of_text}
-use Rattle.am_every_alert.proofs.OptionParts.{some_same, mapped, then_some}
+use Rattle.am_every_alert.proofs.OptionParts.{mapped, then_some}
 
 -- each string that is a value, here or inside, is UTF-8
 abbrev mutual
   pub HasTexts : Json → Type 0
-  HasTexts null = ⊤
-  HasTexts (boolean b) = ⊤
-  HasTexts (number s) = ⊤
   HasTexts (string s) = IsUtf8 s
   HasTexts (array js) = ItemsHaveTexts js
   HasTexts (object ms) = MembersHaveTexts ms
+  HasTexts j = ⊤
 
   pub ItemsHaveTexts : Items → Type 0
   ItemsHaveTexts no_items = ⊤
@@ -39,8 +38,7 @@ first_read : {A : Type 0} (P : A → Type 0) (x a : A) (ts rest : List Token)
     → ◌≡◌ {A = Option (A × List Token)} (Some (x, ts)) (Some (a, rest)) → P x → AreTokens ts
     → P a × AreTokens rest
 first_read {A} P x a ts rest e h k =
-    let same = some_same {A = A × List Token} (x, ts) (a, rest) e in
-    (subst P (ap (λ q. q.0) same) h, subst AreTokens (ap (λ q. q.1) same) k)
+    let same = some_pair_parts x a ts rest e in (subst P same.0 h, subst AreTokens same.1 k)
 
 value_mapped : {A B : Type 0} (f : A → B) (r : Option (A × List Token)) (b : B)
     (rest : List Token) → parse_map f r ≡ Some (b, rest)
@@ -52,30 +50,13 @@ value_mapped {A} {B} f r b rest e =
 -- ---- Items and members.
 
 end_read : (ts rest : List Token) → AreTokens ts → after_end_array ts ≡ Some rest → AreTokens rest
-end_read [] rest h e = absurd (cc)
-end_read (Token.begin_object ∷ ts) rest h e = absurd (cc)
-end_read (Token.end_object ∷ ts) rest h e = absurd (cc)
-end_read (Token.begin_array ∷ ts) rest h e = absurd (cc)
 end_read (Token.end_array ∷ ts) rest h e = let same : ts ≡ rest = cc in subst AreTokens same h.1
-end_read (Token.key s ∷ ts) rest h e = absurd (cc)
-end_read (Token.string s ∷ ts) rest h e = absurd (cc)
-end_read (Token.number s ∷ ts) rest h e = absurd (cc)
-end_read (Token.boolean b ∷ ts) rest h e = absurd (cc)
-end_read (Token.null ∷ ts) rest h e = absurd (cc)
-end_read (Token.bad ∷ ts) rest h e = absurd (cc)
+end_read ts rest h e = absurd (cc)
 
 key_read : Reads (λ k. ⊤) read_key
-key_read [] k rest h e = absurd (cc)
-key_read (Token.begin_object ∷ ts) k rest h e = absurd (cc)
 key_read (Token.end_object ∷ ts) k rest h e = first_read (λ k. ⊤) None k ts rest e tt h.1
-key_read (Token.begin_array ∷ ts) k rest h e = absurd (cc)
-key_read (Token.end_array ∷ ts) k rest h e = absurd (cc)
 key_read (Token.key s ∷ ts) k rest h e = first_read (λ k. ⊤) (Some s) k ts rest e tt h.1
-key_read (Token.string s ∷ ts) k rest h e = absurd (cc)
-key_read (Token.number s ∷ ts) k rest h e = absurd (cc)
-key_read (Token.boolean b ∷ ts) k rest h e = absurd (cc)
-key_read (Token.null ∷ ts) k rest h e = absurd (cc)
-key_read (Token.bad ∷ ts) k rest h e = absurd (cc)
+key_read ts k rest h e = absurd (cc)
 
 module _ (one : Parse Json) (reads : Reads HasTexts one) where
   item_read : (more : Parse Items) → Reads ItemsHaveTexts more → (o : Option (List Token))
@@ -121,16 +102,12 @@ module _ (one : Parse Json) (reads : Reads HasTexts one) where
 
 with_read : (a : Parse Items) (o : Parse Members) → Reads ItemsHaveTexts a
     → Reads MembersHaveTexts o → Reads HasTexts (value_with a o)
-with_read a o items_of members_of [] j rest h e = absurd (cc)
 with_read a o items_of members_of (Token.begin_object ∷ ts) j rest h e =
     let inside = value_mapped object (o ts) j rest e in
     let r = members_of ts inside.0 rest h.1 inside.1 in (subst HasTexts inside.2 r.0, r.1)
-with_read a o items_of members_of (Token.end_object ∷ ts) j rest h e = absurd (cc)
 with_read a o items_of members_of (Token.begin_array ∷ ts) j rest h e =
     let inside = value_mapped array (a ts) j rest e in
     let r = items_of ts inside.0 rest h.1 inside.1 in (subst HasTexts inside.2 r.0, r.1)
-with_read a o items_of members_of (Token.end_array ∷ ts) j rest h e = absurd (cc)
-with_read a o items_of members_of (Token.key s ∷ ts) j rest h e = absurd (cc)
 with_read a o items_of members_of (Token.string s ∷ ts) j rest h e =
     first_read HasTexts (string s) j ts rest e h.0 h.1
 with_read a o items_of members_of (Token.number s ∷ ts) j rest h e =
@@ -139,7 +116,7 @@ with_read a o items_of members_of (Token.boolean b ∷ ts) j rest h e =
     first_read HasTexts (boolean b) j ts rest e tt h.1
 with_read a o items_of members_of (Token.null ∷ ts) j rest h e =
     first_read HasTexts null j ts rest e tt h.1
-with_read a o items_of members_of (Token.bad ∷ ts) j rest h e = absurd (cc)
+with_read a o items_of members_of ts j rest h e = absurd (cc)
 
 value_read : (depth : ℕ) → Reads HasTexts (value depth)
 unfolding value

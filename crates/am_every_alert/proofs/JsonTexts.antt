@@ -1,16 +1,15 @@
 -- The text of a JSON string is UTF-8, where the bytes that are read are.
 use Rattle.std.proofs.Common.{◌≡◌, ℕ, zero, suc, ◌+◌, ◌*◌, ◌/◌, ◌%◌, ◌<◌, ◌≤◌, Bool, true, false}
-use Rattle.std.proofs.Common.{cond, nat_le, ltb-true, ◌⊎◌}
-use Rattle.std.proofs.Common.{◌&&◌, ◌==◌, nat_lt, List, [], ◌∷◌, ◌++◌, length, Some, None}
-use Rattle.std.proofs.Common.{IsUtf8, inl, inr, refl, sym, ap, ◌∙◌}
-use Rattle.std.proofs.Common.{subst, arith}
+use Rattle.std.proofs.Common.{cond, nat_le, ltb-true, ◌⊎◌, ◌&&◌, ◌==◌, nat_lt, List, [], ◌∷◌, ◌++◌}
+use Rattle.std.proofs.Common.{length, Some, None, IsUtf8, inl, inr, refl, sym, ap, ◌∙◌, subst}
+use Rattle.std.proofs.Common.{arith}
 use Rattle.std.specs.List.{AllByRecursion}
 use Rattle.std.specs.Char.{digit_value, is_digit, encode_utf8}
 use Rattle.std.proofs.lemmas.Bool.{cases_Bool, and_parts, eqb-true}
 use Rattle.std.proofs.lemmas.Bool.Decides.{nat_tests}
 use Rattle.std.proofs.lemmas.Str.{IsUtf8-append, IsUtf8-nil, IsUtf8-encode, IsUtf8-drop}
-use Rattle.std.proofs.lemmas.Str.{encode_ascii}
-use Rattle.std.proofs.lemmas.Str.{IsCharBoundary-after_ascii, length-encode, len_utf8_bounds}
+use Rattle.std.proofs.lemmas.Str.{encode_ascii, IsCharBoundary-after_ascii, length-encode}
+use Rattle.std.proofs.lemmas.Str.{len_utf8_bounds}
 use Rattle.am_every_alert.proofs.OptionParts.{mapped, then_some}
 use lib.Utf8.{scalar, scalars, encode, encodes, low_scalar}
 use Rattle.json.specs.Text.{code_unit, short_escape, is_high_surrogate, is_low_surrogate}
@@ -59,15 +58,13 @@ pub record Front (x : ℕ) (xs : List ℕ) : Type 0 where
   pub split : xs ≡ bs ++ rest
   pub utf8 : IsUtf8 rest
 
-not_empty : (c : ℕ) → encode c ≡ [] → ⊥
-not_empty c e = omega (arith, length-encode c, (len_utf8_bounds c).0, ap length e)
-
 front : (x : ℕ) (xs : List ℕ) → IsUtf8 (x ∷ xs) → Front x xs
 front x xs u = by u.0 u.1.0 u.1.1
   where
     begins : (c : ℕ) (bytes : List ℕ) (cs : List ℕ) → encode c ≡ bytes → scalar c ≡ true
         → scalars cs ≡ true → bytes ++ encodes cs ≡ x ∷ xs → Front x xs
-    begins c [] cs is valid others e = absurd (not_empty c is)
+    begins c [] cs is valid others e =
+        absurd (omega (arith, length-encode c, (len_utf8_bounds c).0, ap length is))
     begins c (b ∷ bs) cs is valid others e =
         let first : b ≡ x = cc in
         let later : bs ++ encodes cs ≡ xs = cc in
@@ -190,19 +187,14 @@ unit_is_scalar : (u : ℕ) → u < 65536 → is_high_surrogate u ≡ false → i
     → scalar u ≡ true
 unit_is_scalar u h high low = grind (arith, nat_tests)
 
-pair_in_range : (h l : ℕ) → is_high_surrogate h ≡ true → is_low_surrogate l ≡ true
-    → (57344 ≤ surrogate_pair h l) × (surrogate_pair h l < 1114112)
-pair_in_range h l high low =
+pair_is_scalar : (h l : ℕ) → is_high_surrogate h ≡ true → is_low_surrogate l ≡ true
+    → scalar (surrogate_pair h l) ≡ true
+pair_is_scalar h l high low =
     let upper = and_parts (nat_le 0xd800 h) (nat_lt h 0xdc00) high in
     let lower = and_parts (nat_le 0xdc00 l) (nat_lt l 0xe000) low in
     let h_max : h < 0xdc00 = ltb-true h 0xdc00 upper.1 in
     let l_max : l < 0xe000 = ltb-true l 0xe000 lower.1 in
-    (omega arith, omega arith)
-
-pair_is_scalar : (h l : ℕ) → is_high_surrogate h ≡ true → is_low_surrogate l ≡ true
-    → scalar (surrogate_pair h l) ≡ true
-pair_is_scalar h l high low =
-    let r = pair_in_range h l high low in high_scalar (surrogate_pair h l) r.0 r.1
+    high_scalar (surrogate_pair h l) (omega arith) (omega arith)
 
 -- ---- The content of a string.
 
@@ -334,20 +326,12 @@ content_read plain (x ∷ xs) =
 content_read after_backslash [] = λ s u e. absurd (cc)
 content_read after_backslash (x ∷ xs) =
     backslash_read x xs (content_read plain xs) (content_read after_u xs)
-content_read after_u [] = λ s u e. absurd (cc)
-content_read after_u (a ∷ []) = λ s u e. absurd (cc)
-content_read after_u (a ∷ b ∷ []) = λ s u e. absurd (cc)
-content_read after_u (a ∷ b ∷ c ∷ []) = λ s u e. absurd (cc)
 content_read after_u (a ∷ b ∷ c ∷ d ∷ xs) =
     unit_read a b c d xs (content_read plain xs) (λ h. content_read (after_high h) xs)
-content_read (after_high h) [] = λ s high u e. absurd (cc)
-content_read (after_high h) (x ∷ []) = λ s high u e. absurd (cc)
-content_read (after_high h) (x ∷ y ∷ []) = λ s high u e. absurd (cc)
-content_read (after_high h) (x ∷ y ∷ a ∷ []) = λ s high u e. absurd (cc)
-content_read (after_high h) (x ∷ y ∷ a ∷ b ∷ []) = λ s high u e. absurd (cc)
-content_read (after_high h) (x ∷ y ∷ a ∷ b ∷ c ∷ []) = λ s high u e. absurd (cc)
+content_read after_u xs = λ s u e. absurd (cc)
 content_read (after_high h) (x ∷ y ∷ a ∷ b ∷ c ∷ d ∷ xs) =
     pair_read h x y a b c d xs (content_read plain xs)
+content_read (after_high h) xs = λ s high u e. absurd (cc)
 
 pub content_is_text : (xs s : List ℕ) → IsUtf8 xs → content plain xs ≡ Some s → IsUtf8 s
 content_is_text xs s u e = content_read plain xs 0 s u e

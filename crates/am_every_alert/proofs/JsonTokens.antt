@@ -1,7 +1,7 @@
 -- The strings among the tokens of a text are UTF-8, where the text is.
-use Rattle.std.proofs.Common.{◌≡◌, ℕ, ◌-◌, ◌<◌, Bool, true, false, cond, ◌==◌, ◌&&◌}
-use Rattle.std.proofs.Common.{nat_eq, length, take, drop, List, []}
-use Rattle.std.proofs.Common.{◌∷◌, Option, Some, None, IsUtf8, refl, arith, inl, inr}
+use Rattle.std.proofs.Common.{◌≡◌, ℕ, ◌-◌, ◌<◌, Bool, true, false, cond, ◌==◌, ◌&&◌, nat_eq, length}
+use Rattle.std.proofs.Common.{take, drop, List, [], ◌∷◌, Option, Some, None, IsUtf8, refl, arith}
+use Rattle.std.proofs.Common.{inl, inr}
 use Rattle.std.specs.Prelude.{⊤}
 use Rattle.std.specs.List.{AllByRecursion, starts_with}
 use Rattle.std.proofs.lemmas.Bool.{cases_Bool, eqb-true}
@@ -20,69 +20,46 @@ use Rattle.am_every_alert.proofs.JsonTexts.{IsRest, rest_behind, behind_ascii, c
 
 -- a token that is a string has a UTF-8 text
 abbrev pub HasText : Token → Type 0
-HasText begin_object = ⊤
-HasText end_object = ⊤
-HasText begin_array = ⊤
-HasText end_array = ⊤
-HasText (key s) = ⊤
 HasText (string s) = IsUtf8 s
-HasText (number s) = ⊤
-HasText (boolean b) = ⊤
-HasText null = ⊤
-HasText bad = ⊤
+HasText t = ⊤
 
 abbrev HasTextInside : Lexeme → Type 0
 HasTextInside (token t) = HasText t
-HasTextInside comma = ⊤
-HasTextInside colon = ⊤
+HasTextInside l = ⊤
 
 -- ---- Lexemes.
 
-if_so : (b : Bool) (t : Token) → HasText t → HasText (cond b t bad)
-if_so true t h = h
-if_so false t h = tt
+one_of : {A : Type 0} (P : A → Type 0) (b : Bool) (x y : A) → P x → P y → P (cond b x y)
+one_of P true x y h k = h
+one_of P false x y h k = k
 
 literal_text : (name : List ℕ) (t : Token) (xs : List ℕ) → HasText t
     → HasText (literal name t xs)
 literal_text name t xs h =
-    if_so (starts_with nat_eq xs name && ends_word (drop (length name) xs)) t h
+    one_of HasText (starts_with nat_eq xs name && ends_word (drop (length name) xs)) t bad h tt
 
 number_text : (xs : List ℕ) (o : Option (List ℕ)) → HasText (number_before xs o)
 number_text xs None = tt
 number_text xs (Some rest) =
-    if_so (ends_word rest) (number (take (length xs - length rest) xs)) tt
-
-one_of_four : (a b c : Bool) (t u v w : Token) → HasText t → HasText u → HasText v → HasText w
-    → HasText (cond a t (cond b u (cond c v w)))
-one_of_four true b c t u v w h i j k = h
-one_of_four false true c t u v w h i j k = i
-one_of_four false false true t u v w h i j k = j
-one_of_four false false false t u v w h i j k = k
+    one_of HasText (ends_word rest) (number (take (length xs - length rest) xs)) bad tt tt
 
 word_text : (xs : List ℕ) → HasText (word xs)
 unfolding word
 word_text xs =
-    one_of_four (head xs == ascii.lower_t) (head xs == ascii.lower_f) (head xs == ascii.lower_n)
-    (literal ascii.true_text (boolean true) xs) (literal ascii.false_text (boolean false) xs)
-    (literal ascii.null_text null xs) (number_before xs (after_number xs))
+    one_of HasText (head xs == ascii.lower_t) _ _
     (literal_text ascii.true_text (boolean true) xs tt)
-    (literal_text ascii.false_text (boolean false) xs tt) (literal_text ascii.null_text null xs tt)
-    (number_text xs (after_number xs))
-
-one_of_six : (a b c d e : Bool)
-    → HasTextInside (cond a (token begin_object) (cond b (token end_object)
-    (cond c (token begin_array) (cond d (token end_array) (cond e comma colon)))))
-one_of_six true b c d e = tt
-one_of_six false true c d e = tt
-one_of_six false false true d e = tt
-one_of_six false false false true e = tt
-one_of_six false false false false true = tt
-one_of_six false false false false false = tt
+    (one_of HasText (head xs == ascii.lower_f) _ _
+    (literal_text ascii.false_text (boolean false) xs tt)
+    (one_of HasText (head xs == ascii.lower_n) _ _ (literal_text ascii.null_text null xs tt)
+    (number_text xs (after_number xs))))
 
 operator_text : (x : ℕ) → HasTextInside (operator_lexeme x)
 operator_text x =
-    one_of_six (x == ascii.open_brace) (x == ascii.close_brace) (x == ascii.open_bracket)
-    (x == ascii.close_bracket) (x == ascii.comma)
+    one_of HasTextInside (x == ascii.open_brace) (token begin_object) _ tt
+    (one_of HasTextInside (x == ascii.close_brace) (token end_object) _ tt
+    (one_of HasTextInside (x == ascii.open_bracket) (token begin_array) _ tt
+    (one_of HasTextInside (x == ascii.close_bracket) (token end_array) _ tt
+    (one_of HasTextInside (x == ascii.comma) comma colon tt tt))))
 
 string_text : (xs : List ℕ) (o : Option (List ℕ)) → IsUtf8 xs → content plain xs ≡ o
     → HasText (string_token o)
@@ -101,16 +78,12 @@ byte_text between backslash x xs k u later = (tt, later in_word)
 byte_text between operator x xs k u later = (operator_text x, later between)
 byte_text between space x xs k u later = later between
 byte_text between other x xs k u later = (word_text (x ∷ xs), later in_word)
-byte_text in_word quote x xs k u later = later in_word
-byte_text in_word backslash x xs k u later = later in_word
 byte_text in_word operator x xs k u later = (operator_text x, later between)
 byte_text in_word space x xs k u later = later between
-byte_text in_word other x xs k u later = later in_word
+byte_text in_word c x xs k u later = later in_word
 byte_text in_string quote x xs k u later = later between
 byte_text in_string backslash x xs k u later = later in_escape
-byte_text in_string operator x xs k u later = later in_string
-byte_text in_string space x xs k u later = later in_string
-byte_text in_string other x xs k u later = later in_string
+byte_text in_string c x xs k u later = later in_string
 byte_text in_escape c x xs k u later = later in_string
 
 no_quote : (a b c : Bool)
@@ -169,28 +142,12 @@ token_texts : (p : Place) (ls : List Lexeme) → AreLexemes ls → AreTokens (pu
 unfolding punctuate
 token_texts fresh [] h = tt
 token_texts after_value [] h = tt
-token_texts after_comma [] h = (tt, tt)
-token_texts after_key [] h = (tt, tt)
-token_texts fresh (token t ∷ ls) h =
-    placed_texts fresh t (begins_colon ls) (λ next. punctuate next ls) h.0
+token_texts p (token t ∷ ls) h =
+    placed_texts p t (begins_colon ls) (λ next. punctuate next ls) h.0
     (λ next. token_texts next ls h.1)
-token_texts after_value (token t ∷ ls) h =
-    placed_texts after_value t (begins_colon ls) (λ next. punctuate next ls) h.0
-    (λ next. token_texts next ls h.1)
-token_texts after_comma (token t ∷ ls) h =
-    placed_texts after_comma t (begins_colon ls) (λ next. punctuate next ls) h.0
-    (λ next. token_texts next ls h.1)
-token_texts after_key (token t ∷ ls) h =
-    placed_texts after_key t (begins_colon ls) (λ next. punctuate next ls) h.0
-    (λ next. token_texts next ls h.1)
-token_texts fresh (comma ∷ ls) h = (tt, tt)
 token_texts after_value (comma ∷ ls) h = token_texts after_comma ls h.1
-token_texts after_comma (comma ∷ ls) h = (tt, tt)
-token_texts after_key (comma ∷ ls) h = (tt, tt)
-token_texts fresh (colon ∷ ls) h = (tt, tt)
-token_texts after_value (colon ∷ ls) h = (tt, tt)
-token_texts after_comma (colon ∷ ls) h = (tt, tt)
 token_texts after_key (colon ∷ ls) h = token_texts fresh ls h.1
+token_texts p ls h = (tt, tt)
 
 pub tokens_of_text : (text : List ℕ) → IsUtf8 text → AreTokens (tokens text)
 tokens_of_text text u = token_texts fresh (lex between text) (lexeme_texts 0 between text u)

@@ -1,42 +1,37 @@
 -- Where there is no room for the labels that matchers ask of, no universe is complete.
-use Rattle.std.proofs.Common.{◌≡◌, ◌<◌, ◌≤◌, ◌≢◌, ℕ, List, [], length, Option, Some, None}
-use Rattle.std.proofs.Common.{true, refl, sym, ap, ◌∙◌, subst, inl, inr, arith, Contains}
+use Rattle.std.proofs.Common.{◌≡◌, ◌<◌, ◌≤◌, ◌≢◌, ℕ, List, [], length, true, refl, sym, ap, ◌∙◌}
+use Rattle.std.proofs.Common.{subst, inl, inr, arith, Contains}
 use Rattle.std.specs.Prelude.{unwrap_or}
-use Rattle.std.specs.List.{find, AllByRecursion, list_any}
+use Rattle.std.specs.List.{AllByRecursion, list_any}
 use Rattle.std.specs.Str.{IsUtf8}
 use Rattle.std.specs.Cmp.Lexicographic.{bytes_decides}
-use Rattle.std.specs.Cmp.{IsEquivalence}
-use Rattle.std.proofs.lemmas.Bool.{cases_Bool}
+use Rattle.std.proofs.lemmas.Bool.{both_ways, true_from_ne_false}
+use Rattle.std.proofs.lemmas.Cmp.{nat_list_eq_equiv}
 use Rattle.std.proofs.lemmas.List.{length-map}
 use Rattle.std.proofs.lemmas.Map.Made.{length-le_from_is_member}
 use Rattle.am_universe.specs.declared.limits.TheConstants.{MAX_VALUES}
 use Rattle.am_universe.specs.Text.{same_text}
 use Rattle.am_universe.specs.Universe.{Label, IsLabel, IsUniverse, names}
-use Rattle.am_universe.proofs.ListLemmas.{IsIn, IsIn-from_Contains, IsIn-unmap}
-use Rattle.am_universe.proofs.ListLemmas.{AllByRecursion-at, AllByRecursion-each}
+use Rattle.am_universe.proofs.ListLemmas.{IsIn, IsIn-from_Contains, IsIn-unmap, AllByRecursion-at}
+use Rattle.am_universe.proofs.ListLemmas.{AllByRecursion-each}
 use Rattle.am_labels.specs.Matcher.{Condition}
 use Rattle.am_labels.proofs.Passing.{any_in, in_any}
 use Rattle.am_classes.specs.Alike.{AreApart, HasAlikeIn}
-use Rattle.am_complete.specs.Complete.{about, label_texts, texts_of_label, IsComplete}
+use Rattle.am_complete.specs.Complete.{about, label_texts, IsComplete}
 use Rattle.am_complete.specs.AskedLabel.{AskedLabel, asked_names, IsAskedOf}
 use Rattle.am_complete.specs.Room.{NeedsMoreValues, HaveNoRoom}
-use Rattle.am_complete.proofs.ApartTexts.{apart_are_no_more, same_where_both}
-use Rattle.am_complete.proofs.LabelTexts.{has_name, found_in}
-use Rattle.am_complete.proofs.MadeUniverses.{unnamed_texts, no_name, on_name}
+use Rattle.am_complete.proofs.ApartTexts.{apart_are_no_more}
+use Rattle.am_complete.proofs.LabelTexts.{texts_by, unnamed_texts}
+use Rattle.am_complete.proofs.MadeUniverses.{no_name, on_name}
 
 -- ---- A label has no more texts than a label may have.
 
 most_texts : (u : List Label) (name : List ℕ) → IsUniverse u
     → length (label_texts u name) ≤ MAX_VALUES
-most_texts u name h = by (find (has_name name) u) refl
-  where
-    by : (o : Option Label) → find (has_name name) u ≡ o
-        → length (texts_of_label o) ≤ MAX_VALUES
-    by None e = omega arith
-    by (Some l) e =
-        let r = found_in name u l e in
-        let few = (AllByRecursion-at IsLabel u l h.labels r.0).at_most in
-        omega (arith, few, length-map l.values (λ v. unwrap_or v []))
+most_texts u name h =
+    texts_by (λ texts. length texts ≤ MAX_VALUES) u name (omega arith) (λ l i same.
+    let few = (AllByRecursion-at IsLabel u l h.labels i).at_most in
+    omega (arith, few, length-map l.values (λ v. unwrap_or v [])))
 
 -- ---- One that needs more values has them in a complete universe.
 
@@ -57,30 +52,17 @@ as_many u asked ms l n asks i complete needs =
 
 -- ---- All labels.
 
-text_equivalence : IsEquivalence same_text
-text_equivalence = record {
-  refl = λ x. (bytes_decides x x).1 refl;
-  symm = λ x y. same_where_both (same_text x y) (same_text y x)
-      (λ h. (bytes_decides y x).1 (sym ((bytes_decides x y).0 h)))
-      (λ h. (bytes_decides x y).1 (sym ((bytes_decides y x).0 h)));
-  congr = λ x y z h. ap (λ w. same_text w z) ((bytes_decides x y).0 h);
-}
-
 declared_where_needed : (u : List Label) (asked : List AskedLabel) (ms : List Condition)
     (l : AskedLabel) → IsAskedOf asked ms → IsIn asked l → IsComplete u ms → NeedsMoreValues 1 l
     → list_any (same_text l.name) (names u) ≡ true
 declared_where_needed u asked ms l asks i complete needs =
-    elim (cases_Bool (list_any (same_text l.name) (names u))) [
-      | inl there ↦ there
-      | inr absent ↦
-          let lone = unnamed_texts u l.name (λ h.
-          let some = in_any (same_text l.name) (names u) l.name
-          (IsIn-from_Contains (names u) l.name h) ((bytes_decides l.name l.name).1 refl) in
-          cc (some, absent)) in
-          let long = as_many u asked ms l 1 asks i complete needs in
-          let one = ap (λ (ts : List (List ℕ)). length ts) lone in
-          absurd (omega (arith, long, one))
-    ]
+    true_from_ne_false (list_any (same_text l.name) (names u)) (λ absent.
+    let lone = unnamed_texts u l.name (λ h.
+    both_ways _ absent (in_any (same_text l.name) (names u) l.name
+    (IsIn-from_Contains (names u) l.name h) ((bytes_decides l.name l.name).1 refl))) in
+    let long = as_many u asked ms l 1 asks i complete needs in
+    let one = ap (λ (ts : List (List ℕ)). length ts) lone in
+    omega (arith, long, one))
 
 -- a universe that is complete has room for what is asked
 pub none_without_room : (asked : List AskedLabel) (ms : List Condition) (u : List Label)
@@ -93,7 +75,7 @@ none_without_room asked ms u h asks (inl many) complete =
     omega (arith, long, few)
 none_without_room asked ms u h asks (inr many) complete =
     let labels : List AskedLabel = many.0 in
-    let few = length-le_from_is_member text_equivalence (asked_names labels) (names u) many.3
+    let few = length-le_from_is_member nat_list_eq_equiv (asked_names labels) (names u) many.3
     (λ q found.
     let n = any_in (same_text q) (asked_names labels) found in
     let l = IsIn-unmap (λ (x : AskedLabel). x.name) labels n.0 n.1 in

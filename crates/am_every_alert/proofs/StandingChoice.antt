@@ -1,10 +1,9 @@
 -- A choice of a universe that meets the same of some matchers as a label set, label by label.
-use Rattle.std.proofs.Common.{◌≡◌, ℕ, suc, ◌<◌, List, [], ◌∷◌, length, map, Option, Some, None}
-use Rattle.std.proofs.Common.{true, false, refl, sym, ap, ◌∙◌, subst, inl, inr, nat_lt, arith}
-use Rattle.std.specs.Prelude.{slice_get, option_and_then, unwrap_or}
-use Rattle.std.specs.List.{find}
+use Rattle.std.proofs.Common.{◌≡◌, ℕ, suc, ◌<◌, List, [], ◌∷◌, length, map, Some, true, false, refl}
+use Rattle.std.proofs.Common.{sym, ap, ◌∙◌, subst, inl, inr, nat_lt, arith}
+use Rattle.std.specs.Prelude.{slice_get, option_and_then, unwrap_or, Contains}
 use Rattle.std.specs.Cmp.Lexicographic.{bytes_decides}
-use Rattle.std.proofs.lemmas.Bool.{cases_Bool, lt-ltb, and_from}
+use Rattle.std.proofs.lemmas.Bool.{both_ways, cases_Bool, lt-ltb, and_from}
 use Rattle.am_universe.specs.Universe.{Label, Values, IsLabel, IsUniverse, names, sizes}
 use Rattle.am_universe.specs.Choice.{admits, IsWhole}
 use Rattle.am_universe.specs.LabelSet.{LabelMap, value_at, value_of, label_set_of}
@@ -12,11 +11,13 @@ use Rattle.am_universe.proofs.ListLemmas.{IsIn, IsIn-from_Contains, IsIn-unmap, 
 use Rattle.am_universe.proofs.ListLemmas.{AllByRecursion-at}
 use Rattle.am_universe.proofs.LabelSetLemmas.{value_of_declared, value_of_undeclared}
 use Rattle.am_labels.specs.Matcher.{Condition, holds, condition_holds}
+use Rattle.am_labels.proofs.Passing.{any_in, in_any}
 use Rattle.am_classes.specs.Alike.{AreAlike, HasAlikeIn}
-use Rattle.am_complete.specs.Complete.{about, label_texts, texts_of_label, HasAlike}
+use Rattle.am_complete.specs.Complete.{about, label_texts, HasAlike}
+use Rattle.am_complete.specs.LabelState.{is_declared}
 use Rattle.am_every_alert.specs.EveryAlert.{MeetsTheSame}
-use Rattle.am_complete.proofs.Alike.{is_about}
-use Rattle.am_complete.proofs.LabelTexts.{has_name, found_in, declared_texts}
+use Rattle.am_complete.proofs.Alike.{is_about, only}
+use Rattle.am_complete.proofs.LabelTexts.{has_name, declared_texts, unnamed_texts}
 use Rattle.am_complete.proofs.CompleteUniverses.{some_about}
 
 -- ---- The texts of a declared label.
@@ -32,23 +33,6 @@ position_of [] x h = absurd h
 position_of (v ∷ vs) x (inl e) = (0, omega arith, e)
 position_of (v ∷ vs) x (inr h) =
     let r = position_of vs x h in (suc r.0, omega (arith, r.1), r.2)
-
-not_first : (name : List ℕ) (m l : Label) → has_name name m ≡ false → m ≡ l → l.name ≡ name → ⊥
-not_first name m l apart first same =
-    let named : has_name name m ≡ true =
-    (bytes_decides m.name name).1 (ap (λ k. k.name) first ∙ same) in
-    let both : true ≡ false = sym named ∙ apart in absurd (cc)
-
-none_named : (name : List ℕ) (u : List Label) (l : Label) → find (has_name name) u ≡ None
-    → IsIn u l → l.name ≡ name → ⊥
-none_named name [] l e h same = h
-none_named name (m ∷ u) l e h same = elim (cases_Bool (has_name name m)) [
-  | inl named ↦ let found : Some m ≡ None = rw named at e in absurd (cc)
-  | inr apart ↦ elim h [
-    | inl first ↦ not_first name m l apart first same
-    | inr later ↦ none_named name u l (rw apart at e) later same
-  ]
-]
 
 -- ---- A choice by a position for each label.
 
@@ -114,22 +98,17 @@ module _ (u : List Label) (ms : List Condition) (s : LabelMap) (h : IsUniverse u
       AllByRecursion-at (λ n. holds n.op n.value x ≡ holds n.op n.value y) (about name ms) m alike
       (is_about name ms m i e)
 
-  undeclared_met : (c : List ℕ) (m : Condition) → IsIn ms m → find (has_name m.name) u ≡ None
+  undeclared_met : (c : List ℕ) (m : Condition) → IsIn ms m → is_declared u m.name ≡ false
       → condition_holds (label_set_of u c) m ≡ condition_holds s m
   undeclared_met c m i e =
-      let alike : HasAlikeIn (about m.name ms) ([] ∷ []) (value_of s m.name) =
-      subst (λ o. HasAlikeIn (about m.name ms) (texts_of_label o) (value_of s m.name)) e
-      (each m i) in
-      let absent : alike.0 ≡ [] = only (IsIn-from_Contains ([] ∷ []) alike.0 alike.1) in
-      let value = value_of_undeclared u c m.name (λ there.
+      let fresh : Contains (names u) m.name → ⊥ = λ there.
       let l = IsIn-unmap (λ l. l.name) u m.name (IsIn-from_Contains (names u) m.name there) in
-      none_named m.name u l.0 e l.1 l.2) in
-      ap (holds m.op m.value) (value ∙ sym absent)
+      both_ways (is_declared u m.name) e
+      (in_any (has_name m.name) u l.0 l.1 ((bytes_decides l.0.name m.name).1 l.2)) in
+      let alike = subst (λ texts. HasAlikeIn (about m.name ms) texts (value_of s m.name))
+      (unnamed_texts u m.name fresh) (each m i) in
+      ap (holds m.op m.value) (value_of_undeclared u c m.name fresh ∙ only [] alike.0 alike.1)
       ∙ told m m.name alike.0 (value_of s m.name) i refl alike.2
-    where
-      only : {x : List ℕ} → IsIn ([] ∷ []) x → x ≡ []
-      only (inl same) = sym same
-      only (inr none) = absurd none
 
   declared_met : (c : List ℕ) (m : Condition) (l : Label) → IsIn ms m → l.name ≡ m.name
       → StandsIn IsAlikeAt u c l
@@ -145,13 +124,12 @@ module _ (u : List Label) (ms : List Condition) (s : LabelMap) (h : IsUniverse u
   met : (c : List ℕ) → ((l : Label) → IsIn u l → StandsIn IsAlikeAt u c l)
       → (m : Condition) → IsIn ms m
       → condition_holds (label_set_of u c) m ≡ condition_holds s m
-  met c stands m i = by (find (has_name m.name) u) refl
-    where
-      by : (o : Option Label) → find (has_name m.name) u ≡ o
-          → condition_holds (label_set_of u c) m ≡ condition_holds s m
-      by None e = undeclared_met c m i e
-      by (Some l) e =
-          let r = found_in m.name u l e in declared_met c m l i r.1 (stands l r.0)
+  met c stands m i = elim (cases_Bool (is_declared u m.name)) [
+    | inl some ↦
+        let l = any_in (has_name m.name) u some in
+        declared_met c m l.0 i ((bytes_decides l.0.name m.name).0 l.2) (stands l.0 l.1)
+    | inr none ↦ undeclared_met c m i none
+  ]
 
   pub standing_choice : (c : List ℕ) × IsWhole (sizes u) c × MeetsTheSame ms (label_set_of u c) s
   standing_choice =
