@@ -1,12 +1,11 @@
 -- Texts that a label lacks, and that it has enough where it lacks none.
 use Rattle.std.proofs.Common.{◌≡◌, ◌<◌, ◌≤◌, ◌==◌, ℕ, zero, suc, Bool, false, true, List, [], ◌∷◌}
 use Rattle.std.proofs.Common.{length, map, take, drop, min, Some, Contains, String, string_bytes}
-use Rattle.std.proofs.Common.{sym, ap, ◌∙◌, subst, inl, inr, arith, lit≤, lit<}
+use Rattle.std.proofs.Common.{sym, ap, ◌∙◌, subst, arith, lit≤, lit<}
 use Rattle.std.specs.Prelude.{IsTrue, slice_get, unwrap_or}
 use Rattle.std.specs.List.{AllByRecursion, IsDistinct}
 use Rattle.std.specs.Str.{IsUtf8}
 use Rattle.std.specs.declared.alloc.Global.{Global}
-use Rattle.std.proofs.lemmas.Bool.{cases_lt}
 use Rattle.std.proofs.lemmas.List.{length-map, length-take-le, take-append-drop, map-append}
 use Rattle.std.proofs.lemmas.Bool.Decides.{nat_tests}
 use Rattle.am_universe.specs.declared.limits.TheConstants.{MAX_VALUES}
@@ -119,12 +118,7 @@ all_taken P (t ∷ texts) zero first one = one
 all_taken P (t ∷ texts) (suc n) first one = (first.0, all_taken P texts n first.1 one)
 
 cut : (n most few : ℕ) → few ≡ min n most → (few ≡ n → ⊥) → (few ≡ most) × (few < n)
-cut n most few is some = elim (cases_lt most n) [
-  | inl over ↦
-      let e : few ≡ most = omega (arith, is, over) in (e, omega (arith, e, over))
-  | inr within ↦
-      let e : few ≡ n = omega (arith, is, within) in absurd (some e)
-]
+cut n most few is some = (omega arith, omega arith)
 
 -- ---- What is missing.
 

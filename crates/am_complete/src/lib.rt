@@ -19,7 +19,7 @@ mod made_universe;
 mod representatives;
 mod usual_texts;
 
-pub use made_universe::{MadeUniverse, MakingFault, universe_of};
+pub use made_universe::{MadeUniverse, MakingFault, is_label_name, universe_of};
 
 // What a space has, and lacks, at each label.
 mod completeness_at;

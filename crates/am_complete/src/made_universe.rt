@@ -213,8 +213,8 @@ fn declare_classes(
 }
 
 /// Whether the text is a label name.
-pub(crate) fn is_label_name(alloc: Global, name: &str) -> bool
-    ensures { result ≡ is_label_name name.now }
+pub fn is_label_name(alloc: Global, name: &str) -> bool
+    ensures named { result ≡ is_label_name name.now }
 {
     Universe::empty(alloc).name_fault(name).is_none()
 }

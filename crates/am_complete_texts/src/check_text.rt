@@ -3,8 +3,7 @@
 ghost use Rattle.std.specs.Prelude.{◌≡◌, ◌≤◌, ◌^◌, ◌++◌, string_bytes, encode_utf8, decimal, codes};
 ghost use Rattle.std.specs.Prelude.{MatchOption, IfOk, OnOk};
 ghost use Rattle.std.specs.List.{flat_map, list_all};
-ghost use Rattle.am_labels.specs.Words.{sizes, quoted_text, label_value_escape, is_label_name};
-ghost use Rattle.am_labels.specs.Words.{begins_label_name, continues_label_name};
+ghost use Rattle.am_labels.specs.Words.{sizes, quoted_text, label_value_escape};
 ghost use Rattle.am_complete.specs.Words.{is_settled};
 ghost use Rattle.am_complete_texts.specs.Words.{check_text, state_line, state_text, name_text};
 ghost use Rattle.am_complete_texts.specs.Words.{lacking_text, unseen_text, label_sets, count_text};
@@ -12,9 +11,8 @@ ghost use Rattle.am_complete_texts.specs.Words.{label_sets_text, all_impossible_
 ghost use Rattle.am_complete_texts.specs.Words.{verdict_text};
 
 use crate::pointer_to;
-use am_complete::{Completeness, LabelState};
+use am_complete::{Completeness, LabelState, is_label_name};
 use am_labels::Universe;
-use am_universe::{begins_label_name, continues_label_name};
 use std::alloc::{AllocError, Global};
 
 /// How a universe stands, as a text: a line for each label, the number of its label sets and
@@ -42,7 +40,7 @@ pub fn text_of_check(
 fn push_state(alloc: Global, text: &mut String, state: &LabelState) -> Result<(), AllocError>
     ensures { OnOk result (string_bytes text.new ≡ string_bytes text.old ++ state_line state.now) }
 {
-    push_name(text, state.name.as_str())?;
+    push_name(alloc, text, state.name.as_str())?;
     text.push_str(" ")?;
     push_completeness(alloc, text, &state.completeness)?;
     text.push_str(unseen_text(state.unseen))?;
@@ -51,30 +49,14 @@ fn push_state(alloc: Global, text: &mut String, state: &LabelState) -> Result<()
 }
 
 /// Adds the name of a label, in quotes where it is no label name.
-fn push_name(text: &mut String, name: &str) -> Result<(), AllocError>
+fn push_name(alloc: Global, text: &mut String, name: &str) -> Result<(), AllocError>
     ensures { OnOk result (string_bytes text.new ≡ string_bytes text.old ++ name_text name.now) }
 {
-    if is_label_name(name.as_bytes()) {
+    if is_label_name(alloc, name) {
         text.push_str(name)
     } else {
         push_quoted(text, name)
     }
-}
-
-/// Whether the text is a label name.
-fn is_label_name(name: &[u8]) -> bool
-    ensures { result ≡ is_label_name name.now }
-{
-    match name.split_first() {
-        Some((first, rest)) => begins_label_name(*first) && all_continue_label_name(rest),
-        None => false,
-    }
-}
-
-fn all_continue_label_name(bytes: &[u8]) -> bool
-    ensures { result ≡ list_all continues_label_name bytes.now }
-{
-    bytes.iter().all(|byte| continues_label_name(*byte))
 }
 
 /// Adds how the universe stands at a label.

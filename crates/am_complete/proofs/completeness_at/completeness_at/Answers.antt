@@ -8,7 +8,7 @@ use Rattle.am_complete.proofs.completeness_at.completeness_at.Goals as goal
 pub completeness_by-requires-clause-asked : goal.completeness_by-requires-clause-asked
 completeness_by-requires-clause-asked c =
     c.requires.asked (no_name c.args.label.now.name
-    (ap is_label_name (sym c.name.ensures.name) ∙ sym c.is_label_name.ensures
+    (ap is_label_name (sym c.name.ensures.name) ∙ sym c.is_label_name.ensures.named
     ∙ c.if-is_label_name.true))
 
 pub completeness_by-requires-clause-stand : goal.completeness_by-requires-clause-stand

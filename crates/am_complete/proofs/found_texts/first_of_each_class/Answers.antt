@@ -1,9 +1,10 @@
-use Rattle.std.proofs.Common.{◌≡◌, ◌<◌, ◌+◌, ℕ, List, [], ◌∷◌, ◌++◌, Some, map, string_bytes, sym, ap}
-use Rattle.std.proofs.Common.{◌∙◌, subst, inl, inr, arith, slice_get}
+use Rattle.std.proofs.Common.{◌≡◌, ◌<◌, ◌+◌, ℕ, List, [], ◌∷◌, ◌++◌, Some, map, string_bytes, sym}
+use Rattle.std.proofs.Common.{ap, ◌∙◌, subst, inl, inr, arith, slice_get}
 use Rattle.std.proofs.lemmas.List.{map-append}
-use Rattle.am_universe.proofs.ListLemmas.{IsIn, IsIn-split}
+use Rattle.am_universe.proofs.ListLemmas.{IsIn}
 use Rattle.am_classes.specs.Alike.{AreApart}
 use Rattle.am_complete.proofs.ApartTexts.{apart_pushed}
+use Rattle.am_complete.proofs.Pushed.{in_pushed}
 use Rattle.am_complete.proofs.found_texts.first_of_each_class.Goals as goal
 
 -- what is found is of the texts so far
@@ -11,12 +12,9 @@ one_more : (tried before : List (List ℕ)) (j : ℕ) (x : List ℕ) → slice_g
     → ((text : List ℕ) → IsIn before text → (k : ℕ) × (k < j) × (slice_get tried k ≡ Some text))
     → (text : List ℕ) → IsIn (before ++ x ∷ []) text
     → (k : ℕ) × (k < j + 1) × (slice_get tried k ≡ Some text)
-one_more tried before j x at from text i = elim (IsIn-split before (x ∷ []) text i) [
+one_more tried before j x at from text i = elim (in_pushed before x text i) [
   | inl a ↦ let r = from text a in (r.0, omega (arith, r.1), r.2)
-  | inr b ↦ elim b [
-    | inl e ↦ (j, omega arith, at ∙ ap Some e)
-    | inr none ↦ absurd none
-  ]
+  | inr e ↦ (j, omega arith, at ∙ ap Some e)
 ]
 
 pub loop-j-preserved : goal.loop-j-preserved

@@ -1,8 +1,7 @@
-use Rattle.std.proofs.Common.{◌≡◌, ◌<◌, ◌+◌, [], ◌∷◌, ◌++◌, length, map, take, get_or, string_bytes, sym, ap}
-use Rattle.std.proofs.Common.{◌∙◌, List, ℕ, subst, arith}
+use Rattle.std.proofs.Common.{◌≡◌, ◌<◌, ◌+◌, [], ◌∷◌, ◌++◌, length, map, take, get_or, string_bytes}
+use Rattle.std.proofs.Common.{ap, ◌∙◌, arith}
 use Rattle.std.proofs.lemmas.List.{map-append, take_more}
 use Rattle.std.proofs.lemmas.Option.{slice_get-get_or}
-use Rattle.am_complete.specs.Truths.{AreAlikeEach}
 use Rattle.am_complete.proofs.ChosenTexts.{one_more_each}
 use Rattle.am_complete.proofs.representatives.chosen_texts.Goals as goal
 
@@ -19,6 +18,5 @@ loop-j-preserved c =
     let texts : map string_bytes c.push.new.self.items ≡ before ++ string_bytes text ∷ [] =
     ap (map string_bytes) c.in_ok-push.ensures.items
     ∙ map-append string_bytes c.loop-j.chosen.items (text ∷ []) in
-    subst (λ (xs : List (List ℕ)). AreAlikeEach ms xs (take (j + 1) wanted)) (sym texts)
-    (subst (AreAlikeEach ms (before ++ string_bytes text ∷ [])) (sym (take_more wanted j [] inside))
-    (one_more_each ms before (take j wanted) (string_bytes text) y c.loop-j.invariant here))
+    rw (texts, take_more wanted j [] inside)
+    (one_more_each ms before (take j wanted) (string_bytes text) y c.loop-j.invariant here)
