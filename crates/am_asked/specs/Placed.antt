@@ -1,6 +1,6 @@
 -- The matchers that decide, each with the place where it stands.
-use Rattle.std.specs.Prelude.{ℕ, List, [], ◌∷◌, ◌++◌, map, Bool, true, false}
-use Rattle.std.specs.Prelude.{Option, Some, None, slice_get}
+use Rattle.std.specs.Prelude.{◌≡◌, ℕ, List, [], ◌∷◌, ◌++◌, map, fold, Bool, true, false, Option}
+use Rattle.std.specs.Prelude.{Some, None, slice_get}
 use Rattle.std.specs.List.{flat_map, filter, enumerate_from}
 use Rattle.am_universe.specs.LabelSet.{LabelMap}
 use Rattle.am_labels.specs.Matcher.{Condition, all_hold}
@@ -11,12 +11,21 @@ use Rattle.am_eval.specs.declared.pair.Pair.{Pair}
 use Rattle.am_eval.specs.World.{World}
 use Rattle.am_complete.specs.declared.origin.Origin.{Origin}
 use Rattle.am_complete.specs.declared.origin.Origin.TheVariants as origin_is
+use Rattle.am_complete.specs.declared.gathering.Gathering.{Gathering}
+use Rattle.am_complete.specs.AskedLabel.{with_asked}
 use Rattle.am_complete.specs.FoundState.{begins}
+use Rattle.am_complete.specs.Gathering.{IsIndexed}
 use Rattle.am_asked.specs.Asked.{equal_to_alert}
 
 -- Matchers that all stand at one place.
 abbrev pub placed_at : Origin → List Condition → List (Origin × Condition)
 placed_at origin ms = map (λ m. (origin, m)) ms
+
+-- What was gathered of matchers has some more of them: the position of each label is known still.
+pub record AddsTo (before : Gathering) (placed : List (Origin × Condition)) (after : Gathering) :
+    Type 0 where
+  pub indexed : IsIndexed after.positions after.labels.items
+  pub added : after.labels.items ≡ fold with_asked before.labels.items placed
 
 -- The matchers of a route, which stands at a path; and of all routes, in preorder.
 abbrev pub placed_by_route : List ℕ × RouteTree → List (Origin × Condition)

@@ -1,13 +1,13 @@
 //! Which labels decide what becomes of an alert, and by which matchers.
 
-ghost use Rattle.std.specs.Prelude.{◌≡◌, ◌++◌, fold, IfOk, OnOk};
+ghost use Rattle.std.specs.Prelude.{◌≡◌, ◌++◌, IfOk, OnOk};
 ghost use Rattle.am_files.specs.Words.{config_view};
 ghost use Rattle.am_asked.specs.Words.{route_conditions, world_conditions};
-ghost use Rattle.am_complete.specs.Words.{impossible_conditions, with_asked, asked_labels};
-ghost use Rattle.am_complete.specs.Words.{IsAskedOf};
+ghost use Rattle.am_complete.specs.Words.{impossible_conditions, asked_labels, IsAskedOf};
 ghost use Rattle.am_asked.specs.Words.{placed_at, placed_in_routes};
 ghost use Rattle.am_asked.specs.Words.{placed_in_rules, placed_in_equal};
 ghost use Rattle.am_asked.specs.Words.{placed_in_silences, placed_in_lists, placed_in_world};
+ghost use Rattle.am_asked.specs.Placed.{AddsTo};
 ghost use Rattle.am_complete.specs.Gathering.{IsIndexed};
 ghost use Rattle.am_complete.specs.declared.origin.Origin.TheVariants as origin_is;
 
@@ -73,10 +73,8 @@ fn add_matchers<'m>(
     origin: &Origin,
     matchers: &'m Matchers,
 ) -> Result<(), AllocError>
-    requires indexed { IsIndexed gathering.old.positions gathering.old.labels.items }
-    ensures indexed { OnOk result (IsIndexed gathering.new.positions gathering.new.labels.items) }
-    ensures added { OnOk result (gathering.new.labels.items
-        ≡ fold with_asked gathering.old.labels.items (placed_at origin.now matchers.now)) }
+    requires { IsIndexed gathering.old.positions gathering.old.labels.items }
+    ensures { OnOk result (AddsTo gathering.old (placed_at origin.now matchers.now) gathering.new) }
 {
     for i in 0..matchers.len() {
         add_matcher(alloc, gathering, origin, matchers.get(i))?;
@@ -90,10 +88,9 @@ fn add_routes<'m>(
     gathering: &mut Gathering<'m>,
     config: &'m Config,
 ) -> Result<(), AllocError>
-    requires indexed { IsIndexed gathering.old.positions gathering.old.labels.items }
-    ensures indexed { OnOk result (IsIndexed gathering.new.positions gathering.new.labels.items) }
-    ensures added { OnOk result (gathering.new.labels.items ≡ fold with_asked
-        gathering.old.labels.items (placed_in_routes (config_view config.now))) }
+    requires { IsIndexed gathering.old.positions gathering.old.labels.items }
+    ensures { OnOk result (AddsTo gathering.old (placed_in_routes (config_view config.now))
+        gathering.new) }
 {
     let listed = config.routes(alloc)?;
     for i in 0..listed.paths.len() {
@@ -109,10 +106,8 @@ fn add_rules<'m>(
     gathering: &mut Gathering<'m>,
     rules: &'m [Rule],
 ) -> Result<(), AllocError>
-    requires indexed { IsIndexed gathering.old.positions gathering.old.labels.items }
-    ensures indexed { OnOk result (IsIndexed gathering.new.positions gathering.new.labels.items) }
-    ensures added { OnOk result (gathering.new.labels.items
-        ≡ fold with_asked gathering.old.labels.items (placed_in_rules rules.now)) }
+    requires { IsIndexed gathering.old.positions gathering.old.labels.items }
+    ensures { OnOk result (AddsTo gathering.old (placed_in_rules rules.now) gathering.new) }
 {
     for (i, rule) in rules.iter().enumerate() {
         add_matchers(alloc, gathering, &Origin::Rule(i), rule.source())?;
@@ -127,10 +122,8 @@ fn add_equal_matchers<'m>(
     gathering: &mut Gathering<'m>,
     equal: &'m [EqualMatcher],
 ) -> Result<(), AllocError>
-    requires indexed { IsIndexed gathering.old.positions gathering.old.labels.items }
-    ensures indexed { OnOk result (IsIndexed gathering.new.positions gathering.new.labels.items) }
-    ensures added { OnOk result (gathering.new.labels.items
-        ≡ fold with_asked gathering.old.labels.items equal.now) }
+    requires { IsIndexed gathering.old.positions gathering.old.labels.items }
+    ensures { OnOk result (AddsTo gathering.old equal.now gathering.new) }
 {
     for made in equal {
         add_matcher(alloc, gathering, &made.origin(), made.matcher())?;
@@ -144,10 +137,8 @@ fn add_silences<'m>(
     gathering: &mut Gathering<'m>,
     silences: &'m Silences,
 ) -> Result<(), AllocError>
-    requires indexed { IsIndexed gathering.old.positions gathering.old.labels.items }
-    ensures indexed { OnOk result (IsIndexed gathering.new.positions gathering.new.labels.items) }
-    ensures added { OnOk result (gathering.new.labels.items
-        ≡ fold with_asked gathering.old.labels.items (placed_in_silences silences.now)) }
+    requires { IsIndexed gathering.old.positions gathering.old.labels.items }
+    ensures { OnOk result (AddsTo gathering.old (placed_in_silences silences.now) gathering.new) }
 {
     for i in 0..silences.len() {
         let silence = silences.get(i);
@@ -162,10 +153,8 @@ fn add_lists<'m>(
     gathering: &mut Gathering<'m>,
     lists: &'m [Matchers],
 ) -> Result<(), AllocError>
-    requires indexed { IsIndexed gathering.old.positions gathering.old.labels.items }
-    ensures indexed { OnOk result (IsIndexed gathering.new.positions gathering.new.labels.items) }
-    ensures added { OnOk result (gathering.new.labels.items
-        ≡ fold with_asked gathering.old.labels.items (placed_in_lists lists.now)) }
+    requires { IsIndexed gathering.old.positions gathering.old.labels.items }
+    ensures { OnOk result (AddsTo gathering.old (placed_in_lists lists.now) gathering.new) }
 {
     for (i, list) in lists.iter().enumerate() {
         add_matchers(alloc, gathering, &Origin::Impossible(i), list)?;
