@@ -1,15 +1,19 @@
 -- The text of a JSON string is UTF-8, where the bytes that are read are.
-use Rattle.std.proofs.Common.{◌≡◌, ℕ, zero, suc, ◌+◌, ◌*◌, ◌/◌, ◌%◌, ◌<◌, ◌≤◌, Bool, true, false}
-use Rattle.std.proofs.Common.{cond, nat_le, ltb-true, ◌⊎◌, ◌&&◌, ◌==◌, nat_lt, List, [], ◌∷◌, ◌++◌}
+use Rattle.std.proofs.Common.{◌≡◌, ℕ, zero, suc, ◌+◌, ◌*◌, ◌<◌, ◌≤◌, Bool, true, false, cond}
+use Rattle.std.proofs.Common.{nat_le, ltb-true, ◌⊎◌, ◌&&◌, ◌==◌, nat_lt, List, [], ◌∷◌, ◌++◌}
 use Rattle.std.proofs.Common.{length, Some, None, IsUtf8, inl, inr, refl, sym, ap, ◌∙◌, subst}
-use Rattle.std.proofs.Common.{arith}
+use Rattle.std.proofs.Common.{arith, get_or}
 use Rattle.std.specs.List.{AllByRecursion}
 use Rattle.std.specs.Char.{digit_value, is_digit, encode_utf8}
-use Rattle.std.proofs.lemmas.Bool.{cases_Bool, and_parts, eqb-true}
+use Rattle.std.proofs.lemmas.Bool.{cases_lt, and_parts, eqb-true}
 use Rattle.std.proofs.lemmas.Bool.Decides.{nat_tests}
 use Rattle.std.proofs.lemmas.Str.{IsUtf8-append, IsUtf8-nil, IsUtf8-encode, IsUtf8-drop}
 use Rattle.std.proofs.lemmas.Str.{encode_ascii, IsCharBoundary-after_ascii, length-encode}
-use Rattle.std.proofs.lemmas.Str.{len_utf8_bounds}
+use Rattle.std.proofs.lemmas.Str.{len_utf8_bounds, inside_one}
+use Rattle.std.proofs.lemmas.List.{append-nil}
+use Rattle.std.proofs.lemmas.Option.{slice_get_within, get_or_from_slice_get}
+use Rattle.am_universe.proofs.ListLemmas.{AllByRecursion-each}
+use Rattle.am_universe.proofs.Members.{at_in}
 use Rattle.am_every_alert.proofs.OptionParts.{mapped, then_some}
 use lib.Utf8.{scalar, scalars, encode, encodes, low_scalar}
 use Rattle.json.specs.Text.{code_unit, short_escape, is_high_surrogate, is_low_surrogate}
@@ -23,30 +27,18 @@ AreHigh bs = AllByRecursion (λ b. 128 ≤ b) bs
 
 -- the bytes of a character behind its first
 later_bytes : (c x : ℕ) (bs : List ℕ) → encode c ≡ x ∷ bs → AreHigh bs
-unfolding encode
-later_bytes c x bs e = elim (cases_Bool (nat_lt c 128)) [
-  | inl one ↦
-      let is : c ∷ [] ≡ x ∷ bs = rw one at e in
-      let none : [] ≡ bs = cc in subst AreHigh none tt
-  | inr more ↦ elim (cases_Bool (nat_lt c 2048)) [
-    | inl two ↦
-        let is : (192 + c / 64) ∷ (128 + c % 64) ∷ [] ≡ x ∷ bs = rw (more, two) at e in
-        let some : (128 + c % 64) ∷ [] ≡ bs = cc in subst AreHigh some (omega arith, tt)
-    | inr longer ↦ elim (cases_Bool (nat_lt c 65536)) [
-      | inl three ↦
-          let is : (224 + c / 4096) ∷ (128 + c / 64 % 64) ∷ (128 + c % 64) ∷ [] ≡ x ∷ bs =
-          rw (more, longer, three) at e in
-          let some : (128 + c / 64 % 64) ∷ (128 + c % 64) ∷ [] ≡ bs = cc in
-          subst AreHigh some (omega arith, (omega arith, tt))
-      | inr four ↦
-          let is : (240 + c / 262144) ∷ (128 + c / 4096 % 64) ∷ (128 + c / 64 % 64)
-          ∷ (128 + c % 64) ∷ [] ≡ x ∷ bs = rw (more, longer, four) at e in
-          let some : (128 + c / 4096 % 64) ∷ (128 + c / 64 % 64) ∷ (128 + c % 64) ∷ [] ≡ bs =
-          cc in
-          subst AreHigh some (omega arith, (omega arith, (omega arith, tt)))
-    ]
-  ]
-]
+later_bytes c x bs e =
+    AllByRecursion-each (λ b. 128 ≤ b) bs (λ b i. elim (cases_lt b 128) [
+      | inl small ↦
+          let at = at_in bs b i in
+          let lt = slice_get_within bs at.0 b at.1 in
+          let is : get_or (x ∷ bs) (suc at.0) 0 ≡ b = get_or_from_slice_get bs at.0 b 0 at.1 in
+          let same = inside_one c [] (x ∷ bs) (suc at.0) (sym e ∙ sym (append-nil (encode c)))
+          (omega (arith, lt, ap length e)) (omega (arith, is, small)) in
+          let one : c ∷ [] ≡ x ∷ bs = sym (encode_ascii c (omega (arith, same, is, small))) ∙ e in
+          absurd (omega (arith, ap length one, lt))
+      | inr large ↦ large
+    ])
 
 -- a text is a character, with its later bytes, and a text behind it
 pub record Front (x : ℕ) (xs : List ℕ) : Type 0 where

@@ -1,6 +1,6 @@
 -- What meets the same of the matchers that decide it has the same fate.
-use Rattle.std.proofs.Common.{◌≡◌, ℕ, ◌+◌, List, [], ◌∷◌, ◌++◌, map, Bool, false, cond, not}
-use Rattle.std.proofs.Common.{refl, sym, ap, ◌∙◌, inl, inr}
+use Rattle.std.proofs.Common.{◌≡◌, ℕ, ◌+◌, List, [], ◌∷◌, ◌++◌, map, Bool, false, cond, not, refl}
+use Rattle.std.proofs.Common.{sym, ap, ◌∙◌, inl, inr}
 use Rattle.std.specs.Prelude.{◌&&◌, ◌||◌, ◌==◌}
 use Rattle.std.specs.List.{flat_map, filter, filter_map, list_any}
 use Rattle.std.proofs.lemmas.Bool.{cases_Bool}
@@ -8,12 +8,11 @@ use Rattle.am_universe.specs.LabelSet.{LabelMap}
 use Rattle.am_universe.proofs.ListLemmas.{AllByRecursion-each, AllByRecursion-at}
 use Rattle.am_labels.specs.Matcher.{Condition, condition_holds, all_hold}
 use Rattle.am_labels.specs.Space.{is_possible}
-use Rattle.am_records.specs.SilencesFile.{Silence}
 use Rattle.am_files.specs.ConfigFile.{RouteTree, Routes, route, no_routes, next_route, matchers_of}
 use Rattle.am_files.specs.ConfigFile.{continues_of, Configuration, Rule}
 use Rattle.am_eval.specs.Inhibition.{have_equal, inhibits, is_inhibited}
-use Rattle.am_eval.specs.Routing.{ends_tried, or_itself, ends_at, children_seen}
-use Rattle.am_eval.specs.Routing.{ends, receivers, receiver_at}
+use Rattle.am_eval.specs.Routing.{ends_tried, or_itself, ends_at, children_seen, ends, receivers}
+use Rattle.am_eval.specs.Routing.{receiver_at}
 use Rattle.am_eval.specs.Silencing.{is_active, hides, is_silenced}
 use Rattle.am_eval.specs.World.{World}
 use Rattle.am_eval.specs.Tree.{Part, Not, And, Or}
@@ -24,10 +23,9 @@ use Rattle.am_universe.specs.Text.{same_text}
 use Rattle.am_every_alert.specs.Deciding.{simple_conditions, question_conditions}
 use Rattle.am_eval.proofs.HidingConditions.{same_values}
 use Rattle.am_every_alert.specs.EveryAlert.{MeetsTheSame, HaveTheSameFate}
-use Rattle.am_complete.specs.Complete.{AreAmong}
+use Rattle.am_complete.specs.Complete.{AreAmong, impossible_conditions}
 use Rattle.am_asked.specs.Asked.{route_conditions, routes_conditions, rule_conditions}
 use Rattle.am_asked.specs.Asked.{equal_to_alert, equal_conditions, silence_conditions}
-use Rattle.am_complete.specs.Complete.{impossible_conditions}
 use Rattle.am_asked.specs.Asked.{world_conditions}
 use Rattle.am_complete.proofs.Alike.{is_among}
 
@@ -96,33 +94,28 @@ module _ (s t : LabelMap) where
 
   -- ---- Silences and impossible lists.
 
-  silences_alike : (w : World) (silences : List Silence)
-      → MeetsTheSame (silence_conditions silences) s t
-      → list_any (hides w s) silences ≡ list_any (hides w t) silences
-  silences_alike w [] h = refl
-  silences_alike w (silence ∷ silences) h =
-      let here = all_alike silence.matchers
-      (front_met silence.matchers (silence_conditions silences) h) in
-      let later = silences_alike w silences
-      (rest_met silence.matchers (silence_conditions silences) h) in
-      λ i. (is_active w.instant silence && here i) || later i
+  -- what each of some things decides by its own matchers, some of them decides by all
+  any_alike : {X : Type 0} (conditions : X → List Condition) (f g : X → Bool)
+      → ((x : X) → MeetsTheSame (conditions x) s t → f x ≡ g x) → (xs : List X)
+      → MeetsTheSame (flat_map conditions xs) s t → list_any f xs ≡ list_any g xs
+  any_alike conditions f g each [] h = refl
+  any_alike conditions f g each (x ∷ xs) h =
+      let here = each x (front_met (conditions x) (flat_map conditions xs) h) in
+      let later = any_alike conditions f g each xs
+      (rest_met (conditions x) (flat_map conditions xs) h) in
+      λ i. here i || later i
 
   pub same_silenced : (w : World) → MeetsTheSame (silence_conditions w.silences) s t
       → is_silenced w s ≡ is_silenced w t
-  same_silenced w h = silences_alike w w.silences h
-
-  lists_alike : (lists : List (List Condition)) → MeetsTheSame (impossible_conditions lists) s t
-      → list_any (all_hold s) lists ≡ list_any (all_hold t) lists
-  lists_alike [] h = refl
-  lists_alike (ms ∷ lists) h =
-      let here = all_alike ms (front_met ms (impossible_conditions lists) h) in
-      let later = lists_alike lists (rest_met ms (impossible_conditions lists) h) in
-      λ i. here i || later i
+  same_silenced w =
+      any_alike (λ silence. silence.matchers) (hides w s) (hides w t)
+      (λ silence here i. is_active w.instant silence && all_alike silence.matchers here i)
+      w.silences
 
   pub same_possible : (lists : List (List Condition))
       → MeetsTheSame (impossible_conditions lists) s t
       → is_possible lists s ≡ is_possible lists t
-  same_possible lists h = ap not (lists_alike lists h)
+  same_possible lists h = ap not (any_alike (λ ms. ms) (all_hold s) (all_hold t) all_alike lists h)
 
   -- ---- Inhibition rules.
 
