@@ -1,12 +1,14 @@
 -- The text of a universe is read as the universe.
-use Rattle.std.proofs.Common.{subst, ◌≡◌, ◌≤◌, ℕ, List, [], ◌∷◌, length, Option, Some, None, refl, sym, ap, ◌∙◌, append-nil, arith, codes, inl, inr, option_and_then}
+use Rattle.std.proofs.Common.{◌≡◌, ◌≤◌, ℕ, List, [], ◌∷◌, length, Option, Some, None, refl, sym, ap}
+use Rattle.std.proofs.Common.{◌∙◌, append-nil, arith, codes, inl, inr, option_and_then}
 use Rattle.std.specs.List.{AllZip}
 use Rattle.std.specs.Str.{IsUtf8}
 use Rattle.std.proofs.lemmas.Str.{is_utf8-from_IsUtf8}
 use Rattle.json.specs.Json as json
 use Rattle.json.specs.Tree as tree
 use Rattle.json.proofs.Printed.Trees.{value-json_tokens}
-use Rattle.serde_json.specs.Data.{Data, null, string, array, object, Items, no_items, item, no_members, member}
+use Rattle.serde_json.specs.Data.{Data, null, string, array, object, Items, no_items, item}
+use Rattle.serde_json.specs.Data.{no_members, member}
 use Rattle.serde_json.specs.Read.{read, max_depth, of_json, of_items}
 use Rattle.json.specs.Token.{Token}
 use Rattle.am_universe.specs.Universe.{Label, Values, IsUniverse}
@@ -15,7 +17,8 @@ use Rattle.am_json.specs.declared.limits.TheConstants.{MAX_FILE_BYTES}
 use Rattle.am_labels.specs.Space.{Space}
 use Rattle.am_records.specs.UniverseFile.{FileSaysUniverse, SaysUniverse, SaysLabel, SaysValue}
 use Rattle.am_complete_texts.specs.UniverseText.{universe_text}
-use Rattle.am_complete_texts.proofs.TextTokens.{value_tree, values_tree, label_tree, labels_tree, universe_tree, tokens-universe_text}
+use Rattle.am_complete_texts.proofs.TextTokens.{value_tree, values_tree, label_tree, labels_tree}
+use Rattle.am_complete_texts.proofs.TextTokens.{universe_tree, tokens-universe_text}
 
 abbrev value_data : Option (List ℕ) → Data
 value_data None = null
@@ -133,6 +136,4 @@ universe_said u is utf8 short = (short, universe_data u, rw (is_utf8-from_IsUtf8
 pub text_says : (u : List Label) (text : List ℕ) → text ≡ universe_text u → IsUniverse u
     → IsUtf8 text → length text ≤ MAX_FILE_BYTES → FileSaysUniverse text (space_of u)
 text_says u text is universe utf8 short =
-    subst (λ (t : List ℕ). FileSaysUniverse t (space_of u)) (sym is)
-    (universe_said u universe (subst IsUtf8 is utf8)
-    (subst (λ (t : List ℕ). length t ≤ MAX_FILE_BYTES) is short))
+    rw is (universe_said u universe (rw is at utf8) (rw is at short))

@@ -1,13 +1,13 @@
 -- The text of one more value, and of one more label.
 use Rattle.std.proofs.Common.{◌≡◌, ◌≤◌, ◌<◌, ◌+◌, ℕ, zero, suc, List, [], ◌∷◌, ◌++◌, length, take}
 use Rattle.std.proofs.Common.{Option, Some, None, sym, ap, ◌∙◌, append_assoc, append-nil, add-one}
-use Rattle.std.proofs.Common.{codes, slice_get, get_or, option_map, ap₂, option_and_then, arith, cond}
-use Rattle.std.proofs.Common.{◌==◌, Bool, true, false, refl}
+use Rattle.std.proofs.Common.{codes, slice_get, get_or, option_map, ap₂, option_and_then, arith}
+use Rattle.std.proofs.Common.{cond, ◌==◌, Bool, true, false, map, refl}
 use Rattle.std.proofs.lemmas.List.{take_all}
 use Rattle.std.proofs.lemmas.Bool.Decides.{nat_tests}
-use Rattle.std.proofs.lemmas.Option.{slice_get-map, slice_get-get_or}
+use Rattle.std.proofs.lemmas.Option.{slice_get-map, slice_get-get_or, same_Some}
 use Rattle.json.specs.Print.{quoted}
-use Rattle.am_universe.specs.Universe.{Label, Values, sizes, names}
+use Rattle.am_universe.specs.Universe.{Label, sizes, names}
 use Rattle.am_universe.specs.LabelSet.{value_at}
 use Rattle.am_complete_texts.specs.UniverseText.{value_text, texts_behind, values_text, label_text}
 use Rattle.am_complete_texts.specs.UniverseText.{labels_text, gap_before_label, gap_before_value}
@@ -40,19 +40,14 @@ one_pushed first gap text xs i x old before between gapped after at so_far is pu
 -- ---- Values and labels.
 
 -- what the code reads of a label
-name_here : (u : List Label) (i : ℕ) (label : Label) (name : List ℕ) → slice_get u i ≡ Some label
-    → slice_get (names u) i ≡ Some name → name ≡ label.name
-name_here u i label name here named =
-    let e = slice_get-map (λ (l : Label). l.name) u i in
-    let f = ap (option_map (λ (l : Label). l.name)) here in
-    let g : Some name ≡ Some label.name = sym named ∙ e ∙ f in cc
+part_here : {Y : Type 0} (f : Label → Y) (u : List Label) (i : ℕ) (label : Label) (y : Y)
+    → slice_get u i ≡ Some label → slice_get (map f u) i ≡ Some y → y ≡ f label
+part_here f u i label y here there =
+    same_Some y (f label) (sym there ∙ slice_get-map f u i ∙ ap (option_map f) here)
 
 size_here : (u : List Label) (i n : ℕ) (label : Label) → slice_get u i ≡ Some label
     → slice_get (sizes u) i ≡ Some n → n ≡ length label.values
-size_here u i n label here sized =
-    let e = slice_get-map (λ (l : Label). length l.values) u i in
-    let f = ap (option_map (λ (l : Label). length l.values)) here in
-    let g : Some n ≡ Some (length label.values) = sym sized ∙ e ∙ f in cc
+size_here u i n label = part_here (λ l. length l.values) u i label n
 
 pub value_pushed : (u : List Label) (i n j : ℕ) (label : Label) (value : Option (List ℕ)) (old text gap gapped new : List ℕ)
     → slice_get u i ≡ Some label → slice_get (sizes u) i ≡ Some n → j < n
@@ -85,7 +80,7 @@ pub label_pushed : (u : List Label) (i : ℕ) (label : Label) (name old a b c d 
 label_pushed u i label name old a b c d e here named first second third fourth fifth =
     fifth ∙ ap (λ l. l ++ codes "]}") (fourth ∙ ap (λ l. l ++ values_text label.values)
     (third ∙ ap (λ l. l ++ codes ", \"values\": [") (second
-    ∙ ap₂ (λ l t. l ++ quoted t) first (name_here u i label name here named))))
+    ∙ ap₂ (λ l t. l ++ quoted t) first (part_here (λ l. l.name) u i label name here named))))
     ∙ simp append_assoc
 
 pub one_label_pushed : (u : List Label) (i : ℕ) (front text gap gapped new : List ℕ) → i < length u
