@@ -34,8 +34,8 @@ use Rattle.am_complete.specs.declared.label_state.LabelState.{LabelState}
 use Rattle.am_complete.specs.Complete.{about, label_texts, texts_of_label, asks_only_of, AreAmong}
 use Rattle.am_complete.specs.Complete.{IsSpaceComplete, IsSpaceCompleteAt, impossible_conditions}
 use Rattle.am_complete.specs.AskedLabel.{AskedLabel, asked_names, IsAskedOf}
-use Rattle.am_complete.specs.LabelState.{CoverPossible, IsSoAt, IsSoIfNamed, is_settled}
-use Rattle.am_complete.specs.LabelState.{is_declared, reported_names}
+use Rattle.am_complete.specs.LabelState.{CoverPossible, IsSoAt, is_settled, is_declared}
+use Rattle.am_complete.specs.LabelState.{reported_names}
 use Rattle.am_complete.specs.FoundState.{HasThoseOfLists, IsAskedFor, IsFoundAt, IsSoOfAsked}
 use Rattle.am_complete.specs.FoundState.{IsSoOfName, IsWithState, begins}
 use Rattle.am_complete.proofs.Alike.{about_is, is_about, is_among, alike_joined}
@@ -135,8 +135,8 @@ pub state_is_so : (s : Space) (asked : List AskedLabel) (alerts : Option (List L
 state_is_so s asked alerts l state i h =
     record {
       so = λ ms asks.
-          subst (λ (name : List ℕ). IsSoIfNamed s ms asked name state.completeness) (sym h.name)
-          (λ some. found_is_so s asked ms l state.completeness asks i some (h.found some));
+          rw h.name (λ some.
+          found_is_so s asked ms l state.completeness asks i some (h.found some));
       unseen = h.unseen;
     }
 

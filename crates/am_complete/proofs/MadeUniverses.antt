@@ -75,8 +75,7 @@ pub stands_undeclared : (u : List Label) (name : List ℕ) (ms : List Condition)
     (texts : List (List ℕ)) → (Contains (names u) name → ⊥) → length texts ≤ 1
     → Covers ms texts → StandForAll ms (label_texts u name)
 stands_undeclared u name ms texts fresh few covers =
-    subst (StandForAll ms) (sym (unnamed_texts u name fresh))
-    (lone_covers ms texts few covers, one_apart ms [])
+    rw (unnamed_texts u name fresh) (lone_covers ms texts few covers, one_apart ms [])
 
 -- and one that is declared has the texts that it is declared with
 texts_declared : (u v : List Label) (name : List ℕ) (texts : List (List ℕ)) → IsUniverse v
@@ -91,7 +90,7 @@ pub stands_declared : (u v : List Label) (name : List ℕ) (ms : List Condition)
     (texts : List (List ℕ)) → IsUniverse v → IsWithLabel u v name texts → Covers ms texts
     → AreApart ms texts → StandForAll ms (label_texts v name)
 stands_declared u v name ms texts universe more covers apart =
-    subst (StandForAll ms) (sym (texts_declared u v name texts universe more)) (covers, apart)
+    rw (texts_declared u v name texts universe more) (covers, apart)
 
 -- ---- One label after another.
 
@@ -184,8 +183,7 @@ made_step u v asked l unproved next made distinct universe more settled =
           elim (got_either asked l x i at) [
             | inl before ↦
                 let apart = other_name asked l x distinct (in_at asked i x before) in
-                subst (StandForAll x.matchers)
-                (sym (other_texts u v l x.name more (λ same. apart (sym same))))
+                rw (other_texts u v l x.name more (λ same. apart (sym same)))
                 (made.stands i x before
                 (λ h. proved (kept_noted v l (length asked) unproved next settled i h)))
             | inr last ↦
@@ -247,9 +245,7 @@ made_step u v asked l unproved next made distinct universe more settled =
                 l,
                 IsIn-right asked (l ∷ []) l (inl refl),
                 is,
-                subst (λ n. AreApart l.matchers (label_texts v n)) is
-                    (subst (AreApart l.matchers)
-                    (sym (texts_declared u v l.name more.0 universe more.1)) more.4),
+                rw (← is, texts_declared u v l.name more.0 universe more.1) more.4,
                 (more.0, more.2, more.3, more.4),
               )
         ]

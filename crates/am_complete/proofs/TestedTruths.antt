@@ -1,7 +1,7 @@
 -- The truths of matchers on texts, as the rows of a universe of one label.
 use Rattle.std.proofs.Common.{◌≡◌, ◌<◌, ◌+◌, ℕ, Bool, true, false, List, [], ◌∷◌, length, map, take}
 use Rattle.std.proofs.Common.{get_or, Option, Some, None, option_map, unwrap_or, refl, sym, ap, ◌∙◌}
-use Rattle.std.proofs.Common.{subst, arith, slice_get, not, IfSome}
+use Rattle.std.proofs.Common.{arith, slice_get, not, IfSome}
 use mathlib.Core.Bool.{beq}
 use Rattle.std.specs.List.{AllByRecursion}
 use Rattle.std.specs.Cmp.Lexicographic.{bytes_decides}
@@ -10,10 +10,10 @@ use Rattle.std.proofs.lemmas.List.{get_or-map, length-map}
 use Rattle.std.proofs.lemmas.Option.{slice_get-map, slice_get_read, slice_get_within}
 use Rattle.std.proofs.lemmas.Option.{get_or_from_slice_get}
 use Rattle.am_universe.specs.Text.{same_text}
-use Rattle.am_universe.specs.Universe.{Label, label_position}
+use Rattle.am_universe.specs.Universe.{Label}
 use Rattle.am_universe.proofs.ListLemmas.{AllByRecursion-at}
 use Rattle.am_labels.specs.Matcher.{Condition, holds}
-use Rattle.am_labels.specs.Row.{TruthRow, truth_on_value, truths_of, truth_at, row_of}
+use Rattle.am_labels.specs.Row.{TruthRow, truth_on_value, truth_at, row_of}
 use Rattle.am_universe.proofs.Members.{in_at}
 use Rattle.am_classes.specs.Alike.{AreAlike}
 use Rattle.am_complete.specs.Covering.{IsWithLabel}
@@ -34,12 +34,8 @@ row_is trial name texts m lone named =
     let l : Label = lone.0 in
     let same : same_text l.name m.name ≡ true =
     (bytes_decides l.name m.name).1 (lone.2 ∙ sym named) in
-    let first : label_position (l ∷ []) m.name ≡ Some 0 = rw same refl in
-    let truths : truths_of (l ∷ []) m (Some 0) ≡ map (holds m.op m.value) texts =
-    on_values m l.values ∙ ap (map (holds m.op m.value)) lone.3 in
-    ap (λ u. row_of u m) lone.1
-    ∙ ap (λ o. record { label = o; truths = truths_of (l ∷ []) m o }) first
-    ∙ ap (λ ts. record { label = Some 0; truths = ts }) truths
+    rw (lone.1, same) (ap (λ ts. record { label = Some 0; truths = ts })
+    (on_values m l.values ∙ ap (map (holds m.op m.value)) lone.3))
 
 pub rows_are : (trial : List Label) (name : List ℕ) (texts : List (List ℕ)) (ms : List Condition)
     → IsWithLabel [] trial name texts → AllByRecursion (λ m. m.name ≡ name) ms
@@ -82,10 +78,7 @@ truth_is texts m row k x is there =
 pub readable : (texts : List (List ℕ)) (m : Condition) (row : TruthRow) (k : ℕ)
     → row ≡ truth_row texts m → k < length texts
     → IfSome row.label (λ _. k < length row.truths)
-readable texts m row k is lt =
-    let long : k < length (map (holds m.op m.value) texts) =
-    omega (arith, length-map texts (holds m.op m.value), lt) in
-    subst (λ (r : TruthRow). IfSome r.label (λ _. k < length r.truths)) (sym is) long
+readable texts m row k is lt = rw is (omega (arith, length-map texts (holds m.op m.value), lt))
 
 -- two truths that a test finds unequal, or equal
 pub unequal_truths : (a b : Bool) → not (beq a b) ≡ true → a ≡ b → ⊥
@@ -121,10 +114,8 @@ pub both_rows : (s t s' o : TestedTexts) (rows others : List TruthRow) (i : ℕ)
     → i < length rows → row ≡ get_or rows i row → other ≡ get_or others i other
     → BothRows t o i row other
 both_rows s t s' o rows others i row other are seen are' seen' same lt is is' =
-    let mine : rows ≡ map (truth_row t.texts) t.matchers =
-    are ∙ ap (λ (v : TestedTexts). map (truth_row v.texts) v.matchers) seen in
-    let theirs : others ≡ map (truth_row o.texts) o.matchers =
-    are' ∙ ap (λ (v : TestedTexts). map (truth_row v.texts) v.matchers) seen' in
+    let mine = rw seen at are in
+    let theirs = rw seen' at are' in
     let long = same_length rows others t.texts o.texts t.matchers o.matchers mine theirs same in
     let at = row_at rows t.texts t.matchers i row mine lt is in
     let at' = row_at others o.texts o.matchers i other theirs (omega (arith, long, lt)) is' in

@@ -1,8 +1,8 @@
-use Rattle.std.proofs.Common.{◌≡◌, ◌≢◌, ℕ, List, [], map, String, string_bytes, sym, ap, ◌∙◌, subst, refl, ◌∷◌}
-use Rattle.std.specs.Prelude.{unwrap_or}
+use Rattle.std.proofs.Common.{◌≡◌, ◌≢◌, List, [], map, String, string_bytes, sym, ◌∙◌, subst, refl}
+use Rattle.std.proofs.Common.{◌∷◌}
 use Rattle.std.specs.declared.alloc.Global.{Global}
 use Rattle.am_universe.specs.declared.kind.Kind.TheVariants as kinds
-use Rattle.am_universe.specs.Universe.{IsUniverse, label_fault, memory_fault}
+use Rattle.am_universe.specs.Universe.{IsUniverse}
 use Rattle.am_universe.specs.UniverseView.{label_of, texts_of}
 use Rattle.am_universe.proofs.LabelFaultLemmas.{faults_are_exact}
 use Rattle.am_complete.proofs.DeclaredLabels.{full_otherwise}
@@ -22,10 +22,7 @@ pub returns-in-Err-clause-limit : goal.returns-in-Err-clause-limit
 returns-in-Err-clause-limit c = λ limit named fresh some distinct.
     let u = c.args.universe.now in
     let values = texts_of c.in_ok-values.values.items in
-    let first = c.in-Err.ensures.first
-    ∙ ap (λ (n : List ℕ).
-    unwrap_or (label_fault u (record { name = n; values = values })) memory_fault)
-    c.in_ok-name.ensures.ok in
+    let first = rw c.in_ok-name.ensures.ok at c.in-Err.ensures.first in
     full_otherwise u c.args.name.now values (map string_bytes c.args.texts.now) c.in-Err.fault
     c.requires c.in_ok-values.ensures.texts c.in_ok-values.ensures.values first
     (λ memory.

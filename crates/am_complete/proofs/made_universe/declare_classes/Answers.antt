@@ -1,7 +1,6 @@
-use Rattle.std.proofs.Common.{◌≡◌, ◌<◌, ℕ, List, [], ◌∷◌, length, map, String, string_bytes, sym}
-use Rattle.std.proofs.Common.{subst, inr, arith, Contains}
+use Rattle.std.proofs.Common.{◌<◌, ℕ, List, length, map, string_bytes, sym, subst, ap, inr, arith}
+use Rattle.std.proofs.Common.{Contains}
 use Rattle.std.specs.Prelude.{IsTrue}
-use Rattle.std.specs.declared.alloc.Global.{Global}
 use Rattle.am_universe.specs.Universe.{is_label_name, names}
 use Rattle.std.proofs.lemmas.List.{length-map}
 use Rattle.std.proofs.lemmas.Result.{on_ok_weaker, IfErr-weaker}
@@ -10,10 +9,6 @@ use Rattle.am_complete.specs.Covering.{IsWithLabel}
 use Rattle.am_complete.proofs.ApartTexts.{utf8_texts, distinct_where_apart}
 use Rattle.am_complete.proofs.MadeUniverses.{stands_declared, stands_undeclared, no_room_for}
 use Rattle.am_complete.proofs.made_universe.declare_classes.Goals as goal
-
-several_texts : (texts : List (String Global)) → 1 < length texts → texts ≡ [] → ⊥
-several_texts [] several none = omega (arith, several)
-several_texts (text ∷ texts) several none = cc
 
 pub returns-then-texts-lt2-clause-stands : goal.returns-then-texts-lt2-clause-stands
 returns-then-texts-lt2-clause-stands c = λ covers.
@@ -60,6 +55,6 @@ returns-clause-limit c =
     c.requires.apart
     (full limit (subst (λ (n : List ℕ). IsTrue (is_label_name n)) (sym name) c.requires.named)
     (λ there. c.requires.fresh (subst (Contains (names u)) name there))
-    (λ none. several_texts c.args.texts.now (omega (arith, c.if-texts-lt2.false)) none)
+    (λ none. omega (arith, c.if-texts-lt2.false, ap length none))
     (distinct_where_apart l.matchers (map string_bytes c.args.texts.now) c.requires.apart)))
     c.declare.ensures.limit
