@@ -9,8 +9,7 @@ use Rattle.am_universe.proofs.ListLemmas.{IsIn}
 use Rattle.am_search.specs.Start.{comes_before}
 use Rattle.am_search.proofs.ChoiceOrder.{Ascends, above_first, ascends_rest, not_itself, not_back}
 use Rattle.am_coverage.specs.FirstEnds.{earlier, earliest}
-use Rattle.am_search.proofs.FirstAlike.{find_alike}
-use Rattle.am_first_sets.proofs.FirstPossible.{is_found}
+use Rattle.am_first_sets.proofs.FirstPossible.{is_found, find_none}
 
 -- ---- Of two tests.
 
@@ -46,14 +45,10 @@ find_either f g (x ∷ xs) s = elim (cases_Bool (f x)) [
 
 -- ---- Of many.
 
-find_nothing : (xs : List (List ℕ)) → find (λ x. false) xs ≡ None
-find_nothing [] = refl
-find_nothing (x ∷ xs) = find_nothing xs
-
 pub find_any : {X : Type 0} (test : X → List ℕ → Bool) (ts : List X) (xs : List (List ℕ))
     → Ascends xs
     → find (λ x. list_any (λ t. test t x) ts) xs ≡ earliest (map (λ t. find (test t) xs) ts)
-find_any test [] xs s = find_nothing xs
+find_any test [] xs s = sym (find_none xs)
 find_any test (t ∷ ts) xs s =
     find_either (test t) (λ x. list_any (λ t. test t x) ts) xs s
     ∙ ap (earlier (find (test t) xs)) (find_any test ts xs s)
@@ -72,8 +67,7 @@ find_more {X = X} test ts t xs s =
     let first : earliest (map (λ u. find (test u) xs) (t ∷ [])) ≡ find (test t) xs =
     earlier_alone (find (test t) xs) in
     sym (find_any test (ts ++ t ∷ []) xs s)
-    ∙ find_alike (some (ts ++ t ∷ [])) (λ x. some ts x || some (t ∷ []) x) xs
-    (λ x i. list_any-append (λ u. test u x) ts (t ∷ []))
+    ∙ (λ i. find (λ x. list_any-append (λ u. test u x) ts (t ∷ []) i) xs)
     ∙ find_either (some ts) (some (t ∷ [])) xs s
     ∙ ap (λ o. earlier o (find (some (t ∷ [])) xs)) (find_any test ts xs s)
     ∙ ap (earlier (earliest (map (λ u. find (test u) xs) ts)))

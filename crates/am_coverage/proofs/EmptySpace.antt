@@ -1,31 +1,27 @@
 -- In a space without label sets nothing is found.
-use Rattle.std.proofs.Common.{◌≡◌, ℕ, List, [], Contains, ap}
-use Rattle.std.specs.Prelude.{◌==◌}
-use Rattle.std.specs.List.{find, list_any}
-use Rattle.am_universe.specs.LabelSet.{label_set_of}
-use Rattle.am_universe.specs.Text.{same_text}
-use Rattle.am_labels.specs.Space.{Space}
-use Rattle.am_labels.proofs.SpaceLaws.{none_of_empty_list}
+use Rattle.std.proofs.Common.{◌≡◌, ℕ, List, [], Contains, subst}
+use Rattle.am_universe.proofs.ListLemmas.{IsIn-from_Contains}
+use Rattle.am_labels.specs.Space.{Space, IsChoiceOf}
+use Rattle.am_labels.proofs.SpaceLaws.{none_of_empty_list, space_choices}
 use Rattle.am_files.specs.ConfigFile.{Configuration}
-use Rattle.am_files.specs.Path.{leads_through}
-use Rattle.am_eval.specs.Routing.{ends, receivers}
 use Rattle.am_coverage.specs.declared.coverage.RouteCoverage.TheVariants as route_is
 use Rattle.am_coverage.specs.declared.coverage.ReceiverCoverage.TheVariants as receiver_is
-use Rattle.am_coverage.specs.Coverage.{live_or, dead_by, route_coverage, live_or_unmatched}
-use Rattle.am_coverage.specs.Coverage.{receiver_coverage}
+use Rattle.am_coverage.specs.Coverage.{route_coverage, receiver_coverage}
+use Rattle.am_coverage.proofs.RouteLaws.{never_exactly}
+use Rattle.am_coverage.proofs.ReceiverLaws.{unmatched_exactly}
+
+no_choice : (s : Space) (choice : List ℕ) → Contains s.impossible [] → IsChoiceOf s choice → ⊥
+no_choice s choice empty possible =
+    IsIn-from_Contains [] choice
+    (subst (λ (all : List (List ℕ)). Contains all choice) (none_of_empty_list s empty)
+    ((space_choices s choice).1 possible))
 
 pub enters_nothing : (s : Space) (c : Configuration) (path : List ℕ) → Contains s.impossible []
     → route_coverage s c path ≡ route_is.NeverEntered
 enters_nothing s c path empty =
-    ap (λ (cs : List (List ℕ)). live_or
-    (dead_by (find (λ choice. list_any (leads_through path) (ends (label_set_of s.labels choice) c)) cs))
-    (find (λ choice. list_any (λ end. same_text end path) (ends (label_set_of s.labels choice) c)) cs))
-    (none_of_empty_list s empty)
+    (never_exactly s c path).0 (λ choice end possible h through. no_choice s choice empty possible)
 
 pub matches_nothing : (s : Space) (c : Configuration) (receiver : ℕ) → Contains s.impossible []
     → receiver_coverage s c receiver ≡ receiver_is.Unmatched
 matches_nothing s c receiver empty =
-    ap (λ (cs : List (List ℕ)). live_or_unmatched
-    (find (λ choice. list_any (λ other. other == receiver)
-    (receivers (label_set_of s.labels choice) c)) cs))
-    (none_of_empty_list s empty)
+    (unmatched_exactly s c receiver).0 (λ choice possible h. no_choice s choice empty possible)

@@ -1,16 +1,22 @@
--- What `find` finds in a list: an item that passes, and no item that passes stands before it. And
--- what it finds among all choices of a space.
-use Rattle.std.proofs.Common.{◌≡◌, ℕ, List, [], ◌∷◌, Bool, true, false, Option, Some, None}
+-- The first of all choices of a space that has a property, as a test finds it.
+use Rattle.std.proofs.Common.{◌≡◌, ◌↔◌, ℕ, List, [], ◌∷◌, Bool, true, false, Option, Some, None}
 use Rattle.std.proofs.Common.{refl, sym, ap, ◌∙◌, inl, inr}
 use Rattle.std.specs.Prelude.{IsTrue}
 use Rattle.std.specs.List.{find}
+use Rattle.std.specs.Ordering.{nat_cmp, is_lt, ordering_reverse}
+use Rattle.std.specs.Cmp.Lexicographic.{slice_cmp}
+use Rattle.std.specs.declared.cmp.Ordering.{Ordering}
+use Rattle.std.specs.declared.cmp.Ordering.TheVariants.{Less, Equal, Greater}
 use Rattle.std.proofs.lemmas.Bool.{cases_Bool}
+use Rattle.std.proofs.lemmas.Cmp.{nat_list_cmp_total}
+use Rattle.std.proofs.lemmas.Map.Lookups.{exact_bytes}
 use Rattle.am_universe.proofs.ListLemmas.{IsIn, IsIn-from_Contains, Contains-from_IsIn}
 use Rattle.am_labels.specs.Space.{Space, all_choices, IsChoiceOf}
 use Rattle.am_labels.proofs.SpaceLaws.{space_choices, space_choices_sorted}
 use Rattle.am_search.specs.Start.{comes_before}
 use Rattle.am_search.proofs.ChoiceOrder.{Ascends, above_first, ascends_rest, not_itself, not_back}
 use Rattle.am_first_sets.proofs.FirstPossible.{is_found}
+use Rattle.am_coverage.specs.Report.{IsFirstChoice}
 
 -- where an item passes, one is found
 finds : {X : Type 0} (test : X → Bool) (xs : List X) (x : X) → IsIn xs x → test x ≡ true
@@ -22,12 +28,6 @@ finds test (y ∷ ys) x (inr later) passes = elim (cases_Bool (test y)) [
   | inl first ↦ (y, rw first refl)
   | inr fails ↦ let r = finds test ys x later passes in (r.0, rw fails r.1)
 ]
-
-none_found : {X : Type 0} (test : X → Bool) (xs : List X) (x : X) → find test xs ≡ None
-    → IsIn xs x → test x ≡ true → ⊥
-none_found test xs x e h passes =
-    let r = finds test xs x h passes in
-    let both : None ≡ Some r.0 = sym e ∙ r.1 in cc
 
 -- in a list that ascends no item that passes comes before the one that is found
 found_first : (test : List ℕ → Bool) (xs : List (List ℕ)) (x y : List ℕ) → Ascends xs
@@ -46,63 +46,56 @@ found_first test (z ∷ zs) x y s e (inr later) passes = elim (cases_Bool (test 
   | inr fails ↦ found_first test zs x y (ascends_rest z zs s) (rw fails at e) later passes
 ]
 
--- ---- The first of all choices of a space that passes a test.
+none_from : {X : Type 0} (o : Option X) → ((x : X) → o ≡ Some x → ⊥) → o ≡ None
+none_from None none = refl
+none_from (Some x) none = absurd (none x refl)
 
-in_space : (s : Space) (choice : List ℕ) → IsChoiceOf s choice → IsIn (all_choices s) choice
-in_space s choice possible =
-    IsIn-from_Contains (all_choices s) choice ((space_choices s choice).1 possible)
+-- ---- Among all choices of a space, by a test that says which have the property.
 
-pub found_choice : (s : Space) (test : List ℕ → Bool) (choice : List ℕ)
-    → find test (all_choices s) ≡ Some choice → IsChoiceOf s choice × IsTrue (test choice)
-found_choice s test choice e =
-    let r = is_found test (all_choices s) choice e in
-    ((space_choices s choice).0 (Contains-from_IsIn (all_choices s) choice r.0), r.1)
+module _ (s : Space) (test : List ℕ → Bool) (Has : List ℕ → Type 0)
+    (exact : (choice : List ℕ) → IsTrue (test choice) ↔ Has choice) where
+  in_space : (choice : List ℕ) → IsChoiceOf s choice → IsIn (all_choices s) choice
+  in_space choice possible =
+      IsIn-from_Contains (all_choices s) choice ((space_choices s choice).1 possible)
 
-pub finds_choice : (s : Space) (test : List ℕ → Bool) (choice : List ℕ) → IsChoiceOf s choice
-    → IsTrue (test choice) → (first : List ℕ) × (find test (all_choices s) ≡ Some first)
-finds_choice s test choice possible passes =
-    finds test (all_choices s) choice (in_space s choice possible) passes
+  pub first_found : (choice : List ℕ) → find test (all_choices s) ≡ Some choice
+      → IsFirstChoice s Has choice
+  first_found choice e =
+      let r = is_found test (all_choices s) choice e in
+      record {
+        possible = (space_choices s choice).0 (Contains-from_IsIn (all_choices s) choice r.0);
+        has = (exact choice).0 r.1;
+        first = λ other possible has.
+            found_first test (all_choices s) choice other (space_choices_sorted s) e
+            (in_space other possible) ((exact other).1 has);
+      }
 
-pub first_choice : (s : Space) (test : List ℕ → Bool) (choice other : List ℕ)
-    → find test (all_choices s) ≡ Some choice → IsChoiceOf s other → IsTrue (test other)
-    → comes_before other choice ≡ false
-first_choice s test choice other e possible passes =
-    found_first test (all_choices s) choice other (space_choices_sorted s) e
-    (in_space s other possible) passes
+  pub some_found : (choice : List ℕ) → IsChoiceOf s choice → Has choice
+      → (first : List ℕ) × (find test (all_choices s) ≡ Some first)
+  some_found choice possible has =
+      finds test (all_choices s) choice (in_space choice possible) ((exact choice).1 has)
 
-pub none_choice : (s : Space) (test : List ℕ → Bool) (choice : List ℕ)
-    → find test (all_choices s) ≡ None → IsChoiceOf s choice → IsTrue (test choice) → ⊥
-none_choice s test choice e possible passes =
-    none_found test (all_choices s) choice e (in_space s choice possible) passes
+  pub none_found : ((choice : List ℕ) → IsChoiceOf s choice → Has choice → ⊥)
+      ↔ (find test (all_choices s) ≡ None)
+  none_found = (
+    λ none. none_from (find test (all_choices s)) (λ choice e.
+        let first = first_found choice e in none choice first.possible first.has),
+    λ e choice possible has.
+        let r = some_found choice possible has in
+        let both : None ≡ Some r.0 = sym e ∙ r.1 in cc,
+  )
 
-pub finds_none : (s : Space) (test : List ℕ → Bool)
-    → ((choice : List ℕ) → IsChoiceOf s choice → IsTrue (test choice) → ⊥)
-    → find test (all_choices s) ≡ None
-finds_none s test none = by (find test (all_choices s)) refl
-  where
-    by : (o : Option (List ℕ)) → find test (all_choices s) ≡ o → o ≡ None
-    by None e = refl
-    by (Some choice) e =
-        let r = found_choice s test choice e in absurd (none choice r.0 r.1)
+-- ---- There is one such choice.
 
--- of two choices of which none comes before the other, the one is the other
-same_in : (xs : List (List ℕ)) (x y : List ℕ) → Ascends xs → IsIn xs x → IsIn xs y
-    → comes_before x y ≡ false → comes_before y x ≡ false → x ≡ y
-same_in [] x y s here there le ge = absurd here
-same_in (z ∷ zs) x y s (inl first) (inl also) le ge = sym first ∙ also
-same_in (z ∷ zs) x y s (inl first) (inr later) le ge =
-    let before : comes_before x y ≡ true =
-    ap (λ c. comes_before c y) (sym first) ∙ above_first z zs y s later in
-    let both : true ≡ false = sym before ∙ le in cc
-same_in (z ∷ zs) x y s (inr later) (inl first) le ge =
-    let before : comes_before y x ≡ true =
-    ap (λ c. comes_before c x) (sym first) ∙ above_first z zs x s later in
-    let both : true ≡ false = sym before ∙ ge in cc
-same_in (z ∷ zs) x y s (inr here) (inr there) le ge =
-    same_in zs x y (ascends_rest z zs s) here there le ge
+neither : (o : Ordering) → is_lt o ≡ false → is_lt (ordering_reverse o) ≡ false → o ≡ Equal
+neither Less le ge = absurd (cc)
+neither Equal le ge = refl
+neither Greater le ge = absurd (cc)
 
-pub same_choice : (s : Space) (choice other : List ℕ) → IsChoiceOf s choice → IsChoiceOf s other
-    → comes_before choice other ≡ false → comes_before other choice ≡ false → choice ≡ other
-same_choice s choice other possible also le ge =
-    same_in (all_choices s) choice other (space_choices_sorted s) (in_space s choice possible)
-    (in_space s other also) le ge
+pub one_first : (s : Space) (Has : List ℕ → Type 0) (choice other : List ℕ)
+    → IsFirstChoice s Has choice → IsFirstChoice s Has other → choice ≡ other
+one_first s Has choice other one also =
+    exact_bytes choice other
+    (neither (slice_cmp nat_cmp choice other) (also.first choice one.possible one.has)
+    (ap is_lt (sym (nat_list_cmp_total.antisymm other choice))
+    ∙ one.first other also.possible also.has))

@@ -1,15 +1,14 @@
 -- The paths that are reported are in order.
-use Rattle.std.proofs.Common.{◌≡◌, ℕ, ◌+◌, ◌<◌, List, [], ◌∷◌, map, refl, sym, subst, arith}
+use Rattle.std.proofs.Common.{◌≡◌, ℕ, ◌+◌, List, [], ◌∷◌, refl, sym, subst}
 use Rattle.std.specs.Ordering.{nat_cmp}
 use Rattle.std.specs.Cmp.Lexicographic.{slice_cmp}
 use Rattle.std.specs.List.Sorted.{IsStrictlySortedBy}
 use Rattle.std.specs.declared.cmp.Ordering.TheVariants.{Less}
-use Rattle.am_universe.proofs.ListLemmas.{IsIn-unmap, AllByRecursion-each}
-use Rattle.am_universe.proofs.ListLemmas.{IsStrictlySortedBy-append, IsStrictlySortedBy-map}
-use Rattle.am_universe.proofs.ChoiceLemmas.{same_first, less_first}
+use Rattle.am_universe.proofs.ListLemmas.{AllByRecursion-each}
 use Rattle.am_files.specs.ConfigFile.{RouteTree, Routes, route, no_routes, next_route}
 use Rattle.am_files.specs.RoutePaths.{paths_at}
 use Rattle.am_files.proofs.RouteLists.{paths_from, paths_next}
+use Rattle.am_eval.proofs.FlatEnds.{below_ascend}
 use Rattle.am_eval.proofs.RoutePathLaws.{is_below}
 use Rattle.am_search.proofs.ChoiceOrder.{Ascends}
 
@@ -28,15 +27,5 @@ mutual
   ascend_from i no_routes = tt
   ascend_from i (next_route t ts) =
       subst (λ (paths : List (List ℕ)). Ascends paths) (sym (paths_next i t ts))
-      (IsStrictlySortedBy-append (slice_cmp nat_cmp) (map (λ below. i ∷ below) (paths_at t))
-      (paths_from (i + 1) ts)
-      (IsStrictlySortedBy-map (slice_cmp nat_cmp) (slice_cmp nat_cmp) (λ below. i ∷ below)
-      (paths_at t) (same_first i) (paths_ascend t))
-      (ascend_from (i + 1) ts)
-      (λ x y a b.
-      let first = IsIn-unmap (λ below. i ∷ below) (paths_at t) x a in
-      let more = is_below (i + 1) ts y b in
-      let less : i < (i + 1) + more.0 = omega arith in
-      subst (λ (v : List ℕ). slice_cmp nat_cmp v y ≡ Less) first.2
-      (subst (λ (w : List ℕ). slice_cmp nat_cmp (i ∷ first.0) w ≡ Less) (sym more.4)
-      (less_first i ((i + 1) + more.0) first.0 more.2 less))))
+      (below_ascend i (paths_at t) (paths_from (i + 1) ts) (paths_ascend t) (ascend_from (i + 1) ts)
+      (λ y b. let more = is_below (i + 1) ts y b in (more.0, more.2, more.4)))

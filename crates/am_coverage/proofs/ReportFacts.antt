@@ -1,10 +1,11 @@
 -- What a report says is what becomes of its routes and receivers: the lines that are written are
 -- those that say it, and no other lines do.
 use Rattle.std.proofs.Common.{◌≡◌, ◌↔◌, ℕ, ◌+◌, ◌<◌, suc, List, [], ◌∷◌, ◌++◌, length, map, get_or}
-use Rattle.std.proofs.Common.{codes, Some, refl, sym, ap, subst, ◌∙◌, arith}
+use Rattle.std.proofs.Common.{codes, Some, refl, sym, ap, ◌∙◌, arith}
 use Rattle.std.specs.Prelude.{slice_get}
 use Rattle.std.specs.List.{AllZip, flat_map, zip, range_with_len}
 use Rattle.std.proofs.lemmas.List.Folds.{flat_map-map}
+use Rattle.std.proofs.lemmas.Option.{get_or_from_slice_get, same_Some}
 use mathlib.Core.List.{append_cancel_left}
 use Rattle.am_universe.specs.Text.{quoted_text}
 use Rattle.am_universe.specs.WrittenLabelSet.{set_text}
@@ -24,16 +25,29 @@ use Rattle.am_coverage.specs.Report.{IsFirstChoice, EndsAt, GoesTo, IsRouteLine,
 use Rattle.am_coverage.specs.Report.{entered_route, never_entered_route, IsReceiverLine}
 use Rattle.am_coverage.specs.Report.{live_receiver, unmatched_receiver, IsRoutesReport}
 use Rattle.am_coverage.specs.Report.{IsReceiversReport}
-use Rattle.am_coverage.proofs.FirstFound.{same_choice}
-use Rattle.am_coverage.proofs.RouteLaws.{live_told, live_ends, live_first, never_exactly}
-use Rattle.am_coverage.proofs.RouteLaws.{entered_exactly, dead_from_never}
+use Rattle.am_coverage.proofs.FirstFound.{one_first}
+use Rattle.am_coverage.proofs.RouteLaws as of_route
+use Rattle.am_coverage.proofs.RouteLaws.{never_exactly, entered_exactly, dead_from_never}
 use Rattle.am_coverage.proofs.ReceiverLaws as of_receiver
 
 -- one text does not go on in two ways whose bytes at a position differ
-differ : (front a b line : List ℕ) (i : ℕ) → line ≡ front ++ a → line ≡ front ++ b
+differ : (a b front line : List ℕ) (i : ℕ) → line ≡ front ++ a → line ≡ front ++ b
     → get_or a i 0 ≡ get_or b i 0
-differ front a b line i is also =
+differ a b front line i is also =
     ap (λ rest. get_or rest i 0) (append_cancel_left front a b (sym is ∙ also))
+
+-- a report has one line for each of some things, which is known from the thing
+lines_are : {K : Type 0} (IsLine : K → List ℕ → Type 0) (line_at : K → List ℕ)
+    → ((k : K) (line : List ℕ) → IsLine k line → line ≡ line_at k)
+    → (ks : List K) (lines : List (List ℕ)) → AllZip IsLine ks lines → lines ≡ map line_at ks
+lines_are IsLine line_at is [] [] each = refl
+lines_are IsLine line_at is [] (line ∷ lines) each = absurd each
+lines_are IsLine line_at is (k ∷ ks) [] each = absurd each
+lines_are IsLine line_at is (k ∷ ks) (line ∷ lines) each =
+    rw (is k line each.0, lines_are IsLine line_at is ks lines each.1) refl
+
+abbrev report_of : List (List ℕ) → List ℕ
+report_of lines = flat_map (λ line. line) lines ++ codes "# end\n"
 
 -- the texts of some items, one behind the other
 joined : {X : Type 0} (line : X → List ℕ) (xs : List X)
@@ -49,14 +63,7 @@ module _ (s : Space) (c : Configuration) where
   line_said : (path : List ℕ) (coverage : RouteCoverage) → route_coverage s c path ≡ coverage
       → IsRouteLine s c path (route_line s.labels (path, coverage))
   line_said path (route_is.Live choice) e =
-      let at = live_ends s c path choice e in
-      live_route choice
-      (record {
-        possible = at.0;
-        has = at.1;
-        first = λ other possible ends. live_first s c path choice other e possible ends;
-      })
-      refl
+      live_route choice (of_route.first_live s c path choice e) refl
   line_said path route_is.Entered e =
       let r = (entered_exactly s c path).1 e in entered_route r.0 r.1 refl
   line_said path route_is.NeverEntered e =
@@ -82,11 +89,9 @@ module _ (s : Space) (c : Configuration) where
   first_is : (path choice : List ℕ) → IsFirstChoice s (EndsAt s c path) choice
       → route_coverage s c path ≡ route_is.Live choice
   first_is path choice first =
-      let told = live_told s c path choice first.possible first.has in
-      let at = live_ends s c path told.0 told.1 in
-      let before = live_first s c path told.0 choice told.1 first.possible first.has in
-      told.1 ∙ ap route_is.Live
-      (same_choice s told.0 choice at.0 first.possible (first.first told.0 at.0 at.1) before)
+      let told = of_route.live_told s c path choice first.possible first.has in
+      let live = of_route.first_live s c path told.0 told.1 in
+      told.1 ∙ ap route_is.Live (one_first s (EndsAt s c path) told.0 choice live first)
 
   -- the line of a route is the one that is written
   pub route_line_is : (path line : List ℕ) → IsRouteLine s c path line
@@ -99,19 +104,12 @@ module _ (s : Space) (c : Configuration) where
   route_line_is path line (never_entered_route never e) =
       e ∙ ap (λ coverage. route_line s.labels (path, coverage)) (sym ((never_exactly s c path).0 never))
 
-  lines_are : (paths lines : List (List ℕ)) → AllZip (IsRouteLine s c) paths lines
-      → lines ≡ map route_line_at paths
-  lines_are [] [] each = refl
-  lines_are [] (line ∷ lines) each = absurd each
-  lines_are (path ∷ paths) [] each = absurd each
-  lines_are (path ∷ paths) (line ∷ lines) each =
-      rw (route_line_is path line each.0, lines_are paths lines each.1) refl
-
-  pub routes_report_is : (report : List ℕ) → IsRoutesReport s c report
-      → report ≡ flat_map (λ line. line) (map route_line_at (paths_of c)) ++ codes "# end\n"
+  routes_report_is : (report : List ℕ) → IsRoutesReport s c report
+      → report ≡ report_of (map route_line_at (paths_of c))
   routes_report_is report r =
-      r.joined ∙ ap (λ lines. flat_map (λ line. line) lines ++ codes "# end\n")
-      (lines_are (paths_of c) r.lines r.each)
+      r.joined
+      ∙ ap report_of
+      (lines_are (IsRouteLine s c) route_line_at route_line_is (paths_of c) r.lines r.each)
 
   pub one_routes_report : (report other : List ℕ) → IsRoutesReport s c report
       → IsRoutesReport s c other → report ≡ other
@@ -124,9 +122,7 @@ module _ (s : Space) (c : Configuration) where
   line_says_dead path line (live_route choice first e) = (
     λ dead. absurd (dead choice first.possible first.has),
     λ said.
-        let bytes : (◌≡◌ {A = ℕ} 108 100) = differ (path_text path)
-        (codes " live " ++ (set_text s.labels choice ++ codes "\n")) (codes " dead " ++ said.0) line 1 e
-        said.1 in
+        let bytes : (◌≡◌ {A = ℕ} 108 100) = differ _ _ (path_text path) line 1 e said.1 in
         absurd (omega (arith, bytes)),
   )
   line_says_dead path line (entered_route dead entered e) =
@@ -139,16 +135,13 @@ module _ (s : Space) (c : Configuration) where
   line_says_never path line (live_route choice first e) = (
     λ never. absurd (dead_from_never s c path never choice first.possible first.has),
     λ said.
-        let bytes : (◌≡◌ {A = ℕ} 108 100) = differ (path_text path)
-        (codes " live " ++ (set_text s.labels choice ++ codes "\n")) (codes " dead never-entered\n") line 1
-        e said in
+        let bytes : (◌≡◌ {A = ℕ} 108 100) = differ _ _ (path_text path) line 1 e said in
         absurd (omega (arith, bytes)),
   )
   line_says_never path line (entered_route dead entered e) = (
     λ never. absurd (entered never),
     λ said.
-        let bytes : (◌≡◌ {A = ℕ} 101 110) = differ (path_text path) (codes " dead entered\n")
-        (codes " dead never-entered\n") line 6 e said in
+        let bytes : (◌≡◌ {A = ℕ} 101 110) = differ _ _ (path_text path) line 6 e said in
         absurd (omega (arith, bytes)),
   )
   line_says_never path line (never_entered_route never e) = (λ _. e, λ _. never)
@@ -160,15 +153,7 @@ module _ (s : Space) (c : Configuration) where
       → receiver_coverage s c receiver ≡ coverage
       → IsReceiverLine s c receiver (receiver_line s.labels (name, coverage))
   receiver_said receiver name (receiver_is.Live choice) named e =
-      let at = of_receiver.live_goes s c receiver choice e in
-      live_receiver name choice named
-      (record {
-        possible = at.0;
-        has = at.1;
-        first = λ other possible goes.
-            of_receiver.live_first s c receiver choice other e possible goes;
-      })
-      refl
+      live_receiver name choice named (of_receiver.first_live s c receiver choice e) refl
   receiver_said receiver name receiver_is.Unmatched named e =
       unmatched_receiver name named ((of_receiver.unmatched_exactly s c receiver).1 e) refl
 
@@ -222,48 +207,30 @@ module _ (s : Space) (c : Configuration) where
       → receiver_coverage s c receiver ≡ receiver_is.Live choice
   first_receipt_is receiver choice first =
       let told = of_receiver.live_told s c receiver choice first.possible first.has in
-      let at = of_receiver.live_goes s c receiver told.0 told.1 in
-      let before = of_receiver.live_first s c receiver told.0 choice told.1 first.possible first.has in
-      told.1 ∙ ap receiver_is.Live
-      (same_choice s told.0 choice at.0 first.possible (first.first told.0 at.0 at.1) before)
-
-  same_name : (receiver : ℕ) (name other : List ℕ) → slice_get c.receivers receiver ≡ Some name
-      → slice_get c.receivers receiver ≡ Some other → name ≡ other
-  same_name receiver name other is also =
-      let both : Some name ≡ Some other = sym is ∙ also in cc
+      let live = of_receiver.first_live s c receiver told.0 told.1 in
+      told.1 ∙ ap receiver_is.Live (one_first s (GoesTo s c receiver) told.0 choice live first)
 
   -- the line of a receiver is the one that is written
-  pub receiver_line_is : (receiver : ℕ) (name line : List ℕ)
-      → slice_get c.receivers receiver ≡ Some name → IsReceiverLine s c receiver line
-      → line ≡ receiver_line s.labels (name, receiver_coverage s c receiver)
-  receiver_line_is receiver name line named (live_receiver other choice is first e) =
-      let same = same_name receiver other name is named in
-      let live = first_receipt_is receiver choice first in
-      e ∙ ap (λ text. receiver_line s.labels (text, receiver_is.Live choice)) same
-      ∙ ap (λ coverage. receiver_line s.labels (name, coverage)) (sym live)
-  receiver_line_is receiver name line named (unmatched_receiver other is unmatched e) =
-      let same = same_name receiver other name is named in
+  abbrev receiver_line_at : ℕ → List ℕ
+  receiver_line_at receiver =
+      receiver_line s.labels (get_or c.receivers receiver [], receiver_coverage s c receiver)
+
+  receiver_line_is : (receiver : ℕ) (line : List ℕ) → IsReceiverLine s c receiver line
+      → line ≡ receiver_line_at receiver
+  receiver_line_is receiver line (live_receiver name choice named first e) =
+      let same = get_or_from_slice_get c.receivers receiver name [] named in
+      e ∙ (λ i. receiver_line s.labels (sym same i, sym (first_receipt_is receiver choice first) i))
+  receiver_line_is receiver line (unmatched_receiver name named unmatched e) =
+      let same = get_or_from_slice_get c.receivers receiver name [] named in
       let none = (of_receiver.unmatched_exactly s c receiver).0 unmatched in
-      e ∙ ap (λ text. receiver_line s.labels (text, receiver_is.Unmatched)) same
-      ∙ ap (λ coverage. receiver_line s.labels (name, coverage)) (sym none)
+      e ∙ (λ i. receiver_line s.labels (sym same i, sym none i))
 
-  receiver_lines_are : (i : ℕ) (names lines : List (List ℕ)) → AreNamesFrom i names
-      → AllZip (IsReceiverLine s c) (range_with_len i (length names)) lines
-      → lines ≡ lines_from i names
-  receiver_lines_are i [] [] are each = refl
-  receiver_lines_are i [] (line ∷ lines) are each = absurd each
-  receiver_lines_are i (name ∷ names) [] are each = absurd each
-  receiver_lines_are i (name ∷ names) (line ∷ lines) are each =
-      rw (
-        receiver_line_is i name line (first_name i name names are) each.0,
-        receiver_lines_are (i + 1) names lines (later_names i name names are) each.1,
-      ) refl
-
-  pub receivers_report_is : (report : List ℕ) → IsReceiversReport s c report
-      → report ≡ flat_map (λ line. line) (lines_from 0 c.receivers) ++ codes "# end\n"
+  receivers_report_is : (report : List ℕ) → IsReceiversReport s c report
+      → report ≡ report_of (map receiver_line_at (range_with_len 0 (length c.receivers)))
   receivers_report_is report r =
-      r.joined ∙ ap (λ lines. flat_map (λ line. line) lines ++ codes "# end\n")
-      (receiver_lines_are 0 c.receivers r.lines all_names r.each)
+      r.joined
+      ∙ ap report_of (lines_are (IsReceiverLine s c) receiver_line_at receiver_line_is
+      (range_with_len 0 (length c.receivers)) r.lines r.each)
 
   pub one_receivers_report : (report other : List ℕ) → IsReceiversReport s c report
       → IsReceiversReport s c other → report ≡ other
@@ -276,19 +243,14 @@ module _ (s : Space) (c : Configuration) where
       → slice_get c.receivers receiver ≡ Some name → IsReceiverLine s c receiver line
       → IsUnmatched s c receiver ↔ (line ≡ quoted_text name ++ codes " unmatched\n")
   line_says_unmatched receiver name line named (live_receiver other choice is first e) =
-      let same = same_name receiver other name is named in (
+      let same = same_Some other name (sym is ∙ named) in (
         λ unmatched. absurd (unmatched choice first.possible first.has),
         λ said.
-            let bytes : (◌≡◌ {A = ℕ} 108 117) = differ (quoted_text name)
-            (codes " live " ++ (set_text s.labels choice ++ codes "\n")) (codes " unmatched\n") line 1
-            (subst (λ (text : List ℕ). line
-            ≡ quoted_text text ++ (codes " live " ++ (set_text s.labels choice ++ codes "\n"))) same e)
-            said in
+            let bytes : (◌≡◌ {A = ℕ} 108 117) = differ _ _ (quoted_text name) line 1
+            (e ∙ ap (λ text. quoted_text text
+            ++ (codes " live " ++ (set_text s.labels choice ++ codes "\n"))) same) said in
             absurd (omega (arith, bytes)),
       )
   line_says_unmatched receiver name line named (unmatched_receiver other is unmatched e) =
-      let same = same_name receiver other name is named in (
-        λ _.
-            subst (λ (text : List ℕ). line ≡ quoted_text text ++ codes " unmatched\n") same e,
-        λ _. unmatched,
-      )
+      let same = same_Some other name (sym is ∙ named) in
+      (λ _. e ∙ ap (λ text. quoted_text text ++ codes " unmatched\n") same, λ _. unmatched)

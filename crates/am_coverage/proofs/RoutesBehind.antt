@@ -3,44 +3,40 @@
 use Rattle.std.proofs.Common.{◌≡◌, ℕ, zero, suc, ◌+◌, List, [], ◌∷◌, map, drop, get_or, length, ◌<◌}
 use Rattle.std.proofs.Common.{Option, Some, None, Bool, true, false, refl, sym, ap, ◌∙◌}
 use Rattle.std.proofs.Common.{inl, inr, arith}
-use Rattle.std.specs.Prelude.{slice_get, is_some, ◌||◌}
+use Rattle.std.specs.Prelude.{slice_get, option_map, is_some, ◌||◌}
 use Rattle.std.specs.List.{list_any, filter, take_while}
-use Rattle.std.proofs.lemmas.Bool.{cases_Bool, false≢true}
+use Rattle.std.proofs.lemmas.Bool.{cases_Bool, false≢true, false_from_ne_true}
 use Rattle.std.proofs.lemmas.List.{drop-map, length-map}
 use Rattle.std.proofs.lemmas.List.Sums.{take_while-cons}
-use Rattle.std.proofs.lemmas.Option.{slice_get_read, get_or_from_slice_get}
+use Rattle.std.proofs.lemmas.Option.{slice_get_read, get_or_from_slice_get, slice_get-map}
+use Rattle.std.proofs.lemmas.Option.{same_Some}
 use Rattle.am_universe.specs.Universe.{sizes}
-use Rattle.am_universe.specs.LabelSet.{label_set_of}
-use Rattle.am_universe.specs.Text.{same_text}
 use Rattle.am_universe.proofs.ListLemmas.{IsIn}
 use Rattle.am_labels.specs.Space.{Space}
 use Rattle.am_files.specs.ConfigFile.{Configuration}
 use Rattle.am_files.specs.Path.{leads_through}
 use Rattle.am_files.specs.RoutePaths.{paths_of}
-use Rattle.am_eval.specs.Routing.{ends}
 use Rattle.am_universe.proofs.Members.{in_at}
 use Rattle.am_search.specs.Start.{comes_before}
 use Rattle.am_search.proofs.ChoiceOrder.{Ascends, above_first, ascends_rest, not_back, filter_none}
 use Rattle.am_search.proofs.PrefixOrder.{begins_itself, begins_behind, before_beside}
+use Rattle.am_coverage.specs.declared.coverage.RouteCoverage.{RouteCoverage}
+use Rattle.am_coverage.specs.declared.coverage.RouteCoverage.TheVariants as route_is
 use Rattle.am_coverage.specs.declared.first_ends.FirstEnd.{FirstEnd}
 use Rattle.am_coverage.specs.Coverage.{first_end, first_entry, live_or, dead_by, route_coverage}
 use Rattle.am_coverage.specs.CoverageView.{end_view, is_live_below, IsShownRoute}
 use Rattle.am_coverage.specs.FirstEnds.{earliest}
 use Rattle.am_coverage.proofs.EntryLaws.{entered_where, dead_by_any}
 use Rattle.am_coverage.proofs.FirstEndLaws.{entry_is_earliest}
-use Rattle.am_coverage.proofs.FirstFound.{found_choice}
 use Rattle.am_coverage.proofs.PathLaws.{paths_ascend}
+use Rattle.am_coverage.proofs.RouteLaws.{first_live}
 
 -- ---- Of paths that ascend, those to which one leads stand right behind it.
-
-not_true : (b : Bool) → (b ≡ true → ⊥) → b ≡ false
-not_true true h = absurd (h refl)
-not_true false h = refl
 
 none_further : (p y : List ℕ) (ys : List (List ℕ)) → comes_before p y ≡ true
     → leads_through p y ≡ false → Ascends (y ∷ ys) → filter (leads_through p) ys ≡ []
 none_further p y ys behind beside s = filter_none (leads_through p) ys (λ z i.
-    not_true (leads_through p z) (λ below.
+    false_from_ne_true (leads_through p z) (λ below.
     let back = before_beside p y z behind beside below in
     false≢true (sym (not_back y z (above_first y ys z s i)) ∙ back)))
 
@@ -67,10 +63,28 @@ below_in_front p (x ∷ xs) zero s at =
     (λ y i. ap (λ q. comes_before q y) (sym first) ∙ above_first x xs y s i) (ascends_rest x xs s)))
 below_in_front p (x ∷ xs) (suc i) s at =
     let before = above_first x xs p s (in_at xs i p at) in
-    let beside : leads_through p x ≡ false = not_true (leads_through p x) (λ below.
+    let beside : leads_through p x ≡ false = false_from_ne_true (leads_through p x) (λ below.
     false≢true (sym (begins_behind p x below) ∙ before)) in
     let n : suc i + 1 ≡ suc (i + 1) = omega arith in
     rw (n, beside) (below_in_front p xs i (ascends_rest x xs s) at)
+
+-- ---- Whether one below a route is live, by what is seen of those behind it.
+
+abbrev live_of : List ℕ → List (List ℕ × Option (List ℕ)) → Bool
+live_of p views = list_any (λ v. is_some v.1) (take_while (λ v. leads_through p v.0) views)
+
+live_of_map : {X : Type 0} (view : X → List ℕ × Option (List ℕ)) (p : List ℕ) (xs : List X)
+    → live_of p (map view xs)
+    ≡ list_any (λ x. is_some (view x).1) (take_while (λ x. leads_through p (view x).0) xs)
+live_of_map view p [] = refl
+live_of_map view p (x ∷ xs) =
+    let begun = take_while-cons (λ v. leads_through p v.0) (view x) (map view xs) in
+    let also = take_while-cons (λ y. leads_through p (view y).0) x xs in
+    elim (cases_Bool (leads_through p (view x).0)) [
+      | inl below ↦
+          rw (begun, also, below) (ap (λ b. is_some (view x).1 || b) (live_of_map view p xs))
+      | inr beside ↦ rw (begun, also, beside) refl
+    ]
 
 -- ---- What is found of each route, path by path.
 
@@ -81,16 +95,18 @@ module _ (s : Space) (c : Configuration) where
   found_at : (items : List FirstEnd) (paths : List (List ℕ)) (i : ℕ) (end : FirstEnd)
       → map end_view items ≡ map made paths → slice_get items i ≡ Some end
       → (slice_get paths i ≡ Some end.path) × (end.choice ≡ first_end s c end.path)
-  found_at [] paths i end found at = absurd (cc)
-  found_at (e ∷ items) [] i end found at = absurd (cc)
-  found_at (e ∷ items) (path ∷ paths) zero end found at =
-      let here : end_view e ≡ made path = cc in
-      let same : e ≡ end = cc in
-      let view : end_view end ≡ made path = ap end_view (sym same) ∙ here in
-      let its_path : end.path ≡ path = ap (λ v. v.0) view in
-      (ap (λ p. Some p) (sym its_path), ap (λ v. v.1) view ∙ ap (first_end s c) (sym its_path))
-  found_at (e ∷ items) (path ∷ paths) (suc i) end found at =
-      let later : map end_view items ≡ map made paths = cc in found_at items paths i end later at
+  found_at items paths i end found at =
+      by (slice_get paths i)
+      (sym (slice_get-map made paths i) ∙ ap (λ views. slice_get views i) (sym found)
+      ∙ slice_get-map end_view items i ∙ ap (option_map end_view) at)
+    where
+      by : (o : Option (List ℕ)) → option_map made o ≡ Some (end_view end)
+          → (o ≡ Some end.path) × (end.choice ≡ first_end s c end.path)
+      by None e = absurd (cc)
+      by (Some path) e =
+          let same = same_Some (made path) (end_view end) e in
+          let its_path : path ≡ end.path = ap (λ v. v.0) same in
+          (ap (λ p. Some p) its_path, sym (ap (λ v. v.1) same) ∙ ap (first_end s c) its_path)
 
   pub as_many : (items : List FirstEnd) (paths : List (List ℕ)) → map end_view items ≡ map made paths
       → length items ≡ length paths
@@ -113,35 +129,9 @@ module _ (s : Space) (c : Configuration) where
   live_alike : (p : List ℕ) (items : List FirstEnd) (paths : List (List ℕ))
       → map end_view items ≡ map made paths
       → is_live_below p items
-      ≡ list_any is_some (map (first_end s c) (take_while (leads_through p) paths))
-  live_alike p [] [] found = refl
-  live_alike p [] (path ∷ paths) found = absurd (cc)
-  live_alike p (e ∷ items) [] found = absurd (cc)
-  live_alike p (e ∷ items) (path ∷ paths) found =
-      let here : end_view e ≡ made path = cc in
-      let its_path : e.path ≡ path = ap (λ v. v.0) here in
-      let its_choice : e.choice ≡ first_end s c path = ap (λ v. v.1) here in
-      let later : map end_view items ≡ map made paths = cc in
-      let more = live_alike p items paths later in
-      elim (cases_Bool (leads_through p path)) [
-        | inl below ↦
-            let so : leads_through p e.path ≡ true = ap (leads_through p) its_path ∙ below in
-            rw (
-              take_while-cons (λ (end : FirstEnd). leads_through p end.path) e items,
-              take_while-cons (leads_through p) path paths,
-              so,
-              below,
-              its_choice,
-            ) (ap (λ b. is_some (first_end s c path) || b) more)
-        | inr beside ↦
-            let so : leads_through p e.path ≡ false = ap (leads_through p) its_path ∙ beside in
-            rw (
-              take_while-cons (λ (end : FirstEnd). leads_through p end.path) e items,
-              take_while-cons (leads_through p) path paths,
-              so,
-              beside,
-            ) refl
-      ]
+      ≡ list_any (λ path. is_some (first_end s c path)) (take_while (leads_through p) paths)
+  live_alike p items paths found =
+      sym (live_of_map end_view p items) ∙ ap (live_of p) found ∙ live_of_map made p paths
 
   -- ---- So a route is covered as it should be.
 
@@ -167,20 +157,19 @@ module _ (s : Space) (c : Configuration) where
       below_in_front path paths i (paths_ascend c.root) at.0 in
       rw (live, at.1)
       (by_end (first_entry s c path) (first_end s c path)
-      (list_any is_some (map (first_end s c) below)) (λ dead.
+      (list_any (λ p. is_some (first_end s c p)) below) (λ dead.
       ap dead_by (entry_is_earliest s c path)
       ∙ ap (λ some. dead_by (earliest (map (first_end s c) some))) all
-      ∙ dead_by_any (map (first_end s c) (path ∷ below))
-      ∙ ap (λ o. entered_where (is_some o || list_any is_some (map (first_end s c) below))) dead))
+      ∙ dead_by_any (first_end s c) (path ∷ below)
+      ∙ ap (λ o. entered_where (is_some o || list_any (λ p. is_some (first_end s c p)) below))
+      dead))
 
   -- and the choice that shows it is whole
-  shown_by : (path : List ℕ) (entry end : Option (List ℕ)) → first_end s c path ≡ end
-      → IsShownRoute (sizes s.labels) (live_or (dead_by entry) end)
-  shown_by path None None e = tt
-  shown_by path (Some x) None e = tt
-  shown_by path entry (Some choice) e =
-      (found_choice s
-      (λ other. list_any (λ end. same_text end path) (ends (label_set_of s.labels other) c)) choice e).0.0
-
   pub route_shown : (path : List ℕ) → IsShownRoute (sizes s.labels) (route_coverage s c path)
-  route_shown path = shown_by path (first_entry s c path) (first_end s c path) refl
+  route_shown path = by (route_coverage s c path) refl
+    where
+      by : (coverage : RouteCoverage) → route_coverage s c path ≡ coverage
+          → IsShownRoute (sizes s.labels) coverage
+      by (route_is.Live choice) e = (first_live s c path choice e).possible.0
+      by route_is.Entered e = tt
+      by route_is.NeverEntered e = tt

@@ -34,7 +34,8 @@ pub fn receivers_covered(
     let ends = first_ends(alloc, space, config)?;
     let mut found = vec![in alloc; ReceiverCoverage::Unmatched; config.receivers()]?;
     for end in &ends {
-        found[end.receiver] = with_route(found[end.receiver], end.choice);
+        let known = &mut found[end.receiver];
+        *known = with_route(*known, end.choice);
     }
     Ok(found)
 }

@@ -22,10 +22,9 @@ use Rattle.am_eval.specs.Pairs.{pairs_of}
 use Rattle.am_eval.specs.Files.{config_of, SaysSilencesIfAny, SaysAlertsIfAny}
 use Rattle.am_eval.specs.AskedInstant.{instant_fault}
 use Rattle.am_eval.specs.Faults.{Stage, IsFirstFaultOfCall, SilencesRefusedFor, AlertsRefusedFor}
-use Rattle.am_eval.specs.Faults.{InstantRefusedFor, PairsRefusedFor, config_stage, silences_stage}
-use Rattle.am_eval.specs.Faults.{alerts_stage, instant_stage, pairs_stage, set_stage}
+use Rattle.am_eval.specs.Faults.{InstantRefusedFor, PairsRefusedFor, set_stage}
 use Rattle.am_eval.specs.Files.{Files}
-use Rattle.am_eval.specs.AcceptedWorld.{AcceptsWorld, world_stages}
+use Rattle.am_eval.specs.AcceptedWorld.{AcceptsFiles, AcceptsWorld, world_stages}
 use Rattle.am_eval.specs.Explanation.{explain_stages}
 use Rattle.am_eval.proofs.SetRefusals.{set_accepted}
 
@@ -121,29 +120,23 @@ pub world_accepted : (P : Type 0) (inputs : Files) (w : World) (later : List Sta
     (place : Place) (r : Refusal) → AcceptsWorld inputs w → (r.kind ≡ kinds.Pattern → P)
     → (IsFirstFaultOfCall later place r → P)
     → IsFirstFaultOfCall (world_stages inputs ++ later) place r → P
-world_accepted P inputs w later place r accepts pattern behind =
-    let config = config_of inputs.config in
-    let pairs = by_stage P (pairs_stage config inputs.alerts) later place r
-    (λ refused. absurd (pairs_accepted inputs w r accepts refused)) behind in
-    let instant = by_stage P (instant_stage inputs.silences inputs.at)
-    (pairs_stage config inputs.alerts ∷ later) place r
-    (λ refused. absurd (instant_accepted inputs.silences inputs.at r accepts.has_instant refused))
-    pairs in
-    let alerts = by_stage P (alerts_stage inputs.alerts)
-    (instant_stage inputs.silences inputs.at ∷ pairs_stage config inputs.alerts ∷ later) place r
-    (λ refused. absurd (alerts_accepted inputs.alerts w.alerts r accepts.accepts_files.says_alerts refused))
-    instant in
-    let silences = by_stage P (silences_stage inputs.silences)
-    (alerts_stage inputs.alerts ∷ instant_stage inputs.silences inputs.at
-    ∷ pairs_stage config inputs.alerts ∷ later) place r
-    (λ refused. pattern (silences_accepted inputs.silences w.silences r accepts.accepts_files.says_silences
-    refused))
-    alerts in
-    by_stage P (config_stage config)
-    (silences_stage inputs.silences ∷ alerts_stage inputs.alerts
-    ∷ instant_stage inputs.silences inputs.at ∷ pairs_stage config inputs.alerts ∷ later) place r
-    (λ refused. pattern (config_accepted config w.config r accepts.accepts_files.says_config refused))
-    silences
+world_accepted P inputs w later place r accepts pattern behind = by
+  where
+    said : AcceptsFiles inputs w
+    said = accepts.accepts_files
+
+    by : IsFirstFaultOfCall (world_stages inputs ++ later) place r → P
+    by (inl config) =
+        pattern (config_accepted (config_of inputs.config) w.config r said.says_config config.1)
+    by (inr (_, inl silences)) =
+        pattern (silences_accepted inputs.silences w.silences r said.says_silences silences.1)
+    by (inr (_, inr (_, inl alerts))) =
+        absurd (alerts_accepted inputs.alerts w.alerts r said.says_alerts alerts.1)
+    by (inr (_, inr (_, inr (_, inl instant)))) =
+        absurd (instant_accepted inputs.silences inputs.at r accepts.has_instant instant.1)
+    by (inr (_, inr (_, inr (_, inr (_, inl pairs))))) =
+        absurd (pairs_accepted inputs w r accepts pairs.1)
+    by (inr (_, inr (_, inr (_, inr (_, inr first))))) = behind first.1
 
 -- nothing is the first fault of no stage
 pub explained_accepted : (inputs : Files) (words : List (List ℕ)) (w : World) (s : LabelMap)

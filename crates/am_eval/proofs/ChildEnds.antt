@@ -1,7 +1,7 @@
 -- The ends at the children of a route, one child after the other.
 use Rattle.std.proofs.Common.{◌≡◌, ℕ, ◌+◌, List, [], ◌∷◌, ◌++◌, map, refl, sym, ap, ◌∙◌}
 use Rattle.std.proofs.Common.{append_assoc, true, false}
-use Rattle.std.proofs.lemmas.List.{append-nil}
+use Rattle.std.proofs.lemmas.List.{append-nil, map-append}
 use Rattle.am_universe.specs.LabelSet.{LabelMap}
 use Rattle.am_labels.specs.Matcher.{all_hold}
 use Rattle.am_files.specs.ConfigFile.{RouteTree, routes_of, matchers_of, continues_of}
@@ -23,12 +23,6 @@ is_last-unmatched s t matched = rw matched refl
 pub is_last-goes_on : (s : LabelMap) (t : RouteTree) → all_hold s (matchers_of t) ≡ true
     → continues_of t ≡ true → is_last s t ≡ false
 is_last-goes_on s t matched goes = rw (matched, goes) refl
-
-map-append : (path : List ℕ) (xs ys : List (List ℕ))
-    → map (λ below. path ++ below) (xs ++ ys)
-    ≡ map (λ below. path ++ below) xs ++ map (λ below. path ++ below) ys
-map-append path [] ys = refl
-map-append path (x ∷ xs) ys = ap (λ rest. (path ++ x) ∷ rest) (map-append path xs ys)
 
 goes_on : (s : LabelMap) (i : ℕ) (t : RouteTree) (ts : List RouteTree) → is_last s t ≡ false
     → ends_from s i (t ∷ ts)
@@ -54,8 +48,8 @@ one_more s path child i t left more found next whole is at adds last before =
     ap (ends_from s i) is ∙ goes_on s i t more last in
     let joined : found ++ map (λ below. path ++ below) (below ++ rest) ≡ whole =
     ap (λ paths. found ++ map (λ below. path ++ below) paths) (sym all) ∙ before in
-    rw (adds, at, paths_below path i (ends_at s t), append_assoc, ← map-append path below rest)
-    joined
+    let parts = map-append (λ below. path ++ below) below rest in
+    rw (adds, at, paths_below path i (ends_at s t), append_assoc, ← parts) joined
 
 pub last_one : (s : LabelMap) (path child : List ℕ) (i : ℕ) (t : RouteTree)
     (left more : List RouteTree) (found next whole : List (List ℕ)) → left ≡ t ∷ more

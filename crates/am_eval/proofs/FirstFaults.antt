@@ -1,6 +1,6 @@
 -- Where the first fault of some stages stands among more of them.
-use Rattle.std.proofs.Common.{◌≡◌, ◌≤◌, List, [], ◌∷◌, ◌++◌, length, inl, inr, Result, Ok, Err, IfErr, sym}
-use Rattle.std.proofs.Common.{subst}
+use Rattle.std.proofs.Common.{◌≡◌, List, [], ◌∷◌, ◌++◌, inl, inr, Result, Ok, Err, IfErr}
+use Rattle.std.proofs.Common.{sym, subst}
 use Rattle.std.specs.Result.{IsErrAnd}
 use Rattle.am_universe.specs.declared.fault.Fault.{Fault}
 use Rattle.am_universe.specs.declared.place.Place.{Place}
@@ -8,9 +8,7 @@ use Rattle.am_json.specs.Pointer.{Refusal}
 use Rattle.am_universe.specs.LabelSet.{LabelMap}
 use Rattle.am_records.specs.SilencesFile.{Silence}
 use Rattle.am_files.specs.ConfigFile.{Configuration, FileSaysConfig}
-use Rattle.am_eval.specs.declared.limits.TheConstants.{MAX_PAIRS}
 use Rattle.am_eval.specs.World.{World}
-use Rattle.am_eval.specs.Pairs.{pairs_of}
 use Rattle.am_eval.specs.Faults.{Stage, IsFirstFaultOfCall, SaysFewPairs, instant_stage}
 use Rattle.am_eval.specs.Files.{Files, config_of, SaysSilencesIfAny, SaysAlertsIfAny}
 use Rattle.am_eval.specs.AcceptedWorld.{AcceptsFiles, AcceptsWorld, file_stages, pair_stages, timeless_stages, world_stages}

@@ -1,25 +1,27 @@
 -- An alert ends at a path exactly where it matches each route on the way, no sibling before one of
 -- them stops it, and the last has no child that it matches. And its ends are in order.
-use Rattle.std.proofs.Common.{◌≡◌, ◌↔◌, inl, inr, ℕ, zero, suc, ◌+◌, List, [], ◌∷◌, map}
-use Rattle.std.proofs.Common.{Some, Bool, true, false, cond, refl, sym, ap, subst, ◌∙◌, arith, take}
-use Rattle.std.proofs.Common.{Contains, ◌<◌}
+use Rattle.std.proofs.Common.{◌≡◌, ◌≢◌, ◌↔◌, ◌⊎◌, inl, inr, ℕ, zero, suc, ◌+◌, List, [], ◌∷◌, ◌++◌}
+use Rattle.std.proofs.Common.{map, Some, Bool, true, false, cond, refl, sym, ap, subst, ◌∙◌, arith}
+use Rattle.std.proofs.Common.{take, Contains, ◌<◌}
 use Rattle.std.specs.Ordering.{nat_cmp}
 use Rattle.std.specs.Cmp.Lexicographic.{slice_cmp}
 use Rattle.std.specs.List.Sorted.{IsStrictlySortedBy}
 use Rattle.std.specs.declared.cmp.Ordering.TheVariants.{Less}
-use Rattle.std.specs.Prelude.{slice_get, IsFalse}
+use Rattle.std.specs.Prelude.{slice_get, IsTrue, IsFalse}
 use Rattle.std.specs.List.{AllByRecursion, flat_map}
+use Rattle.std.proofs.lemmas.Bool.{false_from_ne_true}
 use Rattle.am_universe.specs.LabelSet.{LabelMap}
 use Rattle.am_universe.proofs.ListLemmas.{IsIn, IsIn-from_Contains, Contains-from_IsIn}
 use Rattle.am_universe.proofs.ListLemmas.{IsIn-split, IsIn-unmap, IsIn-map, IsIn-left, IsIn-right}
 use Rattle.am_universe.proofs.ListLemmas.{IsStrictlySortedBy-append, IsStrictlySortedBy-map}
 use Rattle.am_universe.proofs.ChoiceLemmas.{same_first, less_first}
 use Rattle.am_labels.specs.Matcher.{all_hold}
-use Rattle.am_files.specs.ConfigFile.{RouteTree, Routes, route, no_routes, next_route}
+use Rattle.am_files.specs.ConfigFile.{RouteTree, Routes, route, no_routes, next_route, matchers_of}
+use Rattle.am_files.specs.ConfigFile.{children_of}
 use Rattle.am_files.specs.Path.{list_of}
 use Rattle.am_eval.specs.Routing.{Child, tried, ends_tried, or_itself, ends_at, children_seen}
 use Rattle.am_eval.specs.Routing.{is_last, EndsThere}
-use Rattle.am_eval.proofs.EndLaws.{where_matched, itself_or_below, handles, is_handled}
+use Rattle.am_eval.proofs.ChildEnds.{is_last-unmatched}
 
 -- none of the routes stops the alert
 abbrev NoneStops : LabelMap → List RouteTree → Type 0
@@ -93,6 +95,88 @@ among_all : (all : List (List ℕ)) (path : List ℕ) → IsIn all path → IsIn
 among_all [] path h = absurd h
 among_all (x ∷ xs) path h = h
 
+where_matched : (b : Bool) (all : List (List ℕ)) (path : List ℕ)
+    → IsIn (cond b (or_itself all) []) path → (b ≡ true) × IsIn (or_itself all) path
+where_matched true all path h = (refl, h)
+where_matched false all path h = absurd h
+
+itself_or_below : (all : List (List ℕ)) (path : List ℕ) → IsIn (or_itself all) path
+    → ([] ≡ path) ⊎ IsIn all path
+itself_or_below [] path (inl e) = inl e
+itself_or_below [] path (inr h) = absurd h
+itself_or_below (x ∷ xs) path h = inr h
+
+some_matched : (b : Bool) (all : List (List ℕ)) → b ≡ true → cond b (or_itself all) [] ≢ []
+some_matched true [] e h = cc
+some_matched true (x ∷ xs) e h = cc
+some_matched false all e h = cc
+
+pub matched_ends : (s : LabelMap) (t : RouteTree) → IsTrue (all_hold s (matchers_of t))
+    → ends_at s t ≢ []
+matched_ends s (route settings children) h =
+    some_matched (all_hold s settings.matchers) (ends_tried (children_seen s 0 children)) h
+
+-- ---- A route handles an alert itself where none of its children matches it.
+
+-- none of the routes matches
+abbrev NoneMatches : LabelMap → List RouteTree → Type 0
+NoneMatches s ts = AllByRecursion (λ t. IsFalse (all_hold s (matchers_of t))) ts
+
+no_first : (xs ys : List (List ℕ)) → xs ++ ys ≡ [] → (xs ≡ []) × (ys ≡ [])
+no_first [] ys e = (refl, e)
+no_first (x ∷ xs) ys e = absurd (cc)
+
+not_mapped : (i : ℕ) (xs : List (List ℕ)) → map (λ below. i ∷ below) xs ≡ [] → xs ≡ []
+not_mapped i [] e = refl
+not_mapped i (x ∷ xs) e = absurd (cc)
+
+no_end : (s : LabelMap) (t : RouteTree) → ends_at s t ≡ [] → all_hold s (matchers_of t) ≡ false
+no_end s t e = false_from_ne_true (all_hold s (matchers_of t)) (λ h. matched_ends s t h e)
+
+ends_nowhere : (s : LabelMap) (t : RouteTree) → all_hold s (matchers_of t) ≡ false
+    → ends_at s t ≡ []
+ends_nowhere s (route settings children) e = rw e refl
+
+none_matches : (s : LabelMap) (i : ℕ) (ts : Routes) → ends_tried (children_seen s i ts) ≡ []
+    → NoneMatches s (list_of ts)
+none_matches s i no_routes e = tt
+none_matches s i (next_route t ts) e =
+    let later = tried (children_seen s (i + 1) ts) in
+    let parts = no_first (map (λ below. i ∷ below) (ends_at s t))
+    (flat_map (λ c. c.ends) (cond (is_last s t) [] later)) e in
+    let first = no_end s t (not_mapped i (ends_at s t) parts.0) in
+    let last = is_last-unmatched s t first in
+    (first, none_matches s (i + 1) ts (rw last at parts.1))
+
+none_tried : (s : LabelMap) (i : ℕ) (ts : Routes) → NoneMatches s (list_of ts)
+    → ends_tried (children_seen s i ts) ≡ []
+none_tried s i no_routes h = refl
+none_tried s i (next_route t ts) h =
+    let last = is_last-unmatched s t h.0 in
+    let first = ends_nowhere s t h.0 in
+    rw (last, first) (none_tried s (i + 1) ts h.1)
+
+none_else : (all : List (List ℕ)) → IsIn (or_itself all) [] → (IsIn all [] → ⊥) → all ≡ []
+none_else [] h below = refl
+none_else (x ∷ xs) h below = absurd (below h)
+
+not_below : (s : LabelMap) (ts : Routes) → IsIn (ends_tried (children_seen s 0 ts)) [] → ⊥
+not_below s ts h = let b = is_tried s 0 ts [] h in let e = b.4 in cc
+
+handles : (s : LabelMap) (t : RouteTree) → IsIn (ends_at s t) []
+    → IsTrue (all_hold s (matchers_of t)) × NoneMatches s (list_of (children_of t))
+handles s (route settings children) h =
+    let all = ends_tried (children_seen s 0 children) in
+    let m = where_matched (all_hold s settings.matchers) all [] h in
+    (m.0, none_matches s 0 children (none_else all m.1 (not_below s children)))
+
+is_handled : (s : LabelMap) (t : RouteTree) → IsTrue (all_hold s (matchers_of t))
+    → NoneMatches s (list_of (children_of t)) → IsIn (ends_at s t) []
+is_handled s (route settings children) matched none =
+    rw (matched, none_tried s 0 children none) (inl refl)
+
+-- ---- Down to the end.
+
 at_child : (s : LabelMap) (t : RouteTree) (children : Routes) (p k : ℕ) (path rest : List ℕ)
     → slice_get (list_of children) k ≡ Some t → p ∷ path ≡ k ∷ rest
     → NoneStops s (take k (list_of children)) → IsIn (ends_at s t) rest
@@ -148,6 +232,24 @@ ends_exactly s t path = (
 abbrev Ascend : List (List ℕ) → Type 0
 Ascend paths = IsStrictlySortedBy (slice_cmp nat_cmp) paths
 
+-- paths below a position, and behind them paths below later ones, ascend where both do
+pub below_ascend : (i : ℕ) (first later : List (List ℕ)) → Ascend first → Ascend later
+    → ((path : List ℕ) → IsIn later path
+    → (k : ℕ) × (rest : List ℕ) × (path ≡ ((i + 1) + k) ∷ rest))
+    → Ascend (map (λ below. i ∷ below) first ++ later)
+below_ascend i first later s t beyond =
+    IsStrictlySortedBy-append (slice_cmp nat_cmp) (map (λ below. i ∷ below) first) later
+    (IsStrictlySortedBy-map (slice_cmp nat_cmp) (slice_cmp nat_cmp) (λ below. i ∷ below) first
+    (same_first i) s)
+    t
+    (λ x y a b.
+    let one = IsIn-unmap (λ below. i ∷ below) first x a in
+    let more = beyond y b in
+    let less : i < (i + 1) + more.0 = omega arith in
+    subst (λ (v : List ℕ). slice_cmp nat_cmp v y ≡ Less) one.2
+    (subst (λ (w : List ℕ). slice_cmp nat_cmp (i ∷ one.0) w ≡ Less) (sym more.2)
+    (less_first i ((i + 1) + more.0) one.0 more.1 less)))
+
 where_tried : (b : Bool) (cs : List Child) → Ascend (flat_map (λ c. c.ends) cs)
     → Ascend (flat_map (λ c. c.ends) (cond b [] cs))
 unfolding IsStrictlySortedBy
@@ -172,15 +274,8 @@ mutual
   tried_ascend s i no_routes = tt
   tried_ascend s i (next_route t ts) =
       let later = tried (children_seen s (i + 1) ts) in
-      let behind_it = flat_map (λ c. c.ends) (cond (is_last s t) [] later) in
-      IsStrictlySortedBy-append (slice_cmp nat_cmp) (map (λ below. i ∷ below) (ends_at s t)) behind_it
-      (IsStrictlySortedBy-map (slice_cmp nat_cmp) (slice_cmp nat_cmp) (λ below. i ∷ below)
-      (ends_at s t) (same_first i) (ends_ascend s t))
-      (where_tried (is_last s t) later (tried_ascend s (i + 1) ts))
-      (λ x y a b.
-      let first = IsIn-unmap (λ below. i ∷ below) (ends_at s t) x a in
+      below_ascend i (ends_at s t) (flat_map (λ c. c.ends) (cond (is_last s t) [] later))
+      (ends_ascend s t) (where_tried (is_last s t) later (tried_ascend s (i + 1) ts))
+      (λ y b.
       let more = is_tried s (i + 1) ts y (not_stopped (is_last s t) later y b).1 in
-      let less : i < (i + 1) + more.0 = omega arith in
-      subst (λ (v : List ℕ). slice_cmp nat_cmp v y ≡ Less) first.2
-      (subst (λ (w : List ℕ). slice_cmp nat_cmp (i ∷ first.0) w ≡ Less) (sym more.4)
-      (less_first i ((i + 1) + more.0) first.0 more.2 less)))
+      (more.0, more.2, more.4))

@@ -1,9 +1,10 @@
 -- An alert is silenced, and it is inhibited, exactly where the ways of it say so.
 use Rattle.std.proofs.Common.{◌≡◌, List, ℕ, [], ◌∷◌, ◌++◌, map, Bool, true, false, cond, not, ◌&&◌}
-use Rattle.std.proofs.Common.{◌||◌, refl, sym, ap, ◌∙◌}
+use Rattle.std.proofs.Common.{◌||◌, refl, sym, ap, ◌∙◌, inl, inr}
 use Rattle.std.specs.List.{filter, list_all, list_any}
 use Rattle.std.specs.Cmp.Lexicographic.{texts_ties}
-use Rattle.std.proofs.lemmas.List.Folds.{list_all-append}
+use Rattle.std.proofs.lemmas.Bool.{cases_Bool}
+use Rattle.std.proofs.lemmas.List.Folds.{list_all-append, list_all-map}
 use Rattle.am_universe.specs.LabelSet.{LabelMap, value_of}
 use Rattle.am_universe.specs.Text.{same_text}
 use Rattle.am_universe.proofs.LabelMapLemmas.{flips}
@@ -15,30 +16,7 @@ use Rattle.am_eval.specs.Silencing.{is_active, is_silenced}
 use Rattle.am_eval.specs.Inhibition.{have_equal, inhibits, is_inhibited}
 use Rattle.am_eval.specs.Conditions.{literal_holds, some_way_holds, matching, not_matching}
 use Rattle.am_eval.specs.Conditions.{silencing_ways, same_value, inhibiting_way, inhibiting_ways}
-use Rattle.am_eval.proofs.SilenceLaws.{by_active}
 use Rattle.am_eval.proofs.SomeWay.{some_way-joined}
-
--- ---- Silences.
-
-and_nothing : (b : Bool) → (b && true) ≡ b
-and_nothing true = refl
-and_nothing false = refl
-
-one_matched : (s : LabelMap) (silences : List Silence)
-    → list_any (λ silence. all_hold s silence.matchers) silences
-    ≡ some_way_holds (literal_holds s) (map (λ silence. matching silence.matchers ∷ []) silences)
-one_matched s [] = refl
-one_matched s (silence ∷ silences) =
-    ap (λ b. b || list_any (λ other. all_hold s other.matchers) silences)
-    (sym (and_nothing (all_hold s silence.matchers)))
-    ∙ ap (λ b. (all_hold s silence.matchers && true) || b) (one_matched s silences)
-
-pub silenced_condition : (w : World) (s : LabelMap)
-    → is_silenced w s ≡ some_way_holds (literal_holds s) (silencing_ways w)
-silenced_condition w s =
-    by_active w s w.silences ∙ one_matched s (filter (is_active w.instant) w.silences)
-
--- ---- Inhibition rules.
 
 same_text-turned : (a b : List ℕ) → same_text a b ≡ same_text b a
 same_text-turned a b = texts_ties a b ∙ flips a b
@@ -46,12 +24,13 @@ same_text-turned a b = texts_ties a b ∙ flips a b
 -- matchers that ask for the values of a firing alert say that both have the same
 pub same_values : (firing s : LabelMap) (names : List (List ℕ))
     → all_hold s (map (same_value firing) names) ≡ have_equal names firing s
-same_values firing s [] = refl
-same_values firing s (name ∷ names) =
-    ap (λ b. b && all_hold s (map (same_value firing) names))
-    (same_text-turned (value_of s name) (value_of firing name))
-    ∙ ap (λ b. same_text (value_of firing name) (value_of s name) && b)
-    (same_values firing s names)
+same_values firing s names =
+    list_all-map (condition_holds s) (same_value firing) names
+    ∙ (λ i. list_all (λ name. same_text-turned (value_of s name) (value_of firing name) i) names)
+
+and_nothing : (b : Bool) → (b && true) ≡ b
+and_nothing true = refl
+and_nothing false = refl
 
 -- where the target side matches the firing alert too, the source side is not to match the other
 not_both_sides : (s : LabelMap) (source : List Condition) (both : Bool)
@@ -88,29 +67,32 @@ way_holds rule firing s =
     ∙ ap (λ b. fires && (all_hold s (rule.target ++ asked) && b))
     (sym (not_both_sides s rule.source both))
 
--- one of those that pass a first test passes another
-kept_or_not : {X Y : Type 0} (f : X → Y) (says : Y → Bool) (b : Bool) (x : X) (kept : List X)
-    → ((b && says (f x)) || list_any says (map f kept))
-    ≡ list_any says (map f (cond b (x ∷ kept) kept))
-kept_or_not f says true x kept = refl
-kept_or_not f says false x kept = refl
+-- ---- What passes two tests is one of those that pass the first, and passes the second.
 
-any_kept : {X Y : Type 0} (test both : X → Bool) (f : X → Y) (says : Y → Bool)
-    → ((x : X) → both x ≡ (test x && says (f x))) → (xs : List X)
-    → list_any both xs ≡ list_any says (map f (filter test xs))
-any_kept test both f says each [] = refl
-any_kept test both f says each (x ∷ xs) =
-    ap (λ b. b || list_any both xs) (each x)
-    ∙ ap (λ b. (test x && says (f x)) || b) (any_kept test both f says each xs)
-    ∙ kept_or_not f says (test x) x (filter test xs)
+any_kept : {X Y : Type 0} (test : X → Bool) (f : X → Y) (says : Y → Bool) (xs : List X)
+    → list_any (λ x. test x && says (f x)) xs ≡ list_any says (map f (filter test xs))
+any_kept test f says [] = refl
+any_kept test f says (x ∷ xs) = elim (cases_Bool (test x)) [
+  | inl passes ↦ rw passes (ap (λ b. says (f x) || b) (any_kept test f says xs))
+  | inr fails ↦ rw fails (any_kept test f says xs)
+]
+
+pub silenced_condition : (w : World) (s : LabelMap)
+    → is_silenced w s ≡ some_way_holds (literal_holds s) (silencing_ways w)
+silenced_condition w s =
+    let all = λ (silence : Silence). sym (and_nothing (all_hold s silence.matchers)) in
+    (λ i. list_any (λ silence. is_active w.instant silence && all silence i) w.silences)
+    ∙ any_kept (is_active w.instant) (λ silence. matching silence.matchers ∷ [])
+    (list_all (literal_holds s)) w.silences
 
 by_rule : (rule : Rule) (s : LabelMap) (alerts : List LabelMap)
     → list_any (λ firing. inhibits rule firing s) alerts
     ≡ some_way_holds (literal_holds s)
     (map (inhibiting_way rule) (filter (λ firing. all_hold firing rule.source) alerts))
 by_rule rule s alerts =
-    any_kept (λ firing. all_hold firing rule.source) (λ firing. inhibits rule firing s)
-    (inhibiting_way rule) (list_all (literal_holds s)) (λ firing. way_holds rule firing s) alerts
+    (λ i. list_any (λ firing. way_holds rule firing s i) alerts)
+    ∙ any_kept (λ firing. all_hold firing rule.source) (inhibiting_way rule)
+    (list_all (literal_holds s)) alerts
 
 pub inhibited_condition : (w : World) (s : LabelMap)
     → is_inhibited w s ≡ some_way_holds (literal_holds s) (inhibiting_ways w)

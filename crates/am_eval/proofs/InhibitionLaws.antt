@@ -1,5 +1,5 @@
 -- What holds of inhibition: which alerts are muted, and by which rules and alerts.
-use Rattle.std.proofs.Common.{◌≡◌, ◌≢◌, ◌↔◌, inl, ℕ, List, [], ◌∷◌, Some, Bool}
+use Rattle.std.proofs.Common.{◌≡◌, ◌≢◌, ◌↔◌, ℕ, List, [], ◌∷◌, Some, Bool}
 use Rattle.std.proofs.Common.{true, false, ◌&&◌, not, Contains, map, refl, sym, subst, ◌∙◌}
 use Rattle.std.specs.Prelude.{slice_get, IsTrue, IsFalse}
 use Rattle.std.specs.Cmp.Lexicographic.{slice_cmp}
@@ -14,6 +14,7 @@ use Rattle.am_universe.specs.LabelSet.{LabelMap, value_of}
 use Rattle.am_universe.specs.Text.{same_text}
 use Rattle.am_universe.proofs.ListLemmas.{IsIn, IsIn-from_Contains, Contains-from_IsIn, IsIn-map}
 use Rattle.am_universe.proofs.ListLemmas.{IsIn-unmap, IsStrictlySortedBy-map}
+use Rattle.am_universe.proofs.Members.{at_in, in_at}
 use Rattle.am_labels.specs.Matcher.{all_hold}
 use Rattle.am_files.specs.ConfigFile.{Rule}
 use Rattle.am_eval.specs.declared.pair.Pair.{Pair}
@@ -22,29 +23,18 @@ use Rattle.am_eval.specs.Inhibition.{have_equal, is_two_sided, inhibits, is_inhi
 use Rattle.am_eval.specs.Inhibition.{pair_inhibits}
 use Rattle.am_labels.proofs.Passing.{passes_from_kept, kept_from_passes}
 use Rattle.am_eval.proofs.PairLemmas.{is_pair, Keys, pairs_ascend}
-use Rattle.am_eval.proofs.Inhibitors.{all_pairs, at_pair, inhibiting_pair, by_pair, from_pair}
+use Rattle.am_eval.proofs.Inhibitors.{all_pairs, at_pair, inhibiting_pair}
 use Rattle.am_eval.proofs.Inhibitors.{position, inhibitors_of_pairs}
+use Rattle.am_eval.proofs.ListTests.{all_exactly, one_of}
+use Rattle.am_eval.proofs.SimpleParts.{some_inhibits}
 
 -- ---- By a rule.
 
-equal_at_each : (names : List (List ℕ)) (a s : LabelMap) → IsTrue (have_equal names a s)
-    → AllByRecursion (λ name. value_of a name ≡ value_of s name) names
-equal_at_each [] a s h = tt
-equal_at_each (name ∷ names) a s h =
-    let here = same_text (value_of a name) (value_of s name) in
-    let parts = and_parts here (have_equal names a s) h in (
-      (bytes_eq-Decides (value_of a name) (value_of s name)).0 parts.0,
-      equal_at_each names a s parts.1,
-    )
-
-equal_of_each : (names : List (List ℕ)) (a s : LabelMap)
-    → AllByRecursion (λ name. value_of a name ≡ value_of s name) names
-    → IsTrue (have_equal names a s)
-equal_of_each [] a s h = refl
-equal_of_each (name ∷ names) a s h =
-    let same : same_text (value_of a name) (value_of s name) ≡ true =
-    (bytes_eq-Decides (value_of a name) (value_of s name)).1 h.0 in
-    rw (same, equal_of_each names a s h.1) refl
+equal_exactly : (names : List (List ℕ)) (a s : LabelMap) → IsTrue (have_equal names a s)
+    ↔ AllByRecursion (λ name. value_of a name ≡ value_of s name) names
+equal_exactly names a s =
+    all_exactly (λ name. same_text (value_of a name) (value_of s name)) _
+    (λ name. bytes_eq-Decides (value_of a name) (value_of s name)) names
 
 not_both : (both other : Bool) → (both ≡ true → other ≡ true → ⊥)
     → not (both && (other && true)) ≡ true
@@ -65,7 +55,7 @@ as_the_rule_says rule firing s =
           let parts = and_parts (source && target && same) (not spared) h in
           let first = and_parts (source && target) same parts.0 in
           let sides = and_parts source target first.0 in
-          let each = equal_at_each rule.equal firing s first.1 in (
+          let each = (equal_exactly rule.equal firing s).0 first.1 in (
             sides.0,
             sides.1,
             each,
@@ -74,7 +64,7 @@ as_the_rule_says rule firing s =
                 absurd (cc),
           ),
       λ h.
-          let equal = equal_of_each rule.equal firing s h.2 in
+          let equal = (equal_exactly rule.equal firing s).1 h.2 in
           rw (h.0, h.1, equal) (not_both (all_hold firing rule.target) (all_hold s rule.source) h.3),
     )
 
@@ -82,14 +72,6 @@ as_the_rule_says rule firing s =
 
 abbrev by_pairs : World → LabelMap → List Pair
 by_pairs w s = filter (pair_inhibits w s) (all_pairs w)
-
-none_in : {X : Type 0} (xs : List X) (x : X) → IsIn xs x → xs ≡ [] → ⊥
-none_in [] x h e = h
-none_in (y ∷ ys) x h e = cc
-
-one_of : {X : Type 0} (xs : List X) → xs ≢ [] → (x : X) × IsIn xs x
-one_of [] some = absurd (some refl)
-one_of (x ∷ xs) some = (x, inl refl)
 
 is_inhibitor : (w : World) (s : LabelMap) (pair : Pair) → IsIn (all_pairs w) pair
     → IsTrue (pair_inhibits w s pair) → IsIn (inhibitors w s) (position pair)
@@ -107,16 +89,6 @@ of_pair w s found h =
     (subst (λ (all : List (ℕ × ℕ)). IsIn all found) (inhibitors_of_pairs w s) h) in
     let kept = passes_from_kept (pair_inhibits w s) (all_pairs w) one.0 one.1 in
     (one.0, one.2, kept.0, kept.1)
-
-pub some : (w : World) (s : LabelMap) → IsTrue (is_inhibited w s) ↔ (inhibitors w s ≢ [])
-some w s = (
-  λ muted.
-      let p = by_pair w s muted in
-      none_in (inhibitors w s) (position p.0) (is_inhibitor w s p.0 p.1 p.2),
-  λ found.
-      let one = one_of (inhibitors w s) found in
-      let p = of_pair w s one.0 one.1 in from_pair w s (p.0, p.2, p.3),
-)
 
 abbrev IsInhibitor : World → LabelMap → ℕ → ℕ → Type 0
 IsInhibitor w s i j =
@@ -136,6 +108,25 @@ exactly w s i j = (
       Contains-from_IsIn (inhibitors w s) (i, j)
       (is_inhibitor w s (record { rule = i; alert = j; both = pair.0 }) pair.1 pair.2),
 )
+
+pub some : (w : World) (s : LabelMap) → IsTrue (is_inhibited w s) ↔ (inhibitors w s ≢ [])
+some w s =
+    let rules = w.config.rules in (
+      λ muted none.
+          let h = (some_inhibits w s).0 muted in
+          let i = at_in rules h.0 (IsIn-from_Contains rules h.0 h.2) in
+          let j = at_in w.alerts h.1 (IsIn-from_Contains w.alerts h.1 h.3) in
+          let there = (exactly w s i.0 j.0).1 (h.0, h.1, i.1, j.1, h.4) in
+          IsIn-from_Contains [] (i.0, j.0)
+          (subst (λ (found : List (ℕ × ℕ)). Contains found (i.0, j.0)) none there),
+      λ found.
+          let one = one_of (inhibitors w s) found in
+          let found_there = Contains-from_IsIn (inhibitors w s) one.0 one.1 in
+          let h = (exactly w s one.0.0 one.0.1).0 found_there in
+          let rule = Contains-from_IsIn rules h.0 (in_at rules one.0.0 h.0 h.2) in
+          let firing = Contains-from_IsIn w.alerts h.1 (in_at w.alerts one.0.1 h.1 h.3) in
+          (some_inhibits w s).1 (h.0, h.1, rule, firing, h.4),
+    )
 
 -- what inhibits is in the order of the positions
 abbrev listed : ℕ × ℕ → List ℕ

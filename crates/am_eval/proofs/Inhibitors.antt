@@ -3,8 +3,8 @@
 use Rattle.std.proofs.Common.{◌≡◌, inl, inr, ℕ, ◌+◌, ◌<◌, List, [], ◌∷◌, Some, Bool}
 use Rattle.std.proofs.Common.{true, false, length, get_or, cond, Contains, map, refl, sym, ap, ◌∙◌}
 use Rattle.std.specs.Prelude.{slice_get, IsTrue}
-use Rattle.std.specs.List.{filter, list_any, flat_map, enumerate_from}
-use Rattle.std.proofs.lemmas.Bool.{cases_Bool, false≢true}
+use Rattle.std.specs.List.{filter, flat_map, enumerate_from}
+use Rattle.std.proofs.lemmas.Bool.{true_from_ne_false, false≢true}
 use Rattle.std.proofs.lemmas.List.{map-append}
 use Rattle.std.proofs.lemmas.List.Elements.{filter-append}
 use Rattle.std.proofs.lemmas.Option.{get_or_from_slice_get, same_Some, slice_get_within}
@@ -16,10 +16,9 @@ use Rattle.am_eval.specs.declared.pair.Pair.{Pair}
 use Rattle.am_eval.specs.World.{World}
 use Rattle.am_eval.specs.Silencing.{positions_where}
 use Rattle.am_eval.specs.Pairs.{pair_of, pairs_of_rule, pairs_of}
-use Rattle.am_eval.specs.Inhibition.{inhibits, is_inhibited, inhibitors}
+use Rattle.am_eval.specs.Inhibition.{inhibits, inhibitors}
 use Rattle.am_eval.specs.Inhibition.{pair_inhibits}
-use Rattle.am_labels.proofs.Passing.{any_in, in_any}
-use Rattle.am_universe.proofs.Members.{at_in, in_at, item_at}
+use Rattle.am_universe.proofs.Members.{item_at}
 use Rattle.am_eval.proofs.PairLemmas.{is_pair, pair_is}
 
 -- ---- By pairs.
@@ -39,10 +38,8 @@ unmatched rule a s e = rw e refl
 
 matched : (rule : Rule) (a s : LabelMap) → IsTrue (inhibits rule a s)
     → IsTrue (all_hold a rule.source)
-matched rule a s h = elim (cases_Bool (all_hold a rule.source)) [
-  | inl matches ↦ matches
-  | inr fails ↦ absurd (false≢true (sym (unmatched rule a s fails) ∙ h))
-]
+matched rule a s h =
+    true_from_ne_false (all_hold a rule.source) (λ e. false≢true (sym (unmatched rule a s e) ∙ h))
 
 -- a rule and an alert that inhibits by it are a pair
 pub inhibiting_pair : (w : World) (s : LabelMap) (i j : ℕ) (rule : Rule) (firing : LabelMap)
@@ -58,26 +55,6 @@ inhibiting_pair w s i j rule firing at_rule at_alert h =
           (rule, firing, at_rule, at_alert, matched rule firing s h, refl),
       at_pair w s rule firing pair at_rule at_alert ∙ h,
     )
-
-abbrev pub IsByPair : World → LabelMap → Type 0
-IsByPair w s = (pair : Pair) × IsIn (all_pairs w) pair × IsTrue (pair_inhibits w s pair)
-
-pub by_pair : (w : World) (s : LabelMap) → IsTrue (is_inhibited w s) → IsByPair w s
-by_pair w s h =
-    let one = any_in (λ rule. list_any (λ a. inhibits rule a s) w.alerts) w.config.rules h in
-    let firing = any_in (λ a. inhibits one.0 a s) w.alerts one.2 in
-    let i = at_in w.config.rules one.0 one.1 in
-    let j = at_in w.alerts firing.0 firing.1 in
-    let pair = inhibiting_pair w s i.0 j.0 one.0 firing.0 i.1 j.1 firing.2 in
-    (record { rule = i.0; alert = j.0; both = pair.0 }, pair.1, pair.2)
-
-pub from_pair : (w : World) (s : LabelMap) → IsByPair w s → IsTrue (is_inhibited w s)
-from_pair w s h =
-    let p = is_pair w.config.rules w.alerts h.0 h.1 in
-    let muted : inhibits p.0 p.1 s ≡ true = sym (at_pair w s p.0 p.1 h.0 p.2 p.3) ∙ h.2 in
-    let firing = in_any (λ a. inhibits p.0 a s) w.alerts p.1 (in_at w.alerts h.0.alert p.1 p.3) muted in
-    in_any (λ rule. list_any (λ a. inhibits rule a s) w.alerts) w.config.rules p.0
-    (in_at w.config.rules h.0.rule p.0 p.2) firing
 
 -- ---- A pair's rule and alert, as they are read.
 

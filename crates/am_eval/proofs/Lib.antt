@@ -1,3 +1,4 @@
+pub mod ListTests
 pub mod AnswerLaws
 pub mod SilenceLaws
 pub mod SilenceSteps

@@ -70,10 +70,10 @@ exactly rules alerts pair =
 
 -- ---- Their order.
 
-abbrev Numbers : {X : Type 0} → ℕ × X → ℕ × X → Ordering
+abbrev pub Numbers : {X : Type 0} → ℕ × X → ℕ × X → Ordering
 Numbers p q = nat_cmp p.0 q.0
 
-numbers_ascend : {X : Type 0} (from : ℕ) (xs : List X)
+pub numbers_ascend : {X : Type 0} (from : ℕ) (xs : List X)
     → IsStrictlySortedBy Numbers (enumerate_from from xs)
 unfolding IsStrictlySortedBy
 numbers_ascend from [] = tt

@@ -1,7 +1,9 @@
 -- When the promise of a call is kept.
-use Rattle.std.proofs.Common.{◌≡◌, ◌≢◌, ℕ, List, [], ◌∷◌, Bool, true, false, not, ◌&&◌, Result, Ok, Err, IfOk, IfErr, inl, inr, refl, sym, subst, ◌∙◌}
+use Rattle.std.proofs.Common.{◌≡◌, ◌≢◌, ℕ, List, [], ◌∷◌, Bool, true, false, ◌&&◌, Result, Ok, Err}
+use Rattle.std.proofs.Common.{IfOk, inl, inr, refl, sym, subst, ◌∙◌}
 use Rattle.std.specs.Prelude.{⊤}
 use Rattle.std.specs.Result.{IsErrAnd}
+use Rattle.std.proofs.lemmas.Bool.{and_parts}
 use Rattle.am_universe.specs.declared.fault.Fault.{Fault}
 use Rattle.am_universe.specs.declared.kind.Kind.{Kind}
 use Rattle.am_universe.specs.declared.kind.Kind.TheVariants as kinds
@@ -25,18 +27,14 @@ abbrev pub read_inputs : List Stage → Bool
 read_inputs [] = true
 read_inputs (stage ∷ later) = is_input stage.place && read_inputs later
 
-both_true : (a b : Bool) → (a && b) ≡ true → (a ≡ true) × (b ≡ true)
-both_true true b e = (refl, e)
-both_true false b e = cc
-
 stands_at_input : (stages : List Stage) (place : Place) (r : Refusal) → read_inputs stages ≡ true
     → IsFirstFaultOfCall stages place r → is_input place ≡ true
 stands_at_input [] place r inputs none = absurd none
 stands_at_input (stage ∷ later) place r inputs (inl here) =
     subst (λ (p : Place). is_input p ≡ true) (sym here.0)
-    (both_true (is_input stage.place) (read_inputs later) inputs).0
+    (and_parts (is_input stage.place) (read_inputs later) inputs).0
 stands_at_input (stage ∷ later) place r inputs (inr behind) =
-    stands_at_input later place r (both_true (is_input stage.place) (read_inputs later) inputs).1
+    stands_at_input later place r (and_parts (is_input stage.place) (read_inputs later) inputs).1
     behind.1
 
 pub never_of_writing : (stages : List Stage) → read_inputs stages ≡ true → (fault : Fault)

@@ -1,28 +1,30 @@
 -- An alert ends at a route, enters it, or goes to a receiver, exactly where the ways there say so.
-use Rattle.std.proofs.Common.{◌≡◌, ◌≢◌, ◌↔◌, ℕ, List, [], ◌∷◌, ◌++◌, map, take, Bool, true, false}
+use Rattle.std.proofs.Common.{◌≡◌, ◌↔◌, ℕ, List, [], ◌∷◌, ◌++◌, map, take, Bool, true, false}
 use Rattle.std.proofs.Common.{◌&&◌, ◌||◌, not, cond, Option, Some, None, Contains, refl, sym, ap}
 use Rattle.std.proofs.Common.{◌∙◌}
-use Rattle.std.specs.Prelude.{slice_get, IsTrue, IsFalse}
-use Rattle.std.specs.List.{AllByRecursion, filter, list_all}
+use Rattle.std.specs.Prelude.{slice_get, IsTrue, IsFalse, ◌==◌}
+use Rattle.std.specs.List.{AllByRecursion, filter, list_all, list_any}
 use Rattle.std.proofs.lemmas.Bool.{and_parts, and_from, eqb-true, eq-eqb, not-true}
 use Rattle.std.proofs.lemmas.List.Folds.{list_all-map}
 use Rattle.am_universe.specs.LabelSet.{LabelMap}
+use Rattle.am_universe.specs.Text.{same_text}
 use Rattle.am_universe.proofs.ListLemmas.{Contains-from_IsIn}
 use Rattle.am_labels.specs.Matcher.{all_hold}
-use Rattle.am_files.specs.ConfigFile.{RouteTree, route, matchers_of, continues_of, children_of}
-use Rattle.am_files.specs.ConfigFile.{receiver_of}
+use Rattle.am_files.specs.ConfigFile.{RouteTree, matchers_of, continues_of, children_of}
+use Rattle.am_files.specs.ConfigFile.{Configuration, receiver_of}
 use Rattle.am_files.specs.Path.{list_of, route_at}
+use Rattle.am_files.specs.RoutePaths.{paths_of}
 use Rattle.am_eval.specs.World.{World}
-use Rattle.am_eval.specs.Routing.{ends_at, ends, children_seen, ends_tried, is_last, EndsThere}
+use Rattle.am_eval.specs.Routing.{ends_at, ends, receivers, is_last, EndsThere}
 use Rattle.am_eval.specs.Question.{Ends, Enters, Receiver, holds_of}
-use Rattle.am_files.specs.RoutePaths.{paths_at}
 use Rattle.am_eval.specs.Conditions.{Literal, literal_holds, some_way_holds, matching, not_matching}
 use Rattle.am_eval.specs.Conditions.{stopped_by_none, no_child_of, ways_into, ways_below, ways_to_end}
 use Rattle.am_eval.specs.Conditions.{ways_to_enter, is_receiver, paths_to, ways_to_receiver}
 use Rattle.am_labels.proofs.Passing.{any_in, in_any, passes_from_kept, kept_from_passes}
-use Rattle.am_eval.proofs.EndLaws.{some_matched, first_of, exactly}
-use Rattle.am_eval.proofs.FlatEnds.{ends_exactly}
-use Rattle.am_eval.proofs.SimpleParts.{goes_there, ends_there}
+use Rattle.am_eval.proofs.EndLaws.{exactly}
+use Rattle.am_eval.proofs.FlatEnds.{ends_exactly, matched_ends}
+use Rattle.am_eval.proofs.ListTests.{all_exactly, one_of}
+use Rattle.am_eval.proofs.SimpleParts.{goes_there, ends_there, end_from_test, test_from_end}
 use Rattle.am_eval.proofs.RoutePathLaws.{is_path}
 use Rattle.am_eval.proofs.SomeWay.{some_way-literal, some_way-front, some_way-joined}
 
@@ -33,21 +35,17 @@ same_test true false h g = sym (g.1 (h.0 refl))
 same_test false true h g = h.1 (g.0 refl)
 same_test false false h g = refl
 
-through : {P Q R : Type 0} → (P ↔ Q) → (Q ↔ R) → P ↔ R
+pub through : {P Q R : Type 0} → (P ↔ Q) → (Q ↔ R) → P ↔ R
 through first then = (λ h. then.0 (first.0 h), λ h. first.1 (then.1 h))
 
 -- ---- Siblings and children that are not matched.
 
-none_passes : {X : Type 0} (test : X → Bool) (xs : List X)
-    → AllByRecursion (λ x. IsFalse (test x)) xs ↔ IsTrue (list_all (λ x. not (test x)) xs)
-none_passes test [] = (λ h. refl, λ h. tt)
-none_passes test (x ∷ xs) = (
-  λ h. and_from (not (test x)) (list_all (λ y. not (test y)) xs) (ap not h.0)
-      ((none_passes test xs).0 h.1),
-  λ h.
-      let parts = and_parts (not (test x)) (list_all (λ y. not (test y)) xs) h in
-      (not-true (test x) parts.0, (none_passes test xs).1 parts.1),
-)
+none_passes : {X : Type 0} (test : X → Bool) (xs : List X) (says : Bool)
+    → says ≡ list_all (λ x. not (test x)) xs
+    → AllByRecursion (λ x. IsFalse (test x)) xs ↔ IsTrue says
+none_passes test xs says same =
+    let none = all_exactly (λ x. not (test x)) _ (λ x. (not-true (test x), λ e. ap not e)) xs in
+    (λ h. same ∙ none.1 h, λ h. none.0 (sym same ∙ h))
 
 -- one that continues is not asked for, and does not stop an alert
 one_kept : {X : Type 0} (holds : Literal → Bool) (f : X → Literal) (matches continues : Bool)
@@ -70,19 +68,15 @@ passing_holds s (t ∷ ts) =
 passed : (s : LabelMap) (ts : List RouteTree)
     → AllByRecursion (λ t. IsFalse (is_last s t)) ts
     ↔ IsTrue (list_all (literal_holds s) (stopped_by_none ts))
-passed s ts =
-    let none = none_passes (is_last s) ts in
-    let same = passing_holds s ts in
-    (λ h. same ∙ none.0 h, λ h. none.1 (sym same ∙ h))
+passed s ts = none_passes (is_last s) ts _ (passing_holds s ts)
 
 no_child : (s : LabelMap) (t : RouteTree)
     → AllByRecursion (λ child. IsFalse (all_hold s (matchers_of child))) (list_of (children_of t))
     ↔ IsTrue (list_all (literal_holds s) (no_child_of t))
 no_child s t =
     let children = list_of (children_of t) in
-    let none = none_passes (λ child. all_hold s (matchers_of child)) children in
-    let same = list_all-map (literal_holds s) (λ u. not_matching (matchers_of u)) children in
-    (λ h. same ∙ none.0 h, λ h. none.1 (sym same ∙ h))
+    none_passes (λ child. all_hold s (matchers_of child)) children _
+    (list_all-map (literal_holds s) (λ u. not_matching (matchers_of u)) children)
 
 -- ---- Down by a path.
 
@@ -172,15 +166,10 @@ end_condition w s path =
 
 -- ---- Into a route.
 
-matched_ends : (s : LabelMap) (t : RouteTree) → IsTrue (all_hold s (matchers_of t))
-    → ends_at s t ≢ []
-matched_ends s (route settings children) h =
-    some_matched (all_hold s settings.matchers) (ends_tried (children_seen s 0 children)) h
-
 end_of_matched : (s : LabelMap) (t : RouteTree) → IsTrue (all_hold s (matchers_of t))
     → (path : List ℕ) × EndsThere s t path
 end_of_matched s t h =
-    let one = first_of (ends_at s t) (matched_ends s t h) in
+    let one = one_of (ends_at s t) (matched_ends s t h) in
     (one.0, (ends_exactly s t one.0).0 (Contains-from_IsIn (ends_at s t) one.0 one.1))
 
 matched_at_end : (s : LabelMap) (t : RouteTree) (path : List ℕ) → EndsThere s t path
@@ -230,43 +219,30 @@ receiver_there : (receiver : ℕ) (o : Option RouteTree) → IsTrue (is_receiver
 receiver_there receiver None h = absurd (cc)
 receiver_there receiver (Some t) h = (t, refl, eqb-true (receiver_of t) receiver h)
 
-there_receiver : (receiver : ℕ) (o : Option RouteTree) (t : RouteTree) → o ≡ Some t
-    → receiver_of t ≡ receiver → IsTrue (is_receiver receiver o)
-there_receiver receiver o t e is =
-    ap (is_receiver receiver) e ∙ eq-eqb (receiver_of t) receiver is
-
-abbrev GoesThere : World → LabelMap → ℕ → Type 0
-GoesThere w s receiver =
-    (path : List ℕ) × (t : RouteTree) × Contains (ends s w.config) path
-    × (route_at w.config.root path ≡ Some t) × (receiver_of t ≡ receiver)
-
-receives_by : (w : World) (s : LabelMap) (receiver : ℕ)
-    → IsTrue (some_way_holds (literal_holds s) (ways_to_receiver w.config receiver))
-    ↔ GoesThere w s receiver
-receives_by w s receiver =
-    let root = w.config.root in
-    let holds = literal_holds s in
-    let has = λ (path : List ℕ). is_receiver receiver (route_at root path) in
-    let ends_so = λ (path : List ℕ). some_way_holds holds (ways_to_end w.config path) in
-    let all = some_way-joined holds (ways_to_end w.config) (paths_to receiver root) in (
+-- an alert goes to a receiver where it ends at one of the routes that have it
+pub goes_by_ends : (s : LabelMap) (c : Configuration) (receiver : ℕ)
+    → list_any (λ other. other == receiver) (receivers s c)
+    ≡ list_any (λ path. list_any (λ end. same_text end path) (ends s c)) (paths_to receiver c.root)
+goes_by_ends s c receiver =
+    let has = λ (path : List ℕ). is_receiver receiver (route_at c.root path) in
+    let is_end = λ (path : List ℕ). list_any (λ end. same_text end path) (ends s c) in
+    same_test _ _ (goes_there s c receiver) (
       λ h.
-          let one = any_in ends_so (paths_to receiver root) (sym all ∙ h) in
-          let kept = passes_from_kept has (paths_at root) one.0 one.1 in
-          let t = receiver_there receiver (route_at root one.0) kept.1 in
-          let end = (ends_exactly s root one.0).1 ((ends_by s root one.0).1 one.2) in
-          (one.0, t.0, end, t.1, t.2),
+          let one = any_in is_end (paths_to receiver c.root) h in
+          let kept = passes_from_kept has (paths_of c) one.0 one.1 in
+          let t = receiver_there receiver (route_at c.root one.0) kept.1 in
+          (one.0, t.0, end_from_test one.0 (ends s c) one.2, t.1, t.2),
       λ h.
-          let there = is_path root h.1 h.0 h.3 in
-          let passes = there_receiver receiver (route_at root h.0) h.1 h.3 h.4 in
-          let end = (ends_by s root h.0).0 ((ends_exactly s root h.0).0 h.2) in
-          all ∙ in_any ends_so (paths_to receiver root) h.0
-          (kept_from_passes has (paths_at root) h.0 there passes) end,
+          let passes = ap (is_receiver receiver) h.3 ∙ eq-eqb (receiver_of h.1) receiver h.4 in
+          in_any is_end (paths_to receiver c.root) h.0
+          (kept_from_passes has (paths_of c) h.0 (is_path c.root h.1 h.0 h.3) passes)
+          (test_from_end h.0 (ends s c) h.2),
     )
 
 pub receiver_condition : (w : World) (s : LabelMap) (receiver : ℕ)
     → holds_of w (Receiver receiver) s
     ≡ some_way_holds (literal_holds s) (ways_to_receiver w.config receiver)
 receiver_condition w s receiver =
-    same_test (holds_of w (Receiver receiver) s)
-    (some_way_holds (literal_holds s) (ways_to_receiver w.config receiver))
-    (goes_there w s receiver) (receives_by w s receiver)
+    let paths = paths_to receiver w.config.root in
+    goes_by_ends s w.config receiver ∙ (λ i. list_any (λ path. end_condition w s path i) paths)
+    ∙ sym (some_way-joined (literal_holds s) (ways_to_end w.config) paths)

@@ -3,6 +3,7 @@
 use Rattle.std.proofs.Common.{◌≡◌, ◌≢◌, ◌≤◌, ℕ, List, [], ◌∷◌, ◌++◌, length, Bool, true, false}
 use Rattle.std.proofs.Common.{refl, sym, ap, subst, ◌∙◌, inl, inr, arith}
 use Rattle.std.specs.Prelude.{IsTrue, not, ◌&&◌, ◌||◌, if◌then◌else◌}
+use Rattle.std.specs.List.{list_all}
 use Rattle.std.proofs.lemmas.Bool.{and_parts, false≢true}
 use Rattle.am_universe.specs.declared.kind.Kind.{Kind}
 use Rattle.am_universe.specs.declared.kind.Kind.TheVariants as kinds
@@ -44,18 +45,18 @@ valid_value m kind valid refused =
     (in_profile m.value) (is_pattern m.value) refused.pattern valid in
     refused.kind_is ∙ ap (λ b. if b then kinds.Pattern else kinds.PatternProfile) inside
 
-valid_at : (before : List Condition) (m : Condition) (after : List Condition)
-    → have_valid_patterns (before ++ m ∷ after) ≡ true → has_valid_pattern m ≡ true
-valid_at [] m after valid = (and_parts (has_valid_pattern m) (have_valid_patterns after) valid).0
-valid_at (x ∷ before) m after valid =
-    valid_at before m after
-    (and_parts (has_valid_pattern x) (have_valid_patterns (before ++ m ∷ after)) valid).1
+-- where all pass a test, one of them does
+passes_at : {X : Type 0} (test : X → Bool) (before : List X) (x : X) (after : List X)
+    → list_all test (before ++ x ∷ after) ≡ true → test x ≡ true
+passes_at test [] x after all = (and_parts (test x) (list_all test after) all).0
+passes_at test (y ∷ before) x after all =
+    passes_at test before x after (and_parts (test y) (list_all test (before ++ x ∷ after)) all).1
 
 valid_list : (ms : List Condition) (kind : Kind) → have_valid_patterns ms ≡ true
     → PatternsRefusedFor ms kind → kind ≡ kinds.Pattern
 valid_list ms kind valid refused =
     valid_value refused.refused kind
-    (valid_at refused.before refused.refused refused.after
+    (passes_at has_valid_pattern refused.before refused.refused refused.after
     (subst (λ (l : List Condition). have_valid_patterns l ≡ true) refused.parts valid))
     refused.value
 
@@ -110,18 +111,11 @@ equality_is_valid NotEqual e = absurd (cc)
 equality_is_valid Matches e = absurd (cc)
 equality_is_valid NotMatches e = absurd (cc)
 
-equality_at : (before : List Condition) (m : Condition) (after : List Condition)
-    → are_equalities (before ++ m ∷ after) ≡ true → is_equality m.op ≡ true
-equality_at [] m after e = (and_parts (is_equality m.op) (are_equalities after) e).0
-equality_at (x ∷ before) m after e =
-    equality_at before m after
-    (and_parts (is_equality x.op) (are_equalities (before ++ m ∷ after)) e).1
-
 no_patterns : (ms : List Condition) (kind : Kind) → are_equalities ms ≡ true
     → PatternsRefusedFor ms kind → ⊥
 no_patterns ms kind e refused =
     let none = equality_is_valid refused.refused.op
-    (equality_at refused.before refused.refused refused.after
+    (passes_at (λ m. is_equality m.op) refused.before refused.refused refused.after
     (subst (λ (l : List Condition). are_equalities l ≡ true) refused.parts e)) in
     false≢true (sym none ∙ refused.value.pattern)
 

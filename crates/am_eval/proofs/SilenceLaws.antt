@@ -1,21 +1,25 @@
 -- What holds of silences: which of them hide an alert, and at which instants.
-use Rattle.std.proofs.Common.{◌≡◌, ◌≢◌, ◌↔◌, ◌⊎◌, inl, inr, ℕ, zero, suc, ◌+◌, ◌<◌, ℤ, ◌≤ℤ◌, List, []}
-use Rattle.std.proofs.Common.{◌∷◌, Option, Some, None, Bool, true, false, ◌&&◌, ◌||◌, not, refl, sym}
-use Rattle.std.proofs.Common.{ap, subst, ◌∙◌, ◌==◌, ◌<ℤ◌, arith, Contains}
+use Rattle.std.proofs.Common.{◌≡◌, ◌≢◌, ◌↔◌, ℕ, ◌+◌, ℤ, ◌≤ℤ◌, List, [], ◌∷◌, map, Option, Some}
+use Rattle.std.proofs.Common.{None, Bool, true, false, ◌&&◌, ◌||◌, not, refl, sym, ap, subst, ◌∙◌}
+use Rattle.std.proofs.Common.{◌==◌, ◌<ℤ◌, arith, Contains, inl, inr}
 use Rattle.std.specs.Prelude.{slice_get, int_lt, int_le, IsTrue, IsFalse}
-use Rattle.std.specs.Cmp.{nat_cmp_is}
-use Rattle.std.specs.List.{AllByRecursion, filter, list_any}
+use Rattle.std.specs.List.{AllByRecursion, filter, list_any, enumerate_from}
 use Rattle.std.specs.List.Sorted.{IsStrictlySortedBy}
 use Rattle.std.specs.Ordering.{nat_cmp}
-use Rattle.std.specs.declared.cmp.Ordering.TheVariants.{Less}
-use Rattle.std.proofs.lemmas.Bool.{cases_Bool, and_parts}
+use Rattle.std.proofs.lemmas.Bool.{cases_Bool, and_parts, and_from}
 use Rattle.std.proofs.lemmas.Int.{ints}
+use Rattle.std.proofs.lemmas.List.Kept.{IsStrictlySortedBy-filter}
 use Rattle.am_universe.specs.LabelSet.{LabelMap, label_set_of}
-use Rattle.am_universe.proofs.ListLemmas.{IsIn, IsIn-from_Contains, Contains-from_IsIn}
+use Rattle.am_universe.proofs.ListLemmas.{IsIn, IsIn-from_Contains, Contains-from_IsIn, IsIn-map}
+use Rattle.am_universe.proofs.ListLemmas.{IsIn-unmap, IsStrictlySortedBy-map}
+use Rattle.am_universe.proofs.Members.{at_in, in_at, item_at, numbered_at}
 use Rattle.am_universe.specs.Text.{same_text}
-use Rattle.am_labels.specs.Matcher.{Condition, condition_holds, all_hold}
+use Rattle.am_labels.specs.Matcher.{condition_holds, all_hold}
+use Rattle.am_labels.specs.Space.{Space, all_choices}
+use Rattle.am_labels.proofs.Passing.{any_in, in_any, passes_from_kept, kept_from_passes}
 use Rattle.am_files.specs.Path.{leads_through}
 use Rattle.am_records.specs.SilencesFile.{Silence}
+use Rattle.am_eval.specs.Conditions.{literal_holds, some_way_holds, matching}
 use Rattle.am_eval.specs.Routing.{ends, receivers}
 use Rattle.am_eval.specs.World.{World}
 use Rattle.am_eval.specs.Silencing.{is_active, hides, is_silenced, positions_where, silencers}
@@ -24,115 +28,69 @@ use Rattle.am_eval.specs.Tree.{Part, Not, And, Or}
 use Rattle.am_eval.specs.Inhibition.{inhibits}
 use Rattle.am_eval.specs.Question.{Question, Simple, Any, Silenced, Inhibited, Receiver, Ends}
 use Rattle.am_eval.specs.Question.{Enters, Braces, holds_of, satisfies, answers}
-use Rattle.am_labels.specs.Space.{Space, all_choices}
-use Rattle.am_labels.proofs.Passing.{any_in, in_any, kept_behind}
-
--- ---- Positions.
-
--- an item at a position passes
-abbrev Passes : {X : Type 0} → (X → Bool) → List X → ℕ → Type 0
-Passes test xs k = (x : _) × (slice_get xs k ≡ Some x) × IsTrue (test x)
-
--- where one passes there is a position
-some_position : {X : Type 0} (test : X → Bool) (from : ℕ) (xs : List X)
-    → IsTrue (list_any test xs) → positions_where test from xs ≢ []
-some_position test from [] e none = absurd (cc)
-some_position test from (x ∷ xs) e none = elim (cases_Bool (test x)) [
-  | inl passes ↦
-      let first : from ∷ positions_where test (from + 1) xs ≡ [] = rw passes at none in absurd (cc)
-  | inr fails ↦ some_position test (from + 1) xs (rw fails at e) (rw fails at none)
-]
-
--- and where there is a position one passes
-some_passes : {X : Type 0} (test : X → Bool) (from : ℕ) (xs : List X)
-    → positions_where test from xs ≢ [] → IsTrue (list_any test xs)
-some_passes test from [] some = absurd (some refl)
-some_passes test from (x ∷ xs) some = elim (cases_Bool (test x)) [
-  | inl passes ↦ rw passes refl
-  | inr fails ↦ rw fails (some_passes test (from + 1) xs (rw fails at some))
-]
-
-abbrev IsPosition : {X : Type 0} → (X → Bool) → ℕ → List X → ℕ → Type 0
-IsPosition test from xs i = (k : ℕ) × (i ≡ from + k) × Passes test xs k
-
-behind_first : {X : Type 0} (test : X → Bool) (from : ℕ) (x : X) (xs : List X) (i : ℕ)
-    → IsPosition test (from + 1) xs i → IsPosition test from (x ∷ xs) i
-behind_first test from x xs i h =
-    let at : (from + 1) + h.0 ≡ from + suc h.0 = omega arith in (suc h.0, h.1 ∙ at, h.2)
-
--- each position is that of one that passes
-is_position : {X : Type 0} (test : X → Bool) (from : ℕ) (xs : List X) (i : ℕ)
-    → IsIn (positions_where test from xs) i → IsPosition test from xs i
-is_position test from [] i h = absurd h
-is_position test from (x ∷ xs) i h = elim (cases_Bool (test x)) [
-  | inl passes ↦
-      let either : (from ≡ i) ⊎ IsIn (positions_where test (from + 1) xs) i = rw passes at h in
-      elim either [
-        | inl same ↦
-            let at : from ≡ from + 0 = omega arith in (0, sym same ∙ at, (x, refl, passes))
-        | inr later ↦
-            behind_first test from x xs i (is_position test (from + 1) xs i later)
-      ]
-  | inr fails ↦ behind_first test from x xs i (is_position test (from + 1) xs i (rw fails at h))
-]
-
--- and one that passes has a position
-has_position : {X : Type 0} (test : X → Bool) (from k : ℕ) (xs : List X) → Passes test xs k
-    → IsIn (positions_where test from xs) (from + k)
-has_position test from k [] h = absurd (cc)
-has_position test from zero (y ∷ xs) h =
-    let same : y ≡ h.0 = cc in
-    let passes : test y ≡ true = ap test same ∙ h.2 in
-    rw passes (inl (omega arith))
-has_position test from (suc k) (y ∷ xs) h =
-    let at : (from + 1) + k ≡ from + suc k = omega arith in
-    let later = positions_where test (from + 1) xs in
-    kept_behind (test y) from (from + suc k) later
-    (subst (λ i. IsIn later i) at (has_position test (from + 1) k xs h))
-
-all_above : {X : Type 0} (test : X → Bool) (low from : ℕ) (xs : List X) → low < from
-    → AllByRecursion (λ i. nat_cmp low i ≡ Less) (positions_where test from xs)
-all_above test low from [] less = tt
-all_above test low from (x ∷ xs) less =
-    let later = all_above test low (from + 1) xs (omega (arith, less)) in
-    elim (cases_Bool (test x)) [
-      | inl passes ↦ rw passes (sym (nat_cmp_is low from Less less), later)
-      | inr fails ↦ rw fails later
-    ]
-
-positions_ascend : {X : Type 0} (test : X → Bool) (from : ℕ) (xs : List X)
-    → IsStrictlySortedBy nat_cmp (positions_where test from xs)
-unfolding IsStrictlySortedBy
-positions_ascend test from [] = tt
-positions_ascend test from (x ∷ xs) =
-    let later = positions_ascend test (from + 1) xs in
-    elim (cases_Bool (test x)) [
-      | inl passes ↦ rw passes (all_above test from (from + 1) xs (omega arith), later)
-      | inr fails ↦ rw fails later
-    ]
+use Rattle.am_eval.proofs.HidingConditions.{silenced_condition}
+use Rattle.am_eval.proofs.ListTests.{some_passes, passes_among, one_of}
+use Rattle.am_eval.proofs.PairLemmas.{Numbers, numbers_ascend}
+use Rattle.am_eval.proofs.SimpleParts.{braces_hold}
 
 -- ---- Silencers.
 
-pub some : (w : World) (s : LabelMap) → IsTrue (is_silenced w s) ↔ (silencers w s ≢ [])
-some w s = (some_position (hides w s) 0 w.silences, some_passes (hides w s) 0 w.silences)
+-- the positions of what passes are the numbers of those that do
+positions_are : {X : Type 0} (test : X → Bool) (from : ℕ) (xs : List X)
+    → positions_where test from xs
+    ≡ map (λ p. p.0) (filter (λ p. test p.1) (enumerate_from from xs))
+positions_are test from [] = refl
+positions_are test from (x ∷ xs) = elim (cases_Bool (test x)) [
+  | inl passes ↦ rw (passes, positions_are test (from + 1) xs) refl
+  | inr fails ↦ rw (fails, positions_are test (from + 1) xs) refl
+]
 
-pub exactly : (w : World) (s : LabelMap) (i : ℕ) → (Contains (silencers w s) i
-    ↔ ((silence : Silence) × (slice_get w.silences i ≡ Some silence)
-    × IsTrue (hides w s silence)))
-exactly w s i =
-    let test = hides w s in (
-      λ h.
-          let p = is_position test 0 w.silences i (IsIn-from_Contains (silencers w s) i h) in
-          let at : p.0 ≡ i = omega (arith, p.1) in
-          subst (λ k. Passes test w.silences k) at p.2,
-      λ h.
-          let at : 0 + i ≡ i = omega arith in
-          Contains-from_IsIn (silencers w s) i
-          (subst (λ k. IsIn (silencers w s) k) at (has_position test 0 i w.silences h)),
-    )
+module _ (w : World) (s : LabelMap) where
+  -- the silences that hide an alert, each with its number
+  abbrev hiding : List (ℕ × Silence)
+  hiding = filter (λ p. hides w s p.1) (enumerate_from 0 w.silences)
 
-pub ascending : (w : World) (s : LabelMap) → IsStrictlySortedBy nat_cmp (silencers w s)
-ascending w s = positions_ascend (hides w s) 0 w.silences
+  silencers_are : silencers w s ≡ map (λ p. p.0) hiding
+  silencers_are = positions_are (hides w s) 0 w.silences
+
+  pub exactly : (i : ℕ) → (Contains (silencers w s) i
+      ↔ ((silence : Silence) × (slice_get w.silences i ≡ Some silence)
+      × IsTrue (hides w s silence)))
+  exactly i =
+      let numbered = enumerate_from 0 w.silences in
+      let passes = λ (p : ℕ × Silence). hides w s p.1 in (
+        λ h.
+            let r = IsIn-unmap (λ (p : ℕ × Silence). p.0) hiding i
+            (subst (λ (found : List ℕ). IsIn found i) silencers_are
+            (IsIn-from_Contains (silencers w s) i h)) in
+            let kept = passes_from_kept passes numbered r.0 r.1 in
+            (r.0.1, ap (slice_get w.silences) (sym r.2) ∙ item_at w.silences r.0 kept.0, kept.1),
+        λ h.
+            let there = numbered_at 0 w.silences i h.0 h.1 i (omega arith) in
+            subst (λ (found : List ℕ). Contains found i) (sym silencers_are)
+            (Contains-from_IsIn (map (λ p. p.0) hiding) i
+            (IsIn-map (λ (p : ℕ × Silence). p.0) hiding (i, h.0)
+            (kept_from_passes passes numbered (i, h.0) there h.2))),
+      )
+
+  pub some : IsTrue (is_silenced w s) ↔ (silencers w s ≢ [])
+  some = (
+    λ silenced none.
+        let one = any_in (hides w s) w.silences silenced in
+        let at = at_in w.silences one.0 one.1 in
+        let there = (exactly at.0).1 (one.0, at.1, one.2) in
+        IsIn-from_Contains [] at.0 (subst (λ (found : List ℕ). Contains found at.0) none there),
+    λ found.
+        let one = one_of (silencers w s) found in
+        let h = (exactly one.0).0 (Contains-from_IsIn (silencers w s) one.0 one.1) in
+        in_any (hides w s) w.silences h.0 (in_at w.silences one.0 h.0 h.1) h.2,
+  )
+
+  pub ascending : IsStrictlySortedBy nat_cmp (silencers w s)
+  ascending = rw silencers_are
+      (IsStrictlySortedBy-map Numbers nat_cmp (λ p. p.0) hiding (λ p q. refl)
+      (IsStrictlySortedBy-filter Numbers (λ p. hides w s p.1) (enumerate_from 0 w.silences)
+      (numbers_ascend 0 w.silences)))
 
 -- ---- Instants.
 
@@ -168,16 +126,6 @@ steady_active from to silence later steady =
     grind (arith, ints, later, steady.1) in
     rw (begun, ended) refl
 
--- what hides an alert is among the active silences
-pub by_active : (w : World) (s : LabelMap) (silences : List Silence)
-    → list_any (hides w s) silences
-    ≡ list_any (λ silence. all_hold s silence.matchers) (filter (is_active w.instant) silences)
-by_active w s [] = refl
-by_active w s (silence ∷ silences) = elim (cases_Bool (is_active w.instant silence)) [
-  | inl active ↦ rw active (ap (λ b. all_hold s silence.matchers || b) (by_active w s silences))
-  | inr inactive ↦ rw inactive (by_active w s silences)
-]
-
 abbrev AreSame : World → World → Type 0
 AreSame w v =
     (w.config ≡ v.config) × (w.alerts ≡ v.alerts)
@@ -187,9 +135,10 @@ same_part : (w v : World) (s : LabelMap) (simple : Simple) → AreSame w v
     → holds_of w simple s ≡ holds_of v simple s
 same_part w v s Any same = refl
 same_part w v s Silenced same =
-    by_active w s w.silences
-    ∙ ap (λ active. list_any (λ silence. all_hold s silence.matchers) active) same.2
-    ∙ sym (by_active v s v.silences)
+    silenced_condition w s
+    ∙ ap (λ active. some_way_holds (literal_holds s)
+    (map (λ (silence : Silence). matching silence.matchers ∷ []) active)) same.2
+    ∙ sym (silenced_condition v s)
 same_part w v s Inhibited same =
     λ i. list_any (λ rule. list_any (λ a. inhibits rule a s) (same.1 i)) (same.0 i).rules
 same_part w v s (Receiver receiver) same =
@@ -236,18 +185,6 @@ steady s w from to question later each =
 
 -- ---- What it is to be silenced.
 
-pub each_holds : (s : LabelMap) (ms : List Condition) → IsTrue (all_hold s ms)
-    → AllByRecursion (λ m. IsTrue (condition_holds s m)) ms
-each_holds s [] h = tt
-each_holds s (m ∷ ms) h =
-    let parts = and_parts (condition_holds s m) (all_hold s ms) h in
-    (parts.0, each_holds s ms parts.1)
-
-pub all_of_each : (s : LabelMap) (ms : List Condition)
-    → AllByRecursion (λ m. IsTrue (condition_holds s m)) ms → IsTrue (all_hold s ms)
-all_of_each s [] h = refl
-all_of_each s (m ∷ ms) h = rw (h.0, all_of_each s ms h.1) refl
-
 -- an instant at which the silence is active
 abbrev IsActiveAt : Option ℤ → Silence → ℤ → Type 0
 IsActiveAt given silence instant =
@@ -274,17 +211,17 @@ pub while_one_matches : (w : World) (s : LabelMap) → (IsTrue (holds_of w Silen
     × Contains w.silences silence
     × (silence.starts ≤ℤ instant) × (instant <ℤ silence.ends)
     × AllByRecursion (λ m. IsTrue (condition_holds s m)) silence.matchers))
-while_one_matches w s = (
-  λ silenced.
-      let one = any_in (hides w s) w.silences silenced in
-      let parts = and_parts (is_active w.instant one.0) (all_hold s one.0.matchers) one.2 in
-      let active = active_at w.instant one.0 parts.0 in
-      let inside = Contains-from_IsIn w.silences one.0 one.1 in
-      let matches = each_holds s one.0.matchers parts.1 in
-      (active.0, one.0, active.1.0, inside, active.1.1, active.1.2, matches),
-  λ h.
-      let active = at_active w.instant h.1 h.0 (h.2, h.4, h.5) in
-      let matches = all_of_each s h.1.matchers h.6 in
-      let hidden : hides w s h.1 ≡ true = rw (active, matches) refl in
-      in_any (hides w s) w.silences h.1 (IsIn-from_Contains w.silences h.1 h.3) hidden,
-)
+while_one_matches w s =
+    let all_match = braces_hold w s in (
+      λ silenced.
+          let one = some_passes (hides w s) w.silences silenced in
+          let parts = and_parts (is_active w.instant one.0) (all_hold s one.0.matchers) one.2 in
+          let active = active_at w.instant one.0 parts.0 in
+          let matches = (all_match one.0.matchers).0 parts.1 in
+          (active.0, one.0, active.1.0, one.1, active.1.1, active.1.2, matches),
+      λ h.
+          let active = at_active w.instant h.1 h.0 (h.2, h.4, h.5) in
+          let matches = (all_match h.1.matchers).1 h.6 in
+          passes_among (hides w s) w.silences h.1 h.3
+          (and_from (is_active w.instant h.1) (all_hold s h.1.matchers) active matches),
+    )

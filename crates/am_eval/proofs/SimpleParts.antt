@@ -1,10 +1,12 @@
 -- What makes a question true: its parts, where it is joined, and what a simple part asks for.
 use Rattle.std.proofs.Common.{◌≡◌, ◌↔◌, ℕ, List, [], ◌∷◌, Bool, true, false, Contains}
-use Rattle.std.proofs.Common.{Option, Some, None, refl, ap, subst, ◌∙◌, ◌⊎◌, inl, inr}
+use Rattle.std.proofs.Common.{Option, Some, None, refl, sym, ap, subst, ◌∙◌, ◌⊎◌, inl, inr}
 use Rattle.std.specs.Prelude.{IsTrue, option_map, ◌==◌, not, ◌||◌}
 use Rattle.std.specs.List.{filter_map, cons_option, list_any, AllByRecursion}
 use Rattle.std.specs.Cmp.Lexicographic.{bytes_decides}
 use Rattle.std.proofs.lemmas.Bool.{eqb-true, eq-eqb, and_parts, and_from, false≢true}
+use Rattle.std.proofs.lemmas.Map.Views.{Contains-from_any}
+use Rattle.std.proofs.lemmas.Option.{same_Some}
 use Rattle.am_universe.specs.LabelSet.{LabelMap}
 use Rattle.am_universe.specs.Text.{same_text}
 use Rattle.am_universe.proofs.ListLemmas.{IsIn, IsIn-from_Contains, Contains-from_IsIn}
@@ -15,37 +17,29 @@ use Rattle.am_eval.specs.World.{World}
 use Rattle.am_eval.specs.Routing.{ends, receivers, receiver_at}
 use Rattle.am_eval.specs.Inhibition.{inhibits}
 use Rattle.am_eval.specs.Tree.{Not, And, Or}
-use Rattle.am_eval.specs.Question.{Question, Inhibited, Receiver, Ends, Braces, holds_of, satisfies}
-use Rattle.am_labels.proofs.Passing.{any_in, in_any}
-use Rattle.am_eval.proofs.SilenceLaws.{each_holds, all_of_each}
+use Rattle.am_eval.specs.Question.{Question, Inhibited, Ends, Braces, holds_of, satisfies}
+use Rattle.am_eval.proofs.ListTests.{all_exactly, some_passes, passes_among}
+
+-- ---- The tests are what they stand for.
 
 pub end_from_test : (path : List ℕ) (all : List (List ℕ))
     → IsTrue (list_any (λ end. same_text end path) all) → Contains all path
-end_from_test path all h =
-    let r = any_in (λ end. same_text end path) all h in
-    Contains-from_IsIn all path
-    (subst (λ (x : List ℕ). IsIn all x) ((bytes_decides r.0 path).0 r.2) r.1)
+end_from_test =
+    Contains-from_any {eq = λ x y. same_text y x} (λ x y e. sym ((bytes_decides y x).0 e))
 
 pub test_from_end : (path : List ℕ) (all : List (List ℕ)) → Contains all path
     → IsTrue (list_any (λ end. same_text end path) all)
 test_from_end path all h =
-    in_any (λ end. same_text end path) all path (IsIn-from_Contains all path h)
-    ((bytes_decides path path).1 refl)
-
--- ---- The test is what it stands for.
+    passes_among (λ end. same_text end path) all path h ((bytes_decides path path).1 refl)
 
 pub receipt_from_test : (receiver : ℕ) (all : List ℕ)
     → IsTrue (list_any (λ other. other == receiver) all) → Contains all receiver
-receipt_from_test receiver all h =
-    let r = any_in (λ other. other == receiver) all h in
-    Contains-from_IsIn all receiver
-    (subst (λ (n : ℕ). IsIn all n) (eqb-true r.0 receiver r.2) r.1)
+receipt_from_test = Contains-from_any {eq = λ x y. y == x} (λ x y e. sym (eqb-true y x e))
 
 pub test_from_receipt : (receiver : ℕ) (all : List ℕ) → Contains all receiver
     → IsTrue (list_any (λ other. other == receiver) all)
 test_from_receipt receiver all h =
-    in_any (λ other. other == receiver) all receiver (IsIn-from_Contains all receiver h)
-    (eq-eqb receiver receiver refl)
+    passes_among (λ other. other == receiver) all receiver h (eq-eqb receiver receiver refl)
 
 -- ---- The receivers of an alert are those of the routes at which it ends.
 
@@ -76,11 +70,11 @@ mapped_in f (z ∷ xs) x y (inl same) e =
 mapped_in f (z ∷ xs) x y (inr later) e =
     behind_item (f z) (filter_map f xs) y (mapped_in f xs x y later e)
 
-receiver_there : (c : Configuration) (path : List ℕ) (receiver : ℕ) (o : Option RouteTree)
-    → route_at c.root path ≡ o → option_map receiver_of o ≡ Some receiver
-    → (t : RouteTree) × (route_at c.root path ≡ Some t) × (receiver_of t ≡ receiver)
-receiver_there c path receiver None at e = absurd (cc)
-receiver_there c path receiver (Some t) at e = (t, at, cc)
+pub receiver_there : (receiver : ℕ) (o : Option RouteTree)
+    → option_map receiver_of o ≡ Some receiver
+    → (t : RouteTree) × (o ≡ Some t) × (receiver_of t ≡ receiver)
+receiver_there receiver None e = absurd (cc)
+receiver_there receiver (Some t) e = (t, refl, same_Some (receiver_of t) receiver e)
 
 pub end_of_receiver : (s : LabelMap) (c : Configuration) (receiver : ℕ)
     → Contains (receivers s c) receiver
@@ -89,7 +83,7 @@ pub end_of_receiver : (s : LabelMap) (c : Configuration) (receiver : ℕ)
 end_of_receiver s c receiver h =
     let r = mapped_from (receiver_at c) (ends s c) receiver
     (IsIn-from_Contains (receivers s c) receiver h) in
-    let t = receiver_there c r.0 receiver (route_at c.root r.0) refl r.2 in
+    let t = receiver_there receiver (route_at c.root r.0) r.2 in
     (r.0, t.0, Contains-from_IsIn (ends s c) r.0 r.1, t.1, t.2)
 
 pub receiver_of_end : (s : LabelMap) (c : Configuration) (path : List ℕ) (t : RouteTree)
@@ -128,16 +122,15 @@ either w s q r = or_true (satisfies w q s) (satisfies w r s)
 
 -- ---- Simple parts.
 
-pub goes_there : (w : World) (s : LabelMap) (receiver : ℕ)
-    → IsTrue (holds_of w (Receiver receiver) s)
-    ↔ ((path : List ℕ) × (t : RouteTree) × Contains (ends s w.config) path
-    × (route_at w.config.root path ≡ Some t) × (receiver_of t ≡ receiver))
-goes_there w s receiver = (
-  λ e. end_of_receiver s w.config receiver (receipt_from_test receiver (receivers s w.config) e),
+pub goes_there : (s : LabelMap) (c : Configuration) (receiver : ℕ)
+    → IsTrue (list_any (λ other. other == receiver) (receivers s c))
+    ↔ ((path : List ℕ) × (t : RouteTree) × Contains (ends s c) path
+    × (route_at c.root path ≡ Some t) × (receiver_of t ≡ receiver))
+goes_there s c receiver = (
+  λ e. end_of_receiver s c receiver (receipt_from_test receiver (receivers s c) e),
   λ h.
-      test_from_receipt receiver (receivers s w.config)
-      (subst (λ (n : ℕ). Contains (receivers s w.config) n) h.4
-      (receiver_of_end s w.config h.0 h.1 h.2 h.3)),
+      test_from_receipt receiver (receivers s c)
+      (subst (λ (n : ℕ). Contains (receivers s c) n) h.4 (receiver_of_end s c h.0 h.1 h.2 h.3)),
 )
 
 pub ends_there : (w : World) (s : LabelMap) (path : List ℕ)
@@ -149,22 +142,17 @@ pub some_inhibits : (w : World) (s : LabelMap)
     → IsTrue (holds_of w Inhibited s)
     ↔ ((rule : Rule) × (firing : LabelMap) × Contains w.config.rules rule
     × Contains w.alerts firing × IsTrue (inhibits rule firing s))
-some_inhibits w s = (
-  λ e.
-      let rule = any_in (λ r. list_any (λ a. inhibits r a s) w.alerts) w.config.rules e in
-      let firing = any_in (λ a. inhibits rule.0 a s) w.alerts rule.2 in (
-        rule.0,
-        firing.0,
-        Contains-from_IsIn w.config.rules rule.0 rule.1,
-        Contains-from_IsIn w.alerts firing.0 firing.1,
-        firing.2,
-      ),
-  λ h.
-      in_any (λ r. list_any (λ a. inhibits r a s) w.alerts) w.config.rules h.0
-      (IsIn-from_Contains w.config.rules h.0 h.2)
-      (in_any (λ a. inhibits h.0 a s) w.alerts h.1 (IsIn-from_Contains w.alerts h.1 h.3) h.4),
-)
+some_inhibits w s =
+    let by_rule = λ (rule : Rule). list_any (λ a. inhibits rule a s) w.alerts in (
+      λ e.
+          let rule = some_passes by_rule w.config.rules e in
+          let firing = some_passes (λ a. inhibits rule.0 a s) w.alerts rule.2 in
+          (rule.0, firing.0, rule.1, firing.1, firing.2),
+      λ h.
+          passes_among by_rule w.config.rules h.0 h.2
+          (passes_among (λ a. inhibits h.0 a s) w.alerts h.1 h.3 h.4),
+    )
 
 pub braces_hold : (w : World) (s : LabelMap) (ms : List Condition)
     → IsTrue (holds_of w (Braces ms) s) ↔ AllByRecursion (λ m. IsTrue (condition_holds s m)) ms
-braces_hold w s ms = (each_holds s ms, all_of_each s ms)
+braces_hold w s = all_exactly (condition_holds s) _ (λ m. (λ e. e, λ e. e))

@@ -1,7 +1,6 @@
 -- What the label sets of a universe say of every alert.
 use Rattle.std.proofs.Common.{◌≡◌, ◌↔◌, ℕ, List, Contains, sym, subst}
 use Rattle.std.specs.Prelude.{IsTrue}
-use Rattle.std.specs.List.{list_any}
 use Rattle.am_universe.specs.Universe.{IsUniverse}
 use Rattle.am_universe.specs.LabelSet.{LabelMap, label_set_of}
 use Rattle.am_labels.specs.Space.{Space, IsChoiceOf}
@@ -17,11 +16,10 @@ use Rattle.am_every_alert.proofs.SpaceAlerts.{ends_of_choice}
 use Rattle.am_every_alert.proofs.UniverseAlerts.{universe_alert}
 use Rattle.am_coverage.specs.declared.coverage.RouteCoverage.TheVariants as route_is
 use Rattle.am_coverage.specs.declared.coverage.ReceiverCoverage.TheVariants as receiver_is
-use Rattle.am_coverage.specs.Coverage.{IsDead, IsNeverEntered, IsUnmatched, first_entry, first_end}
+use Rattle.am_coverage.specs.Coverage.{IsDead, IsNeverEntered, IsUnmatched}
 use Rattle.am_coverage.specs.Coverage.{route_coverage, receiver_coverage}
-use Rattle.am_coverage.proofs.FirstFound.{found_choice}
-use Rattle.am_coverage.proofs.RouteLaws.{live_ends, entered_is, entry_from_test}
-use Rattle.am_coverage.proofs.ReceiverLaws.{live_goes}
+use Rattle.am_coverage.proofs.RouteLaws.{first_live, first_entered}
+use Rattle.am_coverage.proofs.ReceiverLaws as of_receiver
 use Rattle.am_every_alert.proofs.JsonData.{universe_texts}
 
 module _ (s : Space) (c : Configuration) (h : IsUniverse s.labels) where
@@ -68,25 +66,23 @@ module _ (s : Space) (c : Configuration) (h : IsUniverse s.labels) where
     pub some_ends : (path choice : List ℕ) → route_coverage s c path ≡ route_is.Live choice
         → (alert : LabelMap) × IsAlertOf s alert × Contains (ends alert c) path
     some_ends path choice e =
-        let r = live_ends s c path choice e in
-        (set_of choice, choice_is_alert choice r.0, r.1)
+        let r = first_live s c path choice e in
+        (set_of choice, choice_is_alert choice r.possible, r.has)
 
     pub some_goes : (receiver : ℕ) (choice : List ℕ)
         → receiver_coverage s c receiver ≡ receiver_is.Live choice
         → (alert : LabelMap) × IsAlertOf s alert × Contains (receivers alert c) receiver
     some_goes receiver choice e =
-        let r = live_goes s c receiver choice e in
-        (set_of choice, choice_is_alert choice r.0, r.1)
+        let r = of_receiver.first_live s c receiver choice e in
+        (set_of choice, choice_is_alert choice r.possible, r.has)
 
     pub some_enters : (path : List ℕ) → route_coverage s c path ≡ route_is.Entered
         → (alert : LabelMap) × (end : List ℕ) × IsAlertOf s alert × Contains (ends alert c) end
         × IsTrue (leads_through path end)
     some_enters path e =
-        let first = (entered_is (first_entry s c path) (first_end s c path) e).1 in
-        let r = found_choice s
-        (λ choice. list_any (leads_through path) (ends (set_of choice) c)) first.0 first.1 in
-        let entry = entry_from_test path (ends (set_of first.0) c) r.1 in
-        (set_of first.0, entry.0, choice_is_alert first.0 r.0, entry.1, entry.2)
+        let r = first_entered s c path e in
+        let end = r.1.has in
+        (set_of r.0, end.0, choice_is_alert r.0 r.1.possible, end.1, end.2)
 
 -- ---- Over the universe of a file, which is complete.
 

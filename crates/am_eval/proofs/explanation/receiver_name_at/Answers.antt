@@ -1,8 +1,6 @@
 -- The receiver of each route is declared.
 use Rattle.std.proofs.Common.{length}
-use borrow.Author.Tests.{ltb-true}
 use Rattle.am_files.specs.RouteView.{route_view}
-use Rattle.am_files.specs.ConfigFile.{receiver_of}
 use Rattle.am_files.specs.ConfigView.{config_view}
 use Rattle.am_eval.proofs.AbsentParts.{receiver_below}
 use Rattle.am_eval.proofs.explanation.receiver_name_at.Goals as goal
@@ -12,7 +10,7 @@ receiver_name-requires c =
     let config = config_view c.args.config.now in
     let route = route_view c.in-Some.route.now in
     record {
-      receiver = rw c.receiver.ensures.receiver (ltb-true (receiver_of route) (length config.receivers)
+      receiver = rw c.receiver.ensures.receiver
           (receiver_below (length config.receivers) c.args.path.now config.root route
-          c.args.config.now.sound.receivers_declared c.in-Some.ensures.found));
+          c.args.config.now.sound.receivers_declared c.in-Some.ensures.found);
     }

@@ -3,7 +3,7 @@ use Rattle.am_eval.proofs.laws.a_simple_part_is_true_as_it_says.Goals as goal
 
 pub returns : goal.returns
 returns c = record {
-  receiver = goes_there;
+  receiver = λ w s receiver. goes_there s w.config receiver;
   ends = ends_there;
   inhibited = some_inhibits;
   braces = braces_hold;

@@ -1,6 +1,5 @@
 -- Where reading stops is the first fault: what was read before is accepted.
 use Rattle.std.proofs.Common.{◌∷◌, inl, inr}
-use Rattle.am_universe.specs.declared.fault.Fault.{Fault}
 use Rattle.am_json.specs.Reading.{refusal_of}
 use Rattle.am_files.specs.ConfigView.{config_view}
 use Rattle.am_eval.specs.Faults.{IsFirstFault, instant_stage}
