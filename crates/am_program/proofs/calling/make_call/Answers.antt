@@ -1,13 +1,10 @@
 -- What a command owes is what its request asks for.
-use Rattle.std.proofs.Common.{ℕ, List, Option, map, subst}
 use Rattle.std.specs.Prelude.{option_copied}
 use Rattle.am_questions.specs.Inputs.{Inputs}
-use Rattle.am_eval.specs.Promise.{IsKept}
-use Rattle.am_eval.specs.Explanation.{explain_promise}
 use Rattle.am_eval.proofs.Promises.{any_failed}
 use Rattle.am_commands.specs.AskOutcome.{ask_promise}
 use Rattle.am_commands.specs.Reports.{dead_promise, receivers_promise}
-use Rattle.am_program.proofs.Owed.{owed_for, owed_under}
+use Rattle.am_program.proofs.Owed.{owed_as, owed_for, owed_under}
 use Rattle.am_program.proofs.calling.make_call.Goals as goal
 
 pub returns-in-Err : goal.returns-in-Err
@@ -32,10 +29,7 @@ returns-in-Dead g c =
     let call = c.args.call.now in
     record {
       kept = owed_for call.universe.now call.files c.in-Dead.is
-          (subst
-          (λ (config : List ℕ). IsKept (dead_promise call.universe.now config) g.W.Sink.taken
-          g.W.Sink.failures c.args.out.now c.dead.new.out c.dead.result)
-          c.config.ensures.bytes c.dead.ensures.kept);
+          (owed_as (dead_promise call.universe.now) c.config.ensures.bytes c.dead.ensures.kept);
     }
 
 pub returns-in-Explain : goal.returns-in-Explain
@@ -51,8 +45,6 @@ returns-in-Receivers g c =
     let call = c.args.call.now in
     record {
       kept = owed_for call.universe.now call.files c.in-Receivers.is
-          (subst
-          (λ (config : List ℕ). IsKept (receivers_promise call.universe.now config) g.W.Sink.taken
-          g.W.Sink.failures c.args.out.now c.receivers.new.out c.receivers.result)
-          c.config-in-Receivers.ensures.bytes c.receivers.ensures.kept);
+          (owed_as (receivers_promise call.universe.now) c.config-in-Receivers.ensures.bytes
+          c.receivers.ensures.kept);
     }
