@@ -1,7 +1,7 @@
 -- What a report says is what becomes of its routes and receivers: the lines that are written are
 -- those that say it, and no other lines do.
-use Rattle.std.proofs.Common.{◌≡◌, ◌↔◌, ℕ, ◌+◌, ◌<◌, suc, List, [], ◌∷◌, ◌++◌, length, map, get_or}
-use Rattle.std.proofs.Common.{codes, Some, refl, sym, ap, ◌∙◌, arith}
+use Rattle.std.proofs.Common.{◌≡◌, ◌↔◌, ℕ, ◌+◌, zero, suc, List, [], ◌∷◌, ◌++◌, length, map, get_or}
+use Rattle.std.proofs.Common.{codes, drop, Some, refl, sym, ap, ◌∙◌, arith}
 use Rattle.std.specs.Prelude.{slice_get}
 use Rattle.std.specs.List.{AllZip, flat_map, zip, range_with_len}
 use Rattle.std.proofs.lemmas.List.Folds.{flat_map-map}
@@ -48,6 +48,15 @@ lines_are IsLine line_at is (k ∷ ks) (line ∷ lines) each =
 
 abbrev report_of : List (List ℕ) → List ℕ
 report_of lines = flat_map (λ line. line) lines ++ codes "# end\n"
+
+-- what stands first in the rest from a position on stands there, and the others are behind it
+at_front : {X : Type 0} (xs : List X) (i : ℕ) (x : X) (later : List X) → drop i xs ≡ x ∷ later
+    → (slice_get xs i ≡ Some x) × (drop (i + 1) xs ≡ later)
+at_front [] zero x later e = absurd (cc)
+at_front [] (suc i) x later e = absurd (cc)
+at_front (y ∷ xs) zero x later e = (cc, cc)
+at_front (y ∷ xs) (suc i) x later e =
+    let n : suc i + 1 ≡ suc (i + 1) = omega arith in rw n (at_front xs i x later e)
 
 -- the texts of some items, one behind the other
 joined : {X : Type 0} (line : X → List ℕ) (xs : List X)
@@ -157,46 +166,27 @@ module _ (s : Space) (c : Configuration) where
   receiver_said receiver name receiver_is.Unmatched named e =
       unmatched_receiver name named ((of_receiver.unmatched_exactly s c receiver).1 e) refl
 
-  -- the names from a position on are those that the configuration has there
-  abbrev AreNamesFrom : ℕ → List (List ℕ) → Type 0
-  AreNamesFrom i names =
-      (k : ℕ) → k < length names → slice_get c.receivers (i + k) ≡ slice_get names k
-
-  first_name : (i : ℕ) (name : List ℕ) (names : List (List ℕ)) → AreNamesFrom i (name ∷ names)
-      → slice_get c.receivers i ≡ Some name
-  first_name i name names are =
-      let at : i + 0 ≡ i = omega arith in
-      ap (slice_get c.receivers) (sym at) ∙ are 0 (omega arith)
-
-  later_names : (i : ℕ) (name : List ℕ) (names : List (List ℕ)) → AreNamesFrom i (name ∷ names)
-      → AreNamesFrom (i + 1) names
-  later_names i name names are k lt =
-      let at : (i + 1) + k ≡ i + suc k = omega arith in
-      ap (slice_get c.receivers) at ∙ are (suc k) (omega (arith, lt))
-
   -- the lines of the receivers of these names, from a position on
   abbrev lines_from : ℕ → List (List ℕ) → List (List ℕ)
   lines_from i names =
       map (receiver_line s.labels)
       (zip names (map (receiver_coverage s c) (range_with_len i (length names))))
 
-  receivers_said : (i : ℕ) (names : List (List ℕ)) → AreNamesFrom i names
+  receivers_said : (i : ℕ) (names : List (List ℕ)) → drop i c.receivers ≡ names
       → AllZip (IsReceiverLine s c) (range_with_len i (length names)) (lines_from i names)
-  receivers_said i [] are = tt
-  receivers_said i (name ∷ names) are = (
-    receiver_said i name (receiver_coverage s c i) (first_name i name names are) refl,
-    receivers_said (i + 1) names (later_names i name names are),
-  )
-
-  all_names : AreNamesFrom 0 c.receivers
-  all_names k lt = ap (slice_get c.receivers) (omega arith)
+  receivers_said i [] left = tt
+  receivers_said i (name ∷ names) left =
+      let here = at_front c.receivers i name names left in (
+        receiver_said i name (receiver_coverage s c i) here.0 refl,
+        receivers_said (i + 1) names here.1,
+      )
 
   pub receivers_reported : (found : List ReceiverCoverage)
       → found ≡ map (receiver_coverage s c) (range_with_len 0 (length c.receivers))
       → IsReceiversReport s c (receivers_text s.labels c.receivers found)
   receivers_reported found is = record {
     lines = lines_from 0 c.receivers;
-    each = receivers_said 0 c.receivers all_names;
+    each = receivers_said 0 c.receivers refl;
     joined = ap (receivers_text s.labels c.receivers) is
         ∙ ap (λ text. text ++ codes "# end\n") (joined (receiver_line s.labels)
         (zip c.receivers (map (receiver_coverage s c) (range_with_len 0 (length c.receivers)))));

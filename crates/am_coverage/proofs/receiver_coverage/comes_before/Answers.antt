@@ -1,4 +1,4 @@
-use Rattle.std.proofs.Common.{◌≡◌, ◌<◌, ◌⊎◌, inl, inr, length, sym, ◌∙◌, arith}
+use Rattle.std.proofs.Common.{◌≡◌, ◌⊎◌, inl, inr, length, sym, ◌∙◌, arith}
 use Rattle.std.proofs.lemmas.Bool.{cases_order}
 use Rattle.am_coverage.proofs.BeforeByPosition.{by_position, past_same, at_end}
 use Rattle.am_coverage.proofs.receiver_coverage.comes_before.Goals as goal
@@ -7,11 +7,9 @@ pub returns-then-position-beside : goal.returns-then-position-beside
 returns-then-position-beside c =
     let choice = c.args.choice.now in
     let other = c.args.other.now in
-    let in_choice : c.loop-i.i < length choice = omega arith in
-    let in_other : c.loop-i.i < length other = omega arith in
     record {
       before = rw (c.get-position.ensures.position, c.get-beside.ensures.position)
-          (sym (c.loop-i.invariant ∙ by_position choice other c.loop-i.i in_choice in_other
+          (sym (c.loop-i.invariant ∙ by_position choice other c.loop-i.i (omega arith) (omega arith)
           (λ same. c.if-position-beside.true
           (c.get-position.ensures.position ∙ same ∙ sym c.get-beside.ensures.position))));
     }
@@ -20,10 +18,8 @@ pub loop-i-preserved : goal.loop-i-preserved
 loop-i-preserved c =
     let choice = c.args.choice.now in
     let other = c.args.other.now in
-    let in_choice : c.loop-i.i < length choice = omega arith in
-    let in_other : c.loop-i.i < length other = omega arith in
     c.loop-i.invariant
-    ∙ past_same choice other c.loop-i.i in_choice in_other
+    ∙ past_same choice other c.loop-i.i (omega arith) (omega arith)
     (sym c.get-position.ensures.position ∙ c.if-position-beside.false ∙ c.get-beside.ensures.position)
 
 pub returns : goal.returns
