@@ -16,8 +16,12 @@ pub(crate) fn add_remedy(
     call: Option<&Call<'_>>,
     fault: &Fault,
 ) -> Result<(), AllocError> {
+    // Where a file could not be read there is no call.
     let Some(call) = call else {
-        return add_if_any(alloc, notes, unread_remedy(fault.kind));
+        return match fault.kind {
+            Kind::Read => notes.add_str(alloc, "standard input is the file /dev/stdin"),
+            _ => Ok(()),
+        };
     };
     match fault.kind {
         Kind::NotJson => add_if_any(alloc, notes, not_json_remedy(call, fault.place)),
@@ -35,14 +39,6 @@ fn add_if_any(
     match remedy {
         Some(remedy) => notes.add_str(alloc, remedy),
         None => Ok(()),
-    }
-}
-
-/// Where a file could not be read.
-fn unread_remedy(kind: Kind) -> Option<&'static str> {
-    match kind {
-        Kind::Read => Some("standard input is the file /dev/stdin"),
-        _ => None,
     }
 }
 
@@ -173,7 +169,10 @@ fn remedy(call: &Call<'_>, kind: Kind, place: Place) -> Option<&'static str> {
         Kind::UnknownRoute => {
             Some("positions count from 0: / is the top-level route, /0 its first child")
         }
-        Kind::BadTime => time_remedy(place),
+        // A text of the command line, not of a file.
+        Kind::BadTime if place == Place::Instant => Some(
+            "a time is written as 2024-05-01T10:00:00Z; now is --at \"$(date -u +%FT%TZ)\"",
+        ),
         Kind::NeedAt => Some("silences need a time; now is --at \"$(date -u +%FT%TZ)\""),
         Kind::BadToken => Some("--after takes the word behind # next or # stopped"),
         Kind::OtherInputs => {
@@ -195,15 +194,5 @@ fn question_remedy(request: &Request<'_>) -> &'static str {
         }
         _ => "amcover ask --help lists the forms; a name with a blank stands in quotes: \
             receiver \"on call\"",
-    }
-}
-
-/// Where a text is no instant: one of the command line, not of a file.
-fn time_remedy(place: Place) -> Option<&'static str> {
-    match place {
-        Place::Instant => Some(
-            "a time is written as 2024-05-01T10:00:00Z; now is --at \"$(date -u +%FT%TZ)\"",
-        ),
-        _ => None,
     }
 }
