@@ -21,7 +21,9 @@ mod tally;
 
 pub use digits::{has_own_token, old_token, with_digits, without_digits};
 pub use inserts::{Named, filled, text_named};
-pub use lines::{Item, Line, items, number, split_at_first, split_at_last, utf8, value_named};
+pub use lines::{
+    Item, Line, items, number, read_number, split_at_first, split_at_last, utf8, value_named,
+};
 pub use problem::Problem;
 pub use shell_words::words;
 pub use tally::Tally;

@@ -79,10 +79,13 @@ pub fn number(text: &[u8]) -> Option<usize> {
     std::str::from_utf8(text).ok()?.parse::<usize>().ok()
 }
 
+/// The number that a text has to be; the words say that it is none.
+pub fn read_number(alloc: Global, text: &[u8], words: &str) -> Result<u64, Problem> {
+    let number = utf8(alloc, text)?.parse::<u64>();
+    number.map_err(|_| Problem::about(alloc, words, text))
+}
+
 /// A text that has to be UTF-8.
 pub fn utf8(alloc: Global, text: &[u8]) -> Result<&str, Problem> {
-    match std::str::from_utf8(text) {
-        Ok(text) => Ok(text),
-        Err(_) => Err(Problem::about(alloc, "this has to be UTF-8", text)),
-    }
+    std::str::from_utf8(text).map_err(|_| Problem::about(alloc, "this has to be UTF-8", text))
 }

@@ -14,12 +14,17 @@ pub enum Problem {
 }
 
 impl Problem {
-    /// These words.
-    pub fn said(alloc: Global, words: &str) -> Problem {
-        match String::from_str(alloc, words) {
+    /// Words, or that memory ran out for them.
+    pub fn of_words(words: Result<String, AllocError>) -> Problem {
+        match words {
             Ok(words) => Problem::Said(words),
             Err(_) => Problem::Memory,
         }
+    }
+
+    /// These words.
+    pub fn said(alloc: Global, words: &str) -> Problem {
+        Problem::of_words(String::from_str(alloc, words))
     }
 
     /// These words, unless the error is that memory ran out.
@@ -32,18 +37,12 @@ impl Problem {
 
     /// These words, and the text that they are about.
     pub fn about(alloc: Global, words: &str, text: &[u8]) -> Problem {
-        match about(alloc, words, text) {
-            Ok(words) => Problem::Said(words),
-            Err(_) => Problem::Memory,
-        }
+        Problem::of_words(about(alloc, words, text))
     }
 
     /// What was expected of a part, and what was found.
     pub fn differs(alloc: Global, part: &str, expected: &[u8], found: &[u8]) -> Problem {
-        match differs(alloc, part, expected, found) {
-            Ok(words) => Problem::Said(words),
-            Err(_) => Problem::Memory,
-        }
+        Problem::of_words(differs(alloc, part, expected, found))
     }
 }
 

@@ -72,14 +72,8 @@ pub fn words(alloc: Global, texts: &[Named], line: &[u8]) -> Result<Vec<String>,
     cutting.end_word(alloc)?;
     let mut words = Vec::new(alloc);
     for word in &cutting.words {
-        words.push(text_of(alloc, filled(alloc, texts, word.as_slice())?)?)?;
+        let word = String::from_utf8(filled(alloc, texts, word.as_slice())?);
+        words.push(word.map_err(|_| Problem::said(alloc, "a word that is not UTF-8"))?)?;
     }
     Ok(words)
-}
-
-fn text_of(alloc: Global, word: Vec<u8>) -> Result<String, Problem> {
-    match String::from_utf8(word) {
-        Ok(word) => Ok(word),
-        Err(_) => Err(Problem::said(alloc, "a word that is not UTF-8")),
-    }
 }

@@ -6,7 +6,6 @@ use std::alloc::{AllocError, Global};
 /// How many cases there were, and a line for each that was not right.
 #[derive(Drop)]
 pub struct Tally {
-    alloc: Global,
     name: String,
     /// The one line that is asked for; all of them where there is none.
     only: Option<usize>,
@@ -20,7 +19,6 @@ pub struct Tally {
 impl Tally {
     pub fn new(alloc: Global, name: &str, only: Option<usize>) -> Result<Tally, AllocError> {
         Ok(Tally {
-            alloc,
             name: String::from_str(alloc, name)?,
             only,
             cases: 0,
@@ -76,8 +74,7 @@ impl Tally {
     fn count_wrong(&mut self, number: usize, words: &str) -> Result<(), AllocError> {
         self.wrong = self.wrong.saturating_add(1);
         let name = self.name.as_str();
-        let line = format!(in self.alloc; "{name}:{number}: {words}\n")?;
-        self.report.push_str(line.as_str())
+        write!(self.report, "{name}:{number}: {words}\n")
     }
 
     /// Counts a file that is none, or whose cases came to no end.
@@ -87,8 +84,7 @@ impl Tally {
             Problem::Said(words) => {
                 self.wrong = self.wrong.saturating_add(1);
                 let name = self.name.as_str();
-                let line = format!(in self.alloc; "{name}: {words}")?;
-                self.report.push_str(line.as_str())
+                write!(self.report, "{name}: {words}")
             }
         }
     }
@@ -103,7 +99,6 @@ impl Tally {
     pub fn end_with(&mut self, count: usize, what: &str) -> Result<(), AllocError> {
         let name = self.name.as_str();
         let wrong = self.wrong;
-        let line = format!(in self.alloc; "{name}: {count} {what}, {wrong} wrong")?;
-        self.report.push_str(line.as_str())
+        write!(self.report, "{name}: {count} {what}, {wrong} wrong")
     }
 }
