@@ -95,7 +95,7 @@ impl Maker {
             config: self.config()?,
             silences: self.silences()?,
             alerts: self.alerts()?,
-            question: self.question()?,
+            question: self.question(3)?,
         })
     }
 
@@ -103,8 +103,7 @@ impl Maker {
         let mut text = String::from_str(self.alloc, "{\"labels\":[")?;
         for i in 0..self.labels {
             add_comma(i, &mut text)?;
-            let label = format!(in self.alloc; "{{\"name\":\"l{i}\",\"values\":[")?;
-            text.push_str(label.as_str())?;
+            write!(text, "{{\"name\":\"l{i}\",\"values\":[")?;
             self.add_values(&mut text)?;
             text.push_str("]}")?;
         }
@@ -131,13 +130,7 @@ impl Maker {
 
     /// A configuration of receivers, routes and inhibition rules.
     fn config(&mut self) -> Result<String, AllocError> {
-        let mut text = String::from_str(self.alloc, "{\"receivers\":[")?;
-        for (i, name) in RECEIVERS.iter().enumerate() {
-            add_comma(i, &mut text)?;
-            let receiver = format!(in self.alloc; "{{\"name\":\"{name}\"}}")?;
-            text.push_str(receiver.as_str())?;
-        }
-        text.push_str("],\"route\":{\"receiver\":\"a\",\"routes\":[")?;
+        let mut text = config_front(self.alloc, &RECEIVERS)?;
         self.paths.push(String::from_str(self.alloc, "/")?)?;
         for i in 0..self.dice.number_of(&[1, 2, 3, 3]) {
             add_comma(i, &mut text)?;
@@ -265,10 +258,8 @@ impl Maker {
         let value = self.value_for(operator);
         let equal = !operator.starts_with('!');
         let regex = operator.ends_with('~');
-        let flags = format!(in self.alloc; "{{\"isEqual\":{equal},\"isRegex\":{regex}")?;
-        text.push_str(flags.as_str())?;
-        let rest = format!(in self.alloc; ",\"name\":\"{name}\",\"value\":\"{value}\"}}")?;
-        text.push_str(rest.as_str())
+        write!(text, "{{\"isEqual\":{equal},\"isRegex\":{regex}")?;
+        write!(text, ",\"name\":\"{name}\",\"value\":\"{value}\"}}")
     }
 
     /// Up to 2 alerts with values for some labels, declared or not.
@@ -276,13 +267,11 @@ impl Maker {
         let mut text = String::from_str(self.alloc, "[")?;
         for i in 0..self.dice.number_of(&[0, 1, 2, 2, 2, 2]) {
             add_comma(i, &mut text)?;
-            let mark = format!(in self.alloc; "{{\"labels\":{{\"n\":\"{i}\"")?;
-            text.push_str(mark.as_str())?;
+            write!(text, "{{\"labels\":{{\"n\":\"{i}\"")?;
             for j in 0..self.labels {
                 if !self.dice.is_one_in(4) {
                     let value = self.dice.one_of(&FIRING);
-                    let label = format!(in self.alloc; ",\"l{j}\":\"{value}\"")?;
-                    text.push_str(label.as_str())?;
+                    write!(text, ",\"l{j}\":\"{value}\"")?;
                 }
             }
             if self.dice.is_one_in(4) {
@@ -294,22 +283,13 @@ impl Maker {
         Ok(text)
     }
 
-    /// A question of up to three levels.
-    fn question(&mut self) -> Result<String, AllocError> {
-        let one = self.part_of_two_levels()?;
-        let other = self.part_of_two_levels()?;
-        self.joined(one, other)
-    }
-
-    fn part_of_two_levels(&mut self) -> Result<String, AllocError> {
-        let one = self.part_of_one_level()?;
-        let other = self.part_of_one_level()?;
-        self.joined(one, other)
-    }
-
-    fn part_of_one_level(&mut self) -> Result<String, AllocError> {
-        let one = self.simple_part()?;
-        let other = self.simple_part()?;
+    /// A question of up to so many levels.
+    fn question(&mut self, levels: usize) -> Result<String, AllocError> {
+        if levels == 0 {
+            return self.simple_part();
+        }
+        let one = self.question(levels - 1)?;
+        let other = self.question(levels - 1)?;
         self.joined(one, other)
     }
 
@@ -376,6 +356,17 @@ impl Maker {
         }
         Ok(text)
     }
+}
+
+/// The text of a configuration with these receivers, up to the children of its top-level route.
+pub(crate) fn config_front(alloc: Global, receivers: &[&str]) -> Result<String, AllocError> {
+    let mut text = String::from_str(alloc, "{\"receivers\":[")?;
+    for (i, name) in receivers.iter().enumerate() {
+        add_comma(i, &mut text)?;
+        write!(text, "{{\"name\":\"{name}\"}}")?;
+    }
+    text.push_str("],\"route\":{\"receiver\":\"a\",\"routes\":[")?;
+    Ok(text)
 }
 
 /// Adds a comma before each but the first of a list.

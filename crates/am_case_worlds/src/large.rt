@@ -1,7 +1,7 @@
 //! Worlds that no one typed with as many routes as a configuration may have.
 
 use crate::dice::Dice;
-use crate::generated::{add_comma, add_quoted};
+use crate::generated::{add_comma, add_quoted, config_front};
 use std::alloc::{AllocError, Global};
 
 /// The texts of a universe file and of a configuration file.
@@ -56,12 +56,10 @@ impl LargeMaker {
         let mut text = String::from_str(self.alloc, "{\"labels\":[")?;
         for i in 0..self.labels {
             add_comma(i, &mut text)?;
-            let label = format!(in self.alloc; "{{\"name\":\"l{i}\",\"values\":[")?;
-            text.push_str(label.as_str())?;
+            write!(text, "{{\"name\":\"l{i}\",\"values\":[")?;
             for j in 0..self.values {
                 add_comma(j, &mut text)?;
-                let value = format!(in self.alloc; "\"v{j}\"")?;
-                text.push_str(value.as_str())?;
+                write!(text, "\"v{j}\"")?;
             }
             text.push_str("]}")?;
         }
@@ -70,13 +68,7 @@ impl LargeMaker {
     }
 
     fn config(&mut self) -> Result<String, AllocError> {
-        let mut text = String::from_str(self.alloc, "{\"receivers\":[")?;
-        for (i, name) in RECEIVERS.iter().enumerate() {
-            add_comma(i, &mut text)?;
-            let receiver = format!(in self.alloc; "{{\"name\":\"{name}\"}}")?;
-            text.push_str(receiver.as_str())?;
-        }
-        text.push_str("],\"route\":{\"receiver\":\"a\",\"routes\":[")?;
+        let mut text = config_front(self.alloc, &RECEIVERS)?;
         for i in 0..TEAMS {
             add_comma(i, &mut text)?;
             self.add_team(&mut text)?;

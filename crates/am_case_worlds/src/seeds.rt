@@ -1,6 +1,6 @@
 //! The seeds that a case names.
 
-use am_case_files::{Problem, split_at_first, utf8};
+use am_case_files::{Problem, read_number, split_at_first};
 use std::alloc::Global;
 
 /// A text without the word ` impossible` at its end, and whether it was there.
@@ -13,14 +13,12 @@ pub fn split_impossible(text: &[u8]) -> (&[u8], bool) {
 
 /// A seed, a blank, and a number.
 pub fn read_seeds(alloc: Global, text: &[u8]) -> Result<(u64, u64), Problem> {
-    if let Some((seed, count)) = split_at_first(text, b" ") {
-        let seed = utf8(alloc, seed)?.parse::<u64>().ok();
-        let count = utf8(alloc, count)?.parse::<u64>().ok();
-        if let (Some(seed), Some(count)) = (seed, count) {
-            return Ok((seed, count));
-        }
-    }
-    Err(Problem::about(alloc, "a seed and a number of worlds are wanted", text))
+    let words = "a seed and a number of worlds are wanted";
+    let Some((seed, count)) = split_at_first(text, b" ") else {
+        return Err(Problem::about(alloc, words, text));
+    };
+    let seed = read_number(alloc, seed, words)?;
+    Ok((seed, read_number(alloc, count, words)?))
 }
 
 /// A problem with the seed of its world in front.
@@ -28,8 +26,5 @@ pub fn of_seed(alloc: Global, seed: u64, problem: Problem) -> Problem {
     let Problem::Said(words) = problem else {
         return Problem::Memory;
     };
-    match format!(in alloc; "seed {seed}: {words}") {
-        Ok(words) => Problem::Said(words),
-        Err(_) => Problem::Memory,
-    }
+    Problem::of_words(format!(in alloc; "seed {seed}: {words}"))
 }
