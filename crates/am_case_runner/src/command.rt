@@ -6,22 +6,26 @@ use am_case_files::{
 };
 use std::alloc::Global;
 
+/// What is said of standard output, or of standard error.
+#[derive(Drop)]
+pub struct Stream {
+    /// What is wanted of it, where it is said; else that it is empty.
+    pub wanted: Option<Wanted>,
+    /// How often it is written to, where it is said.
+    pub writes: Option<usize>,
+    pub manner: Manner,
+    /// Whether the command is run again for each write, which stops.
+    pub stops: bool,
+}
+
 /// A command line, and what is said of its run.
 #[derive(Drop)]
 pub struct Command {
     pub line: usize,
     pub words: Vec<String>,
-    /// What is wanted of standard output and of standard error, where it is said; else that they
-    /// are empty.
-    pub out: Option<Wanted>,
-    pub err: Option<Wanted>,
+    pub out: Stream,
+    pub err: Stream,
     pub status: Option<u8>,
-    pub writes: Option<usize>,
-    pub error_writes: Option<usize>,
-    pub manner: Manner,
-    pub error_manner: Manner,
-    pub stops: bool,
-    pub error_stops: bool,
     /// The file that standard output is, if it is one.
     pub device: Option<String>,
     /// The notes behind what else stands on standard error, where that is a terminal.
@@ -55,15 +59,9 @@ pub fn read_command(alloc: Global, texts: &[Named], item: &Item<'_>) -> Result<C
     Ok(Command {
         line: item.head.number,
         words,
-        out,
-        err: None,
+        out: Stream::new(out),
+        err: Stream::new(None),
         status: None,
-        writes: None,
-        error_writes: None,
-        manner: Manner::WHOLE,
-        error_manner: Manner::WHOLE,
-        stops: false,
-        error_stops: false,
         device: None,
         notes: None,
     })
@@ -91,6 +89,37 @@ pub fn output(alloc: Global, texts: &[Named], lines: &[Line<'_>]) -> Result<Vec<
         raw.push(b'\n')?;
     }
     filled(alloc, texts, raw.as_slice())
+}
+
+impl Stream {
+    fn new(wanted: Option<Wanted>) -> Stream {
+        Stream {
+            wanted,
+            writes: None,
+            manner: Manner::WHOLE,
+            stops: false,
+        }
+    }
+
+    /// Takes what is said of its writer; `false` where it is none of the words for it.
+    fn take_writer(&mut self, words: &[u8]) -> bool {
+        if words == b"stops at each call".as_slice() {
+            self.stops = true;
+        } else if words == b"fails at its flush".as_slice() {
+            self.manner.flush_fails = true;
+        } else if let Some(count) = number_between(words, b"takes ", b" bytes a call") {
+            self.manner.step = count;
+        } else if let Some(count) = number_between(words, b"fails after ", b" bytes") {
+            self.manner.room = count;
+        } else if let Some(call) = number_between(words, b"fails at call ", b"") {
+            self.manner.stop = Some((call, Stop::Fails));
+        } else if let Some(call) = number_between(words, b"takes nothing at call ", b"") {
+            self.manner.stop = Some((call, Stop::TakesNothing));
+        } else {
+            return false;
+        }
+        true
+    }
 }
 
 impl Command {
@@ -125,16 +154,16 @@ impl Command {
         if let Some(text) = line.strip_prefix(b"stderr: ") {
             let mut text = filled(alloc, texts, text)?;
             text.push(b'\n')?;
-            say_once(alloc, &mut self.err, Wanted::Whole(text), line)?;
+            say_once(alloc, &mut self.err.wanted, Wanted::Whole(text), line)?;
         } else if let Some(text) = line.strip_prefix(b"stderr has: ") {
             let text = filled(alloc, texts, text)?;
-            say_once(alloc, &mut self.err, Wanted::Has(text), line)?;
+            say_once(alloc, &mut self.err.wanted, Wanted::Has(text), line)?;
         } else if let Some(text) = line.strip_prefix(b"stdout: ") {
             let text = filled(alloc, texts, text)?;
-            say_once(alloc, &mut self.out, Wanted::Whole(text), line)?;
+            say_once(alloc, &mut self.out.wanted, Wanted::Whole(text), line)?;
         } else if let Some(text) = line.strip_prefix(b"stdout has: ") {
             let text = filled(alloc, texts, text)?;
-            say_once(alloc, &mut self.out, Wanted::Has(text), line)?;
+            say_once(alloc, &mut self.out.wanted, Wanted::Has(text), line)?;
         } else {
             return self.take_number(alloc, line);
         }
@@ -148,11 +177,11 @@ impl Command {
             };
             say_once(alloc, &mut self.status, status, line)?;
         } else if let Some(count) = number_behind(line, b"stdout lines: ") {
-            say_once(alloc, &mut self.out, Wanted::Lines(count), line)?;
+            say_once(alloc, &mut self.out.wanted, Wanted::Lines(count), line)?;
         } else if let Some(count) = number_behind(line, b"writes: ") {
-            say_once(alloc, &mut self.writes, count, line)?;
+            say_once(alloc, &mut self.out.writes, count, line)?;
         } else if let Some(count) = number_behind(line, b"error writes: ") {
-            say_once(alloc, &mut self.error_writes, count, line)?;
+            say_once(alloc, &mut self.err.writes, count, line)?;
         } else {
             return Ok(false);
         }
@@ -165,28 +194,18 @@ impl Command {
             self.device = Some(String::from_str(alloc, path)?);
             return Ok(true);
         }
-        if line == b"writer stops at each call".as_slice() {
-            self.stops = true;
-        } else if line == b"error writer stops at each call".as_slice() {
-            self.error_stops = true;
-        } else {
-            return Ok(self.take_writers(line));
-        }
-        Ok(true)
-    }
-
-    fn take_writers(&mut self, line: &[u8]) -> bool {
         if let Some(words) = line.strip_prefix(b"writer ") {
-            return take_writer(&mut self.manner, words);
+            return Ok(self.out.take_writer(words));
         }
         match line.strip_prefix(b"error writer ") {
-            Some(words) => take_writer(&mut self.error_manner, words),
-            None => false,
+            Some(words) => Ok(self.err.take_writer(words)),
+            None => Ok(false),
         }
     }
 
     pub fn has_expectation(&self) -> bool {
-        self.out.is_some() || self.err.is_some() || self.status.is_some() || self.notes.is_some()
+        let is_said = self.out.wanted.is_some() || self.err.wanted.is_some();
+        is_said || self.status.is_some() || self.notes.is_some()
     }
 
     pub fn wanted_status(&self) -> u8 {
@@ -196,20 +215,18 @@ impl Command {
     pub fn check_outputs(&self, alloc: Global, ran: &Ran) -> Result<(), Problem> {
         self.check_error(alloc, ran.err.taken.as_slice())?;
         let out = ran.out.taken.as_slice();
-        check_stream(alloc, "standard output", &self.out, out)?;
+        check_stream(alloc, "standard output", &self.out.wanted, out)?;
         check_status(alloc, self.wanted_status(), ran.status)?;
-        check_count(alloc, "writes", self.writes, ran.out.calls)?;
-        check_count(alloc, "error writes", self.error_writes, ran.err.calls)
+        check_count(alloc, "writes", self.out.writes, ran.out.calls)?;
+        check_count(alloc, "error writes", self.err.writes, ran.err.calls)
     }
 
     /// Whether standard error is as it is said to be, with the notes behind all else.
     pub fn check_error(&self, alloc: Global, found: &[u8]) -> Result<(), Problem> {
-        let Some(notes) = &self.notes else {
-            return check_stream(alloc, "standard error", &self.err, found);
-        };
-        match found.strip_suffix(notes.as_slice()) {
-            Some(found) => check_stream(alloc, "standard error", &self.err, found),
-            None => Err(Problem::differs(alloc, "notes", notes.as_slice(), found)),
+        let notes = self.notes.as_deref().unwrap_or(b"");
+        match found.strip_suffix(notes) {
+            Some(found) => check_stream(alloc, "standard error", &self.err.wanted, found),
+            None => Err(Problem::differs(alloc, "notes", notes, found)),
         }
     }
 }
@@ -230,24 +247,6 @@ fn say_once<T: Drop>(
 
 fn number_behind(line: &[u8], words: &[u8]) -> Option<usize> {
     number(line.strip_prefix(words)?)
-}
-
-/// Takes what is said of a writer; `false` where it is none of the words for it.
-fn take_writer(manner: &mut Manner, words: &[u8]) -> bool {
-    if words == b"fails at its flush".as_slice() {
-        manner.flush_fails = true;
-    } else if let Some(count) = number_between(words, b"takes ", b" bytes a call") {
-        manner.step = count;
-    } else if let Some(count) = number_between(words, b"fails after ", b" bytes") {
-        manner.room = count;
-    } else if let Some(call) = number_between(words, b"fails at call ", b"") {
-        manner.stop = Some((call, Stop::Fails));
-    } else if let Some(call) = number_between(words, b"takes nothing at call ", b"") {
-        manner.stop = Some((call, Stop::TakesNothing));
-    } else {
-        return false;
-    }
-    true
 }
 
 fn number_between(words: &[u8], before: &[u8], behind: &[u8]) -> Option<usize> {

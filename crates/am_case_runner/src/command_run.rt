@@ -13,7 +13,7 @@ impl<'s, R: Files + AllocGlobal, P: Program> Stage<'s, R, P> {
     /// Puts the digits of the command's own inputs in the place of each `H` of a token.
     fn put_digits(&self, command: &mut Command) -> Result<(), Problem> {
         let alloc = self.alloc();
-        let is_wanted = match &command.out {
+        let is_wanted = match &command.out.wanted {
             Some(Wanted::Whole(text) | Wanted::Has(text)) => has_own_token(text.as_slice()),
             _ => false,
         };
@@ -29,15 +29,9 @@ impl<'s, R: Files + AllocGlobal, P: Program> Stage<'s, R, P> {
             words.push(String::from_str(alloc, utf8(alloc, word.as_slice())?)?)?;
         }
         command.words = words;
-        command.out = match command.out.take() {
-            Some(Wanted::Whole(text)) => {
-                Some(Wanted::Whole(with_digits(alloc, text.as_slice(), digits)?))
-            }
-            Some(Wanted::Has(text)) => {
-                Some(Wanted::Has(with_digits(alloc, text.as_slice(), digits)?))
-            }
-            other => other,
-        };
+        if let Some(Wanted::Whole(text) | Wanted::Has(text)) = &mut command.out.wanted {
+            *text = with_digits(alloc, text.as_slice(), digits)?;
+        }
         Ok(())
     }
 
@@ -51,15 +45,16 @@ impl<'s, R: Files + AllocGlobal, P: Program> Stage<'s, R, P> {
         if let Some(path) = &command.device {
             return self.check_on_device(command, path.as_str());
         }
-        let ran = self.run(command, command.manner, command.error_manner)?;
+        let (out, err) = (&command.out, &command.err);
+        let ran = self.run(command, out.manner, err.manner)?;
         command.check_outputs(alloc, &ran)?;
-        if command.stops {
+        if out.stops {
             self.check_stops(command, ran.out.calls)?;
         }
-        if command.error_stops {
+        if err.stops {
             self.check_error_stops(command, ran.err.calls)?;
         }
-        if command.stops && ran.out.calls == 0 || command.error_stops && ran.err.calls == 0 {
+        if out.stops && ran.out.calls == 0 || err.stops && ran.err.calls == 0 {
             return Err(Problem::said(alloc, "nothing is written, so no write stops"));
         }
         Ok(())
@@ -79,13 +74,13 @@ impl<'s, R: Files + AllocGlobal, P: Program> Stage<'s, R, P> {
     /// Runs it again for each write that it makes, which fails or takes nothing.
     fn check_stops(&self, command: &Command, calls: usize) -> Result<(), Problem> {
         let alloc = self.alloc();
-        let Some(Wanted::Whole(page)) = &command.out else {
+        let Some(Wanted::Whole(page)) = &command.out.wanted else {
             return Err(Problem::said(alloc, "the whole output is wanted"));
         };
         for call in 1..calls.saturating_add(1) {
             for how in [Stop::Fails, Stop::TakesNothing] {
-                let manner = command.manner.stopped(call, how);
-                let ran = self.run(command, manner, command.error_manner)?;
+                let manner = command.out.manner.stopped(call, how);
+                let ran = self.run(command, manner, command.err.manner)?;
                 check_cut(alloc, "output cut short", page.as_slice(), &ran.out, call)?;
                 check_status(alloc, 4, ran.status)?;
                 let err = ran.err.taken.as_slice();
@@ -98,12 +93,12 @@ impl<'s, R: Files + AllocGlobal, P: Program> Stage<'s, R, P> {
     /// Runs it again for each write on standard error, which fails.
     fn check_error_stops(&self, command: &Command, calls: usize) -> Result<(), Problem> {
         let alloc = self.alloc();
-        let Some(Wanted::Whole(line)) = &command.err else {
+        let Some(Wanted::Whole(line)) = &command.err.wanted else {
             return Err(Problem::said(alloc, "the whole of standard error is wanted"));
         };
         for call in 1..calls.saturating_add(1) {
-            let manner = command.error_manner.stopped(call, Stop::Fails);
-            let ran = self.run(command, command.manner, manner)?;
+            let manner = command.err.manner.stopped(call, Stop::Fails);
+            let ran = self.run(command, command.out.manner, manner)?;
             check_cut(alloc, "error cut short", line.as_slice(), &ran.err, call)?;
             check_status(alloc, command.wanted_status(), ran.status)?;
         }
@@ -113,14 +108,14 @@ impl<'s, R: Files + AllocGlobal, P: Program> Stage<'s, R, P> {
     /// Runs it with a file of the system as its standard output.
     fn check_on_device(&self, command: &Command, path: &str) -> Result<(), Problem> {
         let alloc = self.alloc();
-        let is_looked_at = command.out.is_some() || command.writes.is_some();
-        if is_looked_at || command.stops || command.error_stops {
+        let is_looked_at = command.out.wanted.is_some() || command.out.writes.is_some();
+        if is_looked_at || command.out.stops || command.err.stops {
             return Err(Problem::said(alloc, "no more is known of a file of the system"));
         }
         let Ok(mut device) = OpenOptions::new().write(true).open(self.host, path) else {
             return Err(Problem::said(alloc, "the writer cannot be opened"));
         };
-        let mut err = Writer::new(alloc, command.error_manner);
+        let mut err = Writer::new(alloc, command.err.manner);
         let status = self.run_words(command, &mut device, &mut err);
         if err.starved || status == 3 {
             return Err(Problem::Memory);

@@ -55,13 +55,9 @@ fn run_all<R: Runtime + AllocGlobal, P: Program>(
 
 /// The names of the arguments; where there are none, those of the folder.
 fn names<R: Runtime + AllocGlobal>(rt: &R) -> Result<Vec<String>, Problem> {
-    let mut names = Vec::new(rt.alloc());
-    let arguments = match env::args(rt) {
-        Ok(arguments) => arguments,
-        Err(error) => {
-            return Err(Problem::of(rt.alloc(), &error, "the arguments are not UTF-8"));
-        }
-    };
+    let (alloc, unread) = (rt.alloc(), "the arguments are not UTF-8");
+    let arguments = env::args(rt).map_err(|error| Problem::of(alloc, &error, unread))?;
+    let mut names = Vec::new(alloc);
     for argument in arguments.skip(1) {
         names.push(argument)?;
     }
@@ -75,16 +71,10 @@ fn add_names_of_folder<R: Runtime + AllocGlobal>(
     rt: &R,
     names: &mut Vec<String>,
 ) -> Result<(), Problem> {
-    let unread = "the folder cannot be read";
-    let entries = match fs::read_dir(rt, ".") {
-        Ok(entries) => entries,
-        Err(error) => return Err(Problem::of(rt.alloc(), &error, unread)),
-    };
-    for entry in entries {
-        match entry {
-            Ok(entry) => add_name(rt, entry.file_name(), names)?,
-            Err(error) => return Err(Problem::of(rt.alloc(), &error, unread)),
-        }
+    let (alloc, unread) = (rt.alloc(), "the folder cannot be read");
+    for entry in fs::read_dir(rt, ".").map_err(|error| Problem::of(alloc, &error, unread))? {
+        let entry = entry.map_err(|error| Problem::of(alloc, &error, unread))?;
+        add_name(rt, entry.file_name(), names)?;
     }
     Ok(names.sort()?)
 }
@@ -151,8 +141,6 @@ fn file_and_line(asked: &str) -> (&str, Option<usize>) {
 }
 
 fn say<R: Print + AllocGlobal>(rt: &R, text: &str) -> Result<(), Problem> {
-    match println!(rt; "{text}") {
-        Ok(()) => Ok(()),
-        Err(_) => Err(Problem::said(rt.alloc(), "standard output failed")),
-    }
+    let alloc = rt.alloc();
+    println!(rt; "{text}").map_err(|_| Problem::said(alloc, "standard output failed"))
 }

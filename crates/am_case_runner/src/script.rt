@@ -175,10 +175,8 @@ where
         if !path.ends_with(".texts") {
             return Err(Problem::about(alloc, "no file of texts", name));
         }
-        let file = match fs::read(self.host, path) {
-            Ok(file) => file,
-            Err(error) => return Err(Problem::of(alloc, &error, "no such file of texts")),
-        };
+        let file = fs::read(self.host, path);
+        let file = file.map_err(|error| Problem::of(alloc, &error, "no such file of texts"))?;
         define_all(alloc, file.as_slice(), &mut self.texts, &mut self.files)
     }
 
