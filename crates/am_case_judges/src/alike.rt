@@ -5,12 +5,12 @@ ghost use Rattle.am_universe.specs.Words.{sizes};
 
 use crate::completions::{completion, count_completions, verdict_of_count};
 use crate::cube::verdict_text;
-use crate::positions::add_positions;
+use crate::positions::{given_text, start_text};
 use crate::prefixes::{prefixes_of, start_of};
 use am_case_files::Problem;
 use am_search::{Answers, Judge, Verdict};
 use am_universe::{Choice, Universe};
-use std::alloc::{AllocError, Global};
+use std::alloc::Global;
 
 /// More prefixes than there are where all starts are tried.
 const MOST_PREFIXES: usize = 1_000;
@@ -86,20 +86,9 @@ fn compare_at<J: Judge, K: Judge>(
         return Ok(found.len());
     }
     let part = start_text(alloc, prefix, is_after)?;
-    let wanted = choices_text(alloc, wanted.as_slice())?;
-    let found = choices_text(alloc, found.as_slice())?;
+    let wanted = given_text(alloc, wanted.as_slice())?;
+    let found = given_text(alloc, found.as_slice())?;
     Err(Problem::differs(alloc, part.as_str(), wanted.as_bytes(), found.as_bytes()))
-}
-
-fn start_text(alloc: Global, prefix: &Choice, is_after: bool) -> Result<String, AllocError> {
-    let part = if is_after {
-        "given after "
-    } else {
-        "given at "
-    };
-    let mut text = String::from_str(alloc, part)?;
-    add_positions(alloc, prefix, &mut text)?;
-    Ok(text)
 }
 
 /// What is given over a judge from a start on.
@@ -126,19 +115,9 @@ fn given_from<J: Judge>(
     Err(Problem::said(alloc, "more answers than there are choices"))
 }
 
+// In a function of its own, so that the loop is proved to end.
 fn next_of<J: Judge>(answers: &mut Answers<'_, J>) -> Option<Choice> {
     answers.next()
-}
-
-fn choices_text(alloc: Global, choices: &[Choice]) -> Result<String, AllocError> {
-    let mut text = String::new(alloc);
-    for (i, choice) in choices.iter().enumerate() {
-        if i > 0 {
-            text.push(' ')?;
-        }
-        add_positions(alloc, choice, &mut text)?;
-    }
-    Ok(text)
 }
 
 /// What a judge says of a prefix.

@@ -1,5 +1,6 @@
 //! Cubes: what a list of matchers is known to be at a prefix, and counted over its completions.
 
+use crate::alike::check_verdict;
 use crate::completions::{completion, count_completions, verdict_of_count};
 use crate::positions::prefix_of;
 use am_case_files::Problem;
@@ -20,17 +21,12 @@ pub fn cube_text(
     let prefix = prefix_of(alloc, universe, positions)?;
     let verdict = verdict_at(alloc, universe, list, &prefix)?;
     let word = verdict_text(verdict);
-    match counted(alloc, universe, list, &prefix)? {
-        Some(counted) if counted == verdict => Ok(Vec::from_slice(alloc, word.as_bytes())?),
-        Some(counted) => {
-            let wanted = verdict_text(counted);
-            Err(Problem::differs(alloc, "counted", wanted.as_bytes(), word.as_bytes()))
-        }
-        None => {
-            let text = format!(in alloc; "{word}, not counted")?;
-            Ok(text.into_bytes())
-        }
-    }
+    let Some(counted) = counted(alloc, universe, list, &prefix)? else {
+        let text = format!(in alloc; "{word}, not counted")?;
+        return Ok(text.into_bytes());
+    };
+    check_verdict(alloc, "counted", counted, verdict)?;
+    Ok(Vec::from_slice(alloc, word.as_bytes())?)
 }
 
 /// The word of a verdict.

@@ -24,14 +24,36 @@ pub fn prefix_of(alloc: Global, universe: &Universe, positions: &str) -> Result<
 }
 
 /// Adds the positions of a choice, with a `.` between.
-pub fn add_positions(alloc: Global, choice: &Choice, text: &mut String) -> Result<(), AllocError> {
+pub fn add_positions(choice: &Choice, text: &mut String) -> Result<(), AllocError> {
     for i in 0..choice.len() {
         if i > 0 {
             text.push('.')?;
         }
         let position = choice.get(i);
-        let position = format!(in alloc; "{position}")?;
-        text.push_str(position.as_str())?;
+        write!(text, "{position}")?;
     }
     Ok(())
+}
+
+/// Adds the positions of each of some choices, behind a blank.
+pub fn add_each(choices: &[Choice], text: &mut String) -> Result<(), AllocError> {
+    for choice in choices {
+        text.push(' ')?;
+        add_positions(choice, text)?;
+    }
+    Ok(())
+}
+
+/// `given:`, and the positions of each of some choices behind a blank.
+pub fn given_text(alloc: Global, choices: &[Choice]) -> Result<String, AllocError> {
+    let mut text = String::from_str(alloc, "given:")?;
+    add_each(choices, &mut text)?;
+    Ok(text)
+}
+
+/// Where a search begins: at a prefix, or after a whole choice.
+pub fn start_text(alloc: Global, prefix: &Choice, is_after: bool) -> Result<String, AllocError> {
+    let mut text = String::from_str(alloc, if is_after { "after " } else { "at " })?;
+    add_positions(prefix, &mut text)?;
+    Ok(text)
 }

@@ -4,13 +4,13 @@ ghost use Rattle.am_search.specs.Words.{IsStart};
 ghost use Rattle.am_case_judges.specs.WrittenView.{written_sizes};
 
 use crate::judge_text::judge_of;
-use crate::positions::{add_positions, prefix_of};
+use crate::positions::{add_each, add_positions, given_text, prefix_of, start_text};
 use crate::rule::{Place, judged_from, places_of, true_from};
 use crate::written::Written;
-use am_case_files::{Problem, split_at_last, utf8};
+use am_case_files::{Problem, read_number, split_at_last, utf8};
 use am_search::{Answers, Start, State, first};
 use am_universe::{Choice, Universe};
-use std::alloc::{AllocError, Global};
+use std::alloc::Global;
 
 /// The most answers that a case may have.
 const MOST_ANSWERS: usize = 1_000;
@@ -26,8 +26,8 @@ pub fn search_text(alloc: Global, universe: &Universe, text: &[u8]) -> Result<Ve
         return check_every_start(alloc, &judge);
     }
     match text.strip_suffix(b" counted") {
-        Some(text) => seen_over(alloc, universe, text)?.counted_text(alloc),
-        None => seen_over(alloc, universe, text)?.text(alloc),
+        Some(text) => seen_over(alloc, universe, text)?.text(alloc, true),
+        None => seen_over(alloc, universe, text)?.text(alloc, false),
     }
 }
 
@@ -41,47 +41,23 @@ struct Seen {
 }
 
 impl Seen {
-    /// `given:` and the choices, and `; judged:` and the prefixes, each behind a blank; and
-    /// `; stopped at ` and the prefix, if there is one.
-    fn text(&self, alloc: Global) -> Result<Vec<u8>, Problem> {
-        let mut text = self.given_text(alloc)?;
+    /// `given:` and the choices, and `; judged:` and the prefixes, each behind a blank, or their
+    /// number, where they are counted; and `; stopped at ` and the prefix, if there is one.
+    fn text(&self, alloc: Global, is_counted: bool) -> Result<Vec<u8>, Problem> {
+        let mut text = given_text(alloc, self.given.as_slice())?;
         text.push_str("; judged:")?;
-        add_each(alloc, self.judged.as_slice(), &mut text)?;
-        self.add_stop(alloc, &mut text)?;
-        Ok(text.into_bytes())
-    }
-
-    /// The same, but for the prefixes their number.
-    fn counted_text(&self, alloc: Global) -> Result<Vec<u8>, Problem> {
-        let mut text = self.given_text(alloc)?;
-        let count = self.judged.len();
-        let count = format!(in alloc; "; judged: {count} prefixes")?;
-        text.push_str(count.as_str())?;
-        self.add_stop(alloc, &mut text)?;
-        Ok(text.into_bytes())
-    }
-
-    fn add_stop(&self, alloc: Global, text: &mut String) -> Result<(), AllocError> {
+        if is_counted {
+            let count = self.judged.len();
+            write!(text, " {count} prefixes")?;
+        } else {
+            add_each(self.judged.as_slice(), &mut text)?;
+        }
         if let Some(prefix) = &self.stopped {
             text.push_str("; stopped at ")?;
-            add_positions(alloc, prefix, text)?;
+            add_positions(prefix, &mut text)?;
         }
-        Ok(())
+        Ok(text.into_bytes())
     }
-
-    fn given_text(&self, alloc: Global) -> Result<String, AllocError> {
-        let mut text = String::from_str(alloc, "given:")?;
-        add_each(alloc, self.given.as_slice(), &mut text)?;
-        Ok(text)
-    }
-}
-
-fn add_each(alloc: Global, choices: &[Choice], text: &mut String) -> Result<(), AllocError> {
-    for choice in choices {
-        text.push(' ')?;
-        add_positions(alloc, choice, text)?;
-    }
-    Ok(())
 }
 
 /// What a search over a judge gives and judges from where it begins.
@@ -102,12 +78,9 @@ fn seen_over(alloc: Global, universe: &Universe, text: &[u8]) -> Result<Seen, Pr
 
 /// What stands before ` steps `, and the budget behind it, if there is one.
 fn steps_of(alloc: Global, text: &[u8]) -> Result<(&[u8], Option<u64>), Problem> {
-    let Some((text, steps)) = split_at_last(text, b" steps ") else {
-        return Ok((text, None));
-    };
-    match utf8(alloc, steps)?.parse::<u64>() {
-        Ok(steps) => Ok((text, Some(steps))),
-        Err(_) => Err(Problem::about(alloc, "no number of steps", steps)),
+    match split_at_last(text, b" steps ") {
+        Some((text, steps)) => Ok((text, Some(read_number(alloc, steps, "no number of steps")?))),
+        None => Ok((text, None)),
     }
 }
 
@@ -228,17 +201,11 @@ fn check_start(
         judged: judged_from(alloc, places, from)?,
         stopped: None,
     };
-    let wanted = wanted.text(alloc)?;
-    let found = seen_from(alloc, judge, start, None)?.text(alloc)?;
+    let wanted = wanted.text(alloc, false)?;
+    let found = seen_from(alloc, judge, start, None)?.text(alloc, false)?;
     if found.as_slice() == wanted.as_slice() {
         return Ok(());
     }
     let part = start_text(alloc, &prefix, is_after)?;
     Err(Problem::differs(alloc, part.as_str(), wanted.as_slice(), found.as_slice()))
-}
-
-fn start_text(alloc: Global, prefix: &Choice, is_after: bool) -> Result<String, AllocError> {
-    let mut text = String::from_str(alloc, if is_after { "after " } else { "at " })?;
-    add_positions(alloc, prefix, &mut text)?;
-    Ok(text)
 }
