@@ -1,5 +1,5 @@
 -- The rows of a list of matchers, and what they say of the label set of a whole choice.
-use Rattle.std.proofs.Common.{◌≡◌, ℕ, zero, suc, ◌+◌, ◌<◌, ◌≤◌, Bool, false, ◌&&◌, cond}
+use Rattle.std.proofs.Common.{◌≡◌, ℕ, zero, suc, ◌+◌, ◌<◌, ◌≤◌, Bool, false, cond}
 use Rattle.std.proofs.Common.{List, [], ◌∷◌, ◌++◌}
 use Rattle.std.proofs.Common.{length, map, take, get_or, Option, Some, None, All}
 use Rattle.std.proofs.Common.{refl, sym, ap, ◌∙◌, subst, arith}
@@ -7,16 +7,16 @@ use Rattle.std.specs.List.{list_all}
 use Rattle.std.proofs.lemmas.List.{length-append, take_more, take_all}
 use Rattle.std.proofs.lemmas.List.{get_or_append_left, get_or-append-add}
 use Rattle.std.proofs.lemmas.List.Elements.{All-map}
-use Rattle.std.proofs.lemmas.List.Folds.{list_all-append, list_all-map}
+use Rattle.std.proofs.lemmas.List.Folds.{list_all-map}
 use Rattle.am_universe.specs.Universe.{Label, IsUniverse, sizes}
 use Rattle.am_universe.specs.Choice.{IsWhole}
 use Rattle.am_labels.specs.Matcher.{Condition}
 use Rattle.am_labels.specs.Row.{TruthRow, truths_of, truth_among, truth_at, row_of, row_holds}
 use Rattle.am_labels.proofs.RowLawLemmas.{rows_decide}
 use Rattle.am_search.specs.declared.verdict.Verdict.TheVariants.{Yes, No}
-use Rattle.am_masks.specs.Verdicts.{matches_at, verdict_of_list}
+use Rattle.am_masks.specs.Verdicts.{verdict_of_list}
 use Rattle.am_masks.proofs.VerdictLemmas.{list_says}
-use Rattle.am_whole.specs.RowsView.{IsRow, all_hold_at}
+use Rattle.am_whole.specs.RowsView.{IsRow}
 
 -- ---- A row that is copied.
 
@@ -67,16 +67,11 @@ are_rows u ms rows more same =
 
 -- ---- At a whole choice.
 
-pub verdict_of_rows : (u : List Label) (ms : List Condition) (rows more kept others : List TruthRow)
-    (c : List ℕ) → IsUniverse u → IsWhole (sizes u) c → rows ++ more ≡ map (row_of u) ms
-    → kept ≡ rows → others ≡ more
-    → cond (all_hold_at kept c && all_hold_at others c) Yes No ≡ verdict_of_list u ms c
-verdict_of_rows u ms rows more kept others c h whole same first rest =
-    let truth : (all_hold_at kept c && all_hold_at others c) ≡ matches_at u ms c =
-    ap (λ rs. all_hold_at rs c && all_hold_at others c) first
-    ∙ ap (λ rs. all_hold_at rows c && all_hold_at rs c) rest
-    ∙ sym (list_all-append (λ row. row_holds row c) rows more)
-    ∙ ap (list_all (λ row. row_holds row c)) same
-    ∙ list_all-map (λ row. row_holds row c) (row_of u) ms ∙ sym (rows_decide u c ms h whole) in
-    ap (λ b. cond b Yes No) truth
+pub verdict_of_rows : (u : List Label) (ms : List Condition) (kept : List TruthRow) (c : List ℕ)
+    → IsUniverse u → IsWhole (sizes u) c → kept ≡ map (row_of u) ms
+    → cond (list_all (λ row. row_holds row c) kept) Yes No ≡ verdict_of_list u ms c
+verdict_of_rows u ms kept c h whole same =
+    ap (λ rows. cond (list_all (λ row. row_holds row c) rows) Yes No) same
+    ∙ ap (λ b. cond b Yes No)
+    (list_all-map (λ row. row_holds row c) (row_of u) ms ∙ sym (rows_decide u c ms h whole))
     ∙ sym (list_says u ms c whole)

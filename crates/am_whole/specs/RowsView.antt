@@ -1,5 +1,5 @@
 -- What the rows of a list of matchers say of a choice.
-use Rattle.std.specs.Prelude.{◌≡◌, ℕ, List, Bool, ◌&&◌, if◌then◌else◌}
+use Rattle.std.specs.Prelude.{◌≡◌, ℕ, List, Bool, if◌then◌else◌}
 use Rattle.std.specs.List.{list_all}
 use Rattle.am_labels.specs.Words.{Label, Condition, TruthRow, row_of, row_holds}
 use Rattle.am_search.specs.declared.verdict.Verdict.{Verdict}
@@ -11,11 +11,8 @@ abbrev pub IsRow : List Label → TruthRow → Type 0
 IsRow u row = (m : Condition) × (row ≡ row_of u m)
 
 -- Every row holds at a choice.
-abbrev pub all_hold_at : List TruthRow → List ℕ → Bool
-all_hold_at rows c = list_all (λ row. row_holds row c) rows
-
 abbrev pub rows_hold_at : Rows → List ℕ → Bool
-rows_hold_at rows c = all_hold_at rows.rows.items c && all_hold_at rows.more.items c
+rows_hold_at rows c = list_all (λ row. row_holds row c) rows.rows.items
 
 -- The verdict of rows. It is that of their list at a whole choice alone.
 abbrev pub rows_verdict : Rows → List ℕ → Verdict

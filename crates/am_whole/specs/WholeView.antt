@@ -1,16 +1,16 @@
 -- What a clause reads of `Whole`: its universe, the sizes of its labels, which choices are true,
 -- and its verdicts.
-use Rattle.std.specs.Prelude.{◌≡◌, ℕ, ◌≤◌, ◌<◌, List, [], ◌∷◌, length, Bool, true, false, nat_lt}
+use Rattle.std.specs.Prelude.{◌≡◌, ℕ, ◌<◌, List, length, Bool, true, false, nat_lt}
 use Rattle.std.specs.Prelude.{if◌then◌else◌, IsTrue}
 use Rattle.std.specs.List.{AllByRecursion}
 use Rattle.std.proofs.Common.{sym, ap, subst, refl, arith}
-use Rattle.std.proofs.lemmas.Bool.{and_parts}
 use Rattle.std.proofs.lemmas.Bool.Decides.{nat_tests}
 use Rattle.am_universe.specs.Universe.{Label, sizes}
 use Rattle.am_universe.specs.Choice.{admits, IsWhole}
 use Rattle.am_universe.specs.Completions.{completions}
 use Rattle.am_universe.proofs.CompletionLemmas.{completions_of_whole}
 use Rattle.am_search.specs.Judge.{AreSizes, IsJudge}
+use Rattle.am_search.proofs.Odometer.{admits_at_most}
 use Rattle.am_search.specs.declared.verdict.Verdict.{Verdict}
 use Rattle.am_search.specs.declared.verdict.Verdict.TheVariants.{Yes, No, Open}
 use Rattle.am_masks.specs.declared.modality.Modality.TheVariants.{Must}
@@ -37,19 +37,10 @@ verdict_when_whole sizes truth prefix =
 abbrev pub whole_verdict : Whole → List ℕ → Verdict
 whole_verdict whole = verdict_when_whole (whole_sizes whole) (whole_truth whole)
 
--- A prefix that is admitted is not longer than the list of labels.
-admitted_fits : (sizes prefix : List ℕ) → IsTrue (admits sizes prefix)
-    → length prefix ≤ length sizes
-admitted_fits sizes [] a = omega arith
-admitted_fits [] (p ∷ prefix) a = cc
-admitted_fits (size ∷ sizes) (p ∷ prefix) a =
-    let rest = admitted_fits sizes prefix (and_parts (nat_lt p size) (admits sizes prefix) a).1 in
-    omega arith
-
 whole_when_not_short : (sizes prefix : List ℕ) → IsTrue (admits sizes prefix)
     → nat_lt (length prefix) (length sizes) ≡ false → IsWhole sizes prefix
 whole_when_not_short sizes prefix a long =
-    let fits = admitted_fits sizes prefix a in
+    let fits = admits_at_most sizes prefix a in
     (a, grind (arith, nat_tests))
 
 -- What is said of a whole choice is said of each of its completions.

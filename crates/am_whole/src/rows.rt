@@ -3,7 +3,7 @@
 ghost use Rattle.std.specs.Prelude.{◌≡◌, ℕ, List, map, length, All, IfOk, IfErr};
 ghost use Rattle.am_labels.specs.Words.{row_holds};
 ghost use Rattle.am_masks.specs.Words.{verdict_at};
-ghost use Rattle.am_whole.specs.RowsView.{IsRow, all_hold_at, rows_hold_at, rows_verdict};
+ghost use Rattle.am_whole.specs.RowsView.{IsRow, rows_hold_at, rows_verdict};
 
 use am_labels::{Choice, Row, Universe};
 use am_masks::{Cube, JudgedList};
@@ -58,12 +58,11 @@ impl KeptRow {
     }
 }
 
-/// The rows of a list of matchers, in the two parts in which they come. A whole choice has to
-/// satisfy each of them; of a prefix that is not whole they say nothing.
+/// The rows of a list of matchers. A whole choice has to satisfy each of them; of a prefix that is
+/// not whole they say nothing.
 #[derive(Drop)]
 pub struct Rows {
     rows: Vec<KeptRow>,
-    more: Vec<KeptRow>,
 }
 
 impl Rows {
@@ -71,7 +70,7 @@ impl Rows {
     fn hold_at(&self, choice: &Choice) -> bool
         ensures truth { result ≡ rows_hold_at self.now choice.now }
     {
-        all_hold_at(&self.rows, choice) && all_hold_at(&self.more, choice)
+        self.rows.iter().all(|row| row.holds_at(choice))
     }
 }
 
@@ -92,9 +91,10 @@ impl JudgedList for Rows {
     ) -> Result<Rows, AllocError> {
         // What `len` promises tells the proof that the names of the labels are distinct.
         prove!(universe.len() <= MAX_LABELS);
-        let rows = kept_rows(alloc, universe, rows)?;
-        let more = kept_rows(alloc, universe, more)?;
-        Ok(Rows { rows, more })
+        let mut kept = kept_rows(alloc, universe, rows)?;
+        let mut others = kept_rows(alloc, universe, more)?;
+        kept.append(&mut others)?;
+        Ok(Rows { rows: kept })
     }
 
     fn judge(&self, prefix: &Choice) -> Verdict {
@@ -154,11 +154,4 @@ fn kept_rows(alloc: Global, universe: &Universe, rows: &[Row]) -> Result<Vec<Kep
         kept.push(KeptRow::of(alloc, universe, row)?)?;
     }
     Ok(kept)
-}
-
-/// Whether every one of some rows holds at a choice.
-fn all_hold_at(rows: &[KeptRow], choice: &Choice) -> bool
-    ensures truth { result ≡ all_hold_at rows.now choice.now }
-{
-    rows.iter().all(|row| row.holds_at(choice))
 }

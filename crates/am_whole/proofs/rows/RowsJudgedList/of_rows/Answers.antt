@@ -12,8 +12,11 @@ kept_rows-requires-2 c =
     c.requires.rows.1).1
 
 pub returns : goal.returns
-returns c = record {
-  exact = λ ms same prefix whole. verdict_of_rows c.args.universe.now ms c.args.rows.now
-      c.args.more.now c.in_ok-rows.rows.items c.in_ok-more.more.items prefix
-      c.len.ensures.universe whole same c.in_ok-rows.ensures.same c.in_ok-more.ensures.same;
-}
+returns c =
+    let kept = c.in_ok-append.ensures.items in
+    let first = c.in_ok-kept.ensures.same in
+    let rest = c.in_ok-others.ensures.same in
+    record {
+      exact = λ ms same prefix whole. verdict_of_rows c.args.universe.now ms
+          c.append.new.self.items prefix c.len.ensures.universe whole (rw (kept, first, rest) same);
+    }
