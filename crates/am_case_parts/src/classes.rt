@@ -1,12 +1,13 @@
 //! Classes of texts that a label's matchers cannot tell apart: which matchers are true of each, as
 //! a text.
 
+use crate::possible::add_copy;
 use crate::refusal::Refusal;
 use crate::telling::told;
 use am_case_files::Problem;
 use am_case_worlds::texts_of_seed;
 use am_classes::classes;
-use am_labels::{Kind, LabelSet, Matcher, Matchers, PreparedMatchers, parse_matchers};
+use am_labels::{LabelSet, Matcher, Matchers, PreparedMatchers, parse_matchers};
 use std::alloc::Global;
 
 /// How many texts are held against the classes that no one typed.
@@ -60,18 +61,9 @@ fn truths_of_classes(
 fn lists_of(alloc: Global, matchers: &[&Matcher]) -> Result<Vec<Matchers>, Problem> {
     let mut lists = Vec::new(alloc);
     for matcher in matchers {
-        let name = String::from_str(alloc, matcher.name())?;
-        let value = String::from_str(alloc, matcher.value())?;
         let mut list = Matchers::empty(alloc);
-        let added = match Matcher::new(alloc, name, matcher.op(), value) {
-            Ok(again) => list.push(again),
-            Err(kind) => Err(kind),
-        };
-        match added {
-            Ok(()) => lists.push(list)?,
-            Err(Kind::Memory) => return Err(Problem::Memory),
-            Err(_) => return Err(Problem::said(alloc, "a matcher that was read is refused")),
-        }
+        add_copy(alloc, matcher, &mut list)?;
+        lists.push(list)?;
     }
     Ok(lists)
 }

@@ -2,16 +2,17 @@
 
 ghost use Rattle.am_cubes.specs.Words.{plan_sizes};
 ghost use Rattle.am_search.specs.Words.{IsStart};
+ghost use Rattle.am_universe.specs.Words.{sizes};
 
 use crate::asked::{Asked, files_of};
 use crate::counted::CountedPlan;
 use crate::digits::with_own_digits;
-use crate::possible::asked_of_whole;
+use crate::possible::{asked_of_whole, question_of};
 use crate::refusal::Refusal;
 use crate::starts::positions_behind;
 use crate::telling::{made_refused, told};
 use crate::worlds::text_and_instant;
-use am_case_files::{Problem, split_at_last, utf8};
+use am_case_files::{Problem, read_number, split_at_last, utf8};
 use am_case_judges::{
     Alike, check_verdict, compare, counted_verdict, prefix_of, verdict_at, verdict_text,
 };
@@ -39,11 +40,14 @@ pub const ALL: Page<'static> = Page {
     steps: None,
 };
 
-/// What is asked: a question, and behind it ` at ` and an instant, if one is given.
-fn inputs_of(alloc: Global, over: Over<'_>, text: &[u8]) -> Result<AcceptedInputs, Refusal> {
-    let (question, at) = text_and_instant(alloc, text)?;
-    let files = files_of(over, at);
-    Ok(read_inputs(alloc, over.universe, &files, question, &ALL)?)
+/// What the inputs of a question say, at an instant, if one is given.
+fn inputs_of(
+    alloc: Global,
+    over: Over<'_>,
+    question: &str,
+    at: Option<&str>,
+) -> Result<AcceptedInputs, Refusal> {
+    Ok(read_inputs(alloc, over.universe, &files_of(over, at), question, &ALL)?)
 }
 
 /// What the plan of a question says of a prefix, or the fault.
@@ -51,15 +55,33 @@ pub fn of_judge(alloc: Global, over: Over<'_>, text: &[u8]) -> Result<Vec<u8>, R
     let Some((asked, positions)) = split_at_last(text, b" on ") else {
         return Err(Problem::said(alloc, "a question, ` on ` and positions are wanted").into());
     };
-    let inputs = inputs_of(alloc, over, asked)?;
-    let prefix = prefix_of(alloc, inputs.space.universe(), utf8(alloc, positions)?)?;
-    let plan = Plan::new(alloc, &inputs.space, &inputs.world, &inputs.question)?;
-    let verdict = verdict_at(alloc, inputs.space.universe(), &plan, &prefix)?;
-    let (question, _) = text_and_instant(alloc, asked)?;
-    let question = asked_of_whole(alloc, question, &inputs)?;
-    check_whole(alloc, &inputs, &question, &prefix, verdict)?;
-    check_absent(alloc, &inputs, &prefix)?;
-    Ok(told(alloc, verdict_text(verdict))?)
+    let (question, at) = text_and_instant(alloc, asked)?;
+    let inputs = inputs_of(alloc, over, question, at)?;
+    Ok(judged_text(alloc, &inputs, question, utf8(alloc, positions)?)?)
+}
+
+fn judged_text(
+    alloc: Global,
+    inputs: &AcceptedInputs,
+    question: &str,
+    positions: &str,
+) -> Result<Vec<u8>, Problem> {
+    let prefix = prefix_of(alloc, inputs.space.universe(), positions)?;
+    let verdict = verdict_by_plan(alloc, inputs, &inputs.question, &prefix)?;
+    let question = asked_of_whole(alloc, question, inputs)?;
+    check_whole(alloc, inputs, &question, &prefix, verdict)?;
+    check_absent(alloc, inputs, &prefix)?;
+    told(alloc, verdict_text(verdict))
+}
+
+fn verdict_by_plan(
+    alloc: Global,
+    inputs: &AcceptedInputs,
+    question: &Question,
+    prefix: &Choice,
+) -> Result<Verdict, Problem> {
+    let plan = Plan::new(alloc, &inputs.space, &inputs.world, question)?;
+    verdict_at(alloc, inputs.space.universe(), &plan, prefix)
 }
 
 /// Compares a verdict with the judge that looks at whole choices: at one of them it says the same,
@@ -96,31 +118,56 @@ fn check_whole(
 
 /// Checks that no label set ends at a route that is not there, or enters it.
 fn check_absent(alloc: Global, inputs: &AcceptedInputs, prefix: &Choice) -> Result<(), Problem> {
-    let universe = inputs.space.universe();
     let absent = Path::root().child(ABSENT);
     let (ends, enters) = (Question::ends(absent), Question::enters(absent));
-    let plan = Plan::new(alloc, &inputs.space, &inputs.world, &ends)?;
-    let found = verdict_at(alloc, universe, &plan, prefix)?;
+    let found = verdict_by_plan(alloc, inputs, &ends, prefix)?;
     check_verdict(alloc, "`ends` of no route", Verdict::No, found)?;
-    let plan = Plan::new(alloc, &inputs.space, &inputs.world, &enters)?;
-    let found = verdict_at(alloc, universe, &plan, prefix)?;
+    let found = verdict_by_plan(alloc, inputs, &enters, prefix)?;
     check_verdict(alloc, "`enters` of no route", Verdict::No, found)
 }
 
 /// The positions of the first choice of which a question is true, or the fault.
 pub fn of_first(alloc: Global, over: Over<'_>, text: &[u8]) -> Result<Vec<u8>, Refusal> {
-    let inputs = inputs_of(alloc, over, text)?;
-    let (question, _) = text_and_instant(alloc, text)?;
-    let question = asked_of_whole(alloc, question, &inputs)?;
-    let plan = Plan::new(alloc, &inputs.space, &inputs.world, &inputs.question)?;
-    let whole = Whole::new(alloc, inputs.space.universe(), &inputs.world, &question)?;
-    let found = first_text(alloc, first(&plan))?;
-    let wanted = first_text(alloc, first(&whole))?;
-    if found.as_slice() == wanted.as_slice() {
+    let (question, at) = text_and_instant(alloc, text)?;
+    let inputs = inputs_of(alloc, over, question, at)?;
+    Ok(first_text(alloc, first_choice(alloc, &inputs, question)?)?)
+}
+
+/// The first choice of which a question is true, as its plan finds it and the judge that looks at
+/// whole choices.
+pub fn first_choice(
+    alloc: Global,
+    inputs: &AcceptedInputs,
+    question: &str,
+) -> Result<Option<Choice>, Problem> {
+    let found = first_by_plan(alloc, inputs, question)?;
+    let wanted = first_by_whole(alloc, inputs, question)?;
+    if found == wanted {
         return Ok(found);
     }
+    let (wanted, found) = (first_text(alloc, wanted)?, first_text(alloc, found)?);
     let (wanted, found) = (wanted.as_slice(), found.as_slice());
-    Err(Problem::differs(alloc, "the first of all choices", wanted, found).into())
+    Err(Problem::differs(alloc, "the first of all choices", wanted, found))
+}
+
+fn first_by_plan(
+    alloc: Global,
+    inputs: &AcceptedInputs,
+    question: &str,
+) -> Result<Option<Choice>, Problem> {
+    let question = question_of(alloc, question, inputs)?;
+    let plan = Plan::new(alloc, &inputs.space, &inputs.world, &question)?;
+    Ok(first(&plan))
+}
+
+fn first_by_whole(
+    alloc: Global,
+    inputs: &AcceptedInputs,
+    question: &str,
+) -> Result<Option<Choice>, Problem> {
+    let question = asked_of_whole(alloc, question, inputs)?;
+    let whole = Whole::new(alloc, inputs.space.universe(), &inputs.world, &question)?;
+    Ok(first(&whole))
 }
 
 fn first_text(alloc: Global, choice: Option<Choice>) -> Result<Vec<u8>, Problem> {
@@ -140,28 +187,51 @@ pub fn of_count(alloc: Global, over: Over<'_>, text: &[u8]) -> Result<Vec<u8>, R
         None => (text, false),
     };
     let (text, budget) = match split_at_last(text, b" within ") {
-        Some((text, budget)) => (text, Some(budget_of(alloc, budget)?)),
+        Some((text, budget)) => (
+            text,
+            Some(read_number(alloc, budget, "no budget of a search")?),
+        ),
         None => (text, None),
     };
     let (text, _) = with_own_digits(alloc, over, text)?;
-    let asked = Asked::of(alloc, text.as_slice())?;
+    count_page(
+        alloc,
+        over,
+        Asked::of(alloc, text.as_slice())?,
+        budget,
+        is_first,
+    )
+}
+
+/// Counts what a page gives, or what is given within a budget; or the first answer alone.
+fn count_page(
+    alloc: Global,
+    over: Over<'_>,
+    asked: Asked<'_, '_>,
+    budget: Option<u64>,
+    is_first: bool,
+) -> Result<Vec<u8>, Refusal> {
     let page = asked.page();
     let files = files_of(over, None);
     let inputs = read_inputs(alloc, over.universe, &files, asked.question, &page)?;
+    Ok(count_answers(alloc, &inputs, budget.or(page.steps), is_first)?)
+}
+
+fn count_answers(
+    alloc: Global,
+    inputs: &AcceptedInputs,
+    steps: Option<u64>,
+    is_first: bool,
+) -> Result<Vec<u8>, Problem>
+    requires { IsStart (sizes inputs.now.space.labels) inputs.now.start }
+{
     let plan = Plan::new(alloc, &inputs.space, &inputs.world, &inputs.question)?;
     let counted = CountedPlan::of(&plan);
     if is_first {
         let given = usize::from(first(&counted).is_some());
-        return Ok(count_text(alloc, given, counted.asked(), State::Ended)?);
+        return count_text(alloc, given, counted.asked(), State::Ended);
     }
-    Ok(count_from(alloc, &counted, inputs.start, budget.or(page.steps))?)
-}
-
-fn budget_of(alloc: Global, text: &[u8]) -> Result<u64, Problem> {
-    match utf8(alloc, text)?.parse::<u64>() {
-        Ok(budget) => Ok(budget),
-        Err(_) => Err(Problem::about(alloc, "no budget of a search", text)),
-    }
+    count_from(alloc, &counted, inputs.start, steps)
 }
 
 /// Counts what is given from a start on, and how often the plan is asked for it.
@@ -197,8 +267,8 @@ fn count_text(alloc: Global, given: usize, asked: u64, state: State) -> Result<V
 /// How many starts there are, and how many choices are given from them, where the plan of a
 /// question and the judge that looks at whole choices give the same; or the fault.
 pub fn of_alike(alloc: Global, over: Over<'_>, text: &[u8]) -> Result<Vec<u8>, Refusal> {
-    let inputs = inputs_of(alloc, over, text)?;
-    let (question, _) = text_and_instant(alloc, text)?;
+    let (question, at) = text_and_instant(alloc, text)?;
+    let inputs = inputs_of(alloc, over, question, at)?;
     let alike = compared(alloc, &inputs, question)?;
     let (starts, items) = (alike.starts, alike.items);
     let text = format!(in alloc; "ok: {starts} starts, {items} items")?;
@@ -230,15 +300,13 @@ pub fn of_generated(alloc: Global, text: &[u8]) -> Result<Vec<u8>, Problem> {
     let mut sum = Sum { mixed: 0, items: 0 };
     for i in 0..count {
         let seed = seed.wrapping_add(i);
-        match compared_at(alloc, seed, has_impossible) {
-            Ok(alike) => add_alike(&alike, &mut sum),
-            Err(problem) => return Err(of_seed(alloc, seed, problem)),
-        }
+        let alike = compared_at(alloc, seed, has_impossible);
+        let alike = alike.map_err(|problem| of_seed(alloc, seed, problem))?;
+        add_alike(&alike, &mut sum);
     }
     let (mixed, items) = (sum.mixed, sum.items);
     let mut text = format!(in alloc; "ok: {count} worlds, {mixed} with some answers and not all")?;
-    let rest = format!(in alloc; ", {items} items")?;
-    text.push_str(rest.as_str())?;
+    write!(text, ", {items} items")?;
     Ok(text.into_bytes())
 }
 
@@ -259,8 +327,8 @@ fn compared_at(alloc: Global, seed: u64, has_impossible: bool) -> Result<Alike, 
         at: Some(SmallWorld::INSTANT),
     };
     let universe = made.universe.as_bytes();
-    match read_inputs(alloc, universe, &files, made.question.as_str(), &ALL) {
-        Ok(inputs) => compared(alloc, &inputs, made.question.as_str()),
-        Err(fault) => Err(made_refused(alloc, &fault)),
-    }
+    let question = made.question.as_str();
+    let inputs = read_inputs(alloc, universe, &files, question, &ALL);
+    let inputs = inputs.map_err(|fault| made_refused(alloc, &fault))?;
+    compared(alloc, &inputs, question)
 }

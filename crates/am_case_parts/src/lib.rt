@@ -14,7 +14,9 @@ mod telling;
 pub use asked::{Asked, files_of};
 pub use digits::{digits_of_command, with_own_digits};
 pub use refusal::Refusal;
-pub use telling::{fault_behind, made_refused, on_one_line, set_behind, set_of_text, told};
+pub use telling::{
+    fault_behind, made_refused, on_one_line, set_behind, set_of_text, told, written_text,
+};
 
 // What is read.
 mod alerts;
@@ -33,7 +35,7 @@ mod judges;
 mod possible;
 mod starts;
 
-pub use judges::ALL;
+pub use judges::{ALL, first_choice};
 pub use possible::{asked_of_whole, question_of};
 pub use starts::token_of;
 

@@ -14,30 +14,21 @@ use std::alloc::Global;
 
 pub fn of_matchers(alloc: Global, text: &str) -> Result<Vec<u8>, Refusal> {
     let list = parse_matchers(alloc, text)?;
-    let mut text = told(alloc, "ok: ")?;
-    add_matchers(alloc, &list, &mut text)?;
-    Ok(text)
+    let mut out = Out::new(told(alloc, "ok: ")?);
+    write_matchers(&list, &mut out)?;
+    Ok(out.into_inner())
 }
 
-/// Adds a list of matchers in braces, the values in quotes.
-pub fn add_matchers(alloc: Global, list: &Matchers, text: &mut Vec<u8>) -> Result<(), Problem> {
-    text.push(b'{')?;
+/// Writes a list of matchers in braces, the values in quotes.
+pub fn write_matchers(list: &Matchers, out: &mut Out<Vec<u8>>) -> Result<(), Kind> {
+    put_str(out, "{")?;
     for i in 0..list.len() {
         if i > 0 {
-            text.push(b',')?;
+            put_str(out, ",")?;
         }
-        let matcher = matcher_text(alloc, list.get(i))?;
-        text.extend_from_slice(matcher.as_slice())?;
+        write_matcher(list.get(i), out)?;
     }
-    Ok(text.push(b'}')?)
-}
-
-fn matcher_text(alloc: Global, matcher: &Matcher) -> Result<Vec<u8>, Problem> {
-    let mut out = Out::new(Vec::new(alloc));
-    match write_matcher(matcher, &mut out) {
-        Ok(()) => Ok(out.into_inner()),
-        Err(_) => Err(Problem::Memory),
-    }
+    put_str(out, "}")
 }
 
 fn write_matcher(matcher: &Matcher, out: &mut Out<Vec<u8>>) -> Result<(), Kind> {
@@ -64,9 +55,9 @@ pub fn of_matcher(alloc: Global, text: &[u8]) -> Result<Vec<u8>, Refusal> {
         let name = String::from_str(alloc, utf8(alloc, name)?)?;
         let value = String::from_str(alloc, utf8(alloc, value)?)?;
         let matcher = Matcher::new(alloc, name, op, value)?;
-        let mut text = told(alloc, "ok: ")?;
-        text.extend_from_slice(matcher_text(alloc, &matcher)?.as_slice())?;
-        return Ok(text);
+        let mut out = Out::new(told(alloc, "ok: ")?);
+        write_matcher(&matcher, &mut out)?;
+        return Ok(out.into_inner());
     }
     Err(Problem::about(alloc, "a name, an operator and a value are wanted", text).into())
 }

@@ -1,6 +1,7 @@
 //! Questions for the judge that looks at whole choices. It knows of no impossible label sets, so
 //! that these are left out by what it is asked.
 
+use crate::telling::not_accepted;
 use am_case_files::Problem;
 use am_eval::Question;
 use am_labels::{Kind, Matcher, Matchers};
@@ -28,35 +29,28 @@ pub fn question_of(
     text: &str,
     inputs: &AcceptedInputs,
 ) -> Result<Question, Problem> {
-    match parse_question(alloc, text, inputs.world.config()) {
-        Ok(question) => Ok(question),
-        Err(Kind::Memory) => Err(Problem::Memory),
-        Err(_) => Err(Problem::about(alloc, "no question", text.as_bytes())),
-    }
+    let question = parse_question(alloc, text, inputs.world.config());
+    question.map_err(|kind| not_accepted(alloc, kind, "no question", text.as_bytes()))
 }
 
 /// A list with the same matchers.
 fn copy_of(alloc: Global, list: &Matchers) -> Result<Matchers, Problem> {
     let mut copy = Matchers::empty(alloc);
     for i in 0..list.len() {
-        let matcher = list.get(i);
-        let name = String::from_str(alloc, matcher.name())?;
-        let value = String::from_str(alloc, matcher.value())?;
-        let again = match Matcher::new(alloc, name, matcher.op(), value) {
-            Ok(again) => again,
-            Err(kind) => return Err(not_copied(alloc, kind)),
-        };
-        if let Err(kind) = copy.push(again) {
-            return Err(not_copied(alloc, kind));
-        }
+        add_copy(alloc, list.get(i), &mut copy)?;
     }
     Ok(copy)
 }
 
-/// Why a list that was read is not accepted again.
-fn not_copied(alloc: Global, kind: Kind) -> Problem {
-    match kind {
-        Kind::Memory => Problem::Memory,
-        _ => Problem::said(alloc, "a list that was read is refused"),
-    }
+/// Adds a copy of a matcher to a list.
+pub fn add_copy(alloc: Global, matcher: &Matcher, list: &mut Matchers) -> Result<(), Problem> {
+    let words = "a matcher that was read is refused";
+    let added = push_copy(alloc, matcher, list);
+    added.map_err(|kind| not_accepted(alloc, kind, words, matcher.value().as_bytes()))
+}
+
+fn push_copy(alloc: Global, matcher: &Matcher, list: &mut Matchers) -> Result<(), Kind> {
+    let name = String::from_str(alloc, matcher.name())?;
+    let value = String::from_str(alloc, matcher.value())?;
+    list.push(Matcher::new(alloc, name, matcher.op(), value)?)
 }

@@ -1,10 +1,11 @@
 //! Silences and instants: what the calls of the libraries give at a text, as a text.
 
-use crate::matchers::add_matchers;
+use crate::matchers::write_matchers;
 use crate::refusal::Refusal;
-use crate::telling::{fault_behind, told};
+use crate::telling::{fault_behind, told, written_text};
 use am_case_files::Problem;
 use am_files::{Silence, Silences, parse_instant, read_silences};
+use am_labels::{Kind, Out, put_str};
 use std::alloc::Global;
 
 /// The silences of an export, or its fault.
@@ -20,22 +21,27 @@ fn silences_text(alloc: Global, silences: &Silences) -> Result<Vec<u8>, Problem>
     if silences.len() == 0 {
         return told(alloc, "ok: none");
     }
-    let mut text = told(alloc, "ok:")?;
-    for i in 0..silences.len() {
-        if i > 0 {
-            text.push(b';')?;
-        }
-        add_silence(alloc, silences.get(i), &mut text)?;
-    }
-    Ok(text)
+    let mut out = Out::new(told(alloc, "ok:")?);
+    let outcome = write_silences(alloc, silences, &mut out);
+    written_text(out, outcome)
 }
 
-fn add_silence(alloc: Global, silence: &Silence, text: &mut Vec<u8>) -> Result<(), Problem> {
+fn write_silences(alloc: Global, list: &Silences, out: &mut Out<Vec<u8>>) -> Result<(), Kind> {
+    for i in 0..list.len() {
+        if i > 0 {
+            put_str(out, ";")?;
+        }
+        write_silence(alloc, list.get(i), out)?;
+    }
+    Ok(())
+}
+
+fn write_silence(alloc: Global, silence: &Silence, out: &mut Out<Vec<u8>>) -> Result<(), Kind> {
     let starts = silence.starts();
     let ends = silence.ends();
     let span = format!(in alloc; " {starts} {ends} ")?;
-    text.extend_from_slice(span.as_bytes())?;
-    add_matchers(alloc, silence.matchers(), text)
+    put_str(out, span.as_str())?;
+    write_matchers(silence.matchers(), out)
 }
 
 /// The instant of a text, as one of UTC.

@@ -3,6 +3,7 @@
 use crate::asked::files_of;
 use crate::digits::digits_of;
 use crate::refusal::Refusal;
+use crate::telling::written_text;
 use am_case_files::{Problem, old_token, split_at_last, utf8, with_digits};
 use am_case_judges::{add_positions, cube_text, search_text};
 use am_case_runner::Over;
@@ -20,10 +21,8 @@ pub fn of_token(alloc: Global, universe: &[u8], token: &str) -> Result<Vec<u8>, 
     let digits = digits_of(alloc, universe, &none, "any")?;
     let token = with_digits(alloc, token.as_bytes(), digits.as_str())?;
     let space = read_universe(alloc, universe)?;
-    let start = match parse_token(utf8(alloc, token.as_slice())?, space.universe(), &own) {
-        Ok(start) => start,
-        Err(kind) => return Err(Fault::at(alloc, kind, Place::Token).into()),
-    };
+    let start = parse_token(utf8(alloc, token.as_slice())?, space.universe(), &own);
+    let start = start.map_err(|kind| Fault::at(alloc, kind, Place::Token))?;
     let written = token_of(alloc, &start, &own)?;
     let old = old_token(alloc, written.as_slice(), digits.as_str())?;
     if token.as_slice() != written.as_slice() && token.as_slice() != old.as_slice() {
@@ -39,10 +38,8 @@ pub fn of_token(alloc: Global, universe: &[u8], token: &str) -> Result<Vec<u8>, 
 /// The token of a start, under a fingerprint.
 pub fn token_of(alloc: Global, start: &Start, own: &[u8; 16]) -> Result<Vec<u8>, Problem> {
     let mut out = Out::new(Vec::new(alloc));
-    match write_token(start, own, &mut out) {
-        Ok(()) => Ok(out.into_inner()),
-        Err(_) => Err(Problem::Memory),
-    }
+    let outcome = write_token(start, own, &mut out);
+    written_text(out, outcome)
 }
 
 /// The positions of a choice with a `.` between, if there are any, behind these words and a blank.
@@ -50,7 +47,7 @@ pub fn positions_behind(alloc: Global, words: &str, choice: &Choice) -> Result<V
     let mut text = String::from_str(alloc, words)?;
     if !choice.is_empty() {
         text.push(' ')?;
-        add_positions(alloc, choice, &mut text)?;
+        add_positions(choice, &mut text)?;
     }
     Ok(text.into_bytes())
 }

@@ -24,8 +24,14 @@ pub fn fault_behind(alloc: Global, before: &[u8], fault: &Fault) -> Result<Vec<u
 
 pub(crate) fn line_of(alloc: Global, fault: &Fault) -> Result<Vec<u8>, Problem> {
     let mut line = Out::new(Vec::new(alloc));
-    match write_fault(fault, &mut line) {
-        Ok(()) => Ok(line.into_inner()),
+    let outcome = write_fault(fault, &mut line);
+    written_text(line, outcome)
+}
+
+/// What is written to memory. Memory ran out where that failed.
+pub fn written_text(out: Out<Vec<u8>>, outcome: Result<(), Kind>) -> Result<Vec<u8>, Problem> {
+    match outcome {
+        Ok(()) => Ok(out.into_inner()),
         Err(_) => Err(Problem::Memory),
     }
 }
@@ -41,18 +47,21 @@ pub fn made_refused(alloc: Global, fault: &Fault) -> Problem {
 /// A label set, behind these words.
 pub fn set_behind(alloc: Global, before: &str, set: &LabelSet) -> Result<Vec<u8>, Problem> {
     let mut out = Out::new(told(alloc, before)?);
-    match write_map(set, &mut out) {
-        Ok(()) => Ok(out.into_inner()),
-        Err(_) => Err(Problem::Memory),
-    }
+    let outcome = write_map(set, &mut out);
+    written_text(out, outcome)
 }
 
 /// The label set that a text is.
 pub fn set_of_text(alloc: Global, text: &[u8]) -> Result<LabelSet, Problem> {
-    match parse_set(alloc, utf8(alloc, text)?) {
-        Ok(set) => Ok(set),
-        Err(Kind::Memory) => Err(Problem::Memory),
-        Err(_) => Err(Problem::about(alloc, "no label set", text)),
+    let set = parse_set(alloc, utf8(alloc, text)?);
+    set.map_err(|kind| not_accepted(alloc, kind, "no label set", text))
+}
+
+/// Why a text is not accepted: memory ran out, or these words.
+pub(crate) fn not_accepted(alloc: Global, kind: Kind, words: &str, text: &[u8]) -> Problem {
+    match kind {
+        Kind::Memory => Problem::Memory,
+        _ => Problem::about(alloc, words, text),
     }
 }
 

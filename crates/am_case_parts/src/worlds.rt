@@ -5,7 +5,7 @@ use crate::telling::told;
 use am_case_files::{Problem, split_at_last, utf8};
 use am_eval::{Files, Pair, World, inhibited_by, read_timeless_world, read_world, silenced_by};
 use am_labels::{LabelSet, parse_set};
-use std::alloc::{AllocError, Global};
+use std::alloc::Global;
 
 /// A text, and that of the instant that stands behind it, if one does.
 pub fn text_and_instant(alloc: Global, text: &[u8]) -> Result<(&str, Option<&str>), Problem> {
@@ -38,14 +38,12 @@ fn silenced_text(alloc: Global, world: &World, set: &LabelSet) -> Result<Vec<u8>
     let mut text = String::from_str(alloc, "ok:")?;
     for i in 0..world.silences().len() {
         if world.active(i) {
-            let active = format!(in alloc; " {i}")?;
-            text.push_str(active.as_str())?;
+            write!(text, " {i}")?;
         }
     }
     text.push(';')?;
     for i in &silenced_by(alloc, world, set)? {
-        let hides = format!(in alloc; " {i}")?;
-        text.push_str(hides.as_str())?;
+        write!(text, " {i}")?;
     }
     Ok(text.into_bytes())
 }
@@ -76,17 +74,11 @@ fn pairs_text(alloc: Global, pairs: &[Pair]) -> Result<Vec<u8>, Problem> {
     }
     let mut text = String::from_str(alloc, "ok:")?;
     for (i, pair) in pairs.iter().enumerate() {
-        let pair = pair_text(alloc, before(i), *pair)?;
-        text.push_str(pair.as_str())?;
+        let (before, rule, alert) = (before(i), pair.rule, pair.alert);
+        let note = if pair.both { " both" } else { "" };
+        write!(text, "{before}{rule} {alert}{note}")?;
     }
     Ok(text.into_bytes())
-}
-
-fn pair_text(alloc: Global, before: &str, pair: Pair) -> Result<String, AllocError> {
-    let rule = pair.rule;
-    let alert = pair.alert;
-    let note = if pair.both { " both" } else { "" };
-    format!(in alloc; "{before}{rule} {alert}{note}")
 }
 
 /// What stands before a pair.
@@ -108,8 +100,7 @@ fn inhibited_text(alloc: Global, inhibitors: &[(usize, usize)]) -> Result<Vec<u8
     let mut text = String::from_str(alloc, "ok:")?;
     for (i, (rule, alert)) in inhibitors.iter().enumerate() {
         let before = before(i);
-        let inhibits = format!(in alloc; "{before}{rule} {alert}")?;
-        text.push_str(inhibits.as_str())?;
+        write!(text, "{before}{rule} {alert}")?;
     }
     Ok(text.into_bytes())
 }
