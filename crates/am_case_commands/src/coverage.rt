@@ -1,22 +1,16 @@
 //! Reports over worlds that no one typed: whether `dead` and `receivers` tell of them what holds,
 //! line by line.
 
-ghost use Rattle.std.specs.Prelude.{◌≡◌};
-ghost use Rattle.am_universe.specs.Universe.{sizes};
-
 use crate::reports::{Report, write_report};
-use am_case_files::{Problem, split_at_first, utf8};
-use am_case_parts::{ALL, asked_of_whole, files_of, made_refused, question_of, set_of_text, told};
+use am_case_files::{Problem, read_number, split_at_first, utf8};
+use am_case_parts::{ALL, files_of, first_choice, made_refused, set_of_text, told, written_text};
 use am_case_runner::Over;
 use am_case_worlds::{large_world, of_seed, read_seeds, small_world, split_impossible};
 use am_commands::ask;
-use am_cubes::Plan;
 use am_eval::ends;
 use am_files::{Config, Path, read_config};
-use am_labels::{Out, Universe, write_set};
+use am_labels::{Out, write_set};
 use am_questions::{AcceptedInputs, read_inputs};
-use am_search::{Judge, first};
-use am_whole::Whole;
 use std::alloc::{AllocError, Global};
 
 /// The most label sets that are looked at one by one.
@@ -65,9 +59,8 @@ pub fn of_reports(alloc: Global, text: &[u8]) -> Result<Vec<u8>, Problem> {
     let mut counts = Counts::none();
     for i in 0..count {
         let seed = seed.wrapping_add(i);
-        if let Err(problem) = check_small(alloc, seed, has_impossible, &mut counts) {
-            return Err(of_seed(alloc, seed, problem));
-        }
+        let outcome = check_small(alloc, seed, has_impossible, &mut counts);
+        outcome.map_err(|problem| of_seed(alloc, seed, problem))?;
     }
     let mut text = format!(in alloc; "ok: {count} worlds")?;
     add_words(counts, &mut text)?;
@@ -88,10 +81,8 @@ fn check_small(
         with: Some(config),
         ..Over::universe(universe)
     };
-    let inputs = match read_inputs(alloc, universe, &files_of(over, None), "any", &ALL) {
-        Ok(inputs) => inputs,
-        Err(fault) => return Err(made_refused(alloc, &fault)),
-    };
+    let inputs = read_inputs(alloc, universe, &files_of(over, None), "any", &ALL);
+    let inputs = inputs.map_err(|fault| made_refused(alloc, &fault))?;
     let report = report_of(alloc, Report::Routes, universe, config)?;
     for line in report.as_slice().split(|byte| *byte == b'\n') {
         if let Some((path, status)) = split_at_first(line, b" ") {
@@ -151,40 +142,18 @@ fn status_of_receiver(
     Ok(live)
 }
 
-/// `live ` and the first label set of which a question is true, as its plan finds it and the judge
-/// that looks at whole choices; empty where it is true of none.
+/// `live ` and the first label set of which a question is true; empty where it is true of none.
 fn live_status(alloc: Global, inputs: &AcceptedInputs, text: &str) -> Result<Vec<u8>, Problem> {
     let universe = inputs.space.universe();
-    let question = question_of(alloc, text, inputs)?;
-    let plan = Plan::new(alloc, &inputs.space, &inputs.world, &question)?;
-    let question = asked_of_whole(alloc, text, inputs)?;
-    let whole = Whole::new(alloc, universe, &inputs.world, &question)?;
-    let found = live_status_by(alloc, universe, &plan)?;
-    let wanted = live_status_by(alloc, universe, &whole)?;
-    check_status(
-        alloc,
-        b"the first of all choices",
-        wanted.as_slice(),
-        found.as_slice(),
-    )?;
-    Ok(found)
-}
-
-fn live_status_by<J: Judge>(
-    alloc: Global,
-    universe: &Universe,
-    judge: &J,
-) -> Result<Vec<u8>, Problem>
-    requires { J.sizes judge.now ≡ sizes universe.now }
-{
-    let Some(choice) = first(judge) else {
+    let Some(choice) = first_choice(alloc, inputs, text)? else {
         return Ok(Vec::new(alloc));
     };
-    let mut out = Out::new(told(alloc, "live ")?);
-    match write_set(universe, &choice, &mut out) {
-        Ok(()) => Ok(out.into_inner()),
-        Err(_) => Err(Problem::Memory),
+    if !universe.admits(&choice) || choice.len() != universe.len() {
+        return Err(Problem::said(alloc, "the first choice is not whole"));
     }
+    let mut out = Out::new(told(alloc, "live ")?);
+    let outcome = write_set(universe, &choice, &mut out);
+    written_text(out, outcome)
 }
 
 // ---- Large worlds.
@@ -202,18 +171,13 @@ pub fn of_large(alloc: Global, text: &[u8]) -> Result<Vec<u8>, Problem> {
     let Some((seed, sizes)) = split_at_first(text, b" ") else {
         return Err(Problem::about(alloc, "a seed, labels and values are wanted", text));
     };
-    let Some(seed) = utf8(alloc, seed)?.parse::<u64>().ok() else {
-        return Err(Problem::about(alloc, "no seed", seed));
-    };
+    let seed = read_number(alloc, seed, "no seed")?;
     let (labels, values) = read_seeds(alloc, sizes)?;
     let labels = usize::try_from(labels).unwrap_or(0);
     let values = usize::try_from(values).unwrap_or(0);
     let made = large_world(alloc, seed, labels, values)?;
     let (universe, config) = (made.universe.as_bytes(), made.config.as_bytes());
-    let read = match read_config(alloc, config) {
-        Ok(read) => read,
-        Err(fault) => return Err(made_refused(alloc, &fault)),
-    };
+    let read = read_config(alloc, config).map_err(|fault| made_refused(alloc, &fault))?;
     let handled = if is_small(labels, values) {
         handled_sets(alloc, universe, &read)?
     } else {
@@ -238,8 +202,7 @@ fn counts_text(alloc: Global, counts: Counts, sets: usize) -> Result<Vec<u8>, Pr
     let mut text = format!(in alloc; "ok: {routes} routes")?;
     add_words(counts, &mut text)?;
     if sets > 0 {
-        let looked_at = format!(in alloc; ", by {sets} label sets")?;
-        text.push_str(looked_at.as_str())?;
+        write!(text, ", by {sets} label sets")?;
     }
     Ok(text.into_bytes())
 }
@@ -257,9 +220,8 @@ fn is_small(labels: usize, values: usize) -> bool {
 fn handled_sets(alloc: Global, universe: &[u8], config: &Config) -> Result<Vec<Handled>, Problem> {
     let mut out = Out::new(Vec::new(alloc));
     let none = files_of(Over::universe(universe), None);
-    if let Err(fault) = ask(alloc, universe, &none, "any", &ALL, &mut out) {
-        return Err(made_refused(alloc, &fault));
-    }
+    let outcome = ask(alloc, universe, &none, "any", &ALL, &mut out);
+    outcome.map_err(|fault| made_refused(alloc, &fault))?;
     let mut handled = Vec::new(alloc);
     for line in out.into_inner().as_slice().split(|byte| *byte == b'\n') {
         if line.starts_with(b"{") {
@@ -348,9 +310,8 @@ fn report_of(
     config: &[u8],
 ) -> Result<Vec<u8>, Problem> {
     let mut out = Out::new(Vec::new(alloc));
-    if let Err(fault) = write_report(alloc, report, Over::universe(universe), config, &mut out) {
-        return Err(made_refused(alloc, &fault));
-    }
+    let outcome = write_report(alloc, report, Over::universe(universe), config, &mut out);
+    outcome.map_err(|fault| made_refused(alloc, &fault))?;
     let text = out.into_inner();
     match text.as_slice().strip_suffix(b"# end\n") {
         Some(lines) => Ok(Vec::from_slice(alloc, lines)?),
@@ -359,8 +320,6 @@ fn report_of(
 }
 
 fn path_of(alloc: Global, text: &[u8]) -> Result<Path, Problem> {
-    match Path::parse(utf8(alloc, text)?) {
-        Ok(path) => Ok(path),
-        Err(_) => Err(Problem::about(alloc, "no path of a route", text)),
-    }
+    let path = Path::parse(utf8(alloc, text)?);
+    path.map_err(|_| Problem::about(alloc, "no path of a route", text))
 }

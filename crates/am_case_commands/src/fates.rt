@@ -3,7 +3,7 @@
 
 use crate::universes::{made, write_universes};
 use am_case_files::{Problem, split_at_first};
-use am_case_parts::{ALL, files_of, made_refused, set_behind, set_of_text};
+use am_case_parts::{ALL, files_of, made_refused, set_behind, set_of_text, written_text};
 use am_case_runner::Over;
 use am_case_worlds::{Dice, SmallWorld, of_seed, read_seeds, small_world, texts_of_seed};
 use am_commands::ask;
@@ -25,9 +25,7 @@ pub fn of_fates(alloc: Global, text: &[u8]) -> Result<Vec<u8>, Problem> {
     let (seed, count) = read_seeds(alloc, text)?;
     for i in 0..count {
         let seed = seed.wrapping_add(i);
-        if let Err(problem) = check_fates(alloc, seed) {
-            return Err(of_seed(alloc, seed, problem));
-        }
+        check_fates(alloc, seed).map_err(|problem| of_seed(alloc, seed, problem))?;
     }
     let text = format!(in alloc; "ok: {count} worlds")?;
     Ok(text.into_bytes())
@@ -42,10 +40,7 @@ fn check_fates(alloc: Global, seed: u64) -> Result<(), Problem> {
         alerts: Some(small.alerts.as_bytes()),
         at: Some(SmallWorld::INSTANT),
     };
-    let world = match read_world(alloc, &files) {
-        Ok(world) => world,
-        Err(fault) => return Err(made_refused(alloc, &fault)),
-    };
+    let world = read_world(alloc, &files).map_err(|fault| made_refused(alloc, &fault))?;
     let fates = fates_of_universe(alloc, &small, &world)?;
     for set in &alerts_of_seed(alloc, seed)? {
         if !fates.contains(&fate_of(alloc, &world, set)?) {
@@ -70,15 +65,13 @@ fn fates_of_universe(
     };
     let mut universe = Out::new(Vec::new(alloc));
     let config = small.config.as_bytes();
-    if let Err(fault) = write_universes(alloc, made(false, false), over, config, &mut universe) {
-        return Err(made_refused(alloc, &fault));
-    }
+    let outcome = write_universes(alloc, made(false, false), over, config, &mut universe);
+    outcome.map_err(|fault| made_refused(alloc, &fault))?;
     let universe = universe.into_inner();
     let mut lines = Out::new(Vec::new(alloc));
     let none = files_of(Over::universe(b""), None);
-    if let Err(fault) = ask(alloc, universe.as_slice(), &none, "any", &ALL, &mut lines) {
-        return Err(made_refused(alloc, &fault));
-    }
+    let outcome = ask(alloc, universe.as_slice(), &none, "any", &ALL, &mut lines);
+    outcome.map_err(|fault| made_refused(alloc, &fault))?;
     let mut fates = Vec::new(alloc);
     for line in lines.into_inner().as_slice().split(|byte| *byte == b'\n') {
         if line.starts_with(b"{") {
@@ -92,10 +85,8 @@ fn fates_of_universe(
 fn fate_of(alloc: Global, world: &World, set: &LabelSet) -> Result<Vec<u8>, Problem> {
     let explanation = explanation_of(alloc, world, set)?;
     let mut out = Out::new(Vec::new(alloc));
-    if write_explanation(world.config(), set, &explanation, &mut out).is_err() {
-        return Err(Problem::Memory);
-    }
-    let text = out.into_inner();
+    let outcome = write_explanation(world.config(), set, &explanation, &mut out);
+    let text = written_text(out, outcome)?;
     match split_at_first(text.as_slice(), b"\n") {
         Some((_, fate)) => Ok(Vec::from_slice(alloc, fate)?),
         None => Err(Problem::about(alloc, "an explanation of one line", text.as_slice())),

@@ -2,7 +2,7 @@
 //! one page without a limit and without a budget.
 
 use am_case_files::{Problem, Tally, split_at_last, utf8};
-use am_case_parts::{Asked, Refusal, fault_behind, files_of, token_of, with_own_digits};
+use am_case_parts::{Asked, Refusal, files_of, made_refused, token_of, with_own_digits};
 use am_case_runner::Over;
 use am_command_line::Steps;
 use am_commands::ask;
@@ -118,10 +118,9 @@ fn check_pages(
     let (text, _) = with_own_digits(alloc, over, text)?;
     let asked = Asked::of(alloc, text.as_slice())?;
     let asked = Asked {
-        question: asked.question,
         limit: limit.and_then(NonZeroU64::new),
         steps: steps.and_then(Steps::new),
-        after: asked.after,
+        ..asked
     };
     let joined = joined_pages(alloc, over, asked)?;
     if joined.lines.as_slice() == lines {
@@ -176,33 +175,18 @@ fn check_length(alloc: Global, part: &Part, limit: Option<NonZeroU64>) -> Result
 
 fn part_of(alloc: Global, over: Over<'_>, asked: Asked<'_, '_>) -> Result<Part, Problem> {
     let mut out = Out::new(Vec::new(alloc));
-    match write_asked(alloc, over, asked, &mut out) {
-        Ok(trailer) => {
-            let own = fingerprint(over.universe, &files_of(over, None), asked.question);
-            cut(alloc, over, &own, out.into_inner().as_slice(), trailer)
-        }
-        Err(fault) => {
-            let fault = fault_behind(alloc, b"", &fault)?;
-            Err(Problem::about(alloc, "no page", fault.as_slice()))
-        }
-    }
-}
-
-/// Cuts a page, whose last line has to be that of the trailer, with the fingerprint of its inputs.
-fn cut(
-    alloc: Global,
-    over: Over<'_>,
-    own: &[u8; 16],
-    page: &[u8],
-    trailer: Trailer,
-) -> Result<Part, Problem> {
-    match trailer {
-        Trailer::End => cut_last(alloc, page),
-        Trailer::Next(last) => cut_before(alloc, over, own, page, b"# next ", Start::After(last)),
-        Trailer::Stopped(prefix) => {
-            cut_before(alloc, over, own, page, b"# stopped ", Start::At(prefix))
-        }
-    }
+    let trailer = write_asked(alloc, over, asked, &mut out);
+    let trailer = trailer.map_err(|fault| made_refused(alloc, &fault))?;
+    let page = out.into_inner();
+    let page = page.as_slice();
+    // The last line of a page has to be that of the trailer.
+    let (words, start) = match trailer {
+        Trailer::End => return cut_last(alloc, page),
+        Trailer::Next(last) => (b"# next ".as_slice(), Start::After(last)),
+        Trailer::Stopped(prefix) => (b"# stopped ".as_slice(), Start::At(prefix)),
+    };
+    let own = fingerprint(over.universe, &files_of(over, None), asked.question);
+    cut_before(alloc, over, &own, page, words, start)
 }
 
 /// Cuts the last page.
@@ -218,7 +202,7 @@ fn cut_last(alloc: Global, page: &[u8]) -> Result<Part, Problem> {
 }
 
 /// Cuts a page behind which there is another, from this start on. The trailer begins with the
-/// words.
+/// words, and has the fingerprint of the page's inputs.
 fn cut_before(
     alloc: Global,
     over: Over<'_>,
@@ -247,10 +231,7 @@ fn check_token(
     token: &str,
     wanted: Start,
 ) -> Result<(), Problem> {
-    let space = match read_universe(alloc, over.universe) {
-        Ok(space) => space,
-        Err(_) => return Err(Problem::Memory),
-    };
+    let space = read_universe(alloc, over.universe).map_err(|_| Problem::Memory)?;
     let written = token_of(alloc, &wanted, own)?;
     match parse_token(token, space.universe(), own) {
         Ok(start) if start == wanted && written.as_slice() == token.as_bytes() => Ok(()),

@@ -132,10 +132,8 @@ impl Call for TableCall {
         text: &[u8],
         brief: bool,
     ) -> Result<Vec<u8>, Problem> {
-        match self.answer(alloc, over, text, brief) {
-            Ok(text) => Ok(text),
-            Err(refusal) => refusal.text(alloc),
-        }
+        self.answer(alloc, over, text, brief)
+            .or_else(|refusal| refusal.text(alloc))
     }
 
     fn written(

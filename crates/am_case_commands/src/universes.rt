@@ -1,7 +1,7 @@
 //! Universes that stand for every alert: those that are made, and what others lack, as a text.
 
 use am_case_files::Problem;
-use am_case_parts::{Refusal, fault_behind, told};
+use am_case_parts::{Refusal, made_refused, told};
 use am_case_runner::Over;
 use am_eval::Files;
 use am_labels::{Fault, Out, Sink};
@@ -95,21 +95,11 @@ fn check_made<'f>(
     };
     let mut out = Out::new(Vec::new(alloc));
     let outcome = write_universes(alloc, Universes::Checked(routes), over, config, &mut out);
-    if let Err(fault) = outcome {
-        let fault = fault_behind(alloc, b"", &fault)?;
-        return Err(Problem::about(
-            alloc,
-            "a universe that was made is refused",
-            fault.as_slice(),
-        ));
-    }
+    outcome.map_err(|fault| made_refused(alloc, &fault))?;
     let report = out.into_inner();
-    if report.as_slice().ends_with(b"\n# complete\n") {
+    let report = report.as_slice();
+    if report.ends_with(b"\n# complete\n") {
         return Ok(());
     }
-    Err(Problem::about(
-        alloc,
-        "a universe that was made is not complete",
-        report.as_slice(),
-    ))
+    Err(Problem::about(alloc, "a universe that was made is not complete", report))
 }
