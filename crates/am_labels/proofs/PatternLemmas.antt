@@ -1,5 +1,5 @@
 -- What a compiled pattern finds.
-use Rattle.std.proofs.Common.{◌≡◌, ℕ, List, true, Option, None, Some, refl, ◌∙◌, ◌-◌}
+use Rattle.std.proofs.Common.{◌≡◌, ℕ, List, true, Option, None, Some, refl, ◌∙◌}
 use Rattle.std.specs.Prelude.{chars}
 use Rattle.regex_syntax.specs.Brackets.{Nested}
 use Rattle.regex_syntax.specs.Grammar.{Names, read}

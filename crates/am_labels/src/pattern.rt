@@ -8,10 +8,11 @@ use regex::{Error, Regex};
 use std::alloc::{AllocError, Global};
 use std::marker::Model;
 
-/// A pattern, compiled so that it has to match a whole text.
+/// A pattern, compiled so that it has to match a whole text. What is compiled is large, so it is
+/// boxed: a matcher that has no pattern then takes no room for one.
 #[derive(Drop)]
 pub(crate) struct Pattern {
-    regex: Regex,
+    regex: Box<Regex>,
 }
 
 impl Model for Pattern {
@@ -20,9 +21,9 @@ impl Model for Pattern {
 
     ghost Value = { List ℕ };
 
-    ghost view = { λ p. pattern_text p.regex };
+    ghost view = { λ p. pattern_text p.regex.value };
 
-    ghost invariant = { λ p. IsAnchored p.regex };
+    ghost invariant = { λ p. IsAnchored p.regex.value };
 }
 
 impl Pattern {
@@ -43,10 +44,14 @@ impl Pattern {
         let Ok(source) = anchored_pattern(alloc, value) else {
             return Err(Kind::Memory);
         };
-        match Regex::new(alloc, source.as_str()) {
+        let regex = match Regex::new(alloc, source.as_str()) {
+            Ok(regex) => regex,
+            Err(Error::OutOfMemory) => return Err(Kind::Memory),
+            Err(_) => return Err(Kind::Pattern),
+        };
+        match Box::new(alloc, regex) {
             Ok(regex) => Ok(Pattern { regex }),
-            Err(Error::OutOfMemory) => Err(Kind::Memory),
-            Err(_) => Err(Kind::Pattern),
+            Err(_) => Err(Kind::Memory),
         }
     }
 
