@@ -1,19 +1,22 @@
 -- A closed list says of each state whether it leads to a match.
-use Rattle.std.proofs.Common.{◌≡◌, ℕ, ◌<◌, Bool, true, false, ◌&&◌, ◌||◌, cond, List, length, vec_len, slice_index_or, slice_get, Option, Some, None, is_some, refl, sym, ap, ap₂, ◌∙◌, arith}
-use Rattle.std.specs.List.{list_all}
+use Rattle.std.proofs.Common.{◌≡◌, ℕ, suc, ◌+◌, ◌<◌, ◌≤◌, ◌⊎◌, ⊎_elim, All, ◌++◌, eq-eqb, Bool, true, false, ◌&&◌, ◌||◌, cond, eqb, List, [], ◌∷◌, length, vec_len, slice_index, slice_index_or, slice_get, Option, Some, None, is_some, refl, sym, subst, inl, inr, ap, ap₂, ◌∙◌, arith, eqb-true}
+use Rattle.std.proofs.lemmas.Bool.{or_cases, or_left, or_right, cases_Bool, cases_eq, both_ways}
+use Rattle.std.proofs.lemmas.List.Elements.{All-push}
+use Rattle.std.proofs.lemmas.List.Folds.{list_any-append}
 use Rattle.std.specs.Option.{option_or}
 use Rattle.regex_hir.specs.Looks.{holds}
-use Rattle.regex_hir.specs.Text.{byte_before, char_before, char_at}
+use Rattle.regex_hir.specs.Text.{byte_before}
 use Rattle.regex_hir.proofs.OptionLemmas.{is_some-write}
 use Rattle.regex_nfa.specs.Run.{state_of, measure, run}
 use Rattle.regex_nfa.specs.States.{visit, read, IsBelow}
 use Rattle.regex_nfa.specs.declared.state.State.{State}
-use Rattle.regex_nfa.specs.declared.state.State.TheVariants.{Split, Save, Look, Match, Fail}
+use Rattle.regex_nfa.specs.declared.state.State.TheVariants.{ByteRange, Sparse, Split, Save, Look, Match, Fail}
 use Rattle.regex_nfa.specs.declared.nfa.Nfa.{Nfa}
 use Rattle.regex_nfa.proofs.RunLemmas.{sound_of, run_unfold, measure_falls_empty, measure_induction}
-use Rattle.am_scan.specs.Kinds.{kind_beside, is_plain}
-use Rattle.am_scan.specs.Closure.{leads, leads_on, accepts, IsClosed}
-use Rattle.am_scan.proofs.KindLemmas.{holds_between-kinds, plain_look_at}
+use Rattle.am_scan.specs.declared.sight.Sight.{Sight}
+use Rattle.am_scan.specs.Sight.{kind_beside, IsScanned}
+use Rattle.am_scan.specs.Closure.{leads, leads_on, accepts, contains, reads_byte, AcceptsReads, IsClosed}
+use Rattle.am_scan.proofs.SightLemmas.{IsSeen, holds-kinds}
 
 -- one of two gives something where the first or the second does
 pub is_some-option_or : {A : Type 0} (o p : Option A) → is_some (option_or o p) ≡ (is_some o || is_some p)
@@ -25,13 +28,13 @@ pub is_some-cond : {A : Type 0} (b : Bool) (o : Option A) → is_some (cond b o 
 is_some-cond true o = refl
 is_some-cond false o = refl
 
-module _ (nfa : Nfa) (plain : list_all is_plain nfa.states.items ≡ true) (hay : List ℕ) (i : ℕ) (after before : Option ℕ) (reads accepted : List Bool)
-    (after_is : after ≡ kind_beside (slice_get hay i)) (before_is : before ≡ kind_beside (byte_before hay i))
-    (read_is : (q : ℕ) → q < vec_len nfa.states → slice_index_or reads q false ≡ leads_on nfa hay q i) where
+module _ (nfa : Nfa) (sight : Sight) (ascii : Bool) (seen : IsSeen nfa sight ascii) (hay : List ℕ) (scanned : IsScanned ascii hay) (i : ℕ) (after before : Option ℕ) (reads : ℕ → Bool) (accepted : List Bool)
+    (after_is : after ≡ kind_beside sight (slice_get hay i)) (before_is : before ≡ kind_beside sight (byte_before hay i))
+    (read_is : (q : ℕ) → q < vec_len nfa.states → reads q ≡ leads_on nfa hay q i) where
   -- by the kind of the state, where those of a lower rank are known
   by_state : (q : ℕ) → q < vec_len nfa.states → (state : State) → state_of nfa q ≡ state →
       ((r : ℕ) → IsBelow nfa.ranks.items r q → slice_index_or accepted r false ≡ leads nfa hay r i) →
-      accepts after before accepted (slice_index_or reads q false) state
+      accepts after before accepted (reads q) state
       ≡ is_some (visit nfa.transitions.items hay (length hay) (run nfa hay (length hay)) state i)
   unfolding holds
   by_state q inside (Split first second) is h =
@@ -39,8 +42,7 @@ module _ (nfa : Nfa) (plain : list_all is_plain nfa.states.items ≡ true) (hay 
       ap₂ ◌||◌ (h first s.0) (h second s.1) ∙ sym (is_some-option_or _ _)
   by_state q inside (Save slot next) is h = h next (sound_of nfa q _ is).1 ∙ sym (is_some-write slot i _)
   by_state q inside (Look l next) is h =
-      let kinds = holds_between-kinds l (byte_before hay i) (slice_get hay i) (char_before hay i) (char_at hay i)
-      (plain_look_at nfa.states.items plain q l next is) in
+      let kinds = holds-kinds nfa sight ascii seen hay i scanned q l next is in
       ap₂ ◌&&◌ (rw (after_is, before_is) (sym kinds)) (h next (sound_of nfa q _ is)) ∙ sym (is_some-cond (holds l hay i) _)
   by_state q inside Match is h = refl
   by_state q inside Fail is h = refl
@@ -60,3 +62,69 @@ module _ (nfa : Nfa) (plain : list_all is_plain nfa.states.items ≡ true) (hay 
       omega (arith, falls, ap (measure nfa hay (length hay) r) e)) refl (omega (arith, below.0, nfa.ranks_len)))
       ∙ sym (ap is_some (run_unfold nfa hay (length hay) r i)) ∙ ap (leads nfa hay r) (sym e))
       q i refl inside
+
+-- a state that reads a byte is accepted where reading it leads to a match
+accepts_reading : (after before : Option ℕ) (accepted : List Bool) (reads : Bool) (state : State) → reads_byte state ≡ true →
+    accepts after before accepted reads state ≡ reads
+accepts_reading after before accepted reads (ByteRange t) h = refl
+accepts_reading after before accepted reads (Sparse from to) h = refl
+accepts_reading after before accepted reads state h = absurd cc
+
+-- what is contained is at a place
+place_of : (numbers : List ℕ) (n : ℕ) → contains numbers n ≡ true → (k : ℕ) × (k < length numbers) × (slice_index numbers k ≡ n)
+place_of [] n h = absurd cc
+place_of (m ∷ numbers) n h = elim (or_cases (eqb m n) (contains numbers n) h) [
+  | inl here ↦ (0, omega arith, eqb-true m n here)
+  | inr later ↦ (let p = place_of numbers n later in (suc p.0, omega (arith, p.1), p.2))
+]
+
+-- Accepted states are closed where those that read are accepted as reading leads on, and those that
+-- do not by the states that are accepted.
+pub IsClosed-rounds : (nfa : Nfa) (after before : Option ℕ) (reads : ℕ → Bool) (accepted : List Bool) (idle : List ℕ) →
+    length accepted ≡ vec_len nfa.states → AcceptsReads nfa reads accepted →
+    ((q : ℕ) → q < vec_len nfa.states → reads_byte (state_of nfa q) ≡ false → contains idle q ≡ true) →
+    ((k : ℕ) → k < length idle →
+    slice_index_or accepted (slice_index idle k) false ≡ accepts after before accepted (reads (slice_index idle k)) (state_of nfa (slice_index idle k))) →
+    IsClosed nfa after before reads accepted
+IsClosed-rounds nfa after before reads accepted idle len own all each = record {
+  len = len;
+  each = λ q inside. elim (cases_Bool (reads_byte (state_of nfa q))) [
+    | inl reading ↦ own q inside reading ∙ sym (accepts_reading after before accepted (reads q) (state_of nfa q) reading)
+    | inr idling ↦
+        (let p = place_of idle q (all q inside idling) in
+        subst (λ r. slice_index_or accepted r false ≡ accepts after before accepted (reads r) (state_of nfa r)) p.2 (each p.0 p.1))
+  ];
+}
+
+-- Numbers are those of the states that read no byte, among the last k.
+pub record AreIdle (nfa : Nfa) (idle : List ℕ) (k : ℕ) : Type 0 where
+  pub alone : All (λ q. (q < vec_len nfa.states) × (reads_byte (state_of nfa q) ≡ false)) idle
+  pub all : (q : ℕ) → q < vec_len nfa.states → vec_len nfa.states ≤ q + k → reads_byte (state_of nfa q) ≡ false → contains idle q ≡ true
+
+-- a number more is contained
+contains_pushed : (idle : List ℕ) (id q : ℕ) → (contains idle q ≡ true) ⊎ (id ≡ q) → contains (idle ++ id ∷ []) q ≡ true
+contains_pushed idle id q h =
+    list_any-append (λ m. eqb m q) idle (id ∷ [])
+    ∙ ⊎_elim (λ before. or_left (contains idle q) _ before) (λ here. or_right (contains idle q) _ (or_left (eqb id q) false (eq-eqb id q here))) h
+
+-- one state more that reads no byte
+pub AreIdle-more : (nfa : Nfa) (idle all : List ℕ) (id k : ℕ) → AreIdle nfa idle k → all ≡ idle ++ id ∷ [] → (id + k) + 1 ≡ vec_len nfa.states →
+    reads_byte (state_of nfa id) ≡ false → AreIdle nfa all (k + 1)
+AreIdle-more nfa idle all id k h is e idling =
+    let new : (id < vec_len nfa.states) × (reads_byte (state_of nfa id) ≡ false) = (omega arith, idling) in
+    subst (λ xs. AreIdle nfa xs (k + 1)) (sym is)
+    (record {
+      alone = All-push (λ q. (q < vec_len nfa.states) × (reads_byte (state_of nfa q) ≡ false)) idle id h.alone new;
+      all = λ q inside low none.
+          contains_pushed idle id q (⊎_elim (λ same. inr same) (λ other. inl (h.all q inside (omega (arith, other)) none)) (cases_eq id q));
+    })
+
+-- or that reads one
+pub AreIdle-same : (nfa : Nfa) (idle : List ℕ) (id k : ℕ) → AreIdle nfa idle k → (id + k) + 1 ≡ vec_len nfa.states →
+    reads_byte (state_of nfa id) ≡ true → AreIdle nfa idle (k + 1)
+AreIdle-same nfa idle id k h e reading = record {
+  alone = h.alone;
+  all = λ q inside low none.
+      ⊎_elim (λ same. absurd (both_ways _ none (ap (λ r. reads_byte (state_of nfa r)) (sym same) ∙ reading))) (λ other. h.all q inside (omega (arith, other)) none)
+      (cases_eq id q);
+}

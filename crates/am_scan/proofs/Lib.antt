@@ -1,5 +1,7 @@
-mod KindLemmas
+pub mod Places
+mod SightLemmas
 mod ClosureLemmas
 mod StepLemmas
 mod CompiledLemmas
-mod AlikeLemmas
+mod ColumnLemmas
+mod AutomatonLemmas

@@ -1,8 +1,8 @@
 -- How the state of a text follows from that of the text behind its first byte.
-use Rattle.std.proofs.Common.{◌≡◌, ℕ, zero, suc, ◌+◌, ◌-◌, ◌<◌, Bool, true, false, ◌&&◌, ◌||◌, List, [], ◌∷◌, length, drop, replicate, vec_len, slice_index_or, slice_get, Option, Some, None, is_some, option_map, option_and_then, refl, sym, ap, ap₂, ◌∙◌, arith, drop-drop, All}
-use Rattle.std.specs.List.{list_all}
+use Rattle.std.proofs.Common.{◌≡◌, ℕ, zero, suc, ◌+◌, ◌-◌, ◌<◌, Bool, true, false, ◌&&◌, ◌||◌, List, [], ◌∷◌, length, drop, vec_len, slice_index_or, slice_get, Option, Some, None, is_some, option_map, option_and_then, refl, sym, ap, ap₂, ◌∙◌, arith, drop-drop, All, ltb-true}
+use Rattle.std.proofs.lemmas.List.Elements.{All-weaker}
+use Rattle.std.proofs.lemmas.List.Sums.{AllPass-from_list_all}
 use Rattle.std.specs.Option.{option_or}
-use Rattle.std.proofs.Math.ListN.{length-replicate}
 use Rattle.regex_hir.specs.Re.{Trace}
 use Rattle.regex_hir.specs.Find.{Match, first_from}
 use Rattle.regex_hir.specs.Text.{byte_before, is_boundary, is_some_and}
@@ -12,9 +12,11 @@ use Rattle.regex_nfa.specs.States.{next_on}
 use Rattle.regex_nfa.specs.declared.nfa.Nfa.{Nfa}
 use Rattle.regex_nfa.proofs.RunLemmas.{byte_below-length, next_on_within}
 use Rattle.am_labels.specs.Words.{finds}
-use Rattle.am_scan.specs.Kinds.{kind_of, kind_beside, is_plain}
+use Rattle.am_scan.specs.declared.sight.Sight.{Sight}
+use Rattle.am_scan.specs.Sight.{kind_of, kind_beside, is_scanned, IsScanned}
 use Rattle.am_scan.specs.Closure.{start_at, IsSearchFor, leads, IsClosed, goes_on}
 use Rattle.am_scan.specs.Scan.{FollowsText}
+use Rattle.am_scan.proofs.SightLemmas.{IsSeen}
 use Rattle.am_scan.proofs.ClosureLemmas.{is_some-cond, leads_where_accepted}
 
 -- the element at a place stands first where all before it is dropped
@@ -49,43 +51,46 @@ pub is_some-first : (i : ℕ) (o : Option Trace) (later : Option Match) →
 is_some-first i None later = refl
 is_some-first i (Some t) later = refl
 
--- at the end of a text no state reads on
-get_or-replicate : (n q : ℕ) → slice_index_or (replicate n false) q false ≡ false
-get_or-replicate zero q = refl
-get_or-replicate (suc n) zero = refl
-get_or-replicate (suc n) (suc q) = get_or-replicate n q
-
 -- the state of the empty text
-pub FollowsText-end : (nfa : Nfa) → FollowsText nfa None (replicate (vec_len nfa.states) false) false []
-unfolding first_from
-FollowsText-end nfa = record {
+pub FollowsText-end : (nfa : Nfa) (sight : Sight) (ascii : Bool) → FollowsText nfa sight ascii None true (λ q. false) false []
+unfolding first_from is_boundary
+FollowsText-end nfa sight ascii = record {
   kind = refl;
-  len = length-replicate (vec_len nfa.states) false;
-  each = λ hay i e q inside.
-      get_or-replicate (vec_len nfa.states) q
-      ∙ sym (ap (λ o. is_some (option_and_then (λ r. run nfa hay (length hay) r (i + 1)) (option_and_then (next_on nfa.transitions.items (state_of nfa q)) o)))
+  boundary = refl;
+  each = λ hay i scanned e q inside.
+      sym (ap (λ o. is_some (option_and_then (λ r. run nfa hay (length hay) r (i + 1)) (option_and_then (next_on nfa.transitions.items (state_of nfa q)) o)))
       (byte_below-length hay i ∙ here hay i [] e));
-  others = λ hay i e. refl;
+  others = λ hay i scanned e. refl;
 }
 
-module _ (nfa : Nfa) (plain : list_all is_plain nfa.states.items ≡ true) (first : Option ℕ) (reads : List Bool) (later : Bool) (text : List ℕ)
-    (follows : FollowsText nfa first reads later text) (accepted : List Bool) where
+-- what is scanned is a byte
+pub scanned_is_byte : (ascii : Bool) (b : ℕ) → is_scanned ascii b ≡ true → b < 256
+scanned_is_byte true b h = let small = ltb-true b 128 h in omega arith
+scanned_is_byte false b h = ltb-true b 256 h
+
+-- so a scanned text is of bytes
+bytes_of_scanned : (ascii : Bool) (text : List ℕ) → IsScanned ascii text → All (λ b. b < 256) text
+bytes_of_scanned ascii text scanned =
+    All-weaker (λ b. is_scanned ascii b ≡ true) (λ b. b < 256) (scanned_is_byte ascii) text (AllPass-from_list_all (is_scanned ascii) text scanned)
+
+module _ (nfa : Nfa) (sight : Sight) (ascii : Bool) (seen : IsSeen nfa sight ascii) (first : Option ℕ) (starts : Bool) (reads : ℕ → Bool) (later : Bool) (text : List ℕ)
+    (follows : FollowsText nfa sight ascii first starts reads later text) (accepted : List Bool) where
   -- what is accepted leads to a match wherever the text stands behind such a byte
-  leads_there : (before : Option ℕ) → IsClosed nfa first before reads accepted → (hay : List ℕ) (i : ℕ) → drop i hay ≡ text →
-      before ≡ kind_beside (byte_before hay i) → (q : ℕ) → q < vec_len nfa.states → slice_index_or accepted q false ≡ leads nfa hay q i
-  leads_there before closed hay i e before_is =
-      leads_where_accepted nfa plain hay i first before reads accepted (follows.kind ∙ ap kind_beside (sym (here hay i text e)))
-      before_is (follows.each hay i e) closed
+  leads_there : (before : Option ℕ) → IsClosed nfa first before reads accepted → (hay : List ℕ) (i : ℕ) → IsScanned ascii hay → drop i hay ≡ text →
+      before ≡ kind_beside sight (byte_before hay i) → (q : ℕ) → q < vec_len nfa.states → slice_index_or accepted q false ≡ leads nfa hay q i
+  leads_there before closed hay i scanned e before_is =
+      leads_where_accepted nfa sight ascii seen hay scanned i first before reads accepted (follows.kind ∙ ap (kind_beside sight) (sym (here hay i text e)))
+      before_is (follows.each hay i scanned e) closed
 
   -- a match begins where the text does, or later
-  from_here : (before : Option ℕ) (starts : Bool) → IsClosed nfa first before reads accepted → is_boundary text 0 ≡ starts →
-      (hay : List ℕ) (i : ℕ) → drop i hay ≡ text → before ≡ kind_beside (byte_before hay i) →
+  from_here : (before : Option ℕ) → IsClosed nfa first before reads accepted →
+      (hay : List ℕ) (i : ℕ) → IsScanned ascii hay → drop i hay ≡ text → before ≡ kind_beside sight (byte_before hay i) →
       (later || (starts && slice_index_or accepted nfa.start false)) ≡ is_some (first_from (start_at nfa hay) (suc (length text)) i)
   unfolding first_from
-  from_here before starts closed boundary hay i e before_is =
+  from_here before closed hay i scanned e before_is =
       or_comm later _
-      ∙ ap₂ ◌||◌ (ap₂ ◌&&◌ (sym (same_boundary hay i text e ∙ boundary)) (leads_there before closed hay i e before_is nfa.start nfa.start_in)
-      ∙ sym (is_some-cond (is_boundary hay i) _)) (follows.others hay i e)
+      ∙ ap₂ ◌||◌ (ap₂ ◌&&◌ (follows.boundary ∙ sym (same_boundary hay i text e)) (leads_there before closed hay i scanned e before_is nfa.start nfa.start_in)
+      ∙ sym (is_some-cond (is_boundary hay i) _)) (follows.others hay i scanned e)
       ∙ sym (is_some-first i _ _)
 
   -- what a byte leads to, where all that it may lead to is known
@@ -95,28 +100,29 @@ module _ (nfa : Nfa) (plain : list_all is_plain nfa.states.items ≡ true) (firs
   goes hay i (Some r) h = h r refl
 
   -- one byte more in front
-  pub FollowsText-step : (byte : ℕ) (starts : Bool) (next : List Bool) → IsClosed nfa first (Some (kind_of byte)) reads accepted →
-      is_boundary text 0 ≡ starts → length next ≡ vec_len nfa.states →
-      ((q : ℕ) → q < vec_len nfa.states → slice_index_or next q false ≡ goes_on nfa accepted q byte) →
-      FollowsText nfa (Some (kind_of byte)) next (later || (starts && slice_index_or accepted nfa.start false)) (byte ∷ text)
-  FollowsText-step byte starts next closed boundary len each =
-      let before : (hay : List ℕ) (i : ℕ) → drop i hay ≡ byte ∷ text → Some (kind_of byte) ≡ kind_beside (byte_before hay (i + 1)) =
-      λ hay i e. ap kind_beside (sym (byte_before-add-one hay i ∙ here hay i _ e)) in
+  pub FollowsText-step : (byte : ℕ) (next : ℕ → Bool) → IsClosed nfa first (Some (kind_of sight byte)) reads accepted →
+      ((q : ℕ) → q < vec_len nfa.states → next q ≡ goes_on nfa accepted q byte) →
+      FollowsText nfa sight ascii (Some (kind_of sight byte)) (is_boundary (byte ∷ []) 0) next
+      (later || (starts && slice_index_or accepted nfa.start false)) (byte ∷ text)
+  unfolding is_boundary
+  FollowsText-step byte next closed each =
+      let before : (hay : List ℕ) (i : ℕ) → drop i hay ≡ byte ∷ text → Some (kind_of sight byte) ≡ kind_beside sight (byte_before hay (i + 1)) =
+      λ hay i e. ap (kind_beside sight) (sym (byte_before-add-one hay i ∙ here hay i _ e)) in
       record {
         kind = refl;
-        len = len;
-        each = λ hay i e q inside.
+        boundary = refl;
+        each = λ hay i scanned e q inside.
             each q inside
-            ∙ goes hay (i + 1) _ (λ r to. leads_there _ closed hay (i + 1) (rest hay i byte text e) (before hay i e) r (next_on_within nfa q byte r to))
+            ∙ goes hay (i + 1) _ (λ r to. leads_there _ closed hay (i + 1) scanned (rest hay i byte text e) (before hay i e) r (next_on_within nfa q byte r to))
             ∙ sym (ap (λ o. is_some (option_and_then (λ r. run nfa hay (length hay) r (i + 1)) (option_and_then (next_on nfa.transitions.items (state_of nfa q)) o)))
             (byte_below-length hay i ∙ here hay i _ e));
-        others = λ hay i e. from_here _ starts closed boundary hay (i + 1) (rest hay i byte text e) (before hay i e);
+        others = λ hay i scanned e. from_here _ closed hay (i + 1) scanned (rest hay i byte text e) (before hay i e);
       }
 
   -- whether the pattern finds the whole text
-  pub finds_where_accepted : (p : List ℕ) → IsSearchFor nfa p → IsClosed nfa first None reads accepted → All (λ b. b < 256) text →
-      is_boundary text 0 ≡ true → (later || slice_index_or accepted nfa.start false) ≡ finds p text
-  finds_where_accepted p search closed bytes boundary =
+  pub finds_where_accepted : (p : List ℕ) → IsSearchFor nfa p → IsClosed nfa first None reads accepted → IsScanned ascii text →
+      (later || (starts && slice_index_or accepted nfa.start false)) ≡ finds p text
+  finds_where_accepted p search closed scanned =
       let count : suc (length text) ≡ length text + 1 - 0 = omega arith in
-      from_here None true closed boundary text 0 refl (ap kind_beside (sym (byte_before-zero text)))
-      ∙ ap (λ n. is_some (first_from (start_at nfa text) n 0)) count ∙ search text bytes
+      from_here None closed text 0 scanned refl (ap (kind_beside sight) (sym (byte_before-zero text)))
+      ∙ ap (λ n. is_some (first_from (start_at nfa text) n 0)) count ∙ search text (bytes_of_scanned ascii text scanned)

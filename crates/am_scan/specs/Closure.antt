@@ -1,6 +1,7 @@
 -- Which states of a compiled pattern lead to a match from a position of a text.
 use Rattle.std.specs.Prelude.{◌≡◌, ℕ, ◌<◌, Bool, true, false, ◌&&◌, ◌||◌, List, length, All}
-use Rattle.std.specs.Prelude.{Option, None, is_some, vec_len, slice_index_or, if◌then◌else◌}
+use Rattle.std.specs.Prelude.{Option, None, is_some, vec_len, slice_index_or, if◌then◌else◌, ◌==◌}
+use Rattle.std.specs.List.{list_any}
 use Rattle.regex_hir.specs.Re.{Rest}
 use Rattle.regex_hir.specs.Find.{first_between}
 use Rattle.regex_hir.specs.Looks.{holds_between}
@@ -41,6 +42,14 @@ leads_on nfa hay q i =
     let go = run nfa hay (length hay) in
     is_some (read nfa.transitions.items hay (length hay) go (state_of nfa q) i)
 
+-- The state reads a byte.
+-- Source: own choice.
+-- Example: a split reads none.
+abbrev pub reads_byte : State → Bool
+reads_byte (ByteRange t) = true
+reads_byte (Sparse from to) = true
+reads_byte _ = false
+
 -- Whether a state leads to a match, by which states do; `reads` says whether reading a byte does,
 -- and `after` and `before` which kinds of bytes stand beside the position.
 -- Source: own choice.
@@ -52,20 +61,32 @@ accepts after before accepted reads (Split first second) =
     slice_index_or accepted first false || slice_index_or accepted second false
 accepts after before accepted reads (Save slot next) = slice_index_or accepted next false
 accepts after before accepted reads (Look l next) =
-    holds_between l (record { byte = before; char = None }) (record { byte = after; char = None })
+    holds_between l
+    (record { byte = before; char = before }) (record { byte = after; char = after })
     && slice_index_or accepted next false
 accepts after before accepted reads Match = true
 accepts after before accepted reads Fail = false
 
+-- A number is among some.
+-- Source: own choice.
+-- Example: 2 is among 1 and 2.
+abbrev pub contains : List ℕ → ℕ → Bool
+contains numbers n = list_any (λ m. m == n) numbers
+
+-- Of the states that read a byte those are accepted that reading it leads to a match.
+abbrev pub AcceptsReads : Nfa → (ℕ → Bool) → List Bool → Type 0
+AcceptsReads nfa reads accepted =
+    (q : ℕ) → q < vec_len nfa.states → reads_byte (state_of nfa q) ≡ true
+    → slice_index_or accepted q false ≡ reads q
+
 -- Each state is accepted exactly where it leads to a match by those that are accepted.
 -- Source: own choice.
 -- Example: without `Match` among those that are accepted it is not so.
-pub record IsClosed (nfa : Nfa) (after before : Option ℕ) (reads accepted : List Bool)
-    : Type 0 where
+pub record IsClosed (nfa : Nfa) (after before : Option ℕ) (reads : ℕ → Bool)
+    (accepted : List Bool) : Type 0 where
   pub len : length accepted ≡ vec_len nfa.states
   pub each : (q : ℕ) → q < vec_len nfa.states
-      → slice_index_or accepted q false
-      ≡ accepts after before accepted (slice_index_or reads q false) (state_of nfa q)
+      → slice_index_or accepted q false ≡ accepts after before accepted (reads q) (state_of nfa q)
 
 -- Reading the byte leads the state to one that is accepted.
 -- Source: own choice.

@@ -1,4 +1,7 @@
 pub mod Words
-pub mod Kinds
+pub mod Sight
 pub mod Closure
+pub mod Column
 pub mod Scan
+pub mod Numbers
+pub mod Automaton

@@ -1,2 +1,3 @@
 -- The words of clauses: what the contracts of this crate, and of those above it, cite.
-unfoldable pub use Rattle.am_scan.specs.Scan.{Follows, pattern_of}
+pub use Rattle.am_scan.specs.Sight.{is_scanned, IsScanned}
+unfoldable pub use Rattle.am_scan.specs.Automaton.{number_of, class_of, is_ascii, pattern_of}

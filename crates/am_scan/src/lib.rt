@@ -1,9 +1,9 @@
 //! What a pattern makes of a text, read byte by byte from its end.
 //!
-//! A [`PatternScan`] is a pattern, compiled. A [`PatternState`] is all that matters to it of a text
-//! of which only the end has been read: which further bytes in front of it will be accepted depends
-//! on nothing else. So texts that lead to one state need not be told apart, and whoever follows the
-//! states that there are has followed all texts.
+//! A [`PatternAutomaton`] is a pattern as a table. It gives each text a number, and that is all
+//! that matters of a text of which only the end has been read: whether the pattern finds it, with
+//! whatever bytes in front, depends on nothing else. So texts that lead to one number need not be
+//! told apart, and whoever follows the numbers that there are has followed all texts.
 #![tactic(auto)]
 
 // How much there may be.
@@ -12,16 +12,23 @@ pub mod limits;
 // From the text of a pattern to what is run.
 mod compile;
 
-// Bytes as assertions see them, and the assertions that can be followed.
-mod looks;
+// What the assertions of a pattern see of bytes, and what all of it makes of them.
+mod column;
+mod columns;
+mod sight;
 
 // What a text leaves behind, and numbers by which that is looked up.
+mod closure;
 mod hashing;
 mod pattern_state;
 
-// The pattern.
+// How a pattern is followed from the end of a text.
 mod pattern_scan;
 
+// The automaton, and the rows of its table.
+mod exploration;
+mod pattern_automaton;
+mod row;
+
 pub use hashing::hash_with;
-pub use pattern_scan::PatternScan;
-pub use pattern_state::PatternState;
+pub use pattern_automaton::PatternAutomaton;

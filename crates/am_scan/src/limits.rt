@@ -5,3 +5,6 @@ pub const MAX_STATES: usize = 16_384;
 
 /// The most bytes that the tables of a compiled pattern may take.
 pub const MAX_TABLE_BYTES: usize = 1_048_576;
+
+/// The most states of texts that a pattern may tell apart.
+pub const MAX_TEXT_STATES: usize = 65_536;

@@ -1,215 +1,309 @@
-ghost use Rattle.std.specs.Prelude.{◌≡◌, ℕ, ◌<◌, ◌≤◌, ◌∷◌, [], List, length, true, false, All};
-ghost use Rattle.std.specs.Prelude.{IfOk, IfSome, IsTrue, slice_index_or, vec_len, string_bytes};
+ghost use Rattle.std.specs.Prelude.{◌≡◌, ℕ, ◌<◌, ◌∷◌, ◌||◌, ◌&&◌, [], List, All, length, Bool};
+ghost use Rattle.std.specs.Prelude.{true, false, Some, None};
+ghost use Rattle.std.specs.Prelude.{IfOk, IfSome, slice_index_or, vec_len, string_bytes};
 ghost use Rattle.std.specs.List.{list_all};
-ghost use Rattle.regex_hir.specs.Text.{is_boundary};
 ghost use Rattle.regex_nfa.specs.Run.{state_of};
-ghost use Rattle.regex_nfa.specs.States.{next_on};
 ghost use Rattle.am_labels.specs.Words.{finds};
-ghost use Rattle.am_scan.specs.Kinds.{kind_of, is_plain};
-ghost use Rattle.am_scan.specs.Closure.{IsSearchFor, IsClosed, accepts, goes_on};
+ghost use Rattle.am_scan.specs.Sight.{sees_state, IsScanned};
+ghost use Rattle.am_scan.specs.Closure.{IsSearchFor, IsClosed, AcceptsReads, accepts, contains};
+ghost use Rattle.am_scan.specs.Closure.{reads_byte};
+ghost use Rattle.am_scan.specs.Column.{IsColumn, sources};
 
+use crate::closure::Closure;
+use crate::column::{Column, Edge};
 use crate::compile::compile_anchored;
 use crate::limits::MAX_STATES;
-use crate::looks::{are_plain, holds, kind_of};
 use crate::pattern_state::PatternState;
+use crate::sight::{Sight, holds};
 use regex_nfa::{Nfa, State, StateId};
 use std::alloc::{AllocError, Global};
 
 /// A pattern, compiled to scan texts from their end.
 #[derive(Drop)]
-pub struct PatternScan {
-    pattern: String,
-    nfa: Nfa,
+pub(crate) struct PatternScan {
+    pub(crate) pattern: String,
+    /// Whether texts of ASCII alone are scanned.
+    pub(crate) ascii: bool,
+    pub(crate) nfa: Nfa,
+    /// What the assertions of the pattern see.
+    pub(crate) sight: Sight,
+    /// The states that read no byte, the last first, since most lead on to later ones.
+    idle: Vec<StateId>,
     ghost faithful: { IsSearchFor nfa (string_bytes pattern) },
-    ghost plain: { list_all is_plain nfa.states.items ≡ true },
+    ghost seen: { list_all (sees_state sight) nfa.states.items ≡ true },
+    ghost words_in_ascii: { sight.words ≡ true → ascii ≡ true },
+    ghost idle_alone: { All (λ q. (q < vec_len nfa.states)
+        × (reads_byte (state_of nfa q) ≡ false)) idle.items },
+    ghost all_idle: { (q : ℕ) → q < vec_len nfa.states
+        → reads_byte (state_of nfa q) ≡ false → contains idle.items q ≡ true },
 }
 
 impl PatternScan {
     ghost use Rattle.am_scan.specs.declared.pattern_state.PatternState.{PatternState};
-    ghost use Rattle.am_scan.specs.Scan.{Follows, pattern_of};
+    ghost use Rattle.am_scan.specs.Scan.{Follows};
+    ghost use Rattle.am_scan.specs.Automaton.{AreNext};
 
-    /// Compiles a pattern. `None` where it cannot be followed: the engine's grammar does not read
-    /// it, it is too large, or it asks whether a word begins or ends (as `\b` does). An `Err` only
-    /// where memory was refused.
-    pub fn of(alloc: Global, pattern: &str) -> Result<Option<PatternScan>, AllocError>
-        ensures { IfOk result (λ found. IfSome found (λ scan. pattern_of scan ≡ pattern.now)) }
+    /// Compiles a pattern, to scan texts of ASCII alone or any. `None` where it cannot be followed:
+    /// the engine's grammar does not read it, it is too large, or it asks whether a word begins or
+    /// ends (as `\b` does) in texts that may have other characters than those of ASCII. An `Err`
+    /// only where memory was refused.
+    pub(crate) fn of(
+        alloc: Global,
+        pattern: &str,
+        ascii: bool,
+    ) -> Result<Option<PatternScan>, AllocError>
+        ensures pattern { IfOk result (λ found. IfSome found
+            (λ scan. string_bytes scan.pattern ≡ pattern.now)) }
+        ensures ascii { IfOk result (λ found. IfSome found (λ scan. scan.ascii ≡ ascii)) }
     {
         let Some(nfa) = compile_anchored(alloc, pattern)? else {
             return Ok(None);
         };
-        if nfa.states.len() > MAX_STATES || !are_plain(nfa.states.as_slice()) {
+        let sight = Sight::of(nfa.states.as_slice());
+        if nfa.states.len() > MAX_STATES || !sight.sees_all(nfa.states.as_slice()) {
             return Ok(None);
         }
-        let pattern = String::from_str(alloc, pattern)?;
-        Ok(Some(PatternScan { pattern, nfa }))
-    }
-
-    /// The state of the empty text. An `Err` only where memory was refused.
-    pub fn end(&self, alloc: Global) -> Result<PatternState, AllocError>
-        ensures { IfOk result (λ state. Follows self.now state []) }
-    {
-        let reads = vec![in alloc; false; self.nfa.states.len()]?;
-        Ok(PatternState {
-            first: None,
-            reads,
-            later: false,
-        })
-    }
-
-    /// The state of a text with one byte more in front. `starts` says whether a character begins
-    /// where the text of `state` begins. `None` where the state is of another pattern, or the
-    /// matches from here are not found in as many rounds as there are states. An `Err` only where
-    /// memory was refused.
-    pub fn step(
-        &self,
-        alloc: Global,
-        state: &PatternState,
-        starts: bool,
-        byte: u8,
-    ) -> Result<Option<PatternState>, AllocError>
-        ensures { IfOk result (λ found. IfSome found (λ next. (text : List ℕ)
-            → Follows self.now state.now text → is_boundary text 0 ≡ starts
-            → Follows self.now next (byte ∷ text))) }
-    {
-        let Some(accepted) = self.accepted_states(alloc, state, Some(kind_of(byte)))? else {
+        if sight.words && !ascii {
             return Ok(None);
-        };
-        let reads = self.reading_states(alloc, accepted.as_slice(), byte)?;
-        Ok(Some(PatternState {
-            first: Some(kind_of(byte)),
-            reads,
-            later: state.later || (starts && accepted[self.nfa.start as usize]),
+        }
+        let idle = idle_states(alloc, &nfa)?;
+        let pattern = String::from_str(alloc, pattern)?;
+        Ok(Some(PatternScan {
+            pattern,
+            ascii,
+            nfa,
+            sight,
+            idle,
         }))
     }
 
-    /// Whether the pattern finds the whole text that was read. `None` as at [`PatternScan::step`].
-    /// An `Err` only where memory was refused.
-    pub fn finds(&self, alloc: Global, state: &PatternState) -> Result<Option<bool>, AllocError>
-        ensures { IfOk result (λ found. IfSome found (λ answer. (text : List ℕ)
-            → Follows self.now state.now text → All (λ b. b < 256) text
-            → is_boundary text 0 ≡ true → answer ≡ finds (pattern_of self.now) text)) }
+    /// The state of the empty text.
+    pub(crate) fn end(&self, alloc: Global) -> PatternState
+        ensures { Follows self.now result [] }
     {
-        let Some(accepted) = self.accepted_states(alloc, state, None)? else {
+        PatternState {
+            first: None,
+            starts: true,
+            reads: Vec::new(alloc),
+            later: false,
+        }
+    }
+
+    /// The state of a text with one byte more in front. `closure` says which states lead to a match
+    /// behind a byte of that kind.
+    fn step(
+        &self,
+        alloc: Global,
+        state: &PatternState,
+        closure: &Closure,
+        column: &Column,
+    ) -> Result<PatternState, AllocError>
+        requires closed { IsClosed self.now.nfa state.now.first closure.now.before
+            (contains state.now.reads.items) closure.now.accepted.items }
+        requires before { closure.now.before ≡ Some column.now.kind }
+        ensures { IfOk result (λ next. (byte : ℕ) (text : List ℕ)
+            → IsColumn self.now.nfa self.now.sight byte column.now
+            → Follows self.now state.now text → Follows self.now next (byte ∷ text)) }
+    {
+        let accepted = closure.accepted.as_slice();
+        Ok(PatternState {
+            first: closure.before,
+            starts: column.starts,
+            reads: sources(alloc, column.edges.as_slice(), accepted)?,
+            later: self.matches_from(state, accepted),
+        })
+    }
+
+    /// The states of a text with one byte more in front, one for each column. `None` as at
+    /// [`PatternScan::closure`].
+    pub(crate) fn next_states(
+        &self,
+        alloc: Global,
+        state: &PatternState,
+        columns: &[Column],
+    ) -> Result<Option<Vec<PatternState>>, AllocError>
+        ensures count { IfOk result (λ found. IfSome found
+            (λ nexts. vec_len nexts ≡ length columns.now)) }
+        ensures each { IfOk result (λ found. IfSome found
+            (λ nexts. AreNext self.now columns.now state.now nexts.items)) }
+    {
+        let Some(mut closure) = self.closure(alloc, state, None)? else {
             return Ok(None);
         };
-        Ok(Some(state.later || accepted[self.nfa.start as usize]))
-    }
-
-    /// Whether the pattern makes the same of two bytes, wherever they stand: `true` promises that a
-    /// state of a text with one of them in front is that of the text with the other. `false`
-    /// promises nothing.
-    pub fn are_alike(&self, one: u8, other: u8) -> bool
-        ensures { IsTrue result → (state : PatternState) (text : List ℕ)
-            → Follows self.now state (one ∷ text) → Follows self.now state (other ∷ text) }
-    {
-        kind_of(one) == kind_of(other) && self.have_same_targets(one, other)
-    }
-
-    /// Whether each state goes to the same on two bytes.
-    fn have_same_targets(&self, one: u8, other: u8) -> bool
-        ensures { IsTrue result → (q : ℕ) → q < vec_len self.now.nfa.states
-            → next_on self.now.nfa.transitions.items (state_of self.now.nfa q) one
-            ≡ next_on self.now.nfa.transitions.items (state_of self.now.nfa q) other }
-    {
-        for q in 0..self.nfa.states.len() {
-            let state = self.nfa.state(q as u32);
-            if self.nfa.next_on(state, one) != self.nfa.next_on(state, other) {
-                return false;
-            }
+        let mut nexts = Vec::with_capacity(alloc, columns.len())?;
+        for column in columns {
+            let Some(behind) = self.closure_behind(alloc, state, column.kind, closure)? else {
+                return Ok(None);
+            };
+            nexts.push(self.step(alloc, state, &behind, column)?)?;
+            closure = behind;
         }
-        true
+        Ok(Some(nexts))
+    }
+
+    /// Whether the pattern finds the whole text that was read. `None` as at
+    /// [`PatternScan::closure`].
+    pub(crate) fn finds(
+        &self,
+        alloc: Global,
+        state: &PatternState,
+    ) -> Result<Option<bool>, AllocError>
+        ensures { IfOk result (λ found. IfSome found (λ answer. (text : List ℕ)
+            → Follows self.now state.now text → IsScanned self.now.ascii text
+            → answer ≡ finds (string_bytes self.now.pattern) text)) }
+    {
+        let Some(closure) = self.closure(alloc, state, None)? else {
+            return Ok(None);
+        };
+        Ok(Some(self.matches_from(state, closure.accepted.as_slice())))
+    }
+
+    /// Whether a match begins where the text of the state does, or later.
+    fn matches_from(&self, state: &PatternState, accepted: &[bool]) -> bool
+        requires { length accepted.now ≡ vec_len self.now.nfa.states }
+        ensures { result ≡ (state.now.later
+            || (state.now.starts && slice_index_or accepted.now self.now.nfa.start false)) }
+    {
+        state.later || (state.starts && accepted[self.nfa.start as usize])
+    }
+
+    /// Which states lead to a match behind a byte of this kind. Most often it is known already,
+    /// from the column before.
+    fn closure_behind(
+        &self,
+        alloc: Global,
+        state: &PatternState,
+        kind: u8,
+        last: Closure,
+    ) -> Result<Option<Closure>, AllocError>
+        requires { IsClosed self.now.nfa state.now.first last.before
+            (contains state.now.reads.items) last.accepted.items }
+        ensures closed { IfOk result (λ found. IfSome found (λ closure.
+            IsClosed self.now.nfa state.now.first closure.before (contains state.now.reads.items)
+            closure.accepted.items)) }
+        ensures before { IfOk result (λ found. IfSome found (λ closure.
+            closure.before ≡ Some kind)) }
+    {
+        if last.is_behind(kind) {
+            return Ok(Some(last));
+        }
+        self.closure(alloc, state, Some(kind))
     }
 
     /// Of each state, whether it leads to a match where the text of `state` begins, behind a byte
-    /// of this kind.
-    fn accepted_states(
+    /// of this kind. `None` where this is not found in as many rounds as there are states.
+    fn closure(
         &self,
         alloc: Global,
         state: &PatternState,
         before: Option<u8>,
-    ) -> Result<Option<Vec<bool>>, AllocError>
-        ensures { IfOk result (λ found. IfSome found (λ accepted.
-            IsClosed self.now.nfa state.now.first before state.now.reads.items accepted.items)) }
+    ) -> Result<Option<Closure>, AllocError>
+        ensures closed { IfOk result (λ found. IfSome found (λ closure.
+            IsClosed self.now.nfa state.now.first closure.before (contains state.now.reads.items)
+            closure.accepted.items)) }
+        ensures before { IfOk result (λ found. IfSome found (λ closure.
+            closure.before ≡ before)) }
     {
-        let len = self.nfa.states.len();
-        if state.reads.len() != len {
-            return Ok(None);
-        }
-        let mut accepted = vec![in alloc; false; len]?;
-        for _ in 0..=len {
+        let mut accepted = vec![in alloc; false; self.nfa.states.len()]?;
+        mark(state.reads.as_slice(), accepted.as_mut_slice());
+        for _ in 0..=self.idle.len() {
             if !self.accept_more(state, before, accepted.as_mut_slice()) {
-                return Ok(Some(accepted));
+                return Ok(Some(Closure { before, accepted }));
             }
         }
         Ok(None)
     }
 
-    /// Looks at each state once, in order: whether it leads to a match by what is known of the
-    /// others. Whether something has changed.
+    /// Looks once at each state that reads no byte: whether it leads to a match by what is known of
+    /// the others. Whether something has changed.
     fn accept_more(&self, state: &PatternState, before: Option<u8>, accepted: &mut [bool]) -> bool
-        requires reads { vec_len state.now.reads ≡ vec_len self.now.nfa.states }
-        requires accepted { length accepted.old ≡ vec_len self.now.nfa.states }
-        ensures { result ≡ false → IsClosed self.now.nfa state.now.first before
-            state.now.reads.items accepted.new }
+        requires len { length accepted.old ≡ vec_len self.now.nfa.states }
+        requires reads { AcceptsReads self.now.nfa (contains state.now.reads.items) accepted.old }
+        ensures reads { AcceptsReads self.now.nfa (contains state.now.reads.items) accepted.new }
+        ensures closed { result ≡ false → IsClosed self.now.nfa state.now.first before
+            (contains state.now.reads.items) accepted.new }
     {
         let mut changed = false;
-        for q in 0..self.nfa.states.len() {
-            let is_accepted = self.is_accepted(q as u32, state, before, accepted);
-            if is_accepted != accepted[q] {
-                accepted[q] = is_accepted;
+        for id in &self.idle {
+            let is_accepted = self.is_accepted(*id, state.first, before, accepted);
+            if is_accepted != accepted[*id as usize] {
+                accepted[*id as usize] = is_accepted;
                 changed = true;
             }
         }
         changed
     }
 
-    /// Whether one state leads to a match, by what is known of the others.
+    /// Whether a state that reads no byte leads to a match, by what is known of the others.
     fn is_accepted(
         &self,
         id: StateId,
-        state: &PatternState,
+        after: Option<u8>,
         before: Option<u8>,
         accepted: &[bool],
     ) -> bool
         requires id { id < vec_len self.now.nfa.states }
-        requires reads { vec_len state.now.reads ≡ vec_len self.now.nfa.states }
         requires accepted { length accepted.now ≡ vec_len self.now.nfa.states }
-        ensures { result ≡ accepts state.now.first before accepted.now
-            (slice_index_or state.now.reads.items id false) (state_of self.now.nfa id) }
+        ensures { (reads : Bool) → reads_byte (state_of self.now.nfa id) ≡ false
+            → result ≡ accepts after before accepted.now reads (state_of self.now.nfa id) }
     {
         match self.nfa.state(id) {
-            State::ByteRange(_) | State::Sparse { .. } => state.reads[id as usize],
+            State::ByteRange(_) | State::Sparse { .. } => false,
             State::Split { first, second } => accepted[first as usize] || accepted[second as usize],
             State::Save { next, .. } => accepted[next as usize],
-            State::Look { look, next } => {
-                holds(look, before, state.first) && accepted[next as usize]
-            }
+            State::Look { look, next } => holds(look, before, after) && accepted[next as usize],
             State::Match => true,
             State::Fail => false,
         }
     }
+}
 
-    /// Of each state, whether reading this byte leads to one that is accepted behind it.
-    fn reading_states(
-        &self,
-        alloc: Global,
-        accepted: &[bool],
-        byte: u8,
-    ) -> Result<Vec<bool>, AllocError>
-        requires { length accepted.now ≡ vec_len self.now.nfa.states }
-        ensures len { IfOk result (λ reads. vec_len reads ≡ vec_len self.now.nfa.states) }
-        ensures each { IfOk result (λ reads. (q : ℕ) → q < vec_len self.now.nfa.states
-            → slice_index_or reads.items q false ≡ goes_on self.now.nfa accepted.now q byte) }
-    {
-        let len = self.nfa.states.len();
-        let mut reads = Vec::with_capacity(alloc, len)?;
-        for q in 0..len {
-            let next = self.nfa.next_on(self.nfa.state(q as u32), byte);
-            reads.push(match next {
-                Some(next) => accepted[next as usize],
-                None => false,
-            })?;
+/// The states that read no byte, the last first.
+fn idle_states(alloc: Global, nfa: &Nfa) -> Result<Vec<StateId>, AllocError>
+    ensures alone { IfOk result (λ idle. All (λ q. (q < vec_len nfa.now.states)
+        × (reads_byte (state_of nfa.now q) ≡ false)) idle.items) }
+    ensures all { IfOk result (λ idle. (q : ℕ) → q < vec_len nfa.now.states
+        → reads_byte (state_of nfa.now q) ≡ false → contains idle.items q ≡ true) }
+{
+    let len = nfa.states.len();
+    let mut idle = Vec::new(alloc);
+    for k in 0..len {
+        let id = (len - 1 - k) as u32;
+        if !reads_byte(nfa.state(id)) {
+            idle.push(id)?;
         }
-        Ok(reads)
     }
+    Ok(idle)
+}
+
+/// Whether a state reads a byte.
+fn reads_byte(state: State) -> bool
+    ensures { result ≡ reads_byte state }
+{
+    matches!(state, State::ByteRange(_) | State::Sparse { .. })
+}
+
+/// Marks places.
+fn mark(places: &[StateId], marks: &mut [bool])
+    ensures { (q : ℕ) → q < length marks.old → slice_index_or marks.new q false
+        ≡ (slice_index_or marks.old q false || contains places.now q) }
+{
+    for place in places {
+        if (*place as usize) < marks.len() {
+            marks[*place as usize] = true;
+        }
+    }
+}
+
+/// The states from which these steps lead to one that is accepted.
+fn sources(alloc: Global, edges: &[Edge], accepted: &[bool]) -> Result<Vec<StateId>, AllocError>
+    ensures { IfOk result (λ reads. reads.items ≡ sources accepted.now edges.now) }
+{
+    let mut reads = Vec::new(alloc);
+    for edge in edges {
+        if let Some(true) = accepted.get(edge.to as usize) {
+            reads.push(edge.from)?;
+        }
+    }
+    Ok(reads)
 }

@@ -1,14 +1,17 @@
 ghost use Rattle.std.specs.Prelude.{◌≡◌, ℕ, List, IsTrue};
 
 use crate::hashing::hash_with;
+use regex_nfa::StateId;
 
 /// What a pattern makes of a text of which only the end has been read.
 #[derive(Drop)]
-pub struct PatternState {
-    /// The kind of the text's first byte; `None` where the text is empty.
+pub(crate) struct PatternState {
+    /// The byte by which the text's first byte is known; `None` where the text is empty.
     pub(crate) first: Option<u8>,
-    /// Of each state that reads a byte: whether reading the first byte leads to a match.
-    pub(crate) reads: Vec<bool>,
+    /// Whether a character begins where the text does, or the text is empty.
+    pub(crate) starts: bool,
+    /// The states that reading the first byte leads to a match.
+    pub(crate) reads: Vec<StateId>,
     /// Whether a match begins at a character behind the first byte.
     pub(crate) later: bool,
 }
@@ -19,21 +22,23 @@ impl PatternState {
 
     /// Whether two states are the same. `true` promises that each text that has led to one may as
     /// well have led to the other; `false` promises nothing.
-    pub fn same(&self, other: &PatternState) -> bool
+    pub(crate) fn same(&self, other: &PatternState) -> bool
         ensures { IsTrue result → (scan : PatternScan) (text : List ℕ)
             → Follows scan self.now text → Follows scan other.now text }
     {
         self.first == other.first
+            && self.starts == other.starts
             && self.later == other.later
             && self.reads.as_slice() == other.reads.as_slice()
     }
 
     /// A number by which states are told apart fast. Nothing is promised of it.
-    pub fn hash(&self) -> u64 {
+    pub(crate) fn hash(&self) -> u64 {
         let mut hash: u64 = match self.first {
             Some(byte) => u64::from(byte) + 1,
             None => 0,
         };
+        hash = hash_with(hash, u64::from(self.starts));
         hash = hash_with(hash, u64::from(self.later));
         for read in &self.reads {
             hash = hash_with(hash, u64::from(*read));

@@ -1,0 +1,92 @@
+-- The numbers of texts lead to the states of texts.
+use Rattle.std.proofs.Common.{◌≡◌, ℕ, ◌<◌, true, List, [], ◌∷◌, ◌++◌, length, inl, inr, Some, slice_get, slice_index, string_bytes, vec_len, sym, ap, ◌∙◌, subst, arith}
+use Rattle.std.specs.List.{list_all}
+use Rattle.std.proofs.lemmas.Bool.{and_parts}
+use Rattle.std.proofs.lemmas.Option.{slice_get-get_or, slice_get_within}
+use Rattle.am_labels.specs.Words.{finds}
+use Rattle.am_scan.specs.declared.column.Column.{Column}
+use Rattle.am_scan.specs.declared.row.Row.{Row}
+use Rattle.am_scan.specs.declared.pattern_scan.PatternScan.{PatternScan}
+use Rattle.am_scan.specs.declared.pattern_state.PatternState.{PatternState}
+use Rattle.am_scan.specs.Sight.{is_scanned, IsScanned}
+use Rattle.am_scan.specs.Scan.{Follows}
+use Rattle.am_scan.specs.Numbers.{next_in, number_in, found_at, found_in}
+use Rattle.am_scan.specs.Column.{IsColumn}
+use Rattle.am_scan.specs.Automaton.{AreClasses, Grows, GrowsColumns, IsNumber, IsRow, AreRows}
+use Rattle.am_scan.proofs.Places.{get_within, get_pushed}
+use Rattle.am_scan.proofs.StepLemmas.{scanned_is_byte}
+
+module _ (scan : PatternScan) (columns : List Column) (classes : List ℕ) (states : List PatternState) (rows : List Row)
+    (bytes : length classes ≡ 256) (own : AreClasses scan columns classes) (are : AreRows scan columns states rows) where
+  -- At a number stands the state of a text.
+  abbrev StandsFor : ℕ → List ℕ → Type 0
+  StandsFor number text = (state : PatternState) × (slice_get states number ≡ Some state) × Follows scan state text
+
+  -- A number at which a state stands has a row.
+  row_at : (number : ℕ) (state : PatternState) → slice_get states number ≡ Some state → (row : Row) × (slice_get rows number ≡ Some row) × IsRow scan columns states state row
+  row_at number state at =
+      let row = get_within rows number (let inside = slice_get_within states number state at in omega (arith, are.count)) in
+      (row.0, row.1, are.each number state row.0 at row.1)
+
+  -- One byte more in front leads to the state of the longer text.
+  step : (number b : ℕ) (text : List ℕ) → is_scanned scan.ascii b ≡ true → b < 256 → StandsFor number text →
+      StandsFor (next_in (slice_get rows number) (slice_index classes b)) (b ∷ text)
+  step number b text scanned small here =
+      let row = row_at number here.0 here.1 in
+      let class = slice_index classes b in
+      let column = own b class (slice_get-get_or classes b 0 (omega (arith, bytes))) scanned in
+      let count : vec_len row.0.next ≡ length columns = row.2.count in
+      let inside : class < length columns = slice_get_within columns class column.0 column.1 in
+      let next = row.2.leads class column.0 (slice_index row.0.next.items class) column.1
+      (slice_get-get_or row.0.next.items class 0 (omega (arith, row.0.next.ok.0))) in
+      subst (λ o. StandsFor (next_in o class) (b ∷ text)) (sym row.1) (next.0, next.1, next.2 b text column.2 here.2)
+
+  -- At the number of each scanned text stands a state of the text.
+  stands_for : (text : List ℕ) → list_all (is_scanned scan.ascii) text ≡ true → StandsFor (number_in rows classes text) text
+  stands_for [] h = let first = get_within states 0 are.some in (first.0, first.1, are.first first.0 first.1)
+  stands_for (b ∷ text) h =
+      let parts = and_parts (is_scanned scan.ascii b) _ h in
+      step _ b text parts.0 (scanned_is_byte scan.ascii b parts.0) (stands_for text parts.1)
+
+  -- So what is said of the number is so of the text.
+  pub found_in-exact : (text : List ℕ) → IsScanned scan.ascii text → found_in rows (number_in rows classes text) ≡ finds (string_bytes scan.pattern) text
+  found_in-exact text scanned =
+      let here = stands_for text scanned in
+      let row = row_at _ here.0 here.1 in
+      ap found_at row.1 ∙ row.2.found text here.2 scanned
+
+-- What was at a place stays within.
+pub grows_within : (old new : List PatternState) (k : ℕ) → Grows old new → k < length old → k < length new
+grows_within old new k grows h = let there = get_within old k h in slice_get_within new k there.0 (grows k there.0 there.1)
+
+-- What is at a place that was within was there.
+pub grown_back : (old new : List PatternState) (k : ℕ) (state : PatternState) → Grows old new → k < length old
+    → slice_get new k ≡ Some state → slice_get old k ≡ Some state
+grown_back old new k state grows h at = let there = get_within old k h in there.1 ∙ sym (grows k there.0 there.1) ∙ at
+
+-- A row stays one where states are added.
+pub IsRow_kept : (scan : PatternScan) (columns : List Column) (old new : List PatternState) (state : PatternState) (row : Row) → Grows old new →
+    IsRow scan columns old state row → IsRow scan columns new state row
+IsRow_kept scan columns old new state row grows h = record {
+  count = h.count;
+  leads = λ k column number at also. let next = h.leads k column number at also in (next.0, grows number next.0 next.1, next.2);
+  found = h.found;
+}
+
+-- A number stays one where states are added.
+pub IsNumber_kept : (old new : List PatternState) (state : PatternState) (number : ℕ) → Grows old new → IsNumber old state number → IsNumber new state number
+IsNumber_kept old new state number grows h = (h.0, grows number h.0 h.1, h.2)
+
+-- One byte more has its class.
+pub AreClasses-more : (scan : PatternScan) (old new : List Column) (classes all : List ℕ) (byte class : ℕ) → AreClasses scan old classes →
+    GrowsColumns old new → length classes ≡ byte → all ≡ classes ++ class ∷ [] →
+    (is_scanned scan.ascii byte ≡ true → (column : Column) × (slice_get new class ≡ Some column) × IsColumn scan.nfa scan.sight byte column) →
+    AreClasses scan new all
+AreClasses-more scan old new classes all byte class h grows len is own = λ b other at scanned.
+    elim (get_pushed classes class other b (subst (λ xs. slice_get xs b ≡ Some other) is at)) [
+      | inl before ↦ (let f = h b other before scanned in (f.0, grows other f.0 f.1, f.2))
+      | inr here ↦
+          (let same : b ≡ byte = here.0 ∙ len in
+          let f = own (subst (λ x. is_scanned scan.ascii x ≡ true) same scanned) in
+          (f.0, subst (λ x. slice_get new x ≡ Some f.0) here.1 f.1, subst (λ x. IsColumn scan.nfa scan.sight x f.0) (sym same) f.2))
+    ]

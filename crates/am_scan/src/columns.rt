@@ -1,0 +1,90 @@
+ghost use Rattle.std.specs.Prelude.{◌≡◌, ℕ, true, IfOk, IfSome, Some, slice_get, vec_len};
+ghost use Rattle.regex_nfa.specs.declared.nfa.Nfa.{Nfa};
+ghost use Rattle.am_scan.specs.declared.sight.Sight.{Sight};
+ghost use Rattle.am_scan.specs.declared.column.Column.{Column};
+ghost use Rattle.am_scan.specs.Sight.{is_scanned};
+ghost use Rattle.am_scan.specs.Column.{IsColumn};
+ghost use Rattle.am_scan.specs.Automaton.{AreClasses, GrowsColumns};
+
+use crate::column::Column;
+use crate::pattern_scan::PatternScan;
+use std::alloc::{AllocError, Global};
+
+/// What a pattern makes of all bytes.
+#[derive(Drop)]
+pub(crate) struct Columns {
+    /// What it makes of a byte; no two of these are the same.
+    pub(crate) columns: Vec<Column>,
+    /// Of each byte, the place of its column. Bytes that are not scanned have any.
+    pub(crate) classes: Vec<u8>,
+}
+
+impl Columns {
+    /// What a pattern makes of all bytes. `None` where there are more classes than bytes.
+    pub(crate) fn of(alloc: Global, scan: &PatternScan) -> Result<Option<Columns>, AllocError>
+        ensures count { IfOk result (λ found. IfSome found
+            (λ made. vec_len made.classes ≡ 256)) }
+        ensures classes { IfOk result (λ found. IfSome found
+            (λ made. AreClasses scan.now made.columns.items made.classes.items)) }
+    {
+        let mut columns: Vec<Column> = Vec::new(alloc);
+        let mut classes = Vec::with_capacity(alloc, 256)?;
+        for byte in 0..=u8::MAX {
+            let Some(class) = class_of(alloc, scan, byte, &mut columns)? else {
+                return Ok(None);
+            };
+            classes.push(class)?;
+        }
+        Ok(Some(Columns { columns, classes }))
+    }
+}
+
+/// The place of the column of a byte, which is listed if it is not yet. A byte that is not scanned
+/// has none, so any place will do. `None` where the place is no byte.
+fn class_of(
+    alloc: Global,
+    scan: &PatternScan,
+    byte: u8,
+    columns: &mut Vec<Column>,
+) -> Result<Option<u8>, AllocError>
+    ensures grows { GrowsColumns columns.old.items columns.new.items }
+    ensures class { IfOk result (λ found. IfSome found (λ class.
+        is_scanned scan.now.ascii byte ≡ true → (column : Column)
+        × (slice_get columns.new.items class ≡ Some column)
+        × IsColumn scan.now.nfa scan.now.sight byte column)) }
+{
+    if !is_scanned(scan.ascii, byte) {
+        return Ok(Some(0));
+    }
+    let column = Column::of(alloc, &scan.nfa, scan.sight, byte)?;
+    let place = place_of(columns, column)?;
+    let Ok(class) = u8::try_from(place) else {
+        return Ok(None);
+    };
+    Ok(Some(class))
+}
+
+/// The place of a column, which is listed if it is not yet.
+fn place_of(columns: &mut Vec<Column>, column: Column) -> Result<usize, AllocError>
+    ensures grows { GrowsColumns columns.old.items columns.new.items }
+    ensures place { IfOk result (λ place. (other : Column)
+        × (slice_get columns.new.items place ≡ Some other)
+        × ((nfa : Nfa) (sight : Sight) (byte : ℕ) → IsColumn nfa sight byte column
+        → IsColumn nfa sight byte other)) }
+{
+    for (place, other) in columns.iter().enumerate() {
+        if other.same(&column) {
+            return Ok(place);
+        }
+    }
+    let place = columns.len();
+    columns.push(column)?;
+    Ok(place)
+}
+
+/// Whether a byte is scanned, where texts of ASCII alone are or any.
+fn is_scanned(ascii: bool, byte: u8) -> bool
+    ensures { result ≡ is_scanned ascii byte }
+{
+    !ascii || byte.is_ascii()
+}

@@ -1,0 +1,115 @@
+ghost use Rattle.std.specs.Prelude.{◌≡◌, ℕ, ◌∷◌, [], List, true, IfOk, IfSome, IsTrue};
+ghost use Rattle.std.specs.Prelude.{slice_index, string_bytes};
+ghost use Rattle.am_labels.specs.Words.{finds};
+ghost use Rattle.am_scan.specs.Sight.{IsScanned};
+ghost use Rattle.am_scan.specs.Numbers.{number_in, found_in};
+
+use crate::columns::Columns;
+use crate::exploration::explored;
+use crate::pattern_scan::PatternScan;
+use crate::row::Row;
+use std::alloc::{AllocError, Global};
+
+/// A pattern as an automaton that reads texts from their end: all texts that lead to one number are
+/// the same to the pattern, whatever stands in front of them.
+#[derive(Drop)]
+pub struct PatternAutomaton {
+    pattern: String,
+    /// Whether texts of ASCII alone are read.
+    ascii: bool,
+    /// The class of each byte. Bytes of one class lead to the same numbers.
+    classes: Vec<u8>,
+    /// What becomes of the texts of each number.
+    rows: Vec<Row>,
+    ghost exact: { (text : List ℕ) → IsScanned ascii text
+        → found_in rows.items (number_in rows.items classes.items text)
+        ≡ finds (string_bytes pattern) text },
+}
+
+impl PatternAutomaton {
+    ghost use Rattle.am_scan.specs.Automaton.{number_of, class_of, is_ascii, pattern_of};
+
+    /// Makes the automaton of a pattern, for texts of ASCII alone or for any. `None` where there is
+    /// none: the engine's grammar does not read the pattern, it or its automaton is too large, or
+    /// it asks whether a word begins or ends (as `\b` does) in texts that may have other characters
+    /// than those of ASCII. An `Err` only where memory was refused.
+    pub fn of(
+        alloc: Global,
+        pattern: &str,
+        ascii: bool,
+    ) -> Result<Option<PatternAutomaton>, AllocError>
+        ensures pattern { IfOk result (λ found. IfSome found
+            (λ automaton. pattern_of automaton ≡ pattern.now)) }
+        ensures ascii { IfOk result (λ found. IfSome found
+            (λ automaton. is_ascii automaton ≡ ascii)) }
+    {
+        let Some(scan) = PatternScan::of(alloc, pattern, ascii)? else {
+            return Ok(None);
+        };
+        let Some(columns) = Columns::of(alloc, &scan)? else {
+            return Ok(None);
+        };
+        let Some(rows) = explored(alloc, &scan, columns.columns.as_slice())? else {
+            return Ok(None);
+        };
+        Ok(Some(PatternAutomaton {
+            pattern: scan.pattern,
+            ascii,
+            classes: columns.classes,
+            rows,
+        }))
+    }
+
+    /// The number of the empty text.
+    pub fn end(&self) -> u32
+        ensures { result ≡ number_of self.now [] }
+    {
+        0
+    }
+
+    /// The number of a text with one byte more in front, from the number of the text, which this
+    /// automaton gave. Of a number that it gives to no text nothing is promised.
+    pub fn step(&self, number: u32, byte: u8) -> u32
+        ensures { (text : List ℕ) → number ≡ number_of self.now text
+            → result ≡ number_of self.now (byte ∷ text) }
+    {
+        let Some(row) = self.rows.get(number as usize) else {
+            return 0;
+        };
+        match row.next.get(usize::from(self.class_of(byte))) {
+            Some(next) => *next,
+            None => 0,
+        }
+    }
+
+    /// Whether the pattern finds the texts of a number that this automaton gave, of those that it
+    /// reads. Of a number that it gives to no text nothing is promised.
+    pub fn finds(&self, number: u32) -> bool
+        ensures { (text : List ℕ) → number ≡ number_of self.now text
+            → IsScanned (is_ascii self.now) text → result ≡ finds (pattern_of self.now) text }
+    {
+        match self.rows.get(number as usize) {
+            Some(row) => row.found,
+            None => false,
+        }
+    }
+
+    /// The class of a byte.
+    pub fn class_of(&self, byte: u8) -> u8
+        ensures { result ≡ class_of self.now byte }
+    {
+        match self.classes.get(usize::from(byte)) {
+            Some(class) => *class,
+            None => 0,
+        }
+    }
+
+    /// Whether two bytes are of one class. `true` promises that they lead to the same numbers;
+    /// `false` promises nothing.
+    pub fn are_alike(&self, one: u8, other: u8) -> bool
+        ensures { IsTrue result → (text : List ℕ)
+            → number_of self.now (one ∷ text) ≡ number_of self.now (other ∷ text) }
+    {
+        self.class_of(one) == self.class_of(other)
+    }
+}
