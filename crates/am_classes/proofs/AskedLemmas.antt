@@ -1,5 +1,5 @@
 -- The values of matchers, with one matcher more.
-use Rattle.std.proofs.Common.{◌≡◌, ◌+◌, ◌<◌, ◌≤◌, ℕ, List, [], ◌∷◌, ◌++◌, Bool, Some, slice_get, length, inl, inr, refl, ap, sym, ◌∙◌, ◌⊎◌, arith}
+use Rattle.std.proofs.Common.{◌≡◌, ◌+◌, ◌<◌, ◌≤◌, ℕ, List, [], ◌∷◌, ◌++◌, Bool, Some, slice_get, length, inl, inr, refl, ap, sym, ◌∙◌, ◌⊎◌, arith, IsTrue}
 use Rattle.std.specs.List.{list_any}
 use Rattle.std.specs.Str.{bytes_eq}
 use Rattle.std.proofs.Common.{true, zero, suc}
@@ -8,62 +8,75 @@ use Rattle.std.proofs.lemmas.Slice.Eq.{bytes_eq-Decides}
 use Rattle.std.proofs.lemmas.Option.{same_Some}
 use Rattle.am_labels.specs.Matcher.{Condition, takes_pattern}
 use Rattle.am_classes.specs.Alike.{HasPattern}
-use Rattle.am_classes.specs.Asked.{AreValues}
-use Rattle.am_classes.proofs.Places.{get_pushed, get_kept, get_last, contains_from_get}
+use Rattle.am_classes.specs.declared.alphabet.Alphabet.{Alphabet}
+use Rattle.am_classes.specs.Values.{AreValues, counts}
+use Rattle.am_scan.proofs.Places.{get_pushed, get_kept, get_last, contains_from_get}
 
 -- What one matcher more is from stays what it is from.
-from_kept : (ms : List Condition) (m : Condition) (t : Bool) (vs : List (List ℕ)) → AreValues ms t vs
+from_kept : (a : Alphabet) (ms : List Condition) (m : Condition) (t : Bool) (vs : List (List ℕ))
+    → AreValues a ms t vs
     → (j : ℕ) (value : List ℕ) → slice_get vs j ≡ Some value
     → (k : ℕ) × (n : Condition) × (slice_get (ms ++ m ∷ []) k ≡ Some n) × (takes_pattern n.op ≡ t)
     × (n.value ≡ value)
-from_kept ms m t vs h j value e =
+from_kept a ms m t vs h j value e =
     let f = h.from j value e in (f.0, f.1, get_kept ms (m ∷ []) f.1 f.0 f.2, f.3, f.4)
 
 -- A matcher of the other kind of operator adds no value.
-pub values_skip : (ms : List Condition) (m : Condition) (t : Bool) (vs : List (List ℕ))
-    → AreValues ms t vs → (takes_pattern m.op ≡ t → ⊥) → AreValues (ms ++ m ∷ []) t vs
-values_skip ms m t vs h other = record {
-  each = λ k n e takes. elim (get_pushed ms m n k e) [
-    | inl a ↦ h.each k n a takes
-    | inr b ↦ absurd (other (ap (λ x. takes_pattern x.op) b.1 ∙ takes))
+pub values_skip : (a : Alphabet) (ms : List Condition) (m : Condition) (t : Bool)
+    (vs : List (List ℕ)) → AreValues a ms t vs
+    → (takes_pattern m.op ≡ t → IsTrue (counts a t m.value) → ⊥) → AreValues a (ms ++ m ∷ []) t vs
+values_skip a ms m t vs h other = record {
+  each = λ k n e takes counted. elim (get_pushed ms m n k e) [
+    | inl before ↦ h.each k n before takes counted
+    | inr b ↦ absurd (other (ap (λ x. takes_pattern x.op) b.1 ∙ takes)
+        (ap (λ x. counts a t x.value) b.1 ∙ counted))
   ];
-  from = from_kept ms m t vs h;
+  from = from_kept a ms m t vs h;
+  counted = h.counted;
   once = h.once;
 }
 
 -- Nor does one whose value is there already.
-pub values_same : (ms : List Condition) (m : Condition) (t : Bool) (vs : List (List ℕ))
-    → AreValues ms t vs → (j : ℕ) → slice_get vs j ≡ Some m.value → AreValues (ms ++ m ∷ []) t vs
-values_same ms m t vs h j there = record {
-  each = λ k n e takes. elim (get_pushed ms m n k e) [
-    | inl a ↦ h.each k n a takes
+pub values_same : (a : Alphabet) (ms : List Condition) (m : Condition) (t : Bool)
+    (vs : List (List ℕ)) → AreValues a ms t vs → (j : ℕ) → slice_get vs j ≡ Some m.value
+    → AreValues a (ms ++ m ∷ []) t vs
+values_same a ms m t vs h j there = record {
+  each = λ k n e takes counted. elim (get_pushed ms m n k e) [
+    | inl before ↦ h.each k n before takes counted
     | inr b ↦ (j, there ∙ ap (λ x. Some x.value) b.1)
   ];
-  from = from_kept ms m t vs h;
+  from = from_kept a ms m t vs h;
+  counted = h.counted;
   once = h.once;
 }
 
 -- A new value is added.
-pub values_push : (ms : List Condition) (m : Condition) (t : Bool) (vs : List (List ℕ))
-    → AreValues ms t vs → takes_pattern m.op ≡ t → ((j : ℕ) → slice_get vs j ≡ Some m.value → ⊥)
-    → AreValues (ms ++ m ∷ []) t (vs ++ m.value ∷ [])
-values_push ms m t vs h takes new = record {
-  each = λ k n e also. elim (get_pushed ms m n k e) [
-    | inl a ↦ (let f = h.each k n a also in (f.0, get_kept vs (m.value ∷ []) n.value f.0 f.1))
+pub values_push : (a : Alphabet) (ms : List Condition) (m : Condition) (t : Bool)
+    (vs : List (List ℕ)) → AreValues a ms t vs → takes_pattern m.op ≡ t
+    → IsTrue (counts a t m.value) → ((j : ℕ) → slice_get vs j ≡ Some m.value → ⊥)
+    → AreValues a (ms ++ m ∷ []) t (vs ++ m.value ∷ [])
+values_push a ms m t vs h takes counted new = record {
+  each = λ k n e also counted. elim (get_pushed ms m n k e) [
+    | inl before ↦
+        let f = h.each k n before also counted in (f.0, get_kept vs (m.value ∷ []) n.value f.0 f.1)
     | inr b ↦ (length vs, get_last vs m.value ∙ ap (λ x. Some x.value) b.1)
   ];
   from = λ j value e. elim (get_pushed vs m.value value j e) [
-    | inl a ↦ from_kept ms m t vs h j value a
+    | inl before ↦ from_kept a ms m t vs h j value before
     | inr b ↦ (length ms, m, get_last ms m, takes, b.1)
   ];
+  counted = λ j value e. elim (get_pushed vs m.value value j e) [
+    | inl before ↦ h.counted j value before
+    | inr b ↦ ap (counts a t) (sym b.1) ∙ counted
+  ];
   once = λ i j value x y. elim (get_pushed vs m.value value i x) [
-    | inl a ↦ elim (get_pushed vs m.value value j y) [
-      | inl b ↦ h.once i j value a b
-      | inr b ↦ absurd (new i (a ∙ ap Some (sym b.1)))
+    | inl p ↦ elim (get_pushed vs m.value value j y) [
+      | inl b ↦ h.once i j value p b
+      | inr b ↦ absurd (new i (p ∙ ap Some (sym b.1)))
     ]
-    | inr a ↦ elim (get_pushed vs m.value value j y) [
-      | inl b ↦ absurd (new j (b ∙ ap Some (sym a.1)))
-      | inr b ↦ a.0 ∙ sym b.0
+    | inr p ↦ elim (get_pushed vs m.value value j y) [
+      | inl b ↦ absurd (new j (b ∙ ap Some (sym p.1)))
+      | inr b ↦ p.0 ∙ sym b.0
     ]
   ];
 }
@@ -108,8 +121,8 @@ one_of_all (x ∷ xs) text (suc k) e =
     let rest = one_of_all xs text k e in omega (arith, rest)
 
 -- Where a pattern is asked for, a matcher takes it.
-pub has_pattern : (ms : List Condition) (values : List (List ℕ)) → AreValues ms true values
-    → 0 < length values → HasPattern ms
-has_pattern ms [] h some = absurd (omega (arith, some))
-has_pattern ms (value ∷ values) h some =
+pub has_pattern : (a : Alphabet) (ms : List Condition) (values : List (List ℕ))
+    → AreValues a ms true values → 0 < length values → HasPattern ms
+has_pattern a ms [] h some = absurd (omega (arith, some))
+has_pattern a ms (value ∷ values) h some =
     let from = h.from 0 value refl in (from.1, contains_from_get ms from.1 from.0 from.2, from.3)

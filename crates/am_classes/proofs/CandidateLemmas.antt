@@ -6,11 +6,12 @@ use Rattle.am_classes.specs.declared.label_state.LabelState.{LabelState}
 use Rattle.am_classes.specs.declared.listed.Listed.{Listed}
 use Rattle.am_classes.specs.declared.candidate.Candidate.{Candidate}
 use Rattle.am_classes.specs.declared.tail.Tail.TheVariants.{Whole}
-use Rattle.am_classes.specs.Scans.{found_by}
+use Rattle.am_classes.specs.Automata.{found_by}
+use Rattle.am_classes.specs.Alphabet.{IsOver}
 use Rattle.am_classes.specs.State.{IsNamed}
 use Rattle.am_classes.specs.Exploration.{IsClosed}
 use Rattle.am_classes.specs.Candidates.{IsCandidate, HasFound, GrowsCandidates, AreApartCandidates, Represents, AreCandidates}
-use Rattle.am_classes.proofs.Places.{get_pushed}
+use Rattle.am_scan.proofs.Places.{get_pushed}
 use Rattle.am_classes.proofs.Utf8Lemmas.{text_whole}
 use Rattle.am_classes.proofs.ExplorationLemmas.{some_follows}
 
@@ -19,6 +20,10 @@ pub represents_kept : (q : Questions) (old new : List Candidate) (state : LabelS
     → GrowsCandidates old new → Represents q old state → Represents q new state
 represents_kept q old new state grows represents = λ text follows whole unnamed.
     let has = represents text follows whole unnamed in (has.0, has.1, grows has.0 has.1 has.2, has.3)
+
+-- Where there is no candidate, none are alike.
+pub none_apart : (q : Questions) → AreApartCandidates q []
+none_apart q = record { own = λ k y at. absurd cc; apart = λ i j y z at also same. absurd cc }
 
 -- One candidate more is apart, if it is found by other patterns.
 pub apart_pushed : (q : Questions) (old : List Candidate) (x : Candidate) → AreApartCandidates q old
@@ -47,21 +52,21 @@ pub candidates_of_all : (q : Questions) (listed : List Listed) (cs : List Candid
     → AreCandidates q cs
 candidates_of_all q listed cs closed distinct represents = record {
   distinct = distinct;
-  all = λ text utf8 unnamed.
-      let whole = text_whole text utf8 in
+  all = λ text over unnamed.
+      let whole = text_whole q.alphabet text over in
       let here = some_follows q listed closed text Whole whole in
       represents here.0 here.1 here.2 text here.3 (same_Some here.1.state.tail Whole (sym here.3.tail ∙ whole)) unnamed;
 }
 
 -- Where there is no pattern, one text that is not named stands for all of these.
 pub one_candidate : (q : Questions) (cs : List Candidate) (x : Candidate) → cs ≡ x ∷ []
-    → q.scans.items ≡ [] → x.found.items ≡ [] → (IsNamed q (string_bytes x.text) → ⊥)
-    → AreCandidates q cs
-one_candidate q cs x is scans found unnamed =
-    let none : (text : List ℕ) → x.found.items ≡ found_by q.scans.items text = λ text. found ∙ sym (ap (λ ss. found_by ss text) scans) in
+    → q.automata.items ≡ [] → x.found.items ≡ [] → (IsNamed q (string_bytes x.text) → ⊥)
+    → IsOver q.alphabet (string_bytes x.text) → AreCandidates q cs
+one_candidate q cs x is none_asked found unnamed over =
+    let none : (text : List ℕ) → x.found.items ≡ found_by q.automata.items text = λ text. found ∙ sym (ap (λ xs. found_by xs text) none_asked) in
     let all : AreCandidates q (x ∷ []) = record {
       distinct = apart_pushed q [] x (record { own = λ k y at. cc; apart = λ i j y z at also same. cc })
-          (none (string_bytes x.text), unnamed) (λ has. let at = has.2 in cc);
-      all = λ text utf8 missed. (0, x, refl, none text);
+          (record { found = none (string_bytes x.text); unnamed = unnamed; over = over }) (λ has. let at = has.2 in cc);
+      all = λ text over missed. (0, x, refl, none text);
     } in
     subst (AreCandidates q) (sym is) all

@@ -1,9 +1,8 @@
 -- The named texts and those of the candidates stand for all classes, and no two for one.
 use Rattle.std.proofs.Common.{◌≡◌, ℕ, zero, suc, ◌+◌, Bool, true, false, not, List, [], ◌∷◌, ◌++◌, Some, slice_get, length, map, string_bytes, inl, inr, refl, subst, sym, ap, ◌∙◌, arith}
-use Rattle.std.specs.Option.{option_map}
-use Rattle.std.proofs.lemmas.Bool.{false_from_ne_true}
+use Rattle.std.proofs.lemmas.Bool.{false_from_ne_true, cases_Bool}
 use Rattle.std.proofs.lemmas.Slice.Eq.{bytes_eq-Decides}
-use Rattle.std.proofs.lemmas.Option.{same_Some, slice_get-map}
+use Rattle.std.proofs.lemmas.Option.{same_Some}
 use Rattle.am_universe.specs.Text.{same_text}
 use Rattle.am_labels.specs.declared.op.Op.{Op}
 use Rattle.am_labels.specs.declared.op.Op.TheVariants.{Equal, NotEqual, Matches, NotMatches}
@@ -12,13 +11,17 @@ use Rattle.am_labels.specs.Pattern.{finds}
 use Rattle.am_scan.specs.Words.{pattern_of}
 use Rattle.am_classes.specs.declared.questions.Questions.{Questions}
 use Rattle.am_classes.specs.declared.candidate.Candidate.{Candidate}
+use Rattle.am_classes.specs.declared.alphabet.Alphabet.{Alphabet}
+use Rattle.am_classes.specs.Alphabet.{is_over, IsOver, AreOver}
 use Rattle.am_classes.specs.Alike.{AreAlike, Covers, AreApart}
 use Rattle.am_classes.specs.Asked.{AreAsked}
-use Rattle.am_classes.specs.Scans.{found_by}
+use Rattle.am_classes.specs.Automata.{found_by}
 use Rattle.am_classes.specs.State.{named_texts, patterns_of, IsNamed}
-use Rattle.am_classes.specs.Candidates.{AreCandidates}
+use Rattle.am_classes.specs.Candidates.{AreApartCandidates, AreCandidates}
 use Rattle.am_classes.proofs.AskedLemmas.{among_cases}
-use Rattle.am_classes.proofs.Places.{get_append, get_kept, get_behind, contains_from_get, all_from_places, all_at_place, map_same}
+use Rattle.am_classes.proofs.AutomataLemmas.{get_under}
+use Rattle.am_classes.proofs.OverLemmas.{is_over_from, string_over}
+use Rattle.am_scan.proofs.Places.{get_append, get_kept, get_behind, contains_from_get, all_from_places, all_at_place, map_same}
 
 -- The same answers to the questions of matchers.
 record SameAnswers (q : Questions) (x y : List ℕ) : Type 0 where
@@ -51,14 +54,30 @@ pattern_answer Matches value x y e h = h
 pattern_answer NotMatches value x y e h = not_same (finds value x) (finds value y) h
 pattern_answer op value x y e h = absurd cc
 
+-- A text over an alphabet is none that is not.
+foreign_differs : (a : Alphabet) (value x : List ℕ) → is_over a value ≡ false → IsOver a x
+    → same_text x value ≡ false
+foreign_differs a value x foreign over =
+    false_from_ne_true (same_text x value)
+    (λ same.
+    let is : is_over a x ≡ is_over a value = ap (is_over a) ((bytes_eq-Decides x value).0 same) in
+    let own = is_over_from a x over in
+    absurd cc)
+
 -- Texts with the same answers are alike.
 alike_from : (ms : List Condition) (q : Questions) → AreAsked ms q → (x y : List ℕ)
-    → SameAnswers q x y → AreAlike ms x y
-alike_from ms q asked x y same =
+    → IsOver q.alphabet x → IsOver q.alphabet y → SameAnswers q x y → AreAlike ms x y
+alike_from ms q asked x y x_over y_over same =
     all_from_places (λ m. holds m.op m.value x ≡ holds m.op m.value y) ms
     (λ k m at. holds_same m.op m.value x y
-    (λ text. let place = asked.texts.each k m at text in same.texts place.0 m.value place.1)
-    (λ pattern. let place = asked.patterns.each k m at pattern in same.patterns place.0 m.value place.1))
+    (λ text. elim (cases_Bool (is_over q.alphabet m.value)) [
+      | inl over ↦
+          let place = asked.texts.each k m at text over in same.texts place.0 m.value place.1
+      | inr foreign ↦
+          foreign_differs q.alphabet m.value x foreign x_over
+          ∙ sym (foreign_differs q.alphabet m.value y foreign y_over)
+    ])
+    (λ pattern. let place = asked.patterns.each k m at pattern refl in same.patterns place.0 m.value place.1))
 
 -- Alike texts have the same answers.
 answers_from : (ms : List Condition) (q : Questions) → AreAsked ms q → (x y : List ℕ)
@@ -81,27 +100,23 @@ get_mapped f [] k y e = absurd cc
 get_mapped f (x ∷ xs) zero y e = (x, refl, same_Some (f x) y e)
 get_mapped f (x ∷ xs) (suc k) y e = get_mapped f xs k y e
 
-get_under : {X Y : Type 0} (f : X → Y) (xs : List X) (k : ℕ) (x : X) → slice_get xs k ≡ Some x
-    → slice_get (map f xs) k ≡ Some (f x)
-get_under f xs k x e = slice_get-map f xs k ∙ ap (option_map f) e
-
 -- The same patterns find both: pattern by pattern, and as lists.
 patterns_from_found : (q : Questions) (x y : List ℕ)
-    → found_by q.scans.items x ≡ found_by q.scans.items y → (k : ℕ) (pattern : List ℕ)
+    → found_by q.automata.items x ≡ found_by q.automata.items y → (k : ℕ) (pattern : List ℕ)
     → slice_get (patterns_of q) k ≡ Some pattern → finds pattern x ≡ finds pattern y
 patterns_from_found q x y same k pattern at =
-    let scan = get_mapped pattern_of q.scans.items k pattern at in
-    let ofx = get_under (λ s. finds (pattern_of s) x) q.scans.items k scan.0 scan.1 in
-    let ofy = get_under (λ s. finds (pattern_of s) y) q.scans.items k scan.0 scan.1 in
+    let scan = get_mapped pattern_of q.automata.items k pattern at in
+    let ofx = get_under (λ s. finds (pattern_of s) x) q.automata.items k scan.0 scan.1 in
+    let ofy = get_under (λ s. finds (pattern_of s) y) q.automata.items k scan.0 scan.1 in
     let one = same_Some (finds (pattern_of scan.0) x) (finds (pattern_of scan.0) y) (sym ofx ∙ ap (λ l. slice_get l k) same ∙ ofy) in
     subst (λ p. finds p x ≡ finds p y) scan.2 one
 
 found_from_patterns : (q : Questions) (x y : List ℕ)
     → ((k : ℕ) (pattern : List ℕ) → slice_get (patterns_of q) k ≡ Some pattern → finds pattern x ≡ finds pattern y)
-    → found_by q.scans.items x ≡ found_by q.scans.items y
+    → found_by q.automata.items x ≡ found_by q.automata.items y
 found_from_patterns q x y each =
-    map_same (λ s. finds (pattern_of s) x) (λ s. finds (pattern_of s) y) q.scans.items
-    (λ k s at. each k (pattern_of s) (get_under pattern_of q.scans.items k s at))
+    map_same (λ s. finds (pattern_of s) x) (λ s. finds (pattern_of s) y) q.automata.items
+    (λ k s at. each k (pattern_of s) (get_under pattern_of q.automata.items k s at))
 
 -- A text that is not named is none of those that are.
 unnamed_differs : (q : Questions) (x : List ℕ) → (IsNamed q x → ⊥) → (k : ℕ) (named : List ℕ)
@@ -115,24 +130,24 @@ abbrev pub class_texts : Questions → List Candidate → List (List ℕ)
 class_texts q cs = named_texts q ++ map (λ c. string_bytes c.text) cs
 
 pub classes_cover : (ms : List Condition) (q : Questions) (cs : List Candidate) → AreAsked ms q
-    → AreCandidates q cs → Covers ms (class_texts q cs)
-classes_cover ms q cs asked candidates = λ text utf8.
+    → AreCandidates q cs → Covers q.alphabet ms (class_texts q cs)
+classes_cover ms q cs asked candidates = λ text over.
     elim (among_cases (named_texts q) text) [
       | inl named ↦ (
         text,
         contains_from_get (class_texts q cs) text named.0 (get_kept (named_texts q) (map (λ c. string_bytes c.text) cs) text named.0 named.1),
-        alike_from ms q asked text text (record { texts = λ k v at. refl; patterns = λ k p at. refl }),
+        alike_from ms q asked text text over over (record { texts = λ k v at. refl; patterns = λ k p at. refl }),
       )
       | inr missed ↦
-          let has = candidates.all text utf8 (λ named. missed named.0 named.1) in
+          let has = candidates.all text over (λ named. missed named.0 named.1) in
           let x = string_bytes has.1.text in
           let own = candidates.distinct.own has.0 has.1 has.2 in
           let behind = get_behind (named_texts q) (map (λ c. string_bytes c.text) cs) x has.0 (get_under (λ c. string_bytes c.text) cs has.0 has.1 has.2) in (
             x,
             contains_from_get (class_texts q cs) x (length (named_texts q) + has.0) behind,
-            alike_from ms q asked x text (record {
-              texts = λ k v at. unnamed_differs q x own.1 k v at ∙ sym (unnamed_differs q text (λ named. missed named.0 named.1) k v at);
-              patterns = patterns_from_found q x text (sym own.0 ∙ has.3);
+            alike_from ms q asked x text own.over over (record {
+              texts = λ k v at. unnamed_differs q x own.unnamed k v at ∙ sym (unnamed_differs q text (λ named. missed named.0 named.1) k v at);
+              patterns = patterns_from_found q x text (sym own.found ∙ has.3);
             }),
           )
     ]
@@ -150,8 +165,8 @@ same_answers_sym q x y same = record {
 }
 
 pub classes_apart : (ms : List Condition) (q : Questions) (cs : List Candidate) → AreAsked ms q
-    → AreCandidates q cs → AreApart ms (class_texts q cs)
-classes_apart ms q cs asked candidates = λ i j x y at also alike.
+    → AreApartCandidates q cs → AreApart ms (class_texts q cs)
+classes_apart ms q cs asked distinct = λ i j x y at also alike.
     let same = answers_from ms q asked x y alike in
     elim (get_append (named_texts q) (map (λ c. string_bytes c.text) cs) x i at) [
       | inl a ↦
@@ -160,22 +175,38 @@ classes_apart ms q cs asked candidates = λ i j x y at also alike.
             | inl b ↦ asked.texts.once i j x a (b ∙ ap Some y_is)
             | inr b ↦
                 let c = get_mapped (λ c. string_bytes c.text) cs b.0 y b.2 in
-                absurd ((candidates.distinct.own b.0 c.0 c.1).1 (i, a ∙ ap Some (sym (c.2 ∙ y_is))))
+                absurd ((distinct.own b.0 c.0 c.1).unnamed (i, a ∙ ap Some (sym (c.2 ∙ y_is))))
           ]
       | inr a ↦
           let c = get_mapped (λ c. string_bytes c.text) cs a.0 x a.2 in
-          let own = candidates.distinct.own a.0 c.0 c.1 in
+          let own = distinct.own a.0 c.0 c.1 in
           elim (get_append (named_texts q) (map (λ c. string_bytes c.text) cs) y j also) [
             | inl b ↦
                 let x_is : x ≡ y = named_is_alone q y x j b (same_answers_sym q x y same) in
-                absurd (own.1 (j, b ∙ ap Some (sym (c.2 ∙ x_is))))
+                absurd (own.unnamed (j, b ∙ ap Some (sym (c.2 ∙ x_is))))
             | inr b ↦
                 let d = get_mapped (λ c. string_bytes c.text) cs b.0 y b.2 in
-                let other = candidates.distinct.own b.0 d.0 d.1 in
-                let found : found_by q.scans.items x ≡ found_by q.scans.items y = found_from_patterns q x y same.patterns in
-                let ofx : c.0.found.items ≡ found_by q.scans.items x = own.0 ∙ ap (found_by q.scans.items) c.2 in
-                let ofy : d.0.found.items ≡ found_by q.scans.items y = other.0 ∙ ap (found_by q.scans.items) d.2 in
-                let place = candidates.distinct.apart a.0 b.0 c.0 d.0 c.1 d.1 (ofx ∙ found ∙ sym ofy) in
+                let other = distinct.own b.0 d.0 d.1 in
+                let found : found_by q.automata.items x ≡ found_by q.automata.items y = found_from_patterns q x y same.patterns in
+                let ofx : c.0.found.items ≡ found_by q.automata.items x = own.found ∙ ap (found_by q.automata.items) c.2 in
+                let ofy : d.0.found.items ≡ found_by q.automata.items y = other.found ∙ ap (found_by q.automata.items) d.2 in
+                let place = distinct.apart a.0 b.0 c.0 d.0 c.1 d.1 (ofx ∙ found ∙ sym ofy) in
                 omega (arith, a.1, b.1, place)
           ]
     ]
+
+-- They are over the alphabet.
+pub classes_over : (ms : List Condition) (q : Questions) (cs : List Candidate) → AreAsked ms q
+    → AreApartCandidates q cs → AreOver q.alphabet (class_texts q cs)
+classes_over ms q cs asked distinct =
+    all_from_places (IsOver q.alphabet) (class_texts q cs)
+    (λ k x at. elim (get_append (named_texts q) (map (λ c. string_bytes c.text) cs) x k at) [
+      | inl named ↦
+          let text = get_mapped string_bytes q.texts.items k x named in
+          subst (IsOver q.alphabet) text.2
+          (string_over q.alphabet text.0
+          (ap (is_over q.alphabet) text.2 ∙ asked.texts.counted k x named))
+      | inr behind ↦
+          let c = get_mapped (λ c. string_bytes c.text) cs behind.0 x behind.2 in
+          subst (IsOver q.alphabet) c.2 (distinct.own behind.0 c.0 c.1).over
+    ])

@@ -8,11 +8,11 @@ use Rattle.am_classes.specs.declared.questions.Questions.{Questions}
 use Rattle.am_classes.specs.declared.label_state.LabelState.{LabelState}
 use Rattle.am_classes.specs.declared.listed.Listed.{Listed}
 use Rattle.am_classes.specs.declared.tail.Tail.{Tail}
-use Rattle.am_classes.specs.Utf8.{tail_step, tail_of}
+use Rattle.am_classes.specs.Utf8.{text_step, tail_of}
 use Rattle.am_classes.specs.State.{FollowsLabel}
-use Rattle.am_classes.specs.Scans.{FollowEach, MakeSame}
+use Rattle.am_classes.specs.Automata.{numbers_of, MakeSame}
 use Rattle.am_classes.specs.Exploration.{AreListed, Grows, LeadsOn, LeadsTo, LeadsFrom, LeadsBefore, LeadsWithin, IsClosed}
-use Rattle.am_classes.proofs.Places.{get_pushed, get_kept, get_last, get_within}
+use Rattle.am_scan.proofs.Places.{get_pushed, get_kept, get_last, get_within}
 use Rattle.am_classes.proofs.TailLemmas.{step_byte}
 
 -- What leads to a listed state still does when more is listed.
@@ -64,9 +64,9 @@ leads_next q listed at byte None leads = tt
 -- and for the patterns.
 pub leads_again : (q : Questions) (listed : List Listed) (state : LabelState) (next : Listed)
     (one byte place : ℕ) → slice_get listed place ≡ Some next
-    → tail_step state.tail one ≡ tail_step state.tail byte → MakeSame q.scans.items one byte
+    → text_step q.alphabet state.tail one ≡ text_step q.alphabet state.tail byte → MakeSame q.automata.items one byte
     → ((text : List ℕ) → FollowsLabel q state text → FollowsLabel q next.state (one ∷ text)
-    → FollowEach q.scans.items next.state.patterns.items (byte ∷ text)
+    → next.state.numbers.items ≡ numbers_of q.automata.items (byte ∷ text)
     → FollowsLabel q next.state (byte ∷ text))
     → LeadsTo q listed state one place → LeadsTo q listed state byte place
 leads_again q listed state next one byte place at tails alike again leads = λ tail step.
@@ -76,20 +76,20 @@ leads_again q listed state next one byte place at tails alike again leads = λ t
       at,
       λ text own.
           let before = subst (λ x. FollowsLabel q x.state (one ∷ text)) same (to.2 text own) in
-          again text own before (alike next.state.patterns.items text before.patterns),
+          again text own before (before.numbers ∙ alike text),
     )
 
--- Each text leads to a listed state, if it is the end of one in UTF-8.
+-- Each text leads to a listed state, if it is the end of one over the alphabet.
 pub some_follows : (q : Questions) (listed : List Listed) → IsClosed q listed → (text : List ℕ)
-    (tail : Tail) → tail_of text ≡ Some tail
+    (tail : Tail) → tail_of q.alphabet text ≡ Some tail
     → (k : ℕ) × (item : Listed) × (slice_get listed k ≡ Some item) × FollowsLabel q item.state text
 some_follows q listed closed [] tail e = closed.first
 some_follows q listed closed (b ∷ text) tail e =
-    option_and_then_some (λ last. tail_step last b) (tail_of text) tail e
+    option_and_then_some (λ last. text_step q.alphabet last b) (tail_of q.alphabet text) tail e
     (λ last before step.
     let here = some_follows q listed closed text last before in
     let same : last ≡ here.1.state.tail = same_Some last here.1.state.tail (sym before ∙ here.3.tail) in
-    let leads = closed.leads here.0 here.1 here.2 b (omega arith) (step_byte last tail b step) tail (subst (λ t. tail_step t b ≡ Some tail) same step) in
+    let leads = closed.leads here.0 here.1 here.2 b (omega arith) (step_byte q.alphabet last tail b step) tail (subst (λ t. text_step q.alphabet t b ≡ Some tail) same step) in
     (leads.0, leads.1, leads.2, leads.3 text here.3))
 
 -- What is listed is one state more, or the same.

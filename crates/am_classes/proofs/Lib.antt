@@ -1,8 +1,8 @@
 pub mod BoolLemmas
-pub mod Places
 pub mod TailLemmas
+pub mod OverLemmas
 pub mod Utf8Lemmas
-pub mod ScanLemmas
+pub mod AutomataLemmas
 pub mod StateLemmas
 pub mod AskedLemmas
 pub mod ExplorationLemmas

@@ -1,20 +1,21 @@
 -- What states say of texts.
 use Rattle.std.proofs.Common.{Result, Ok, Vec, Bool, IfOk, IfSome, subst}
 use Rattle.std.specs.declared.alloc.Global.{Global}
-use Rattle.am_scan.specs.declared.pattern_scan.PatternScan.{PatternScan}
-use Rattle.am_scan.specs.declared.pattern_state.PatternState.{PatternState}
-use Rattle.am_classes.specs.Scans.{FollowEach, SameStates, found_by}
-use Rattle.std.proofs.Common.{◌≡◌, ℕ, ◌<◌, true, List, [], ◌∷◌, ◌++◌, Option, Some, None, All, slice_get, refl, ap, sym, ◌∙◌, append_assoc, arith}
-use Rattle.regex_hir.specs.Text.{is_boundary}
-use Rattle.am_classes.specs.declared.tail.Tail.TheVariants.{Whole}
+use Rattle.am_scan.specs.declared.pattern_automaton.PatternAutomaton.{PatternAutomaton}
+use Rattle.std.specs.List.{list_all}
+use Rattle.std.proofs.lemmas.Bool.{and_parts, not-true}
+use Rattle.am_scan.specs.Words.{is_ascii}
+use Rattle.am_classes.specs.declared.alphabet.Alphabet.{Alphabet}
+use Rattle.am_classes.specs.declared.alphabet.Alphabet.TheVariants.{Unicode, Ascii}
+use Rattle.am_classes.specs.declared.tail.Tail.{Tail}
+use Rattle.am_classes.specs.Utf8.{tail_of}
+use Rattle.am_classes.specs.Automata.{AreScanned, numbers_of, fits, found_by}
+use Rattle.std.proofs.Common.{◌≡◌, ℕ, true, false, List, [], ◌∷◌, ◌++◌, Option, Some, None, slice_get, refl, ap, sym, ◌∙◌, append_assoc}
 use Rattle.am_classes.specs.declared.questions.Questions.{Questions}
 use Rattle.am_classes.specs.declared.label_state.LabelState.{LabelState}
-use Rattle.am_classes.specs.Utf8.{is_whole}
 use Rattle.am_classes.specs.Rest.{IsNoEnd, RestFollows, rest_bytes}
 use Rattle.am_classes.specs.State.{FollowsLabel, IsNamed, named_texts}
-use Rattle.std.proofs.lemmas.Option.{slice_get_within}
-use Rattle.am_classes.proofs.Places.{get_within}
-use Rattle.am_classes.proofs.TailLemmas.{boundary_where_whole, bytes_of_tail}
+use Rattle.am_classes.proofs.TailLemmas.{scanned_of_tail}
 
 -- What no text ends with, none ends with when it has a byte more in front.
 pub no_end_longer : (texts : List (List ℕ)) (text : List ℕ) (b : ℕ) → IsNoEnd texts text
@@ -33,44 +34,48 @@ pub only_named : (q : Questions) (state : LabelState) (x y : List ℕ) → IsNam
 only_named q state x y named follows also =
     named_alone (named_texts q) (rest_bytes state.rest) x y named.0 named.1 follows.rest also.rest
 
--- A character begins where a whole text does.
-pub whole_begins : (q : Questions) (state : LabelState) (text : List ℕ) → FollowsLabel q state text
-    → state.tail ≡ Whole → is_boundary text 0 ≡ true
-whole_begins q state text follows whole =
-    boundary_where_whole text state.tail follows.tail ∙ ap is_whole whole
+-- What a state follows is one of the texts over which the patterns are followed.
+not_ascii : (a : Alphabet) (scan : PatternAutomaton) → fits a scan ≡ true → a ≡ Unicode
+    → is_ascii scan ≡ false
+not_ascii Unicode scan fit is = not-true (is_ascii scan) fit
+not_ascii Ascii scan fit is = absurd (cc)
 
--- What a state follows is made of bytes.
-pub bytes_of_followed : (q : Questions) (state : LabelState) (text : List ℕ)
-    → FollowsLabel q state text → All (λ b. b < 256) text
-bytes_of_followed q state text follows = bytes_of_tail text state.tail follows.tail
+each_scanned : (a : Alphabet) (automata : List PatternAutomaton) (text : List ℕ) (tail : Tail)
+    → list_all (fits a) automata ≡ true → tail_of a text ≡ Some tail → AreScanned automata text
+each_scanned a [] text tail fit e = tt
+each_scanned a (scan ∷ automata) text tail fit e =
+    let parts = and_parts (fits a scan) (list_all (fits a) automata) fit in (
+      scanned_of_tail a (is_ascii scan) (not_ascii a scan parts.0) text tail e,
+      each_scanned a automata text tail parts.1 e,
+    )
 
--- What is found by states says which patterns find a whole text that they follow.
-pub found_of_states : {E : Type 0} (q : Questions) (state : LabelState) (scans : List PatternScan)
-    (states : List PatternState) (r : Result (Option (Vec Bool Global)) E) → scans ≡ q.scans.items
-    → states ≡ state.patterns.items
-    → IfOk r (λ found. IfSome found (λ answers. (text : List ℕ) → FollowEach scans states text
-    → All (λ b. b < 256) text → is_boundary text 0 ≡ true → answers.items ≡ found_by scans text))
+scanned_of_followed : (q : Questions) (state : LabelState) (text : List ℕ)
+    → FollowsLabel q state text → AreScanned q.automata.items text
+scanned_of_followed q state text follows =
+    each_scanned q.alphabet q.automata.items text state.tail q.fit follows.tail
+
+-- What is found by numbers says which patterns find a text that has them.
+pub found_of_numbers : {E : Type 0} (q : Questions) (state : LabelState)
+    (automata : List PatternAutomaton) (numbers : List ℕ) (r : Result (Option (Vec Bool Global)) E)
+    → automata ≡ q.automata.items → numbers ≡ state.numbers.items
+    → IfOk r (λ found. IfSome found (λ answers. (text : List ℕ) → numbers ≡ numbers_of automata text
+    → AreScanned automata text → answers.items ≡ found_by automata text))
     → IfOk r (λ found. IfSome found (λ answers. (text : List ℕ) → FollowsLabel q state text
-    → state.tail ≡ Whole → answers.items ≡ found_by q.scans.items text))
-found_of_states q state scans states (Ok (Some answers)) s t h = λ text follows whole.
-    let own : FollowEach q.scans.items states text = subst (λ xs. FollowEach q.scans.items xs text) (sym t) follows.patterns in
-    let each : FollowEach scans states text = subst (λ xs. FollowEach xs states text) (sym s) own in
-    h text each (bytes_of_followed q state text follows) (whole_begins q state text follows whole) ∙ ap (λ xs. found_by xs text) s
-found_of_states q state scans states r s t h = tt
+    → answers.items ≡ found_by q.automata.items text))
+found_of_numbers q state automata numbers (Ok (Some answers)) s t h = λ text follows.
+    let own : numbers ≡ numbers_of automata text = t ∙ follows.numbers ∙ ap (λ xs. numbers_of xs text) (sym s) in
+    let scanned : AreScanned automata text =
+    subst (λ xs. AreScanned xs text) (sym s) (scanned_of_followed q state text follows) in
+    h text own scanned ∙ ap (λ xs. found_by xs text) s
+found_of_numbers q state automata numbers r s t h = tt
 
 -- What a state follows, one that is the same follows.
 pub same_follows : (q : Questions) (state other : LabelState) (text : List ℕ)
     → state.tail ≡ other.tail → rest_bytes state.rest ≡ rest_bytes other.rest
-    → SameStates state.patterns.items other.patterns.items → FollowsLabel q state text
+    → state.numbers.items ≡ other.numbers.items → FollowsLabel q state text
     → FollowsLabel q other text
 same_follows q state other text tails rests same follows = record {
   tail = follows.tail ∙ ap Some tails;
   rest = subst (λ rest. RestFollows (named_texts q) rest text) rests follows.rest;
-  patterns = record {
-    count = sym same.count ∙ follows.patterns.count;
-    each = λ k scan mine at also.
-        let within = slice_get_within other.patterns.items k mine also in
-        let theirs = get_within state.patterns.items k (omega (arith, same.count)) in
-        same.each k theirs.0 mine theirs.1 also scan text (follows.patterns.each k scan theirs.0 at theirs.1);
-  };
+  numbers = sym same ∙ follows.numbers;
 }

@@ -1,4 +1,4 @@
--- A text in UTF-8 is whole at its front.
+-- A text over an alphabet is whole at its front.
 use Rattle.std.proofs.Common.{◌≡◌, ℕ, ◌<◌, ◌≤◌, ◌+◌, ◌/◌, ◌%◌, true, Some, List, [], ◌∷◌, ◌++◌, inl, inr, ltb, refl, ap, subst, ◌∙◌, arith}
 use Rattle.std.specs.Option.{option_and_then}
 use Rattle.std.specs.Str.{IsUtf8}
@@ -7,24 +7,28 @@ use Rattle.std.proofs.lemmas.Bool.Decides.{nat_tests}
 use lib.Utf8.{scalar, scalars, encode, encodes, scalar_cases}
 use Rattle.am_classes.specs.declared.tail.Tail.{Tail}
 use Rattle.am_classes.specs.declared.tail.Tail.TheVariants.{Whole, One, TwoLow, TwoHigh, ThreeLow, ThreeHigh}
-use Rattle.am_classes.specs.Utf8.{tail_step, tail_of}
+use Rattle.am_classes.specs.declared.alphabet.Alphabet.{Alphabet}
+use Rattle.am_classes.specs.declared.alphabet.Alphabet.TheVariants.{Unicode, Ascii}
+use Rattle.am_classes.specs.Alphabet.{IsOver}
+use Rattle.am_classes.specs.Utf8.{tail_step, text_step, tail_of}
+use Rattle.am_classes.proofs.TailLemmas.{ordinary_whole}
 
 -- One byte more in front of what has a tail.
-step_of : (b : ℕ) (text : List ℕ) (tail next : Tail) → tail_of text ≡ Some tail
-    → tail_step tail b ≡ Some next → tail_of (b ∷ text) ≡ Some next
-step_of b text tail next e step = ap (option_and_then (λ last. tail_step last b)) e ∙ step
+step_of : (b : ℕ) (text : List ℕ) (tail next : Tail) → tail_of Unicode text ≡ Some tail
+    → tail_step tail b ≡ Some next → tail_of Unicode (b ∷ text) ≡ Some next
+step_of b text tail next e step = ap (option_and_then (λ last. text_step Unicode last b)) e ∙ step
 
 -- A character of two bytes in front of a whole text.
-two_bytes : (a b : ℕ) (text : List ℕ) → tail_of text ≡ Some Whole → 194 ≤ a → a < 224 → 128 ≤ b
-    → b < 192 → tail_of (a ∷ b ∷ text) ≡ Some Whole
+two_bytes : (a b : ℕ) (text : List ℕ) → tail_of Unicode text ≡ Some Whole → 194 ≤ a → a < 224 → 128 ≤ b
+    → b < 192 → tail_of Unicode (a ∷ b ∷ text) ≡ Some Whole
 two_bytes a b text e la ha lb hb =
     let one = step_of b text Whole One e (grind (arith, nat_tests)) in
     step_of a (b ∷ text) One Whole one (grind (arith, nat_tests))
 
 -- A character of three bytes in front of a whole text.
-three_bytes : (a b d : ℕ) (text : List ℕ) → tail_of text ≡ Some Whole → 224 ≤ a → a < 240 → 128 ≤ b
+three_bytes : (a b d : ℕ) (text : List ℕ) → tail_of Unicode text ≡ Some Whole → 224 ≤ a → a < 240 → 128 ≤ b
     → b < 192 → 128 ≤ d → d < 192 → (a ≡ 224 → 160 ≤ b) → (a ≡ 237 → b < 160)
-    → tail_of (a ∷ b ∷ d ∷ text) ≡ Some Whole
+    → tail_of Unicode (a ∷ b ∷ d ∷ text) ≡ Some Whole
 three_bytes a b d text e la ha lb hb ld hd long valid =
     let one = step_of d text Whole One e (grind (arith, nat_tests)) in
     elim (cases_lt b 160) [
@@ -37,9 +41,9 @@ three_bytes a b d text e la ha lb hb ld hd long valid =
     ]
 
 -- Three bytes of a character in front of one that ends it.
-three_of : (a : Tail) (b d : ℕ) (text : List ℕ) → tail_of text ≡ Some Whole → 128 ≤ b → b < 192
+three_of : (a : Tail) (b d : ℕ) (text : List ℕ) → tail_of Unicode text ≡ Some Whole → 128 ≤ b → b < 192
     → 128 ≤ d → d < 192 → tail_step TwoLow b ≡ Some a → tail_step TwoHigh b ≡ Some a
-    → (f : ℕ) → 128 ≤ f → f < 192 → tail_of (b ∷ d ∷ f ∷ text) ≡ Some a
+    → (f : ℕ) → 128 ≤ f → f < 192 → tail_of Unicode (b ∷ d ∷ f ∷ text) ≡ Some a
 three_of a b d text e lb hb ld hd low high f lf hf =
     let one = step_of f text Whole One e (grind (arith, nat_tests)) in
     elim (cases_lt d 160) [
@@ -48,9 +52,9 @@ three_of a b d text e lb hb ld hd low high f lf hf =
     ]
 
 -- A character of four bytes in front of a whole text.
-four_bytes : (a b d f : ℕ) (text : List ℕ) → tail_of text ≡ Some Whole → 240 ≤ a → a < 245 → 128 ≤ b
+four_bytes : (a b d f : ℕ) (text : List ℕ) → tail_of Unicode text ≡ Some Whole → 240 ≤ a → a < 245 → 128 ≤ b
     → b < 192 → 128 ≤ d → d < 192 → 128 ≤ f → f < 192 → (a ≡ 240 → 144 ≤ b) → (a ≡ 244 → b < 144)
-    → tail_of (a ∷ b ∷ d ∷ f ∷ text) ≡ Some Whole
+    → tail_of Unicode (a ∷ b ∷ d ∷ f ∷ text) ≡ Some Whole
 four_bytes a b d f text e la ha lb hb ld hd lf hf long valid =
     elim (cases_lt b 144) [
       | inl low ↦
@@ -69,27 +73,31 @@ valid_scalar : (c : ℕ) → scalar c ≡ true → IsValid c
 valid_scalar c e = elim (scalar_cases c e) [ inl below ↦ (omega arith, λ above. omega arith) | inr above ↦ (omega arith, λ up. omega arith) ]
 
 -- A character in front of a whole text.
-char_whole : (c : ℕ) (text : List ℕ) → IsValid c → tail_of text ≡ Some Whole
-    → tail_of (encode c ++ text) ≡ Some Whole
+char_whole : (c : ℕ) (text : List ℕ) → IsValid c → tail_of Unicode text ≡ Some Whole
+    → tail_of Unicode (encode c ++ text) ≡ Some Whole
 unfolding encode
 char_whole c text valid e =
-    cond_both (ltb c 128) _ _ (λ bytes. tail_of (bytes ++ text) ≡ Some Whole)
+    cond_both (ltb c 128) _ _ (λ bytes. tail_of Unicode (bytes ++ text) ≡ Some Whole)
     (λ yes. step_of c text Whole Whole e (grind (arith, nat_tests)))
-    (λ no. cond_both (ltb c 2048) _ _ (λ bytes. tail_of (bytes ++ text) ≡ Some Whole)
+    (λ no. cond_both (ltb c 2048) _ _ (λ bytes. tail_of Unicode (bytes ++ text) ≡ Some Whole)
     (λ yes. let l = ltb-false c 128 no in let h = ltb-true c 2048 yes in
     two_bytes (192 + c / 64) (128 + c % 64) text e (omega arith) (omega arith) (omega arith) (omega arith))
-    (λ no2. cond_both (ltb c 65536) _ _ (λ bytes. tail_of (bytes ++ text) ≡ Some Whole)
+    (λ no2. cond_both (ltb c 65536) _ _ (λ bytes. tail_of Unicode (bytes ++ text) ≡ Some Whole)
     (λ yes. let l = ltb-false c 2048 no2 in let h = ltb-true c 65536 yes in
     three_bytes (224 + c / 4096) (128 + c / 64 % 64) (128 + c % 64) text e (omega arith) (omega arith) (omega arith) (omega arith) (omega arith) (omega arith) (λ is. omega arith) (λ is. elim (cases_lt c 55296) [ inl below ↦ omega arith | inr above ↦ (let up : 57344 ≤ c = valid.1 above in omega arith) ]))
     (λ no3. let l = ltb-false c 65536 no3 in let h = valid.0 in
     four_bytes (240 + c / 262144) (128 + c / 4096 % 64) (128 + c / 64 % 64) (128 + c % 64) text e (omega arith) (omega arith) (omega arith) (omega arith) (omega arith) (omega arith) (omega arith) (omega arith) (λ is. omega arith) (λ is. omega arith))))
 
-chars_whole : (cs : List ℕ) → scalars cs ≡ true → tail_of (encodes cs) ≡ Some Whole
+chars_whole : (cs : List ℕ) → scalars cs ≡ true → tail_of Unicode (encodes cs) ≡ Some Whole
 chars_whole [] e = refl
 chars_whole (c ∷ cs) e =
     let parts = and_parts (scalar c) (scalars cs) e in
     char_whole c (encodes cs) (valid_scalar c parts.0) (chars_whole cs parts.1)
 
--- A text in UTF-8 is whole at its front.
-pub text_whole : (text : List ℕ) → IsUtf8 text → tail_of text ≡ Some Whole
-text_whole text utf8 = subst (λ bytes. tail_of bytes ≡ Some Whole) utf8.1.1 (chars_whole utf8.0 utf8.1.0)
+-- A text over an alphabet is whole at its front.
+utf8_whole : (text : List ℕ) → IsUtf8 text → tail_of Unicode text ≡ Some Whole
+utf8_whole text utf8 = subst (λ bytes. tail_of Unicode bytes ≡ Some Whole) utf8.1.1 (chars_whole utf8.0 utf8.1.0)
+
+pub text_whole : (a : Alphabet) (text : List ℕ) → IsOver a text → tail_of a text ≡ Some Whole
+text_whole Unicode text over = utf8_whole text over
+text_whole Ascii text over = ordinary_whole text over

@@ -2,8 +2,9 @@
 -- asked of a text whatever its name is.
 use Rattle.std.specs.Prelude.{◌≡◌, ℕ, List, Some, slice_get, Contains, IsTrue}
 use Rattle.std.specs.List.{AllByRecursion}
-use Rattle.std.specs.Str.{IsUtf8}
 use Rattle.am_labels.specs.Matcher.{Condition, holds, takes_pattern}
+use Rattle.am_classes.specs.declared.alphabet.Alphabet.{Alphabet}
+use Rattle.am_classes.specs.Alphabet.{IsOver}
 
 -- Two texts are alike to matchers: each matcher has the same truth on both.
 -- Source: own choice; the term is that of Myhill and Nerode, who call two texts equivalent where no
@@ -19,11 +20,13 @@ AreAlike ms x y = AllByRecursion (λ m. holds m.op m.value x ≡ holds m.op m.va
 abbrev pub HasAlikeIn : List Condition → List (List ℕ) → List ℕ → Type 0
 HasAlikeIn ms texts text = (x : List ℕ) × Contains texts x × AreAlike ms x text
 
--- Some texts cover all: whatever text there is, one of them is alike to it.
+-- Some texts cover all that are over an alphabet: whatever such text there is, one of them is alike
+-- to it.
 -- Source: own choice.
--- Example: to `team="db"` alone, `db` and the empty text cover all.
-abbrev pub Covers : List Condition → List (List ℕ) → Type 0
-Covers ms texts = (text : List ℕ) → IsUtf8 text → HasAlikeIn ms texts text
+-- Example: to `team="db"` alone, `db` and the empty text cover all. To `team=~".*"` alone the empty
+-- text covers all that are over ASCII; over Unicode it does not, since `.` is no line feed.
+abbrev pub Covers : Alphabet → List Condition → List (List ℕ) → Type 0
+Covers a ms texts = (text : List ℕ) → IsOver a text → HasAlikeIn ms texts text
 
 -- No two of some texts are alike.
 -- Source: own choice.

@@ -1,18 +1,19 @@
 -- Texts that no matcher names, of which each stands for a class.
 use Rattle.std.specs.Prelude.{◌≡◌, ℕ, Bool, List, Some, slice_get, string_bytes}
-use Rattle.std.specs.Str.{IsUtf8}
 use Rattle.am_classes.specs.declared.questions.Questions.{Questions}
 use Rattle.am_classes.specs.declared.candidate.Candidate.{Candidate}
 use Rattle.am_classes.specs.declared.label_state.LabelState.{LabelState}
 use Rattle.am_classes.specs.declared.tail.Tail.TheVariants.{Whole}
+use Rattle.am_classes.specs.Alphabet.{IsOver}
 use Rattle.am_classes.specs.State.{FollowsLabel, IsNamed}
-use Rattle.am_classes.specs.Scans.{found_by}
+use Rattle.am_classes.specs.Automata.{found_by}
 
--- A candidate says of its text which patterns find it, and the text is not named.
-abbrev pub IsCandidate : Questions → Candidate → Type 0
-IsCandidate q candidate =
-    (candidate.found.items ≡ found_by q.scans.items (string_bytes candidate.text))
-    × ¬ (IsNamed q (string_bytes candidate.text))
+-- A candidate says of its text which patterns find it, and the text is not named, and over the
+-- alphabet.
+pub record IsCandidate (q : Questions) (candidate : Candidate) : Type 0 where
+  pub found : candidate.found.items ≡ found_by q.automata.items (string_bytes candidate.text)
+  pub unnamed : ¬ (IsNamed q (string_bytes candidate.text))
+  pub over : IsOver q.alphabet (string_bytes candidate.text)
 
 -- One of some candidates is found by these patterns and no others.
 abbrev pub HasFound : List Candidate → List Bool → Type 0
@@ -23,7 +24,7 @@ HasFound candidates found =
 -- One of some candidates is found by the same patterns as a text.
 abbrev pub HasCandidate : Questions → List Candidate → List ℕ → Type 0
 HasCandidate q candidates text =
-    HasFound candidates (found_by q.scans.items text)
+    HasFound candidates (found_by q.automata.items text)
 
 -- What was a candidate stays one, in its place.
 abbrev pub GrowsCandidates : List Candidate → List Candidate → Type 0
@@ -44,9 +45,10 @@ Represents q candidates state =
     (text : List ℕ) → FollowsLabel q state text → state.tail ≡ Whole → ¬ (IsNamed q text)
     → HasCandidate q candidates text
 
--- Candidates stand for all texts that are not named.
+-- Candidates stand for all texts over the alphabet that are not named.
 -- Source: own choice.
 -- Example: where `db.*` alone is asked, `db` and the empty text do.
 pub record AreCandidates (q : Questions) (candidates : List Candidate) : Type 0 where
   pub distinct : AreApartCandidates q candidates
-  pub all : (text : List ℕ) → IsUtf8 text → ¬ (IsNamed q text) → HasCandidate q candidates text
+  pub all : (text : List ℕ) → IsOver q.alphabet text → ¬ (IsNamed q text)
+      → HasCandidate q candidates text

@@ -4,7 +4,7 @@ use Rattle.am_classes.specs.declared.questions.Questions.{Questions}
 use Rattle.am_classes.specs.declared.label_state.LabelState.{LabelState}
 use Rattle.am_classes.specs.declared.listed.Listed.{Listed}
 use Rattle.am_classes.specs.declared.tail.Tail.{Tail}
-use Rattle.am_classes.specs.Utf8.{tail_step}
+use Rattle.am_classes.specs.Utf8.{text_step}
 use Rattle.am_classes.specs.State.{FollowsLabel}
 
 -- Each state is that of the text beside it.
@@ -18,22 +18,22 @@ abbrev pub Grows : List Listed → List Listed → Type 0
 Grows old new =
     (k : ℕ) (item : Listed) → slice_get old k ≡ Some item → slice_get new k ≡ Some item
 
--- A byte in front of a text that a state follows leads to a listed state, unless UTF-8 has no such
--- byte there.
+-- A byte in front of a text that a state follows leads to a listed state, unless no text over the
+-- alphabet has such a byte there.
 -- Source: own choice.
 -- Example: where the states of `a` and `ba` are listed as one, `b` leads from it to itself.
 abbrev pub LeadsOn : Questions → List Listed → LabelState → ℕ → Type 0
 LeadsOn q listed state byte =
-    (tail : Tail) → tail_step state.tail byte ≡ Some tail
+    (tail : Tail) → text_step q.alphabet state.tail byte ≡ Some tail
     → (k : ℕ) × (item : Listed) × (slice_get listed k ≡ Some item)
     × ((text : List ℕ) → FollowsLabel q state text → FollowsLabel q item.state (byte ∷ text))
 
--- A byte leads to the state at this place, unless UTF-8 has no such byte there.
+-- A byte leads to the state at this place, unless no text has such a byte there.
 -- Source: own choice.
 -- Example: where the state of `a` is listed second, `a` leads to place 1 from that of no bytes.
 abbrev pub LeadsTo : Questions → List Listed → LabelState → ℕ → ℕ → Type 0
 LeadsTo q listed state byte place =
-    (tail : Tail) → tail_step state.tail byte ≡ Some tail
+    (tail : Tail) → text_step q.alphabet state.tail byte ≡ Some tail
     → (item : Listed) × (slice_get listed place ≡ Some item)
     × ((text : List ℕ) → FollowsLabel q state text → FollowsLabel q item.state (byte ∷ text))
 

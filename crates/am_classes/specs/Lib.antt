@@ -1,9 +1,11 @@
+pub mod Alphabet
 pub mod Alike
 pub mod Words
 pub mod Utf8
-pub mod Scans
+pub mod Automata
 pub mod Rest
 pub mod State
+pub mod Values
 pub mod Asked
 pub mod Exploration
 pub mod Candidates

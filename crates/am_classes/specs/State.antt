@@ -5,24 +5,24 @@ use Rattle.am_scan.specs.Words.{pattern_of}
 use Rattle.am_classes.specs.declared.questions.Questions.{Questions}
 use Rattle.am_classes.specs.declared.label_state.LabelState.{LabelState}
 use Rattle.am_classes.specs.Utf8.{tail_of}
-use Rattle.am_classes.specs.Scans.{FollowEach}
+use Rattle.am_classes.specs.Automata.{numbers_of}
 
 -- The texts that are named, and the patterns.
 abbrev pub named_texts : Questions → List (List ℕ)
 named_texts q = map string_bytes q.texts.items
 
 abbrev pub patterns_of : Questions → List (List ℕ)
-patterns_of q = map pattern_of q.scans.items
+patterns_of q = map pattern_of q.automata.items
 
 -- A text is one of the named ones.
 abbrev pub IsNamed : Questions → List ℕ → Type 0
 IsNamed q text = (k : ℕ) × (slice_get (named_texts q) k ≡ Some text)
 
--- A state is that of a text: in what UTF-8 allows in front, in what is kept of the text, and in
--- what each pattern makes of it.
+-- A state is that of a text: in what its alphabet allows in front, in what is kept of the text, and
+-- in its numbers to the patterns.
 -- Source: own choice.
 -- Example: the state with which an exploration begins is that of the empty text.
 pub record FollowsLabel (q : Questions) (state : LabelState) (text : List ℕ) : Type 0 where
-  pub tail : tail_of text ≡ Some state.tail
+  pub tail : tail_of q.alphabet text ≡ Some state.tail
   pub rest : RestFollows (named_texts q) (rest_bytes state.rest) text
-  pub patterns : FollowEach q.scans.items state.patterns.items text
+  pub numbers : state.numbers.items ≡ numbers_of q.automata.items text

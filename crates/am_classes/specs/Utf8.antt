@@ -1,6 +1,8 @@
 -- The ends of texts in UTF-8, read byte by byte from the last.
 use Rattle.std.specs.Prelude.{ℕ, Bool, true, false, List, [], ◌∷◌, if◌then◌else◌, nat_lt, ◌==◌}
 use Rattle.std.specs.Prelude.{Option, Some, None, option_and_then}
+use Rattle.am_classes.specs.declared.alphabet.Alphabet.{Alphabet}
+use Rattle.am_classes.specs.Alphabet.{has_byte}
 use Rattle.am_classes.specs.declared.tail.Tail.{Tail}
 use Rattle.am_classes.specs.declared.tail.Tail.TheVariants.{Whole, One, TwoLow, TwoHigh}
 use Rattle.am_classes.specs.declared.tail.Tail.TheVariants.{ThreeLow, ThreeHigh}
@@ -28,13 +30,19 @@ tail_step ThreeLow b =
 tail_step ThreeHigh b =
     if nat_lt b 0xF0 then None else if nat_lt b 0xF4 then Some Whole else None
 
--- What stands at the front of bytes, where UTF-8 has texts that end with them.
+-- The same, where a text over an alphabet has such a byte there.
+-- Source: own choice.
+-- Example: before the end of a text over ASCII no `A9` stands.
+abbrev pub text_step : Alphabet → Tail → ℕ → Option Tail
+text_step a tail b = if has_byte a b then tail_step tail b else None
+
+-- What stands at the front of bytes, where an alphabet has texts that end with them.
 -- Source: The Unicode Standard, table 3-7, "Well-Formed UTF-8 Byte Sequences".
 -- Example: `C3 A9` is whole, `A9` has one byte of a character that begins further in front, and
--- `C3` is at the end of no text.
-abbrev pub tail_of : List ℕ → Option Tail
-tail_of [] = Some Whole
-tail_of (b ∷ text) = option_and_then (λ tail. tail_step tail b) (tail_of text)
+-- `C3` is at the end of no text. Over ASCII none of the three is at the end of a text.
+abbrev pub tail_of : Alphabet → List ℕ → Option Tail
+tail_of a [] = Some Whole
+tail_of a (b ∷ text) = option_and_then (λ tail. text_step a tail b) (tail_of a text)
 
 -- A character begins at the front, or the text ends there.
 abbrev pub is_whole : Tail → Bool

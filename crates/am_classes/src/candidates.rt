@@ -1,39 +1,58 @@
 ghost use Rattle.std.specs.Prelude.{◌≡◌, ◌<◌, [], false, IsTrue, IfOk, IfSome, IfNone};
-ghost use Rattle.std.specs.Prelude.{length, string_bytes};
+ghost use Rattle.std.specs.Prelude.{length, vec_len, string_bytes};
 ghost use Rattle.am_classes.specs.State.{FollowsLabel, IsNamed};
-ghost use Rattle.am_classes.specs.Exploration.{IsClosed};
 ghost use Rattle.am_classes.specs.Candidates.{AreCandidates, AreApartCandidates, Represents};
 ghost use Rattle.am_classes.specs.Candidates.{GrowsCandidates, HasFound};
+ghost use Rattle.am_classes.specs.Words.{IsOrdinary};
 
 use crate::candidate::Candidate;
 use crate::exploration::explored;
 use crate::listed::Listed;
 use crate::questions::Questions;
+use crate::samples::sampled;
 use std::alloc::{AllocError, Global};
 use std::str::from_utf8;
 
-/// Texts that no matcher names, one for each set of patterns that may find such a text. `None`
-/// where this cannot be computed, and never where there is no pattern.
+/// Texts that no matcher names, no two of which the same patterns find.
+#[derive(Drop)]
+pub(crate) struct CandidateTexts {
+    pub(crate) items: Vec<Candidate>,
+    /// Whether they stand for all such texts. If not, they are more than there is room for.
+    pub(crate) all: bool,
+}
+
+/// Texts that no matcher names, one for each set of patterns that may find such a text, or more
+/// than there is room for. `None` where this cannot be computed, and never where there is no
+/// pattern.
 pub(crate) fn candidates(
     alloc: Global,
     questions: &Questions,
-) -> Result<Option<Vec<Candidate>>, AllocError>
-    ensures some { IfOk result (λ found. IfSome found (λ candidates.
-        AreCandidates questions.now candidates.items)) }
-    ensures none { IfOk result (λ found. IfNone found (0 < length questions.now.scans.items)) }
+    room: usize,
+) -> Result<Option<CandidateTexts>, AllocError>
+    ensures distinct { IfOk result (λ found. IfSome found (λ candidates.
+        AreApartCandidates questions.now candidates.items.items)) }
+    ensures all { IfOk result (λ found. IfSome found (λ candidates.
+        IsTrue candidates.all → AreCandidates questions.now candidates.items.items)) }
+    ensures many { IfOk result (λ found. IfSome found (λ candidates. candidates.all ≡ false
+        → (room < vec_len candidates.items) × (0 < length questions.now.automata.items))) }
+    ensures none { IfOk result (λ found. IfNone found (0 < length questions.now.automata.items)) }
 {
-    if questions.scans.is_empty() {
-        return Ok(Some(other_candidate(alloc, questions)?));
+    if questions.automata.is_empty() {
+        let items = other_candidate(alloc, questions)?;
+        return Ok(Some(CandidateTexts { items, all: true }));
     }
-    let Some(listed) = explored(alloc, questions)? else {
-        return Ok(None);
-    };
-    candidates_of(alloc, questions, listed.as_slice())
+    if questions.automata.len() > room {
+        let items = sampled(alloc, questions, room)?;
+        if items.len() > room {
+            return Ok(Some(CandidateTexts { items, all: false }));
+        }
+    }
+    explored(alloc, questions, room)
 }
 
 /// A text that is not named, where there is no pattern.
 fn other_candidate(alloc: Global, questions: &Questions) -> Result<Vec<Candidate>, AllocError>
-    requires { questions.now.scans.items ≡ [] }
+    requires { questions.now.automata.items ≡ [] }
     ensures { IfOk result (λ candidates. AreCandidates questions.now candidates.items) }
 {
     let text = other_text(alloc, questions)?;
@@ -44,7 +63,8 @@ fn other_candidate(alloc: Global, questions: &Questions) -> Result<Vec<Candidate
 /// A text that is not named: the empty one, which stands for absence, or `other`, and so on. There
 /// is one, since sooner or later the text is longer than each that is named.
 fn other_text(alloc: Global, questions: &Questions) -> Result<String, AllocError>
-    ensures { IfOk result (λ text. ¬ IsNamed questions.now (string_bytes text)) }
+    ensures unnamed { IfOk result (λ text. ¬ IsNamed questions.now (string_bytes text)) }
+    ensures ordinary { IfOk result (λ text. IsOrdinary (string_bytes text)) }
 {
     let mut text = String::new(alloc);
     while questions.names(text.as_bytes()) {
@@ -53,28 +73,9 @@ fn other_text(alloc: Global, questions: &Questions) -> Result<String, AllocError
     Ok(text)
 }
 
-/// Candidates from the texts of all states that there are.
-fn candidates_of(
-    alloc: Global,
-    questions: &Questions,
-    listed: &[Listed],
-) -> Result<Option<Vec<Candidate>>, AllocError>
-    requires { IsClosed questions.now listed.now }
-    ensures { IfOk result (λ found. IfSome found (λ candidates.
-        AreCandidates questions.now candidates.items)) }
-{
-    let mut candidates = Vec::new(alloc);
-    for item in listed {
-        if !add(alloc, questions, item, &mut candidates)? {
-            return Ok(None);
-        }
-    }
-    Ok(Some(candidates))
-}
-
 /// Adds the text of a state to the candidates, unless it is named, or the same patterns find one of
 /// them. `false` where this cannot be computed.
-fn add(
+pub(crate) fn add(
     alloc: Global,
     questions: &Questions,
     item: &Listed,

@@ -1,31 +1,56 @@
-ghost use Rattle.std.specs.Prelude.{◌≡◌, ◌++◌, map, IfOk, IfSome, IfNone, string_bytes};
-ghost use Rattle.am_classes.specs.Words.{Covers, AreApart, HasPattern};
+ghost use Rattle.std.specs.Prelude.{◌≡◌, ◌++◌, ◌<◌, false, map, IfOk, IfSome, IfNone, IsTrue};
+ghost use Rattle.std.specs.Prelude.{string_bytes, vec_len};
+ghost use Rattle.am_universe.specs.declared.limits.TheConstants.{MAX_VALUES};
+ghost use Rattle.am_classes.specs.Words.{Covers, AreApart, HasPattern, AreOver};
 
+use crate::Alphabet;
 use crate::candidate::Candidate;
 use crate::candidates::candidates;
 use crate::questions::Questions;
 use am_labels::Matcher;
+use am_universe::limits::MAX_VALUES;
 use std::alloc::{AllocError, Global};
 
-/// One text for each class of texts that matchers cannot tell apart, whatever their names are.
-/// `None` where this cannot be computed: a pattern cannot be followed, or there are too many
-/// states. Where no matcher takes a pattern, it always can. Texts that a matcher names come first,
-/// in the order of the matchers. An `Err` only where memory was refused.
-pub fn classes(alloc: Global, matchers: &[&Matcher]) -> Result<Option<Vec<String>>, AllocError>
-    ensures covers { IfOk result (λ found. IfSome found (λ texts.
-        Covers (map (λ m. m.now) matchers.now) (map string_bytes texts.items))) }
-    ensures apart { IfOk result (λ found. IfSome found (λ texts.
-        AreApart (map (λ m. m.now) matchers.now) (map string_bytes texts.items))) }
+/// Texts of a label of which no two are alike to its matchers.
+#[derive(Debug, Drop)]
+pub struct ClassTexts {
+    pub texts: Vec<String>,
+    /// Whether each text that the label may have is alike to one of these. If not, these are more
+    /// than a label may have values.
+    pub all: bool,
+}
+
+/// One text for each class of texts over an alphabet that matchers cannot tell apart, whatever
+/// their names are. `None` where this cannot be computed: a pattern cannot be followed, or there
+/// are too many states. Where no matcher takes a pattern, it always can, and all classes are there.
+/// Texts that a matcher names come first, in the order of the matchers. An `Err` only where memory
+/// was refused.
+pub fn classes(
+    alloc: Global,
+    alphabet: Alphabet,
+    matchers: &[&Matcher],
+) -> Result<Option<ClassTexts>, AllocError>
+    ensures covers { IfOk result (λ found. IfSome found (λ classes. IsTrue classes.all
+        → Covers alphabet (map (λ m. m.now) matchers.now) (map string_bytes classes.texts.items))) }
+    ensures many { IfOk result (λ found. IfSome found (λ classes. classes.all ≡ false
+        → (MAX_VALUES < vec_len classes.texts) × HasPattern (map (λ m. m.now) matchers.now))) }
+    ensures over { IfOk result (λ found. IfSome found (λ classes.
+        AreOver alphabet (map string_bytes classes.texts.items))) }
+    ensures apart { IfOk result (λ found. IfSome found (λ classes.
+        AreApart (map (λ m. m.now) matchers.now) (map string_bytes classes.texts.items))) }
     ensures none { IfOk result (λ found. IfNone found
         (HasPattern (map (λ m. m.now) matchers.now))) }
 {
-    let Some(questions) = Questions::of(alloc, matchers)? else {
+    let Some(questions) = Questions::of(alloc, alphabet, matchers)? else {
         return Ok(None);
     };
-    let Some(candidates) = candidates(alloc, &questions)? else {
+    let room = MAX_VALUES.saturating_sub(questions.texts.len());
+    let Some(candidates) = candidates(alloc, &questions, room)? else {
         return Ok(None);
     };
-    Ok(Some(with_texts(questions.texts, candidates)?))
+    let all = candidates.all;
+    let texts = with_texts(questions.texts, candidates.items)?;
+    Ok(Some(ClassTexts { texts, all }))
 }
 
 /// Texts, and those of candidates behind them.

@@ -1,12 +1,14 @@
-ghost use Rattle.std.specs.Prelude.{◌≡◌, ◌≢◌, ◌<◌, ◌+◌, ◌∷◌, ◌++◌, ℕ, List, [], Some, true};
+ghost use Rattle.std.specs.Prelude.{◌≡◌, ◌≢◌, ◌<◌, ◌+◌, ◌∷◌, ◌++◌, ℕ, List, [], Some, true, false};
 ghost use Rattle.std.specs.Prelude.{IfOk, IfSome, IsTrue, slice_get, vec_len};
 ghost use Rattle.am_classes.specs.declared.questions.Questions.{Questions};
 ghost use Rattle.am_classes.specs.declared.listed.Listed.{Listed};
 ghost use Rattle.am_classes.specs.State.{FollowsLabel};
-ghost use Rattle.am_classes.specs.Scans.{AreRepeated};
+ghost use Rattle.am_classes.specs.Automata.{AreRepeated};
 ghost use Rattle.am_classes.specs.Exploration.{AreListed, Grows, LeadsFrom, LeadsBefore};
-ghost use Rattle.am_classes.specs.Exploration.{LeadsWithin, IsClosed};
+ghost use Rattle.am_classes.specs.Exploration.{LeadsWithin};
+ghost use Rattle.am_classes.specs.Candidates.{AreApartCandidates, AreCandidates};
 
+use crate::candidates::{CandidateTexts, add};
 use crate::label_state::LabelState;
 use crate::limits::MAX_STATES;
 use crate::listed::Listed;
@@ -14,20 +16,33 @@ use crate::questions::Questions;
 use std::alloc::{AllocError, Global};
 use std::collections::HashMap;
 
-/// Lists states of a label until each that a text leads to is there, the shortest text first.
-/// `None` where they are too many, or one cannot be computed.
+/// Lists states of a label until each that a text leads to is there, the shortest text first, and
+/// takes candidates from their texts. Ends sooner where these are more than there is room for.
+/// `None` where the states are too many, or one cannot be computed.
 pub(crate) fn explored(
     alloc: Global,
     questions: &Questions,
-) -> Result<Option<Vec<Listed>>, AllocError>
-    ensures { IfOk result (λ found. IfSome found (λ listed.
-        IsClosed questions.now listed.items)) }
+    room: usize,
+) -> Result<Option<CandidateTexts>, AllocError>
+    ensures distinct { IfOk result (λ found. IfSome found (λ candidates.
+        AreApartCandidates questions.now candidates.items.items)) }
+    ensures all { IfOk result (λ found. IfSome found (λ candidates.
+        IsTrue candidates.all → AreCandidates questions.now candidates.items.items)) }
+    ensures many { IfOk result (λ found. IfSome found (λ candidates.
+        candidates.all ≡ false → room < vec_len candidates.items)) }
 {
     let repeated = questions.repeated_bytes(alloc)?;
     let mut exploration = Exploration::new(alloc, questions)?;
+    let mut items = Vec::new(alloc);
     for at in 0..MAX_STATES {
         if at == exploration.listed.len() {
-            return Ok(Some(exploration.listed));
+            return Ok(Some(CandidateTexts { items, all: true }));
+        }
+        if !add(alloc, questions, &exploration.listed[at], &mut items)? {
+            return Ok(None);
+        }
+        if items.len() > room {
+            return Ok(Some(CandidateTexts { items, all: false }));
         }
         if !exploration.explore(alloc, questions, repeated.as_slice(), at)? {
             return Ok(None);
@@ -71,7 +86,7 @@ impl Exploration {
     ) -> Result<bool, AllocError>
         requires at { at < vec_len self.old.listed }
         requires own { AreListed questions.now self.old.listed.items }
-        requires repeated { AreRepeated questions.now.scans.items repeated.now }
+        requires repeated { AreRepeated questions.now.automata.items repeated.now }
         ensures own { AreListed questions.now self.new.listed.items }
         ensures grows { Grows self.old.listed.items self.new.listed.items }
         ensures leads { IfOk result (λ done. IsTrue done → (item : Listed)
@@ -103,7 +118,7 @@ impl Exploration {
     ) -> Result<bool, AllocError>
         requires at { at < vec_len self.old.listed }
         requires own { AreListed questions.now self.old.listed.items }
-        requires repeated { AreRepeated questions.now.scans.items repeated.now }
+        requires repeated { AreRepeated questions.now.automata.items repeated.now }
         ensures own { AreListed questions.now self.new.listed.items }
         ensures grows { Grows self.old.listed.items self.new.listed.items }
         ensures leads { IfOk result (λ done. IsTrue done → (item : Listed)
@@ -134,7 +149,7 @@ impl Exploration {
     ) -> Result<Option<usize>, AllocError>
         requires at { at < vec_len self.old.listed }
         requires own { AreListed questions.now self.old.listed.items }
-        requires repeated { AreRepeated questions.now.scans.items repeated.now }
+        requires repeated { AreRepeated questions.now.automata.items repeated.now }
         requires before { IfSome before
             (λ place. LeadsBefore questions.now self.old.listed.items at byte place) }
         ensures own { AreListed questions.now self.new.listed.items }
@@ -143,7 +158,7 @@ impl Exploration {
             (λ place. LeadsFrom questions.now self.new.listed.items at byte place)) }
     {
         let item = &self.listed[at];
-        let Some(tail) = item.state.tail.step(byte) else {
+        let Some(tail) = item.state.tail.step(questions.alphabet, byte) else {
             // No text has this byte there, so any place will do.
             return Ok(Some(at));
         };
@@ -174,7 +189,7 @@ impl Exploration {
         before: Option<usize>,
     ) -> Result<bool, AllocError>
         requires at { at < vec_len self.now.listed }
-        requires repeated { AreRepeated questions.now.scans.items repeated.now }
+        requires repeated { AreRepeated questions.now.automata.items repeated.now }
         requires before { IfSome before
             (λ place. LeadsBefore questions.now self.now.listed.items at byte place) }
         ensures { IfOk result (λ repeats. IsTrue repeats → IfSome before

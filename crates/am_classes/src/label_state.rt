@@ -1,9 +1,8 @@
 ghost use Rattle.std.specs.Prelude.{◌≡◌, ℕ, List, IsTrue};
 ghost use Rattle.am_classes.specs.Rest.{rest_bytes};
 
-use crate::scans::same_states;
 use crate::tail::Tail;
-use am_scan::{PatternState, hash_with};
+use am_scan::hash_with;
 
 /// All that matters to the matchers of a label of a text of which only the end has been read.
 #[derive(Drop)]
@@ -12,8 +11,8 @@ pub(crate) struct LabelState {
     pub(crate) tail: Tail,
     /// What was read, as long as a text that the matchers name ends with it.
     pub(crate) rest: Option<Vec<u8>>,
-    /// What each pattern makes of it.
-    pub(crate) patterns: Vec<PatternState>,
+    /// Its number to each pattern.
+    pub(crate) numbers: Vec<u32>,
 }
 
 impl LabelState {
@@ -29,8 +28,7 @@ impl LabelState {
         if self.tail != other.tail {
             return false;
         }
-        same_rest(&self.rest, &other.rest)
-            && same_states(self.patterns.as_slice(), other.patterns.as_slice())
+        same_rest(&self.rest, &other.rest) && self.numbers.as_slice() == other.numbers.as_slice()
     }
 
     /// A number by which states are told apart fast. Nothing is promised of it.
@@ -39,8 +37,8 @@ impl LabelState {
             Some(rest) => hash_of(rest.as_slice()),
             None => 0,
         };
-        for pattern in &self.patterns {
-            hash = hash_with(hash, pattern.hash());
+        for number in &self.numbers {
+            hash = hash_with(hash, u64::from(*number));
         }
         hash_with(hash, self.tail as u64)
     }

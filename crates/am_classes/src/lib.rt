@@ -8,9 +8,14 @@
 // How much there may be.
 pub mod limits;
 
+// Which texts there are.
+mod alphabet;
+
+pub use alphabet::Alphabet;
+
 // What the matchers of a label ask of a text.
+mod automata;
 mod questions;
-mod scans;
 
 // What matters of a text of which only the end has been read.
 mod label_state;
@@ -24,5 +29,6 @@ mod listed;
 mod candidate;
 mod candidates;
 mod class_texts;
+mod samples;
 
-pub use class_texts::classes;
+pub use class_texts::{ClassTexts, classes};

@@ -1,5 +1,7 @@
 ghost use Rattle.std.specs.Prelude.{◌≡◌};
-ghost use Rattle.am_classes.specs.Utf8.{tail_step, is_whole};
+ghost use Rattle.am_classes.specs.Utf8.{text_step, tail_step, is_whole};
+
+use crate::Alphabet;
 
 /// What the front of the end of a text in UTF-8 is: how many bytes stand there of a character that
 /// begins further in front, and what the first of these bytes allows there.
@@ -24,8 +26,20 @@ impl Tail {
         matches!(self, Tail::Whole)
     }
 
+    /// The tail with one byte more in front; `None` where no text over the alphabet has such a byte
+    /// there.
+    pub(crate) fn step(self, alphabet: Alphabet, byte: u8) -> Option<Tail>
+        ensures { result ≡ text_step alphabet self byte }
+    {
+        if alphabet.has_byte(byte) {
+            self.utf8_step(byte)
+        } else {
+            None
+        }
+    }
+
     /// The tail with one byte more in front; `None` where UTF-8 has no such byte there.
-    pub(crate) fn step(self, byte: u8) -> Option<Tail>
+    fn utf8_step(self, byte: u8) -> Option<Tail>
         ensures { result ≡ tail_step self byte }
     {
         match (self, byte) {

@@ -1,10 +1,11 @@
-use Rattle.std.proofs.Common.{◌≡◌, [], ◌∷◌, Some, slice_get, length, string_bytes, sym, ap, ◌∙◌, subst}
+use Rattle.std.proofs.Common.{◌≡◌, [], ◌∷◌, Some, slice_get, length, string_bytes, refl, sym, ap, ◌∙◌, subst}
 use Rattle.am_classes.specs.declared.candidate.Candidate.{Candidate}
 use Rattle.am_classes.specs.declared.tail.Tail.TheVariants.{Whole}
-use Rattle.am_classes.specs.Scans.{found_by}
-use Rattle.am_classes.specs.State.{IsNamed}
+use Rattle.am_classes.specs.Automata.{found_by}
+use Rattle.am_classes.specs.State.{FollowsLabel, IsNamed}
+use Rattle.am_classes.proofs.OverLemmas.{followed_over}
 use Rattle.am_classes.specs.Candidates.{AreApartCandidates, IsCandidate, HasFound}
-use Rattle.am_classes.proofs.Places.{get_kept, get_last}
+use Rattle.am_scan.proofs.Places.{get_kept, get_last}
 use Rattle.am_classes.proofs.TailLemmas.{whole_from}
 use Rattle.am_classes.proofs.StateLemmas.{only_named}
 use Rattle.am_classes.proofs.CandidateLemmas.{apart_pushed}
@@ -25,7 +26,7 @@ returns-then-has_found-clause-added c =
       has.0,
       has.1,
       subst (λ cs. slice_get cs has.0 ≡ Some has.1) c.as_slice-2.ensures.value has.2,
-      has.3 ∙ c.as_slice-3.ensures.value ∙ found text follows whole,
+      has.3 ∙ c.as_slice-3.ensures.value ∙ found text follows,
     )
 
 pub returns-clause-distinct : goal.returns-clause-distinct
@@ -35,13 +36,15 @@ returns-clause-distinct c =
     let found = rw c.in-Some.is at c.in_ok-found.ensures in
     let bytes : string_bytes c.in_ok-text.text ≡ c.args.item.now.text.items = c.in_ok-text.ensures.ok ∙ c.in-Ok.ensures.cases.0 ∙ c.as_slice-4.ensures.value in
     let whole : c.args.item.now.state.tail ≡ Whole = whole_from c.args.item.now.state.tail (sym c.is_whole.ensures ∙ c.if-not-is_whole.false) in
-    let own : IsCandidate q x = (
-      found c.args.item.now.text.items c.requires.follows whole ∙ ap (found_by q.scans.items) (sym bytes),
-      λ named.
+    let own : IsCandidate q x = record {
+      found = found c.args.item.now.text.items c.requires.follows ∙ ap (found_by q.automata.items) (sym bytes);
+      unnamed = λ named.
           let named' = c.names.ensures.1 (subst (IsNamed q) (bytes ∙ sym c.as_slice.ensures.value) named) in
           let missed = c.if-names.false in
-          absurd cc,
-    ) in
+          absurd cc;
+      over = followed_over q.alphabet q c.args.item.now.state c.in_ok-text.text refl
+          (subst (FollowsLabel q c.args.item.now.state) (sym bytes) c.requires.follows);
+    } in
     let new : HasFound c.args.candidates.now.items c.in-Some.found.items → ⊥ = λ has.
     c.has_found.ensures.no c.if-has_found.false (
       has.0,
@@ -63,5 +66,5 @@ returns-clause-added c =
       length c.args.candidates.now.items,
       x,
       subst (λ cs. slice_get cs (length c.args.candidates.now.items) ≡ Some x) (sym c.in_ok-push.ensures.items) (get_last c.args.candidates.now.items x),
-      found text follows whole,
+      found text follows,
     )

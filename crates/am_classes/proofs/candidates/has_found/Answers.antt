@@ -2,7 +2,7 @@ use Rattle.std.proofs.Common.{refl, sym, ◌∙◌, inl, inr, ap, arith}
 use Rattle.std.proofs.lemmas.Option.{slice_get_read}
 use Rattle.std.proofs.lemmas.Slice.Eq.{slice_eq-Decides}
 use Rattle.am_classes.proofs.BoolLemmas.{beq-Decides}
-use Rattle.am_classes.proofs.Places.{get_front, get_whole}
+use Rattle.am_scan.proofs.Places.{get_front, get_whole}
 use Rattle.am_classes.proofs.candidates.has_found.Goals as goal
 
 pub returns-then-eq-clause-yes : goal.returns-then-eq-clause-yes

@@ -14,8 +14,8 @@ loop-text-smaller c =
     ∙ length-append (string_bytes c.loop-text.text) _ in
     omega (arith, short, same, longer)
 
-pub returns : goal.returns
-returns c =
+pub returns-clause-unnamed : goal.returns-clause-unnamed
+returns-clause-unnamed c =
     λ named.
     let missed = c.loop-text-test.false in
     let found = c.names.ensures.1

@@ -1,10 +1,11 @@
 use Rattle.std.proofs.Common.{◌-◌, ◌+◌, length, string_bytes}
+use Rattle.am_classes.specs.Alphabet.{IsOrdinary}
 use Rattle.am_classes.specs.State.{named_texts}
 use Rattle.am_classes.proofs.AskedLemmas.{length_of_all}
 use Rattle.am_classes.proofs.candidates.other_text.Given as goal
 
 abbrev pub invariant-loop-text : goal.invariant-loop-text
-invariant-loop-text l = Unit {0}
+invariant-loop-text l = IsOrdinary (string_bytes l.text)
 
 -- a text that is named is no longer than all of these together
 abbrev pub decreases-loop-text : goal.decreases-loop-text

@@ -2,6 +2,7 @@ use Rattle.std.proofs.Common.{◌≡◌, ℕ, ◌<◌, ◌≤◌, Some, [], slic
 use Rattle.am_classes.specs.declared.listed.Listed.{Listed}
 use Rattle.am_classes.specs.State.{FollowsLabel}
 use Rattle.am_classes.specs.Exploration.{AreListed, LeadsWithin}
+use Rattle.am_classes.specs.Candidates.{AreApartCandidates, Represents}
 use Rattle.am_classes.proofs.exploration.explored.Given as goal
 
 abbrev pub invariant-loop-at : goal.invariant-loop-at
@@ -12,4 +13,8 @@ invariant-loop-at l = record {
       × FollowsLabel l.questions item.state [];
   leads : (k : ℕ) (item : Listed) → k < l.at → slice_get l.exploration.listed.items k ≡ Some item
       → LeadsWithin l.questions l.exploration.listed.items item.state 0 256;
+  distinct : AreApartCandidates l.questions l.items.items;
+  represented : (k : ℕ) (item : Listed) → k < l.at
+      → slice_get l.exploration.listed.items k ≡ Some item
+      → Represents l.questions l.items.items item.state;
 }

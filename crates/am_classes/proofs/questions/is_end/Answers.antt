@@ -1,7 +1,7 @@
 use Rattle.std.proofs.Common.{◌≡◌, Some, slice_get, string_bytes, inl, inr, ◌∙◌, subst}
 use Rattle.std.proofs.lemmas.Bool.Decides.{Decides-eqb}
 use Rattle.std.proofs.lemmas.Slice.Eq.{ends_is}
-use Rattle.am_classes.proofs.Places.{map_front, get_pushed}
+use Rattle.am_scan.proofs.Places.{map_front, get_pushed}
 use Rattle.am_classes.proofs.questions.is_end.Goals as goal
 
 pub loop-text-preserved : goal.loop-text-preserved

@@ -1,8 +1,8 @@
-use Rattle.std.proofs.Common.{◌≡◌, ℕ, Some, map, slice_get, string_bytes, sym, ap, ◌∙◌, subst}
+use Rattle.std.proofs.Common.{◌≡◌, ℕ, Some, true, map, slice_get, string_bytes, sym, ap, ◌∙◌, subst}
 use Rattle.am_labels.specs.Matcher.{takes_pattern}
-use Rattle.am_classes.specs.Asked.{AreValues}
+use Rattle.am_classes.specs.Values.{AreValues, counts}
 use Rattle.am_classes.proofs.BoolLemmas.{differs, agrees}
-use Rattle.am_classes.proofs.Places.{map_front, map_pushed}
+use Rattle.am_scan.proofs.Places.{map_front, map_pushed}
 use Rattle.am_classes.proofs.AskedLemmas.{values_skip, values_same, values_push}
 use Rattle.am_classes.proofs.questions.values.Goals as goal
 
@@ -12,7 +12,16 @@ loop-matcher-preserved-then-takes_pattern-patterns c =
     let other : takes_pattern c.matcher-item.result.now.op ≡ c.args.patterns → ⊥ = λ takes.
     (let r : c.takes_pattern.result ≡ c.args.patterns = c.takes_pattern.ensures ∙ ap takes_pattern c.op.ensures.op ∙ takes in
     differs c.takes_pattern.result c.args.patterns c.if-takes_pattern-patterns.true r) in
-    subst (λ ms. AreValues ms c.args.patterns (map string_bytes c.loop-matcher.values.items)) (sym longer) (values_skip _ c.matcher-item.result.now _ _ c.loop-matcher.invariant other)
+    subst (λ ms. AreValues c.args.alphabet ms c.args.patterns (map string_bytes c.loop-matcher.values.items)) (sym longer) (values_skip c.args.alphabet _ c.matcher-item.result.now _ _ c.loop-matcher.invariant (λ takes _. other takes))
+
+pub loop-matcher-preserved-then-not-counts : goal.loop-matcher-preserved-then-not-counts
+loop-matcher-preserved-then-not-counts c =
+    let longer = map_front (λ m. m.now) c.args.matchers.now c.loop-matcher.matcher-index c.matcher-item.result c.loop-matcher-test.true c.matcher-item.is in
+    let other : counts c.args.alphabet c.args.patterns c.matcher-item.result.now.value ≡ true → ⊥ = λ counted.
+    (let r : c.counts.result ≡ true = c.counts.ensures ∙ ap (counts c.args.alphabet c.args.patterns) c.value-value.ensures.value ∙ counted in
+    let missed = c.if-not-counts.true in
+    absurd cc) in
+    subst (λ ms. AreValues c.args.alphabet ms c.args.patterns (map string_bytes c.loop-matcher.values.items)) (sym longer) (values_skip c.args.alphabet _ c.matcher-item.result.now _ _ c.loop-matcher.invariant (λ _ counted. other counted))
 
 pub loop-matcher-preserved-then-is_among : goal.loop-matcher-preserved-then-is_among
 loop-matcher-preserved-then-is_among c =
@@ -22,7 +31,7 @@ loop-matcher-preserved-then-is_among c =
     subst (λ xs. slice_get (map string_bytes xs) found.0 ≡ Some c.as_bytes.result.now) c.as_slice.ensures.value found.1
     ∙ ap Some (c.as_bytes.ensures.value ∙ c.value-value.ensures.value)
     in
-    subst (λ ms. AreValues ms c.args.patterns (map string_bytes c.loop-matcher.values.items)) (sym longer) (values_same _ c.matcher-item.result.now _ _ c.loop-matcher.invariant found.0 there)
+    subst (λ ms. AreValues c.args.alphabet ms c.args.patterns (map string_bytes c.loop-matcher.values.items)) (sym longer) (values_same c.args.alphabet _ c.matcher-item.result.now _ _ c.loop-matcher.invariant found.0 there)
 
 pub loop-matcher-preserved : goal.loop-matcher-preserved
 loop-matcher-preserved c =
@@ -30,9 +39,11 @@ loop-matcher-preserved c =
     let more = map_pushed string_bytes c.loop-matcher.values.items c.push.new.self.items c.in_ok-from_str.field-0 c.matcher-item.result.now.value c.in_ok-push.ensures.items (c.in_ok-from_str.ensures.ok ∙ c.value-value.ensures.value) in
     let takes : takes_pattern c.matcher-item.result.now.op ≡ c.args.patterns =
     sym (c.takes_pattern.ensures ∙ ap takes_pattern c.op.ensures.op) ∙ agrees c.takes_pattern.result c.args.patterns c.if-takes_pattern-patterns.false in
+    let counted : counts c.args.alphabet c.args.patterns c.matcher-item.result.now.value ≡ true =
+    sym (c.counts.ensures ∙ ap (counts c.args.alphabet c.args.patterns) c.value-value.ensures.value) ∙ c.if-not-counts.false in
     let new : (j : ℕ) → slice_get (map string_bytes c.loop-matcher.values.items) j ≡ Some c.matcher-item.result.now.value → ⊥ = λ j at.
     (let found = c.is_among.ensures.1 (j, subst (λ xs. slice_get (map string_bytes xs) j ≡ Some c.as_bytes.result.now) (sym c.as_slice.ensures.value) (at ∙ ap Some (sym (c.as_bytes.ensures.value ∙ c.value-value.ensures.value)))) in
     let missed = c.if-is_among.false in
     absurd cc) in
-    subst (λ ms. AreValues ms c.args.patterns (map string_bytes c.push.new.self.items)) (sym longer)
-    (subst (AreValues _ c.args.patterns) (sym more) (values_push _ c.matcher-item.result.now _ _ c.loop-matcher.invariant takes new))
+    subst (λ ms. AreValues c.args.alphabet ms c.args.patterns (map string_bytes c.push.new.self.items)) (sym longer)
+    (subst (AreValues c.args.alphabet _ c.args.patterns) (sym more) (values_push c.args.alphabet _ c.matcher-item.result.now _ _ c.loop-matcher.invariant takes counted new))

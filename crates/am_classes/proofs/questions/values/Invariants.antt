@@ -1,7 +1,7 @@
 use Rattle.std.proofs.Common.{map, take, string_bytes}
-use Rattle.am_classes.specs.Asked.{AreValues}
+use Rattle.am_classes.specs.Values.{AreValues}
 use Rattle.am_classes.proofs.questions.values.Given as goal
 
 abbrev pub invariant-loop-matcher : goal.invariant-loop-matcher
 invariant-loop-matcher l =
-    AreValues (map (λ m. m.now) (take l.matcher-index l.matchers)) l.patterns (map string_bytes l.values.items)
+    AreValues l.alphabet (map (λ m. m.now) (take l.matcher-index l.matchers)) l.patterns (map string_bytes l.values.items)

@@ -1,7 +1,7 @@
 use Rattle.std.proofs.Common.{◌≡◌, ◌∷◌, ◌++◌, Some, slice_get, vec_len, refl, sym, ap, ◌∙◌, inl, inr, subst, arith}
 use Rattle.std.proofs.lemmas.Option.{slice_get_read, same_Some}
 use Rattle.am_classes.specs.declared.listed.Listed.{Listed}
-use Rattle.am_classes.specs.Utf8.{tail_step}
+use Rattle.am_classes.specs.Utf8.{text_step}
 use Rattle.am_classes.specs.State.{FollowsLabel}
 use Rattle.am_classes.specs.Exploration.{AreListed, LeadsTo}
 use Rattle.am_classes.proofs.ExplorationLemmas.{grows_pushed, listed_pushed, leads_pushed, pushed_or_kept, where_found}
@@ -13,7 +13,7 @@ returns-in-Some-place_of-clause-leads c =
     let listed = c.args.self.now.listed.items in
     let this = c.index-item.result.now in
     let at = slice_get_read listed _ c.args.at this refl (omega (arith, c.requires.at, c.args.self.now.listed.ok.0)) c.index-item.ensures in
-    let stepped : tail_step this.state.tail c.args.byte ≡ Some c.in-Some.tail = sym c.step.ensures ∙ c.in-Some.is in
+    let stepped : text_step q.alphabet this.state.tail c.args.byte ≡ Some c.in-Some.tail = sym c.step.ensures ∙ c.in-Some.is in
     let follows = rw c.in-Some-2.is at c.in_ok-state.ensures in
     let serves = c.in-Some-place_of.ensures in
     let leads : LeadsTo q listed this.state c.args.byte c.in-Some-place_of.place = λ tail step.
@@ -26,7 +26,7 @@ returns-clause-own c =
     let old = c.args.self.now.listed.items in
     let this = c.index-item.result.now in
     let at = slice_get_read old _ c.args.at this refl (omega (arith, c.requires.at, c.args.self.now.listed.ok.0)) c.index-item.ensures in
-    let stepped : tail_step this.state.tail c.args.byte ≡ Some c.in-Some.tail = sym c.step.ensures ∙ c.in-Some.is in
+    let stepped : text_step q.alphabet this.state.tail c.args.byte ≡ Some c.in-Some.tail = sym c.step.ensures ∙ c.in-Some.is in
     let follows = rw c.in-Some-2.is at c.in_ok-state.ensures in
     let item : Listed = record { state = c.in-Some-2.state; text = c.extend_from_slice.new.self } in
     let text : item.text.items ≡ c.args.byte ∷ this.text.items =
@@ -54,7 +54,7 @@ returns-clause-leads c =
     let new = c.list.new.self.listed.items in
     let this = c.index-item.result.now in
     let at = slice_get_read old _ c.args.at this refl (omega (arith, c.requires.at, c.args.self.now.listed.ok.0)) c.index-item.ensures in
-    let stepped : tail_step this.state.tail c.args.byte ≡ Some c.in-Some.tail = sym c.step.ensures ∙ c.in-Some.is in
+    let stepped : text_step q.alphabet this.state.tail c.args.byte ≡ Some c.in-Some.tail = sym c.step.ensures ∙ c.in-Some.is in
     let follows = rw c.in-Some-2.is at c.in_ok-state.ensures in
     let item : Listed = record { state = c.in-Some-2.state; text = c.extend_from_slice.new.self } in
     where_found c.list.result c.list.ensures.listed

@@ -1,0 +1,103 @@
+//! Many patterns at once.
+ghost use Rattle.std.specs.Prelude.{◌≡◌, ℕ, ◌∷◌, [], List, map, ◌<◌, true};
+ghost use Rattle.std.specs.Prelude.{IfOk, IfSome, IfNone, IsTrue, length, string_bytes};
+ghost use Rattle.std.specs.List.{list_all};
+ghost use Rattle.am_scan.specs.Words.{pattern_of};
+ghost use Rattle.am_classes.specs.Automata.{numbers_of, AreScanned, found_by, fits, MakeSame};
+
+use crate::Alphabet;
+use am_scan::PatternAutomaton;
+use std::alloc::{AllocError, Global};
+
+/// Makes the automata of patterns, for the texts of an alphabet. `None` where there is none of one
+/// of them.
+pub(crate) fn automata_of(
+    alloc: Global,
+    alphabet: Alphabet,
+    patterns: &[String],
+) -> Result<Option<Vec<PatternAutomaton>>, AllocError>
+    ensures some { IfOk result (λ found. IfSome found (λ automata.
+        map pattern_of automata.items ≡ map string_bytes patterns.now)) }
+    ensures fit { IfOk result (λ found. IfSome found (λ automata.
+        IsTrue (list_all (fits alphabet) automata.items))) }
+    ensures none { IfOk result (λ found. IfNone found (0 < length patterns.now)) }
+{
+    let ascii = alphabet == Alphabet::Ascii;
+    let mut automata = Vec::with_capacity(alloc, patterns.len())?;
+    for pattern in patterns {
+        let Some(automaton) = PatternAutomaton::of(alloc, pattern.as_str(), ascii)? else {
+            return Ok(None);
+        };
+        automata.push(automaton)?;
+    }
+    Ok(Some(automata))
+}
+
+/// The numbers of the empty text.
+pub(crate) fn end_numbers(
+    alloc: Global,
+    automata: &[PatternAutomaton],
+) -> Result<Vec<u32>, AllocError>
+    ensures { IfOk result (λ numbers. numbers.items ≡ numbers_of automata.now []) }
+{
+    let mut numbers = Vec::with_capacity(alloc, automata.len())?;
+    for automaton in automata {
+        numbers.push(automaton.end())?;
+    }
+    Ok(numbers)
+}
+
+/// The numbers of a text with one byte more in front. `None` where these are not as many numbers as
+/// there are patterns.
+pub(crate) fn next_numbers(
+    alloc: Global,
+    automata: &[PatternAutomaton],
+    numbers: &[u32],
+    byte: u8,
+) -> Result<Option<Vec<u32>>, AllocError>
+    ensures { IfOk result (λ found. IfSome found (λ nexts. (text : List ℕ)
+        → numbers.now ≡ numbers_of automata.now text
+        → nexts.items ≡ numbers_of automata.now (byte ∷ text))) }
+{
+    if numbers.len() != automata.len() {
+        return Ok(None);
+    }
+    let mut nexts = Vec::with_capacity(alloc, automata.len())?;
+    for (i, automaton) in automata.iter().enumerate() {
+        nexts.push(automaton.step(numbers[i], byte))?;
+    }
+    Ok(Some(nexts))
+}
+
+/// Whether each pattern makes the same of two bytes. Only `true` promises something.
+pub(crate) fn are_alike(automata: &[PatternAutomaton], one: u8, other: u8) -> bool
+    ensures { IsTrue result → MakeSame automata.now one other }
+{
+    for automaton in automata {
+        if !automaton.are_alike(one, other) {
+            return false;
+        }
+    }
+    true
+}
+
+/// Which patterns find a text of these numbers. `None` where these are not as many numbers as there
+/// are patterns.
+pub(crate) fn found_patterns(
+    alloc: Global,
+    automata: &[PatternAutomaton],
+    numbers: &[u32],
+) -> Result<Option<Vec<bool>>, AllocError>
+    ensures { IfOk result (λ found. IfSome found (λ answers. (text : List ℕ)
+        → numbers.now ≡ numbers_of automata.now text → AreScanned automata.now text
+        → answers.items ≡ found_by automata.now text)) }
+{
+    if numbers.len() != automata.len() {
+        return Ok(None);
+    }
+    let mut answers = Vec::with_capacity(alloc, automata.len())?;
+    for (i, automaton) in automata.iter().enumerate() {
+        answers.push(automaton.finds(numbers[i]))?;
+    }
+    Ok(Some(answers))
+}

@@ -1,0 +1,138 @@
+//! Texts that patterns find, by which it is soon seen that there are too many classes.
+ghost use Rattle.std.specs.Prelude.{IfOk, IfSome};
+ghost use Rattle.am_classes.specs.State.{FollowsLabel};
+ghost use Rattle.am_classes.specs.Candidates.{AreApartCandidates};
+
+use crate::candidate::Candidate;
+use crate::candidates::add;
+use crate::limits::MAX_SAMPLE_NUMBERS;
+use crate::listed::Listed;
+use crate::questions::Questions;
+use am_scan::PatternAutomaton;
+use std::alloc::{AllocError, Global};
+
+/// Candidates from texts that the patterns find, one of each, until there is no room.
+pub(crate) fn sampled(
+    alloc: Global,
+    questions: &Questions,
+    room: usize,
+) -> Result<Vec<Candidate>, AllocError>
+    ensures { IfOk result (λ candidates. AreApartCandidates questions.now candidates.items) }
+{
+    let mut candidates = Vec::new(alloc);
+    for automaton in &questions.automata {
+        let text = sample(alloc, automaton)?;
+        add_text(alloc, questions, text.as_slice(), &mut candidates)?;
+        if candidates.len() > room {
+            return Ok(candidates);
+        }
+    }
+    Ok(candidates)
+}
+
+/// Adds a text to the candidates, unless the alphabet has no such text, or it is no candidate.
+fn add_text(
+    alloc: Global,
+    questions: &Questions,
+    text: &[u8],
+    candidates: &mut Vec<Candidate>,
+) -> Result<(), AllocError>
+    requires { AreApartCandidates questions.now candidates.old.items }
+    ensures { AreApartCandidates questions.now candidates.new.items }
+{
+    let Some(item) = item_of(alloc, questions, text)? else {
+        return Ok(());
+    };
+    add(alloc, questions, &item, candidates)?;
+    Ok(())
+}
+
+/// A text with its state. `None` where the alphabet has no such text.
+fn item_of(alloc: Global, questions: &Questions, text: &[u8]) -> Result<Option<Listed>, AllocError>
+    ensures { IfOk result (λ found. IfSome found (λ item.
+        FollowsLabel questions.now item.state item.text.items)) }
+{
+    let mut item = Listed {
+        state: questions.end(alloc)?,
+        text: Vec::new(alloc),
+    };
+    for byte in text.iter().rev() {
+        let Some(longer) = longer_item(alloc, questions, &item, *byte)? else {
+            return Ok(None);
+        };
+        item = longer;
+    }
+    Ok(Some(item))
+}
+
+/// A text with one byte more in front, with its state. `None` where the alphabet has no such text.
+fn longer_item(
+    alloc: Global,
+    questions: &Questions,
+    item: &Listed,
+    byte: u8,
+) -> Result<Option<Listed>, AllocError>
+    requires { FollowsLabel questions.now item.now.state item.now.text.items }
+    ensures { IfOk result (λ found. IfSome found (λ longer.
+        FollowsLabel questions.now longer.state longer.text.items)) }
+{
+    let Some(tail) = item.state.tail.step(questions.alphabet, byte) else {
+        return Ok(None);
+    };
+    let Some(state) = questions.step(alloc, &item.state, byte, tail)? else {
+        return Ok(None);
+    };
+    let mut text = vec![in alloc; byte]?;
+    text.extend_from_slice(item.text.as_slice())?;
+    Ok(Some(Listed { state, text }))
+}
+
+/// A number of an automaton, and a text that leads to it.
+#[derive(Drop)]
+struct Reached {
+    number: u32,
+    text: Vec<u8>,
+}
+
+/// A short text of letters and the like that a pattern finds, or else the empty text. Nothing is
+/// promised of it.
+fn sample(alloc: Global, automaton: &PatternAutomaton) -> Result<Vec<u8>, AllocError> {
+    let mut reached = vec![in alloc;
+        Reached {
+            number: automaton.end(),
+            text: Vec::new(alloc),
+        },
+    ]?;
+    for at in 0..MAX_SAMPLE_NUMBERS {
+        if at >= reached.len() {
+            return Ok(Vec::new(alloc));
+        }
+        if automaton.finds(reached[at].number) {
+            return reached[at].text.clone();
+        }
+        reach_more(alloc, automaton, &mut reached, at)?;
+    }
+    Ok(Vec::new(alloc))
+}
+
+/// Adds the numbers to which a byte leads from one that was reached, with a text for each.
+fn reach_more(
+    alloc: Global,
+    automaton: &PatternAutomaton,
+    reached: &mut Vec<Reached>,
+    at: usize,
+) -> Result<(), AllocError> {
+    for byte in b' '..=b'~' {
+        let Some(from) = reached.get(at) else {
+            return Ok(());
+        };
+        let number = automaton.step(from.number, byte);
+        if reached.iter().any(|other| other.number == number) {
+            continue;
+        }
+        let mut text = vec![in alloc; byte]?;
+        text.extend_from_slice(from.text.as_slice())?;
+        reached.push(Reached { number, text })?;
+    }
+    Ok(())
+}
