@@ -1,13 +1,10 @@
 -- Texts of which no two are alike: that they are distinct, with one more, and how many there are.
-use Rattle.std.proofs.Common.{◌≡◌, ◌≤◌, ℕ, true, List, [], ◌∷◌, ◌++◌, length, map, String}
-use Rattle.std.proofs.Common.{string_bytes, get_or, sym, ◌∙◌, subst, inl, inr, arith}
+use Rattle.std.proofs.Common.{◌≡◌, ◌≤◌, ℕ, true, List, [], ◌∷◌, ◌++◌, length}
+use Rattle.std.proofs.Common.{get_or, sym, ◌∙◌, subst, inl, inr, arith}
 use Rattle.std.specs.List.{AllByRecursion, IsDistinct}
-use Rattle.std.specs.Str.{IsUtf8}
-use Rattle.std.specs.declared.alloc.Global.{Global}
 use Rattle.std.specs.Cmp.{IsEquivalence}
 use Rattle.std.specs.Cmp.Lexicographic.{bytes_decides}
 use Rattle.std.proofs.lemmas.Bool.{cases_Bool}
-use Rattle.std.proofs.lemmas.Str.{IsUtf8-string_bytes}
 use Rattle.std.proofs.lemmas.Map.Keys.{IsDistinct-from_apart}
 use Rattle.std.proofs.lemmas.Map.Made.{length-le_from_is_member}
 use Rattle.std.proofs.lemmas.Option.{slice_get-get_or}
@@ -21,12 +18,6 @@ use Rattle.am_complete.proofs.Alike.{alike_itself, alike_turned, alike_joined}
 use Rattle.am_complete.proofs.ChosenTexts.{alike, alike_is, is_alike, turned, distinct_from_apart}
 use Rattle.am_complete.proofs.ChosenTexts.{same_where_both}
 use Rattle.am_complete.proofs.Pushed.{got_either}
-
--- ---- Texts in memory are UTF-8.
-
-pub utf8_texts : (texts : List (String Global)) → AllByRecursion IsUtf8 (map string_bytes texts)
-utf8_texts [] = tt
-utf8_texts (text ∷ texts) = (IsUtf8-string_bytes text, utf8_texts texts)
 
 -- ---- What is apart is distinct.
 

@@ -9,13 +9,16 @@ use Rattle.std.specs.declared.alloc.Global.{Global}
 use mathlib.Core.Bool.{beq}
 use Rattle.std.proofs.lemmas.Bool.{both_ways, cases_Bool, cases_lt, and_parts}
 use Rattle.std.proofs.lemmas.List.{take_all}
-use Rattle.std.proofs.lemmas.List.Sorted.{Contains-permutation}
+use Rattle.std.proofs.lemmas.List.Sorted.{Contains-permutation, IsPermutation-sym}
 use Rattle.std.proofs.lemmas.Map.Keys.{IsDistinct-IsPermutation, IsDistinct-from_apart}
 use Rattle.std.proofs.lemmas.Map.Keys.{apart_from_distinct}
 use Rattle.std.proofs.lemmas.Option.{slice_get-get_or, get_or_from_slice_get, slice_get_within}
 use Rattle.am_universe.proofs.ListLemmas.{IsIn, IsIn-from_Contains, Contains-from_IsIn}
+use Rattle.am_universe.proofs.ListLemmas.{AllByRecursion-at, AllByRecursion-each}
 use Rattle.am_labels.specs.Matcher.{Condition, holds}
 use Rattle.am_universe.proofs.Members.{in_at}
+use Rattle.am_classes.specs.declared.alphabet.Alphabet.{Alphabet}
+use Rattle.am_classes.specs.Alphabet.{IsOver, AreOver}
 use Rattle.am_classes.specs.Alike.{AreAlike, AreApart, HasAlikeIn}
 use Rattle.am_complete.specs.Covering.{StandForAll}
 use Rattle.am_complete.specs.Truths.{AreAlikeEach, IsAlikeAt}
@@ -41,19 +44,21 @@ alike_there ms (z ∷ xs) (y ∷ ys) zero x each e =
     let same : z ≡ x = cc in (y, refl, subst (λ (w : List ℕ). AreAlike ms w y) same each.0)
 alike_there ms (z ∷ xs) (y ∷ ys) (suc i) x each e = alike_there ms xs ys i x each.1 e
 
-pub stand_chosen : (ms : List Condition) (xs ys : List (List ℕ)) → AreAlikeEach ms xs ys
-    → StandForAll ms ys → StandForAll ms xs
-stand_chosen ms xs ys each stand = (
-  λ text valid.
-      let one = stand.0 text valid in
+pub stand_chosen : (alphabet : Alphabet) (ms : List Condition) (xs ys : List (List ℕ))
+    → AreAlikeEach ms xs ys → AreOver alphabet xs → StandForAll alphabet ms ys
+    → StandForAll alphabet ms xs
+stand_chosen alphabet ms xs ys each over stand = record {
+  covers = λ text valid.
+      let one = stand.covers text valid in
       let r = alike_in ms xs ys one.0 each (IsIn-from_Contains ys one.0 one.1) in
-      (r.0, Contains-from_IsIn xs r.0 r.1, alike_joined ms r.0 one.0 text r.2 one.2),
-  λ i j x y at_x at_y alike.
+      (r.0, Contains-from_IsIn xs r.0 r.1, alike_joined ms r.0 one.0 text r.2 one.2);
+  apart = λ i j x y at_x at_y alike.
       let a = alike_there ms xs ys i x each at_x in
       let b = alike_there ms xs ys j y each at_y in
-      stand.1 i j a.0 b.0 a.1 b.1
-      (alike_joined ms a.0 x b.0 (alike_turned ms x a.0 a.2) (alike_joined ms x y b.0 alike b.2)),
-)
+      stand.apart i j a.0 b.0 a.1 b.1
+      (alike_joined ms a.0 x b.0 (alike_turned ms x a.0 a.2) (alike_joined ms x y b.0 alike b.2));
+  over = over;
+}
 
 -- one text more
 pub one_more_each : (ms : List Condition) (xs ys : List (List ℕ)) (x y : List ℕ)
@@ -167,11 +172,20 @@ apart_moved ms xs ys moved apart =
     apart_from_distinct_texts ms ys
     (IsDistinct-IsPermutation (alike ms) (turned ms) xs ys moved (distinct_from_apart ms xs apart))
 
-pub stand_moved : (ms : List Condition) (xs ys : List (List ℕ)) → IsPermutation xs ys
-    → StandForAll ms xs → StandForAll ms ys
-stand_moved ms xs ys moved stand = (
-  λ text valid.
-      let one = stand.0 text valid in
-      (one.0, Contains-permutation xs ys one.0 moved one.1, one.2),
-  apart_moved ms xs ys moved stand.1,
-)
+pub over_moved : (alphabet : Alphabet) (xs ys : List (List ℕ)) → IsPermutation xs ys
+    → AreOver alphabet xs → AreOver alphabet ys
+over_moved alphabet xs ys moved over =
+    AllByRecursion-each (IsOver alphabet) ys (λ y i.
+    AllByRecursion-at (IsOver alphabet) xs y over
+    (IsIn-from_Contains xs y
+    (Contains-permutation ys xs y (IsPermutation-sym xs ys moved) (Contains-from_IsIn ys y i))))
+
+pub stand_moved : (alphabet : Alphabet) (ms : List Condition) (xs ys : List (List ℕ)) → IsPermutation xs ys
+    → StandForAll alphabet ms xs → StandForAll alphabet ms ys
+stand_moved alphabet ms xs ys moved stand = record {
+  covers = λ text valid.
+      let one = stand.covers text valid in
+      (one.0, Contains-permutation xs ys one.0 moved one.1, one.2);
+  apart = apart_moved ms xs ys moved stand.apart;
+  over = over_moved alphabet xs ys moved stand.over;
+}

@@ -12,6 +12,7 @@ use Rattle.am_universe.proofs.ListLemmas.{IsIn, IsIn-from_Contains, Contains-fro
 use Rattle.am_universe.proofs.ListLemmas.{AllByRecursion-at, IsIn-unmap}
 use Rattle.am_labels.specs.Matcher.{Condition, holds, all_hold}
 use Rattle.am_labels.specs.Space.{Space}
+use Rattle.am_classes.specs.declared.alphabet.Alphabet.{Alphabet}
 use Rattle.am_classes.specs.Alike.{AreAlike}
 use Rattle.am_complete.specs.Complete.{about, label_texts, IsCompleteAt, IsComplete, asks_only_of}
 use Rattle.am_complete.specs.Complete.{matches_text, IsSpaceCompleteAt, IsSpaceComplete}
@@ -32,9 +33,9 @@ some_text u name h =
     texts_by (λ texts. (x : List ℕ) × IsIn texts x) u name ([], inl refl) (λ l i same.
     some_value_text l.values (AllByRecursion-at IsLabel u l h.labels i).some_value)
 
-pub complete_without_matchers : (u : List Label) (ms : List Condition) (name : List ℕ)
-    → IsUniverse u → about name ms ≡ [] → IsCompleteAt u ms name
-complete_without_matchers u ms name h none text valid =
+pub complete_without_matchers : (alphabet : Alphabet) (u : List Label) (ms : List Condition) (name : List ℕ)
+    → IsUniverse u → about name ms ≡ [] → IsCompleteAt alphabet u ms name
+complete_without_matchers alphabet u ms name h none text valid =
     let one = some_text u name h in (
       one.0,
       Contains-from_IsIn (label_texts u name) one.0 one.1,
@@ -83,28 +84,28 @@ by_asked P asked ms asks without on =
     let r = named_by asked ms m asks i some in
     subst P r.2 (on r.0 r.1 (λ empty. some (sym r.2 ∙ empty))))
 
-pub complete_where_asked : (u : List Label) (asked : List AskedLabel) (ms : List Condition)
+pub complete_where_asked : (alphabet : Alphabet) (u : List Label) (asked : List AskedLabel) (ms : List Condition)
     → IsUniverse u → IsAskedOf asked ms
-    → ((l : AskedLabel) → IsIn asked l → l.name ≢ [] → IsCompleteAt u ms l.name)
-    → IsComplete u ms
-complete_where_asked u asked ms h asks =
-    by_asked (IsCompleteAt u ms) asked ms asks
-    (λ name none. complete_without_matchers u ms name h none)
+    → ((l : AskedLabel) → IsIn asked l → l.name ≢ [] → IsCompleteAt alphabet u ms l.name)
+    → IsComplete alphabet u ms
+complete_where_asked alphabet u asked ms h asks =
+    by_asked (IsCompleteAt alphabet u ms) asked ms asks
+    (λ name none. complete_without_matchers alphabet u ms name h none)
 
 -- ---- Spaces.
 
-pub space_complete_without_matchers : (s : Space) (ms : List Condition) (name : List ℕ)
-    → IsUniverse s.labels → about name ms ≡ [] → IsSpaceCompleteAt s ms name
-space_complete_without_matchers s ms name h none text valid possible =
-    complete_without_matchers s.labels ms name h none text valid
+pub space_complete_without_matchers : (alphabet : Alphabet) (s : Space) (ms : List Condition) (name : List ℕ)
+    → IsUniverse s.labels → about name ms ≡ [] → IsSpaceCompleteAt alphabet s ms name
+space_complete_without_matchers alphabet s ms name h none text valid possible =
+    complete_without_matchers alphabet s.labels ms name h none text valid
 
-pub space_complete_where_asked : (s : Space) (asked : List AskedLabel) (ms : List Condition)
+pub space_complete_where_asked : (alphabet : Alphabet) (s : Space) (asked : List AskedLabel) (ms : List Condition)
     → IsUniverse s.labels → IsAskedOf asked ms
-    → ((l : AskedLabel) → IsIn asked l → l.name ≢ [] → IsSpaceCompleteAt s ms l.name)
-    → IsSpaceComplete s ms
-space_complete_where_asked s asked ms h asks =
-    by_asked (IsSpaceCompleteAt s ms) asked ms asks
-    (λ name none. space_complete_without_matchers s ms name h none)
+    → ((l : AskedLabel) → IsIn asked l → l.name ≢ [] → IsSpaceCompleteAt alphabet s ms l.name)
+    → IsSpaceComplete alphabet s ms
+space_complete_where_asked alphabet s asked ms h asks =
+    by_asked (IsSpaceCompleteAt alphabet s ms) asked ms asks
+    (λ name none. space_complete_without_matchers alphabet s ms name h none)
 
 -- ---- Impossible lists that ask of one label alone.
 

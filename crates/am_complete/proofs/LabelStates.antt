@@ -27,6 +27,7 @@ use Rattle.am_labels.specs.Matcher.{Condition}
 use Rattle.am_labels.specs.Space.{Space}
 use Rattle.am_labels.proofs.Passing.{any_in, in_any, kept_from_passes}
 use Rattle.am_universe.proofs.Members.{in_at, joined_in}
+use Rattle.am_classes.specs.declared.alphabet.Alphabet.{Alphabet}
 use Rattle.am_classes.specs.Alike.{HasAlikeIn}
 use Rattle.am_complete.specs.declared.label_state.Completeness.{Completeness}
 use Rattle.am_complete.specs.declared.label_state.Completeness.TheVariants as state_is
@@ -71,10 +72,10 @@ texts_more values j texts text before here lt =
 -- ---- At one label.
 
 -- texts that are alike to texts that cover all cover all
-pub covered : (impossible : List (List Condition)) (name : List ℕ) (ms : List Condition)
-    (have texts : List (List ℕ)) → CoverPossible impossible name ms texts
-    → AllByRecursion (HasAlikeIn ms have) texts → CoverPossible impossible name ms have
-covered impossible name ms have texts covers each text valid possible =
+pub covered : (alphabet : Alphabet) (impossible : List (List Condition)) (name : List ℕ) (ms : List Condition)
+    (have texts : List (List ℕ)) → CoverPossible alphabet impossible name ms texts
+    → AllByRecursion (HasAlikeIn ms have) texts → CoverPossible alphabet impossible name ms have
+covered alphabet impossible name ms have texts covers each text valid possible =
     let one = covers text valid possible in
     let there = AllByRecursion-at (HasAlikeIn ms have) texts one.0 each
     (IsIn-from_Contains texts one.0 one.1) in
@@ -116,27 +117,27 @@ asked_for impossible asked ms l asks among i some = record {
   lists = those_of_lists ms l impossible among (on_name asked ms l asks i some);
 }
 
-found_is_so : (s : Space) (asked : List AskedLabel) (ms : List Condition) (l : AskedLabel)
-    (c : Completeness) → IsAskedOf asked ms → IsIn asked l → l.name ≢ [] → IsFoundAt s l c
-    → IsSoAt s ms asked l.name c
-found_is_so s asked ms l (state_is.Complete n) asks i some h =
+found_is_so : (alphabet : Alphabet) (s : Space) (asked : List AskedLabel) (ms : List Condition) (l : AskedLabel)
+    (c : Completeness) → IsAskedOf asked ms → IsIn asked l → l.name ≢ [] → IsFoundAt alphabet s l c
+    → IsSoAt alphabet s ms asked l.name c
+found_is_so alphabet s asked ms l (state_is.Complete n) asks i some h =
     rw (← on_name asked ms l asks i some) h
-found_is_so s asked ms l (state_is.Lacks text) asks i some h =
+found_is_so alphabet s asked ms l (state_is.Lacks text) asks i some h =
     rw (← on_name asked ms l asks i some) h
-found_is_so s asked ms l state_is.Unasked asks i some h = absurd h
-found_is_so s asked ms l state_is.Undeclarable asks i some h =
+found_is_so alphabet s asked ms l state_is.Unasked asks i some h = absurd h
+found_is_so alphabet s asked ms l state_is.Undeclarable asks i some h =
     rw (← on_name asked ms l asks i some) h
-found_is_so s asked ms l (state_is.Unproved origin) asks i some h =
+found_is_so alphabet s asked ms l (state_is.Unproved origin) asks i some h =
     ((l, Contains-from_IsIn asked l i, refl, h.0), rw (← on_name asked ms l asks i some) h.1)
 
-pub state_is_so : (s : Space) (asked : List AskedLabel) (alerts : Option (List LabelMap))
-    (l : AskedLabel) (state : LabelState) → IsIn asked l → IsSoOfAsked s l alerts state
-    → IsSoOfName s asked alerts state
-state_is_so s asked alerts l state i h =
+pub state_is_so : (alphabet : Alphabet) (s : Space) (asked : List AskedLabel) (alerts : Option (List LabelMap))
+    (l : AskedLabel) (state : LabelState) → IsIn asked l → IsSoOfAsked alphabet s l alerts state
+    → IsSoOfName alphabet s asked alerts state
+state_is_so alphabet s asked alerts l state i h =
     record {
       so = λ ms asks.
           rw h.name (λ some.
-          found_is_so s asked ms l state.completeness asks i some (h.found some));
+          found_is_so alphabet s asked ms l state.completeness asks i some (h.found some));
       unseen = h.unseen;
     }
 
@@ -196,13 +197,13 @@ names_of states = map (λ state. string_bytes state.name) states
 abbrev pub undeclared : List Label → List (List ℕ) → List (List ℕ)
 undeclared u ns = filter (λ name. not (is_declared u name)) ns
 
-pub state_names : (s : Space) (asked : List AskedLabel) (i : ℕ) (l : AskedLabel)
+pub state_names : (alphabet : Alphabet) (s : Space) (asked : List AskedLabel) (i : ℕ) (l : AskedLabel)
     (alerts : Option (List LabelMap)) (first before after : List LabelState)
     → slice_get asked i ≡ Some l
     → names_of before ≡ names_of first ++ undeclared s.labels (asked_names (take i asked))
-    → IsWithState s l alerts before after
+    → IsWithState alphabet s l alerts before after
     → names_of after ≡ names_of first ++ undeclared s.labels (asked_names (take (i + 1) asked))
-state_names s asked i l alerts first before after at so_far step =
+state_names alphabet s asked i l alerts first before after at so_far step =
     let done = undeclared s.labels (asked_names (take i asked)) in
     let one = undeclared s.labels (l.name ∷ []) in
     let longer : done ++ one ≡ undeclared s.labels (asked_names (take (i + 1) asked)) =
@@ -213,7 +214,7 @@ state_names s asked i l alerts first before after at so_far step =
     by step ∙ ap (λ xs. xs ++ one) so_far ∙ append_assoc (names_of first) done one
     ∙ ap (λ xs. names_of first ++ xs) longer
   where
-    by : IsWithState s l alerts before after
+    by : IsWithState alphabet s l alerts before after
         → names_of after ≡ names_of before ++ undeclared s.labels (l.name ∷ [])
     by (inl stays) = rw (stays.1, stays.0) (sym (append-nil (names_of before)))
     by (inr more) =
@@ -221,28 +222,28 @@ state_names s asked i l alerts first before after at so_far step =
         (map-append (λ state. string_bytes state.name) before (more.1.0 ∷ [])
         ∙ ap (λ n. names_of before ++ n ∷ []) more.1.2.name)
 
-pub states_so : (s : Space) (asked : List AskedLabel) (l : AskedLabel)
+pub states_so : (alphabet : Alphabet) (s : Space) (asked : List AskedLabel) (l : AskedLabel)
     (alerts : Option (List LabelMap)) (before after : List LabelState) → IsIn asked l
-    → IsWithState s l alerts before after
-    → AllByRecursion (IsSoOfName s asked alerts) before
-    → AllByRecursion (IsSoOfName s asked alerts) after
-states_so s asked l alerts before after i (inl stays) each = rw stays.1 each
-states_so s asked l alerts before after i (inr more) each =
+    → IsWithState alphabet s l alerts before after
+    → AllByRecursion (IsSoOfName alphabet s asked alerts) before
+    → AllByRecursion (IsSoOfName alphabet s asked alerts) after
+states_so alphabet s asked l alerts before after i (inl stays) each = rw stays.1 each
+states_so alphabet s asked l alerts before after i (inr more) each =
     rw more.1.1
-    (all_push (IsSoOfName s asked alerts) before more.1.0 each
-    (state_is_so s asked alerts l more.1.0 i more.1.2))
+    (all_push (IsSoOfName alphabet s asked alerts) before more.1.0 each
+    (state_is_so alphabet s asked alerts l more.1.0 i more.1.2))
 
 -- ---- All labels.
 
-settled_complete : (s : Space) (ms : List Condition) (asked : List AskedLabel)
-    (name : List ℕ) (c : Completeness) → IsUniverse s.labels → IsSoAt s ms asked name c
-    → is_settled c ≡ true → IsSpaceCompleteAt s ms name
-settled_complete s ms asked name (state_is.Complete n) universe so settled = so.0
-settled_complete s ms asked name (state_is.Lacks text) universe so settled = absurd (cc)
-settled_complete s ms asked name state_is.Unasked universe so settled =
-    space_complete_without_matchers s ms name universe so
-settled_complete s ms asked name state_is.Undeclarable universe so settled = absurd (cc)
-settled_complete s ms asked name (state_is.Unproved origin) universe so settled = absurd (cc)
+settled_complete : (alphabet : Alphabet) (s : Space) (ms : List Condition) (asked : List AskedLabel)
+    (name : List ℕ) (c : Completeness) → IsUniverse s.labels → IsSoAt alphabet s ms asked name c
+    → is_settled c ≡ true → IsSpaceCompleteAt alphabet s ms name
+settled_complete alphabet s ms asked name (state_is.Complete n) universe so settled = so.0
+settled_complete alphabet s ms asked name (state_is.Lacks text) universe so settled = absurd (cc)
+settled_complete alphabet s ms asked name state_is.Unasked universe so settled =
+    space_complete_without_matchers alphabet s ms name universe so
+settled_complete alphabet s ms asked name state_is.Undeclarable universe so settled = absurd (cc)
+settled_complete alphabet s ms asked name (state_is.Unproved origin) universe so settled = absurd (cc)
 
 -- each name that is asked of is reported
 reported : (u : List Label) (asked : List AskedLabel) (l : AskedLabel) → IsIn asked l
@@ -257,19 +258,19 @@ reported u asked l i = elim (cases_Bool (is_declared u l.name)) [
 ]
 
 -- where each state is settled, the space is complete
-pub complete_where_settled : (s : Space) (asked : List AskedLabel)
+pub complete_where_settled : (alphabet : Alphabet) (s : Space) (asked : List AskedLabel)
     (alerts : Option (List LabelMap)) (states : List LabelState) → IsUniverse s.labels
     → names_of states ≡ reported_names s.labels asked
-    → AllByRecursion (IsSoOfName s asked alerts) states
+    → AllByRecursion (IsSoOfName alphabet s asked alerts) states
     → (ms : List Condition) → IsAskedOf asked ms
-    → IsTrue (list_all (λ state. is_settled state.completeness) states) → IsSpaceComplete s ms
-complete_where_settled s asked alerts states universe are each ms asks settled =
-    space_complete_where_asked s asked ms universe asks (λ l i some.
+    → IsTrue (list_all (λ state. is_settled state.completeness) states) → IsSpaceComplete alphabet s ms
+complete_where_settled alphabet s asked alerts states universe are each ms asks settled =
+    space_complete_where_asked alphabet s asked ms universe asks (λ l i some.
     let there = subst (λ (xs : List (List ℕ)). IsIn xs l.name) (sym are)
     (reported s.labels asked l i) in
     let state = IsIn-unmap (λ state. string_bytes state.name) states l.name there in
-    let is = AllByRecursion-at (IsSoOfName s asked alerts) states state.0 each state.1 in
+    let is = AllByRecursion-at (IsSoOfName alphabet s asked alerts) states state.0 each state.1 in
     let at = all_pass (λ state. is_settled state.completeness) states state.0 settled state.1 in
-    subst (IsSpaceCompleteAt s ms) state.2
-    (settled_complete s ms asked (string_bytes state.0.name) state.0.completeness universe
+    subst (IsSpaceCompleteAt alphabet s ms) state.2
+    (settled_complete alphabet s ms asked (string_bytes state.0.name) state.0.completeness universe
     (is.so ms asks (λ empty. some (sym state.2 ∙ empty))) at))

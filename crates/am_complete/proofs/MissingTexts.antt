@@ -4,7 +4,6 @@ use Rattle.std.proofs.Common.{length, map, take, drop, min, Some, Contains, Stri
 use Rattle.std.proofs.Common.{sym, ap, ◌∙◌, subst, arith, lit≤, lit<}
 use Rattle.std.specs.Prelude.{IsTrue, slice_get, unwrap_or}
 use Rattle.std.specs.List.{AllByRecursion, IsDistinct}
-use Rattle.std.specs.Str.{IsUtf8}
 use Rattle.std.specs.declared.alloc.Global.{Global}
 use Rattle.std.proofs.lemmas.List.{length-map, length-take-le, take-append-drop, map-append}
 use Rattle.std.proofs.lemmas.Bool.Decides.{nat_tests}
@@ -15,12 +14,13 @@ use Rattle.am_universe.proofs.ListLemmas.{IsIn, IsIn-left, IsIn-right, IsIn-from
 use Rattle.am_universe.proofs.ListLemmas.{AllByRecursion-at}
 use Rattle.am_labels.specs.Matcher.{Condition}
 use Rattle.am_labels.specs.Space.{Space}
+use Rattle.am_classes.specs.declared.alphabet.Alphabet.{Alphabet}
+use Rattle.am_classes.specs.Alphabet.{IsOver}
 use Rattle.am_classes.specs.Alike.{HasAlikeIn, AreApart}
 use Rattle.am_complete.specs.declared.label_state.Completeness.TheVariants as state_is
 use Rattle.am_complete.specs.Complete.{label_texts, may_have}
 use Rattle.am_complete.specs.AskedLabel.{AskedLabel}
-use Rattle.am_complete.specs.FoundState.{IsFoundAt}
-use Rattle.am_complete.specs.LabelState.{StandForPossible}
+use Rattle.am_complete.specs.FoundState.{ArePossible, IsFoundAt}
 use Rattle.am_complete.proofs.ApartTexts.{apart_are_no_more, distinct_where_apart}
 use Rattle.am_complete.proofs.DeclaredLabels.{distinct_texts}
 use Rattle.am_complete.proofs.LabelTexts.{texts_by}
@@ -123,23 +123,23 @@ cut n most few is some = (omega arith, omega arith)
 -- ---- What is missing.
 
 -- a text of a part that stands for what the label may have
-pub lacks : (s : Space) (l : AskedLabel) (have part : List (List ℕ))
+pub lacks : (alphabet : Alphabet) (s : Space) (l : AskedLabel) (have part : List (List ℕ))
     (texts : List (String Global)) (text : String Global) → IsTrue (is_label_name l.name)
-    → StandForPossible s.impossible l.name l.matchers (map string_bytes texts)
+    → ArePossible alphabet s.impossible l.name l.matchers (map string_bytes texts)
     → have ≡ label_texts s.labels l.name
     → ((x : List ℕ) → IsIn part x → IsIn (map string_bytes texts) x)
-    → IsUtf8 (string_bytes text) × Contains part (string_bytes text)
-    × (HasAlikeIn l.matchers have (string_bytes text) → ⊥)
-    → IsFoundAt s l (state_is.Lacks text)
-lacks s l have part texts text named stand are within missing = (
-  named,
-  missing.0,
-  AllByRecursion-at (λ x. IsTrue (may_have s.impossible l.name x)) (map string_bytes texts)
-      (string_bytes text) stand.possible
-      (within (string_bytes text) (IsIn-from_Contains part (string_bytes text) missing.1)),
-  λ alike. missing.2 (subst
-      (λ (xs : List (List ℕ)). HasAlikeIn l.matchers xs (string_bytes text)) (sym are) alike),
-)
+    → Contains part (string_bytes text) × (HasAlikeIn l.matchers have (string_bytes text) → ⊥)
+    → IsFoundAt alphabet s l (state_is.Lacks text)
+lacks alphabet s l have part texts text named found are within missing =
+    let there = within (string_bytes text) (IsIn-from_Contains part (string_bytes text) missing.0) in (
+      named,
+      AllByRecursion-at (IsOver alphabet) (map string_bytes texts) (string_bytes text) found.over
+          there,
+      AllByRecursion-at (λ x. IsTrue (may_have s.impossible l.name x)) (map string_bytes texts)
+          (string_bytes text) found.possible there,
+      λ alike. missing.1 (subst
+          (λ (xs : List (List ℕ)). HasAlikeIn l.matchers xs (string_bytes text)) (sym are) alike),
+    )
 
 -- where one more than the label may have values are needed, one of them is missing
 pub one_is_missing : (ms : List Condition) (have : List (List ℕ))

@@ -11,7 +11,6 @@ use Rattle.std.proofs.lemmas.Bool.{and_from}
 use Rattle.std.proofs.lemmas.List.{length-map}
 use Rattle.std.proofs.lemmas.List.Folds.{list_all_more}
 use Rattle.std.proofs.lemmas.Option.{slice_get_within, get_or_from_slice_get}
-use Rattle.std.proofs.lemmas.Str.{IsUtf8-nil, IsUtf8-string_bytes}
 use Rattle.am_universe.specs.LabelSet.{LabelMap, value_of, with_value}
 use Rattle.am_universe.specs.Universe.{IsUniverse, is_label_name}
 use Rattle.am_universe.proofs.LabelMapLemmas.{removed_at, inserted_at}
@@ -21,12 +20,15 @@ use Rattle.am_universe.proofs.ListLemmas.{AllByRecursion-each, AllByRecursion-at
 use Rattle.am_labels.specs.Matcher.{Condition, holds, all_hold}
 use Rattle.am_labels.specs.Space.{Space}
 use Rattle.am_labels.proofs.Passing.{passes_from_kept, kept_from_passes}
-use Rattle.am_classes.specs.Alike.{AreAlike}
+use Rattle.am_classes.specs.declared.alphabet.Alphabet.{Alphabet}
+use Rattle.am_classes.specs.Alphabet.{IsOver, AreOver}
+use Rattle.am_classes.specs.Alike.{AreAlike, AreApart}
+use Rattle.am_classes.proofs.OverLemmas.{nil_over}
 use Rattle.am_complete.specs.Complete.{asks_only_of, matches_text, may_have, AreAmong}
 use Rattle.am_complete.specs.AskedLabel.{AskedLabel}
 use Rattle.am_complete.specs.Covering.{StandForAll}
 use Rattle.am_complete.specs.declared.label_state.Completeness.TheVariants as state_is
-use Rattle.am_complete.specs.FoundState.{HasThoseOfLists, IsFoundAt}
+use Rattle.am_complete.specs.FoundState.{ArePossible, HasThoseOfLists, IsFoundAt}
 use Rattle.am_complete.specs.LabelState.{CoverPossible, StandForPossible}
 use Rattle.am_complete.proofs.Alike.{alike_joined, alike_turned, only, absence_alike}
 use Rattle.am_complete.proofs.ChosenTexts.{alike, distinct_from_apart, apart_from_distinct_texts}
@@ -123,40 +125,61 @@ pub same_possible : (impossible : List (List Condition)) (l : AskedLabel) (x y :
 same_possible impossible l x y among alike =
     ap not (any_taken impossible l.name x y l.matchers among alike)
 
--- of texts that stand for all, those that the label may have stand for all that it may have
-pub stand_possible : (impossible : List (List Condition)) (l : AskedLabel)
-    (texts kept : List (List ℕ)) → HasThoseOfLists impossible l → StandForAll l.matchers texts
+-- of texts of which no two are alike, those that the label may have
+pub are_possible : (alphabet : Alphabet) (impossible : List (List Condition)) (l : AskedLabel)
+    (texts kept : List (List ℕ)) → AreOver alphabet texts → AreApart l.matchers texts
     → kept ≡ filter (may_have impossible l.name) texts
-    → StandForPossible impossible l.name l.matchers kept
-stand_possible impossible l texts kept among stand are =
-    subst (StandForPossible impossible l.name l.matchers) (sym are) filtered
-  where
-    test : List ℕ → Bool
-    test = may_have impossible l.name
-
-    filtered : StandForPossible impossible l.name l.matchers (filter test texts)
-    filtered = record {
-      cover = λ text valid possible.
-          let one = stand.0 text valid in
-          let kept = same_possible impossible l one.0 text among one.2 ∙ possible in
-          let there = kept_from_passes test texts one.0 (IsIn-from_Contains texts one.0 one.1)
-          kept in
-          (one.0, Contains-from_IsIn (filter test texts) one.0 there, one.2);
+    → ArePossible alphabet impossible l.name l.matchers kept
+are_possible alphabet impossible l texts kept over apart are =
+    subst (ArePossible alphabet impossible l.name l.matchers) (sym are) (record {
+      over = AllByRecursion-each (IsOver alphabet) (filter test texts)
+          (λ x i. AllByRecursion-at (IsOver alphabet) texts x over
+          (passes_from_kept test texts x i).0);
       possible = AllByRecursion-each (λ text. IsTrue (test text)) (filter test texts)
           (λ x i. (passes_from_kept test texts x i).1);
       apart = apart_from_distinct_texts l.matchers (filter test texts)
           (distinct_kept (alike l.matchers) test texts
-          (distinct_from_apart l.matchers texts stand.1));
+          (distinct_from_apart l.matchers texts apart));
+    })
+  where
+    test : List ℕ → Bool
+    test = may_have impossible l.name
+
+-- of texts that stand for all, they stand for all that it may have
+pub cover_possible : (alphabet : Alphabet) (impossible : List (List Condition)) (l : AskedLabel)
+    (texts kept : List (List ℕ)) → HasThoseOfLists impossible l
+    → StandForAll alphabet l.matchers texts → kept ≡ filter (may_have impossible l.name) texts
+    → CoverPossible alphabet impossible l.name l.matchers kept
+cover_possible alphabet impossible l texts kept among stand are =
+    subst (CoverPossible alphabet impossible l.name l.matchers) (sym are)
+    (λ text valid possible.
+    let one = stand.covers text valid in
+    let test = may_have impossible l.name in
+    let passes = same_possible impossible l one.0 text among one.2 ∙ possible in
+    let there = kept_from_passes test texts one.0 (IsIn-from_Contains texts one.0 one.1) passes in
+    (one.0, Contains-from_IsIn (filter test texts) one.0 there, one.2))
+
+pub stand_possible : (alphabet : Alphabet) (impossible : List (List Condition)) (l : AskedLabel)
+    (texts kept : List (List ℕ)) → HasThoseOfLists impossible l
+    → StandForAll alphabet l.matchers texts → kept ≡ filter (may_have impossible l.name) texts
+    → StandForPossible alphabet impossible l.name l.matchers kept
+stand_possible alphabet impossible l texts kept among stand are =
+    let some = are_possible alphabet impossible l texts kept stand.over stand.apart are in
+    record {
+      cover = cover_possible alphabet impossible l texts kept among stand are;
+      over = some.over;
+      possible = some.possible;
+      apart = some.apart;
     }
 
 -- ---- A label that is not declared, as no universe can declare it, has absence alone.
 
-module _ (impossible : List (List Condition)) (l : AskedLabel) where
+module _ (alphabet : Alphabet) (impossible : List (List Condition)) (l : AskedLabel) where
   abbrev Stand : List (List ℕ) → Type 0
-  Stand texts = StandForPossible impossible l.name l.matchers texts
+  Stand texts = StandForPossible alphabet impossible l.name l.matchers texts
 
   abbrev Covered : Type 0
-  Covered = CoverPossible impossible l.name l.matchers ([] ∷ [])
+  Covered = CoverPossible alphabet impossible l.name l.matchers ([] ∷ [])
 
   -- it is enough where the label may have no text
   pub none_found : (texts : List (String Global)) → length texts ≡ 0
@@ -171,16 +194,16 @@ module _ (impossible : List (List Condition)) (l : AskedLabel) where
       → Stand (map string_bytes texts) → IsTrue (may_have impossible l.name []) → Covered
   one_found [] one stand here text valid possible = absurd (omega (arith, one))
   one_found (x ∷ []) one stand here text valid possible =
-      absence_alike l.matchers (string_bytes x) text (stand.cover [] IsUtf8-nil here)
+      absence_alike l.matchers (string_bytes x) text (stand.cover [] (nil_over alphabet) here)
       (stand.cover text valid possible)
   one_found (x ∷ y ∷ texts) one stand here text valid possible = absurd (omega (arith, one))
 
   -- else absence is alike to each text that it covers
-  alike_to_none : (x : String Global) → Covered
+  alike_to_none : (x : String Global) → Covered → IsOver alphabet (string_bytes x)
       → IsTrue (may_have impossible l.name (string_bytes x))
       → AreAlike l.matchers [] (string_bytes x)
-  alike_to_none x covered possible =
-      let one = covered (string_bytes x) (IsUtf8-string_bytes x) possible in
+  alike_to_none x covered over possible =
+      let one = covered (string_bytes x) over possible in
       rw (only [] one.0 one.1) one.2
 
   pub one_missing : (texts : List (String Global)) → length texts ≡ 1
@@ -188,7 +211,7 @@ module _ (impossible : List (List Condition)) (l : AskedLabel) where
       → may_have impossible l.name [] ≡ false → Covered → ⊥
   one_missing [] one among stand taken covered = absurd (omega (arith, one))
   one_missing (x ∷ []) one among stand taken covered =
-      let alike = alike_to_none x covered stand.possible.0 in
+      let alike = alike_to_none x covered stand.over.0 stand.possible.0 in
       both_ways (may_have impossible l.name []) taken
       (same_possible impossible l [] (string_bytes x) among alike ∙ stand.possible.0)
   one_missing (x ∷ y ∷ texts) one among stand taken covered = absurd (omega (arith, one))
@@ -198,8 +221,8 @@ module _ (impossible : List (List Condition)) (l : AskedLabel) where
   more_missing [] some more stand covered = absurd (some refl)
   more_missing (x ∷ []) some more stand covered = absurd (more refl)
   more_missing (x ∷ y ∷ texts) some more stand covered =
-      let first = alike_to_none x covered stand.possible.0 in
-      let second = alike_to_none y covered stand.possible.1.0 in
+      let first = alike_to_none x covered stand.over.0 stand.possible.0 in
+      let second = alike_to_none y covered stand.over.1.0 stand.possible.1.0 in
       let e : 0 ≡ 1 = stand.apart 0 1 (string_bytes x) (string_bytes y) refl refl
       (alike_joined l.matchers (string_bytes x) [] (string_bytes y)
       (alike_turned l.matchers [] (string_bytes x) first) second) in
@@ -209,23 +232,23 @@ module _ (impossible : List (List Condition)) (l : AskedLabel) where
 no_label_name : (name : List ℕ) → is_label_name name ≡ false → IsTrue (is_label_name name) → ⊥
 no_label_name name unnamed named = both_ways (is_label_name name) unnamed named
 
-pub absence_stands : (s : Space) (l : AskedLabel) (texts : List (String Global)) (n : ℕ)
+pub absence_stands : (alphabet : Alphabet) (s : Space) (l : AskedLabel) (texts : List (String Global)) (n : ℕ)
     → IsUniverse s.labels → is_label_name l.name ≡ false
-    → StandForPossible s.impossible l.name l.matchers (map string_bytes texts)
-    → n ≡ length texts → CoverPossible s.impossible l.name l.matchers ([] ∷ [])
-    → IsFoundAt s l (state_is.Complete n)
-absence_stands s l texts n h unnamed stand count covered = (
-  subst (CoverPossible s.impossible l.name l.matchers)
+    → StandForPossible alphabet s.impossible l.name l.matchers (map string_bytes texts)
+    → n ≡ length texts → CoverPossible alphabet s.impossible l.name l.matchers ([] ∷ [])
+    → IsFoundAt alphabet s l (state_is.Complete n)
+absence_stands alphabet s l texts n h unnamed stand count covered = (
+  subst (CoverPossible alphabet s.impossible l.name l.matchers)
       (sym (undeclared_texts s.labels l.name h (no_label_name l.name unnamed))) covered,
   (map string_bytes texts, stand, length-map texts string_bytes ∙ sym count),
 )
 
-pub absence_fails : (s : Space) (l : AskedLabel) → IsUniverse s.labels
+pub absence_fails : (alphabet : Alphabet) (s : Space) (l : AskedLabel) → IsUniverse s.labels
     → is_label_name l.name ≡ false
-    → (CoverPossible s.impossible l.name l.matchers ([] ∷ []) → ⊥)
-    → IsFoundAt s l state_is.Undeclarable
-absence_fails s l h unnamed fails = (
+    → (CoverPossible alphabet s.impossible l.name l.matchers ([] ∷ []) → ⊥)
+    → IsFoundAt alphabet s l state_is.Undeclarable
+absence_fails alphabet s l h unnamed fails = (
   unnamed,
-  λ covered. fails (subst (CoverPossible s.impossible l.name l.matchers)
+  λ covered. fails (subst (CoverPossible alphabet s.impossible l.name l.matchers)
       (undeclared_texts s.labels l.name h (no_label_name l.name unnamed)) covered),
 )

@@ -3,11 +3,12 @@
 use Rattle.std.specs.Prelude.{◌≢◌, ℕ, List, [], ◌∷◌, map, Option, Some, None, unwrap_or}
 use Rattle.std.specs.Prelude.{Contains, IsTrue, Bool, not, ◌&&◌}
 use Rattle.std.specs.List.{filter, find, flat_map, AllByRecursion, list_all, list_any}
-use Rattle.std.specs.Str.{IsUtf8}
 use Rattle.am_universe.specs.Text.{same_text}
 use Rattle.am_universe.specs.Universe.{Label}
 use Rattle.am_labels.specs.Matcher.{Condition, holds}
 use Rattle.am_labels.specs.Space.{Space}
+use Rattle.am_classes.specs.declared.alphabet.Alphabet.{Alphabet}
+use Rattle.am_classes.specs.Alphabet.{IsOver}
 use Rattle.am_classes.specs.Alike.{HasAlikeIn}
 
 -- The matchers on one label, in order.
@@ -34,21 +35,21 @@ label_texts u name = texts_of_label (find (λ l. same_text l.name name) u)
 abbrev pub HasAlike : List Label → List Condition → List ℕ → List ℕ → Type 0
 HasAlike u ms name text = HasAlikeIn (about name ms) (label_texts u name) text
 
--- A universe is complete at a label, for some matchers: whatever text the label has, one of the
--- universe is alike to it.
+-- A universe is complete at a label, for some matchers: whatever text over an alphabet the label
+-- has, one of the universe is alike to it.
 -- Source: own choice.
 -- Example: for `team=~"db|web"` alone, a universe is complete at `team` with the values `db` and
 -- absence; it is not with `db` and `web`.
-abbrev pub IsCompleteAt : List Label → List Condition → List ℕ → Type 0
-IsCompleteAt u ms name = (text : List ℕ) → IsUtf8 text → HasAlike u ms name text
+abbrev pub IsCompleteAt : Alphabet → List Label → List Condition → List ℕ → Type 0
+IsCompleteAt a u ms name = (text : List ℕ) → IsOver a text → HasAlike u ms name text
 
 -- A universe is complete for some matchers: it is at each label that an alert may have, whatever
 -- its name is.
 -- Source: own choice.
 -- Example: for no matchers every universe is complete, the one without labels too. For
 -- `a:b="x"` none is: no universe can declare `a:b`.
-abbrev pub IsComplete : List Label → List Condition → Type 0
-IsComplete u ms = (name : List ℕ) → name ≢ [] → IsCompleteAt u ms name
+abbrev pub IsComplete : Alphabet → List Label → List Condition → Type 0
+IsComplete a u ms = (name : List ℕ) → name ≢ [] → IsCompleteAt a u ms name
 
 -- An impossible list asks of one label alone.
 -- Source: own choice.
@@ -69,21 +70,21 @@ abbrev pub may_have : List (List Condition) → List ℕ → List ℕ → Bool
 may_have impossible name text =
     not (list_any (λ list. asks_only_of name list && matches_text text list) impossible)
 
--- A space is complete at a label, for some matchers: whatever text the label may have, one of the
--- universe is alike to it.
+-- A space is complete at a label, for some matchers: whatever text over an alphabet the label may
+-- have, one of the universe is alike to it.
 -- Source: own choice.
 -- Example: for `team="db"` and `team!~"db|web"`, where the latter is impossible, a space is
 -- complete at `team` with the values `db` and `web`, since no alert has another text there.
-abbrev pub IsSpaceCompleteAt : Space → List Condition → List ℕ → Type 0
-IsSpaceCompleteAt s ms name =
-    (text : List ℕ) → IsUtf8 text → IsTrue (may_have s.impossible name text)
+abbrev pub IsSpaceCompleteAt : Alphabet → Space → List Condition → List ℕ → Type 0
+IsSpaceCompleteAt a s ms name =
+    (text : List ℕ) → IsOver a text → IsTrue (may_have s.impossible name text)
     → HasAlike s.labels ms name text
 
 -- A space is complete for some matchers: it is at each label that an alert may have.
 -- Source: own choice.
 -- Example: where nothing is impossible, it is where its universe is complete.
-abbrev pub IsSpaceComplete : Space → List Condition → Type 0
-IsSpaceComplete s ms = (name : List ℕ) → name ≢ [] → IsSpaceCompleteAt s ms name
+abbrev pub IsSpaceComplete : Alphabet → Space → List Condition → Type 0
+IsSpaceComplete a s ms = (name : List ℕ) → name ≢ [] → IsSpaceCompleteAt a s ms name
 
 -- Each of some matchers is one of others.
 abbrev pub AreAmong : List Condition → List Condition → Type 0

@@ -3,12 +3,13 @@ use Rattle.std.specs.Prelude.{◌≡◌, ◌≢◌, ◌⊎◌, ℕ, List, [], �
 use Rattle.std.specs.Prelude.{Option, Some, None}
 use Rattle.std.specs.Prelude.{string_bytes, IsTrue}
 use Rattle.std.specs.List.{list_any, AllByRecursion}
-use Rattle.std.specs.Str.{IsUtf8}
 use Rattle.am_universe.specs.LabelSet.{LabelMap, value_of}
 use Rattle.am_universe.specs.Universe.{is_label_name}
 use Rattle.am_labels.specs.Matcher.{Condition}
 use Rattle.am_labels.specs.Space.{Space}
-use Rattle.am_classes.specs.Alike.{HasAlikeIn, HasPattern}
+use Rattle.am_classes.specs.declared.alphabet.Alphabet.{Alphabet}
+use Rattle.am_classes.specs.Alphabet.{IsOver, AreOver}
+use Rattle.am_classes.specs.Alike.{HasAlikeIn, AreApart, HasPattern}
 use Rattle.am_complete.specs.declared.label_state.Completeness.{Completeness}
 use Rattle.am_complete.specs.declared.label_state.Completeness.TheVariants as state_is
 use Rattle.am_complete.specs.declared.label_state.LabelState.{LabelState}
@@ -19,22 +20,29 @@ use Rattle.am_complete.specs.LabelState.{CoverPossible, HasClasses, IsSoIfNamed,
 -- What is found at a label with some texts is so, for the matchers on it, where these lists are
 -- impossible.
 abbrev pub IsFoundOf :
-    List (List Condition) → AskedLabel → List (List ℕ) → Completeness → Type 0
-IsFoundOf impossible l texts (state_is.Complete classes) =
-    CoverPossible impossible l.name l.matchers texts
-    × HasClasses impossible l.name l.matchers classes
-IsFoundOf impossible l texts (state_is.Lacks text) =
-    IsTrue (is_label_name l.name) × IsUtf8 (string_bytes text)
+    Alphabet → List (List Condition) → AskedLabel → List (List ℕ) → Completeness → Type 0
+IsFoundOf a impossible l texts (state_is.Complete classes) =
+    CoverPossible a impossible l.name l.matchers texts
+    × HasClasses a impossible l.name l.matchers classes
+IsFoundOf a impossible l texts (state_is.Lacks text) =
+    IsTrue (is_label_name l.name) × IsOver a (string_bytes text)
     × IsTrue (may_have impossible l.name (string_bytes text))
     × (HasAlikeIn l.matchers texts (string_bytes text) → ⊥)
-IsFoundOf impossible l texts state_is.Unasked = ⊥
-IsFoundOf impossible l texts state_is.Undeclarable =
-    (is_label_name l.name ≡ false) × (CoverPossible impossible l.name l.matchers texts → ⊥)
-IsFoundOf impossible l texts (state_is.Unproved origin) =
+IsFoundOf a impossible l texts state_is.Unasked = ⊥
+IsFoundOf a impossible l texts state_is.Undeclarable =
+    (is_label_name l.name ≡ false) × (CoverPossible a impossible l.name l.matchers texts → ⊥)
+IsFoundOf a impossible l texts (state_is.Unproved origin) =
     (l.first ≡ origin) × HasPattern l.matchers
 
-abbrev pub IsFoundAt : Space → AskedLabel → Completeness → Type 0
-IsFoundAt s l found = IsFoundOf s.impossible l (label_texts s.labels l.name) found
+abbrev pub IsFoundAt : Alphabet → Space → AskedLabel → Completeness → Type 0
+IsFoundAt a s l found = IsFoundOf a s.impossible l (label_texts s.labels l.name) found
+
+-- Some texts are over an alphabet, a label may have each of them, and no two are alike.
+pub record ArePossible (a : Alphabet) (impossible : List (List Condition)) (name : List ℕ)
+    (ms : List Condition) (texts : List (List ℕ)) : Type 0 where
+  pub over : AreOver a texts
+  pub possible : AllByRecursion (λ text. IsTrue (may_have impossible name text)) texts
+  pub apart : AreApart ms texts
 
 -- The matchers of the impossible lists that ask of a label alone are among those on it.
 abbrev pub HasThoseOfLists : List (List Condition) → AskedLabel → Type 0
@@ -65,23 +73,24 @@ is_unseen (Some alerts) name = not (list_any (has_label name) alerts)
 
 -- The state of a label that is asked of: its name, what is found there, unless the name is the
 -- empty text, and whether it is unseen.
-pub record IsSoOfAsked (s : Space) (l : AskedLabel) (alerts : Option (List LabelMap))
-    (state : LabelState) : Type 0 where
+pub record IsSoOfAsked (a : Alphabet) (s : Space) (l : AskedLabel)
+    (alerts : Option (List LabelMap)) (state : LabelState) : Type 0 where
   pub name : string_bytes state.name ≡ l.name
-  pub found : l.name ≢ [] → IsFoundAt s l state.completeness
+  pub found : l.name ≢ [] → IsFoundAt a s l state.completeness
   pub unseen : state.unseen ≡ is_unseen alerts (string_bytes state.name)
 
 -- And a state that is so for all matchers that ask of some labels, whatever these are.
-pub record IsSoOfName (s : Space) (asked : List AskedLabel) (alerts : Option (List LabelMap))
-    (state : LabelState) : Type 0 where
+pub record IsSoOfName (a : Alphabet) (s : Space) (asked : List AskedLabel)
+    (alerts : Option (List LabelMap)) (state : LabelState) : Type 0 where
   pub so : (ms : List Condition) → IsAskedOf asked ms
-      → IsSoIfNamed s ms asked (string_bytes state.name) state.completeness
+      → IsSoIfNamed a s ms asked (string_bytes state.name) state.completeness
   pub unseen : state.unseen ≡ is_unseen alerts (string_bytes state.name)
 
 -- The state of a label that is asked of stands behind others, where that is not declared.
 abbrev pub IsWithState :
-    Space → AskedLabel → Option (List LabelMap) → List LabelState → List LabelState → Type 0
-IsWithState s l alerts before after =
+    Alphabet → Space → AskedLabel → Option (List LabelMap) → List LabelState → List LabelState
+    → Type 0
+IsWithState a s l alerts before after =
     ((is_declared s.labels l.name ≡ true) × (after ≡ before))
     ⊎ ((is_declared s.labels l.name ≡ false)
-    × ((state : LabelState) × (after ≡ before ++ state ∷ []) × IsSoOfAsked s l alerts state))
+    × ((state : LabelState) × (after ≡ before ++ state ∷ []) × IsSoOfAsked a s l alerts state))

@@ -2,43 +2,48 @@
 use Rattle.std.specs.Prelude.{◌≡◌, ◌≢◌, ℕ, List, [], ◌++◌, length, Bool, true, false, not}
 use Rattle.std.specs.Prelude.{Contains, string_bytes, IsTrue}
 use Rattle.std.specs.List.{filter, list_any, AllByRecursion}
-use Rattle.std.specs.Str.{IsUtf8}
 use Rattle.am_universe.specs.Text.{same_text}
 use Rattle.am_universe.specs.Universe.{Label, is_label_name, names}
 use Rattle.am_labels.specs.Matcher.{Condition}
 use Rattle.am_labels.specs.Space.{Space}
+use Rattle.am_classes.specs.declared.alphabet.Alphabet.{Alphabet}
+use Rattle.am_classes.specs.Alphabet.{IsOver, AreOver}
 use Rattle.am_classes.specs.Alike.{HasAlikeIn, AreApart, HasPattern}
 use Rattle.am_complete.specs.declared.label_state.Completeness.{Completeness}
 use Rattle.am_complete.specs.declared.label_state.Completeness.TheVariants as state_is
 use Rattle.am_complete.specs.Complete.{about, HasAlike, may_have, IsSpaceCompleteAt}
 use Rattle.am_complete.specs.AskedLabel.{AskedLabel, asked_names}
 
--- Some texts cover all that a label may have: whatever text that is, one of them is alike to it.
+-- Some texts cover all over an alphabet that a label may have: whatever text that is, one of them
+-- is alike to it.
 -- Source: own choice.
 -- Example: to `team="db"`, where `team!="db"` is impossible, `db` alone covers all.
 abbrev pub CoverPossible :
-    List (List Condition) → List ℕ → List Condition → List (List ℕ) → Type 0
-CoverPossible impossible name ms texts =
-    (text : List ℕ) → IsUtf8 text → IsTrue (may_have impossible name text)
+    Alphabet → List (List Condition) → List ℕ → List Condition → List (List ℕ) → Type 0
+CoverPossible a impossible name ms texts =
+    (text : List ℕ) → IsOver a text → IsTrue (may_have impossible name text)
     → HasAlikeIn ms texts text
 
--- They stand for all that it may have, and each of them is needed: they cover all, the label may
--- have each, and no two are alike.
+-- They stand for all that it may have, and each of them is needed: they cover all, they are over
+-- the alphabet, the label may have each, and no two are alike.
 -- Source: own choice.
 -- Example: to `team="db"` and `team!~"db|web"`, where the latter is impossible, `db` and `web` do.
-pub record StandForPossible (impossible : List (List Condition)) (name : List ℕ)
+pub record StandForPossible (a : Alphabet) (impossible : List (List Condition)) (name : List ℕ)
     (ms : List Condition) (texts : List (List ℕ)) : Type 0 where
-  pub cover : CoverPossible impossible name ms texts
+  pub cover : CoverPossible a impossible name ms texts
+  pub over : AreOver a texts
   pub possible : AllByRecursion (λ text. IsTrue (may_have impossible name text)) texts
   pub apart : AreApart ms texts
 
--- There are so many classes of texts that a label may have and some matchers cannot tell apart.
+-- There are so many classes of texts over an alphabet that a label may have and some matchers
+-- cannot tell apart.
 -- Source: own choice.
 -- Example: for `team="db"` and `team="web"` there are three: `db`, `web`, and all other texts;
 -- and two of them where `team!~"db|web"` is asked too and is impossible.
-abbrev pub HasClasses : List (List Condition) → List ℕ → List Condition → ℕ → Type 0
-HasClasses impossible name ms n =
-    (texts : List (List ℕ)) × StandForPossible impossible name ms texts × (length texts ≡ n)
+abbrev pub HasClasses :
+    Alphabet → List (List Condition) → List ℕ → List Condition → ℕ → Type 0
+HasClasses a impossible name ms n =
+    (texts : List (List ℕ)) × StandForPossible a impossible name ms texts × (length texts ≡ n)
 
 -- What is said of a space at the label of a name is so: it is complete there, and the label may
 -- have texts of so many classes; the label, which has a label name, may have this text, and no text
@@ -49,24 +54,25 @@ HasClasses impossible name ms n =
 -- Example: for `team="db"` alone, a universe with `db` and absence is complete at `team`, which has
 -- two classes, and one with `db` and `web` is so too; one with `web` alone lacks `db`. For
 -- `a:b="x"` alone each is `undeclarable` at `a:b`, and for `a:b=~"(?s).*"` each is complete there.
-abbrev pub IsSoAt : Space → List Condition → List AskedLabel → List ℕ → Completeness → Type 0
-IsSoAt s ms asked name (state_is.Complete classes) =
-    IsSpaceCompleteAt s ms name × HasClasses s.impossible name (about name ms) classes
-IsSoAt s ms asked name (state_is.Lacks text) =
-    IsTrue (is_label_name name) × IsUtf8 (string_bytes text)
+abbrev pub IsSoAt :
+    Alphabet → Space → List Condition → List AskedLabel → List ℕ → Completeness → Type 0
+IsSoAt a s ms asked name (state_is.Complete classes) =
+    IsSpaceCompleteAt a s ms name × HasClasses a s.impossible name (about name ms) classes
+IsSoAt a s ms asked name (state_is.Lacks text) =
+    IsTrue (is_label_name name) × IsOver a (string_bytes text)
     × IsTrue (may_have s.impossible name (string_bytes text))
     × (HasAlike s.labels ms name (string_bytes text) → ⊥)
-IsSoAt s ms asked name state_is.Unasked = about name ms ≡ []
-IsSoAt s ms asked name state_is.Undeclarable =
-    (is_label_name name ≡ false) × (IsSpaceCompleteAt s ms name → ⊥)
-IsSoAt s ms asked name (state_is.Unproved origin) =
+IsSoAt a s ms asked name state_is.Unasked = about name ms ≡ []
+IsSoAt a s ms asked name state_is.Undeclarable =
+    (is_label_name name ≡ false) × (IsSpaceCompleteAt a s ms name → ⊥)
+IsSoAt a s ms asked name (state_is.Unproved origin) =
     ((l : AskedLabel) × Contains asked l × (l.name ≡ name) × (l.first ≡ origin))
     × HasPattern (about name ms)
 
 -- The same, unless the name is the empty text: no matcher has it, and no label.
 abbrev pub IsSoIfNamed :
-    Space → List Condition → List AskedLabel → List ℕ → Completeness → Type 0
-IsSoIfNamed s ms asked name state = name ≢ [] → IsSoAt s ms asked name state
+    Alphabet → Space → List Condition → List AskedLabel → List ℕ → Completeness → Type 0
+IsSoIfNamed a s ms asked name state = name ≢ [] → IsSoAt a s ms asked name state
 
 -- Nothing is missing there: the space is complete at the label.
 abbrev pub is_settled : Completeness → Bool

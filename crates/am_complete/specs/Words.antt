@@ -1,4 +1,5 @@
 -- The words of clauses: what the contracts of this crate, and of those above it, cite.
+pub use Rattle.am_classes.specs.Words.{IsOrdinary, IsOver, AreOver, is_over}
 pub use Rattle.am_classes.specs.Words.{AreAlike, HasAlikeIn, Covers, AreApart, HasPattern}
 pub use Rattle.am_complete.specs.Complete.{about, label_texts, HasAlike, IsCompleteAt, IsComplete}
 pub use Rattle.am_complete.specs.Complete.{AreAmong, asks_only_of, may_have, impossible_conditions}
@@ -7,6 +8,7 @@ pub use Rattle.am_complete.specs.AskedLabel.{AskedLabel, asked_names, with_asked
 pub use Rattle.am_complete.specs.AskedLabel.{IsAskedOf}
 pub use Rattle.am_complete.specs.Gathering.{IsIndexed}
 pub use Rattle.am_complete.specs.Covering.{StandForAll, StandsForEachBut, HasApartValues}
+pub use Rattle.am_complete.specs.Covering.{HasTextsOver}
 pub use Rattle.am_complete.specs.Room.{HasMoreClasses, NeedsMoreValues, HaveTooManyClasses}
 pub use Rattle.am_complete.specs.Room.{AreTooMany, HaveNoRoom, MayBeUnproved, AreUnproved}
 pub use Rattle.am_complete.specs.LabelState.{StandForPossible, HasClasses, IsSoAt, IsSoIfNamed}

@@ -3,19 +3,19 @@
 ghost use Rattle.std.specs.Prelude.{◌≡◌, ◌≢◌, ◌<◌, ◌≤◌, ◌∷◌, [], IfOk, IfSome, IfNone};
 ghost use Rattle.std.specs.Prelude.{IsTrue, false, Contains, length, map, string_bytes, unwrap_or};
 ghost use Rattle.std.specs.List.{AllByRecursion};
-ghost use Rattle.std.specs.Str.{IsUtf8};
 ghost use Rattle.am_universe.specs.declared.limits.TheConstants.{MAX_VALUES};
 ghost use Rattle.am_labels.specs.Words.{values_at, is_label_name, IsUniverse};
 ghost use Rattle.am_complete.specs.Words.{label_texts, HasAlikeIn, AreApart, StandForAll};
-ghost use Rattle.am_complete.specs.Words.{StandForPossible};
-ghost use Rattle.am_complete.specs.FoundState.{IsAskedFor, IsFoundAt};
+ghost use Rattle.am_complete.specs.Words.{AreOver, HasPattern};
+ghost use Rattle.am_complete.specs.LabelState.{CoverPossible};
+ghost use Rattle.am_complete.specs.FoundState.{ArePossible, IsAskedFor, IsFoundAt};
 
 use crate::made_universe::is_label_name;
 use crate::possible_texts::{may_have, possible_texts};
 use crate::representatives::representatives;
 use crate::truths::Truths;
 use crate::{AskedLabel, Completeness};
-use am_classes::classes;
+use am_classes::{Alphabet, classes};
 use am_files::Alerts;
 use am_labels::{Space, Universe};
 use am_universe::limits::MAX_VALUES;
@@ -25,28 +25,56 @@ use std::alloc::{AllocError, Global};
 /// Of texts that are missing the first is told, as a made universe has them.
 pub(crate) fn completeness_at(
     alloc: Global,
+    alphabet: Alphabet,
     space: &Space,
     label: &AskedLabel<'_>,
     alerts: Option<&Alerts>,
 ) -> Result<Completeness, AllocError>
     requires universe { IsUniverse space.now.labels }
     requires asked { label.now.name ≢ [] → IsAskedFor space.now.impossible label.now }
-    ensures { label.now.name ≢ [] → IfOk result (IsFoundAt space.now label.now) }
+    ensures { label.now.name ≢ [] → IfOk result (IsFoundAt alphabet space.now label.now) }
 {
-    let Some(texts) = classes(alloc, label.matchers())? else {
+    let Some(classes) = classes(alloc, alphabet, label.matchers())? else {
         return Ok(Completeness::Unproved(label.first()));
     };
-    if is_label_name(alloc, label.name()) {
-        completeness_by(alloc, space, label, alerts, texts)
-    } else {
-        completeness_by_absence(alloc, space, label, texts)
+    if !classes.all {
+        return completeness_by_many(alloc, alphabet, space, label, classes.texts);
     }
+    if is_label_name(alloc, label.name()) {
+        completeness_by(alloc, alphabet, space, label, alerts, classes.texts)
+    } else {
+        completeness_by_absence(alloc, alphabet, space, label, classes.texts)
+    }
+}
+
+/// The same, where these are more texts than a label may have values, and there are further
+/// classes. If the label may have as many of these, each universe lacks one.
+fn completeness_by_many(
+    alloc: Global,
+    alphabet: Alphabet,
+    space: &Space,
+    label: &AskedLabel<'_>,
+    texts: Vec<String>,
+) -> Result<Completeness, AllocError>
+    requires universe { IsUniverse space.now.labels }
+    requires asked { label.now.name ≢ [] → IsAskedFor space.now.impossible label.now }
+    requires over { AreOver alphabet (map string_bytes texts.items) }
+    requires apart { AreApart label.now.matchers (map string_bytes texts.items) }
+    requires pattern { HasPattern label.now.matchers }
+    ensures { label.now.name ≢ [] → IfOk result (IsFoundAt alphabet space.now label.now) }
+{
+    let texts = possible_texts(alloc, space.impossible(), label.name(), texts)?;
+    if texts.len() <= MAX_VALUES || !is_label_name(alloc, label.name()) {
+        return Ok(Completeness::Unproved(label.first()));
+    }
+    completeness_over(alloc, alphabet, space, label, texts.as_slice())
 }
 
 /// The same, where no universe can declare the label, and these are one text for each class of
 /// texts. The label has absence alone.
 fn completeness_by_absence(
     alloc: Global,
+    alphabet: Alphabet,
     space: &Space,
     label: &AskedLabel<'_>,
     texts: Vec<String>,
@@ -54,8 +82,8 @@ fn completeness_by_absence(
     requires universe { IsUniverse space.now.labels }
     requires unnamed { is_label_name label.now.name ≡ false }
     requires asked { label.now.name ≢ [] → IsAskedFor space.now.impossible label.now }
-    requires stand { StandForAll label.now.matchers (map string_bytes texts.items) }
-    ensures { label.now.name ≢ [] → IfOk result (IsFoundAt space.now label.now) }
+    requires stand { StandForAll alphabet label.now.matchers (map string_bytes texts.items) }
+    ensures { label.now.name ≢ [] → IfOk result (IsFoundAt alphabet space.now label.now) }
 {
     let texts = possible_texts(alloc, space.impossible(), label.name(), texts)?;
     let classes = texts.len();
@@ -72,6 +100,7 @@ fn completeness_by_absence(
 /// texts.
 fn completeness_by(
     alloc: Global,
+    alphabet: Alphabet,
     space: &Space,
     label: &AskedLabel<'_>,
     alerts: Option<&Alerts>,
@@ -80,17 +109,19 @@ fn completeness_by(
     requires universe { IsUniverse space.now.labels }
     requires named { IsTrue (is_label_name label.now.name) }
     requires asked { IsAskedFor space.now.impossible label.now }
-    requires stand { StandForAll label.now.matchers (map string_bytes texts.items) }
-    ensures { IfOk result (IsFoundAt space.now label.now) }
+    requires stand { StandForAll alphabet label.now.matchers (map string_bytes texts.items) }
+    ensures { IfOk result (IsFoundAt alphabet space.now label.now) }
 {
-    let texts = representatives(alloc, label, alerts, texts)?;
+    let texts = representatives(alloc, alphabet, label, alerts, texts)?;
     let texts = possible_texts(alloc, space.impossible(), label.name(), texts)?;
-    completeness_over(alloc, space, label, texts.as_slice())
+    completeness_over(alloc, alphabet, space, label, texts.as_slice())
 }
 
-/// The same, where these are one text for each class of texts that the label may have.
+/// The same, where these are texts of classes that the label may have: of all of them, unless they
+/// are more than a label may have values.
 fn completeness_over(
     alloc: Global,
+    alphabet: Alphabet,
     space: &Space,
     label: &AskedLabel<'_>,
     texts: &[String],
@@ -98,9 +129,11 @@ fn completeness_over(
     requires universe { IsUniverse space.now.labels }
     requires named { IsTrue (is_label_name label.now.name) }
     requires on { AllByRecursion (λ m. m.name ≡ label.now.name) label.now.matchers }
-    requires stand { StandForPossible space.now.impossible label.now.name label.now.matchers
-        (map string_bytes texts.now) }
-    ensures { IfOk result (IsFoundAt space.now label.now) }
+    requires possible { ArePossible alphabet space.now.impossible label.now.name
+        label.now.matchers (map string_bytes texts.now) }
+    requires cover { length texts.now ≤ MAX_VALUES → CoverPossible alphabet space.now.impossible
+        label.now.name label.now.matchers (map string_bytes texts.now) }
+    ensures { IfOk result (IsFoundAt alphabet space.now label.now) }
 {
     let values = texts_in(alloc, space.universe(), label.name())?;
     let Some(have) = Truths::of(alloc, label.name(), label.matchers(), values.as_slice())? else {
@@ -133,8 +166,8 @@ fn missing_text(
     requires matchers { have.now.matchers ≡ label.now.matchers }
     requires few { length texts.now ≤ MAX_VALUES }
     requires apart { AreApart label.now.matchers (map string_bytes texts.now) }
-    ensures missing { IfOk result (λ found. IfSome found (λ text. IsUtf8 (string_bytes text)
-        × Contains (map string_bytes texts.now) (string_bytes text)
+    ensures missing { IfOk result (λ found. IfSome found (λ text.
+        Contains (map string_bytes texts.now) (string_bytes text)
         × (HasAlikeIn label.now.matchers have.now.texts (string_bytes text) → ⊥))) }
     ensures none { IfOk result (λ found. IfNone found (AllByRecursion
         (HasAlikeIn label.now.matchers have.now.texts) (map string_bytes texts.now))) }
@@ -191,8 +224,8 @@ fn first_missing(
     wanted: &Truths<'_>,
 ) -> Result<Option<String>, AllocError>
     requires { have.now.matchers ≡ wanted.now.matchers }
-    ensures missing { IfOk result (λ found. IfSome found (λ text. IsUtf8 (string_bytes text)
-        × Contains wanted.now.texts (string_bytes text)
+    ensures missing { IfOk result (λ found. IfSome found (λ text.
+        Contains wanted.now.texts (string_bytes text)
         × (HasAlikeIn have.now.matchers have.now.texts (string_bytes text) → ⊥))) }
     ensures none { IfOk result (λ found. IfNone found
         (AllByRecursion (HasAlikeIn have.now.matchers have.now.texts) wanted.now.texts)) }

@@ -3,12 +3,14 @@
 ghost use Rattle.std.specs.Prelude.{◌≡◌, ◌≤◌, IfOk, length, map, string_bytes};
 ghost use Rattle.std.specs.List.{AllByRecursion};
 ghost use Rattle.am_universe.specs.declared.limits.TheConstants.{MAX_VALUES};
-ghost use Rattle.am_complete.specs.Words.{AreApart};
+ghost use Rattle.am_classes.specs.declared.alphabet.Alphabet.{Alphabet};
+ghost use Rattle.am_complete.specs.Words.{AreApart, AreOver};
 
 use crate::AskedLabel;
 use crate::representatives::put_in_order;
 use crate::truths::Truths;
-use crate::usual_texts::{push_new, usual_texts};
+use crate::usual_texts::{push_new, texts_over, usual_texts};
+use am_classes::Alphabet;
 use am_files::Alerts;
 use am_labels::Op;
 use std::alloc::{AllocError, Global};
@@ -18,15 +20,17 @@ use std::alloc::{AllocError, Global};
 /// order of a label's values. They need not stand for all texts.
 pub(crate) fn found_texts(
     alloc: Global,
+    alphabet: Alphabet,
     label: &AskedLabel<'_>,
     alerts: Option<&Alerts>,
 ) -> Result<Vec<String>, AllocError>
     requires on { AllByRecursion (λ m. m.name ≡ label.now.name) label.now.matchers }
     ensures apart { IfOk result (λ texts.
         AreApart label.now.matchers (map string_bytes texts.items)) }
+    ensures over { IfOk result (λ texts. AreOver alphabet (map string_bytes texts.items)) }
     ensures few { IfOk result (λ texts. length texts.items ≤ MAX_VALUES) }
 {
-    let texts = texts_to_try(alloc, label, alerts)?;
+    let texts = texts_to_try(alloc, alphabet, label, alerts)?;
     let tried = Truths::of(alloc, label.name(), label.matchers(), texts.as_slice())?;
     let mut found = match tried {
         Some(tried) => first_of_each_class(alloc, &tried)?,
@@ -40,6 +44,8 @@ pub(crate) fn found_texts(
 fn first_of_each_class(alloc: Global, tried: &Truths<'_>) -> Result<Vec<String>, AllocError>
     ensures apart { IfOk result (λ texts.
         AreApart tried.now.matchers (map string_bytes texts.items)) }
+    ensures over { IfOk result (λ texts. (a : Alphabet) → AreOver a tried.now.texts
+        → AreOver a (map string_bytes texts.items)) }
     ensures few { IfOk result (λ texts. length texts.items ≤ length tried.now.texts) }
 {
     let mut found = Vec::new(alloc);
@@ -52,12 +58,15 @@ fn first_of_each_class(alloc: Global, tried: &Truths<'_>) -> Result<Vec<String>,
     Ok(found)
 }
 
-/// The texts that are tried.
+/// The texts that are tried, as far as they are over the alphabet.
 fn texts_to_try(
     alloc: Global,
+    alphabet: Alphabet,
     label: &AskedLabel<'_>,
     alerts: Option<&Alerts>,
-) -> Result<Vec<String>, AllocError> {
+) -> Result<Vec<String>, AllocError>
+    ensures { IfOk result (λ texts. AreOver alphabet (map string_bytes texts.items)) }
+{
     let mut texts = Vec::new(alloc);
     for matcher in label.matchers() {
         if matches!(matcher.op(), Op::Equal | Op::NotEqual) {
@@ -73,7 +82,7 @@ fn texts_to_try(
             push_words(alloc, &mut texts, matcher.value())?;
         }
     }
-    Ok(texts)
+    texts_over(alloc, alphabet, texts)
 }
 
 /// Adds the words of a pattern: runs of letters, digits, `_` and `-`. A character behind a

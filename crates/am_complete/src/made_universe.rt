@@ -2,7 +2,8 @@
 
 ghost use Rattle.std.specs.Prelude.{◌≡◌, ◌≢◌, ◌++◌, ◌∷◌, ◌<◌, ℕ, [], List, length, map, Contains};
 ghost use Rattle.std.specs.Prelude.{IfOk, IfErr, OnOk, IsTrue, string_bytes, unwrap_or, option_map};
-ghost use Rattle.std.specs.Prelude.{false};
+ghost use Rattle.std.specs.Prelude.{◌≤◌, false, vec_len};
+ghost use Rattle.am_universe.specs.declared.limits.TheConstants.{MAX_VALUES};
 ghost use Rattle.std.specs.List.{AllByRecursion, IsDistinct};
 ghost use Rattle.am_universe.specs.Text.{same_text};
 ghost use Rattle.am_universe.specs.Universe.{is_empty_text};
@@ -11,6 +12,7 @@ ghost use Rattle.am_labels.specs.Words.{is_label_name, Label, IsUniverse, names}
 ghost use Rattle.am_labels.specs.Words.{texts_of, Condition};
 ghost use Rattle.am_complete.specs.Words.{AreApart, Covers, IsAskedOf, IsComplete, label_texts};
 ghost use Rattle.am_complete.specs.Words.{StandForAll, StandsForEachBut, HasApartValues};
+ghost use Rattle.am_complete.specs.Words.{AreOver, HasTextsOver};
 ghost use Rattle.am_complete.specs.Words.{AreUnproved, HaveNoRoom, MayBeUnproved};
 ghost use Rattle.am_complete.specs.Covering.{IsWithAtMost, IsWithLabel, IsLimitOrMemory};
 ghost use Rattle.am_complete.specs.Room.{IsFullFor, HasNoRoomIn, IsSettled};
@@ -18,7 +20,7 @@ ghost use Rattle.am_complete.specs.Room.{IsFullFor, HasNoRoomIn, IsSettled};
 use crate::AskedLabel;
 use crate::found_texts::found_texts;
 use crate::representatives::representatives;
-use am_classes::classes;
+use am_classes::{Alphabet, ClassTexts, classes};
 use am_files::Alerts;
 use am_labels::{Kind, Universe};
 use std::alloc::{AllocError, Global};
@@ -45,38 +47,50 @@ pub struct MakingFault {
     pub label: usize,
 }
 
-/// The smallest universe in which each label that is asked of has, whatever text it has in an
-/// alert, a value that its matchers cannot tell from that: for each class of texts one value, and
-/// no label where there is one class alone. Its labels are in the order in which they are asked of.
+/// The smallest universe in which each label that is asked of has, whatever text over the alphabet
+/// it has in an alert, a value that its matchers cannot tell from that: for each class of texts one
+/// value, and no label where there is one class alone. Its labels are in the order in which they
+/// are asked of.
 ///
-/// First stand the values that matchers name, in their order; then those of other classes, each
-/// that which most of the alerts have, or else `other`, or else a short one; then absence; and last
+/// First stands absence; then the values that matchers name, in their order; then those of other
+/// classes, each that which most of the alerts have, or else `other`, or else a short one; and last
 /// values with a line feed. A label whose classes could not be computed has values that were found,
 /// and may lack some. A name that is no label name is not declared. `Limit` where there is no room
 /// for a label or its classes; `Memory`.
 pub fn universe_of(
     alloc: Global,
+    alphabet: Alphabet,
     asked: &[AskedLabel<'_>],
     alerts: Option<&Alerts>,
 ) -> Result<MadeUniverse, MakingFault>
     requires { (ms : List Condition) × IsAskedOf asked.now ms }
     ensures universe { IfOk result (λ made. IsUniverse made.universe) }
     ensures stands { IfOk result (λ made.
-        StandsForEachBut made.universe asked.now made.unproved.items) }
+        StandsForEachBut alphabet made.universe asked.now made.unproved.items) }
     ensures within { IfOk result (λ made.
         AllByRecursion (λ i. i < length asked.now) made.unproved.items) }
-    ensures unproved { IfOk result (λ made. AreUnproved asked.now made.unproved.items) }
+    ensures unproved { IfOk result (λ made. AreUnproved alphabet asked.now made.unproved.items) }
     ensures apart { IfOk result (λ made. (ms : List Condition) → IsAskedOf asked.now ms
         → HasApartValues made.universe ms) }
     ensures complete { IfOk result (λ made. made.unproved.items ≡ []
-        → (ms : List Condition) → IsAskedOf asked.now ms → IsComplete made.universe ms) }
+        → (ms : List Condition) → IsAskedOf asked.now ms → IsComplete alphabet made.universe ms) }
+    ensures over { IfOk result (λ made. HasTextsOver alphabet made.universe) }
     ensures kind { IfErr result (λ fault. IsLimitOrMemory fault.kind) }
-    ensures limit { IfErr result (λ fault. fault.kind ≡ kinds.Limit → HaveNoRoom asked.now) }
+    ensures limit { IfErr result (λ fault. fault.kind ≡ kinds.Limit
+        → HaveNoRoom alphabet asked.now) }
 {
     let mut universe = Universe::empty(alloc);
     let mut unproved = Vec::new(alloc);
     for (i, label) in asked.iter().enumerate() {
-        add_or_note(alloc, &mut universe, &mut unproved, i, label, alerts)?;
+        add_or_note(
+            alloc,
+            alphabet,
+            &mut universe,
+            &mut unproved,
+            i,
+            label,
+            alerts,
+        )?;
     }
     Ok(MadeUniverse { universe, unproved })
 }
@@ -85,6 +99,7 @@ pub fn universe_of(
 /// the label.
 fn add_or_note(
     alloc: Global,
+    alphabet: Alphabet,
     universe: &mut Universe,
     unproved: &mut Vec<usize>,
     position: usize,
@@ -96,14 +111,14 @@ fn add_or_note(
         → AllByRecursion (λ m. m.name ≡ label.now.name) label.now.matchers }
     requires fresh { ¬ Contains (names universe.old) label.now.name }
     ensures universe { OnOk result (IsUniverse universe.new) }
-    ensures others { OnOk result (IsWithAtMost universe.old universe.new label.now) }
-    ensures settled { OnOk result (IsSettled universe.new label.now position
+    ensures others { OnOk result (IsWithAtMost alphabet universe.old universe.new label.now) }
+    ensures settled { OnOk result (IsSettled alphabet universe.new label.now position
         unproved.old.items unproved.new.items) }
     ensures kind { IfErr result (λ fault. IsLimitOrMemory fault.kind) }
     ensures limit { IfErr result (λ fault.
-        fault.kind ≡ kinds.Limit → HasNoRoomIn universe.old label.now) }
+        fault.kind ≡ kinds.Limit → HasNoRoomIn alphabet universe.old label.now) }
 {
-    match add_label(alloc, universe, label, alerts) {
+    match add_label(alloc, alphabet, universe, label, alerts) {
         Ok(true) => Ok(()),
         Ok(false) => note(unproved, position),
         Err(kind) => Err(MakingFault {
@@ -132,6 +147,7 @@ fn note(positions: &mut Vec<usize>, position: usize) -> Result<(), MakingFault>
 /// its name is no label name.
 fn add_label(
     alloc: Global,
+    alphabet: Alphabet,
     universe: &mut Universe,
     label: &AskedLabel<'_>,
     alerts: Option<&Alerts>,
@@ -142,30 +158,43 @@ fn add_label(
     requires fresh { ¬ Contains (names universe.old) label.now.name }
     ensures universe { OnOk result (IsUniverse universe.new) }
     ensures stands { IfOk result (λ proved. IsTrue proved
-        → StandForAll label.now.matchers (label_texts universe.new label.now.name)) }
-    ensures why { IfOk result (λ proved. proved ≡ false → MayBeUnproved label.now) }
-    ensures others { OnOk result (IsWithAtMost universe.old universe.new label.now) }
+        → StandForAll alphabet label.now.matchers (label_texts universe.new label.now.name)) }
+    ensures why { IfOk result (λ proved. proved ≡ false → MayBeUnproved alphabet label.now) }
+    ensures others { OnOk result (IsWithAtMost alphabet universe.old universe.new label.now) }
     ensures kind { IfErr result IsLimitOrMemory }
     ensures limit { IfErr result (λ kind.
-        kind ≡ kinds.Limit → HasNoRoomIn universe.old label.now) }
+        kind ≡ kinds.Limit → HasNoRoomIn alphabet universe.old label.now) }
 {
-    let Some(texts) = classes(alloc, label.matchers())? else {
-        add_found(alloc, universe, label, alerts)?;
+    let Some(classes) = classes(alloc, alphabet, label.matchers())? else {
+        add_found(alloc, alphabet, universe, label, alerts)?;
         return Ok(false);
     };
     if !is_label_name(alloc, label.name()) {
         // Absence alone stands for one class.
-        return Ok(texts.len() < 2);
+        return Ok(is_one_class(&classes));
     }
-    let texts = representatives(alloc, label, alerts, texts)?;
-    declare_classes(alloc, universe, label, texts.as_slice())?;
+    if !classes.all {
+        return Err(Kind::Limit);
+    }
+    let texts = representatives(alloc, alphabet, label, alerts, classes.texts)?;
+    declare_classes(alloc, alphabet, universe, label, texts.as_slice())?;
     Ok(true)
+}
+
+/// Whether there is one class alone.
+fn is_one_class(classes: &ClassTexts) -> bool
+    requires { classes.now.all ≡ false → MAX_VALUES < vec_len classes.now.texts }
+    ensures yes { IsTrue result → IsTrue classes.now.all × (vec_len classes.now.texts ≤ 1) }
+    ensures no { result ≡ false → 1 < vec_len classes.now.texts }
+{
+    classes.all && classes.texts.len() < 2
 }
 
 /// Declares a label whose classes cannot be computed with texts that were found, where it has a
 /// label name.
 fn add_found(
     alloc: Global,
+    alphabet: Alphabet,
     universe: &mut Universe,
     label: &AskedLabel<'_>,
     alerts: Option<&Alerts>,
@@ -175,21 +204,22 @@ fn add_found(
         → AllByRecursion (λ m. m.name ≡ label.now.name) label.now.matchers }
     requires fresh { ¬ Contains (names universe.old) label.now.name }
     ensures universe { OnOk result (IsUniverse universe.new) }
-    ensures others { OnOk result (IsWithAtMost universe.old universe.new label.now) }
+    ensures others { OnOk result (IsWithAtMost alphabet universe.old universe.new label.now) }
     ensures kind { IfErr result IsLimitOrMemory }
     ensures limit { IfErr result (λ kind.
-        kind ≡ kinds.Limit → HasNoRoomIn universe.old label.now) }
+        kind ≡ kinds.Limit → HasNoRoomIn alphabet universe.old label.now) }
 {
     if !is_label_name(alloc, label.name()) {
         return Ok(());
     }
-    let texts = found_texts(alloc, label, alerts)?;
-    declare_classes(alloc, universe, label, texts.as_slice())
+    let texts = found_texts(alloc, alphabet, label, alerts)?;
+    declare_classes(alloc, alphabet, universe, label, texts.as_slice())
 }
 
 /// Declares a label with these texts, each of another class, where there is more than one.
 fn declare_classes(
     alloc: Global,
+    alphabet: Alphabet,
     universe: &mut Universe,
     label: &AskedLabel<'_>,
     texts: &[String],
@@ -198,13 +228,14 @@ fn declare_classes(
     requires named { IsTrue (is_label_name label.now.name) }
     requires fresh { ¬ Contains (names universe.old) label.now.name }
     requires apart { AreApart label.now.matchers (map string_bytes texts.now) }
+    requires over { AreOver alphabet (map string_bytes texts.now) }
     ensures universe { OnOk result (IsUniverse universe.new) }
-    ensures stands { OnOk result (Covers label.now.matchers (map string_bytes texts.now)
-        → StandForAll label.now.matchers (label_texts universe.new label.now.name)) }
-    ensures others { OnOk result (IsWithAtMost universe.old universe.new label.now) }
+    ensures stands { OnOk result (Covers alphabet label.now.matchers (map string_bytes texts.now)
+        → StandForAll alphabet label.now.matchers (label_texts universe.new label.now.name)) }
+    ensures others { OnOk result (IsWithAtMost alphabet universe.old universe.new label.now) }
     ensures kind { IfErr result IsLimitOrMemory }
     ensures limit { IfErr result (λ kind.
-        kind ≡ kinds.Limit → HasNoRoomIn universe.old label.now) }
+        kind ≡ kinds.Limit → HasNoRoomIn alphabet universe.old label.now) }
 {
     if texts.len() < 2 {
         return Ok(());

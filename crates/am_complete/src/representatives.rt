@@ -4,31 +4,34 @@ ghost use Rattle.std.specs.Prelude.{◌≡◌, ◌<◌, ℕ, List, Some, IfOk, l
 ghost use Rattle.std.specs.Prelude.{slice_get, string_bytes};
 ghost use Rattle.std.specs.List.{AllByRecursion};
 ghost use Rattle.am_labels.specs.Words.{Condition};
-ghost use Rattle.am_complete.specs.Words.{AreAlike, AreApart, StandForAll};
+ghost use Rattle.am_classes.specs.declared.alphabet.Alphabet.{Alphabet};
+ghost use Rattle.am_complete.specs.Words.{AreAlike, AreApart, AreOver, IsOver, StandForAll};
 ghost use Rattle.am_complete.specs.Truths.{AreAlikeEach};
 
 use crate::AskedLabel;
 use crate::truths::Truths;
-use crate::usual_texts::usual_texts;
+use crate::usual_texts::{texts_over, usual_texts};
+use am_classes::Alphabet;
 use am_files::Alerts;
 use std::alloc::{AllocError, Global};
 
 /// Texts that stand for the classes of a label's texts, as `texts` do, but chosen and put in order
 /// for a reader. A text that no matcher names gives way to a usual one of its class: to that which
-/// most of the alerts have, or else to `other`. Absence stands behind the others, and texts with a
+/// most of the alerts have, or else to `other`. Absence stands before the others, and texts with a
 /// line feed last.
 pub(crate) fn representatives(
     alloc: Global,
+    alphabet: Alphabet,
     label: &AskedLabel<'_>,
     alerts: Option<&Alerts>,
     texts: Vec<String>,
 ) -> Result<Vec<String>, AllocError>
     requires on { AllByRecursion (λ m. m.name ≡ label.now.name) label.now.matchers }
-    requires stand { StandForAll label.now.matchers (map string_bytes texts.items) }
+    requires stand { StandForAll alphabet label.now.matchers (map string_bytes texts.items) }
     ensures { IfOk result (λ chosen.
-        StandForAll label.now.matchers (map string_bytes chosen.items)) }
+        StandForAll alphabet label.now.matchers (map string_bytes chosen.items)) }
 {
-    let mut chosen = usual_where_alike(alloc, label, alerts, texts)?;
+    let mut chosen = usual_where_alike(alloc, alphabet, label, alerts, texts)?;
     put_in_order(&mut chosen)?;
     Ok(chosen)
 }
@@ -36,39 +39,44 @@ pub(crate) fn representatives(
 /// The texts, of which those that no matcher names give way to usual ones.
 fn usual_where_alike(
     alloc: Global,
+    alphabet: Alphabet,
     label: &AskedLabel<'_>,
     alerts: Option<&Alerts>,
     texts: Vec<String>,
 ) -> Result<Vec<String>, AllocError>
     requires on { AllByRecursion (λ m. m.name ≡ label.now.name) label.now.matchers }
-    requires stand { StandForAll label.now.matchers (map string_bytes texts.items) }
+    requires stand { StandForAll alphabet label.now.matchers (map string_bytes texts.items) }
     ensures { IfOk result (λ chosen.
-        StandForAll label.now.matchers (map string_bytes chosen.items)) }
+        StandForAll alphabet label.now.matchers (map string_bytes chosen.items)) }
 {
     let (name, matchers) = (label.name(), label.matchers());
-    let usual = usual_texts(alloc, alerts, name)?;
+    let usual = texts_over(alloc, alphabet, usual_texts(alloc, alerts, name)?)?;
     let Some(usual) = Truths::of(alloc, name, matchers, usual.as_slice())? else {
         return Ok(texts);
     };
     let Some(wanted) = Truths::of(alloc, name, matchers, texts.as_slice())? else {
         return Ok(texts);
     };
-    chosen_texts(alloc, &wanted, &usual)
+    chosen_texts(alloc, alphabet, &wanted, &usual)
 }
 
 /// A text for each of the wanted ones, alike to it.
 fn chosen_texts(
     alloc: Global,
+    alphabet: Alphabet,
     wanted: &Truths<'_>,
     usual: &Truths<'_>,
 ) -> Result<Vec<String>, AllocError>
-    requires { usual.now.matchers ≡ wanted.now.matchers }
-    ensures { IfOk result (λ chosen.
+    requires same { usual.now.matchers ≡ wanted.now.matchers }
+    requires wanted { AreOver alphabet wanted.now.texts }
+    requires usual { AreOver alphabet usual.now.texts }
+    ensures alike { IfOk result (λ chosen.
         AreAlikeEach wanted.now.matchers (map string_bytes chosen.items) wanted.now.texts) }
+    ensures over { IfOk result (λ chosen. AreOver alphabet (map string_bytes chosen.items)) }
 {
     let mut chosen = Vec::with_capacity(alloc, wanted.len())?;
     for j in 0..wanted.len() {
-        chosen.push(chosen_text(alloc, wanted, usual, j)?)?;
+        chosen.push(chosen_text(alloc, alphabet, wanted, usual, j)?)?;
     }
     Ok(chosen)
 }
@@ -76,14 +84,18 @@ fn chosen_texts(
 /// A text for the wanted one at `j`, alike to it.
 fn chosen_text(
     alloc: Global,
+    alphabet: Alphabet,
     wanted: &Truths<'_>,
     usual: &Truths<'_>,
     j: usize,
 ) -> Result<String, AllocError>
     requires same { usual.now.matchers ≡ wanted.now.matchers }
     requires there { j < length wanted.now.texts }
-    ensures { IfOk result (λ text. (y : List ℕ) → slice_get wanted.now.texts j ≡ Some y
+    requires wanted { AreOver alphabet wanted.now.texts }
+    requires usual { AreOver alphabet usual.now.texts }
+    ensures alike { IfOk result (λ text. (y : List ℕ) → slice_get wanted.now.texts j ≡ Some y
         → AreAlike wanted.now.matchers (string_bytes text) y) }
+    ensures over { IfOk result (λ text. IsOver alphabet (string_bytes text)) }
 {
     let text = wanted.text(j);
     if text.is_empty() || wanted.names(text) {
@@ -95,10 +107,13 @@ fn chosen_text(
     }
 }
 
-/// Puts the texts of a label in order: absence behind the others, and texts with a line feed last.
+/// Puts the texts of a label in order: absence before the others, and texts with a line feed last.
 pub(crate) fn put_in_order(texts: &mut Vec<String>) -> Result<(), AllocError>
-    ensures stand { (ms : List Condition) → StandForAll ms (map string_bytes texts.old.items)
-        → StandForAll ms (map string_bytes texts.new.items) }
+    ensures stand { (a : Alphabet) (ms : List Condition)
+        → StandForAll a ms (map string_bytes texts.old.items)
+        → StandForAll a ms (map string_bytes texts.new.items) }
+    ensures over { (a : Alphabet) → AreOver a (map string_bytes texts.old.items)
+        → AreOver a (map string_bytes texts.new.items) }
     ensures apart { (ms : List Condition) → AreApart ms (map string_bytes texts.old.items)
         → AreApart ms (map string_bytes texts.new.items) }
     ensures length { length texts.new.items ≡ length texts.old.items }
@@ -108,11 +123,11 @@ pub(crate) fn put_in_order(texts: &mut Vec<String>) -> Result<(), AllocError>
 
 /// Where a text stands among those of its label: texts that lie lower come first.
 fn rank_of(text: &str) -> u8 {
-    if text.contains('\n') {
-        2
-    } else if text.is_empty() {
-        1
-    } else {
+    if text.is_empty() {
         0
+    } else if text.contains('\n') {
+        2
+    } else {
+        1
     }
 }

@@ -13,16 +13,19 @@ ghost use Rattle.am_complete.specs.FoundState.{IsAskedFor, IsWithState};
 
 use crate::completeness_at::completeness_at;
 use crate::{AskedLabel, Completeness, LabelState};
+use am_classes::Alphabet;
 use am_files::Alerts;
 use am_labels::{LabelSet, Space};
 use std::alloc::{AllocError, Global};
 
-/// How a space stands at each of its labels, in declared order, and then at each label that is
+/// How a space stands, for alerts whose texts are over the alphabet, at each of its labels, in
+/// declared order, and then at each label that is
 /// asked of and not declared, in the order in which they are first asked of. With alerts, each
 /// state says too whether none of them has the label. The matchers of the space's impossible lists
 /// are asked too. An `Err` only where memory was refused.
 pub fn label_states(
     alloc: Global,
+    alphabet: Alphabet,
     space: &Space,
     asked: &[AskedLabel<'_>],
     alerts: Option<&Alerts>,
@@ -33,23 +36,24 @@ pub fn label_states(
         ≡ reported_names space.now.labels asked.now) }
     ensures each { IfOk result (λ states. (ms : List Condition) → IsAskedOf asked.now ms
         → AllByRecursion
-        (λ s. IsSoIfNamed space.now ms asked.now (string_bytes s.name) s.completeness)
+        (λ s. IsSoIfNamed alphabet space.now ms asked.now (string_bytes s.name) s.completeness)
         states.items) }
     ensures complete { IfOk result (λ states. (ms : List Condition) → IsAskedOf asked.now ms
         → IsTrue (list_all (λ s. is_settled s.completeness) states.items)
-        → IsSpaceComplete space.now ms) }
+        → IsSpaceComplete alphabet space.now ms) }
     ensures unseen { IfOk result (λ states. AllByRecursion
         (λ s. s.unseen ≡ is_unseen (option_map (λ a. a.now) alerts.entry) (string_bytes s.name))
         states.items) }
 {
-    let mut states = declared_states(alloc, space, asked, alerts)?;
-    add_undeclared(alloc, space, asked, alerts, &mut states)?;
+    let mut states = declared_states(alloc, alphabet, space, asked, alerts)?;
+    add_undeclared(alloc, alphabet, space, asked, alerts, &mut states)?;
     Ok(states)
 }
 
 /// How a space stands at each of its labels.
 fn declared_states(
     alloc: Global,
+    alphabet: Alphabet,
     space: &Space,
     asked: &[AskedLabel<'_>],
     alerts: Option<&Alerts>,
@@ -60,12 +64,13 @@ fn declared_states(
     ensures names { IfOk result (λ states.
         map (λ s. string_bytes s.name) states.items ≡ names space.now.labels) }
     ensures each { IfOk result (λ states. AllByRecursion
-        (IsSoOfName space.now asked.now (option_map (λ a. a.now) alerts.entry)) states.items) }
+        (IsSoOfName alphabet space.now asked.now (option_map (λ a. a.now) alerts.entry))
+        states.items) }
 {
     let universe = space.universe();
     let mut states = Vec::with_capacity(alloc, universe.len())?;
     for i in 0..universe.len() {
-        states.push(declared_state(alloc, space, asked, alerts, universe.name(i))?)?;
+        states.push(declared_state(alloc, alphabet, space, asked, alerts, universe.name(i))?)?;
     }
     Ok(states)
 }
@@ -73,6 +78,7 @@ fn declared_states(
 /// How a space stands at its label of this name.
 fn declared_state(
     alloc: Global,
+    alphabet: Alphabet,
     space: &Space,
     asked: &[AskedLabel<'_>],
     alerts: Option<&Alerts>,
@@ -82,11 +88,11 @@ fn declared_state(
     requires asked { (ms : List Condition) × IsAskedOf asked.now ms
         × AreAmong (impossible_conditions space.now.impossible) ms }
     ensures name { IfOk result (λ state. string_bytes state.name ≡ name.now) }
-    ensures so { IfOk result (IsSoOfName space.now asked.now
+    ensures so { IfOk result (IsSoOfName alphabet space.now asked.now
         (option_map (λ a. a.now) alerts.entry)) }
 {
     match position_of(asked, name) {
-        Some(i) => asked_state(alloc, space, &asked[i], alerts),
+        Some(i) => asked_state(alloc, alphabet, space, &asked[i], alerts),
         None => Ok(LabelState {
             name: String::from_str(alloc, name)?,
             completeness: Completeness::Unasked,
@@ -112,6 +118,7 @@ fn position_of(asked: &[AskedLabel<'_>], name: &str) -> Option<usize>
 /// Adds how a space stands at each label that is asked of and not declared.
 fn add_undeclared(
     alloc: Global,
+    alphabet: Alphabet,
     space: &Space,
     asked: &[AskedLabel<'_>],
     alerts: Option<&Alerts>,
@@ -124,13 +131,14 @@ fn add_undeclared(
         ≡ map (λ s. string_bytes s.name) states.old.items
         ++ filter (λ name. not (is_declared space.now.labels name)) (asked_names asked.now)) }
     ensures each { OnOk result (AllByRecursion
-        (IsSoOfName space.now asked.now (option_map (λ a. a.now) alerts.entry)) states.old.items
+        (IsSoOfName alphabet space.now asked.now (option_map (λ a. a.now) alerts.entry))
+        states.old.items
         → AllByRecursion
-        (IsSoOfName space.now asked.now (option_map (λ a. a.now) alerts.entry))
+        (IsSoOfName alphabet space.now asked.now (option_map (λ a. a.now) alerts.entry))
         states.new.items) }
 {
     for label in asked {
-        add_if_undeclared(alloc, space, label, alerts, states)?;
+        add_if_undeclared(alloc, alphabet, space, label, alerts, states)?;
     }
     Ok(())
 }
@@ -138,6 +146,7 @@ fn add_undeclared(
 /// Adds how a space stands at a label that is asked of, where that is not declared.
 fn add_if_undeclared(
     alloc: Global,
+    alphabet: Alphabet,
     space: &Space,
     label: &AskedLabel<'_>,
     alerts: Option<&Alerts>,
@@ -145,13 +154,13 @@ fn add_if_undeclared(
 ) -> Result<(), AllocError>
     requires universe { IsUniverse space.now.labels }
     requires asked { label.now.name ≢ [] → IsAskedFor space.now.impossible label.now }
-    ensures { OnOk result (IsWithState space.now label.now
+    ensures { OnOk result (IsWithState alphabet space.now label.now
         (option_map (λ a. a.now) alerts.entry) states.old.items states.new.items) }
 {
     match space.universe().position(label.name()) {
         Some(_) => Ok(()),
         None => {
-            states.push(asked_state(alloc, space, label, alerts)?)?;
+            states.push(asked_state(alloc, alphabet, space, label, alerts)?)?;
             Ok(())
         }
     }
@@ -160,18 +169,19 @@ fn add_if_undeclared(
 /// How a space stands at a label that is asked of.
 fn asked_state(
     alloc: Global,
+    alphabet: Alphabet,
     space: &Space,
     label: &AskedLabel<'_>,
     alerts: Option<&Alerts>,
 ) -> Result<LabelState, AllocError>
     requires universe { IsUniverse space.now.labels }
     requires asked { label.now.name ≢ [] → IsAskedFor space.now.impossible label.now }
-    ensures { IfOk result (IsSoOfAsked space.now label.now
+    ensures { IfOk result (IsSoOfAsked alphabet space.now label.now
         (option_map (λ a. a.now) alerts.entry)) }
 {
     Ok(LabelState {
         name: String::from_str(alloc, label.name())?,
-        completeness: completeness_at(alloc, space, label, alerts)?,
+        completeness: completeness_at(alloc, alphabet, space, label, alerts)?,
         unseen: is_unseen(alerts, label.name()),
     })
 }

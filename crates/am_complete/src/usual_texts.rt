@@ -1,5 +1,9 @@
 //! The texts that alerts have for a label.
 
+ghost use Rattle.std.specs.Prelude.{IfOk, map, string_bytes};
+ghost use Rattle.am_complete.specs.Words.{AreOver};
+
+use am_classes::Alphabet;
 use am_files::Alerts;
 use am_universe::limits::MAX_VALUES;
 use std::alloc::{AllocError, Global};
@@ -21,6 +25,23 @@ pub(crate) fn usual_texts(
     }
     push_new(alloc, &mut texts, "other")?;
     Ok(texts)
+}
+
+/// Of some texts those over an alphabet, in their order.
+pub(crate) fn texts_over(
+    alloc: Global,
+    alphabet: Alphabet,
+    texts: Vec<String>,
+) -> Result<Vec<String>, AllocError>
+    ensures { IfOk result (λ kept. AreOver alphabet (map string_bytes kept.items)) }
+{
+    let mut kept = Vec::new(alloc);
+    for text in texts {
+        if alphabet.has(text.as_str()) {
+            kept.push(text)?;
+        }
+    }
+    Ok(kept)
 }
 
 /// Adds a text, unless it is there, or there is no room for one more value of a label.

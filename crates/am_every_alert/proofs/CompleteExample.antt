@@ -1,18 +1,22 @@
--- An example: a universe that is complete for `team="db"`, and one that is not.
+-- Examples: universes that are complete for `team="db"` and for `team=~".*"`, and that are not.
 use Rattle.std.proofs.Common.{◌≡◌, [], ◌∷◌, codes, true, false, not, ◌&&◌, ◌||◌, refl, sym, ap, ◌∙◌}
 use Rattle.std.proofs.Common.{lit<, lit≤, inl, inr}
 use Rattle.std.proofs.lemmas.Bool.{cases_Bool}
 use Rattle.std.specs.List.{IsDistinct}
-use Rattle.std.proofs.lemmas.Str.{IsUtf8-nil}
 use Rattle.am_universe.specs.Text.{same_text}
 use Rattle.am_universe.specs.Universe.{Label, IsLabel, IsUniverse}
 use Rattle.am_universe.proofs.ListLemmas.{IsIn-from_Contains, Contains-from_IsIn}
+use Rattle.am_labels.specs.Pattern.{finds}
 use Rattle.am_eval.specs.RoutingExamples.{team_db}
+use Rattle.am_classes.specs.declared.alphabet.Alphabet.{Alphabet}
+use Rattle.am_classes.specs.declared.alphabet.Alphabet.TheVariants.{Unicode, Ascii}
+use Rattle.am_classes.proofs.OverLemmas.{nil_over}
 use Rattle.am_complete.specs.Complete.{HasAlike, IsCompleteAt, IsComplete, IsSpaceCompleteAt}
 use Rattle.am_complete.specs.Complete.{IsSpaceComplete}
 use Rattle.am_every_alert.specs.CompleteExample.{team_universe, db_or_absent, db_alone, team_not_db}
-use Rattle.am_every_alert.specs.CompleteExample.{db_alone_possible}
+use Rattle.am_every_alert.specs.CompleteExample.{db_alone_possible, any_line, absent_alone}
 use Rattle.am_every_alert.proofs.CompleteSpaces.{complete_by_names, space_complete_by_names}
+use Rattle.am_every_alert.proofs.AnyLine.{finds_ordinary, finds_none, line_feed, line_feed_is_utf8}
 
 -- a label alone is a universe
 lone_is_universe : (l : Label) → IsLabel l → IsUniverse (l ∷ [])
@@ -39,8 +43,9 @@ db_alone_is_universe = lone_is_universe _ (record {
   distinct = (tt, tt);
 })
 
-complete_at_team : IsCompleteAt (team_universe db_or_absent) (team_db ∷ []) (codes "team")
-complete_at_team text valid = elim (cases_Bool (same_text text (codes "db"))) [
+complete_at_team : (a : Alphabet)
+    → IsCompleteAt a (team_universe db_or_absent) (team_db ∷ []) (codes "team")
+complete_at_team a text valid = elim (cases_Bool (same_text text (codes "db"))) [
   | inl db ↦ (
     codes "db",
     Contains-from_IsIn (codes "db" ∷ [] ∷ []) (codes "db") (inl refl),
@@ -50,14 +55,14 @@ complete_at_team text valid = elim (cases_Bool (same_text text (codes "db"))) [
       ([], Contains-from_IsIn (codes "db" ∷ [] ∷ []) [] (inr (inl refl)), (sym other, tt))
 ]
 
-pub complete : IsComplete (team_universe db_or_absent) (team_db ∷ [])
-complete =
-    complete_by_names (team_universe db_or_absent) (team_db ∷ []) team_is_universe
-    ((λ named. complete_at_team), tt)
+pub complete : (a : Alphabet) → IsComplete a (team_universe db_or_absent) (team_db ∷ [])
+complete a =
+    complete_by_names a (team_universe db_or_absent) (team_db ∷ []) team_is_universe
+    ((λ named. complete_at_team a), tt)
 
-pub incomplete : IsComplete (team_universe db_alone) (team_db ∷ []) → ⊥
-incomplete complete =
-    by (complete (codes "team") (λ e. cc) [] IsUtf8-nil)
+pub incomplete : (a : Alphabet) → IsComplete a (team_universe db_alone) (team_db ∷ []) → ⊥
+incomplete a complete =
+    by (complete (codes "team") (λ e. cc) [] (nil_over a))
   where
     by : HasAlike (team_universe db_alone) (team_db ∷ []) (codes "team") [] → ⊥
     by alike = elim (IsIn-from_Contains (codes "db" ∷ []) alike.0 alike.1) [
@@ -67,8 +72,9 @@ incomplete complete =
     ]
 
 -- where no other team is possible
-possible_at_team : IsSpaceCompleteAt db_alone_possible (team_db ∷ team_not_db ∷ []) (codes "team")
-possible_at_team text valid may = elim (cases_Bool (same_text text (codes "db"))) [
+possible_at_team : (a : Alphabet)
+    → IsSpaceCompleteAt a db_alone_possible (team_db ∷ team_not_db ∷ []) (codes "team")
+possible_at_team a text valid may = elim (cases_Bool (same_text text (codes "db"))) [
   | inl db ↦ (
     codes "db",
     Contains-from_IsIn (codes "db" ∷ []) (codes "db") (inl refl),
@@ -78,7 +84,44 @@ possible_at_team text valid may = elim (cases_Bool (same_text text (codes "db"))
       let none : true ≡ false = sym may ∙ ap (λ b. not ((not b && true) || false)) other in absurd (cc)
 ]
 
-pub possible : IsSpaceComplete db_alone_possible (team_db ∷ team_not_db ∷ [])
-possible =
-    space_complete_by_names db_alone_possible (team_db ∷ team_not_db ∷ []) db_alone_is_universe
-    ((λ some. possible_at_team), ((λ some. possible_at_team), tt))
+pub possible : (a : Alphabet)
+    → IsSpaceComplete a db_alone_possible (team_db ∷ team_not_db ∷ [])
+possible a =
+    space_complete_by_names a db_alone_possible (team_db ∷ team_not_db ∷ []) db_alone_is_universe
+    ((λ some. possible_at_team a), ((λ some. possible_at_team a), tt))
+
+-- where `team` is always absent
+absent_is_universe : IsUniverse (team_universe absent_alone)
+unfolding IsDistinct
+absent_is_universe = lone_is_universe _ (record {
+  name = refl;
+  some_value = lit< tt;
+  at_most = lit≤ tt;
+  texts = (refl, tt);
+  distinct = (tt, tt);
+})
+
+any_line_at_team : IsCompleteAt Ascii (team_universe absent_alone) (any_line ∷ []) (codes "team")
+any_line_at_team text ordinary = (
+  [],
+  Contains-from_IsIn ([] ∷ []) [] (inl refl),
+  (finds_ordinary [] refl ∙ sym (finds_ordinary text ordinary), tt),
+)
+
+pub over_ascii : IsComplete Ascii (team_universe absent_alone) (any_line ∷ [])
+over_ascii =
+    complete_by_names Ascii (team_universe absent_alone) (any_line ∷ []) absent_is_universe
+    ((λ named. any_line_at_team), tt)
+
+pub not_over_unicode : IsComplete Unicode (team_universe absent_alone) (any_line ∷ []) → ⊥
+not_over_unicode complete =
+    by (complete (codes "team") (λ e. cc) line_feed line_feed_is_utf8)
+  where
+    by : HasAlike (team_universe absent_alone) (any_line ∷ []) (codes "team") line_feed → ⊥
+    by alike = elim (IsIn-from_Contains ([] ∷ []) alike.0 alike.1) [
+      | inl absent ↦
+          let e : true ≡ false =
+          sym (finds_ordinary [] refl) ∙ ap (finds (codes ".*")) absent ∙ alike.2.0 ∙ finds_none in
+          absurd (cc)
+      | inr none ↦ none
+    ]

@@ -8,6 +8,7 @@ use Rattle.am_labels.specs.Matcher.{Condition, holds}
 use Rattle.am_labels.specs.Space.{Space}
 use Rattle.am_files.specs.ConfigFile.{Configuration}
 use Rattle.am_eval.specs.World.{World}
+use Rattle.am_classes.specs.declared.alphabet.Alphabet.{Alphabet}
 use Rattle.am_classes.specs.Alike.{AreAlike, Covers}
 use Rattle.am_complete.specs.Complete.{about, HasAlike, IsCompleteAt, IsComplete, AreAmong}
 use Rattle.am_complete.specs.Complete.{may_have, label_texts, IsSpaceCompleteAt, IsSpaceComplete}
@@ -23,11 +24,11 @@ use Rattle.am_every_alert.specs.Deciding.{coverage_conditions}
 
 -- ---- By texts that cover all.
 
-pub complete_by_cover : (u : List Label) (ms : List Condition) (name : List ℕ)
-    (texts : List (List ℕ)) → Covers (about name ms) texts
-    → AllByRecursion (λ x. HasAlike u ms name x) texts → IsCompleteAt u ms name
-complete_by_cover u ms name texts covers each text valid =
-    covered [] name (about name ms) (label_texts u name) texts (λ t is possible. covers t is) each
+pub complete_by_cover : (a : Alphabet) (u : List Label) (ms : List Condition) (name : List ℕ)
+    (texts : List (List ℕ)) → Covers a (about name ms) texts
+    → AllByRecursion (λ x. HasAlike u ms name x) texts → IsCompleteAt a u ms name
+complete_by_cover a u ms name texts covers each text valid =
+    covered a [] name (about name ms) (label_texts u name) texts (λ t is possible. covers t is) each
     text valid refl
 
 -- ---- For fewer matchers.
@@ -48,58 +49,60 @@ about_among : (name : List ℕ) (ns ms : List Condition) → AreAmong ns ms
 about_among name ns ms among m i =
     let r = about_is name ns m i in is_about name ms m (is_among ns ms m among r.0) r.1
 
-pub complete_at_for_some : (u : List Label) (ns ms : List Condition) (name : List ℕ)
-    → AreAmong ns ms → IsCompleteAt u ms name → IsCompleteAt u ns name
-complete_at_for_some u ns ms name among complete text valid =
+pub complete_at_for_some : (a : Alphabet) (u : List Label) (ns ms : List Condition)
+    (name : List ℕ) → AreAmong ns ms → IsCompleteAt a u ms name → IsCompleteAt a u ns name
+complete_at_for_some a u ns ms name among complete text valid =
     let one = complete text valid in (
       one.0,
       one.1,
       alike_to_some (about name ns) (about name ms) one.0 text (about_among name ns ms among) one.2,
     )
 
-pub complete_for_some : (u : List Label) (ns ms : List Condition) → AreAmong ns ms
-    → IsComplete u ms → IsComplete u ns
-complete_for_some u ns ms among complete name named =
-    complete_at_for_some u ns ms name among (complete name named)
+pub complete_for_some : (a : Alphabet) (u : List Label) (ns ms : List Condition) → AreAmong ns ms
+    → IsComplete a u ms → IsComplete a u ns
+complete_for_some a u ns ms among complete name named =
+    complete_at_for_some a u ns ms name among (complete name named)
 
 -- ---- By the names that matchers ask of.
 
-abbrev IsCompleteOn : List Label → List Condition → Condition → Type 0
-IsCompleteOn u ms m = m.name ≢ [] → IsCompleteAt u ms m.name
+abbrev IsCompleteOn : Alphabet → List Label → List Condition → Condition → Type 0
+IsCompleteOn a u ms m = m.name ≢ [] → IsCompleteAt a u ms m.name
 
-pub complete_by_names : (u : List Label) (ms : List Condition) → IsUniverse u
-    → AllByRecursion (IsCompleteOn u ms) ms → IsComplete u ms
-complete_by_names u ms h each =
-    by_names (IsCompleteAt u ms) ms (λ name none. complete_without_matchers u ms name h none)
-    (λ m i. AllByRecursion-at (IsCompleteOn u ms) ms m each i)
+pub complete_by_names : (a : Alphabet) (u : List Label) (ms : List Condition) → IsUniverse u
+    → AllByRecursion (IsCompleteOn a u ms) ms → IsComplete a u ms
+complete_by_names a u ms h each =
+    by_names (IsCompleteAt a u ms) ms (λ name none. complete_without_matchers a u ms name h none)
+    (λ m i. AllByRecursion-at (IsCompleteOn a u ms) ms m each i)
 
 -- ---- Spaces.
 
 -- a space is complete where its universe is, and this is where nothing is impossible
-pub complete_space : (s : Space) (ms : List Condition) → IsComplete s.labels ms
-    → IsSpaceComplete s ms
-complete_space s ms complete name some text valid possible = complete name some text valid
+pub complete_space : (a : Alphabet) (s : Space) (ms : List Condition) → IsComplete a s.labels ms
+    → IsSpaceComplete a s ms
+complete_space a s ms complete name some text valid possible = complete name some text valid
 
-pub complete_universe : (s : Space) (ms : List Condition) → s.impossible ≡ []
-    → IsSpaceComplete s ms → IsComplete s.labels ms
-complete_universe s ms none complete name some text valid =
+pub complete_universe : (a : Alphabet) (s : Space) (ms : List Condition) → s.impossible ≡ []
+    → IsSpaceComplete a s ms → IsComplete a s.labels ms
+complete_universe a s ms none complete name some text valid =
     complete name some text valid (ap (λ lists. may_have lists name text) none)
 
-pub space_complete_for_some : (s : Space) (ns ms : List Condition) → AreAmong ns ms
-    → IsSpaceComplete s ms → IsSpaceComplete s ns
-space_complete_for_some s ns ms among complete name some text valid possible =
+pub space_complete_for_some : (a : Alphabet) (s : Space) (ns ms : List Condition) → AreAmong ns ms
+    → IsSpaceComplete a s ms → IsSpaceComplete a s ns
+space_complete_for_some a s ns ms among complete name some text valid possible =
     let one = complete name some text valid possible in (
       one.0,
       one.1,
       alike_to_some (about name ns) (about name ms) one.0 text (about_among name ns ms among) one.2,
     )
 
-pub space_complete_by_names : (s : Space) (ms : List Condition) → IsUniverse s.labels
-    → AllByRecursion (λ m. m.name ≢ [] → IsSpaceCompleteAt s ms m.name) ms → IsSpaceComplete s ms
-space_complete_by_names s ms h each =
-    by_names (IsSpaceCompleteAt s ms) ms
-    (λ name none. space_complete_without_matchers s ms name h none)
-    (λ m i. AllByRecursion-at (λ n. n.name ≢ [] → IsSpaceCompleteAt s ms n.name) ms m each i)
+pub space_complete_by_names : (a : Alphabet) (s : Space) (ms : List Condition)
+    → IsUniverse s.labels
+    → AllByRecursion (λ m. m.name ≢ [] → IsSpaceCompleteAt a s ms m.name) ms
+    → IsSpaceComplete a s ms
+space_complete_by_names a s ms h each =
+    by_names (IsSpaceCompleteAt a s ms) ms
+    (λ name none. space_complete_without_matchers a s ms name h none)
+    (λ m i. AllByRecursion-at (λ n. n.name ≢ [] → IsSpaceCompleteAt a s ms n.name) ms m each i)
 
 -- ---- What is complete for a world is so for its routes.
 
@@ -114,23 +117,23 @@ routes_in_world w =
     (rule_conditions w.config.rules
     ++ (equal_conditions w.config.rules w.alerts ++ silence_conditions w.silences))
 
-pub complete_for_routes : (s : Space) (w : World)
-    → IsSpaceComplete s (world_conditions w ++ impossible_conditions s.impossible)
-    → IsSpaceComplete s (coverage_conditions s w.config)
-complete_for_routes s w complete =
+pub complete_for_routes : (a : Alphabet) (s : Space) (w : World)
+    → IsSpaceComplete a s (world_conditions w ++ impossible_conditions s.impossible)
+    → IsSpaceComplete a s (coverage_conditions s w.config)
+complete_for_routes a s w complete =
     let routes = route_conditions w.config.root in
     let world = world_conditions w in
     let lists = impossible_conditions s.impossible in
-    space_complete_for_some s (coverage_conditions s w.config) (world ++ lists)
+    space_complete_for_some a s (coverage_conditions s w.config) (world ++ lists)
     (both_among routes lists (world ++ lists)
     (among_through routes world (world ++ lists) (routes_in_world w) (first_among world lists))
     (last_among world lists))
     complete
 
 -- where nothing is impossible
-pub complete_without_lists : (u : List Label) (c : Configuration) (ms : List Condition)
-    → AreAmong (route_conditions c.root) ms → IsComplete u ms
-    → IsComplete u (coverage_conditions (record { labels = u; impossible = [] }) c)
-complete_without_lists u c ms among complete =
-    complete_for_some u (route_conditions c.root ++ []) ms
+pub complete_without_lists : (a : Alphabet) (u : List Label) (c : Configuration)
+    (ms : List Condition) → AreAmong (route_conditions c.root) ms → IsComplete a u ms
+    → IsComplete a u (coverage_conditions (record { labels = u; impossible = [] }) c)
+complete_without_lists a u c ms among complete =
+    complete_for_some a u (route_conditions c.root ++ []) ms
     (both_among (route_conditions c.root) [] ms among tt) complete

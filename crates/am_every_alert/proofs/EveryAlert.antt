@@ -8,9 +8,11 @@ use Rattle.am_records.specs.UniverseFile.{FileSaysUniverse}
 use Rattle.am_files.specs.ConfigFile.{Configuration}
 use Rattle.am_files.specs.Path.{leads_through}
 use Rattle.am_eval.specs.Routing.{ends, receivers}
+use Rattle.am_classes.specs.declared.alphabet.Alphabet.{Alphabet}
+use Rattle.am_classes.specs.declared.alphabet.Alphabet.TheVariants.{Unicode}
 use Rattle.am_complete.specs.Complete.{IsSpaceComplete}
-use Rattle.am_every_alert.specs.EveryAlert.{IsAlertOf, HasUtf8Texts, NoAlertEndsAt, NoAlertEnters}
-use Rattle.am_every_alert.specs.EveryAlert.{NoAlertGoesTo}
+use Rattle.am_complete.specs.Covering.{HasTextsOver}
+use Rattle.am_every_alert.specs.EveryAlert.{IsAlertOf, NoAlertEndsAt, NoAlertEnters, NoAlertGoesTo}
 use Rattle.am_every_alert.specs.Deciding.{coverage_conditions}
 use Rattle.am_every_alert.proofs.SpaceAlerts.{ends_of_choice}
 use Rattle.am_every_alert.proofs.UniverseAlerts.{universe_alert}
@@ -22,86 +24,93 @@ use Rattle.am_coverage.proofs.RouteLaws.{first_live, first_entered}
 use Rattle.am_coverage.proofs.ReceiverLaws as of_receiver
 use Rattle.am_every_alert.proofs.JsonData.{universe_texts}
 
-module _ (s : Space) (c : Configuration) (h : IsUniverse s.labels) where
-  -- ---- Over a complete space.
+module _ (a : Alphabet) (s : Space) (c : Configuration) (h : IsUniverse s.labels) where
+  -- ---- In a complete space.
 
-  module _ (complete : IsSpaceComplete s (coverage_conditions s c)) where
-    pub none_ends : (path : List ℕ) → IsDead s c path → NoAlertEndsAt s c path
+  module _ (complete : IsSpaceComplete a s (coverage_conditions s c)) where
+    pub none_ends : (path : List ℕ) → IsDead s c path → NoAlertEndsAt a s c path
     none_ends path dead alert is there =
-        let r = ends_of_choice s alert h is c complete in
+        let r = ends_of_choice a s alert h is c complete in
         dead r.0 r.1 (subst (λ paths. Contains paths path) (sym r.2) there)
 
-    pub none_enters : (path : List ℕ) → IsNeverEntered s c path → NoAlertEnters s c path
+    pub none_enters : (path : List ℕ) → IsNeverEntered s c path → NoAlertEnters a s c path
     none_enters path never alert end is there leads =
-        let r = ends_of_choice s alert h is c complete in
+        let r = ends_of_choice a s alert h is c complete in
         never r.0 end r.1 (subst (λ paths. Contains paths end) (sym r.2) there) leads
 
-    pub none_goes : (receiver : ℕ) → IsUnmatched s c receiver → NoAlertGoesTo s c receiver
+    pub none_goes : (receiver : ℕ) → IsUnmatched s c receiver → NoAlertGoesTo a s c receiver
     none_goes receiver unmatched alert is there =
-        let r = ends_of_choice s alert h is c complete in
+        let r = ends_of_choice a s alert h is c complete in
         unmatched r.0 r.1 (subst (λ found. Contains found receiver) (sym r.3) there)
 
-  -- ---- Over any universe.
+  -- ---- In any universe.
 
-  module _ (texts : HasUtf8Texts s.labels) where
+  module _ (texts : HasTextsOver a s.labels) where
     abbrev set_of : List ℕ → LabelMap
     set_of choice = label_set_of s.labels choice
 
-    choice_is_alert : (choice : List ℕ) → IsChoiceOf s choice → IsAlertOf s (set_of choice)
-    choice_is_alert choice possible = (universe_alert s.labels choice h texts, possible.1)
+    choice_is_alert : (choice : List ℕ) → IsChoiceOf s choice → IsAlertOf a s (set_of choice)
+    choice_is_alert choice possible = (universe_alert a s.labels choice h texts, possible.1)
 
-    dead_by_alerts : (path : List ℕ) → NoAlertEndsAt s c path → IsDead s c path
+    dead_by_alerts : (path : List ℕ) → NoAlertEndsAt a s c path → IsDead s c path
     dead_by_alerts path none choice possible there =
         none (set_of choice) (choice_is_alert choice possible) there
 
-    never_by_alerts : (path : List ℕ) → NoAlertEnters s c path → IsNeverEntered s c path
+    never_by_alerts : (path : List ℕ) → NoAlertEnters a s c path → IsNeverEntered s c path
     never_by_alerts path none choice end possible there leads =
         none (set_of choice) end (choice_is_alert choice possible) there leads
 
-    unmatched_by_alerts : (receiver : ℕ) → NoAlertGoesTo s c receiver
+    unmatched_by_alerts : (receiver : ℕ) → NoAlertGoesTo a s c receiver
         → IsUnmatched s c receiver
     unmatched_by_alerts receiver none choice possible there =
         none (set_of choice) (choice_is_alert choice possible) there
 
     pub some_ends : (path choice : List ℕ) → route_coverage s c path ≡ route_is.Live choice
-        → (alert : LabelMap) × IsAlertOf s alert × Contains (ends alert c) path
+        → (alert : LabelMap) × IsAlertOf a s alert × Contains (ends alert c) path
     some_ends path choice e =
         let r = first_live s c path choice e in
         (set_of choice, choice_is_alert choice r.possible, r.has)
 
     pub some_goes : (receiver : ℕ) (choice : List ℕ)
         → receiver_coverage s c receiver ≡ receiver_is.Live choice
-        → (alert : LabelMap) × IsAlertOf s alert × Contains (receivers alert c) receiver
+        → (alert : LabelMap) × IsAlertOf a s alert × Contains (receivers alert c) receiver
     some_goes receiver choice e =
         let r = of_receiver.first_live s c receiver choice e in
         (set_of choice, choice_is_alert choice r.possible, r.has)
 
     pub some_enters : (path : List ℕ) → route_coverage s c path ≡ route_is.Entered
-        → (alert : LabelMap) × (end : List ℕ) × IsAlertOf s alert × Contains (ends alert c) end
+        → (alert : LabelMap) × (end : List ℕ) × IsAlertOf a s alert × Contains (ends alert c) end
         × IsTrue (leads_through path end)
     some_enters path e =
         let r = first_entered s c path e in
         let end = r.1.has in
         (set_of r.0, end.0, choice_is_alert r.0 r.1.possible, end.1, end.2)
 
--- ---- Over the universe of a file, which is complete.
+  -- ---- In a complete space whose texts are over the alphabet.
+
+  module _ (texts : HasTextsOver a s.labels)
+      (complete : IsSpaceComplete a s (coverage_conditions s c)) where
+    pub dead_exactly : (path : List ℕ) → IsDead s c path ↔ NoAlertEndsAt a s c path
+    dead_exactly path = (none_ends complete path, dead_by_alerts texts path)
+
+    pub never_exactly : (path : List ℕ) → IsNeverEntered s c path ↔ NoAlertEnters a s c path
+    never_exactly path = (none_enters complete path, never_by_alerts texts path)
+
+    pub unmatched_exactly : (receiver : ℕ) → IsUnmatched s c receiver ↔ NoAlertGoesTo a s c receiver
+    unmatched_exactly receiver = (none_goes complete receiver, unmatched_by_alerts texts receiver)
+
+-- ---- In the universe of a file, which is complete over Unicode.
 
 module _ (bytes : List ℕ) (s : Space) (c : Configuration) (says : FileSaysUniverse bytes s)
-    (complete : IsSpaceComplete s (coverage_conditions s c)) where
-  universe : IsUniverse s.labels
-  universe = says.3.is_universe
+    (complete : IsSpaceComplete Unicode s (coverage_conditions s c)) where
+  pub dead_in_file : (path : List ℕ) → IsDead s c path ↔ NoAlertEndsAt Unicode s c path
+  dead_in_file = dead_exactly Unicode s c says.3.is_universe (universe_texts bytes s says) complete
 
-  texts : HasUtf8Texts s.labels
-  texts = universe_texts bytes s says
+  pub never_in_file : (path : List ℕ) → IsNeverEntered s c path ↔ NoAlertEnters Unicode s c path
+  never_in_file =
+      never_exactly Unicode s c says.3.is_universe (universe_texts bytes s says) complete
 
-  pub dead_exactly : (path : List ℕ) → IsDead s c path ↔ NoAlertEndsAt s c path
-  dead_exactly path =
-      (none_ends s c universe complete path, dead_by_alerts s c universe texts path)
-
-  pub never_exactly : (path : List ℕ) → IsNeverEntered s c path ↔ NoAlertEnters s c path
-  never_exactly path =
-      (none_enters s c universe complete path, never_by_alerts s c universe texts path)
-
-  pub unmatched_exactly : (receiver : ℕ) → IsUnmatched s c receiver ↔ NoAlertGoesTo s c receiver
-  unmatched_exactly receiver =
-      (none_goes s c universe complete receiver, unmatched_by_alerts s c universe texts receiver)
+  pub unmatched_in_file : (receiver : ℕ)
+      → IsUnmatched s c receiver ↔ NoAlertGoesTo Unicode s c receiver
+  unmatched_in_file =
+      unmatched_exactly Unicode s c says.3.is_universe (universe_texts bytes s says) complete

@@ -20,7 +20,8 @@ use Rattle.am_universe.specs.Universe.{Label, Values}
 use Rattle.am_labels.specs.Space.{Space}
 use Rattle.am_json.specs.Json.{json_of, is_null, non_null, field, item_list, items_of}
 use Rattle.am_records.specs.UniverseFile.{SaysValue, SaysLabel, FileSaysUniverse}
-use Rattle.am_every_alert.specs.EveryAlert.{HasUtf8Texts}
+use Rattle.am_classes.specs.declared.alphabet.Alphabet.TheVariants.{Unicode}
+use Rattle.am_complete.specs.Covering.{HasTextsOver}
 use Rattle.am_every_alert.proofs.OptionParts.{mapped, then_some}
 use Rattle.am_every_alert.proofs.JsonGrammar.{HasTexts, ItemsHaveTexts, MembersHaveTexts}
 use Rattle.am_every_alert.proofs.JsonGrammar.{json_of_text}
@@ -159,7 +160,7 @@ value_texts (d ∷ ds) (v ∷ values) h says =
     (value_text d v h.0 says.0, value_texts ds values h.1 says.1)
 
 label_texts : (ds : List Data) (u : List Label) → AllByRecursion HasText ds
-    → AllZip SaysLabel ds u → HasUtf8Texts u
+    → AllZip SaysLabel ds u → HasTextsOver Unicode u
 label_texts [] [] h says = tt
 label_texts [] (l ∷ u) h says = absurd says
 label_texts (d ∷ ds) [] h says = absurd says
@@ -169,7 +170,7 @@ label_texts (d ∷ ds) (l ∷ u) h says =
     (value_texts label.items l.values items label.values, label_texts ds u h.1 says.1)
 
 pub universe_texts : (bytes : List ℕ) (s : Space) → FileSaysUniverse bytes s
-    → HasUtf8Texts s.labels
+    → HasTextsOver Unicode s.labels
 universe_texts bytes s file =
     let says = file.3 in
     let whole = file_text bytes file.1 file.2 in

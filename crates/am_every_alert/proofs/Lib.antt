@@ -3,9 +3,11 @@ pub mod CompleteSpaces
 pub mod UniverseAlerts
 pub mod SameFate
 pub mod SpaceAlerts
-pub mod CompleteExample
 pub mod OptionParts
 pub mod JsonTexts
+pub mod OverAscii
+pub mod AnyLine
+pub mod CompleteExample
 pub mod JsonTokens
 pub mod JsonGrammar
 pub mod JsonData

@@ -4,9 +4,7 @@ use Rattle.std.proofs.Common.{not, refl, sym, ap, ◌∙◌, subst, inl, inr}
 use Rattle.std.specs.Prelude.{IsTrue, IsFalse, unwrap_or}
 use Rattle.std.specs.List.{list_any}
 use Rattle.std.specs.FinMap.{get}
-use Rattle.std.specs.Str.{IsUtf8}
 use Rattle.std.proofs.lemmas.Bool.{cases_Bool, and_parts}
-use Rattle.std.proofs.lemmas.Str.{IsUtf8-nil}
 use Rattle.am_universe.specs.Universe.{Label, IsUniverse, sizes}
 use Rattle.am_universe.specs.Choice.{IsWhole}
 use Rattle.am_universe.specs.LabelSet.{LabelMap, value_of, label_set_of}
@@ -19,7 +17,10 @@ use Rattle.am_eval.specs.World.{World}
 use Rattle.am_eval.specs.Question.{Question, satisfies, answers}
 use Rattle.am_eval.specs.Routing.{ends, receivers}
 use Rattle.am_eval.proofs.AnswerLaws.{answers_exact}
+use Rattle.am_classes.specs.declared.alphabet.Alphabet.{Alphabet}
+use Rattle.am_classes.specs.Alphabet.{IsOver}
 use Rattle.am_classes.specs.Alike.{AreAlike}
+use Rattle.am_classes.proofs.OverLemmas.{nil_over}
 use Rattle.am_complete.specs.Complete.{about, label_texts, HasAlike, IsComplete, IsSpaceComplete}
 use Rattle.am_complete.specs.Complete.{asks_only_of, matches_text, may_have}
 use Rattle.am_asked.specs.Asked.{route_conditions, world_conditions}
@@ -36,17 +37,18 @@ use Rattle.am_every_alert.proofs.SameFate.{same_possible, same_fate, same_truth}
 
 -- ---- A choice that meets the same of matchers.
 
--- a label of an alert has a UTF-8 text, absence included
-utf8_value : (s : LabelMap) (name : List ℕ) → IsAlert s → IsUtf8 (value_of s name)
-utf8_value s name alert = by (get s name) refl
+-- a label of an alert has a text over its alphabet, absence included
+value_over : (a : Alphabet) (s : LabelMap) (name : List ℕ) → IsAlert a s
+    → IsOver a (value_of s name)
+value_over a s name alert = by (get s name) refl
   where
-    by : (o : Option (List ℕ)) → get s name ≡ o → IsUtf8 (unwrap_or o [])
-    by None e = IsUtf8-nil
+    by : (o : Option (List ℕ)) → get s name ≡ o → IsOver a (unwrap_or o [])
+    by None e = nil_over a
     by (Some text) e = (alert name text e).1
 
 -- and no label of it is without a name
-no_value : (s : LabelMap) → IsAlert s → value_of s [] ≡ []
-no_value s alert = by (get s []) refl
+no_value : (a : Alphabet) (s : LabelMap) → IsAlert a s → value_of s [] ≡ []
+no_value a s alert = by (get s []) refl
   where
     by : (o : Option (List ℕ)) → get s [] ≡ o → unwrap_or o [] ≡ []
     by None e = refl
@@ -68,44 +70,45 @@ possible_value impossible alert name possible =
       | inr none ↦ ap not none
     ]
 
-alert_alike : (s : Space) (ms : List Condition) (alert : LabelMap) → IsUniverse s.labels
-    → IsSpaceComplete s ms → IsAlertOf s alert → (name : List ℕ)
+alert_alike : (a : Alphabet) (s : Space) (ms : List Condition) (alert : LabelMap)
+    → IsUniverse s.labels → IsSpaceComplete a s ms → IsAlertOf a s alert → (name : List ℕ)
     → HasAlike s.labels ms name (value_of alert name)
-alert_alike s ms alert h complete is (c ∷ cs) =
-    complete (c ∷ cs) (λ e. cc) (value_of alert (c ∷ cs)) (utf8_value alert (c ∷ cs) is.0)
+alert_alike a s ms alert h complete is (c ∷ cs) =
+    complete (c ∷ cs) (λ e. cc) (value_of alert (c ∷ cs)) (value_over a alert (c ∷ cs) is.0)
     (possible_value s.impossible alert (c ∷ cs) is.1)
-alert_alike s ms alert h complete is [] =
+alert_alike a s ms alert h complete is [] =
     let here : IsIn (label_texts s.labels []) [] =
     subst (λ texts. IsIn texts []) (sym (undeclared_texts s.labels [] h (λ e. cc))) (inl refl) in (
       [],
       Contains-from_IsIn (label_texts s.labels []) [] here,
-      subst (AreAlike (about [] ms) []) (sym (no_value alert is.0)) (alike_itself (about [] ms) []),
+      subst (AreAlike (about [] ms) []) (sym (no_value a alert is.0)) (alike_itself (about [] ms) []),
     )
 
-pub space_choice : (s : Space) (ms : List Condition) (alert : LabelMap) → IsUniverse s.labels
-    → IsSpaceComplete s ms → IsAlertOf s alert
+pub space_choice : (a : Alphabet) (s : Space) (ms : List Condition) (alert : LabelMap)
+    → IsUniverse s.labels → IsSpaceComplete a s ms → IsAlertOf a s alert
     → (c : List ℕ) × IsWhole (sizes s.labels) c × MeetsTheSame ms (label_set_of s.labels c) alert
-space_choice s ms alert h complete is =
-    standing_choice s.labels ms alert h (λ m i. alert_alike s ms alert h complete is m.name)
+space_choice a s ms alert h complete is =
+    standing_choice s.labels ms alert h (λ m i. alert_alike a s ms alert h complete is m.name)
 
-pub alert_choice : (u : List Label) (ms : List Condition) (s : LabelMap) → IsUniverse u
-    → IsComplete u ms → IsAlert s
+pub alert_choice : (a : Alphabet) (u : List Label) (ms : List Condition) (s : LabelMap)
+    → IsUniverse u → IsComplete a u ms → IsAlert a s
     → (c : List ℕ) × IsWhole (sizes u) c × MeetsTheSame ms (label_set_of u c) s
-alert_choice u ms s h complete alert =
+alert_choice a u ms s h complete alert =
     let space : Space = record { labels = u; impossible = [] } in
-    space_choice space ms s h (complete_space space ms complete) (alert, refl)
+    space_choice a space ms s h (complete_space a space ms complete) (alert, refl)
 
 -- ---- One with the same ends, and one that is an answer.
 
-module _ (s : Space) (alert : LabelMap) (h : IsUniverse s.labels) (is : IsAlertOf s alert) where
+module _ (a : Alphabet) (s : Space) (alert : LabelMap) (h : IsUniverse s.labels)
+    (is : IsAlertOf a s alert) where
   abbrev set_of : List ℕ → LabelMap
   set_of choice = label_set_of s.labels choice
 
-  pub ends_of_choice : (c : Configuration) → IsSpaceComplete s (coverage_conditions s c)
+  pub ends_of_choice : (c : Configuration) → IsSpaceComplete a s (coverage_conditions s c)
       → (choice : List ℕ) × IsChoiceOf s choice × (ends (set_of choice) c ≡ ends alert c)
       × (receivers (set_of choice) c ≡ receivers alert c)
   ends_of_choice c complete =
-      let r = space_choice s (coverage_conditions s c) alert h complete is in
+      let r = space_choice a s (coverage_conditions s c) alert h complete is in
       let routes = route_conditions c.root in
       let lists = impossible_conditions s.impossible in
       let on_routes = front_met (set_of r.0) alert routes lists r.2 in
@@ -117,12 +120,12 @@ module _ (s : Space) (alert : LabelMap) (h : IsUniverse s.labels) (is : IsAlertO
         same_receivers (set_of r.0) alert c on_routes,
       )
 
-  pub answer_of_alert : (w : World) (q : Question) → IsSpaceComplete s (asked_conditions s w q)
+  pub answer_of_alert : (w : World) (q : Question) → IsSpaceComplete a s (asked_conditions s w q)
       → IsTrue (satisfies w q alert)
       → (choice : List ℕ) × Contains (answers s w q) choice
       × HaveTheSameFate w (set_of choice) alert
   answer_of_alert w q complete true_of_it =
-      let r = space_choice s (asked_conditions s w q) alert h complete is in
+      let r = space_choice a s (asked_conditions s w q) alert h complete is in
       let set = set_of r.0 in
       let world = world_conditions w in
       let asked = question_conditions q in
@@ -134,7 +137,7 @@ module _ (s : Space) (alert : LabelMap) (h : IsUniverse s.labels) (is : IsAlertO
       let answer = (answers_exact s w q r.0).1 ((r.1, possible ∙ is.1), truth ∙ true_of_it) in
       (r.0, answer, fate)
 
-  pub no_alert : (w : World) (q : Question) → IsSpaceComplete s (asked_conditions s w q)
+  pub no_alert : (w : World) (q : Question) → IsSpaceComplete a s (asked_conditions s w q)
       → answers s w q ≡ [] → IsFalse (satisfies w q alert)
   no_alert w q complete none = elim (cases_Bool (satisfies w q alert)) [
     | inl true_of_it ↦

@@ -6,7 +6,6 @@ use Rattle.std.specs.Ordering.{nat_cmp}
 use Rattle.std.specs.Cmp.Lexicographic.{slice_cmp, nat_list_cmp_total, bytes_decides}
 use Rattle.std.specs.FinMap.{find, get-from_entries}
 use Rattle.std.specs.List.{AllByRecursion}
-use Rattle.std.specs.Str.{IsUtf8}
 use Rattle.std.proofs.lemmas.Bool.{cases_Bool}
 use Rattle.am_universe.specs.Text.{same_text}
 use Rattle.am_universe.specs.Universe.{Label, Values, IsLabel, IsUniverse}
@@ -14,7 +13,10 @@ use Rattle.am_universe.specs.LabelSet.{with_label, label_pairs, value_at, label_
 use Rattle.am_universe.proofs.LabelMapLemmas.{flips}
 use Rattle.am_universe.proofs.LabelPairLemmas.{find_before}
 use Rattle.am_universe.proofs.ListLemmas.{IsIn, AllByRecursion-at}
-use Rattle.am_every_alert.specs.EveryAlert.{HasUtf8Texts, IsAlert}
+use Rattle.am_classes.specs.declared.alphabet.Alphabet.{Alphabet}
+use Rattle.am_classes.specs.Alphabet.{IsOver}
+use Rattle.am_complete.specs.Covering.{HasTextsOver}
+use Rattle.am_every_alert.specs.EveryAlert.{IsAlert}
 use Rattle.am_complete.proofs.MadeUniverses.{no_name}
 
 abbrev found : List ℕ → List (List ℕ × List ℕ) → Option (List ℕ)
@@ -55,14 +57,14 @@ from_label (l ∷ u) (p ∷ c) name text e =
       | inr later ↦ let r = from_label u c name text later in (r.0, inr r.1, r.2, r.3)
     ]
 
-pub universe_alert : (u : List Label) (c : List ℕ) → IsUniverse u → HasUtf8Texts u
-    → IsAlert (label_set_of u c)
-universe_alert u c h texts name text e =
+pub universe_alert : (a : Alphabet) (u : List Label) (c : List ℕ) → IsUniverse u
+    → HasTextsOver a u → IsAlert a (label_set_of u c)
+universe_alert a u c h texts name text e =
     let r = from_label u c name text
     (sym (get-from_entries nat_list_cmp_total (label_pairs u c) name) ∙ e) in
     let named = (AllByRecursion-at IsLabel u r.0 h.labels r.1).name in
-    let values = AllByRecursion-at (λ l. AllByRecursion (λ v. IfSome v IsUtf8) l.values) u r.0
+    let values = AllByRecursion-at (λ l. AllByRecursion (λ v. IfSome v (IsOver a)) l.values) u r.0
     texts r.1 in (
       λ empty. no_name r.0.name named (r.2 ∙ empty),
-      AllByRecursion-at (λ v. IfSome v IsUtf8) r.0.values (Some text) values r.3,
+      AllByRecursion-at (λ v. IfSome v (IsOver a)) r.0.values (Some text) values r.3,
     )

@@ -1,7 +1,8 @@
--- An example of universes with one label that are complete for `team="db"`, and are not.
+-- Examples of universes with one label: which of them are complete for `team="db"`, and over which
+-- alphabet one is for `team=~".*"`.
 use Rattle.std.specs.Prelude.{List, [], ◌∷◌, Some, None, codes}
 use Rattle.am_universe.specs.Universe.{Label, Values}
-use Rattle.am_labels.specs.declared.op.Op.TheVariants.{NotEqual}
+use Rattle.am_labels.specs.declared.op.Op.TheVariants.{NotEqual, Matches}
 use Rattle.am_labels.specs.Matcher.{Condition}
 use Rattle.am_labels.specs.Space.{Space}
 
@@ -23,3 +24,11 @@ team_not_db = record { name = codes "team"; op = NotEqual; value = codes "db" }
 abbrev pub db_alone_possible : Space
 db_alone_possible =
     record { labels = team_universe db_alone; impossible = (team_not_db ∷ []) ∷ [] }
+
+-- A matcher on `team` that is true of every text without a line feed; and the values of `team` in
+-- the example where it is always absent.
+abbrev pub any_line : Condition
+any_line = record { name = codes "team"; op = Matches; value = codes ".*" }
+
+abbrev pub absent_alone : Values
+absent_alone = None ∷ []

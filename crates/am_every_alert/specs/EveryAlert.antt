@@ -1,39 +1,35 @@
 -- Alerts, whether their labels are declared or not: what they meet of matchers, and what is so of
 -- every one of them.
-use Rattle.std.specs.Prelude.{◌≡◌, ◌≢◌, ℕ, List, [], Some, Contains, IfSome, IsTrue}
+use Rattle.std.specs.Prelude.{◌≡◌, ◌≢◌, ℕ, List, [], Some, Contains, IsTrue}
 use Rattle.std.specs.List.{AllByRecursion}
 use Rattle.std.specs.FinMap.{get}
-use Rattle.std.specs.Str.{IsUtf8}
-use Rattle.am_universe.specs.Universe.{Label}
 use Rattle.am_universe.specs.LabelSet.{LabelMap}
 use Rattle.am_labels.specs.Matcher.{Condition, condition_holds}
 use Rattle.am_labels.specs.Space.{Space, is_possible}
 use Rattle.am_files.specs.ConfigFile.{Configuration}
 use Rattle.am_files.specs.Path.{leads_through}
+use Rattle.am_classes.specs.declared.alphabet.Alphabet.{Alphabet}
+use Rattle.am_classes.specs.Alphabet.{IsOver}
 use Rattle.am_eval.specs.World.{World}
 use Rattle.am_eval.specs.Routing.{ends, receivers}
 use Rattle.am_eval.specs.Silencing.{is_silenced}
 use Rattle.am_eval.specs.Inhibition.{is_inhibited}
 
--- A label set that an alert may have: no name is the empty text, and the values are UTF-8.
+-- A label set that an alert may have: no name is the empty text, and the values are over an
+-- alphabet. Over Unicode that is every alert; over ASCII the alert is *ordinary*.
 -- Source: Prometheus data model, "Metric names and labels", which since version 3 allows any UTF-8
 -- in names. Own choices: an alert may have no label, and names need not be UTF-8 here.
--- Example: `{team="db"}` is one, and so is a label set with the name `job-name`.
-abbrev pub IsAlert : LabelMap → Type 0
-IsAlert s = (name text : List ℕ) → get s name ≡ Some text → (name ≢ []) × IsUtf8 text
+-- Example: `{team="db"}` is one, and so is a label set with the name `job-name`. One with the value
+-- `é` is not ordinary.
+abbrev pub IsAlert : Alphabet → LabelMap → Type 0
+IsAlert a s = (name text : List ℕ) → get s name ≡ Some text → (name ≢ []) × IsOver a text
 
 -- An alert of a space: no list that is impossible matches it. Its labels need not be declared.
 -- Source: own choice.
 -- Example: where `env=prod,team=""` is impossible, `{env="dev"}` is one, and
 -- `{env="prod"}` is none.
-abbrev pub IsAlertOf : Space → LabelMap → Type 0
-IsAlertOf s alert = IsAlert alert × IsTrue (is_possible s.impossible alert)
-
--- The texts that the labels of a universe may have are UTF-8.
--- Source: RFC 8259, section 8.1: so is JSON text, which says them.
--- Example: in a universe where each label is always absent, they are.
-abbrev pub HasUtf8Texts : List Label → Type 0
-HasUtf8Texts u = AllByRecursion (λ l. AllByRecursion (λ v. IfSome v IsUtf8) l.values) u
+abbrev pub IsAlertOf : Alphabet → Space → LabelMap → Type 0
+IsAlertOf a s alert = IsAlert a alert × IsTrue (is_possible s.impossible alert)
 
 -- Two label sets meet the same of some matchers: each matcher has the same truth on both.
 -- Source: own choice.
@@ -51,20 +47,20 @@ pub record HaveTheSameFate (w : World) (s t : LabelMap) : Type 0 where
   pub same_silenced : is_silenced w s ≡ is_silenced w t
   pub same_inhibited : is_inhibited w s ≡ is_inhibited w t
 
--- No alert ends at a route, but for those that are impossible; none ends there or below it; and
--- none goes to a receiver.
+-- No alert over an alphabet ends at a route, but for those that are impossible; none ends there or
+-- below it; and none goes to a receiver.
 -- Source: own choice.
 -- Example: none ends at a route behind a sibling without matchers and without `continue`, whatever
 -- labels it has.
-abbrev pub NoAlertEndsAt : Space → Configuration → List ℕ → Type 0
-NoAlertEndsAt s c path =
-    (alert : LabelMap) → IsAlertOf s alert → Contains (ends alert c) path → ⊥
+abbrev pub NoAlertEndsAt : Alphabet → Space → Configuration → List ℕ → Type 0
+NoAlertEndsAt a s c path =
+    (alert : LabelMap) → IsAlertOf a s alert → Contains (ends alert c) path → ⊥
 
-abbrev pub NoAlertEnters : Space → Configuration → List ℕ → Type 0
-NoAlertEnters s c path =
-    (alert : LabelMap) (end : List ℕ) → IsAlertOf s alert → Contains (ends alert c) end
+abbrev pub NoAlertEnters : Alphabet → Space → Configuration → List ℕ → Type 0
+NoAlertEnters a s c path =
+    (alert : LabelMap) (end : List ℕ) → IsAlertOf a s alert → Contains (ends alert c) end
     → IsTrue (leads_through path end) → ⊥
 
-abbrev pub NoAlertGoesTo : Space → Configuration → ℕ → Type 0
-NoAlertGoesTo s c receiver =
-    (alert : LabelMap) → IsAlertOf s alert → Contains (receivers alert c) receiver → ⊥
+abbrev pub NoAlertGoesTo : Alphabet → Space → Configuration → ℕ → Type 0
+NoAlertGoesTo a s c receiver =
+    (alert : LabelMap) → IsAlertOf a s alert → Contains (receivers alert c) receiver → ⊥

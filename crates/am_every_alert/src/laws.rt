@@ -11,22 +11,24 @@ ghost use Rattle.am_files.specs.Path.{leads_through};
 ghost use Rattle.am_eval.specs.RoutingExamples.{team_db};
 ghost use Rattle.am_eval.specs.Words.{World, ends, receivers, is_silenced, is_inhibited};
 ghost use Rattle.am_eval.specs.Words.{Question, satisfies, answers, at_instant};
+ghost use Rattle.am_classes.specs.declared.alphabet.Alphabet.{Alphabet};
+ghost use Rattle.am_classes.specs.declared.alphabet.Alphabet.TheVariants.{Unicode, Ascii};
 ghost use Rattle.am_complete.specs.Words.{AreAlike, HasAlike, Covers, about, AreAmong};
 ghost use Rattle.am_complete.specs.Words.{IsCompleteAt, IsComplete, IsSpaceComplete};
 ghost use Rattle.am_complete.specs.Words.{impossible_conditions, AskedLabel, IsAskedOf};
-ghost use Rattle.am_complete.specs.Words.{HaveNoRoom};
+ghost use Rattle.am_complete.specs.Words.{HaveNoRoom, HasTextsOver};
 ghost use Rattle.am_asked.specs.Words.{route_conditions, rule_conditions, equal_conditions};
 ghost use Rattle.am_asked.specs.Words.{silence_conditions, world_conditions};
 ghost use Rattle.am_coverage.specs.declared.coverage.RouteCoverage.TheVariants as route_is;
 ghost use Rattle.am_coverage.specs.declared.coverage.ReceiverCoverage.TheVariants as receiver_is;
 ghost use Rattle.am_coverage.specs.Words.{IsDead, IsNeverEntered, IsUnmatched};
 ghost use Rattle.am_coverage.specs.Words.{route_coverage, receiver_coverage};
-ghost use Rattle.am_every_alert.specs.Words.{IsAlert, IsAlertOf, HasUtf8Texts, MeetsTheSame};
+ghost use Rattle.am_every_alert.specs.Words.{IsAlert, IsAlertOf, MeetsTheSame};
 ghost use Rattle.am_every_alert.specs.Words.{HaveTheSameFate, coverage_conditions};
 ghost use Rattle.am_every_alert.specs.Words.{asked_conditions};
 ghost use Rattle.am_every_alert.specs.Words.{NoAlertEndsAt, NoAlertEnters, NoAlertGoesTo};
 ghost use Rattle.am_every_alert.specs.Words.{team_universe, db_or_absent, db_alone, team_not_db};
-ghost use Rattle.am_every_alert.specs.Words.{db_alone_possible};
+ghost use Rattle.am_every_alert.specs.Words.{db_alone_possible, absent_alone, any_line};
 
 /// Where each text that a label set has for a label of some matchers has one alike in a universe,
 /// some choice of the universe meets the same of them.
@@ -36,11 +38,12 @@ pub fn each_label_set_has_a_choice()
         → (c : List ℕ) × IsWhole (sizes u) c × MeetsTheSame ms (label_set_of u c) s }
 {}
 
-/// A universe that is complete for some matchers stands for every alert: whatever labels an alert
-/// has, some choice meets the same of the matchers.
+/// A universe that is complete for some matchers, over an alphabet, stands for every alert over
+/// this alphabet: whatever labels such an alert has, some choice meets the same of the matchers.
+/// Over Unicode these are all alerts; over ASCII they are those whose values are printable ASCII.
 pub fn a_complete_universe_stands_for_every_alert()
-    ensures stands { (u : List Label) (ms : List Condition) (s : LabelMap) → IsUniverse u
-        → IsComplete u ms → IsAlert s
+    ensures stands { (a : Alphabet) (u : List Label) (ms : List Condition) (s : LabelMap)
+        → IsUniverse u → IsComplete a u ms → IsAlert a s
         → (c : List ℕ) × IsWhole (sizes u) c × MeetsTheSame ms (label_set_of u c) s }
 {}
 
@@ -68,101 +71,122 @@ pub fn what_meets_the_same_has_the_same_fate()
         → AreAmong ns ms → MeetsTheSame ms s t → MeetsTheSame ns s t }
 {}
 
-/// Over a universe that is complete for a world, every alert has the fate of some choice: it ends
-/// at the same routes, goes to the same receivers, and is silenced, and inhibited, as that is. What
-/// is complete for a world is so at every instant.
+/// In a universe that is complete for a world, over an alphabet, every alert over this alphabet has
+/// the fate of some choice: it ends at the same routes, goes to the same receivers, and is
+/// silenced, and inhibited, as that is. What is complete for a world is so at every instant.
 pub fn every_alert_has_the_fate_of_a_choice()
-    ensures fate { (u : List Label) (w : World) (s : LabelMap) → IsUniverse u
-        → IsComplete u (world_conditions w) → IsAlert s
+    ensures fate { (a : Alphabet) (u : List Label) (w : World) (s : LabelMap) → IsUniverse u
+        → IsComplete a u (world_conditions w) → IsAlert a s
         → (c : List ℕ) × IsWhole (sizes u) c × HaveTheSameFate w (label_set_of u c) s }
     ensures any_instant { (w : World) (instant : ℤ)
         → world_conditions (at_instant w instant) ≡ world_conditions w }
 {}
 
-/// A space that is complete for some matchers stands for every alert of it: whatever labels such an
-/// alert has, some choice of its labels meets the same of the matchers.
+/// A space that is complete for some matchers, over an alphabet, stands for every alert of it over
+/// this alphabet: whatever labels such an alert has, some choice of its labels meets the same of
+/// the matchers.
 pub fn a_complete_space_stands_for_every_alert_of_it()
-    ensures stands { (s : Space) (ms : List Condition) (alert : LabelMap) → IsUniverse s.labels
-        → IsSpaceComplete s ms → IsAlertOf s alert
+    ensures stands { (a : Alphabet) (s : Space) (ms : List Condition) (alert : LabelMap)
+        → IsUniverse s.labels → IsSpaceComplete a s ms → IsAlertOf a s alert
         → (c : List ℕ) × IsWhole (sizes s.labels) c
         × MeetsTheSame ms (label_set_of s.labels c) alert }
 {}
 
-/// Over a space that is complete for the matchers of its routes and of what is impossible, every
-/// alert of the space ends at the routes at which some choice of it ends, and goes to the same
-/// receivers.
+/// In a space that is complete, over an alphabet, for the matchers of the routes and of what is
+/// impossible, every alert of the space over this alphabet ends at the routes at which some choice
+/// of it ends, and goes to the same receivers.
 pub fn every_alert_of_a_space_ends_as_a_choice_does()
-    ensures ends { (s : Space) (c : Configuration) (alert : LabelMap) → IsUniverse s.labels
-        → IsSpaceComplete s (coverage_conditions s c) → IsAlertOf s alert
+    ensures ends { (a : Alphabet) (s : Space) (c : Configuration) (alert : LabelMap)
+        → IsUniverse s.labels → IsSpaceComplete a s (coverage_conditions s c) → IsAlertOf a s alert
         → (choice : List ℕ) × IsChoiceOf s choice
         × (ends (label_set_of s.labels choice) c ≡ ends alert c)
         × (receivers (label_set_of s.labels choice) c ≡ receivers alert c) }
 {}
 
-/// Over a space that is complete for the matchers of the routes and of what is impossible, no alert
-/// of the space ends at a route that is dead, none ends at or below one that is never entered, and
-/// none goes to a receiver that is unmatched.
+/// In a space that is complete, over an alphabet, for the matchers of the routes and of what is
+/// impossible, no alert of the space over this alphabet ends at a route that is dead, none ends at
+/// or below one that is never entered, and none goes to a receiver that is unmatched.
 pub fn a_dead_route_of_a_complete_universe_has_no_alert()
-    ensures dead { (s : Space) (c : Configuration) (path : List ℕ) → IsUniverse s.labels
-        → IsSpaceComplete s (coverage_conditions s c)
-        → IsDead s c path → NoAlertEndsAt s c path }
-    ensures never_entered { (s : Space) (c : Configuration) (path : List ℕ) → IsUniverse s.labels
-        → IsSpaceComplete s (coverage_conditions s c)
-        → IsNeverEntered s c path → NoAlertEnters s c path }
-    ensures unmatched { (s : Space) (c : Configuration) (receiver : ℕ) → IsUniverse s.labels
-        → IsSpaceComplete s (coverage_conditions s c)
-        → IsUnmatched s c receiver → NoAlertGoesTo s c receiver }
+    ensures dead { (a : Alphabet) (s : Space) (c : Configuration) (path : List ℕ)
+        → IsUniverse s.labels → IsSpaceComplete a s (coverage_conditions s c)
+        → IsDead s c path → NoAlertEndsAt a s c path }
+    ensures never_entered { (a : Alphabet) (s : Space) (c : Configuration) (path : List ℕ)
+        → IsUniverse s.labels → IsSpaceComplete a s (coverage_conditions s c)
+        → IsNeverEntered s c path → NoAlertEnters a s c path }
+    ensures unmatched { (a : Alphabet) (s : Space) (c : Configuration) (receiver : ℕ)
+        → IsUniverse s.labels → IsSpaceComplete a s (coverage_conditions s c)
+        → IsUnmatched s c receiver → NoAlertGoesTo a s c receiver }
 {}
 
-/// Over any universe, complete or not, some alert ends at each route that is told as live, some
-/// ends below each that is told as entered, and some goes to each receiver that is told as live.
+/// In any universe whose texts are over an alphabet, complete or not, some alert over this alphabet
+/// ends at each route that is told as live, some ends below each that is told as entered, and some
+/// goes to each receiver that is told as live.
 pub fn a_route_is_live_in_any_universe()
-    ensures live { (s : Space) (c : Configuration) (path choice : List ℕ) → IsUniverse s.labels
-        → HasUtf8Texts s.labels → route_coverage s c path ≡ route_is.Live choice
-        → (alert : LabelMap) × IsAlertOf s alert × Contains (ends alert c) path }
-    ensures entered { (s : Space) (c : Configuration) (path : List ℕ) → IsUniverse s.labels
-        → HasUtf8Texts s.labels → route_coverage s c path ≡ route_is.Entered
-        → (alert : LabelMap) × (end : List ℕ) × IsAlertOf s alert × Contains (ends alert c) end
+    ensures live { (a : Alphabet) (s : Space) (c : Configuration) (path choice : List ℕ)
+        → IsUniverse s.labels → HasTextsOver a s.labels
+        → route_coverage s c path ≡ route_is.Live choice
+        → (alert : LabelMap) × IsAlertOf a s alert × Contains (ends alert c) path }
+    ensures entered { (a : Alphabet) (s : Space) (c : Configuration) (path : List ℕ)
+        → IsUniverse s.labels → HasTextsOver a s.labels
+        → route_coverage s c path ≡ route_is.Entered
+        → (alert : LabelMap) × (end : List ℕ) × IsAlertOf a s alert × Contains (ends alert c) end
         × IsTrue (leads_through path end) }
-    ensures receiver { (s : Space) (c : Configuration) (receiver : ℕ) (choice : List ℕ)
-        → IsUniverse s.labels → HasUtf8Texts s.labels
+    ensures receiver { (a : Alphabet) (s : Space) (c : Configuration) (receiver : ℕ)
+        (choice : List ℕ) → IsUniverse s.labels → HasTextsOver a s.labels
         → receiver_coverage s c receiver ≡ receiver_is.Live choice
-        → (alert : LabelMap) × IsAlertOf s alert × Contains (receivers alert c) receiver }
+        → (alert : LabelMap) × IsAlertOf a s alert × Contains (receivers alert c) receiver }
 {}
 
-/// So over a universe file that is complete a route is dead exactly where no possible alert ends
-/// there, it is never entered exactly where none ends there or below it, and a receiver is
-/// unmatched exactly where none goes to it. Whatever labels an alert has, and whatever their names
-/// are, it is possible unless an impossible list matches it.
+/// So in a universe file that is complete over Unicode a route is dead exactly where no possible
+/// alert ends there, it is never entered exactly where none ends there or below it, and a receiver
+/// is unmatched exactly where none goes to it. Whatever labels an alert has, and whatever their
+/// names are, it is possible unless an impossible list matches it. The same holds over each
+/// alphabet that the texts of a universe are over: in one that is complete over ASCII, and has
+/// texts of printable ASCII alone, a route is dead exactly where no possible alert with such values
+/// ends there.
 pub fn over_a_complete_universe_dead_is_exact()
     ensures dead { (universe_file path : List ℕ) (s : Space) (c : Configuration)
-        → FileSaysUniverse universe_file s → IsSpaceComplete s (coverage_conditions s c)
-        → (IsDead s c path ↔ NoAlertEndsAt s c path) }
+        → FileSaysUniverse universe_file s → IsSpaceComplete Unicode s (coverage_conditions s c)
+        → (IsDead s c path ↔ NoAlertEndsAt Unicode s c path) }
     ensures never_entered { (universe_file path : List ℕ) (s : Space) (c : Configuration)
-        → FileSaysUniverse universe_file s → IsSpaceComplete s (coverage_conditions s c)
-        → (IsNeverEntered s c path ↔ NoAlertEnters s c path) }
+        → FileSaysUniverse universe_file s → IsSpaceComplete Unicode s (coverage_conditions s c)
+        → (IsNeverEntered s c path ↔ NoAlertEnters Unicode s c path) }
     ensures unmatched { (universe_file : List ℕ) (s : Space) (c : Configuration) (receiver : ℕ)
-        → FileSaysUniverse universe_file s → IsSpaceComplete s (coverage_conditions s c)
-        → (IsUnmatched s c receiver ↔ NoAlertGoesTo s c receiver) }
+        → FileSaysUniverse universe_file s → IsSpaceComplete Unicode s (coverage_conditions s c)
+        → (IsUnmatched s c receiver ↔ NoAlertGoesTo Unicode s c receiver) }
+    ensures dead_over { (a : Alphabet) (s : Space) (c : Configuration) (path : List ℕ)
+        → IsUniverse s.labels → HasTextsOver a s.labels
+        → IsSpaceComplete a s (coverage_conditions s c)
+        → (IsDead s c path ↔ NoAlertEndsAt a s c path) }
+    ensures never_entered_over { (a : Alphabet) (s : Space) (c : Configuration) (path : List ℕ)
+        → IsUniverse s.labels → HasTextsOver a s.labels
+        → IsSpaceComplete a s (coverage_conditions s c)
+        → (IsNeverEntered s c path ↔ NoAlertEnters a s c path) }
+    ensures unmatched_over { (a : Alphabet) (s : Space) (c : Configuration) (receiver : ℕ)
+        → IsUniverse s.labels → HasTextsOver a s.labels
+        → IsSpaceComplete a s (coverage_conditions s c)
+        → (IsUnmatched s c receiver ↔ NoAlertGoesTo a s c receiver) }
 {}
 
-/// A question that is true of an alert of the space has an answer with the same fate, if the space
-/// is complete for all matchers that decide it. So a question without answers is true of no alert.
+/// A question that is true of an alert of the space over an alphabet has an answer with the same
+/// fate, if the space is complete, over this alphabet, for all matchers that decide it. So a
+/// question without answers is true of no such alert.
 pub fn a_question_without_answers_is_true_of_no_alert()
-    ensures answered { (s : Space) (w : World) (q : Question) (alert : LabelMap)
-        → IsUniverse s.labels → IsSpaceComplete s (asked_conditions s w q)
-        → IsAlertOf s alert → IsTrue (satisfies w q alert)
+    ensures answered { (a : Alphabet) (s : Space) (w : World) (q : Question) (alert : LabelMap)
+        → IsUniverse s.labels → IsSpaceComplete a s (asked_conditions s w q)
+        → IsAlertOf a s alert → IsTrue (satisfies w q alert)
         → (choice : List ℕ) × Contains (answers s w q) choice
         × HaveTheSameFate w (label_set_of s.labels choice) alert }
-    ensures unanswered { (s : Space) (w : World) (q : Question) (alert : LabelMap)
-        → IsUniverse s.labels → IsSpaceComplete s (asked_conditions s w q)
-        → IsAlertOf s alert → answers s w q ≡ [] → IsFalse (satisfies w q alert) }
+    ensures unanswered { (a : Alphabet) (s : Space) (w : World) (q : Question) (alert : LabelMap)
+        → IsUniverse s.labels → IsSpaceComplete a s (asked_conditions s w q)
+        → IsAlertOf a s alert → answers s w q ≡ [] → IsFalse (satisfies w q alert) }
 {}
 
-/// The label sets of a universe are such as an alert may have, complete or not.
+/// The label sets of a universe are such as an alert may have, complete or not, over each alphabet
+/// that the texts of the universe are over.
 pub fn label_sets_of_a_universe_are_alerts()
-    ensures alert { (u : List Label) (c : List ℕ) → IsUniverse u → HasUtf8Texts u
-        → IsAlert (label_set_of u c) }
+    ensures alert { (a : Alphabet) (u : List Label) (c : List ℕ) → IsUniverse u
+        → HasTextsOver a u → IsAlert a (label_set_of u c) }
 {}
 
 /// To be alike to some matchers is an equivalence of texts.
@@ -173,37 +197,37 @@ pub fn alike_texts_are_equivalent()
         → AreAlike ms x y → AreAlike ms y z → AreAlike ms x z }
 {}
 
-/// A universe is complete at a label where some texts cover all, and each of them has one alike in
-/// the universe; and at each label that no matcher is on.
+/// A universe is complete at a label, over an alphabet, where some texts cover all that are over
+/// it, and each of them has one alike in the universe; and at each label that no matcher is on.
 pub fn a_universe_is_complete_where_its_texts_cover_all()
-    ensures covered { (u : List Label) (ms : List Condition) (name : List ℕ)
-        (texts : List (List ℕ)) → Covers (about name ms) texts
-        → AllByRecursion (λ x. HasAlike u ms name x) texts → IsCompleteAt u ms name }
-    ensures no_matcher { (u : List Label) (ms : List Condition) (name : List ℕ)
-        → IsUniverse u → about name ms ≡ [] → IsCompleteAt u ms name }
+    ensures covered { (a : Alphabet) (u : List Label) (ms : List Condition) (name : List ℕ)
+        (texts : List (List ℕ)) → Covers a (about name ms) texts
+        → AllByRecursion (λ x. HasAlike u ms name x) texts → IsCompleteAt a u ms name }
+    ensures no_matcher { (a : Alphabet) (u : List Label) (ms : List Condition) (name : List ℕ)
+        → IsUniverse u → about name ms ≡ [] → IsCompleteAt a u ms name }
 {}
 
-/// A universe is complete for some matchers where it is at the label of each, whatever the names
-/// are. What is complete for matchers is complete for each part of them.
+/// A universe is complete for some matchers, over an alphabet, where it is at the label of each,
+/// whatever the names are. What is complete for matchers is complete for each part of them.
 pub fn a_universe_is_complete_by_its_matchers()
-    ensures by_labels { (u : List Label) (ms : List Condition) → IsUniverse u
-        → AllByRecursion (λ m. m.name ≢ [] → IsCompleteAt u ms m.name) ms
-        → IsComplete u ms }
-    ensures part { (u : List Label) (ns ms : List Condition)
-        → AreAmong ns ms → IsComplete u ms → IsComplete u ns }
-    ensures part_at { (u : List Label) (ns ms : List Condition) (name : List ℕ)
-        → AreAmong ns ms → IsCompleteAt u ms name → IsCompleteAt u ns name }
+    ensures by_labels { (a : Alphabet) (u : List Label) (ms : List Condition) → IsUniverse u
+        → AllByRecursion (λ m. m.name ≢ [] → IsCompleteAt a u ms m.name) ms
+        → IsComplete a u ms }
+    ensures part { (a : Alphabet) (u : List Label) (ns ms : List Condition)
+        → AreAmong ns ms → IsComplete a u ms → IsComplete a u ns }
+    ensures part_at { (a : Alphabet) (u : List Label) (ns ms : List Condition) (name : List ℕ)
+        → AreAmong ns ms → IsCompleteAt a u ms name → IsCompleteAt a u ns name }
 {}
 
-/// A space is complete for some matchers where its universe is; where nothing is impossible, only
-/// there. What is complete for matchers is complete for each part of them.
+/// A space is complete for some matchers, over an alphabet, where its universe is; where nothing is
+/// impossible, only there. What is complete for matchers is complete for each part of them.
 pub fn a_space_is_complete_where_its_universe_is()
-    ensures universe { (s : Space) (ms : List Condition)
-        → IsComplete s.labels ms → IsSpaceComplete s ms }
-    ensures all_possible { (s : Space) (ms : List Condition) → s.impossible ≡ []
-        → IsSpaceComplete s ms → IsComplete s.labels ms }
-    ensures part { (s : Space) (ns ms : List Condition)
-        → AreAmong ns ms → IsSpaceComplete s ms → IsSpaceComplete s ns }
+    ensures universe { (a : Alphabet) (s : Space) (ms : List Condition)
+        → IsComplete a s.labels ms → IsSpaceComplete a s ms }
+    ensures all_possible { (a : Alphabet) (s : Space) (ms : List Condition) → s.impossible ≡ []
+        → IsSpaceComplete a s ms → IsComplete a s.labels ms }
+    ensures part { (a : Alphabet) (s : Space) (ns ms : List Condition)
+        → AreAmong ns ms → IsSpaceComplete a s ms → IsSpaceComplete a s ns }
 {}
 
 /// Of matchers in a row, those in front and those behind are among all; what is among matchers that
@@ -217,36 +241,59 @@ pub fn parts_of_matchers_are_among_them()
         → AreAmong ks ns → AreAmong ns ms → AreAmong ks ms }
 {}
 
-/// What is complete for a world and for what is impossible is complete for the routes and for what
-/// is impossible. Where nothing is, it is enough to be complete for matchers with those of the
-/// routes among them.
+/// What is complete for a world and for what is impossible is complete, over the same alphabet, for
+/// the routes and for what is impossible. Where nothing is, it is enough to be complete for
+/// matchers with those of the routes among them.
 pub fn what_is_complete_for_a_world_is_so_for_its_routes()
-    ensures routes { (s : Space) (w : World)
-        → IsSpaceComplete s (world_conditions w ++ impossible_conditions s.impossible)
-        → IsSpaceComplete s (coverage_conditions s w.config) }
-    ensures all_possible { (u : List Label) (c : Configuration) (ms : List Condition)
-        → AreAmong (route_conditions c.root) ms → IsComplete u ms
-        → IsComplete u (coverage_conditions (record { labels = u; impossible = [] }) c) }
+    ensures routes { (a : Alphabet) (s : Space) (w : World)
+        → IsSpaceComplete a s (world_conditions w ++ impossible_conditions s.impossible)
+        → IsSpaceComplete a s (coverage_conditions s w.config) }
+    ensures all_possible { (a : Alphabet) (u : List Label) (c : Configuration) (ms : List Condition)
+        → AreAmong (route_conditions c.root) ms → IsComplete a u ms
+        → IsComplete a u (coverage_conditions (record { labels = u; impossible = [] }) c) }
+{}
+
+/// What is complete over Unicode is complete over ASCII, since a text of printable ASCII is UTF-8:
+/// a universe, at a label and for all matchers, and a space. An alert over ASCII is one over
+/// Unicode, also one of a space, and a universe whose texts are over ASCII has texts over Unicode.
+pub fn what_is_complete_over_unicode_is_complete_over_ascii()
+    ensures at_label { (u : List Label) (ms : List Condition) (name : List ℕ)
+        → IsCompleteAt Unicode u ms name → IsCompleteAt Ascii u ms name }
+    ensures universe { (u : List Label) (ms : List Condition)
+        → IsComplete Unicode u ms → IsComplete Ascii u ms }
+    ensures space { (s : Space) (ms : List Condition)
+        → IsSpaceComplete Unicode s ms → IsSpaceComplete Ascii s ms }
+    ensures alert { (s : LabelMap) → IsAlert Ascii s → IsAlert Unicode s }
+    ensures alert_of_space { (s : Space) (alert : LabelMap)
+        → IsAlertOf Ascii s alert → IsAlertOf Unicode s alert }
+    ensures texts { (u : List Label) → HasTextsOver Ascii u → HasTextsOver Unicode u }
 {}
 
 /// The texts of a universe that a file says are UTF-8, since JSON text is.
 pub fn texts_of_universe_files_are_utf8()
     ensures utf8 { (bytes : List ℕ) (s : Space) → FileSaysUniverse bytes s
-        → HasUtf8Texts s.labels }
+        → HasTextsOver Unicode s.labels }
 {}
 
-/// An example: where `team` may be `db` or absent, the universe is complete for `team="db"`; where
-/// it is always `db` it is not, since no choice stands for the alerts of another team. The space in
-/// which there is no other team is complete.
+/// An example: where `team` may be `db` or absent, the universe is complete for `team="db"`, over
+/// each alphabet; where it is always `db` it is not, since no choice stands for the alerts of
+/// another team. The space in which there is no other team is complete. And where `team` is always
+/// absent, the universe is complete for `team=~".*"` over ASCII, and not over Unicode, since the
+/// pattern does not match a line feed.
 pub fn an_example_of_completeness()
-    ensures complete { IsComplete (team_universe db_or_absent) (team_db ∷ []) }
-    ensures incomplete { ¬ IsComplete (team_universe db_alone) (team_db ∷ []) }
-    ensures possible { IsSpaceComplete db_alone_possible (team_db ∷ team_not_db ∷ []) }
+    ensures complete { (a : Alphabet) → IsComplete a (team_universe db_or_absent) (team_db ∷ []) }
+    ensures incomplete { (a : Alphabet)
+        → ¬ IsComplete a (team_universe db_alone) (team_db ∷ []) }
+    ensures possible { (a : Alphabet)
+        → IsSpaceComplete a db_alone_possible (team_db ∷ team_not_db ∷ []) }
+    ensures over_ascii { IsComplete Ascii (team_universe absent_alone) (any_line ∷ []) }
+    ensures not_over_unicode { ¬ IsComplete Unicode (team_universe absent_alone) (any_line ∷ []) }
 {}
 
-/// Where there is no room for the labels that matchers ask of, no universe is complete for these
-/// matchers.
+/// Where there is no room for the labels that matchers ask of, each with its classes of texts over
+/// an alphabet, no universe is complete for these matchers over this alphabet.
 pub fn what_has_no_room_has_no_complete_universe()
-    ensures none { (asked : List AskedLabel) (ms : List Condition) (u : List Label) → IsUniverse u
-        → IsAskedOf asked ms → HaveNoRoom asked → ¬ IsComplete u ms }
+    ensures none { (a : Alphabet) (asked : List AskedLabel) (ms : List Condition)
+        (u : List Label) → IsUniverse u → IsAskedOf asked ms → HaveNoRoom a asked
+        → ¬ IsComplete a u ms }
 {}

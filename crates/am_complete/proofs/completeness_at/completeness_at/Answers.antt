@@ -3,6 +3,7 @@ use Rattle.am_universe.specs.Universe.{is_label_name}
 use Rattle.am_labels.specs.Matcher.{Condition}
 use Rattle.am_complete.specs.Covering.{StandForAll}
 use Rattle.am_complete.proofs.MadeUniverses.{no_name}
+use Rattle.am_complete.proofs.OkClauses.{so_if_not}
 use Rattle.am_complete.proofs.completeness_at.completeness_at.Goals as goal
 
 pub completeness_by-requires-clause-asked : goal.completeness_by-requires-clause-asked
@@ -13,12 +14,20 @@ completeness_by-requires-clause-asked c =
 
 pub completeness_by-requires-clause-stand : goal.completeness_by-requires-clause-stand
 completeness_by-requires-clause-stand c =
-    let texts = map string_bytes c.in-Some.texts.items in
-    subst (λ (ms : List Condition). StandForAll ms texts) c.matchers.ensures.matchers
-    (rw c.in-Some.is at c.in_ok-texts.ensures.covers, rw c.in-Some.is at c.in_ok-texts.ensures.apart)
+    let texts = map string_bytes c.in-Some.classes.texts.items in
+    subst (λ (ms : List Condition). StandForAll c.args.alphabet ms texts) c.matchers.ensures.matchers
+    (record {
+      covers = rw c.in-Some.is at c.in_ok-classes.ensures.covers (so_if_not _ c.if-not-classes.false);
+      apart = rw c.in-Some.is at c.in_ok-classes.ensures.apart;
+      over = rw c.in-Some.is at c.in_ok-classes.ensures.over;
+    })
 
 pub completeness_by_absence-requires-clause-stand : goal.completeness_by_absence-requires-clause-stand
 completeness_by_absence-requires-clause-stand c =
-    let texts = map string_bytes c.in-Some.texts.items in
-    subst (λ (ms : List Condition). StandForAll ms texts) c.matchers.ensures.matchers
-    (rw c.in-Some.is at c.in_ok-texts.ensures.covers, rw c.in-Some.is at c.in_ok-texts.ensures.apart)
+    let texts = map string_bytes c.in-Some.classes.texts.items in
+    subst (λ (ms : List Condition). StandForAll c.args.alphabet ms texts) c.matchers.ensures.matchers
+    (record {
+      covers = rw c.in-Some.is at c.in_ok-classes.ensures.covers (so_if_not _ c.if-not-classes.false);
+      apart = rw c.in-Some.is at c.in_ok-classes.ensures.apart;
+      over = rw c.in-Some.is at c.in_ok-classes.ensures.over;
+    })

@@ -12,11 +12,11 @@ use Rattle.am_complete.proofs.completeness_at.completeness_by_absence.Goals.{els
 
 -- the texts stand for all that the label may have, and there are so many
 stand : (c : After-len-classes) → c.args.label.now.name ≢ []
-    → StandForPossible c.args.space.now.impossible c.args.label.now.name
+    → StandForPossible c.args.alphabet c.args.space.now.impossible c.args.label.now.name
     c.args.label.now.matchers (map string_bytes c.in_ok-texts.texts.items)
 stand c some =
     let all = map string_bytes c.args.texts.items in
-    stand_possible c.args.space.now.impossible c.args.label.now all
+    stand_possible c.args.alphabet c.args.space.now.impossible c.args.label.now all
     (map string_bytes c.in_ok-texts.texts.items) (c.requires.asked some).lists c.requires.stand
     (c.in_ok-texts.ensures
     ∙ (λ i. filter (may_have (c.impossible.ensures.lists i) (c.name.ensures.name i)) all))
@@ -30,9 +30,9 @@ returns-then-classes-eq0 c = λ some.
     let l = c.args.label.now in
     let texts = c.in_ok-texts.texts.items in
     let at = (goal.at.returns-then-classes-eq0 c).After-len-classes in
-    absence_stands s l texts c.len-classes.result c.requires.universe c.requires.unnamed
+    absence_stands c.args.alphabet s l texts c.len-classes.result c.requires.universe c.requires.unnamed
     (stand at some) (count at)
-    (none_found s.impossible l texts (sym (count at) ∙ c.if-classes-eq0.true) (stand at some))
+    (none_found c.args.alphabet s.impossible l texts (sym (count at) ∙ c.if-classes-eq0.true) (stand at some))
 
 pub returns-then-branch : goal.returns-then-branch
 returns-then-branch c = λ some.
@@ -44,9 +44,9 @@ returns-then-branch c = λ some.
     sym (λ i. may_have (c.impossible-then-classes-eq1.ensures.lists i)
     (c.name-then-classes-eq1.ensures.name i) [])
     ∙ sym c.in_ok-may_have.ensures ∙ c.if-branch.true in
-    absence_stands s l texts c.len-classes.result c.requires.universe c.requires.unnamed
+    absence_stands c.args.alphabet s l texts c.len-classes.result c.requires.universe c.requires.unnamed
     (stand at some) (count at)
-    (one_found s.impossible l texts (sym (count at) ∙ c.if-classes-eq1.true) (stand at some) here)
+    (one_found c.args.alphabet s.impossible l texts (sym (count at) ∙ c.if-classes-eq1.true) (stand at some) here)
 
 pub returns : goal.returns
 returns c = λ some.
@@ -54,15 +54,15 @@ returns c = λ some.
     let l = c.args.label.now in
     let texts = c.in_ok-texts.texts.items in
     let at = (goal.at.returns c).After-len-classes in
-    absence_fails s l c.requires.universe c.requires.unnamed (elim c.else-classes-eq1.branch [
+    absence_fails c.args.alphabet s l c.requires.universe c.requires.unnamed (elim c.else-classes-eq1.branch [
       | else-classes-eq1-via-then-classes-eq1+in_ok-may_have+else-branch w ↦
           let taken : may_have s.impossible l.name [] ≡ false =
           sym (λ i. may_have (w.impossible-then-classes-eq1.ensures.lists i)
           (w.name-then-classes-eq1.ensures.name i) [])
           ∙ sym w.in_ok-may_have.ensures ∙ w.if-branch.false in
-          one_missing s.impossible l texts (sym (count at) ∙ w.if-classes-eq1.true)
+          one_missing c.args.alphabet s.impossible l texts (sym (count at) ∙ w.if-classes-eq1.true)
           (c.requires.asked some).lists (stand at some) taken
       | else-classes-eq1-via-else-classes-eq1 w ↦
-          more_missing s.impossible l texts (λ none. c.if-classes-eq0.false (count at ∙ none))
+          more_missing c.args.alphabet s.impossible l texts (λ none. c.if-classes-eq0.false (count at ∙ none))
           (λ one. w.if-classes-eq1.false (count at ∙ one)) (stand at some)
     ])

@@ -1,7 +1,9 @@
 use Rattle.std.proofs.Common.{◌≡◌, ◌<◌, ◌+◌, ℕ, List, [], ◌∷◌, ◌++◌, Some, map, string_bytes, sym}
 use Rattle.std.proofs.Common.{ap, ◌∙◌, subst, inl, inr, arith, slice_get}
 use Rattle.std.proofs.lemmas.List.{map-append}
-use Rattle.am_universe.proofs.ListLemmas.{IsIn}
+use Rattle.am_universe.proofs.ListLemmas.{IsIn, AllByRecursion-each, AllByRecursion-at}
+use Rattle.am_universe.proofs.Members.{in_at}
+use Rattle.am_classes.specs.Alphabet.{IsOver}
 use Rattle.am_classes.specs.Alike.{AreApart}
 use Rattle.am_complete.proofs.ApartTexts.{apart_pushed}
 use Rattle.am_complete.proofs.Pushed.{in_pushed}
@@ -38,3 +40,10 @@ loop-j-preserved c =
           (subst (λ (ts : List (List ℕ)). IsIn ts text) texts i);
       few = omega (arith, c.loop-j.invariant.few, c.in_ok-push.ensures.len);
     }
+
+pub returns-clause-over : goal.returns-clause-over
+returns-clause-over c = λ a over.
+    AllByRecursion-each (IsOver a) (map string_bytes c.loop-j.found.items) (λ text i.
+    let from = c.loop-j.invariant.from text i in
+    AllByRecursion-at (IsOver a) c.args.tried.now.texts text over
+    (in_at c.args.tried.now.texts from.0 text from.2))

@@ -21,7 +21,7 @@ add_or_note-requires c =
       universe = c.loop-i.invariant.universe;
       on = λ named.
           on_named asked c.requires.0 l c.requires.1 (in_at asked i l at) (no_name l.name named);
-      fresh = fresh_name c.loop-i.universe (take i asked) l c.loop-i.unproved.items
+      fresh = fresh_name c.args.alphabet c.loop-i.universe (take i asked) l c.loop-i.unproved.items
           c.loop-i.invariant (distinct_so_far asked i l at c.requires.1.distinct);
     }
 
@@ -35,17 +35,17 @@ loop-i-preserved c =
     let after = c.add_or_note.new.unproved.items in
     let told = c.in_ok-add_or_note.ensures in
     let at = stands_at asked i l c.loop-i-test.true c.index-asked-i.is in
-    subst (λ (xs : List AskedLabel). IsMadeOf v xs after) (one_longer asked i l at)
-    (made_step c.loop-i.universe v (take i asked) l before after c.loop-i.invariant
+    subst (λ (xs : List AskedLabel). IsMadeOf c.args.alphabet v xs after) (one_longer asked i l at)
+    (made_step c.args.alphabet c.loop-i.universe v (take i asked) l before after c.loop-i.invariant
     (distinct_so_far asked i l at c.requires.1.distinct) told.universe told.others
-    (settled_so_far asked i l v before after at told.settled))
+    (settled_so_far c.args.alphabet asked i l v before after at told.settled))
 
 pub returns : goal.returns
 returns c =
     let asked = c.args.asked.now in
     let u = c.loop-i.universe in
     let unproved = c.loop-i.unproved.items in
-    let made = subst (λ (xs : List AskedLabel). IsMadeOf u xs unproved)
+    let made = subst (λ (xs : List AskedLabel). IsMadeOf c.args.alphabet u xs unproved)
     (take_all c.loop-i.i asked c.loop-i-test.false) c.loop-i.invariant in
     record {
       universe = made.universe;
@@ -53,8 +53,9 @@ returns c =
       within = AllByRecursion-each (λ k. k < length asked) unproved (λ k i.
           made.within k (Contains-from_IsIn unproved k i));
       unproved = made.noted;
-      apart = apart_values u asked unproved made;
-      complete = complete_where_each_stands u asked unproved made.universe made.stands;
+      apart = apart_values c.args.alphabet u asked unproved made;
+      complete = complete_where_each_stands c.args.alphabet u asked unproved made.universe made.stands;
+      over = made.over;
       kind = tt;
       limit = tt;
     }
@@ -67,7 +68,7 @@ returns-in_err-add_or_note-clause-limit c =
     let at = stands_at asked i l c.loop-i-test.true c.index-asked-i.is in
     let fault = err_from_is_err_and c.from_residual.result c.from_residual.ensures.1 in
     rw (fault.1, fault.2) (λ limit.
-    no_room_so_far c.loop-i.universe asked i l c.loop-i.unproved.items c.loop-i.invariant
-    (fresh_name c.loop-i.universe (take i asked) l c.loop-i.unproved.items c.loop-i.invariant
+    no_room_so_far c.args.alphabet c.loop-i.universe asked i l c.loop-i.unproved.items c.loop-i.invariant
+    (fresh_name c.args.alphabet c.loop-i.universe (take i asked) l c.loop-i.unproved.items c.loop-i.invariant
     (distinct_so_far asked i l at c.requires.1.distinct)) at
     (c.in_err-add_or_note.ensures.limit limit))

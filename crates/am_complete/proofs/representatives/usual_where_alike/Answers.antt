@@ -1,8 +1,8 @@
 use Rattle.std.proofs.Common.{◌≡◌, List, ℕ, map, string_bytes, ap, ◌∙◌, subst}
-use Rattle.std.proofs.lemmas.Result.{IfOk-weaker}
 use Rattle.am_labels.specs.Matcher.{Condition}
 use Rattle.am_complete.specs.Truths.{AreAlikeEach}
 use Rattle.am_complete.proofs.ChosenTexts.{stand_chosen}
+use Rattle.am_complete.proofs.OkClauses.{both_of_ok}
 use Rattle.am_complete.proofs.representatives.usual_where_alike.Goals as goal
 
 pub returns : goal.returns
@@ -14,9 +14,9 @@ returns c =
     let wanted : c.in-Some-2.wanted.texts ≡ texts =
     (rw c.in-Some-2.is at c.in_ok-wanted.ensures.texts)
     ∙ ap (map string_bytes) c.as_slice-2.ensures.value in
-    IfOk-weaker c.chosen_texts.result _ _ (λ chosen each.
-    stand_chosen ms (map string_bytes chosen.items) texts
+    both_of_ok c.chosen_texts.result (λ chosen each over.
+    stand_chosen c.args.alphabet ms (map string_bytes chosen.items) texts
     (subst (λ (ns : List Condition). AreAlikeEach ns (map string_bytes chosen.items) texts) matchers
     (subst (λ (ys : List (List ℕ)).
     AreAlikeEach c.in-Some-2.wanted.matchers (map string_bytes chosen.items) ys) wanted each))
-    c.requires.stand) c.chosen_texts.ensures
+    over c.requires.stand) c.chosen_texts.ensures.alike c.chosen_texts.ensures.over

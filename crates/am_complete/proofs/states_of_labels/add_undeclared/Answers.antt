@@ -27,9 +27,9 @@ loop-label-preserved c =
     let after = c.add_if_undeclared.new.states.items in
     let at = stands_at asked i l c.loop-label-test.true c.label-item.is in
     record {
-      names = state_names s asked i l alerts c.args.states.now.items before after at
+      names = state_names c.args.alphabet s asked i l alerts c.args.states.now.items before after at
           c.loop-label.invariant.names c.in_ok-add_if_undeclared.ensures;
       each = λ first.
-          states_so s asked l alerts before after (in_at asked i l at)
+          states_so c.args.alphabet s asked l alerts before after (in_at asked i l at)
           c.in_ok-add_if_undeclared.ensures (c.loop-label.invariant.each first);
     }

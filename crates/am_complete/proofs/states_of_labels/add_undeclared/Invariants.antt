@@ -10,8 +10,8 @@ abbrev pub invariant-loop-label : goal.invariant-loop-label
 invariant-loop-label l = record {
   names : names_of l.states.items ≡ names_of l.fn.states.items
       ++ undeclared l.space.labels (asked_names (take l.label-index l.asked));
-  each : AllByRecursion (IsSoOfName l.space l.asked (option_map (λ a. a.now) l.alerts))
+  each : AllByRecursion (IsSoOfName l.alphabet l.space l.asked (option_map (λ a. a.now) l.alerts))
       l.fn.states.items
-      → AllByRecursion (IsSoOfName l.space l.asked (option_map (λ a. a.now) l.alerts))
+      → AllByRecursion (IsSoOfName l.alphabet l.space l.asked (option_map (λ a. a.now) l.alerts))
       l.states.items;
 }

@@ -32,7 +32,7 @@ returns-in-Some c =
     record {
       name = IfOk-weaker c.asked_state.result _ _ (λ s h. h.name ∙ named) c.asked_state.ensures;
       so = IfOk-weaker c.asked_state.result _ _ (λ s h.
-          state_is_so c.args.space.now asked (option_map (λ a. a.now) c.args.alerts) l s
+          state_is_so c.args.alphabet c.args.space.now asked (option_map (λ a. a.now) c.args.alerts) l s
           (in_at asked i l at) h)
           c.asked_state.ensures;
     }

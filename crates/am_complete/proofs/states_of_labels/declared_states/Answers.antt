@@ -24,8 +24,8 @@ loop-i-preserved c =
           (ap (λ u. slice_get (names u) c.loop-i.i) (sym c.universe-universe.ensures.labels)
           ∙ c.name.ensures.name);
       each = subst
-          (λ (xs : List LabelState). AllByRecursion (IsSoOfName s c.args.asked.now alerts) xs)
+          (λ (xs : List LabelState). AllByRecursion (IsSoOfName c.args.alphabet s c.args.asked.now alerts) xs)
           (sym c.in_ok-push.ensures.items)
-          (all_push (IsSoOfName s c.args.asked.now alerts) before state c.loop-i.invariant.each
+          (all_push (IsSoOfName c.args.alphabet s c.args.asked.now alerts) before state c.loop-i.invariant.each
           c.in_ok-declared_state.ensures.so);
     }

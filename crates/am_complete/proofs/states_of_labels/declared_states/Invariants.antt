@@ -8,6 +8,6 @@ use Rattle.am_complete.proofs.states_of_labels.declared_states.Given as goal
 abbrev pub invariant-loop-i : goal.invariant-loop-i
 invariant-loop-i l = record {
   names : map (λ s. string_bytes s.name) l.states.items ≡ take l.i (names l.space.labels);
-  each : AllByRecursion (IsSoOfName l.space l.asked (option_map (λ a. a.now) l.alerts))
+  each : AllByRecursion (IsSoOfName l.alphabet l.space l.asked (option_map (λ a. a.now) l.alerts))
       l.states.items;
 }

@@ -12,13 +12,13 @@ returns c =
     let alerts = option_map (λ a. a.now) c.args.alerts in
     let states = c.add_undeclared.new.states.items in
     let so = c.in_ok-add_undeclared.ensures.each c.in_ok-states.ensures.each in
-    let so_at = AllByRecursion-at (IsSoOfName s asked alerts) states in
+    let so_at = AllByRecursion-at (IsSoOfName c.args.alphabet s asked alerts) states in
     let names = c.in_ok-add_undeclared.ensures.names
     ∙ ap (λ xs. xs ++ undeclared s.labels (asked_names asked)) c.in_ok-states.ensures.names in
     record {
       names = names;
       each = λ ms asks. AllByRecursion-each _ states (λ state i. (so_at state so i).so ms asks);
-      complete = complete_where_settled s asked alerts states c.in_ok-states.ensures.universe names
+      complete = complete_where_settled c.args.alphabet s asked alerts states c.in_ok-states.ensures.universe names
           so;
       unseen = AllByRecursion-each _ states (λ state i. (so_at state so i).unseen);
     }

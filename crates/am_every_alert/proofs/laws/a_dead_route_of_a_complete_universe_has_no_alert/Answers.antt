@@ -3,7 +3,7 @@ use Rattle.am_every_alert.proofs.laws.a_dead_route_of_a_complete_universe_has_no
 
 pub returns : goal.returns
 returns c = record {
-  dead = λ s config path h complete. none_ends s config h complete path;
-  never_entered = λ s config path h complete. none_enters s config h complete path;
-  unmatched = λ s config receiver h complete. none_goes s config h complete receiver;
+  dead = λ a s config path h complete. none_ends a s config h complete path;
+  never_entered = λ a s config path h complete. none_enters a s config h complete path;
+  unmatched = λ a s config receiver h complete. none_goes a s config h complete receiver;
 }

@@ -3,6 +3,6 @@ use Rattle.am_every_alert.proofs.laws.a_question_without_answers_is_true_of_no_a
 
 pub returns : goal.returns
 returns c = record {
-  answered = λ s w q alert h complete is. answer_of_alert s alert h is w q complete;
-  unanswered = λ s w q alert h complete is. no_alert s alert h is w q complete;
+  answered = λ a s w q alert h complete is. answer_of_alert a s alert h is w q complete;
+  unanswered = λ a s w q alert h complete is. no_alert a s alert h is w q complete;
 }

@@ -3,7 +3,7 @@ use Rattle.am_every_alert.proofs.laws.a_route_is_live_in_any_universe.Goals as g
 
 pub returns : goal.returns
 returns c = record {
-  live = λ s config path choice h texts. some_ends s config h texts path choice;
-  entered = λ s config path h texts. some_enters s config h texts path;
-  receiver = λ s config receiver choice h texts. some_goes s config h texts receiver choice;
+  live = λ a s config path choice h texts. some_ends a s config h texts path choice;
+  entered = λ a s config path h texts. some_enters a s config h texts path;
+  receiver = λ a s config receiver choice h texts. some_goes a s config h texts receiver choice;
 }

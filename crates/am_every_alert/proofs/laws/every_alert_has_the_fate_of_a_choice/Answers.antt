@@ -7,8 +7,8 @@ use Rattle.am_every_alert.proofs.laws.every_alert_has_the_fate_of_a_choice.Goals
 
 pub returns : goal.returns
 returns c = record {
-  fate = λ u w s h complete alert.
-      let r = alert_choice u (world_conditions w) s h complete alert in
+  fate = λ a u w s h complete alert.
+      let r = alert_choice a u (world_conditions w) s h complete alert in
       (r.0, r.1, same_fate (label_set_of u r.0) s w r.2);
   any_instant = λ w instant. refl;
 }

@@ -3,5 +3,5 @@ use Rattle.am_every_alert.proofs.laws.every_alert_of_a_space_ends_as_a_choice_do
 
 pub returns : goal.returns
 returns c = record {
-  ends = λ s config alert h complete is. ends_of_choice s alert h is config complete;
+  ends = λ a s config alert h complete is. ends_of_choice a s alert h is config complete;
 }
