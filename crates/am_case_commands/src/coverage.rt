@@ -3,8 +3,8 @@
 
 use crate::reports::{Report, write_report};
 use am_case_files::{Problem, read_number, split_at_first, utf8};
-use am_case_parts::{ALL, files_of, first_choice, made_refused, set_of_text, told, written_text};
 use am_case_runner::Over;
+use am_case_texts::{ALL, files_of, first_choice, made_refused, set_of_text, told, written_text};
 use am_case_worlds::{large_world, of_seed, read_seeds, small_world, split_impossible};
 use am_commands::ask;
 use am_eval::ends;

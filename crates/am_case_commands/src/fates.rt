@@ -1,10 +1,10 @@
 //! Fates: where an alert ends, and what silences and inhibits it. Whatever labels an alert has,
 //! some label set of the universe that is made of a world's files has the same fate there.
 
-use crate::universes::{made, write_universes};
+use crate::universes::{Universes, form, write_universes};
 use am_case_files::{Problem, split_at_first};
-use am_case_parts::{ALL, files_of, made_refused, set_behind, set_of_text, written_text};
 use am_case_runner::Over;
+use am_case_texts::{ALL, files_of, made_refused, set_behind, set_of_text, written_text};
 use am_case_worlds::{Dice, SmallWorld, of_seed, read_seeds, small_world, texts_of_seed};
 use am_commands::ask;
 use am_eval::{Files, World, explanation_of, read_world, write_explanation};
@@ -65,7 +65,8 @@ fn fates_of_universe(
     };
     let mut universe = Out::new(Vec::new(alloc));
     let config = small.config.as_bytes();
-    let outcome = write_universes(alloc, made(false, false), over, config, &mut universe);
+    let made = Universes::Made(form(false));
+    let outcome = write_universes(alloc, made, over, config, &mut universe);
     outcome.map_err(|fault| made_refused(alloc, &fault))?;
     let universe = universe.into_inner();
     let mut lines = Out::new(Vec::new(alloc));

@@ -2,8 +2,8 @@
 //! one page without a limit and without a budget.
 
 use am_case_files::{Problem, Tally, split_at_last, utf8};
-use am_case_parts::{Asked, Refusal, files_of, made_refused, token_of, with_own_digits};
 use am_case_runner::Over;
+use am_case_texts::{Asked, Refusal, files_of, made_refused, token_of, with_own_digits};
 use am_command_line::Steps;
 use am_commands::ask;
 use am_files::read_universe;

@@ -1,8 +1,9 @@
 //! Universes that stand for every alert: those that are made, and what others lack, as a text.
 
 use am_case_files::Problem;
-use am_case_parts::{Refusal, made_refused, told};
 use am_case_runner::Over;
+use am_case_texts::{Refusal, made_refused, told};
+use am_classes::Alphabet;
 use am_eval::Files;
 use am_labels::{Fault, Out, Sink};
 use am_universe_command::{UniverseForm, check_universe, universe};
@@ -13,13 +14,30 @@ use std::alloc::Global;
 pub enum Universes {
     /// The one that is made of the files, in this form.
     Made(UniverseForm),
-    /// What one lacks for the files; `true` where routes alone are asked.
-    Checked(bool),
+    /// What one lacks for the files, as one of this form.
+    Checked(UniverseForm),
 }
 
-/// That one is made: of routes alone, or of all matchers; `open` also where a label is unproved.
-pub fn made(routes: bool, open: bool) -> Universes {
-    Universes::Made(UniverseForm { routes, open })
+/// The form of a universe for the matchers of routes alone, or for all.
+pub fn form(routes: bool) -> UniverseForm {
+    UniverseForm {
+        routes,
+        alphabet: Alphabet::Unicode,
+        open: false,
+    }
+}
+
+/// That form, over ASCII alone.
+pub fn ascii(form: UniverseForm) -> UniverseForm {
+    UniverseForm {
+        alphabet: Alphabet::Ascii,
+        ..form
+    }
+}
+
+/// That form, also where a label is unproved.
+pub fn open(form: UniverseForm) -> UniverseForm {
+    UniverseForm { open: true, ..form }
 }
 
 /// Writes what is asked. The text is a configuration file, or the universe that is checked, where
@@ -43,7 +61,9 @@ pub fn write_universes<W: Sink>(
     };
     match asked {
         Universes::Made(form) => universe(alloc, &files, form, out),
-        Universes::Checked(routes) => check_universe(alloc, checked, &files, routes, out),
+        Universes::Checked(form) => {
+            check_universe(alloc, checked, &files, form.routes, form.alphabet, out)
+        }
     }
 }
 
@@ -61,7 +81,7 @@ pub fn of_universes(
     if let Universes::Made(form) = asked
         && !form.open
     {
-        check_made(alloc, form.routes, over, text, written.as_slice())?;
+        check_made(alloc, form, over, text, written.as_slice())?;
     }
     Ok(on_a_line(alloc, written.as_slice())?)
 }
@@ -83,7 +103,7 @@ fn on_a_line(alloc: Global, lines: &[u8]) -> Result<Vec<u8>, Problem> {
 /// Whether a universe that was made of a configuration and of other files is complete for them.
 fn check_made<'f>(
     alloc: Global,
-    routes: bool,
+    form: UniverseForm,
     over: Over<'f>,
     config: &[u8],
     made: &'f [u8],
@@ -94,7 +114,7 @@ fn check_made<'f>(
         ..over
     };
     let mut out = Out::new(Vec::new(alloc));
-    let outcome = write_universes(alloc, Universes::Checked(routes), over, config, &mut out);
+    let outcome = write_universes(alloc, Universes::Checked(form), over, config, &mut out);
     outcome.map_err(|fault| made_refused(alloc, &fault))?;
     let report = out.into_inner();
     let report = report.as_slice();

@@ -1,7 +1,7 @@
 //! Exports of alerts: what the reader gives at a text, as a text.
 
-use crate::telling::{fault_behind, set_behind, told};
 use am_case_files::Problem;
+use am_case_texts::{fault_behind, set_behind, told};
 use am_files::{Alerts, read_alerts};
 use std::alloc::Global;
 

@@ -1,12 +1,10 @@
 //! Classes of texts that a label's matchers cannot tell apart: which matchers are true of each, as
 //! a text.
 
-use crate::possible::add_copy;
-use crate::refusal::Refusal;
-use crate::telling::told;
 use am_case_files::Problem;
+use am_case_texts::{Refusal, add_copy, told};
 use am_case_worlds::texts_of_seed;
-use am_classes::classes;
+use am_classes::{Alphabet, classes};
 use am_labels::{LabelSet, Matcher, Matchers, PreparedMatchers, parse_matchers};
 use std::alloc::Global;
 
@@ -19,25 +17,51 @@ const SEED: u64 = 1;
 /// More classes than these are counted alone.
 const MOST_TOLD: usize = 32;
 
-/// For each class of texts that a list of matchers cannot tell apart, whatever their names are,
-/// which of them are true of it; or that this cannot be computed. No two of the texts that stand
-/// for the classes may be alike, and each of many texts has to be alike to one of them.
-pub fn of_classes(alloc: Global, text: &str) -> Result<Vec<u8>, Refusal> {
+/// For each class of texts over an alphabet that a list of matchers cannot tell apart, whatever
+/// their names are, which of them are true of it; or that this cannot be computed, or that there
+/// are too many. No two of the texts that stand for the classes may be alike, and each of many
+/// texts has to be alike to one of them. Over Unicode there is each class that there is over ASCII.
+pub fn of_classes(alloc: Global, alphabet: Alphabet, text: &str) -> Result<Vec<u8>, Refusal> {
     let list = parse_matchers(alloc, text)?;
     let mut matchers = Vec::new(alloc);
     for i in 0..list.len() {
         matchers.push(list.get(i))?;
     }
-    let Some(texts) = classes(alloc, matchers.as_slice())? else {
+    let matchers = matchers.as_slice();
+    let Some(found) = classes(alloc, alphabet, matchers)? else {
         return Ok(told(alloc, "unproved")?);
     };
-    let truths = truths_of_classes(alloc, matchers.as_slice(), texts.as_slice())?;
+    if !found.all {
+        return Ok(told(alloc, "many")?);
+    }
+    let truths = truths_of_classes(alloc, alphabet, matchers, found.texts.as_slice())?;
+    if alphabet == Alphabet::Unicode {
+        check_ascii(alloc, matchers, truths.as_slice())?;
+    }
     Ok(classes_text(alloc, truths.as_slice())?)
+}
+
+/// Whether the classes over ASCII are among these.
+fn check_ascii(alloc: Global, matchers: &[&Matcher], truths: &[String]) -> Result<(), Problem> {
+    let Some(found) = classes(alloc, Alphabet::Ascii, matchers)? else {
+        return Err(Problem::said(
+            alloc,
+            "no classes over ASCII, though there are over Unicode",
+        ));
+    };
+    let texts = found.texts.as_slice();
+    for truth in &truths_of_classes(alloc, Alphabet::Ascii, matchers, texts)? {
+        if !truths.contains(truth) {
+            return Err(Problem::about(alloc, "a class over ASCII alone", truth.as_bytes()));
+        }
+    }
+    Ok(())
 }
 
 /// What the matchers are on each of the texts that stand for the classes, in order.
 fn truths_of_classes(
     alloc: Global,
+    alphabet: Alphabet,
     matchers: &[&Matcher],
     texts: &[String],
 ) -> Result<Vec<String>, Problem> {
@@ -49,11 +73,12 @@ fn truths_of_classes(
     }
     let mut truths = Vec::new(alloc);
     for text in texts {
+        check_over(alloc, alphabet, text.as_str())?;
         truths.push(truths_on(alloc, &mut deciders, text.as_str())?)?;
     }
     truths.sort()?;
     check_apart(alloc, truths.as_slice())?;
-    check_covered(alloc, matchers, &mut deciders, truths.as_slice())?;
+    check_covered(alloc, alphabet, matchers, &mut deciders, truths.as_slice())?;
     Ok(truths)
 }
 
@@ -94,6 +119,18 @@ fn set_with(alloc: Global, name: &str, text: &str) -> Result<LabelSet, Problem> 
     Ok(set)
 }
 
+/// Whether a text is over an alphabet.
+fn check_over(alloc: Global, alphabet: Alphabet, text: &str) -> Result<(), Problem> {
+    if alphabet.has(text) {
+        return Ok(());
+    }
+    Err(Problem::about(
+        alloc,
+        "a text that is not over the alphabet",
+        text.as_bytes(),
+    ))
+}
+
 /// Whether no two classes are the same. They are in order.
 fn check_apart(alloc: Global, truths: &[String]) -> Result<(), Problem> {
     for i in 1..truths.len() {
@@ -104,9 +141,10 @@ fn check_apart(alloc: Global, truths: &[String]) -> Result<(), Problem> {
     Ok(())
 }
 
-/// Whether each of many texts is alike to one that stands for a class.
+/// Whether each of many texts over an alphabet is alike to one that stands for a class.
 fn check_covered(
     alloc: Global,
+    alphabet: Alphabet,
     matchers: &[&Matcher],
     deciders: &mut Vec<(&str, PreparedMatchers<'_>)>,
     truths: &[String],
@@ -117,7 +155,7 @@ fn check_covered(
     }
     for text in &texts_of_seed(alloc, SEED, TEXTS, values.as_slice())? {
         let found = truths_on(alloc, deciders, text.as_str())?;
-        if !truths.contains(&found) {
+        if alphabet.has(text.as_str()) && !truths.contains(&found) {
             return Err(Problem::about(alloc, "no class has this text", text.as_bytes()));
         }
     }

@@ -1,9 +1,8 @@
 //! Configurations: what the reader gives at a text, and where a label set ends there, as a text.
 
 use crate::matchers::write_matchers;
-use crate::refusal::Refusal;
-use crate::telling::{fault_behind, told, written_text};
 use am_case_files::Problem;
+use am_case_texts::{Refusal, fault_behind, told, written_text};
 use am_eval::{ends, receivers_of};
 use am_files::{Config, Path, Route, Rule, read_config};
 use am_labels::{Kind, Out, parse_set, put_str, write_text};

@@ -1,7 +1,7 @@
 //! Faults: the line that is written for one, as a text.
 
-use crate::telling::line_of;
 use am_case_files::{Problem, split_at_first, utf8, value_named};
+use am_case_texts::line_of;
 use am_labels::{Fault, Kind, Place, status};
 use std::alloc::Global;
 

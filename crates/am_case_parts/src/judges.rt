@@ -4,26 +4,23 @@ ghost use Rattle.am_cubes.specs.Words.{plan_sizes};
 ghost use Rattle.am_search.specs.Words.{IsStart};
 ghost use Rattle.am_universe.specs.Words.{sizes};
 
-use crate::asked::{Asked, files_of};
 use crate::counted::CountedPlan;
-use crate::digits::with_own_digits;
-use crate::possible::{asked_of_whole, question_of};
-use crate::refusal::Refusal;
-use crate::starts::positions_behind;
-use crate::telling::{made_refused, told};
-use crate::worlds::text_and_instant;
 use am_case_files::{Problem, read_number, split_at_last, utf8};
 use am_case_judges::{
     Alike, check_verdict, compare, counted_verdict, prefix_of, verdict_at, verdict_text,
 };
 use am_case_runner::Over;
+use am_case_texts::{
+    ALL, Asked, Refusal, asked_of_whole, files_of, first_choice, first_text, made_refused,
+    positions_behind, text_and_instant, told, with_own_digits,
+};
 use am_case_worlds::{SmallWorld, of_seed, read_seeds, small_world, split_impossible};
 use am_cubes::Plan;
 use am_eval::{Files, Question};
 use am_files::Path;
 use am_labels::Choice;
 use am_questions::{AcceptedInputs, read_inputs};
-use am_search::{Answers, Page, Start, State, Verdict, first};
+use am_search::{Answers, Start, State, Verdict, first};
 use am_whole::Whole;
 use std::alloc::Global;
 
@@ -32,13 +29,6 @@ const ABSENT: u16 = u16::MAX;
 
 /// More answers than a case may have.
 const MOST_ANSWERS: usize = 100_000;
-
-/// All answers.
-pub const ALL: Page<'static> = Page {
-    after: None,
-    limit: None,
-    steps: None,
-};
 
 /// What the inputs of a question say, at an instant, if one is given.
 fn inputs_of(
@@ -131,50 +121,6 @@ pub fn of_first(alloc: Global, over: Over<'_>, text: &[u8]) -> Result<Vec<u8>, R
     let (question, at) = text_and_instant(alloc, text)?;
     let inputs = inputs_of(alloc, over, question, at)?;
     Ok(first_text(alloc, first_choice(alloc, &inputs, question)?)?)
-}
-
-/// The first choice of which a question is true, as its plan finds it and the judge that looks at
-/// whole choices.
-pub fn first_choice(
-    alloc: Global,
-    inputs: &AcceptedInputs,
-    question: &str,
-) -> Result<Option<Choice>, Problem> {
-    let found = first_by_plan(alloc, inputs, question)?;
-    let wanted = first_by_whole(alloc, inputs, question)?;
-    if found == wanted {
-        return Ok(found);
-    }
-    let (wanted, found) = (first_text(alloc, wanted)?, first_text(alloc, found)?);
-    let (wanted, found) = (wanted.as_slice(), found.as_slice());
-    Err(Problem::differs(alloc, "the first of all choices", wanted, found))
-}
-
-fn first_by_plan(
-    alloc: Global,
-    inputs: &AcceptedInputs,
-    question: &str,
-) -> Result<Option<Choice>, Problem> {
-    let question = question_of(alloc, question, inputs)?;
-    let plan = Plan::new(alloc, &inputs.space, &inputs.world, &question)?;
-    Ok(first(&plan))
-}
-
-fn first_by_whole(
-    alloc: Global,
-    inputs: &AcceptedInputs,
-    question: &str,
-) -> Result<Option<Choice>, Problem> {
-    let question = asked_of_whole(alloc, question, inputs)?;
-    let whole = Whole::new(alloc, inputs.space.universe(), &inputs.world, &question)?;
-    Ok(first(&whole))
-}
-
-fn first_text(alloc: Global, choice: Option<Choice>) -> Result<Vec<u8>, Problem> {
-    match choice {
-        Some(choice) => positions_behind(alloc, "ok:", &choice),
-        None => told(alloc, "none"),
-    }
 }
 
 /// How many choices a search over the plan of a question gives, how often the plan is asked for it,

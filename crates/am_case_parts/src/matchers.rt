@@ -3,9 +3,8 @@
 ghost use Rattle.std.specs.Prelude.{◌≡◌, Some, IfSome, length, slice_get};
 ghost use Rattle.am_universe.specs.Universe.{sizes};
 
-use crate::refusal::Refusal;
-use crate::telling::{set_behind, told};
 use am_case_files::{Problem, split_at_first, split_at_last, utf8};
+use am_case_texts::{Refusal, set_behind, told};
 use am_files::read_universe;
 use am_labels::{
     Kind, Matcher, Matchers, Op, Out, Row, Universe, parse_matchers, parse_set, put_str, write_text,

@@ -1,18 +1,18 @@
 //! The calls of the libraries that tables name.
 
 use crate::alerts::of_alerts;
-use crate::asked::files_of;
 use crate::classes::of_classes;
 use crate::configs::{of_config, of_ends};
 use crate::faults::of_fault;
 use crate::judges::{of_alike, of_count, of_first, of_generated, of_judge};
 use crate::matchers::{of_match, of_matcher, of_matchers, of_pattern, of_row, of_set};
-use crate::refusal::Refusal;
 use crate::silences::{of_instant, of_silences};
 use crate::starts::{of_cube, of_search, of_token};
 use crate::worlds::{of_inhibited, of_pairs, of_silenced};
-use am_case_files::{utf8, value_named};
-use am_case_runner::Over;
+use am_case_files::{Problem, Tally, Writer, utf8, value_named};
+use am_case_runner::{Call, Over, Written, has_no_pages, writes_nothing};
+use am_case_texts::{Refusal, files_of};
+use am_classes::Alphabet;
 use std::alloc::Global;
 
 /// A call of the libraries, by the name that a table gives it.
@@ -40,12 +40,12 @@ pub enum PartCall {
     Cube,
     Search,
     Token,
-    Classes,
+    Classes(Alphabet),
     Fault,
 }
 
 /// The calls, by their names.
-const CALLS: [(&str, PartCall); 24] = [
+const CALLS: [(&str, PartCall); 25] = [
     ("config", PartCall::Config),
     ("silences", PartCall::Silences),
     ("alerts", PartCall::Alerts),
@@ -68,19 +68,14 @@ const CALLS: [(&str, PartCall); 24] = [
     ("cube", PartCall::Cube),
     ("search", PartCall::Search),
     ("token", PartCall::Token),
-    ("classes", PartCall::Classes),
+    ("classes", PartCall::Classes(Alphabet::Unicode)),
+    ("classes-ascii", PartCall::Classes(Alphabet::Ascii)),
     ("fault", PartCall::Fault),
 ];
 
 impl PartCall {
-    /// The call of a name.
-    pub fn named(name: &[u8]) -> Option<PartCall> {
-        value_named(&CALLS, name)
-    }
-
-    /// What it gives at a text. `brief` says that of what is accepted no more is asked than that it
-    /// is.
-    pub fn given(
+    /// What it gives at a text, where that is not refused.
+    fn answer(
         self,
         alloc: Global,
         over: Over<'_>,
@@ -110,8 +105,46 @@ impl PartCall {
             PartCall::Cube => of_cube(alloc, over.universe, text),
             PartCall::Search => of_search(alloc, over.universe, text),
             PartCall::Token => of_token(alloc, over.universe, utf8(alloc, text)?),
-            PartCall::Classes => of_classes(alloc, utf8(alloc, text)?),
+            PartCall::Classes(alphabet) => of_classes(alloc, alphabet, utf8(alloc, text)?),
             PartCall::Fault => Ok(of_fault(alloc, text)?),
         }
+    }
+}
+
+impl Call for PartCall {
+    fn named(name: &[u8]) -> Option<PartCall> {
+        value_named(&CALLS, name)
+    }
+
+    fn given(
+        self,
+        alloc: Global,
+        over: Over<'_>,
+        text: &[u8],
+        brief: bool,
+    ) -> Result<Vec<u8>, Problem> {
+        self.answer(alloc, over, text, brief)
+            .or_else(|refusal| refusal.text(alloc))
+    }
+
+    fn written(
+        self,
+        alloc: Global,
+        _over: Over<'_>,
+        _text: &[u8],
+        _writer: Writer,
+    ) -> Result<Written, Problem> {
+        Err(writes_nothing(alloc))
+    }
+
+    fn count_pages(
+        self,
+        alloc: Global,
+        _over: Over<'_>,
+        _text: &[u8],
+        line: usize,
+        tally: &mut Tally,
+    ) -> Result<(), Problem> {
+        Ok(tally.count(line, Err(has_no_pages(alloc)))?)
     }
 }

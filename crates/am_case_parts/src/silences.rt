@@ -1,9 +1,8 @@
 //! Silences and instants: what the calls of the libraries give at a text, as a text.
 
 use crate::matchers::write_matchers;
-use crate::refusal::Refusal;
-use crate::telling::{fault_behind, told, written_text};
 use am_case_files::Problem;
+use am_case_texts::{Refusal, fault_behind, told, written_text};
 use am_files::{Silence, Silences, parse_instant, read_silences};
 use am_labels::{Kind, Out, put_str};
 use std::alloc::Global;

@@ -1,16 +1,13 @@
 //! The search: what it gives of tokens, cubes and judges that are written in a case, as a text.
 
-use crate::asked::files_of;
-use crate::digits::digits_of;
-use crate::refusal::Refusal;
-use crate::telling::written_text;
 use am_case_files::{Problem, old_token, split_at_last, utf8, with_digits};
-use am_case_judges::{add_positions, cube_text, search_text};
+use am_case_judges::{cube_text, search_text};
 use am_case_runner::Over;
+use am_case_texts::{Refusal, digits_of, files_of, positions_behind, token_of};
 use am_files::read_universe;
-use am_labels::{Choice, Fault, Out, Place, parse_matchers};
+use am_labels::{Fault, Place, parse_matchers};
 use am_questions::fingerprint;
-use am_search::{Start, parse_token, write_token};
+use am_search::{Start, parse_token};
 use std::alloc::Global;
 
 /// The start that a token says, or the fault, where the universe alone is given and `any` is asked.
@@ -33,23 +30,6 @@ pub fn of_token(alloc: Global, universe: &[u8], token: &str) -> Result<Vec<u8>, 
         Start::After(choice) => ("ok: after", choice),
     };
     Ok(positions_behind(alloc, words, &choice)?)
-}
-
-/// The token of a start, under a fingerprint.
-pub fn token_of(alloc: Global, start: &Start, own: &[u8; 16]) -> Result<Vec<u8>, Problem> {
-    let mut out = Out::new(Vec::new(alloc));
-    let outcome = write_token(start, own, &mut out);
-    written_text(out, outcome)
-}
-
-/// The positions of a choice with a `.` between, if there are any, behind these words and a blank.
-pub fn positions_behind(alloc: Global, words: &str, choice: &Choice) -> Result<Vec<u8>, Problem> {
-    let mut text = String::from_str(alloc, words)?;
-    if !choice.is_empty() {
-        text.push(' ')?;
-        add_positions(choice, &mut text)?;
-    }
-    Ok(text.into_bytes())
 }
 
 /// What the cube of a list is known to be at a prefix.

@@ -1,19 +1,10 @@
 //! Worlds: what the calls of the libraries give in one, as a text.
 
-use crate::refusal::Refusal;
-use crate::telling::told;
-use am_case_files::{Problem, split_at_last, utf8};
+use am_case_files::Problem;
+use am_case_texts::{Refusal, text_and_instant, told};
 use am_eval::{Files, Pair, World, inhibited_by, read_timeless_world, read_world, silenced_by};
 use am_labels::{LabelSet, parse_set};
 use std::alloc::Global;
-
-/// A text, and that of the instant that stands behind it, if one does.
-pub fn text_and_instant(alloc: Global, text: &[u8]) -> Result<(&str, Option<&str>), Problem> {
-    match split_at_last(text, b" at ") {
-        Some((text, at)) => Ok((utf8(alloc, text)?, Some(utf8(alloc, at)?))),
-        None => Ok((utf8(alloc, text)?, None)),
-    }
-}
 
 /// Which silences of an export are active, and which of them hide a label set.
 pub fn of_silenced<'a>(alloc: Global, file: &'a [u8], text: &'a [u8]) -> Result<Vec<u8>, Refusal> {

@@ -80,3 +80,13 @@ pub trait Call: Copy {
         tally: &mut Tally,
     ) -> Result<(), Problem>;
 }
+
+/// That a call writes nothing, where a case wants it to.
+pub fn writes_nothing(alloc: Global) -> Problem {
+    Problem::said(alloc, "this table writes to no writer")
+}
+
+/// That a call has no pages, where a case wants them.
+pub fn has_no_pages(alloc: Global) -> Problem {
+    Problem::said(alloc, "this table has no pages")
+}

@@ -11,7 +11,7 @@ mod call;
 mod program;
 mod stage;
 
-pub use call::{Call, End, Over, Written};
+pub use call::{Call, End, Over, Written, has_no_pages, writes_nothing};
 pub use program::Program;
 
 // The cases of a file.

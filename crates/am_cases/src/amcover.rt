@@ -1,9 +1,9 @@
 //! The program whose command lines are cases.
 
-use am_case_commands::TableCall;
+use crate::table_call::TableCall;
 use am_case_files::Problem;
-use am_case_parts::digits_of_command;
 use am_case_runner::Program;
+use am_case_texts::digits_of_command;
 use am_program::{run, run_with_notes};
 use std::io::Write;
 use std::rt::Files;

@@ -2,8 +2,9 @@
 //! are wrong. `docs/TESTING.md` says how such a file is written.
 #![tactic(auto)]
 
-// What command lines run.
+// What tables call, and what command lines run.
 mod amcover;
+mod table_call;
 
 use crate::amcover::Amcover;
 use am_case_runner::run_cases;

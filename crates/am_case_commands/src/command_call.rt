@@ -1,25 +1,24 @@
-//! The calls that tables name.
+//! The calls of the commands that tables name.
 
 use crate::coverage::{of_large, of_reports};
 use crate::fates::of_fates;
 use crate::pages::{count_pages, write_page};
 use crate::reports::{Report, write_report};
-use crate::universes::{Universes, made, of_universes, write_universes};
+use crate::universes::{Universes, ascii, form, of_universes, open, write_universes};
 use am_case_files::{Problem, Tally, Writer, value_named, without_digits};
-use am_case_parts::{
-    PartCall, Refusal, fault_behind, files_of, on_one_line, text_and_instant, told, with_own_digits,
+use am_case_runner::{Call, End, Over, Written, has_no_pages, writes_nothing};
+use am_case_texts::{
+    Refusal, fault_behind, files_of, on_one_line, text_and_instant, told, with_own_digits,
 };
-use am_case_runner::{Call, End, Over, Written};
 use am_commands::explain;
 use am_files::read_universe;
 use am_labels::{Fault, Kind, Out, Place, Sink, status};
+use am_universe_command::UniverseForm;
 use std::alloc::Global;
 
-/// A call, by the name that a table gives it.
+/// A call of a command, or of what a command is made of, by the name that a table gives it.
 #[derive(Clone, Copy)]
-pub enum TableCall {
-    /// One of the libraries.
-    Part(PartCall),
+pub enum CommandCall {
     Universe,
     Ask,
     Report(Report),
@@ -30,7 +29,7 @@ pub enum TableCall {
     Fates,
 }
 
-impl TableCall {
+impl CommandCall {
     /// Writes what it writes at a text, if it writes.
     fn write<W: Sink>(
         self,
@@ -40,14 +39,14 @@ impl TableCall {
         out: &mut W,
     ) -> Result<(), Refusal> {
         match self {
-            TableCall::Ask => write_page(alloc, over, text, out),
-            TableCall::Report(report) => Ok(write_report(alloc, report, over, text, out)?),
-            TableCall::Explain => {
+            CommandCall::Ask => write_page(alloc, over, text, out),
+            CommandCall::Report(report) => Ok(write_report(alloc, report, over, text, out)?),
+            CommandCall::Explain => {
                 let (set, at) = text_and_instant(alloc, text)?;
                 Ok(explain(alloc, &files_of(over, at), set, out)?)
             }
-            TableCall::Universes(asked) => Ok(write_universes(alloc, asked, over, text, out)?),
-            _ => Err(Problem::said(alloc, "this table writes to no writer").into()),
+            CommandCall::Universes(asked) => Ok(write_universes(alloc, asked, over, text, out)?),
+            _ => Err(writes_nothing(alloc).into()),
         }
     }
 
@@ -67,14 +66,13 @@ impl TableCall {
         brief: bool,
     ) -> Result<Vec<u8>, Refusal> {
         match self {
-            TableCall::Part(call) => call.given(alloc, over, text, brief),
-            TableCall::Universe => of_universe(alloc, text, brief),
-            TableCall::Ask => of_ask(alloc, over, text),
-            TableCall::Report(_) | TableCall::Explain => self.page(alloc, over, text),
-            TableCall::Universes(asked) => of_universes(alloc, asked, over, text),
-            TableCall::Reports => Ok(of_reports(alloc, text)?),
-            TableCall::Large => Ok(of_large(alloc, text)?),
-            TableCall::Fates => Ok(of_fates(alloc, text)?),
+            CommandCall::Universe => of_universe(alloc, text, brief),
+            CommandCall::Ask => of_ask(alloc, over, text),
+            CommandCall::Report(_) | CommandCall::Explain => self.page(alloc, over, text),
+            CommandCall::Universes(asked) => of_universes(alloc, asked, over, text),
+            CommandCall::Reports => Ok(of_reports(alloc, text)?),
+            CommandCall::Large => Ok(of_large(alloc, text)?),
+            CommandCall::Fates => Ok(of_fates(alloc, text)?),
         }
     }
 }
@@ -87,7 +85,7 @@ fn of_universe(alloc: Global, text: &[u8], brief: bool) -> Result<Vec<u8>, Refus
     if brief {
         return Ok(told(alloc, "ok")?);
     }
-    let page = TableCall::Ask.page(alloc, Over::universe(text), b"{}")?;
+    let page = CommandCall::Ask.page(alloc, Over::universe(text), b"{}")?;
     let sets = page.as_slice();
     Ok(Vec::from_slice(alloc, sets.strip_suffix(b" # end").unwrap_or(sets))?)
 }
@@ -95,34 +93,30 @@ fn of_universe(alloc: Global, text: &[u8], brief: bool) -> Result<Vec<u8>, Refus
 /// The page that a text asks for, with `H` for the digits of its own inputs.
 fn of_ask(alloc: Global, over: Over<'_>, text: &[u8]) -> Result<Vec<u8>, Refusal> {
     let (text, digits) = with_own_digits(alloc, over, text)?;
-    let page = TableCall::Ask.page(alloc, over, text.as_slice())?;
+    let page = CommandCall::Ask.page(alloc, over, text.as_slice())?;
     Ok(without_digits(alloc, page.as_slice(), digits.as_str())?)
 }
 
-impl Call for TableCall {
-    fn named(name: &[u8]) -> Option<TableCall> {
+impl Call for CommandCall {
+    fn named(name: &[u8]) -> Option<CommandCall> {
         let calls = [
-            ("universe", TableCall::Universe),
-            ("ask", TableCall::Ask),
-            ("dead", TableCall::Report(Report::Routes)),
-            ("receivers", TableCall::Report(Report::Receivers)),
-            ("explain", TableCall::Explain),
-            ("made", TableCall::Universes(made(false, false))),
-            ("made-by-routes", TableCall::Universes(made(true, false))),
-            ("made-open", TableCall::Universes(made(false, true))),
-            ("checked", TableCall::Universes(Universes::Checked(false))),
-            (
-                "checked-by-routes",
-                TableCall::Universes(Universes::Checked(true)),
-            ),
-            ("reports", TableCall::Reports),
-            ("large", TableCall::Large),
-            ("fates", TableCall::Fates),
+            ("universe", CommandCall::Universe),
+            ("ask", CommandCall::Ask),
+            ("dead", CommandCall::Report(Report::Routes)),
+            ("receivers", CommandCall::Report(Report::Receivers)),
+            ("explain", CommandCall::Explain),
+            ("made", made(form(false))),
+            ("made-by-routes", made(form(true))),
+            ("made-ascii", made(ascii(form(false)))),
+            ("made-open", made(open(form(false)))),
+            ("checked", checked(form(false))),
+            ("checked-by-routes", checked(form(true))),
+            ("checked-ascii", checked(ascii(form(false)))),
+            ("reports", CommandCall::Reports),
+            ("large", CommandCall::Large),
+            ("fates", CommandCall::Fates),
         ];
-        match value_named(&calls, name) {
-            Some(call) => Some(call),
-            None => PartCall::named(name).map(TableCall::Part),
-        }
+        value_named(&calls, name)
     }
 
     fn given(
@@ -161,13 +155,18 @@ impl Call for TableCall {
         tally: &mut Tally,
     ) -> Result<(), Problem> {
         match self {
-            TableCall::Ask => count_pages(alloc, over, text, line, tally),
-            _ => {
-                let none = Problem::said(alloc, "this table has no pages");
-                Ok(tally.count(line, Err(none))?)
-            }
+            CommandCall::Ask => count_pages(alloc, over, text, line, tally),
+            _ => Ok(tally.count(line, Err(has_no_pages(alloc)))?),
         }
     }
+}
+
+fn made(form: UniverseForm) -> CommandCall {
+    CommandCall::Universes(Universes::Made(form))
+}
+
+fn checked(form: UniverseForm) -> CommandCall {
+    CommandCall::Universes(Universes::Checked(form))
 }
 
 /// How what is written ends where this is answered.

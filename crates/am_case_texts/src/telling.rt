@@ -22,7 +22,8 @@ pub fn fault_behind(alloc: Global, before: &[u8], fault: &Fault) -> Result<Vec<u
     Ok(Vec::from_slice(alloc, text.strip_suffix(b"\n").unwrap_or(text))?)
 }
 
-pub(crate) fn line_of(alloc: Global, fault: &Fault) -> Result<Vec<u8>, Problem> {
+/// The line of a fault, as the program writes it.
+pub fn line_of(alloc: Global, fault: &Fault) -> Result<Vec<u8>, Problem> {
     let mut line = Out::new(Vec::new(alloc));
     let outcome = write_fault(fault, &mut line);
     written_text(line, outcome)

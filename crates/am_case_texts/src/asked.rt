@@ -21,6 +21,21 @@ pub fn files_of<'a>(over: Over<'a>, at: Option<&'a str>) -> Files<'a> {
     }
 }
 
+/// A text, and that of the instant that stands behind it, if one does.
+pub fn text_and_instant(alloc: Global, text: &[u8]) -> Result<(&str, Option<&str>), Problem> {
+    match split_at_last(text, b" at ") {
+        Some((text, at)) => Ok((utf8(alloc, text)?, Some(utf8(alloc, at)?))),
+        None => Ok((utf8(alloc, text)?, None)),
+    }
+}
+
+/// All answers.
+pub const ALL: Page<'static> = Page {
+    after: None,
+    limit: None,
+    steps: None,
+};
+
 /// What a line of `ask` asks for: a question, and which part of its answers.
 #[derive(Clone, Copy)]
 pub struct Asked<'q, 't> {
