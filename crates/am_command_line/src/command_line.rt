@@ -30,15 +30,17 @@ pub enum Request<'a> {
     Explain {
         set: Vec<&'a str>,
     },
-    /// A universe that stands for every alert: of the routes alone, and also where it cannot be
-    /// proved of a label.
+    /// A universe that stands for every alert: of the routes alone; for alerts of printable ASCII
+    /// alone; and also where it cannot be proved of a label.
     Universe {
         routes: bool,
+        ascii: bool,
         open: bool,
     },
-    /// What a universe lacks to stand for every alert.
+    /// What a universe lacks to stand for every alert, or for those of printable ASCII.
     CheckUniverse {
         routes: bool,
+        ascii: bool,
     },
 }
 
@@ -367,8 +369,8 @@ Example:
 writes a universe file, with one label a line, for example
 
   {\"labels\": [
-    {\"name\": \"team\", \"values\": [\"db\", \"web\", null]},
-    {\"name\": \"severity\", \"values\": [\"critical\", \"other\", null]}
+    {\"name\": \"team\", \"values\": [null, \"db\", \"web\"]},
+    {\"name\": \"severity\", \"values\": [null, \"critical\", \"other\"]}
   ]}
 
 Each label that a matcher asks of has one value for each class of texts that its matchers
@@ -389,9 +391,14 @@ With --alerts a class without a text that a matcher names has, of its values, th
 most of these alerts have. For `amcover dead` and `amcover receivers` --routes is enough:
 it leaves out all but the matchers of routes, and the universe is smaller.
 
-Of some patterns it cannot be found which texts they tell apart, as of those with \\b. And
-some names no universe can declare, as a:b. Then nothing is written, and the fault says
-which route, rule or silence it is:
+A value may have any character, also a line feed, which . does not match: so a route behind
+team=~\".*\" is live. With --ascii alerts count alone whose values have printable ASCII,
+from the blank to ~, and no other alert. The universe is smaller then, it is made faster,
+and the same --ascii with --check says that it lacks nothing.
+
+Of some patterns it cannot be found which texts they tell apart, as of those with \\b,
+unless --ascii is given. And some names no universe can declare, as a:b. Then nothing is
+written, and the fault says which route, rule or silence it is:
 
   amcover: config: /route/routes/0: unproved
 
@@ -489,11 +496,13 @@ fn explain_request<'a>(
 /// What `universe` asks for: one that is made, or what the one of `--check` lacks.
 fn universe_request<'a>(matches: &ArgMatches<'a>) -> Request<'a> {
     let routes = matches.get_flag("routes");
+    let ascii = matches.get_flag("ascii");
     if matches.get_str("universe").is_some() {
-        return Request::CheckUniverse { routes };
+        return Request::CheckUniverse { routes, ascii };
     }
     Request::Universe {
         routes,
+        ascii,
         open: matches.get_flag("open"),
     }
 }
@@ -597,6 +606,10 @@ fn universe_command<'a>(alloc: Global) -> Result<Command<'a>, AllocError> {
         .long("routes")
         .action(ArgAction::SetTrue)
         .help("Let the matchers of routes count alone");
+    let ascii = Arg::new(alloc, "ascii")
+        .long("ascii")
+        .action(ArgAction::SetTrue)
+        .help("Let alerts with values of printable ASCII count alone");
     let open = Arg::new(alloc, "open")
         .long("open")
         .action(ArgAction::SetTrue)
@@ -608,6 +621,7 @@ fn universe_command<'a>(alloc: Global) -> Result<Command<'a>, AllocError> {
         .arg(check)?
         .arg(config_arg(alloc).required(true))?
         .arg(routes)?
+        .arg(ascii)?
         .arg(silences_arg(alloc))?
         .arg(alerts_arg(alloc))?
         .arg(open)

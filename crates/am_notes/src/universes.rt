@@ -3,13 +3,14 @@
 use crate::notes::Notes;
 use crate::sentences::{left_out, undeclarable, unproved};
 use am_asked::asked_by_routes;
+use am_classes::Alphabet;
 use am_complete::{Completeness, LabelState, label_states};
 use am_files::Config;
 use am_labels::Space;
 use std::alloc::{AllocError, Global};
 
-/// Adds a note on the first label at which a universe does not stand for every alert, as far as the
-/// routes of a configuration ask. To find it may take long where patterns are hard.
+/// Adds a note on the first label at which a universe does not stand for every alert whose values
+/// are printable ASCII, as far as the routes of a configuration ask.
 pub(crate) fn add_incomplete(
     alloc: Global,
     notes: &mut Notes,
@@ -31,7 +32,7 @@ fn states_by_routes(
     config: &Config,
 ) -> Result<Vec<LabelState>, AllocError> {
     let asked = asked_by_routes(alloc, config, space.impossible())?;
-    label_states(alloc, space, asked.as_slice(), None)
+    label_states(alloc, Alphabet::Ascii, space, asked.as_slice(), None)
 }
 
 /// What a universe leaves out at a label, if it does.

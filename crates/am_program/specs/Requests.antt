@@ -1,7 +1,10 @@
 -- What is owed for a request, over the bytes of its files. (This project's own.)
 use Rattle.std.specs.Prelude.{ℕ, List, [], map, Option, option_map, option_copied, unwrap_or, ⊤}
+use Rattle.std.specs.Prelude.{Bool, if◌then◌else◌}
 use Rattle.std.specs.Global.{Vec}
 use Rattle.std.specs.Int.NonZero.{non_zero_u64_get}
+use Rattle.am_classes.specs.declared.alphabet.Alphabet.{Alphabet}
+use Rattle.am_classes.specs.declared.alphabet.Alphabet.TheVariants.{Unicode, Ascii}
 use Rattle.am_command_line.specs.Words.{step_count}
 use Rattle.am_command_line.specs.declared.command_line.InputFiles.{InputFiles}
 use Rattle.am_command_line.specs.declared.command_line.Request.{Request}
@@ -29,6 +32,10 @@ files_of files = record {
   at = option_copied files.at;
 }
 
+-- Which texts the labels of alerts may have: with `--ascii` those of printable ASCII alone.
+abbrev pub alphabet_of : Bool → Alphabet
+alphabet_of ascii = if ascii then Ascii else Unicode
+
 -- What is owed for a request: for `ask` the page of the answers to that question, from that token
 -- on and under that limit and that budget; for `dead` the report of routes; for `receivers` that of
 -- receivers; for `explain` the explanation of that set; for `universe` a universe in that form, or
@@ -48,6 +55,8 @@ promise_of requests.Dead universe files = dead_promise universe (config_of files
 promise_of requests.Receivers universe files = receivers_promise universe (config_of files.config)
 promise_of (requests.Explain set) universe files =
     explain_promise files (map (λ word. word.now) set.items)
-promise_of (requests.Universe routes open_form) universe files =
-    universe_promise files (record { routes = routes; «open» = open_form })
-promise_of (requests.CheckUniverse routes) universe files = check_promise universe files routes
+promise_of (requests.Universe routes ascii open_form) universe files =
+    universe_promise files
+    (record { routes = routes; alphabet = alphabet_of ascii; «open» = open_form })
+promise_of (requests.CheckUniverse routes ascii) universe files =
+    check_promise (alphabet_of ascii) universe files routes

@@ -6,7 +6,9 @@ ghost use Rattle.am_universe.specs.declared.limits.TheConstants.{MAX_LABELS};
 ghost use Rattle.am_command_line.specs.Words.{step_count};
 ghost use Rattle.am_eval.specs.Words.{IsKept};
 ghost use Rattle.am_program.specs.Words.{bytes_if_any, universe_bytes, files_of, promise_of};
+ghost use Rattle.am_program.specs.Requests.{alphabet_of};
 
+use am_classes::Alphabet;
 use am_command_line::{InputFiles, Request, Steps};
 use am_commands::{ask, dead, explain_words, receivers};
 use am_eval::Files;
@@ -42,15 +44,21 @@ pub fn make_call<W: Sink>(alloc: Global, call: &Call<'_>, out: &mut W) -> Result
         Request::Dead => dead(alloc, call.universe, call.files.config(), out),
         Request::Receivers => receivers(alloc, call.universe, call.files.config(), out),
         Request::Explain { set } => explain_words(alloc, &call.files, set.as_slice(), out),
-        Request::Universe { routes, open } => {
+        Request::Universe {
+            routes,
+            ascii,
+            open,
+        } => {
             let form = UniverseForm {
                 routes: *routes,
+                alphabet: alphabet_of(*ascii),
                 open: *open,
             };
             universe(alloc, &call.files, form, out)
         }
-        Request::CheckUniverse { routes } => {
-            check_universe(alloc, call.universe, &call.files, *routes, out)
+        Request::CheckUniverse { routes, ascii } => {
+            let alphabet = alphabet_of(*ascii);
+            check_universe(alloc, call.universe, &call.files, *routes, alphabet, out)
         }
     }
 }
@@ -81,6 +89,17 @@ fn bytes_of(file: &Option<Vec<u8>>) -> Option<&[u8]>
     match file {
         Some(bytes) => Some(bytes.as_slice()),
         None => None,
+    }
+}
+
+/// Which texts the labels of alerts may have.
+fn alphabet_of(ascii: bool) -> Alphabet
+    ensures { result ≡ alphabet_of ascii }
+{
+    if ascii {
+        Alphabet::Ascii
+    } else {
+        Alphabet::Unicode
     }
 }
 

@@ -18,13 +18,14 @@ use Rattle.am_eval.specs.Faults.{Stage, universe_stage}
 use Rattle.am_eval.specs.Files.{Files}
 use Rattle.am_eval.specs.AcceptedWorld.{AcceptsFiles, timeless_stages}
 use Rattle.am_eval.specs.Promise.{Promise}
+use Rattle.am_classes.specs.declared.alphabet.Alphabet.{Alphabet}
 use Rattle.am_complete.specs.declared.label_state.LabelState.{LabelState}
 use Rattle.am_complete.specs.declared.origin.Origin.{Origin}
 use Rattle.am_complete.specs.declared.origin.Origin.TheVariants as origin_is
 use Rattle.am_complete.specs.Complete.{IsComplete, IsSpaceComplete, impossible_conditions}
 use Rattle.am_complete.specs.AskedLabel.{AskedLabel, asked_labels}
 use Rattle.am_asked.specs.Placed.{placed_in_routes, placed_in_world, placed_in_lists}
-use Rattle.am_complete.specs.Covering.{StandsForEachBut, HasApartValues}
+use Rattle.am_complete.specs.Covering.{StandsForEachBut, HasApartValues, HasTextsOver}
 use Rattle.am_complete.specs.Room.{HaveNoRoom, AreUnproved}
 use Rattle.am_complete.specs.LabelState.{IsSoIfNamed, is_settled, reported_names}
 use Rattle.am_complete.specs.FoundState.{is_unseen}
@@ -55,14 +56,16 @@ deciding_labels routes w impossible =
 -- ---- A universe that is made.
 
 -- The text is that of a universe file made for a world. It says a universe of which nothing is
--- impossible. No two values of a label are alike to the matchers that decide, and the universe is
--- complete for these, unless it may be open.
+-- impossible. No two values of a label are alike to the matchers that decide, they are over the
+-- alphabet, and the universe is complete for these matchers, unless it may be open.
 -- Source: own choice.
 -- Example: for a world whose one matcher is `team="db"` it says `team` with `db` and absence.
 pub record IsMadeUniverse (w : World) (form : UniverseForm) (text : List ℕ) : Type 0 where
   pub labels : List Label
   pub says : FileSaysUniverse text (record { labels = labels; impossible = [] })
-  pub complete : form.open ≡ false → IsComplete labels (deciding_conditions form.routes w)
+  pub complete : form.open ≡ false
+      → IsComplete form.alphabet labels (deciding_conditions form.routes w)
+  pub over : HasTextsOver form.alphabet labels
   pub apart : HasApartValues labels (deciding_conditions form.routes w)
 
 -- The files are accepted, and the text is that of a universe file made for the world that they say.
@@ -85,15 +88,15 @@ origin_place (origin_is.Impossible position) = places.Universe
 pub record NoRoomFor (files : Files) (form : UniverseForm) (r : Refusal) : Type 0 where
   pub world : World
   pub accepts : AcceptsFiles files world
-  pub full : HaveNoRoom (deciding_labels form.routes world [])
+  pub full : HaveNoRoom form.alphabet (deciding_labels form.routes world [])
   pub refusal : r ≡ refusal_here kinds.Limit
 
 -- Some universe stands for each label that is asked of, but for those at some positions.
 -- Source: own choice.
 -- Example: where 65 labels are asked of, and one of them stands at such a position, one may.
-abbrev pub HaveRoomBut : List AskedLabel → List ℕ → Type 0
-HaveRoomBut asked unproved =
-    (u : List Label) × IsUniverse u × StandsForEachBut u asked unproved
+abbrev pub HaveRoomBut : Alphabet → List AskedLabel → List ℕ → Type 0
+HaveRoomBut a asked unproved =
+    (u : List Label) × IsUniverse u × StandsForEachBut a u asked unproved
 
 -- No universe is made, since some labels are unproved, though there is room for the others. The
 -- first matcher that asks of the first of these labels stands in this file, and there the refusal
@@ -107,8 +110,8 @@ pub record UnprovedFor (files : Files) (form : UniverseForm) (place : Place)
   pub accepts : AcceptsFiles files world
   pub closed : form.open ≡ false
   pub unproved : List ℕ
-  pub labels : AreUnproved (deciding_labels form.routes world []) unproved
-  pub room : HaveRoomBut (deciding_labels form.routes world []) unproved
+  pub labels : AreUnproved form.alphabet (deciding_labels form.routes world []) unproved
+  pub room : HaveRoomBut form.alphabet (deciding_labels form.routes world []) unproved
   pub position : ℕ
   pub first : slice_get unproved 0 ≡ Some position
   pub label : AskedLabel
@@ -125,7 +128,8 @@ pub record TooLongFor (files : Files) (form : UniverseForm) (r : Refusal) : Type
   pub accepts : AcceptsFiles files world
   pub labels : List Label
   pub universe : IsUniverse labels
-  pub complete : form.open ≡ false → IsComplete labels (deciding_conditions form.routes world)
+  pub complete : form.open ≡ false
+      → IsComplete form.alphabet labels (deciding_conditions form.routes world)
   pub apart : HasApartValues labels (deciding_conditions form.routes world)
   pub long : MAX_FILE_BYTES < length (universe_text labels)
   pub refusal : r ≡ refusal_here kinds.Limit
@@ -184,47 +188,47 @@ checked_conditions routes w s = deciding_conditions routes w ++ impossible_condi
 abbrev pub alerts_if_any : Bool → World → Option (List LabelMap)
 alerts_if_any has_alerts w = if has_alerts then Some w.alerts else None
 
--- The text says how a space stands in a world: of each label that the space declares, and then of
--- each other one that is asked of, what is so, and where there are alerts whether none has the
--- label; and whether all label sets are impossible. Where nothing is missing, the space is
--- complete.
+-- The text says how a space stands in a world, for alerts whose texts are over an alphabet: of each
+-- label that the space declares, and then of each other one that is asked of, what is so, and where
+-- there are alerts whether none has the label; and whether all label sets are impossible. Where
+-- nothing is missing, the space is complete.
 -- Source: own choice.
 -- Example: of a space with `team` alone, whose values are `db` and `web`, and a world whose one
 -- matcher is `team="db"`, it says `team complete 2`, `2 label sets` and `# complete`.
-pub record IsCheckOf (s : Space) (w : World) (has_alerts routes : Bool) (report : List ℕ) :
-    Type 0 where
+pub record IsCheckOf (a : Alphabet) (s : Space) (w : World) (has_alerts routes : Bool)
+    (report : List ℕ) : Type 0 where
   pub states : List LabelState
   pub names : map (λ state. string_bytes state.name) states
       ≡ reported_names s.labels (deciding_labels routes w s.impossible)
   pub each : AllByRecursion
-      (λ state. IsSoIfNamed s (checked_conditions routes w s)
+      (λ state. IsSoIfNamed a s (checked_conditions routes w s)
       (deciding_labels routes w s.impossible) (string_bytes state.name) state.completeness)
       states
   pub unseen : AllByRecursion
       (λ state. state.unseen ≡ is_unseen (alerts_if_any has_alerts w) (string_bytes state.name))
       states
   pub complete : IsTrue (list_all (λ state. is_settled state.completeness) states)
-      → IsSpaceComplete s (checked_conditions routes w s)
+      → IsSpaceComplete a s (checked_conditions routes w s)
   pub all_impossible : Bool
   pub impossible : IsTrue all_impossible ↔ all_choices s ≡ []
   pub text : report ≡ check_text (sizes s.labels) all_impossible states
 
 -- The files are accepted, and the text says how the space of the universe file stands in the world
 -- that the others say.
-pub record ChecksUniverse (universe_file : List ℕ) (files : Files) (routes : Bool)
-    (report : List ℕ) : Type 0 where
+pub record ChecksUniverse (a : Alphabet) (universe_file : List ℕ) (files : Files)
+    (routes : Bool) (report : List ℕ) : Type 0 where
   pub space : Space
   pub world : World
   pub says_universe : FileSaysUniverse universe_file space
   pub accepts : AcceptsFiles files world
-  pub checked : IsCheckOf space world (is_some files.alerts) routes report
+  pub checked : IsCheckOf a space world (is_some files.alerts) routes report
 
 -- What `check_universe` owes. Its stages are the universe file, and then the files that decide.
 -- Source: own choice.
 -- Example: where the universe file is `{}` and the configuration is no JSON, the first fault is the
 -- `shape` of the universe.
-abbrev pub check_promise : List ℕ → Files → Bool → Promise ⊤
-check_promise universe_file files routes = record {
+abbrev pub check_promise : Alphabet → List ℕ → Files → Bool → Promise ⊤
+check_promise a universe_file files routes = record {
   stages = universe_stage universe_file ∷ timeless_stages files;
-  May = λ _. ChecksUniverse universe_file files routes;
+  May = λ _. ChecksUniverse a universe_file files routes;
 }

@@ -8,6 +8,7 @@ ghost use Rattle.am_labels.specs.Words.{IsUniverse};
 ghost use Rattle.am_json.specs.Words.{refusal_of};
 ghost use Rattle.am_eval.specs.Words.{Files, AcceptsFiles, IsFirstFault, IsKept};
 ghost use Rattle.am_complete.specs.Words.{IsComplete, HasApartValues, AskedLabel, IsAskedOf};
+ghost use Rattle.am_complete.specs.Words.{HasTextsOver};
 ghost use Rattle.am_complete.specs.Words.{impossible_conditions};
 ghost use Rattle.am_asked.specs.Words.{placed_in_equal};
 ghost use Rattle.am_complete_texts.specs.Words.{origin_pointer};
@@ -18,6 +19,7 @@ ghost use Rattle.am_universe_command.specs.Universes.{universe_promise, check_pr
 
 use crate::UniverseForm;
 use am_asked::{EqualMatcher, asked_by_routes, asked_in_world, equal_matchers_of};
+use am_classes::Alphabet;
 use am_complete::{AskedLabel, Origin, label_states, universe_of};
 use am_complete_texts::{pointer_to, text_of_check, universe_text};
 use am_eval::{Files, World, read_timeless_world};
@@ -27,8 +29,9 @@ use am_json::limits::MAX_FILE_BYTES;
 use am_labels::{Fault, Kind, Matchers, Place, Sink, Space, Universe, answer_of_write, put_str};
 use std::alloc::{AllocError, Global};
 
-/// Writes the file of a universe that stands for every alert: of each label that the matchers of
-/// the files ask of it has one value for each class of texts that they cannot tell apart.
+/// Writes the file of a universe that stands for every alert whose texts are over the form's
+/// alphabet: of each label that the matchers of the files ask of it has one value for each class of
+/// texts that they cannot tell apart.
 ///
 /// `files` has the configuration file, the file of silences and the file of alerts, as far as there
 /// are such; its instant is not looked at. All input is read and all of the universe is made before
@@ -65,9 +68,9 @@ pub fn universe<W: Sink>(
 /// are impossible, and whether nothing is missing.
 ///
 /// `universe` is a universe file, whose impossible lists ask too; a text of a label that such a
-/// list of this label alone matches need not stand there. `files` is as for
-/// [`universe`](universe()). With `routes` the matchers of routes, and those lists, are asked
-/// alone. All input is read and all is found before the first byte is written.
+/// list of this label alone matches need not stand there, nor one that is not over `alphabet`.
+/// `files` is as for [`universe`](universe()). With `routes` the matchers of routes, and those
+/// lists, are asked alone. All input is read and all is found before the first byte is written.
 ///
 /// The first fault is the one answered: a fault of the universe file, at `Universe`, as
 /// `read_universe` has it; those of the other files and of the pairs, as for `universe`; `Write`.
@@ -77,15 +80,23 @@ pub fn check_universe<W: Sink>(
     universe: &[u8],
     files: &Files<'_>,
     routes: bool,
+    alphabet: Alphabet,
     out: &mut W,
 ) -> Result<(), Fault>
     // Each line says what is so, and where nothing is missing the space is complete.
-    ensures kept { IsKept (check_promise universe.now files.now routes)
+    ensures kept { IsKept (check_promise alphabet universe.now files.now routes)
         W.taken W.failures out.old out.new result }
 {
     let space = read_universe(alloc, universe)?;
     let world = read_timeless_world(alloc, files)?;
-    let Ok(text) = checked_text(alloc, &space, &world, files.alerts.is_some(), routes) else {
+    let Ok(text) = checked_text(
+        alloc,
+        alphabet,
+        &space,
+        &world,
+        files.alerts.is_some(),
+        routes,
+    ) else {
         return Err(Fault::memory(alloc));
     };
     answer_of_write(alloc, put_str(out, text.as_str()))
@@ -111,9 +122,10 @@ fn made_text(alloc: Global, world: &World, form: UniverseForm) -> Result<String,
 fn made_universe(alloc: Global, world: &World, form: UniverseForm) -> Result<Universe, Fault>
     ensures universe { IfOk result (λ universe. IsUniverse universe) }
     ensures complete { IfOk result (λ universe. form.open ≡ false
-        → IsComplete universe (deciding_conditions form.routes world.now)) }
+        → IsComplete form.alphabet universe (deciding_conditions form.routes world.now)) }
     ensures apart { IfOk result (λ universe.
         HasApartValues universe (deciding_conditions form.routes world.now)) }
+    ensures over { IfOk result (λ universe. HasTextsOver form.alphabet universe) }
     ensures first { IfErr result (λ fault. (files : Files) → AcceptsFiles files world.now
         → IsFirstFault (made_stages files form) fault) }
 {
@@ -123,7 +135,7 @@ fn made_universe(alloc: Global, world: &World, form: UniverseForm) -> Result<Uni
     let Ok(asked) = labels_asked(alloc, world, equal.as_slice(), &[], form.routes) else {
         return Err(Fault::memory(alloc));
     };
-    let made = match universe_of(alloc, asked.as_slice(), Some(world.alerts())) {
+    let made = match universe_of(alloc, form.alphabet, asked.as_slice(), Some(world.alerts())) {
         Ok(made) => made,
         Err(fault) => return Err(Fault::at(alloc, fault.kind, Place::Universe)),
     };
@@ -181,18 +193,19 @@ fn place_of(origin: &Origin) -> Place
 /// The text that says how a space stands in a world. An `Err` only where memory was refused.
 fn checked_text(
     alloc: Global,
+    alphabet: Alphabet,
     space: &Space,
     world: &World,
     has_alerts: bool,
     routes: bool,
 ) -> Result<String, AllocError>
     ensures { IfOk result (λ text.
-        IsCheckOf space.now world.now has_alerts routes (string_bytes text)) }
+        IsCheckOf alphabet space.now world.now has_alerts routes (string_bytes text)) }
 {
     let equal = equal_matchers_of(alloc, world)?;
     let asked = labels_asked(alloc, world, equal.as_slice(), space.impossible(), routes)?;
     let alerts = alerts_if_any(world, has_alerts);
-    let states = label_states(alloc, space, asked.as_slice(), alerts)?;
+    let states = label_states(alloc, alphabet, space, asked.as_slice(), alerts)?;
     let all_impossible = first_possible(alloc, space)?.is_none();
     let text = text_of_check(alloc, space.universe(), all_impossible, states.as_slice())?;
     Ok(text)

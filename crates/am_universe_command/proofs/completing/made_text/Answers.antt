@@ -17,6 +17,7 @@ returns-clause-made c = record {
       c.if-as_str-gt-MAX_FILE_BYTES.false);
   complete = c.in_ok-universe.ensures.complete;
   apart = c.in_ok-universe.ensures.apart;
+  over = c.in_ok-universe.ensures.over;
 }
 
 pub returns-then-as_str-gt-MAX_FILE_BYTES-clause-first :
