@@ -1,10 +1,10 @@
 -- Many patterns, with one more.
-use Rattle.std.proofs.Common.{◌≡◌, ℕ, ◌+◌, ◌∷◌, ◌<◌, Bool, true, IsTrue, Some, slice_get, List, [], ◌++◌, length, map, take, get_or, zero, suc, sym, ap, ◌∙◌, inl, inr, subst, arith}
+use Rattle.std.proofs.Common.{◌≡◌, ℕ, ◌+◌, ◌∷◌, ◌<◌, Some, slice_get, List, [], ◌++◌, length, map, take, get_or, zero, suc, sym, ap, ◌∙◌, inl, inr, subst}
 use Rattle.std.proofs.lemmas.Option.{same_Some}
 use Rattle.am_scan.specs.declared.pattern_automaton.PatternAutomaton.{PatternAutomaton}
 use Rattle.am_scan.specs.Words.{number_of}
 use Rattle.am_scan.proofs.Places.{get_pushed, map_front, map_same}
-use Rattle.am_classes.specs.Automata.{numbers_of, MakeSame, AreRepeated}
+use Rattle.am_classes.specs.Automata.{numbers_of, MakeSame, AreClasses}
 
 -- What stands under a function for a front is there for one that is one longer.
 pub mapped_more : {X Y : Type 0} (f : X → Y) (xs : List X) (i : ℕ) (x : X) (ys all : List Y) (y : Y)
@@ -39,16 +39,19 @@ same_numbers automata one other each = λ text.
     map_same (λ a. number_of a (one ∷ text)) (λ a. number_of a (other ∷ text)) automata
     (λ k automaton at. each k automaton at text)
 
--- It is said of one byte more.
-pub repeated_more : (automata : List PatternAutomaton) (repeated all : List Bool) (alike : Bool) (last : ℕ)
-    → length repeated ≡ last + 1 → all ≡ repeated ++ alike ∷ []
-    → (IsTrue alike → MakeSame automata last (last + 1)) → AreRepeated automata repeated
-    → AreRepeated automata all
-repeated_more automata repeated all alike last count is make said = λ one byte next at.
-    elim (get_pushed repeated alike true byte (subst (λ bs. slice_get bs byte ≡ Some true) is at)) [
-      | inl before ↦ said one byte next before
+-- There is a class of one byte more.
+pub classes_more : (automata : List PatternAutomaton) (classes all : List ℕ) (class byte : ℕ)
+    → length classes ≡ byte → all ≡ classes ++ class ∷ [] → MakeSame automata class byte
+    → AreClasses automata classes → AreClasses automata all
+classes_more automata classes all class byte count is make said = λ b one at.
+    elim (get_pushed classes class one b (subst (λ xs. slice_get xs b ≡ Some one) is at)) [
+      | inl before ↦ said b one before
       | inr here ↦
-          let low : last ≡ one = omega (arith, count, here.0, next) in
-          let high : last + 1 ≡ byte = omega (arith, count, here.0) in
-          subst (λ b. MakeSame automata one b) high (subst (λ o. MakeSame automata o (last + 1)) low (make here.1))
+          subst (λ c. MakeSame automata c b) here.1
+          (subst (MakeSame automata class) (sym (here.0 ∙ count)) make)
     ]
+
+-- Bytes of one class are alike.
+pub same_class : (automata : List PatternAutomaton) (class one other : ℕ)
+    → MakeSame automata class one → MakeSame automata class other → MakeSame automata one other
+same_class automata class one other a b = λ text. sym (a text) ∙ b text

@@ -1,17 +1,17 @@
 -- Listed states: with more listed, and each text that leads to one.
 use Rattle.std.specs.declared.alloc.Global.{Global}
 use Rattle.std.proofs.lemmas.Bool.{cases_lt}
-use Rattle.std.specs.Option.{is_some}
-use Rattle.std.proofs.Common.{◌≡◌, ◌≢◌, ◌<◌, ◌+◌, Vec, vec_len, ℕ, Bool, true, Option, None, Result, Ok, Err, IfOk, IfSome, IsTrue, ◌⊎◌, List, [], ◌∷◌, ◌++◌, Some, slice_get, length, refl, inl, inr, subst, sym, ◌∙◌, arith}
+use Rattle.std.proofs.Common.{◌≡◌, ◌≢◌, ◌<◌, ◌+◌, Vec, vec_len, ℕ, zero, suc, ap, set, replicate, Bool, Option, None, Result, Ok, Err, IfOk, IfSome, IsTrue, ◌⊎◌, List, [], ◌∷◌, ◌++◌, Some, slice_get, length, refl, inl, inr, subst, sym, ◌∙◌, arith}
 use Rattle.std.proofs.lemmas.Option.{option_and_then_some, same_Some, slice_get_within}
 use Rattle.am_classes.specs.declared.questions.Questions.{Questions}
 use Rattle.am_classes.specs.declared.label_state.LabelState.{LabelState}
+use Rattle.am_classes.specs.declared.led.Led.{Led}
 use Rattle.am_classes.specs.declared.listed.Listed.{Listed}
 use Rattle.am_classes.specs.declared.tail.Tail.{Tail}
 use Rattle.am_classes.specs.Utf8.{text_step, tail_of}
 use Rattle.am_classes.specs.State.{FollowsLabel}
 use Rattle.am_classes.specs.Automata.{numbers_of, MakeSame}
-use Rattle.am_classes.specs.Exploration.{AreListed, Grows, LeadsOn, LeadsTo, LeadsFrom, LeadsBefore, LeadsWithin, IsClosed}
+use Rattle.am_classes.specs.Exploration.{AreListed, Grows, LeadsOn, LeadsTo, LeadsFrom, AreLed, LeadsWithin, IsClosed}
 use Rattle.am_scan.proofs.Places.{get_pushed, get_kept, get_last, get_within}
 use Rattle.am_classes.proofs.TailLemmas.{step_byte}
 
@@ -45,22 +45,74 @@ leads_pushed q old new item state byte place here is follows = λ tail _.
     let last = subst (λ xs. slice_get xs (length old) ≡ Some item) (sym is) (get_last old item) in
     (item, subst (λ k. slice_get new k ≡ Some item) (sym here) last, follows)
 
+-- A place that was within is.
+pub grows_within : (old new : List Listed) (k : ℕ) → Grows old new → k < length old → k < length new
+grows_within old new k grows h =
+    let there = get_within old k h in slice_get_within new k there.0 (grows k there.0 there.1)
+
+pub place_within : (old new : Vec Listed Global) (at : ℕ) → Grows old.items new.items → at < vec_len old
+    → at < vec_len new
+place_within old new at grows h =
+    let place = grows_within old.items new.items at grows (omega (arith, old.ok.0)) in omega (arith, new.ok.0)
+
+-- What is at a place that was within was there.
+pub grown_back : (old new : List Listed) (k : ℕ) (item : Listed) → Grows old new → k < length old
+    → slice_get new k ≡ Some item → slice_get old k ≡ Some item
+grown_back old new k item grows h at =
+    let there = get_within old k h in there.1 ∙ sym (grows k there.0 there.1) ∙ at
+
 -- A byte that leads to the state at a place leads on.
-pub leads_on : (q : Questions) (listed : List Listed) (at byte : ℕ) (item : Listed)
-    (found : Option ℕ) → is_some found ≡ true → slice_get listed at ≡ Some item
-    → IfSome found (λ place. LeadsFrom q listed at byte place) → LeadsOn q listed item.state byte
-leads_on q listed at byte item (Some place) some here leads = λ tail step.
-    let to = leads item here tail step in (place, to.0, to.1, to.2)
-leads_on q listed at byte item None some here leads = absurd cc
+pub leads_on : (q : Questions) (listed : List Listed) (state : LabelState) (byte place : ℕ)
+    → LeadsTo q listed state byte place → LeadsOn q listed state byte
+leads_on q listed state byte place leads = λ tail step.
+    let to = leads tail step in (place, to.0, to.1, to.2)
 
--- It is the byte before the next.
-pub leads_next : (q : Questions) (listed : List Listed) (at byte : ℕ) (found : Option ℕ)
-    → IfSome found (λ place. LeadsFrom q listed at byte place)
-    → IfSome found (λ place. LeadsBefore q listed at (byte + 1) place)
-leads_next q listed at byte (Some place) leads = (byte, refl, leads)
-leads_next q listed at byte None leads = tt
+-- After a write there is what was written, or what was there.
+get_changed : {X : Type 0} (xs : List X) (i k : ℕ) (x y : X) → slice_get (set xs i x) k ≡ Some y
+    → ((k ≡ i) × (x ≡ y)) ⊎ (slice_get xs k ≡ Some y)
+get_changed [] i k x y e = absurd cc
+get_changed (z ∷ xs) zero zero x y e = inl (refl, same_Some x y e)
+get_changed (z ∷ xs) zero (suc k) x y e = inr e
+get_changed (z ∷ xs) (suc i) zero x y e = inr e
+get_changed (z ∷ xs) (suc i) (suc k) x y e =
+    elim (get_changed xs i k x y e) [ inl a ↦ inl (ap suc a.0, a.1) | inr b ↦ inr b ]
 
--- A byte leads where the byte before it led, if it does so for UTF-8, for what is kept of a text,
+none_replicated : (n k : ℕ) (l : Led) → slice_get (replicate n None) k ≡ Some (Some l) → ⊥
+none_replicated zero k l e = cc
+none_replicated (suc n) zero l e = cc
+none_replicated (suc n) (suc k) l e = none_replicated n k l e
+
+-- What led to a place still does when more is listed.
+pub led_kept : (q : Questions) (old new : List Listed) (at : ℕ) (led : List (Option Led))
+    → Grows old new → at < length old → AreLed q old at led → AreLed q new at led
+led_kept q old new at led grows within are = λ class l here.
+    let before = are class l here in (
+      before.0,
+      λ item there tail step.
+          let to = before.1 item (grown_back old new at item grows within there) tail step in
+          (to.0, grows l.place to.0 to.1, to.2),
+    )
+
+-- One byte more has led somewhere.
+pub led_more : (q : Questions) (listed : List Listed) (at : ℕ) (led : List (Option Led))
+    (class : ℕ) (one : Led) → AreLed q listed at led → MakeSame q.automata.items class one.byte
+    → LeadsFrom q listed at one.byte one.place → AreLed q listed at (set led class (Some one))
+led_more q listed at led class one are make leads = λ c l here.
+    elim (get_changed led class c (Some one) (Some l) here) [
+      | inl new ↦
+          let same = same_Some one l new.1 in
+          subst (λ x. MakeSame q.automata.items c x.byte × LeadsFrom q listed at x.byte x.place) same
+          (subst (λ k. MakeSame q.automata.items k one.byte) (sym new.0) make, leads)
+      | inr old ↦ are c l old
+    ]
+
+-- No byte has led anywhere yet.
+pub led_none : (q : Questions) (listed : List Listed) (at n : ℕ) (led : List (Option Led))
+    → led ≡ replicate n None → AreLed q listed at led
+led_none q listed at n led is = λ class l here.
+    absurd (none_replicated n class l (subst (λ xs. slice_get xs class ≡ Some (Some l)) is here))
+
+-- A byte leads where another led, if it does so for UTF-8, for what is kept of a text,
 -- and for the patterns.
 pub leads_again : (q : Questions) (listed : List Listed) (state : LabelState) (next : Listed)
     (one byte place : ℕ) → slice_get listed place ≡ Some next
@@ -118,22 +170,6 @@ pub where_both : {E P R Q : Type 0} (r : Result Bool E) → IfOk r (λ done. IsT
     → IfOk r (λ done. IsTrue done → R) → (P → R → Q) → IfOk r (λ done. IsTrue done → Q)
 where_both (Ok done) h k f = λ yes'. f (h yes') (k yes')
 where_both (Err e) h k f = tt
-
--- A place that was within is.
-pub grows_within : (old new : List Listed) (k : ℕ) → Grows old new → k < length old → k < length new
-grows_within old new k grows h =
-    let there = get_within old k h in slice_get_within new k there.0 (grows k there.0 there.1)
-
-pub place_within : (old new : Vec Listed Global) (at : ℕ) → Grows old.items new.items → at < vec_len old
-    → at < vec_len new
-place_within old new at grows h =
-    let place = grows_within old.items new.items at grows (omega (arith, old.ok.0)) in omega (arith, new.ok.0)
-
--- What is at a place that was within was there.
-pub grown_back : (old new : List Listed) (k : ℕ) (item : Listed) → Grows old new → k < length old
-    → slice_get new k ≡ Some item → slice_get old k ≡ Some item
-grown_back old new k item grows h at =
-    let there = get_within old k h in there.1 ∙ sym (grows k there.0 there.1) ∙ at
 
 -- One byte more leads to what is listed.
 pub leads_more : (q : Questions) (old new : List Listed) (state : LabelState) (first byte : ℕ)

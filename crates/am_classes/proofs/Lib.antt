@@ -3,6 +3,7 @@ pub mod TailLemmas
 pub mod OverLemmas
 pub mod Utf8Lemmas
 pub mod AutomataLemmas
+pub mod EndsLemmas
 pub mod StateLemmas
 pub mod AskedLemmas
 pub mod ExplorationLemmas

@@ -10,29 +10,24 @@ use Rattle.am_classes.specs.declared.alphabet.Alphabet.TheVariants.{Unicode, Asc
 use Rattle.am_classes.specs.declared.tail.Tail.{Tail}
 use Rattle.am_classes.specs.Utf8.{tail_of}
 use Rattle.am_classes.specs.Automata.{AreScanned, numbers_of, fits, found_by}
-use Rattle.std.proofs.Common.{◌≡◌, ℕ, true, false, List, [], ◌∷◌, ◌++◌, Option, Some, None, slice_get, refl, ap, sym, ◌∙◌, append_assoc}
+use Rattle.std.proofs.Common.{◌≡◌, ℕ, true, false, List, [], ◌∷◌, Option, Some, None, slice_get, refl, ap, sym, ◌∙◌}
 use Rattle.am_classes.specs.declared.questions.Questions.{Questions}
 use Rattle.am_classes.specs.declared.label_state.LabelState.{LabelState}
-use Rattle.am_classes.specs.Rest.{IsNoEnd, RestFollows, rest_bytes}
+use Rattle.am_classes.specs.declared.rest.Rest.{Rest}
+use Rattle.am_classes.specs.Rest.{RestFollows}
 use Rattle.am_classes.specs.State.{FollowsLabel, IsNamed, named_texts}
 use Rattle.am_classes.proofs.TailLemmas.{scanned_of_tail}
 
--- What no text ends with, none ends with when it has a byte more in front.
-pub no_end_longer : (texts : List (List ℕ)) (text : List ℕ) (b : ℕ) → IsNoEnd texts text
-    → IsNoEnd texts (b ∷ text)
-no_end_longer texts text b none k named front at e =
-    none k named (front ++ b ∷ []) at (e ∙ sym (append_assoc front (b ∷ []) text))
-
 -- Where a named text is followed, nothing else is.
-named_alone : (texts : List (List ℕ)) (rest : Option (List ℕ)) (x y : List ℕ) (k : ℕ)
+named_alone : (texts : List (List ℕ)) (rest : Option Rest) (x y : List ℕ) (k : ℕ)
     → slice_get texts k ≡ Some x → RestFollows texts rest x → RestFollows texts rest y → x ≡ y
-named_alone texts (Some rest) x y k at follows also = sym follows ∙ also
+named_alone texts (Some rest) x y k at follows also = sym follows.bytes ∙ also.bytes
 named_alone texts None x y k at follows also = absurd (follows k x [] at refl)
 
 pub only_named : (q : Questions) (state : LabelState) (x y : List ℕ) → IsNamed q x
     → FollowsLabel q state x → FollowsLabel q state y → x ≡ y
 only_named q state x y named follows also =
-    named_alone (named_texts q) (rest_bytes state.rest) x y named.0 named.1 follows.rest also.rest
+    named_alone (named_texts q) state.rest x y named.0 named.1 follows.rest also.rest
 
 -- What a state follows is one of the texts over which the patterns are followed.
 not_ascii : (a : Alphabet) (scan : PatternAutomaton) → fits a scan ≡ true → a ≡ Unicode
@@ -71,11 +66,12 @@ found_of_numbers q state automata numbers r s t h = tt
 
 -- What a state follows, one that is the same follows.
 pub same_follows : (q : Questions) (state other : LabelState) (text : List ℕ)
-    → state.tail ≡ other.tail → rest_bytes state.rest ≡ rest_bytes other.rest
+    → state.tail ≡ other.tail
+    → (RestFollows (named_texts q) state.rest text → RestFollows (named_texts q) other.rest text)
     → state.numbers.items ≡ other.numbers.items → FollowsLabel q state text
     → FollowsLabel q other text
 same_follows q state other text tails rests same follows = record {
   tail = follows.tail ∙ ap Some tails;
-  rest = subst (λ rest. RestFollows (named_texts q) rest text) rests follows.rest;
+  rest = rests follows.rest;
   numbers = sym same ∙ follows.numbers;
 }

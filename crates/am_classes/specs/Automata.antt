@@ -1,5 +1,5 @@
 -- Many patterns at once.
-use Rattle.std.specs.Prelude.{◌≡◌, ◌+◌, ◌∷◌, ℕ, List, map, Bool, true, not, Some, slice_get}
+use Rattle.std.specs.Prelude.{◌≡◌, ◌∷◌, ℕ, List, map, Bool, true, not, Some, slice_get}
 use Rattle.std.specs.List.{AllByRecursion}
 use Rattle.am_labels.specs.Words.{finds}
 use Rattle.am_scan.specs.Words.{number_of, IsScanned, is_ascii, pattern_of}
@@ -21,13 +21,12 @@ abbrev pub MakeSame : List PatternAutomaton → ℕ → ℕ → Type 0
 MakeSame automata one other =
     (text : List ℕ) → numbers_of automata (one ∷ text) ≡ numbers_of automata (other ∷ text)
 
--- Of each byte it is said whether patterns make the same of it as of the byte before it.
+-- Of each byte there is one that patterns make the same of.
 -- Source: own choice.
--- Example: to `db.*` the bytes `c` and `d` do not repeat the byte before them, and `y` does.
-abbrev pub AreRepeated : List PatternAutomaton → List Bool → Type 0
-AreRepeated automata repeated =
-    (one byte : ℕ) → one + 1 ≡ byte → slice_get repeated byte ≡ Some true
-    → MakeSame automata one byte
+-- Example: to `db.*` that of `y` may be `x`, and those of `d` and `b` are the two themselves.
+abbrev pub AreClasses : List PatternAutomaton → List ℕ → Type 0
+AreClasses automata classes =
+    (byte class : ℕ) → slice_get classes byte ≡ Some class → MakeSame automata class byte
 
 -- A pattern may be followed over the texts of an alphabet: over Unicode, if it is not followed over
 -- ASCII alone.

@@ -1,10 +1,12 @@
 -- States of a label that have been listed, each with a text that leads to it.
-use Rattle.std.specs.Prelude.{◌≡◌, ◌<◌, ◌≤◌, ◌+◌, ℕ, List, [], ◌∷◌, Some, slice_get}
+use Rattle.std.specs.Prelude.{◌≡◌, ◌<◌, ◌≤◌, ℕ, List, [], ◌∷◌, Option, Some, slice_get}
 use Rattle.am_classes.specs.declared.questions.Questions.{Questions}
 use Rattle.am_classes.specs.declared.label_state.LabelState.{LabelState}
+use Rattle.am_classes.specs.declared.led.Led.{Led}
 use Rattle.am_classes.specs.declared.listed.Listed.{Listed}
 use Rattle.am_classes.specs.declared.tail.Tail.{Tail}
 use Rattle.am_classes.specs.Utf8.{text_step}
+use Rattle.am_classes.specs.Automata.{MakeSame}
 use Rattle.am_classes.specs.State.{FollowsLabel}
 
 -- Each state is that of the text beside it.
@@ -42,10 +44,14 @@ abbrev pub LeadsFrom : Questions → List Listed → ℕ → ℕ → ℕ → Typ
 LeadsFrom q listed at byte place =
     (item : Listed) → slice_get listed at ≡ Some item → LeadsTo q listed item.state byte place
 
--- The byte before this one does.
-abbrev pub LeadsBefore : Questions → List Listed → ℕ → ℕ → ℕ → Type 0
-LeadsBefore q listed at byte place =
-    (one : ℕ) × (one + 1 ≡ byte) × LeadsFrom q listed at one place
+-- Of each class there is at most one byte, which the patterns make the same of as of the class,
+-- and the place to which it leads from the state at another.
+-- Source: own choice.
+-- Example: where `db.*` alone is asked, `z` may stand for all bytes but `d`, `b` and the line feed.
+abbrev pub AreLed : Questions → List Listed → ℕ → List (Option Led) → Type 0
+AreLed q listed at led =
+    (class : ℕ) (l : Led) → slice_get led class ≡ Some (Some l)
+    → MakeSame q.automata.items class l.byte × LeadsFrom q listed at l.byte l.place
 
 -- Each byte from the first on and below the last does.
 abbrev pub LeadsWithin : Questions → List Listed → LabelState → ℕ → ℕ → Type 0

@@ -3,6 +3,7 @@ pub mod Alike
 pub mod Words
 pub mod Utf8
 pub mod Automata
+pub mod Ends
 pub mod Rest
 pub mod State
 pub mod Values

@@ -1,6 +1,6 @@
 -- What the matchers of a label make of a text of which only the end has been read.
 use Rattle.std.specs.Prelude.{◌≡◌, ℕ, List, map, Some, slice_get, string_bytes}
-use Rattle.am_classes.specs.Rest.{RestFollows, rest_bytes}
+use Rattle.am_classes.specs.Rest.{RestFollows}
 use Rattle.am_scan.specs.Words.{pattern_of}
 use Rattle.am_classes.specs.declared.questions.Questions.{Questions}
 use Rattle.am_classes.specs.declared.label_state.LabelState.{LabelState}
@@ -24,5 +24,5 @@ IsNamed q text = (k : ℕ) × (slice_get (named_texts q) k ≡ Some text)
 -- Example: the state with which an exploration begins is that of the empty text.
 pub record FollowsLabel (q : Questions) (state : LabelState) (text : List ℕ) : Type 0 where
   pub tail : tail_of q.alphabet text ≡ Some state.tail
-  pub rest : RestFollows (named_texts q) (rest_bytes state.rest) text
+  pub rest : RestFollows (named_texts q) state.rest text
   pub numbers : state.numbers.items ≡ numbers_of q.automata.items text

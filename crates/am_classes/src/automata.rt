@@ -3,7 +3,8 @@ ghost use Rattle.std.specs.Prelude.{◌≡◌, ℕ, ◌∷◌, [], List, map, �
 ghost use Rattle.std.specs.Prelude.{IfOk, IfSome, IfNone, IsTrue, length, string_bytes};
 ghost use Rattle.std.specs.List.{list_all};
 ghost use Rattle.am_scan.specs.Words.{pattern_of};
-ghost use Rattle.am_classes.specs.Automata.{numbers_of, AreScanned, found_by, fits, MakeSame};
+ghost use Rattle.am_classes.specs.Automata.{numbers_of, AreScanned, found_by, fits};
+ghost use Rattle.am_classes.specs.Automata.{AreClasses, MakeSame};
 
 use crate::Alphabet;
 use am_scan::PatternAutomaton;
@@ -69,8 +70,34 @@ pub(crate) fn next_numbers(
     Ok(Some(nexts))
 }
 
+/// Of each byte, the first that each pattern makes the same of.
+pub(crate) fn byte_classes(
+    alloc: Global,
+    automata: &[PatternAutomaton],
+) -> Result<Vec<u8>, AllocError>
+    ensures { IfOk result (λ classes. AreClasses automata.now classes.items) }
+{
+    let mut classes = Vec::with_capacity(alloc, 256)?;
+    for byte in 0..=u8::MAX {
+        classes.push(first_alike(automata, byte))?;
+    }
+    Ok(classes)
+}
+
+/// The first byte that each pattern makes the same of as of this one.
+fn first_alike(automata: &[PatternAutomaton], byte: u8) -> u8
+    ensures { MakeSame automata.now result byte }
+{
+    for one in 0..byte {
+        if are_alike(automata, one, byte) {
+            return one;
+        }
+    }
+    byte
+}
+
 /// Whether each pattern makes the same of two bytes. Only `true` promises something.
-pub(crate) fn are_alike(automata: &[PatternAutomaton], one: u8, other: u8) -> bool
+fn are_alike(automata: &[PatternAutomaton], one: u8, other: u8) -> bool
     ensures { IsTrue result → MakeSame automata.now one other }
 {
     for automaton in automata {

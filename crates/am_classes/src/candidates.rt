@@ -91,7 +91,7 @@ pub(crate) fn add(
     if !item.state.tail.is_whole() {
         return Ok(true);
     }
-    if questions.names(item.text.as_slice()) {
+    if questions.names_followed(&item.state) {
         return Ok(true);
     }
     let Some(found) = questions.found(alloc, &item.state)? else {

@@ -1,18 +1,21 @@
-ghost use Rattle.std.specs.Prelude.{◌≡◌, ◌≢◌, ◌<◌, ◌+◌, ◌∷◌, ◌++◌, ℕ, List, [], Some, true, false};
+ghost use Rattle.std.specs.Prelude.{◌≡◌, ◌≢◌, ◌<◌, ◌+◌, ◌∷◌, ◌++◌, ℕ, List, [], Some, false};
 ghost use Rattle.std.specs.Prelude.{IfOk, IfSome, IsTrue, slice_get, vec_len};
 ghost use Rattle.am_classes.specs.declared.questions.Questions.{Questions};
 ghost use Rattle.am_classes.specs.declared.listed.Listed.{Listed};
 ghost use Rattle.am_classes.specs.State.{FollowsLabel};
-ghost use Rattle.am_classes.specs.Automata.{AreRepeated};
-ghost use Rattle.am_classes.specs.Exploration.{AreListed, Grows, LeadsFrom, LeadsBefore};
-ghost use Rattle.am_classes.specs.Exploration.{LeadsWithin};
+ghost use Rattle.am_classes.specs.Automata.{MakeSame};
+ghost use Rattle.am_classes.specs.Utf8.{text_step};
+ghost use Rattle.am_classes.specs.Exploration.{AreListed, Grows, AreLed, LeadsOn};
+ghost use Rattle.am_classes.specs.Exploration.{LeadsFrom, LeadsWithin};
 ghost use Rattle.am_classes.specs.Candidates.{AreApartCandidates, AreCandidates};
 
 use crate::candidates::{CandidateTexts, add};
 use crate::label_state::LabelState;
+use crate::led::Led;
 use crate::limits::MAX_STATES;
 use crate::listed::Listed;
 use crate::questions::Questions;
+use crate::tail::Tail;
 use std::alloc::{AllocError, Global};
 use std::collections::HashMap;
 
@@ -31,7 +34,6 @@ pub(crate) fn explored(
     ensures many { IfOk result (λ found. IfSome found (λ candidates.
         candidates.all ≡ false → room < vec_len candidates.items)) }
 {
-    let repeated = questions.repeated_bytes(alloc)?;
     let mut exploration = Exploration::new(alloc, questions)?;
     let mut items = Vec::new(alloc);
     for at in 0..MAX_STATES {
@@ -44,7 +46,7 @@ pub(crate) fn explored(
         if items.len() > room {
             return Ok(Some(CandidateTexts { items, all: false }));
         }
-        if !exploration.explore(alloc, questions, repeated.as_slice(), at)? {
+        if !exploration.explore(alloc, questions, at)? {
             return Ok(None);
         }
     }
@@ -81,90 +83,143 @@ impl Exploration {
         &mut self,
         alloc: Global,
         questions: &Questions,
-        repeated: &[bool],
         at: usize,
     ) -> Result<bool, AllocError>
         requires at { at < vec_len self.old.listed }
         requires own { AreListed questions.now self.old.listed.items }
-        requires repeated { AreRepeated questions.now.automata.items repeated.now }
         ensures own { AreListed questions.now self.new.listed.items }
         ensures grows { Grows self.old.listed.items self.new.listed.items }
         ensures leads { IfOk result (λ done. IsTrue done → (item : Listed)
             → slice_get self.old.listed.items at ≡ Some item
             → LeadsWithin questions.now self.new.listed.items item.state 0 256) }
     {
-        if !self.explore_bytes(alloc, questions, repeated, at, b'a', 126)? {
+        let mut led = vec![in alloc; None; 256]?;
+        if !self.explore_bytes(alloc, questions, at, b'a', 126, &mut led)? {
             return Ok(false);
         }
-        if !self.explore_bytes(alloc, questions, repeated, at, b' ', 96)? {
+        if !self.explore_bytes(alloc, questions, at, b' ', 96, &mut led)? {
             return Ok(false);
         }
-        if !self.explore_bytes(alloc, questions, repeated, at, 0, 31)? {
+        if !self.explore_bytes(alloc, questions, at, 0, 31, &mut led)? {
             return Ok(false);
         }
-        self.explore_bytes(alloc, questions, repeated, at, 127, 255)
+        self.explore_bytes(alloc, questions, at, 127, 255, &mut led)
     }
 
-    /// Lists the states to which a byte of this range leads from a listed state. `false` where
-    /// there are too many states, or one cannot be computed.
+    /// Lists the states to which a byte of this range leads from a listed state. `led` has, of each
+    /// class of bytes, the last for which a step was taken, and where it led. `false` where there
+    /// are too many states, or one cannot be computed.
     fn explore_bytes(
         &mut self,
         alloc: Global,
         questions: &Questions,
-        repeated: &[bool],
         at: usize,
         first: u8,
         last: u8,
+        led: &mut Vec<Option<Led>>,
     ) -> Result<bool, AllocError>
         requires at { at < vec_len self.old.listed }
         requires own { AreListed questions.now self.old.listed.items }
-        requires repeated { AreRepeated questions.now.automata.items repeated.now }
+        requires led { AreLed questions.now self.old.listed.items at led.old.items }
         ensures own { AreListed questions.now self.new.listed.items }
         ensures grows { Grows self.old.listed.items self.new.listed.items }
+        ensures led { AreLed questions.now self.new.listed.items at led.new.items }
         ensures leads { IfOk result (λ done. IsTrue done → (item : Listed)
             → slice_get self.old.listed.items at ≡ Some item
             → LeadsWithin questions.now self.new.listed.items item.state first (last + 1)) }
     {
-        let mut place = None;
         for byte in first..=last {
-            place = self.explore_byte(alloc, questions, repeated, at, byte, place)?;
-            if place.is_none() {
+            if !self.explore_byte(alloc, questions, at, byte, led)? {
                 return Ok(false);
             }
         }
         Ok(true)
     }
 
-    /// Lists the state to which a byte leads from a listed state, unless it is listed already, and
-    /// answers its place. `before` is that of the byte before. `None` where there are too many
-    /// states, or it cannot be computed.
+    /// Lists the state to which a byte leads from a listed state, unless another byte of its class
+    /// led to the same. `false` where there are too many states, or it cannot be computed.
     fn explore_byte(
         &mut self,
         alloc: Global,
         questions: &Questions,
-        repeated: &[bool],
         at: usize,
         byte: u8,
-        before: Option<usize>,
+        led: &mut Vec<Option<Led>>,
+    ) -> Result<bool, AllocError>
+        requires at { at < vec_len self.old.listed }
+        requires own { AreListed questions.now self.old.listed.items }
+        requires led { AreLed questions.now self.old.listed.items at led.old.items }
+        ensures own { AreListed questions.now self.new.listed.items }
+        ensures grows { Grows self.old.listed.items self.new.listed.items }
+        ensures led { AreLed questions.now self.new.listed.items at led.new.items }
+        ensures leads { IfOk result (λ done. IsTrue done → (item : Listed)
+            → slice_get self.old.listed.items at ≡ Some item
+            → LeadsOn questions.now self.new.listed.items item.state byte) }
+    {
+        let Some(tail) = self.listed[at].state.tail.step(questions.alphabet, byte) else {
+            // No text has this byte there.
+            return Ok(true);
+        };
+        let class = usize::from(questions.class_of(byte));
+        if let Some(Some(before)) = led.get(class) {
+            if self.repeats(alloc, questions, at, byte, *before)? {
+                return Ok(true);
+            }
+        }
+        let Some(place) = self.explore_step(alloc, questions, at, byte, tail)? else {
+            return Ok(false);
+        };
+        if class < led.len() {
+            led[class] = Some(Led { byte, place });
+        }
+        Ok(true)
+    }
+
+    /// Whether a byte leads from a listed state to the place to which another byte of its class
+    /// led. Most bytes do and need no step, since steps are slow where there are many patterns.
+    /// Only `true` promises something.
+    fn repeats(
+        &self,
+        alloc: Global,
+        questions: &Questions,
+        at: usize,
+        byte: u8,
+        before: Led,
+    ) -> Result<bool, AllocError>
+        requires at { at < vec_len self.now.listed }
+        requires same { MakeSame questions.now.automata.items before.byte byte }
+        requires led { LeadsFrom questions.now self.now.listed.items at before.byte before.place }
+        ensures { IfOk result (λ repeats. IsTrue repeats
+            → LeadsFrom questions.now self.now.listed.items at byte before.place) }
+    {
+        let Some(next) = self.listed.get(before.place) else {
+            return Ok(false);
+        };
+        let state = &self.listed[at].state;
+        questions.lead_alike(alloc, state, before.byte, byte, &next.state)
+    }
+
+    /// Lists the state to which a byte leads from a listed state, unless it is listed already, and
+    /// answers its place. `tail` is that of the state. `None` where there are too many states, or
+    /// it cannot be computed.
+    fn explore_step(
+        &mut self,
+        alloc: Global,
+        questions: &Questions,
+        at: usize,
+        byte: u8,
+        tail: Tail,
     ) -> Result<Option<usize>, AllocError>
         requires at { at < vec_len self.old.listed }
         requires own { AreListed questions.now self.old.listed.items }
-        requires repeated { AreRepeated questions.now.automata.items repeated.now }
-        requires before { IfSome before
-            (λ place. LeadsBefore questions.now self.old.listed.items at byte place) }
+        requires tail { (item : Listed) → slice_get self.old.listed.items at ≡ Some item
+            → text_step questions.now.alphabet item.state.tail byte ≡ Some tail }
         ensures own { AreListed questions.now self.new.listed.items }
         ensures grows { Grows self.old.listed.items self.new.listed.items }
         ensures leads { IfOk result (λ found. IfSome found
             (λ place. LeadsFrom questions.now self.new.listed.items at byte place)) }
     {
         let item = &self.listed[at];
-        let Some(tail) = item.state.tail.step(questions.alphabet, byte) else {
-            // No text has this byte there, so any place will do.
-            return Ok(Some(at));
-        };
-        if self.repeats(alloc, questions, repeated, at, byte, before)? {
-            return Ok(before);
-        }
         let Some(state) = questions.step(alloc, &item.state, byte, tail)? else {
             return Ok(None);
         };
@@ -174,38 +229,6 @@ impl Exploration {
         let mut text = vec![in alloc; byte]?;
         text.extend_from_slice(item.text.as_slice())?;
         self.list(Listed { state, text })
-    }
-
-    /// Whether a byte leads from a listed state to the place to which the byte before it led. Most
-    /// bytes do and need no step, since steps are slow where there are many patterns. Only `true`
-    /// promises something.
-    fn repeats(
-        &self,
-        alloc: Global,
-        questions: &Questions,
-        repeated: &[bool],
-        at: usize,
-        byte: u8,
-        before: Option<usize>,
-    ) -> Result<bool, AllocError>
-        requires at { at < vec_len self.now.listed }
-        requires repeated { AreRepeated questions.now.automata.items repeated.now }
-        requires before { IfSome before
-            (λ place. LeadsBefore questions.now self.now.listed.items at byte place) }
-        ensures { IfOk result (λ repeats. IsTrue repeats → IfSome before
-            (λ place. LeadsFrom questions.now self.now.listed.items at byte place)) }
-    {
-        let Some(place) = before else {
-            return Ok(false);
-        };
-        let Some(true) = repeated.get(usize::from(byte)) else {
-            return Ok(false);
-        };
-        let Some(next) = self.listed.get(place) else {
-            return Ok(false);
-        };
-        let state = &self.listed[at].state;
-        questions.lead_alike(alloc, state, byte - 1, byte, &next.state)
     }
 
     /// The place of a listed state that serves for this one, where one is found.

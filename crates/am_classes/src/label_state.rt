@@ -1,6 +1,7 @@
-ghost use Rattle.std.specs.Prelude.{◌≡◌, ℕ, List, IsTrue};
-ghost use Rattle.am_classes.specs.Rest.{rest_bytes};
+ghost use Rattle.std.specs.Prelude.{ℕ, List, IsTrue};
+ghost use Rattle.am_classes.specs.Rest.{RestFollows};
 
+use crate::rest::Rest;
 use crate::tail::Tail;
 use am_scan::hash_with;
 
@@ -10,7 +11,7 @@ pub(crate) struct LabelState {
     /// What UTF-8 allows in front.
     pub(crate) tail: Tail,
     /// What was read, as long as a text that the matchers name ends with it.
-    pub(crate) rest: Option<Vec<u8>>,
+    pub(crate) rest: Option<Rest>,
     /// Its number to each pattern.
     pub(crate) numbers: Vec<u32>,
 }
@@ -34,7 +35,7 @@ impl LabelState {
     /// A number by which states are told apart fast. Nothing is promised of it.
     pub(crate) fn hash(&self) -> u64 {
         let mut hash = match &self.rest {
-            Some(rest) => hash_of(rest.as_slice()),
+            Some(rest) => rest.hash(),
             None => 0,
         };
         for number in &self.numbers {
@@ -44,22 +45,14 @@ impl LabelState {
     }
 }
 
-/// Whether two texts that are kept are the same.
-fn same_rest(rest: &Option<Vec<u8>>, other: &Option<Vec<u8>>) -> bool
-    ensures { IsTrue result → rest_bytes rest.now ≡ rest_bytes other.now }
+/// Whether what is kept of two texts is the same. Only `true` promises something.
+fn same_rest(rest: &Option<Rest>, other: &Option<Rest>) -> bool
+    ensures { IsTrue result → (texts : List (List ℕ)) (text : List ℕ)
+        → RestFollows texts rest.now text → RestFollows texts other.now text }
 {
     match (rest, other) {
-        (Some(rest), Some(other)) => rest.as_slice() == other.as_slice(),
+        (Some(rest), Some(other)) => rest.same(other),
         (None, None) => true,
         _ => false,
     }
-}
-
-/// A number for a text.
-fn hash_of(text: &[u8]) -> u64 {
-    let mut hash = 1;
-    for byte in text {
-        hash = hash_with(hash, u64::from(*byte));
-    }
-    hash
 }

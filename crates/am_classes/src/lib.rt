@@ -18,11 +18,14 @@ mod automata;
 mod questions;
 
 // What matters of a text of which only the end has been read.
+mod ends;
 mod label_state;
+mod rest;
 mod tail;
 
 // The states that texts lead to.
 mod exploration;
+mod led;
 mod listed;
 
 // The texts of which one stands for each class.

@@ -2,15 +2,16 @@ ghost use Rattle.std.specs.Prelude.{◌≡◌, ◌↔◌, ◌∷◌, [], ℕ, Li
 ghost use Rattle.std.specs.Prelude.{IfOk, IfSome, IfNone, string_bytes, slice_get};
 ghost use Rattle.am_labels.specs.Words.{takes_pattern};
 ghost use Rattle.am_classes.specs.Utf8.{text_step};
-ghost use Rattle.am_classes.specs.Rest.{IsNoEnd, RestFollows, rest_bytes};
-ghost use Rattle.am_classes.specs.Automata.{numbers_of, AreRepeated, fits, found_by};
+ghost use Rattle.am_classes.specs.Rest.{RestFollows};
+ghost use Rattle.am_classes.specs.Automata.{numbers_of, AreClasses, MakeSame, fits, found_by};
 ghost use Rattle.std.specs.List.{list_all};
 ghost use Rattle.am_classes.specs.Words.{HasPattern};
 ghost use Rattle.am_classes.specs.Values.{AreValues, counts};
 
 use crate::Alphabet;
-use crate::automata::{are_alike, automata_of, end_numbers, found_patterns, next_numbers};
+use crate::automata::{automata_of, byte_classes, end_numbers, found_patterns, next_numbers};
 use crate::label_state::LabelState;
+use crate::rest::Rest;
 use crate::tail::Tail;
 use am_labels::{Matcher, Op};
 use am_scan::PatternAutomaton;
@@ -24,7 +25,10 @@ pub(crate) struct Questions {
     pub(crate) alphabet: Alphabet,
     pub(crate) texts: Vec<String>,
     pub(crate) automata: Vec<PatternAutomaton>,
+    /// Of each byte, the first that the patterns make the same of.
+    classes: Vec<u8>,
     ghost fit: { list_all (fits alphabet) automata.items ≡ true },
+    ghost alike: { AreClasses automata.items classes.items },
 }
 
 impl Questions {
@@ -49,10 +53,12 @@ impl Questions {
         let Some(automata) = automata_of(alloc, alphabet, patterns.as_slice())? else {
             return Ok(None);
         };
+        let classes = byte_classes(alloc, automata.as_slice())?;
         Ok(Some(Questions {
             alphabet,
             texts,
             automata,
+            classes,
         }))
     }
 
@@ -63,13 +69,24 @@ impl Questions {
         is_among(self.texts.as_slice(), text)
     }
 
+    /// Whether a text that a state follows is one of those that are named.
+    pub(crate) fn names_followed(&self, state: &LabelState) -> bool
+        ensures { (text : List ℕ) → FollowsLabel self.now state.now text
+            → (IsTrue result ↔ IsNamed self.now text) }
+    {
+        match &state.rest {
+            Some(rest) => rest.is_named(self.texts.as_slice()),
+            None => false,
+        }
+    }
+
     /// The state of the empty text.
     pub(crate) fn end(&self, alloc: Global) -> Result<LabelState, AllocError>
         ensures { IfOk result (λ state. FollowsLabel self.now state []) }
     {
         Ok(LabelState {
             tail: Tail::Whole,
-            rest: Some(Vec::new(alloc)),
+            rest: Some(Rest::end(alloc, self.texts.as_slice())?),
             numbers: end_numbers(alloc, self.automata.as_slice())?,
         })
     }
@@ -100,39 +117,26 @@ impl Questions {
         }))
     }
 
-    /// What was read with one byte more in front, as long as a named text ends with it.
-    fn rest(
-        &self,
-        alloc: Global,
-        rest: &Option<Vec<u8>>,
-        byte: u8,
-    ) -> Result<Option<Vec<u8>>, AllocError>
+    /// What is kept of a text with one byte more in front.
+    fn rest(&self, alloc: Global, rest: &Option<Rest>, byte: u8) -> Result<Option<Rest>, AllocError>
         ensures { IfOk result (λ next. (text : List ℕ)
-            → RestFollows (named_texts self.now) (rest_bytes rest.now) text
-            → RestFollows (named_texts self.now) (rest_bytes next) (byte ∷ text)) }
+            → RestFollows (named_texts self.now) rest.now text
+            → RestFollows (named_texts self.now) next (byte ∷ text)) }
     {
-        let Some(rest) = rest else {
-            return Ok(None);
-        };
-        let mut longer = vec![in alloc; byte]?;
-        longer.extend_from_slice(rest.as_slice())?;
-        if is_end(self.texts.as_slice(), longer.as_slice()) {
-            Ok(Some(longer))
-        } else {
-            Ok(None)
+        match rest {
+            Some(rest) => rest.step(alloc, self.texts.as_slice(), byte),
+            None => Ok(None),
         }
     }
 
-    /// Of each byte, whether the patterns make the same of it as of the byte before it.
-    pub(crate) fn repeated_bytes(&self, alloc: Global) -> Result<Vec<bool>, AllocError>
-        ensures { IfOk result (λ repeated. AreRepeated self.now.automata.items repeated.items) }
+    /// The class of a byte, which is a byte that the patterns make the same of.
+    pub(crate) fn class_of(&self, byte: u8) -> u8
+        ensures { MakeSame self.now.automata.items result byte }
     {
-        let automata = self.automata.as_slice();
-        let mut repeated = vec![in alloc; false]?;
-        for byte in 0..u8::MAX {
-            repeated.push(are_alike(automata, byte, byte + 1))?;
+        match self.classes.get(usize::from(byte)) {
+            Some(class) => *class,
+            None => byte,
         }
-        Ok(repeated)
     }
 
     /// Whether the state to which one byte leads serves for another byte, if the patterns make the
@@ -184,18 +188,6 @@ fn is_among(texts: &[String], text: &[u8]) -> bool
         ↔ ((k : ℕ) × (slice_get (map string_bytes texts.now) k ≡ Some text.now)) }
 {
     texts.iter().any(|other| other.as_bytes() == text)
-}
-
-/// Whether one of some texts ends with this.
-fn is_end(texts: &[String], end: &[u8]) -> bool
-    ensures { result ≡ false → IsNoEnd (map string_bytes texts.now) end.now }
-{
-    for text in texts {
-        if text.as_bytes().ends_with(end) {
-            return true;
-        }
-    }
-    false
 }
 
 /// The values that count of the matchers whose operator takes a pattern, or of those whose operator

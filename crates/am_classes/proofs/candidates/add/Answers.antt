@@ -11,11 +11,12 @@ use Rattle.am_classes.proofs.StateLemmas.{only_named}
 use Rattle.am_classes.proofs.CandidateLemmas.{apart_pushed}
 use Rattle.am_classes.proofs.candidates.add.Goals as goal
 
-pub returns-then-names-clause-added : goal.returns-then-names-clause-added
-returns-then-names-clause-added c = λ _ text follows whole unnamed.
+pub returns-then-names_followed-clause-added : goal.returns-then-names_followed-clause-added
+returns-then-names_followed-clause-added c = λ _ text follows whole unnamed.
     let q = c.args.questions.now in
-    let named : IsNamed q c.args.item.now.text.items = subst (IsNamed q) c.as_slice.ensures.value (c.names.ensures.0 c.if-names.true) in
-    let same = only_named q c.args.item.now.state c.args.item.now.text.items text named c.requires.follows follows in
+    let item = c.args.item.now in
+    let named = (c.names_followed.ensures item.text.items c.requires.follows).0 c.if-names_followed.true in
+    let same = only_named q item.state item.text.items text named c.requires.follows follows in
     absurd (unnamed (subst (IsNamed q) same named))
 
 pub returns-then-has_found-clause-added : goal.returns-then-has_found-clause-added
@@ -25,8 +26,8 @@ returns-then-has_found-clause-added c =
     λ _ text follows whole unnamed. (
       has.0,
       has.1,
-      subst (λ cs. slice_get cs has.0 ≡ Some has.1) c.as_slice-2.ensures.value has.2,
-      has.3 ∙ c.as_slice-3.ensures.value ∙ found text follows,
+      subst (λ cs. slice_get cs has.0 ≡ Some has.1) c.as_slice.ensures.value has.2,
+      has.3 ∙ c.as_slice-2.ensures.value ∙ found text follows,
     )
 
 pub returns-clause-distinct : goal.returns-clause-distinct
@@ -34,13 +35,13 @@ returns-clause-distinct c =
     let q = c.args.questions.now in
     let x : Candidate = record { text = c.in_ok-text.text; found = c.in-Some.found } in
     let found = rw c.in-Some.is at c.in_ok-found.ensures in
-    let bytes : string_bytes c.in_ok-text.text ≡ c.args.item.now.text.items = c.in_ok-text.ensures.ok ∙ c.in-Ok.ensures.cases.0 ∙ c.as_slice-4.ensures.value in
+    let bytes : string_bytes c.in_ok-text.text ≡ c.args.item.now.text.items = c.in_ok-text.ensures.ok ∙ c.in-Ok.ensures.cases.0 ∙ c.as_slice-3.ensures.value in
     let whole : c.args.item.now.state.tail ≡ Whole = whole_from c.args.item.now.state.tail (sym c.is_whole.ensures ∙ c.if-not-is_whole.false) in
     let own : IsCandidate q x = record {
       found = found c.args.item.now.text.items c.requires.follows ∙ ap (found_by q.automata.items) (sym bytes);
       unnamed = λ named.
-          let named' = c.names.ensures.1 (subst (IsNamed q) (bytes ∙ sym c.as_slice.ensures.value) named) in
-          let missed = c.if-names.false in
+          let named' = (c.names_followed.ensures c.args.item.now.text.items c.requires.follows).1 (subst (IsNamed q) bytes named) in
+          let missed = c.if-names_followed.false in
           absurd cc;
       over = followed_over q.alphabet q c.args.item.now.state c.in_ok-text.text refl
           (subst (FollowsLabel q c.args.item.now.state) (sym bytes) c.requires.follows);
@@ -49,8 +50,8 @@ returns-clause-distinct c =
     c.has_found.ensures.no c.if-has_found.false (
       has.0,
       has.1,
-      subst (λ cs. slice_get cs has.0 ≡ Some has.1) (sym c.as_slice-2.ensures.value) has.2,
-      has.3 ∙ sym c.as_slice-3.ensures.value,
+      subst (λ cs. slice_get cs has.0 ≡ Some has.1) (sym c.as_slice.ensures.value) has.2,
+      has.3 ∙ sym c.as_slice-2.ensures.value,
     ) in
     subst (AreApartCandidates q) (sym c.in_ok-push.ensures.items) (apart_pushed q c.args.candidates.now.items x c.requires.distinct own new)
 

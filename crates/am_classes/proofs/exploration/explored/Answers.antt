@@ -4,14 +4,9 @@ use Rattle.std.proofs.lemmas.Option.{slice_get_within, slice_get_read, same_Some
 use Rattle.am_classes.specs.declared.listed.Listed.{Listed}
 use Rattle.am_classes.specs.Candidates.{Represents}
 use Rattle.am_classes.proofs.CandidateLemmas.{represents_kept, candidates_of_all, none_apart}
-use Rattle.am_classes.specs.Automata.{AreRepeated}
 use Rattle.am_scan.proofs.Places.{get_within}
 use Rattle.am_classes.proofs.ExplorationLemmas.{leads_within_kept, grows_within, grown_back}
 use Rattle.am_classes.proofs.exploration.explored.Goals as goal
-
-pub explore-requires-clause-repeated : goal.explore-requires-clause-repeated
-explore-requires-clause-repeated c =
-    subst (AreRepeated c.args.questions.now.automata.items) (sym c.as_slice.ensures.value) c.in_ok-repeated.ensures
 
 pub loop-at-init : goal.loop-at-init
 loop-at-init c =

@@ -1,64 +1,68 @@
-use Rattle.std.proofs.Common.{◌≡◌, ◌∷◌, ◌++◌, Some, slice_get, vec_len, refl, sym, ap, ◌∙◌, inl, inr, subst, arith}
+use Rattle.std.proofs.Common.{◌≡◌, Some, slice_get, refl, sym, ap, ◌∙◌, subst, arith}
 use Rattle.std.proofs.lemmas.Option.{slice_get_read, same_Some}
-use Rattle.am_classes.specs.declared.listed.Listed.{Listed}
 use Rattle.am_classes.specs.Utf8.{text_step}
-use Rattle.am_classes.specs.State.{FollowsLabel}
-use Rattle.am_classes.specs.Exploration.{AreListed, LeadsTo}
-use Rattle.am_classes.proofs.ExplorationLemmas.{grows_pushed, listed_pushed, leads_pushed, pushed_or_kept, where_found}
+use Rattle.am_classes.specs.Automata.{MakeSame}
+use Rattle.am_classes.proofs.ExplorationLemmas.{leads_on, led_kept, led_more}
 use Rattle.am_classes.proofs.exploration.Exploration.explore_byte.Goals as goal
 
-pub returns-in-Some-place_of-clause-leads : goal.returns-in-Some-place_of-clause-leads
-returns-in-Some-place_of-clause-leads c =
-    let q = c.args.questions.now in
-    let listed = c.args.self.now.listed.items in
-    let this = c.index-item.result.now in
-    let at = slice_get_read listed _ c.args.at this refl (omega (arith, c.requires.at, c.args.self.now.listed.ok.0)) c.index-item.ensures in
-    let stepped : text_step q.alphabet this.state.tail c.args.byte ≡ Some c.in-Some.tail = sym c.step.ensures ∙ c.in-Some.is in
-    let follows = rw c.in-Some-2.is at c.in_ok-state.ensures in
-    let serves = c.in-Some-place_of.ensures in
-    let leads : LeadsTo q listed this.state c.args.byte c.in-Some-place_of.place = λ tail step.
-    (serves.0, serves.1, λ text own. serves.2 q (c.args.byte ∷ text) (follows text own stepped)) in
-    λ item place. subst (λ y. LeadsTo q listed y.state c.args.byte c.in-Some-place_of.place) (same_Some this item (sym at ∙ place)) leads
+pub repeats-requires-clause-led : goal.repeats-requires-clause-led
+repeats-requires-clause-led c =
+    let read = c.in-Some-Some.ensures.lookup in
+    let here = slice_get_read c.deref.result.now _ c.from-class.result c.in-Some-Some.field-0.now refl read.3.0 read.1 in
+    let there =
+    subst (λ led. slice_get led c.from-class.result ≡ Some (Some c.in-Some-Some.before)) c.deref.ensures.value (here ∙ ap Some c.in-Some-Some.field-0-is) in
+    (c.requires.led c.from-class.result c.in-Some-Some.before there).1
 
-pub returns-clause-own : goal.returns-clause-own
-returns-clause-own c =
-    let q = c.args.questions.now in
-    let old = c.args.self.now.listed.items in
-    let this = c.index-item.result.now in
-    let at = slice_get_read old _ c.args.at this refl (omega (arith, c.requires.at, c.args.self.now.listed.ok.0)) c.index-item.ensures in
-    let stepped : text_step q.alphabet this.state.tail c.args.byte ≡ Some c.in-Some.tail = sym c.step.ensures ∙ c.in-Some.is in
-    let follows = rw c.in-Some-2.is at c.in_ok-state.ensures in
-    let item : Listed = record { state = c.in-Some-2.state; text = c.extend_from_slice.new.self } in
-    let text : item.text.items ≡ c.args.byte ∷ this.text.items =
-    c.in_ok-extend_from_slice.ensures.items ∙ ap (λ bytes. bytes ++ c.as_slice.result.now) c.in_ok-text.ensures.items ∙ ap (λ bytes. c.args.byte ∷ bytes) c.as_slice.ensures.value in
-    let own : FollowsLabel q item.state item.text.items =
-    subst (FollowsLabel q item.state) (sym text) (follows this.text.items (c.requires.own c.args.at this at) stepped) in
-    elim (pushed_or_kept c.list.result (vec_len c.args.self.now.listed) old c.list.new.self.listed.items item c.list.ensures.listed c.list.ensures.kept) [
-      | inl pushed ↦ listed_pushed q old c.list.new.self.listed.items item pushed c.requires.own own
-      | inr kept ↦ subst (AreListed q) (sym kept) c.requires.own
-    ]
+pub returns-then-branch-clause-leads : goal.returns-then-branch-clause-leads
+returns-then-branch-clause-leads c = λ _ item at.
+    leads_on c.args.questions.now c.args.self.now.listed.items item.state c.args.byte c.in-Some-Some.before.place
+    (c.in_ok-repeats.ensures c.if-branch.true item at)
 
-pub returns-clause-grows : goal.returns-clause-grows
-returns-clause-grows c =
-    let old = c.args.self.now.listed.items in
-    let item : Listed = record { state = c.in-Some-2.state; text = c.extend_from_slice.new.self } in
-    elim (pushed_or_kept c.list.result (vec_len c.args.self.now.listed) old c.list.new.self.listed.items item c.list.ensures.listed c.list.ensures.kept) [
-      | inl pushed ↦ grows_pushed old c.list.new.self.listed.items item pushed
-      | inr kept ↦ λ k x place. subst (λ xs. slice_get xs k ≡ Some x) (sym kept) place
-    ]
+pub explore_step-requires-clause-tail : goal.explore_step-requires-clause-tail
+explore_step-requires-clause-tail c = λ item there.
+    let listed = c.args.self.now.listed in
+    let this = c.index.result.now in
+    let at = slice_get_read listed.items _ c.args.at this refl (omega (arith, c.requires.at, listed.ok.0)) c.index.ensures in
+    let same = same_Some this item (sym at ∙ there) in
+    subst (λ i. text_step c.args.questions.now.alphabet i.state.tail c.args.byte ≡ Some c.in-Some.tail) same
+    (sym c.step.ensures ∙ c.in-Some.is)
 
-pub returns-clause-leads : goal.returns-clause-leads
-returns-clause-leads c =
+pub returns-in_err-place-clause-led : goal.returns-in_err-place-clause-led
+returns-in_err-place-clause-led c =
+    let listed = c.args.self.now.listed in
+    led_kept c.args.questions.now listed.items c.explore_step.new.self.listed.items c.args.at c.args.led.now.items c.explore_step.ensures.grows
+    (omega (arith, c.requires.at, listed.ok.0)) c.requires.led
+
+pub returns-in_default-2-clause-led : goal.returns-in_default-2-clause-led
+returns-in_default-2-clause-led c =
+    let listed = c.args.self.now.listed in
+    led_kept c.args.questions.now listed.items c.explore_step.new.self.listed.items c.args.at c.args.led.now.items c.explore_step.ensures.grows
+    (omega (arith, c.requires.at, listed.ok.0)) c.requires.led
+
+pub returns-then-class-len-clause-led : goal.returns-then-class-len-clause-led
+returns-then-class-len-clause-led c =
     let q = c.args.questions.now in
-    let old = c.args.self.now.listed.items in
-    let new = c.list.new.self.listed.items in
-    let this = c.index-item.result.now in
-    let at = slice_get_read old _ c.args.at this refl (omega (arith, c.requires.at, c.args.self.now.listed.ok.0)) c.index-item.ensures in
-    let stepped : text_step q.alphabet this.state.tail c.args.byte ≡ Some c.in-Some.tail = sym c.step.ensures ∙ c.in-Some.is in
-    let follows = rw c.in-Some-2.is at c.in_ok-state.ensures in
-    let item : Listed = record { state = c.in-Some-2.state; text = c.extend_from_slice.new.self } in
-    where_found c.list.result c.list.ensures.listed
-    (λ place pushed x there.
-    let kept = grows_pushed old new item pushed.1 c.args.at this at in
-    subst (λ y. LeadsTo q new y.state c.args.byte place) (same_Some this x (sym kept ∙ there))
-    (leads_pushed q old new item this.state c.args.byte place (omega (arith, pushed.0, c.args.self.now.listed.ok.0)) pushed.1 (λ text own. follows text own stepped)))
+    let listed = c.args.self.now.listed in
+    let new = c.explore_step.new.self.listed.items in
+    let class = c.from-class.result in
+    let byte = c.args.byte in
+    let kept =
+    led_kept q listed.items new c.args.at c.args.led.now.items c.explore_step.ensures.grows (omega (arith, c.requires.at, listed.ok.0)) c.requires.led in
+    led_more q new c.args.at c.args.led.now.items class (record { byte = byte; place = c.in-Some-2.place }) kept
+    (subst (λ k. MakeSame q.automata.items k byte) (sym c.from-class.ensures) c.class_of.ensures) (rw c.in-Some-2.is at c.in_ok-place.ensures.leads)
+
+pub returns-then-class-len-clause-leads : goal.returns-then-class-len-clause-leads
+returns-then-class-len-clause-leads c = λ _ item at.
+    leads_on c.args.questions.now c.explore_step.new.self.listed.items item.state c.args.byte c.in-Some-2.place
+    ((rw c.in-Some-2.is at c.in_ok-place.ensures.leads) item (c.explore_step.ensures.grows c.args.at item at))
+
+pub returns-else-class-len-clause-led : goal.returns-else-class-len-clause-led
+returns-else-class-len-clause-led c =
+    let listed = c.args.self.now.listed in
+    led_kept c.args.questions.now listed.items c.explore_step.new.self.listed.items c.args.at c.args.led.now.items c.explore_step.ensures.grows
+    (omega (arith, c.requires.at, listed.ok.0)) c.requires.led
+
+pub returns-else-class-len-clause-leads : goal.returns-else-class-len-clause-leads
+returns-else-class-len-clause-leads c = λ _ item at.
+    leads_on c.args.questions.now c.explore_step.new.self.listed.items item.state c.args.byte c.in-Some-2.place
+    ((rw c.in-Some-2.is at c.in_ok-place.ensures.leads) item (c.explore_step.ensures.grows c.args.at item at))

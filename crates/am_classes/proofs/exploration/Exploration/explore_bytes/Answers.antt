@@ -1,6 +1,6 @@
 use Rattle.std.proofs.Common.{◌≡◌, ◌+◌, subst, arith}
 use Rattle.am_classes.specs.Exploration.{LeadsWithin}
-use Rattle.am_classes.proofs.ExplorationLemmas.{leads_more, leads_on, leads_next, place_within}
+use Rattle.am_classes.proofs.ExplorationLemmas.{leads_more, place_within}
 use Rattle.am_classes.proofs.exploration.Exploration.explore_bytes.Goals as goal
 
 pub loop-byte-preserved : goal.loop-byte-preserved
@@ -9,20 +9,18 @@ loop-byte-preserved c =
     let old = c.loop-byte.self.listed in
     let new = c.explore_byte.new.self.listed in
     let grows = c.explore_byte.ensures.grows in
-    let leads = c.in_ok-place.ensures.leads in
     record {
       within = place_within old new c.args.at grows c.loop-byte.invariant.within;
       own = c.explore_byte.ensures.own;
-      before = leads_next q new.items c.args.at c.loop-byte.byte c.in_ok-place.place leads;
+      led = c.explore_byte.ensures.led;
       grows = λ k x at. grows k x (c.loop-byte.invariant.grows k x at);
       leads = λ item at.
           leads_more q old.items new.items item.state c.args.first c.loop-byte.byte grows (c.loop-byte.invariant.leads item at)
-          (leads_on q new.items c.args.at c.loop-byte.byte item c.in_ok-place.place c.if-is_none.ensures
-          (grows c.args.at item (c.loop-byte.invariant.grows c.args.at item at)) leads);
+          (c.in_ok-explore_byte.ensures.leads c.if-not-branch.false item (c.loop-byte.invariant.grows c.args.at item at));
     }
 
-pub returns-else-is_none-clause-leads : goal.returns-else-is_none-clause-leads
-returns-else-is_none-clause-leads c =
+pub returns-else-not-branch-clause-leads : goal.returns-else-not-branch-clause-leads
+returns-else-not-branch-clause-leads c =
     let q = c.args.questions.now in
     let old = c.loop-byte.self.listed in
     let new = c.explore_byte.new.self.listed in
@@ -31,5 +29,4 @@ returns-else-is_none-clause-leads c =
     λ _ item at.
     subst (LeadsWithin q new.items item.state c.args.first) last
     (leads_more q old.items new.items item.state c.args.first c.loop-byte.byte grows (c.loop-byte.invariant.leads item at)
-    (leads_on q new.items c.args.at c.loop-byte.byte item c.in_ok-place.place c.if-is_none.ensures
-    (grows c.args.at item (c.loop-byte.invariant.grows c.args.at item at)) c.in_ok-place.ensures.leads))
+    (c.in_ok-explore_byte.ensures.leads c.if-not-branch.false item (c.loop-byte.invariant.grows c.args.at item at)))

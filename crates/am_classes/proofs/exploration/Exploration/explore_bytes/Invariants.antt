@@ -1,13 +1,13 @@
-use Rattle.std.proofs.Common.{◌≡◌, ◌<◌, IfSome, Some, slice_get, vec_len}
+use Rattle.std.proofs.Common.{◌≡◌, ◌<◌, Some, slice_get, vec_len}
 use Rattle.am_classes.specs.declared.listed.Listed.{Listed}
-use Rattle.am_classes.specs.Exploration.{AreListed, Grows, LeadsBefore, LeadsWithin}
+use Rattle.am_classes.specs.Exploration.{AreListed, Grows, AreLed, LeadsWithin}
 use Rattle.am_classes.proofs.exploration.Exploration.explore_bytes.Given as goal
 
 abbrev pub invariant-loop-byte : goal.invariant-loop-byte
 invariant-loop-byte l = record {
   within : l.at < vec_len l.self.listed;
   own : AreListed l.questions l.self.listed.items;
-  before : IfSome l.place (λ place. LeadsBefore l.questions l.self.listed.items l.at l.byte place);
+  led : AreLed l.questions l.self.listed.items l.at l.led.items;
   grows : Grows l.fn.self.listed.items l.self.listed.items;
   leads : (item : Listed) → slice_get l.fn.self.listed.items l.at ≡ Some item
       → LeadsWithin l.questions l.self.listed.items item.state l.first l.byte;

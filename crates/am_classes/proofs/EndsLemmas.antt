@@ -1,0 +1,83 @@
+-- Places of texts that end with what was read.
+use Rattle.std.proofs.Common.{◌≡◌, ℕ, ◌+◌, ◌-◌, ◌<◌, List, [], ◌∷◌, ◌++◌, Some, slice_get, length, take, get_or, inl, inr, refl, ap, subst, sym, ◌∙◌, append_assoc, arith, length-append}
+use Rattle.std.proofs.lemmas.Option.{slice_get_within}
+use Rattle.std.proofs.lemmas.List.{get_or_at}
+use Rattle.am_classes.specs.Ends.{IsNoEnd, HasEndsAt, HasByteBefore, IsAtOne}
+use Rattle.am_scan.proofs.Places.{get_front, get_kept, get_last, get_whole}
+
+-- All texts end with no bytes.
+pub all_end : (texts : List (List ℕ)) (places : List ℕ)
+    → ((k : ℕ) → k < length texts → slice_get places k ≡ Some k) → HasEndsAt texts places []
+all_end texts places each k named front at is = (k, each k (slice_get_within texts k named at))
+
+-- What no text ends with, none ends with when it has a byte more in front.
+pub no_end_longer : (texts : List (List ℕ)) (text : List ℕ) (b : ℕ) → IsNoEnd texts text
+    → IsNoEnd texts (b ∷ text)
+no_end_longer texts text b none k named front at e =
+    none k named (front ++ b ∷ []) at (e ∙ sym (append_assoc front (b ∷ []) text))
+
+-- Where no place is left, no text ends so.
+pub no_end_at_none : (texts : List (List ℕ)) (places end : List ℕ) → places ≡ []
+    → HasEndsAt texts places end → IsNoEnd texts end
+no_end_at_none texts places end none ends k named front at e =
+    let place = subst (λ ps. (j : ℕ) × (slice_get ps j ≡ Some k)) none (ends k named front at e) in
+    let found = place.1 in
+    absurd cc
+
+-- The byte in front of so many last ones.
+pub byte_before : (named front end : List ℕ) (byte count : ℕ) → named ≡ front ++ byte ∷ end
+    → length end ≡ count → (count < length named) × (get_or named (length named - 1 - count) 0 ≡ byte)
+byte_before named front end byte count is so_many =
+    let all : length named ≡ length front + length (byte ∷ end) = ap length is ∙ length-append front (byte ∷ end) in
+    let place : length front ≡ length named - 1 - count = omega (arith, all, so_many) in (
+      omega (arith, all, so_many),
+      subst (λ xs. get_or xs (length named - 1 - count) 0 ≡ byte) (sym is)
+          (get_or_at front byte end 0 (length named - 1 - count) place),
+    )
+
+-- Of some places those are kept at which a text has a byte in front of so many last ones.
+abbrev pub KeepsPlaces : List (List ℕ) → ℕ → ℕ → List ℕ → List ℕ → Type 0
+KeepsPlaces texts count byte places found =
+    (j k : ℕ) → slice_get places j ≡ Some k → HasByteBefore texts k count byte
+    → (m : ℕ) × (slice_get found m ≡ Some k)
+
+pub keeps_passed : (texts : List (List ℕ)) (count byte : ℕ) (places found : List ℕ) (i place : ℕ)
+    → i < length places → place ≡ get_or places i place
+    → (HasByteBefore texts place count byte → ⊥)
+    → KeepsPlaces texts count byte (take i places) found
+    → KeepsPlaces texts count byte (take (i + 1) places) found
+keeps_passed texts count byte places found i place below is none kept j k at has =
+    elim (get_front places i place k j below is at) [
+      | inl before ↦ kept j k before has
+      | inr here ↦ absurd (none (subst (λ p. HasByteBefore texts p count byte) (sym here) has))
+    ]
+
+pub keeps_pushed : (texts : List (List ℕ)) (count byte : ℕ) (places found all : List ℕ) (i place : ℕ)
+    → i < length places → place ≡ get_or places i place → all ≡ found ++ place ∷ []
+    → KeepsPlaces texts count byte (take i places) found
+    → KeepsPlaces texts count byte (take (i + 1) places) all
+keeps_pushed texts count byte places found all i place below is more kept j k at has =
+    elim (get_front places i place k j below is at) [
+      | inl before ↦
+          let old = kept j k before has in
+          (old.0, subst (λ xs. slice_get xs old.0 ≡ Some k) (sym more) (get_kept found (place ∷ []) k old.0 old.1))
+      | inr here ↦ (
+        length found,
+        subst (λ xs. slice_get xs (length found) ≡ Some k) (sym more) (get_last found place ∙ ap Some here),
+      )
+    ]
+
+-- These are all places of texts that end with a byte more.
+pub kept_ends : (texts : List (List ℕ)) (count byte : ℕ) (places found : List ℕ) (n : ℕ)
+    → n ≡ length places → KeepsPlaces texts count byte (take n places) found → (end : List ℕ)
+    → length end ≡ count → HasEndsAt texts places end → HasEndsAt texts found (byte ∷ end)
+kept_ends texts count byte places found n all kept end so_many ends k named front at is =
+    let shorter : named ≡ (front ++ byte ∷ []) ++ end = is ∙ sym (append_assoc front (byte ∷ []) end) in
+    let place = ends k named (front ++ byte ∷ []) at shorter in
+    kept place.0 k (get_whole places n place.0 k all place.1) (named, front, end, at, is, so_many)
+
+-- A text that stands at one of these places is one of the texts, and the other way round.
+pub named_at_one : (texts : List (List ℕ)) (places text : List ℕ) → HasEndsAt texts places text
+    → (k : ℕ) → slice_get texts k ≡ Some text → IsAtOne texts places text
+named_at_one texts places text ends k at =
+    let place = ends k text [] at refl in (place.0, k, place.1, at)
