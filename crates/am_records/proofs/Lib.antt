@@ -1,4 +1,5 @@
 pub mod UniverseSays
+pub mod UniverseTexts
 pub mod Matching
 pub mod MatcherTexts
 pub mod SilencesSays

@@ -1,7 +1,7 @@
 -- The universe file: which JSON value says which space, and reading one with its first fault.
 -- (This project's own form.)
 use Rattle.std.specs.Prelude.{◌≡◌, ◌≤◌, ℕ, List, [], ◌∷◌, length, if◌then◌else◌, Option, Some, None}
-use Rattle.std.specs.Prelude.{option_and_then, codes, IsTrue}
+use Rattle.std.specs.Prelude.{option_and_then, codes, IsTrue, map}
 use Rattle.std.specs.List.{AllZip}
 use Rattle.serde_json.specs.Data.{Data, null, string}
 use Rattle.am_universe.specs.declared.limits.TheConstants.{MAX_LABELS}
@@ -78,6 +78,28 @@ pub record SaysUniverse (d : Data) (s : Space) : Type 0 where
 -- The bytes of a file, at most `MAX_FILE_BYTES`, say the space that their JSON value says.
 abbrev pub FileSaysUniverse : List ℕ → Space → Type 0
 FileSaysUniverse bytes s = FileSays SaysUniverse bytes s
+
+-- ---- The texts of its impossible lists.
+
+-- Texts of lists of matchers: as the items of `impossible`, in their order, they say these lists, a
+-- text for each list, and are not too many.
+-- Source: own choice.
+-- Example: `a=y` is the text of a list of one matcher, `a="y"`, and so is `{a="y"}`. Of two lists,
+-- `a="y"` and `b="z"`, the texts are `a=y` and `b=z`, and neither `a=y` alone nor `b=z` and `a=y`.
+pub record AreTextsOfLists (texts : List (List ℕ)) (lists : List (List Condition)) : Type 0 where
+  pub few : length texts ≤ MAX_IMPOSSIBLE
+  pub each : AllZip SaysImpossible (map string texts) lists
+
+-- The items of `impossible` are these texts, word for word and in their order; where it is absent,
+-- there are none. And the same of the bytes of a file, at most `MAX_FILE_BYTES`.
+-- Source: own choice.
+-- Example: `{"labels": [], "impossible": ["a=y"]}` has the text `a=y`, and not `a="y"`, which says
+-- the same; `{"labels": []}` has none.
+abbrev pub HasImpossibleTexts : Data → List (List ℕ) → Type 0
+HasImpossibleTexts d texts = HasItems (codes "impossible") d (map string texts)
+
+abbrev pub FileHasImpossibleTexts : List ℕ → List (List ℕ) → Type 0
+FileHasImpossibleTexts bytes texts = FileSays HasImpossibleTexts bytes texts
 
 -- ---- Reading it, with the first fault that is met.
 

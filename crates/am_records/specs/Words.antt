@@ -1,5 +1,6 @@
 -- The words of clauses: what the contracts of this crate, and of those above it, cite.
 pub use Rattle.am_records.specs.UniverseFile.{SaysUniverse, FileSaysUniverse, read_value}
+pub use Rattle.am_records.specs.UniverseFile.{AreTextsOfLists, FileHasImpossibleTexts}
 unfoldable pub use Rattle.am_records.specs.UniverseFile.{read_next_value, read_values}
 unfoldable pub use Rattle.am_records.specs.UniverseFile.{read_next_label, read_labels}
 unfoldable pub use Rattle.am_records.specs.UniverseFile.{read_all_labels, read_impossible}

@@ -3,7 +3,8 @@
 //! [`read_universe`] reads a universe file, [`read_silences`] an export of silences, and
 //! [`read_alerts`] one of alerts. Each answers what the file says, or its first fault: why the
 //! file is refused and, by a JSON Pointer (RFC 6901), at which part. docs/FORMATS.md has the form
-//! of each file, and the order of its faults. [`parse_instant`] reads an instant.
+//! of each file, and the order of its faults. [`read_universe_with_texts`] gives the texts of the
+//! impossible lists too. [`parse_instant`] reads an instant.
 //!
 //! The name and the pattern of a matcher are refused for the same in any file, so readers of
 //! other files ask [`label_name_fault`], [`new_matcher`] and [`read_named_text`] too.
@@ -15,7 +16,7 @@ pub mod limits;
 // The universe file.
 mod universe_file;
 
-pub use universe_file::read_universe;
+pub use universe_file::{read_universe, read_universe_with_texts};
 
 // A matcher, as every file has it.
 mod matcher;

@@ -1,23 +1,27 @@
 //! Reading the universe file.
 
 ghost use Rattle.std.specs.Prelude.{◌≡◌, ◌<◌, ◌≤◌, [], ◌∷◌, ◌++◌, length, map, None, Ok, Err};
-ghost use Rattle.std.specs.Prelude.{IfOk, IfErr, OnOk, string_bytes, option_map};
+ghost use Rattle.std.specs.Prelude.{IfOk, IfErr, OnOk, string_bytes, option_map, codes};
+ghost use Rattle.std.specs.List.{filter_map};
+ghost use Rattle.serde_json.specs.Find.{as_str};
 ghost use Rattle.serde_json.specs.View.{view};
 ghost use Rattle.am_universe.specs.declared.place.Place.TheVariants as places;
 ghost use Rattle.am_json.specs.declared.read_error.ReadError.TheVariants as errors;
 ghost use Rattle.am_labels.specs.Words.{label_fault, label_of, texts_of};
 ghost use Rattle.am_json.specs.Words.{to_item, Gives, IsRefusalAt, reading_within, read_items};
-ghost use Rattle.am_json.specs.Words.{read_counted};
+ghost use Rattle.am_json.specs.Words.{read_counted, field};
+ghost use Rattle.am_json.specs.Places.{items_in_field};
 ghost use Rattle.am_records.specs.Words.{FileSaysUniverse, read_value, read_next_value};
 ghost use Rattle.am_records.specs.Words.{read_values, read_next_label, read_labels};
 ghost use Rattle.am_records.specs.Words.{read_all_labels, read_impossible};
 ghost use Rattle.am_records.specs.Words.{read_all_lists, read_matcher_text};
 ghost use Rattle.am_records.specs.Words.{read_universe, read_universe_file};
-ghost use Rattle.am_records.specs.Words.{UniverseFileRefusedFor};
+ghost use Rattle.am_records.specs.Words.{UniverseFileRefusedFor, AreTextsOfLists};
+ghost use Rattle.am_records.specs.Words.{FileHasImpossibleTexts};
 
 use am_json::{
-    ReadError, as_text, check_count, check_only_fields, read_json, read_optional_items, refuse_for,
-    required_items, required_text, within_field, within_item,
+    ReadError, as_text, check_count, check_only_fields, field, read_json, read_optional_items,
+    refuse_for, required_items, required_text, within_field, within_item,
 };
 use am_labels::limits::MAX_IMPOSSIBLE;
 use am_labels::{Fault, Kind, Matchers, Place, Space, Universe, parse_matchers};
@@ -50,18 +54,36 @@ pub fn read_universe(alloc: Global, bytes: &[u8]) -> Result<Space, Fault>
     ensures says { IfOk result (λ s. FileSaysUniverse bytes.now s) }
     ensures first { IfErr result (IsRefusalAt places.Universe (UniverseFileRefusedFor bytes.now)) }
 {
+    let (space, _texts) = read_universe_with_texts(alloc, bytes)?;
+    Ok(space)
+}
+
+/// The space that the bytes of a universe file say, as [`read_universe`] has it and with the same
+/// faults, and the texts of its impossible lists, in their order, as they stand in the file.
+pub fn read_universe_with_texts(alloc: Global, bytes: &[u8]) -> Result<(Space, Vec<String>), Fault>
+    ensures says { IfOk result (λ s. FileSaysUniverse bytes.now s.0) }
+    ensures texts { IfOk result (λ s.
+        AreTextsOfLists (map string_bytes s.1.items) s.0.impossible) }
+    ensures word_for_word { IfOk result (λ s.
+        FileHasImpossibleTexts bytes.now (map string_bytes s.1.items)) }
+    ensures first { IfErr result (IsRefusalAt places.Universe (UniverseFileRefusedFor bytes.now)) }
+{
     match read_universe_file(alloc, bytes) {
-        Ok(space) => Ok(space),
+        Ok(found) => Ok(found),
         Err(error) => Err(error.at(alloc, Place::Universe)),
     }
 }
 
 #[tactic(auto, using(am_json::proofs::Readings::steps), unfolding(crate::specs::UniverseFile::read_universe_file))]
-fn read_universe_file(alloc: Global, bytes: &[u8]) -> Result<Space, ReadError>
-    ensures { Gives (λ s. s) result (read_universe_file bytes.now) }
+fn read_universe_file(alloc: Global, bytes: &[u8]) -> Result<(Space, Vec<String>), ReadError>
+    ensures space { Gives (λ s. s.0) result (read_universe_file bytes.now) }
+    ensures texts { IfOk result (λ s.
+        FileHasImpossibleTexts bytes.now (map string_bytes s.1.items)) }
 {
     let value = read_json(alloc, bytes)?;
-    read_universe_object(alloc, &value)
+    let space = read_universe_object(alloc, &value)?;
+    let texts = texts_of_lists(alloc, &value)?;
+    Ok((space, texts))
 }
 
 #[tactic(auto, using(am_json::proofs::Readings::steps), unfolding(crate::specs::UniverseFile::read_universe))]
@@ -293,4 +315,31 @@ fn read_matcher_text(alloc: Global, text: &str) -> Result<Matchers, ReadError>
         Ok(list) => Ok(list),
         Err(kind) => Err(ReadError::refused(alloc, kind)),
     }
+}
+
+/// The texts among the items of `impossible`. In a value that says a space each item is a text.
+fn texts_of_lists(alloc: Global, value: &Value) -> Result<Vec<String>, AllocError>
+    ensures { IfOk result (λ texts. map string_bytes texts.items
+        ≡ filter_map as_str (items_in_field (field (codes "impossible") (view value.now)))) }
+{
+    let Some(found) = field(value, "impossible") else {
+        return Ok(Vec::new(alloc));
+    };
+    match found.as_array() {
+        Some(items) => texts_among(alloc, items.as_slice()),
+        None => Ok(Vec::new(alloc)),
+    }
+}
+
+fn texts_among(alloc: Global, items: &[Value]) -> Result<Vec<String>, AllocError>
+    ensures { IfOk result (λ texts.
+        map string_bytes texts.items ≡ filter_map as_str (map view items.now)) }
+{
+    let mut texts = Vec::new(alloc);
+    for item in items {
+        if let Some(text) = item.as_str() {
+            texts.push(String::from_str(alloc, text)?)?;
+        }
+    }
+    Ok(texts)
 }
