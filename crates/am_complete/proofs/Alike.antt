@@ -1,11 +1,11 @@
 -- Texts that some matchers cannot tell apart: an equivalence; and of fewer matchers.
-use Rattle.std.proofs.Common.{◌≡◌, ℕ, List, [], ◌∷◌, Contains, refl, sym, ◌∙◌, subst, inl, inr}
+use Rattle.std.proofs.Common.{◌≡◌, ℕ, List, [], ◌∷◌, Contains, refl, sym, ◌∙◌, inl, inr}
 use Rattle.std.specs.Cmp.Lexicographic.{bytes_decides}
-use Rattle.am_universe.proofs.ListLemmas.{IsIn, IsIn-from_Contains, Contains-from_IsIn}
+use Rattle.am_universe.proofs.ListLemmas.{IsIn, IsIn-from_Contains}
 use Rattle.am_universe.specs.Text.{same_text}
 use Rattle.am_labels.specs.Matcher.{Condition}
 use Rattle.am_labels.proofs.Passing.{passes_from_kept, kept_from_passes}
-use Rattle.am_classes.specs.Alike.{AreAlike, HasAlikeIn}
+use Rattle.am_classes.specs.Alike.{AreAlike}
 use Rattle.am_complete.specs.Complete.{about, AreAmong}
 
 pub alike_itself : (ms : List Condition) (x : List ℕ) → AreAlike ms x x
@@ -21,22 +21,12 @@ pub alike_joined : (ms : List Condition) (x y z : List ℕ) → AreAlike ms x y 
 alike_joined [] x y z g h = tt
 alike_joined (m ∷ ms) x y z g h = (g.0 ∙ h.0, alike_joined ms x y z g.1 h.1)
 
--- one text alone, and absence where that is alike to it
+-- one text alone
 pub only : {X : Type 0} (y x : X) → Contains (y ∷ []) x → y ≡ x
 only y x there = elim (IsIn-from_Contains (y ∷ []) x there) [
   | inl same ↦ same
   | inr none ↦ absurd none
 ]
-
-pub absence_alike : (ms : List Condition) (t text : List ℕ) → HasAlikeIn ms (t ∷ []) []
-    → HasAlikeIn ms (t ∷ []) text → HasAlikeIn ms ([] ∷ []) text
-absence_alike ms t text a b =
-    let same : b.0 ≡ a.0 = sym (only t b.0 b.1) ∙ only t a.0 a.1 in (
-      [],
-      Contains-from_IsIn ([] ∷ []) [] (inl refl),
-      alike_joined ms [] a.0 text (alike_turned ms a.0 [] a.2)
-          (subst (λ x. AreAlike ms x text) same b.2),
-    )
 
 -- a matcher on a label is one of the matchers, and has the label's name
 pub is_about : (name : List ℕ) (ms : List Condition) (m : Condition) → IsIn ms m

@@ -6,7 +6,7 @@ use Rattle.am_labels.specs.Matcher.{Condition}
 use Rattle.am_complete.specs.Complete.{AreAmong}
 use Rattle.am_complete.proofs.Alike.{is_among}
 
-among_by : (ns ms : List Condition) → ((m : Condition) → IsIn ns m → IsIn ms m) → AreAmong ns ms
+pub among_by : (ns ms : List Condition) → ((m : Condition) → IsIn ns m → IsIn ms m) → AreAmong ns ms
 among_by ns ms each =
     AllByRecursion-each (Contains ms) ns (λ m i. Contains-from_IsIn ms m (each m i))
 

@@ -1,6 +1,6 @@
 -- Texts of which no two are alike: that they are distinct, with one more, and how many there are.
-use Rattle.std.proofs.Common.{◌≡◌, ◌≤◌, ℕ, true, List, [], ◌∷◌, ◌++◌, length}
-use Rattle.std.proofs.Common.{get_or, sym, ◌∙◌, subst, inl, inr, arith}
+use Rattle.std.proofs.Common.{◌≡◌, ◌≤◌, ℕ, zero, suc, true, List, [], ◌∷◌, ◌++◌, length}
+use Rattle.std.proofs.Common.{get_or, refl, sym, ◌∙◌, subst, inl, inr, arith}
 use Rattle.std.specs.List.{AllByRecursion, IsDistinct}
 use Rattle.std.specs.Cmp.{IsEquivalence}
 use Rattle.std.specs.Cmp.Lexicographic.{bytes_decides}
@@ -15,11 +15,17 @@ use Rattle.am_labels.proofs.Passing.{any_in, in_any}
 use Rattle.am_universe.proofs.Members.{in_at}
 use Rattle.am_classes.specs.Alike.{AreAlike, AreApart, HasAlikeIn}
 use Rattle.am_complete.proofs.Alike.{alike_itself, alike_turned, alike_joined}
-use Rattle.am_complete.proofs.ChosenTexts.{alike, alike_is, is_alike, turned, distinct_from_apart}
+use Rattle.am_complete.specs.Truths.{alike}
+use Rattle.am_complete.proofs.ChosenTexts.{alike_is, is_alike, turned, distinct_from_apart}
 use Rattle.am_complete.proofs.ChosenTexts.{same_where_both}
 use Rattle.am_complete.proofs.Pushed.{got_either}
 
 -- ---- What is apart is distinct.
+
+pub one_apart : (ms : List Condition) (t : List ℕ) → AreApart ms (t ∷ [])
+one_apart ms t zero zero x y at_x at_y alike = refl
+one_apart ms t zero (suc j) x y at_x at_y alike = absurd (cc)
+one_apart ms t (suc i) j x y at_x at_y alike = absurd (cc)
 
 pub distinct_where_apart : (ms : List Condition) (xs : List (List ℕ)) → AreApart ms xs
     → IsDistinct same_text xs

@@ -20,8 +20,8 @@ use Rattle.am_universe.proofs.Members.{in_at}
 use Rattle.am_classes.specs.declared.alphabet.Alphabet.{Alphabet}
 use Rattle.am_classes.specs.Alphabet.{IsOver, AreOver}
 use Rattle.am_classes.specs.Alike.{AreAlike, AreApart, HasAlikeIn}
-use Rattle.am_complete.specs.Covering.{StandForAll}
-use Rattle.am_complete.specs.Truths.{AreAlikeEach, IsAlikeAt}
+use Rattle.am_complete.specs.Covering.{AreClasses}
+use Rattle.am_complete.specs.Truths.{AreAlikeEach, IsAlikeAt, alike}
 use Rattle.am_complete.proofs.Alike.{alike_turned, alike_joined}
 
 -- ---- Others of their classes.
@@ -44,18 +44,18 @@ alike_there ms (z ∷ xs) (y ∷ ys) zero x each e =
     let same : z ≡ x = cc in (y, refl, subst (λ (w : List ℕ). AreAlike ms w y) same each.0)
 alike_there ms (z ∷ xs) (y ∷ ys) (suc i) x each e = alike_there ms xs ys i x each.1 e
 
-pub stand_chosen : (alphabet : Alphabet) (ms : List Condition) (xs ys : List (List ℕ))
-    → AreAlikeEach ms xs ys → AreOver alphabet xs → StandForAll alphabet ms ys
-    → StandForAll alphabet ms xs
-stand_chosen alphabet ms xs ys each over stand = record {
-  covers = λ text valid.
-      let one = stand.covers text valid in
+pub classes_chosen : (alphabet : Alphabet) (ms : List Condition) (xs ys : List (List ℕ))
+    (all : Bool) → AreAlikeEach ms xs ys → AreOver alphabet xs → AreClasses alphabet ms ys all
+    → AreClasses alphabet ms xs all
+classes_chosen alphabet ms xs ys all each over classes = record {
+  covers = λ whole text valid.
+      let one = classes.covers whole text valid in
       let r = alike_in ms xs ys one.0 each (IsIn-from_Contains ys one.0 one.1) in
       (r.0, Contains-from_IsIn xs r.0 r.1, alike_joined ms r.0 one.0 text r.2 one.2);
   apart = λ i j x y at_x at_y alike.
       let a = alike_there ms xs ys i x each at_x in
       let b = alike_there ms xs ys j y each at_y in
-      stand.apart i j a.0 b.0 a.1 b.1
+      classes.apart i j a.0 b.0 a.1 b.1
       (alike_joined ms a.0 x b.0 (alike_turned ms x a.0 a.2) (alike_joined ms x y b.0 alike b.2));
   over = over;
 }
@@ -89,11 +89,6 @@ each_of_all P texts n all each =
     (take_all n texts (omega (arith, all))) each
 
 -- ---- Another order.
-
--- whether texts are alike
-abbrev pub alike : List Condition → List ℕ → List ℕ → Bool
-alike [] x y = true
-alike (m ∷ ms) x y = beq (holds m.op m.value x) (holds m.op m.value y) && alike ms x y
 
 pub same_truths : (a b : Bool) → a ≡ b → beq a b ≡ true
 same_truths true true e = refl
@@ -166,13 +161,13 @@ apart_from_distinct_texts ms xs distinct i j x y at_x at_y h =
       ]
     ]
 
-pub apart_moved : (ms : List Condition) (xs ys : List (List ℕ)) → IsPermutation xs ys
+apart_moved : (ms : List Condition) (xs ys : List (List ℕ)) → IsPermutation xs ys
     → AreApart ms xs → AreApart ms ys
 apart_moved ms xs ys moved apart =
     apart_from_distinct_texts ms ys
     (IsDistinct-IsPermutation (alike ms) (turned ms) xs ys moved (distinct_from_apart ms xs apart))
 
-pub over_moved : (alphabet : Alphabet) (xs ys : List (List ℕ)) → IsPermutation xs ys
+over_moved : (alphabet : Alphabet) (xs ys : List (List ℕ)) → IsPermutation xs ys
     → AreOver alphabet xs → AreOver alphabet ys
 over_moved alphabet xs ys moved over =
     AllByRecursion-each (IsOver alphabet) ys (λ y i.
@@ -180,12 +175,12 @@ over_moved alphabet xs ys moved over =
     (IsIn-from_Contains xs y
     (Contains-permutation ys xs y (IsPermutation-sym xs ys moved) (Contains-from_IsIn ys y i))))
 
-pub stand_moved : (alphabet : Alphabet) (ms : List Condition) (xs ys : List (List ℕ)) → IsPermutation xs ys
-    → StandForAll alphabet ms xs → StandForAll alphabet ms ys
-stand_moved alphabet ms xs ys moved stand = record {
-  covers = λ text valid.
-      let one = stand.covers text valid in
+pub classes_moved : (alphabet : Alphabet) (ms : List Condition) (xs ys : List (List ℕ)) (all : Bool)
+    → IsPermutation xs ys → AreClasses alphabet ms xs all → AreClasses alphabet ms ys all
+classes_moved alphabet ms xs ys all moved classes = record {
+  covers = λ whole text valid.
+      let one = classes.covers whole text valid in
       (one.0, Contains-permutation xs ys one.0 moved one.1, one.2);
-  apart = apart_moved ms xs ys moved stand.apart;
-  over = over_moved alphabet xs ys moved stand.over;
+  apart = apart_moved ms xs ys moved classes.apart;
+  over = over_moved alphabet xs ys moved classes.over;
 }

@@ -14,7 +14,7 @@ use Rattle.am_labels.specs.Matcher.{Condition, holds, all_hold}
 use Rattle.am_labels.specs.Space.{Space}
 use Rattle.am_classes.specs.declared.alphabet.Alphabet.{Alphabet}
 use Rattle.am_classes.specs.Alike.{AreAlike}
-use Rattle.am_complete.specs.Complete.{about, label_texts, IsCompleteAt, IsComplete, asks_only_of}
+use Rattle.am_complete.specs.Complete.{about, label_texts, IsCompleteAt, asks_only_of}
 use Rattle.am_complete.specs.Complete.{matches_text, IsSpaceCompleteAt, IsSpaceComplete}
 use Rattle.am_complete.specs.AskedLabel.{AskedLabel, asked_names, IsAskedOf}
 use Rattle.am_complete.proofs.LabelTexts.{texts_by}
@@ -83,14 +83,6 @@ by_asked P asked ms asks without on =
     by_names P ms without (λ m i some.
     let r = named_by asked ms m asks i some in
     subst P r.2 (on r.0 r.1 (λ empty. some (sym r.2 ∙ empty))))
-
-pub complete_where_asked : (alphabet : Alphabet) (u : List Label) (asked : List AskedLabel) (ms : List Condition)
-    → IsUniverse u → IsAskedOf asked ms
-    → ((l : AskedLabel) → IsIn asked l → l.name ≢ [] → IsCompleteAt alphabet u ms l.name)
-    → IsComplete alphabet u ms
-complete_where_asked alphabet u asked ms h asks =
-    by_asked (IsCompleteAt alphabet u ms) asked ms asks
-    (λ name none. complete_without_matchers alphabet u ms name h none)
 
 -- ---- Spaces.
 

@@ -16,7 +16,7 @@ use Rattle.am_universe.proofs.DistinctLists.{all_push, distinct_push}
 use Rattle.am_universe.proofs.LabelFaultLemmas.{universe_was_added}
 use Rattle.am_universe.proofs.ListLemmas.{IsIn, Contains-from_IsIn}
 use Rattle.am_labels.proofs.Passing.{any_in}
-use Rattle.am_complete.specs.Room.{IsFullFor}
+use Rattle.am_complete.specs.Covering.{IsFullFor}
 
 -- ---- Values are distinct where their texts are, if none of them is the empty text.
 

@@ -1,20 +1,23 @@
 -- The labels that matchers ask of, and the position of each by its name, with one matcher more.
-use Rattle.std.proofs.Common.{◌≡◌, ℕ, zero, suc, ◌<◌, Bool, true, cond, List, [], ◌∷◌, ◌++◌, length}
+use Rattle.std.proofs.Common.{◌≡◌, ℕ, zero, suc, ◌<◌, Bool, true, false, cond, List, [], ◌∷◌, ◌++◌, length}
 use Rattle.std.proofs.Common.{map, set, Some, None, refl, sym, ap, ◌∙◌, subst, inl, inr, arith, Bor}
 use Rattle.std.proofs.Common.{bytes_eq, ◌↔◌, option_map, slice_get}
+use Rattle.std.specs.Prelude.{Result, Ok, Err, OnOk, OnErr}
 use Rattle.std.specs.BTreeMap.{BTreeMap}
 use Rattle.std.specs.Map.{update}
 use Rattle.std.specs.List.{list_any}
 use Rattle.std.specs.Cmp.Lexicographic.{bytes_decides}
-use Rattle.std.proofs.lemmas.Bool.{cases_Bool}
+use Rattle.std.proofs.lemmas.Bool.{cases_Bool, both_ways, false_from_ne_true}
 use Rattle.std.proofs.lemmas.List.{map-append, length-map}
 use Rattle.std.proofs.lemmas.Option.{slice_get_within, slice_get-map, same_Some}
 use Rattle.am_universe.specs.Text.{same_text}
 use Rattle.am_labels.specs.Matcher.{Condition}
 use Rattle.am_labels.proofs.Passing.{any_in, in_any}
+use Rattle.am_universe.proofs.ListLemmas.{IsIn-unmap}
 use Rattle.am_universe.proofs.Members.{at_in, in_at}
 use Rattle.am_complete.specs.declared.origin.Origin.{Origin}
-use Rattle.am_complete.specs.AskedLabel.{AskedLabel, asked_names, and_asked, label_of, with_asked}
+use Rattle.am_complete.specs.AskedLabel.{AskedLabel, asked_names, asks_same, with_matcher}
+use Rattle.am_complete.specs.AskedLabel.{and_asked, with_asked}
 use Rattle.am_complete.specs.Gathering.{position_in, IsIndexed}
 use Rattle.am_complete.proofs.Pushed.{got_front, got_last, got_either}
 
@@ -38,12 +41,22 @@ pub within_names : (labels : List AskedLabel) (i : ℕ) (name : List ℕ)
 within_names labels i name at =
     omega (arith, slice_get_within (asked_names labels) i name at, length-map labels (λ l. l.name))
 
+-- where no label has a name, it stands nowhere
+unnamed : (labels : List AskedLabel) (name : List ℕ)
+    → list_any (λ l. same_text l.name name) labels ≡ false
+    → (i : ℕ) → slice_get (asked_names labels) i ≡ Some name → ⊥
+unnamed labels name none i at =
+    let found = IsIn-unmap (λ l. l.name) labels name (in_at (asked_names labels) i name at) in
+    both_ways (list_any (λ l. same_text l.name name) labels) none
+    (in_any (λ l. same_text l.name name) labels found.0 found.1
+    ((bytes_decides found.0.name name).1 found.2))
+
 -- ---- A label that was not asked of before.
 
 -- the map with the position of one label more
 pub indexed_push : (before after : BTreeMap (Bor (List ℕ)) ℕ) (labels : List AskedLabel)
     (label : AskedLabel) (key : List ℕ) (n : ℕ) → IsIndexed before labels → label.name ≡ key
-    → position_in before key ≡ None → n ≡ length labels
+    → list_any (λ l. same_text l.name key) labels ≡ false → n ≡ length labels
     → ((q : List ℕ) → position_in after q ≡ update bytes_eq (position_in before) key (Some n) q)
     → IsIndexed after (labels ++ label ∷ [])
 indexed_push before after labels label key n indexed named absent counted updates q i =
@@ -64,9 +77,8 @@ indexed_push before after labels label key n indexed named absent counted update
             λ h. let e : n ≡ i = cc in
                 subst (λ (k : ℕ). slice_get (names ++ label.name ∷ []) k ≡ Some q) e last,
             λ h. elim (got_either names label.name q i h) [
-              | inl a ↦ let b = (indexed q i).1 a in
-                  let none : position_in before q ≡ None =
-                  ap (position_in before) (sym is) ∙ absent in absurd (cc)
+              | inl a ↦
+                  absurd (unnamed labels key absent i (a ∙ ap Some (sym is)))
               | inr b ↦ at ∙ ap Some (sym (b.0 ∙ long))
             ],
           )
@@ -82,22 +94,16 @@ indexed_push before after labels label key n indexed named absent counted update
           )
     ])
 
--- where no label has the name, the label comes behind the others
-pub asked_first : (positions : BTreeMap (Bor (List ℕ)) ℕ) (labels : List AskedLabel)
-    (origin : Origin) (m : Condition) → IsIndexed positions labels
-    → position_in positions m.name ≡ None
-    → labels ++ label_of (origin, m) ∷ [] ≡ with_asked labels (origin, m)
-asked_first positions labels origin m indexed absent =
-    let test : AskedLabel → Bool = λ l. same_text l.name m.name in
-    elim (cases_Bool (list_any test labels)) [
-      | inl some ↦
-          let found = any_in test labels some in
-          let at = at_in labels found.0 found.1 in
-          let is = (bytes_decides found.0.name m.name).0 found.2 in
-          let there = (indexed m.name at.0).1 (name_at labels at.0 found.0 m.name at.1 is) in
-          absurd (cc)
-      | inr none ↦ rw none refl
-    ]
+-- where the map has no position of a name, no label has it
+pub absent_label : (positions : BTreeMap (Bor (List ℕ)) ℕ) (labels : List AskedLabel)
+    (name : List ℕ) → IsIndexed positions labels → position_in positions name ≡ None
+    → list_any (λ l. same_text l.name name) labels ≡ false
+absent_label positions labels name indexed absent =
+    false_from_ne_true (list_any (λ l. same_text l.name name) labels) (λ some.
+    let found = any_in (λ l. same_text l.name name) labels some in
+    let at = at_in labels found.0 found.1 in
+    let is = (bytes_decides found.0.name name).0 found.2 in
+    let there = (indexed name at.0).1 (name_at labels at.0 found.0 name at.1 is) in cc)
 
 -- ---- A label that was asked of before.
 
@@ -125,13 +131,13 @@ none_gain m (x ∷ labels) none =
 one_gains : (m : Condition) (labels : List AskedLabel) (i : ℕ) (l : AskedLabel)
     → slice_get labels i ≡ Some l → l.name ≡ m.name
     → ((j : ℕ) → slice_get (asked_names labels) j ≡ Some m.name → j ≡ i)
-    → set labels i (record l { matchers = l.matchers ++ m ∷ [] }) ≡ map (and_asked m) labels
+    → set labels i (with_matcher m l) ≡ map (and_asked m) labels
 one_gains m [] i l h named alone = absurd (cc)
 one_gains m (x ∷ labels) zero l h named alone =
     let is : x ≡ l = cc in
     let same : same_text l.name m.name ≡ true = (bytes_decides l.name m.name).1 named in
     let later = none_gain m labels (λ j at. absurd (omega (arith, alone (suc j) at))) in
-    rw (is, same) (ap (λ ls. record l { matchers = l.matchers ++ m ∷ [] } ∷ ls) later)
+    rw (is, same) (ap (λ ls. with_matcher m l ∷ ls) later)
 one_gains m (x ∷ labels) (suc i) l h named alone =
     let later = one_gains m labels i l h named (λ j at.
     let e = alone (suc j) at in omega (arith, e)) in
@@ -145,7 +151,7 @@ one_gains m (x ∷ labels) (suc i) l h named alone =
 pub asked_again : (positions : BTreeMap (Bor (List ℕ)) ℕ) (labels : List AskedLabel)
     (origin : Origin) (m : Condition) (i : ℕ) (l : AskedLabel) → IsIndexed positions labels
     → position_in positions m.name ≡ Some i → slice_get labels i ≡ Some l
-    → set labels i (record l { matchers = l.matchers ++ m ∷ [] }) ≡ with_asked labels (origin, m)
+    → set labels i (with_matcher m l) ≡ with_asked labels (origin, m)
 asked_again positions labels origin m i l indexed at there =
     let name = named_at labels i l m.name there ((indexed m.name i).0 at) in
     let test : AskedLabel → Bool = λ x. same_text x.name m.name in
@@ -155,6 +161,18 @@ asked_again positions labels origin m i l indexed at there =
     let other = (indexed m.name j).1 h in
     let same : Some j ≡ Some i = sym other ∙ at in cc)
     ∙ rw some refl
+
+-- a label keeps its name, whether the matcher was added or memory was refused
+pub with_matcher_name : (m : Condition) (l : AskedLabel) → (with_matcher m l).name ≡ l.name
+with_matcher_name m l = elim (cases_Bool (list_any (asks_same m) l.matchers)) [
+  | inl some ↦ rw some refl
+  | inr none ↦ rw none refl
+]
+
+pub name_kept : {T E : Type 0} (m : Condition) (l next : AskedLabel) (r : Result T E)
+    → OnOk r (next ≡ with_matcher m l) → OnErr r (next ≡ l) → next.name ≡ l.name
+name_kept m l next (Ok x) added same = ap (λ k. k.name) added ∙ with_matcher_name m l
+name_kept m l next (Err e) added same = ap (λ k. k.name) same
 
 -- and the names stay where they are
 pub indexed_again : (positions : BTreeMap (Bor (List ℕ)) ℕ) (labels : List AskedLabel)

@@ -3,8 +3,8 @@ use Rattle.std.proofs.Common.{◌≡◌, ◌≢◌, ◌<◌, ◌+◌, ◌==◌, 
 use Rattle.std.proofs.Common.{◌++◌, length, map, take, get_or, Option, Some, None, Contains, refl}
 use Rattle.std.proofs.Common.{sym, ap, ◌∙◌, subst, inl, inr, arith, String, string_bytes}
 use Rattle.std.proofs.Common.{append_assoc}
-use Rattle.std.specs.Prelude.{IsTrue, slice_get, unwrap_or, option_map}
-use Rattle.std.specs.List.{AllByRecursion, filter, list_any, list_all, position_or_len}
+use Rattle.std.specs.Prelude.{IsTrue, slice_get, unwrap_or, option_map, is_some, IfSome, IfNone}
+use Rattle.std.specs.List.{AllByRecursion, filter, find, list_any, list_all, position_or_len}
 use Rattle.std.specs.Cmp.Lexicographic.{bytes_decides}
 use Rattle.std.specs.declared.alloc.Global.{Global}
 use Rattle.std.proofs.lemmas.Bool.{cases_Bool, false_from_ne_true, or_from}
@@ -15,48 +15,65 @@ use Rattle.std.proofs.lemmas.List.Folds.{find_at, list_any_more}
 use Rattle.std.proofs.lemmas.List.Quantifiers.{position-Some}
 use Rattle.std.proofs.lemmas.Option.{slice_get-get_or, get_or_from_slice_get, slice_get_within}
 use Rattle.std.proofs.lemmas.Option.{slice_get_read, cond_some}
-use Rattle.am_universe.specs.Text.{same_text}
 use Rattle.am_universe.specs.LabelSet.{LabelMap}
 use Rattle.am_universe.specs.Universe.{Label, Values, IsUniverse, names, label_position, values_at}
 use Rattle.am_universe.proofs.DistinctLists.{all_push}
 use Rattle.am_universe.proofs.ListLemmas.{IsIn, IsIn-left, IsIn-right, IsIn-map, IsIn-unmap}
 use Rattle.am_universe.proofs.ListLemmas.{IsIn-from_Contains, Contains-from_IsIn}
-use Rattle.am_universe.proofs.ListLemmas.{AllByRecursion-each, AllByRecursion-at}
+use Rattle.am_universe.proofs.ListLemmas.{AllByRecursion-at}
 use Rattle.am_universe.proofs.UniverseLemmas.{no_label}
 use Rattle.am_labels.specs.Matcher.{Condition}
 use Rattle.am_labels.specs.Space.{Space}
 use Rattle.am_labels.proofs.Passing.{any_in, in_any, kept_from_passes}
-use Rattle.am_universe.proofs.Members.{in_at, joined_in}
+use Rattle.am_universe.proofs.Members.{in_at}
 use Rattle.am_classes.specs.declared.alphabet.Alphabet.{Alphabet}
 use Rattle.am_classes.specs.Alike.{HasAlikeIn}
 use Rattle.am_complete.specs.declared.label_state.Completeness.{Completeness}
 use Rattle.am_complete.specs.declared.label_state.Completeness.TheVariants as state_is
 use Rattle.am_complete.specs.declared.label_state.LabelState.{LabelState}
-use Rattle.am_complete.specs.Complete.{about, label_texts, texts_of_label, asks_only_of, AreAmong}
-use Rattle.am_complete.specs.Complete.{IsSpaceComplete, IsSpaceCompleteAt, impossible_conditions}
+use Rattle.am_complete.specs.Complete.{about, label_texts, texts_of_label}
+use Rattle.am_complete.specs.Complete.{IsSpaceComplete, IsSpaceCompleteAt}
 use Rattle.am_complete.specs.AskedLabel.{AskedLabel, asked_names, IsAskedOf}
-use Rattle.am_complete.specs.LabelState.{CoverPossible, IsSoAt, is_settled, is_declared}
+use Rattle.am_complete.specs.Covering.{CoverPossible, standing_texts, standing_in}
+use Rattle.am_complete.specs.LabelState.{IsSoAt, is_settled, is_declared}
 use Rattle.am_complete.specs.LabelState.{reported_names}
-use Rattle.am_complete.specs.FoundState.{HasThoseOfLists, IsAskedFor, IsFoundAt, IsSoOfAsked}
+use Rattle.am_complete.specs.FoundState.{IsFoundAt, IsSoOfAsked}
 use Rattle.am_complete.specs.FoundState.{IsSoOfName, IsWithState, begins}
-use Rattle.am_complete.proofs.Alike.{about_is, is_about, is_among, alike_joined}
+use Rattle.am_complete.proofs.Alike.{alike_joined}
 use Rattle.am_complete.proofs.CompleteUniverses.{space_complete_without_matchers}
 use Rattle.am_complete.proofs.CompleteUniverses.{space_complete_where_asked}
 use Rattle.am_complete.proofs.LabelTexts.{has_name}
-use Rattle.am_complete.proofs.MadeUniverses.{none_on, on_name}
+use Rattle.am_complete.proofs.AskedLabels.{on_name}
+use Rattle.am_complete.proofs.SameMatchers.{has_alike_among, cover_among, pattern_among}
+use Rattle.am_complete.proofs.SameMatchers.{same_classes}
 use Rattle.am_complete.proofs.PossibleTexts.{all_pass}
 use Rattle.am_complete.proofs.Pushed.{one_longer}
 
 -- ---- The texts of a label, by its position.
 
-pub texts_at : (u : List Label) (name : List ℕ) (i : ℕ) → label_position u name ≡ Some i
-    → map (λ v. unwrap_or v []) (values_at u i) ≡ label_texts u name
-texts_at u name i e =
+found_at : (u : List Label) (name : List ℕ) (i : ℕ) → label_position u name ≡ Some i
+    → find (has_name name) u ≡ Some (get_or u i no_label)
+found_at u name i e =
     let p = has_name name in
     let first : position_or_len p u ≡ i = (cond_some _ _ _ e).1 in
-    let there = slice_get-get_or u i no_label (position-Some p u i no_label e).0 in
-    ap (λ o. map (λ v. unwrap_or v []) (unwrap_or (option_map (λ k. k.values) o) [])) there
-    ∙ sym (ap texts_of_label (find_at p u ∙ ap (slice_get u) first ∙ there))
+    find_at p u ∙ ap (slice_get u) first
+    ∙ slice_get-get_or u i no_label (position-Some p u i no_label e).0
+
+values_of_found : (u : List Label) (name : List ℕ) (i : ℕ) → label_position u name ≡ Some i
+    → map (λ v. unwrap_or v []) (values_at u i) ≡ texts_of_label (Some (get_or u i no_label))
+values_of_found u name i e =
+    ap (λ o. map (λ v. unwrap_or v []) (unwrap_or (option_map (λ k. k.values) o) []))
+    (slice_get-get_or u i no_label (position-Some (has_name name) u i no_label e).0)
+
+pub texts_at : (u : List Label) (name : List ℕ) (i : ℕ) → label_position u name ≡ Some i
+    → map (λ v. unwrap_or v []) (values_at u i) ≡ label_texts u name
+texts_at u name i e = values_of_found u name i e ∙ sym (ap texts_of_label (found_at u name i e))
+
+pub standing_at : (s : Space) (name : List ℕ) (i : ℕ) → label_position s.labels name ≡ Some i
+    → map (λ v. unwrap_or v []) (values_at s.labels i) ≡ standing_texts s name
+standing_at s name i e =
+    values_of_found s.labels name i e
+    ∙ sym (ap (standing_in s.impossible name) (found_at s.labels name i e))
 
 -- texts in memory, with that of one value more
 pub texts_more : (values : Values) (j : ℕ) (texts : List (String Global)) (text : String Global)
@@ -81,54 +98,36 @@ covered alphabet impossible name ms have texts covers each text valid possible =
     (IsIn-from_Contains texts one.0 one.1) in
     (there.0, there.1, alike_joined ms there.0 one.0 text there.2 one.2)
 
--- the matchers of a label that is asked of are on it
-pub on_named : (asked : List AskedLabel) (ms : List Condition) (l : AskedLabel)
-    → IsAskedOf asked ms → IsIn asked l → l.name ≢ []
-    → AllByRecursion (λ m. m.name ≡ l.name) l.matchers
-on_named asked ms l asks i some =
-    rw (on_name asked ms l asks i some)
-    (AllByRecursion-each (λ m. m.name ≡ l.name) (about l.name ms)
-    (λ m h. (about_is l.name ms m h).1))
-
--- and those of impossible lists that ask of it alone are among them
-all_on : (name : List ℕ) (list : List Condition) → IsTrue (asks_only_of name list)
-    → (m : Condition) → IsIn list m → m.name ≡ name
-all_on name list alone m i =
-    (bytes_decides m.name name).0 (all_pass (λ n. same_text n.name name) list m alone i)
-
-those_of_lists : (ms : List Condition) (l : AskedLabel) (impossible : List (List Condition))
-    → AreAmong (impossible_conditions impossible) ms → l.matchers ≡ about l.name ms
-    → HasThoseOfLists impossible l
-those_of_lists ms l impossible among are =
-    AllByRecursion-each (λ list. IsTrue (asks_only_of l.name list) → AreAmong list l.matchers)
-    impossible (λ list i alone.
-    rw are (AllByRecursion-each (Contains (about l.name ms)) list (λ m j.
-    let there = joined_in (λ xs. xs) impossible list m i j in
-    Contains-from_IsIn (about l.name ms) m
-    (is_about l.name ms m (is_among (impossible_conditions impossible) ms m among there)
-    (all_on l.name list alone m j)))))
-
-pub asked_for : (impossible : List (List Condition)) (asked : List AskedLabel)
-    (ms : List Condition) (l : AskedLabel) → IsAskedOf asked ms
-    → AreAmong (impossible_conditions impossible) ms → IsIn asked l → l.name ≢ []
-    → IsAskedFor impossible l
-asked_for impossible asked ms l asks among i some = record {
-  on = on_named asked ms l asks i some;
-  lists = those_of_lists ms l impossible among (on_name asked ms l asks i some);
-}
-
 found_is_so : (alphabet : Alphabet) (s : Space) (asked : List AskedLabel) (ms : List Condition) (l : AskedLabel)
     (c : Completeness) → IsAskedOf asked ms → IsIn asked l → l.name ≢ [] → IsFoundAt alphabet s l c
     → IsSoAt alphabet s ms asked l.name c
 found_is_so alphabet s asked ms l (state_is.Complete n) asks i some h =
-    rw (← on_name asked ms l asks i some) h
+    let same = on_name asked ms l asks i some in (
+      cover_among alphabet s.impossible l.name (about l.name ms) l.matchers
+          (label_texts s.labels l.name) same.back h.0,
+      same_classes alphabet s.impossible l.name l.matchers (about l.name ms) n same h.1,
+    )
 found_is_so alphabet s asked ms l (state_is.Lacks text) asks i some h =
-    rw (← on_name asked ms l asks i some) h
+    let same = on_name asked ms l asks i some in (
+      h.0,
+      h.1,
+      h.2,
+      λ alike.
+          h.3 (has_alike_among l.matchers (about l.name ms) (label_texts s.labels l.name)
+          (string_bytes text) same.there alike),
+    )
 found_is_so alphabet s asked ms l state_is.Unasked asks i some h = absurd h
 found_is_so alphabet s asked ms l state_is.Undeclarable asks i some h =
-    rw (← on_name asked ms l asks i some) h
-found_is_so alphabet s asked ms l (state_is.Unproved origin) asks i some h =
-    ((l, Contains-from_IsIn asked l i, refl, h.0), rw (← on_name asked ms l asks i some) h.1)
+    let same = on_name asked ms l asks i some in (
+      h.0,
+      λ complete.
+          h.1 (cover_among alphabet s.impossible l.name l.matchers (about l.name ms)
+          (label_texts s.labels l.name) same.there complete),
+    )
+found_is_so alphabet s asked ms l (state_is.Unproved origin) asks i some h = (
+  (l, Contains-from_IsIn asked l i, refl, h.0),
+  pattern_among l.matchers (about l.name ms) (on_name asked ms l asks i some).there h.1,
+)
 
 pub state_is_so : (alphabet : Alphabet) (s : Space) (asked : List AskedLabel) (alerts : Option (List LabelMap))
     (l : AskedLabel) (state : LabelState) → IsIn asked l → IsSoOfAsked alphabet s l alerts state
@@ -141,24 +140,18 @@ state_is_so alphabet s asked alerts l state i h =
       unseen = h.unseen;
     }
 
--- a name that is not asked of has no matcher on it
-pub not_asked : (asked : List AskedLabel) (ms : List Condition) (name : List ℕ)
-    → IsAskedOf asked ms → (Contains (asked_names asked) name → ⊥) → name ≢ []
-    → about name ms ≡ []
-not_asked asked ms name asks none some =
-    none_on name ms (λ m i e.
-    none (subst (Contains (asked_names asked)) e
-    (AllByRecursion-at (λ x. x.name ≢ [] → Contains (asked_names asked) x.name) ms m asks.every
-    i (λ empty. some (sym e ∙ empty)))))
-
 -- a name is declared where a label has it, and else it is not
-pub declared_by : (u : List Label) (i : ℕ) (name : List ℕ) → slice_get (names u) i ≡ Some name
+pub declared_where : (u : List Label) (name : List ℕ) → IsIn (names u) name
     → is_declared u name ≡ true
-declared_by u i name at =
-    let found = IsIn-unmap (λ l. l.name) u name (in_at (names u) i name at) in
+declared_where u name i =
+    let found = IsIn-unmap (λ l. l.name) u name i in
     in_any (has_name name) u found.0 found.1 ((bytes_decides found.0.name name).1 found.2)
 
-declared_in : (u : List Label) (name : List ℕ) → is_declared u name ≡ true → IsIn (names u) name
+pub declared_by : (u : List Label) (i : ℕ) (name : List ℕ) → slice_get (names u) i ≡ Some name
+    → is_declared u name ≡ true
+declared_by u i name at = declared_where u name (in_at (names u) i name at)
+
+pub declared_in : (u : List Label) (name : List ℕ) → is_declared u name ≡ true → IsIn (names u) name
 declared_in u name some =
     let found = any_in (has_name name) u some in
     subst (IsIn (names u)) ((bytes_decides found.0.name name).0 found.2)
@@ -170,12 +163,21 @@ undeclared_by u name none =
     false_from_ne_true (is_declared u name) (λ some.
     none (Contains-from_IsIn (names u) name (declared_in u name some)))
 
+pub not_declared : (u : List Label) (name : List ℕ) (found : Option ℕ) (none : Bool)
+    → IfSome found (λ i. slice_get (names u) i ≡ Some name)
+    → IfNone found (Contains (names u) name → ⊥) → is_some found ≡ not none
+    → none ≡ not (is_declared u name)
+not_declared u name None true at absent is = ap not (sym (undeclared_by u name absent))
+not_declared u name None false at absent is = absurd (cc)
+not_declared u name (Some i) true at absent is = absurd (cc)
+not_declared u name (Some i) false at absent is = ap not (sym (declared_by u i name at))
+
 -- ---- Label after label.
 
--- the label that stands at a position, and its name
-pub stands_at : (asked : List AskedLabel) (i : ℕ) (l : AskedLabel) → i < length asked
-    → l ≡ get_or asked i l → slice_get asked i ≡ Some l
-stands_at asked i l lt is = slice_get_read asked (length asked) i l refl lt is
+-- what stands at a position
+pub stands_at : {X : Type 0} (xs : List X) (i : ℕ) (x : X) → i < length xs → x ≡ get_or xs i x
+    → slice_get xs i ≡ Some x
+stands_at xs i x lt is = slice_get_read xs (length xs) i x refl lt is
 
 pub none_more : {X : Type 0} (test : X → Bool) (xs : List X) (i : ℕ) (x : X)
     → slice_get xs i ≡ Some x → list_any test (take i xs) ≡ false → test x ≡ false

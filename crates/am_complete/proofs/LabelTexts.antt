@@ -28,6 +28,18 @@ found_in name (m ∷ u) l e = elim (cases_Bool (has_name name m)) [
   | inr apart ↦ let r = found_in name u l (rw apart at e) in (inr r.0, r.1)
 ]
 
+-- there is none where no name is this one
+pub none_found : (u : List Label) (name : List ℕ) → (Contains (names u) name → ⊥)
+    → find (has_name name) u ≡ None
+none_found u name fresh = by (find (has_name name) u) refl
+  where
+    by : (o : Option Label) → find (has_name name) u ≡ o → find (has_name name) u ≡ None
+    by None e = e
+    by (Some l) e =
+        let r = found_in name u l e in
+        absurd (fresh (Contains-from_IsIn (names u) name
+        (subst (IsIn (names u)) r.1 (IsIn-map (λ k. k.name) u l r.0))))
+
 -- in a universe it is the one with that name
 pub finds_label : (u : List Label) (l : Label) → IsDistinct same_text (names u) → IsIn u l
     → find (has_name l.name) u ≡ Some l
@@ -59,10 +71,7 @@ texts_by P u name absent declared = by (find (has_name name) u) refl
 -- a label that no name is of is not declared
 pub unnamed_texts : (u : List Label) (name : List ℕ) → (Contains (names u) name → ⊥)
     → label_texts u name ≡ [] ∷ []
-unnamed_texts u name fresh =
-    texts_by (λ texts. texts ≡ [] ∷ []) u name refl (λ l i same.
-    absurd (fresh (Contains-from_IsIn (names u) name
-    (subst (IsIn (names u)) same (IsIn-map (λ k. k.name) u l i)))))
+unnamed_texts u name fresh = ap texts_of_label (none_found u name fresh)
 
 -- nor is one whose name is none of a label
 pub named_labels : (u : List Label) (name : List ℕ) → IsUniverse u → IsIn (names u) name

@@ -1,9 +1,11 @@
 pub mod Pushed
+pub mod OperatorLemmas
 pub mod GatheringLemmas
 pub mod Alike
 pub mod LabelTexts
 pub mod CompleteUniverses
 pub mod AmongMatchers
+pub mod SameMatchers
 pub mod DeclaredLabels
 pub mod MadeUniverses
 pub mod TestedTruths
@@ -11,5 +13,8 @@ pub mod ChosenTexts
 pub mod ApartTexts
 pub mod OkClauses
 pub mod PossibleTexts
+pub mod AskedLabels
+pub mod NeededTexts
 pub mod LabelStates
 pub mod MissingTexts
+pub mod RoomBeside

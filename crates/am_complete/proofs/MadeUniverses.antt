@@ -1,435 +1,443 @@
--- Universes that are made label by label of what matchers ask.
-use Rattle.std.proofs.Common.{◌≡◌, ◌≢◌, ◌⊎◌, ◌<◌, ◌≤◌, ◌+◌, ℕ, zero, suc, List, [], ◌∷◌, ◌++◌}
-use Rattle.std.proofs.Common.{length, take, drop, Some, Contains, refl, sym, ap, ◌∙◌, subst, inl}
-use Rattle.std.proofs.Common.{inr, arith, map, String, string_bytes, IsTrue, slice_get, None}
+-- Universes that are made beside a space, of what the labels that are asked of lack there.
+use Rattle.std.proofs.Common.{◌≡◌, ◌≢◌, ◌<◌, ◌≤◌, ◌+◌, ℕ, zero, suc, List, [], ◌∷◌, ◌++◌}
+use Rattle.std.proofs.Common.{Bool, true, false, not, cond, length, map, take, Option, Some, None, Contains, refl}
+use Rattle.std.proofs.Common.{sym, ap, ◌∙◌, subst, inl, inr, arith, slice_get}
 use Rattle.std.specs.Prelude.{unwrap_or, IfSome}
-use Rattle.std.specs.List.{find, AllByRecursion, IsDistinct, list_any}
+use Rattle.std.specs.List.{find, filter, AllByRecursion, IsDistinct, list_any, enumerate_from}
 use Rattle.std.specs.Cmp.Lexicographic.{bytes_decides}
-use Rattle.std.specs.declared.alloc.Global.{Global}
-use Rattle.std.proofs.lemmas.Bool.{both_ways, cases_Bool}
-use Rattle.std.proofs.lemmas.List.{map-append, length-map, take-append-drop, length-take-le}
-use Rattle.std.proofs.lemmas.List.{length-append}
+use Rattle.std.proofs.lemmas.Bool.{both_ways, cases_Bool, and_from}
+use Rattle.std.proofs.lemmas.Bool.{false_from_ne_true, true_from_ne_false, not-true}
+use Rattle.std.proofs.lemmas.List.{append-nil, map-append, length-take-le}
+use Rattle.std.proofs.lemmas.List.Elements.{filter-append}
+use Rattle.std.proofs.lemmas.Map.Keys.{IsDistinct-head, IsDistinct-tail}
 use Rattle.std.proofs.lemmas.Option.{slice_get_within}
 use Rattle.am_universe.specs.Text.{same_text}
-use Rattle.am_universe.specs.Universe.{Label, Values, IsUniverse, names, is_label_name}
-use Rattle.am_universe.proofs.ListLemmas.{IsIn, IsIn-left, IsIn-right, IsIn-map, IsIn-from_Contains}
-use Rattle.am_universe.proofs.ListLemmas.{Contains-from_IsIn, AllByRecursion-at}
-use Rattle.am_universe.proofs.ListLemmas.{AllByRecursion-each}
-use Rattle.am_universe.proofs.DistinctLists.{all_push, distinct_push, distinct_pushed}
-use Rattle.am_universe.proofs.DistinctLists.{distinct_front}
+use Rattle.am_universe.specs.Universe.{Label, Values, IsLabel, IsUniverse, names}
+use Rattle.am_universe.specs.Universe.{is_empty_text}
+use Rattle.am_universe.proofs.ListLemmas.{IsIn, IsIn-left, IsIn-right, IsIn-map}
+use Rattle.am_universe.proofs.ListLemmas.{IsIn-unmap, IsIn-from_Contains, Contains-from_IsIn}
+use Rattle.am_universe.proofs.ListLemmas.{AllByRecursion-at, AllByRecursion-each}
+use Rattle.am_universe.proofs.Members.{in_at, at_in, is_numbered, item_at, numbered_at}
 use Rattle.am_labels.specs.Matcher.{Condition}
-use Rattle.am_labels.proofs.Passing.{in_any}
+use Rattle.am_labels.specs.Space.{Space}
+use Rattle.am_labels.proofs.Passing.{any_in, in_any, passes_from_kept, kept_from_passes}
 use Rattle.am_classes.specs.declared.alphabet.Alphabet.{Alphabet}
 use Rattle.am_classes.specs.Alphabet.{IsOver, AreOver}
-use Rattle.am_classes.specs.Alike.{Covers, AreApart}
 use Rattle.am_classes.proofs.OverLemmas.{nil_over}
-use Rattle.am_universe.proofs.Members.{in_at, at_in}
-use Rattle.am_complete.specs.Complete.{about, label_texts, texts_of_label, IsComplete, IsCompleteAt}
+use Rattle.am_complete.specs.Complete.{about, label_texts, texts_of_label, may_have}
+use Rattle.am_complete.specs.Complete.{IsSpaceComplete}
 use Rattle.am_complete.specs.AskedLabel.{AskedLabel, asked_names, IsAskedOf}
-use Rattle.am_complete.specs.Covering.{StandForAll, StandsForEachBut, IsWithAtMost, IsWithLabel}
-use Rattle.am_complete.specs.Covering.{HasApartValues, HasTextsOver}
-use Rattle.am_complete.specs.Room.{HasMoreClasses, NeedsMoreValues, HaveNoRoom, MayBeUnproved}
-use Rattle.am_complete.specs.Room.{AreUnproved, IsFullFor, HasNoRoomIn, IsSettled}
-use Rattle.am_complete.proofs.Alike.{only, absence_alike}
-use Rattle.am_complete.proofs.CompleteUniverses.{complete_where_asked}
-use Rattle.am_complete.proofs.DeclaredLabels.{no_such_name}
-use Rattle.am_complete.proofs.LabelTexts.{has_name, declared_texts, unnamed_texts, named_labels}
-use Rattle.am_complete.proofs.Pushed.{got_front, got_last, got_either, in_pushed, one_longer}
+use Rattle.am_complete.specs.Covering.{standing_texts, standing_in, AreNeeded, CoverPossible}
+use Rattle.am_complete.specs.Covering.{CoversEachBut, KeepsLabels, HasNeeded}
+use Rattle.am_complete.specs.Covering.{AddsNeeded, HasTextsOver}
+use Rattle.am_complete.specs.Room.{AreUnproved}
+use Rattle.am_complete.specs.LabelState.{is_declared}
+use Rattle.am_complete.specs.Missing.{MissingTexts, IsMissingAt, AreMissing, texts_of_missing}
+use Rattle.am_complete.specs.Missing.{missing_for, whole_texts, IsWhole, has_some, is_to_declare}
+use Rattle.am_complete.specs.Missing.{names_to_declare, open_positions}
+use Rattle.am_complete.proofs.AskedLabels.{no_name, on_name}
+use Rattle.am_complete.proofs.SameMatchers.{cover_among, same_needed}
+use Rattle.am_complete.proofs.CompleteUniverses.{space_complete_where_asked}
+use Rattle.am_complete.proofs.LabelTexts.{has_name, finds_label, found_in, declared_texts}
+use Rattle.am_complete.proofs.LabelTexts.{unnamed_texts}
+use Rattle.am_complete.proofs.LabelStates.{declared_in}
+use Rattle.am_complete.proofs.NeededTexts.{standing_within, cover_weaker, none_needed}
+use Rattle.am_complete.proofs.PossibleTexts.{all_kept}
+use Rattle.am_complete.proofs.Pushed.{one_longer}
 
--- ---- The texts of one label.
+-- ---- Lists that are joined.
 
--- a label more leaves those of other names as they are
-other_found : (u : List Label) (l : Label) (name : List ℕ) → (l.name ≡ name → ⊥)
-    → find (has_name name) (u ++ l ∷ []) ≡ find (has_name name) u
-other_found [] l name apart = elim (cases_Bool (has_name name l)) [
-  | inl same ↦ absurd (apart ((bytes_decides l.name name).0 same))
-  | inr differs ↦ rw differs refl
+all_joined : {X : Type 0} (P : X → Type 0) (xs ys : List X) → AllByRecursion P xs
+    → AllByRecursion P ys → AllByRecursion P (xs ++ ys)
+all_joined P [] ys first last = last
+all_joined P (x ∷ xs) ys first last = (first.0, all_joined P xs ys first.1 last)
+
+pub distinct_joined : (xs ys : List (List ℕ)) → IsDistinct same_text xs → IsDistinct same_text ys
+    → ((x : List ℕ) → IsIn xs x → IsIn ys x → ⊥) → IsDistinct same_text (xs ++ ys)
+unfolding IsDistinct
+distinct_joined [] ys first last apart = last
+distinct_joined (x ∷ xs) ys first last apart = (
+  all_joined (λ y. same_text x y ≡ false) xs ys first.0
+      (AllByRecursion-each (λ y. same_text x y ≡ false) ys (λ y i.
+      false_from_ne_true (same_text x y) (λ same.
+      apart x (inl refl) (subst (IsIn ys) (sym ((bytes_decides x y).0 same)) i)))),
+  distinct_joined xs ys first.1 last (λ y i j. apart y (inr i) j),
+)
+
+-- ---- Which labels are open.
+
+open_at : (missing : List MissingTexts) (i : ℕ) → Contains (open_positions missing) i
+    → (m : MissingTexts) × (slice_get missing i ≡ Some m) × (m.all ≡ false)
+open_at missing i h =
+    let numbered = enumerate_from 0 missing in
+    let p = IsIn-unmap (λ q. q.0) (filter (λ q. not q.1.all) numbered) i
+    (IsIn-from_Contains (open_positions missing) i h) in
+    let r = passes_from_kept (λ q. not q.1.all) numbered p.0 p.1 in (
+      p.0.1,
+      ap (slice_get missing) (sym p.2) ∙ item_at missing p.0 r.0,
+      not-true p.0.1.all r.1,
+    )
+
+all_elsewhere : (missing : List MissingTexts) (i : ℕ) (m : MissingTexts)
+    → slice_get missing i ≡ Some m → (Contains (open_positions missing) i → ⊥) → m.all ≡ true
+all_elsewhere missing i m at fresh =
+    true_from_ne_false m.all (λ some.
+    let kept = filter (λ q. not q.1.all) (enumerate_from 0 missing) in
+    fresh (Contains-from_IsIn (open_positions missing) i
+    (IsIn-map (λ q. q.0) kept (i, m)
+    (kept_from_passes (λ q. not q.1.all) (enumerate_from 0 missing) (i, m)
+    (numbered_at 0 missing i m at i (omega arith)) (ap not some)))))
+
+numbered_more : (from : ℕ) (ms : List MissingTexts) (m : MissingTexts)
+    → enumerate_from from (ms ++ m ∷ []) ≡ enumerate_from from ms ++ (from + length ms, m) ∷ []
+numbered_more from [] m = let n : from ≡ from + 0 = omega arith in λ k. (n k, m) ∷ []
+numbered_more from (x ∷ ms) m =
+    let n : from + 1 + length ms ≡ from + length (x ∷ ms) = omega arith in
+    ap (λ ns. (from, x) ∷ ns) (numbered_more (from + 1) ms m
+    ∙ ap (λ k. enumerate_from (from + 1) ms ++ (k, m) ∷ []) n)
+
+open_more : (missing : List MissingTexts) (i : ℕ) (m : MissingTexts)
+    → slice_get missing i ≡ Some m → open_positions (take i missing)
+    ++ map (λ (p : ℕ × MissingTexts). p.0) (cond (not m.all) ((i, m) ∷ []) [])
+    ≡ open_positions (take (i + 1) missing)
+open_more missing i m at =
+    let before = enumerate_from 0 (take i missing) in
+    let long : 0 + length (take i missing) ≡ i =
+    omega (arith, length-take-le i missing (omega (arith, slice_get_within missing i m at))) in
+    let first : ℕ × MissingTexts → ℕ = λ p. p.0 in
+    let test : ℕ × MissingTexts → Bool = λ p. not p.1.all in
+    sym (map-append first (filter test before) (filter test ((i, m) ∷ [])))
+    ∙ ap (map first) (sym (filter-append test before ((i, m) ∷ []))
+    ∙ ap (λ k. filter test (before ++ (k, m) ∷ [])) (sym long)
+    ∙ ap (filter test) (sym (numbered_more 0 (take i missing) m)))
+    ∙ ap open_positions (one_longer missing i m at)
+
+pub open_pushed : (missing : List MissingTexts) (i : ℕ) (m : MissingTexts)
+    → slice_get missing i ≡ Some m → m.all ≡ false
+    → open_positions (take i missing) ++ i ∷ [] ≡ open_positions (take (i + 1) missing)
+open_pushed missing i m at some =
+    ap (λ b. open_positions (take i missing)
+    ++ map (λ (p : ℕ × MissingTexts). p.0) (cond (not b) ((i, m) ∷ []) [])) (sym some)
+    ∙ open_more missing i m at
+
+pub open_kept : (missing : List MissingTexts) (i : ℕ) (m : MissingTexts)
+    → slice_get missing i ≡ Some m → m.all ≡ true
+    → open_positions (take i missing) ≡ open_positions (take (i + 1) missing)
+open_kept missing i m at all =
+    sym (append-nil (open_positions (take i missing)))
+    ∙ ap (λ b. open_positions (take i missing)
+    ++ map (λ (p : ℕ × MissingTexts). p.0) (cond (not b) ((i, m) ∷ []) [])) (sym all)
+    ∙ open_more missing i m at
+
+-- the first of the positions is the least
+abbrev opens_from : ℕ → List MissingTexts → List ℕ
+opens_from from missing = map (λ p. p.0) (filter (λ p. not p.1.all) (enumerate_from from missing))
+
+first_open : (from : ℕ) (missing : List MissingTexts) (i k : ℕ)
+    → slice_get (opens_from from missing) 0 ≡ Some i → IsIn (opens_from from missing) k → i ≤ k
+first_open from [] i k at h = absurd h
+first_open from (m ∷ missing) i k at h = elim (cases_Bool m.all) [
+  | inl all ↦ first_open (from + 1) missing i k (rw all at at) (rw all at h)
+  | inr some ↦
+      let here : Some from ≡ Some i = rw some at at in
+      let is : from ≡ i = cc in
+      let numbered = enumerate_from from (m ∷ missing) in
+      let p = IsIn-unmap (λ q. q.0) (filter (λ q. not q.1.all) numbered) k h in
+      let there = passes_from_kept (λ q. not q.1.all) numbered p.0 p.1 in
+      let r = is_numbered from (m ∷ missing) p.0 there.0 in omega (arith, is, r.1, p.2)
 ]
-other_found (m ∷ u) l name apart = elim (cases_Bool (has_name name m)) [
-  | inl same ↦ rw same refl
-  | inr differs ↦ rw differs (other_found u l name apart)
-]
 
-other_texts : (alphabet : Alphabet) (u v : List Label) (l : AskedLabel) (other : List ℕ) → IsWithAtMost alphabet u v l
-    → (l.name ≡ other → ⊥) → label_texts v other ≡ label_texts u other
-other_texts alphabet u v l other (inl same) apart = ap (λ w. label_texts w other) same
-other_texts alphabet u v l other (inr more) apart =
-    let label : Label = more.1.0 in
-    ap (λ w. label_texts w other) more.1.1
-    ∙ ap texts_of_label (other_found u label other (λ e. apart (sym more.1.2 ∙ e)))
+-- ---- What the label of a name lacks.
 
--- one text alone may be the empty one
-lone_covers : (alphabet : Alphabet) (ms : List Condition) (texts : List (List ℕ)) → length texts ≤ 1
-    → Covers alphabet ms texts → Covers alphabet ms ([] ∷ [])
-lone_covers alphabet ms [] few covers text valid =
-    let one = covers text valid in absurd (IsIn-from_Contains [] one.0 one.1)
-lone_covers alphabet ms (t ∷ []) few covers text valid =
-    absence_alike ms t text (covers [] (nil_over alphabet)) (covers text valid)
-lone_covers alphabet ms (t ∷ s ∷ texts) few covers text valid = absurd (omega (arith, few))
+module _ (a : Alphabet) (s : Space) where
+  -- what the label at a position lacks
+  pub at_label : (asked : List AskedLabel) (missing : List MissingTexts) (i : ℕ) (l : AskedLabel)
+      → AreMissing a s asked missing → slice_get asked i ≡ Some l
+      → (m : MissingTexts) × (slice_get missing i ≡ Some m) × IsMissingAt a s l m
+  at_label [] missing i l zip at = absurd (cc)
+  at_label (x ∷ asked) [] i l zip at = absurd zip
+  at_label (x ∷ asked) (m ∷ missing) zero l zip at =
+      let same : x ≡ l = cc in (m, refl, subst (λ y. IsMissingAt a s y m) same zip.0)
+  at_label (x ∷ asked) (m ∷ missing) (suc i) l zip at = at_label asked missing i l zip.1 at
 
-one_apart : (ms : List Condition) (t : List ℕ) → AreApart ms (t ∷ [])
-one_apart ms t zero zero x y at_x at_y alike = refl
-one_apart ms t zero (suc j) x y at_x at_y alike = absurd (cc)
-one_apart ms t (suc i) j x y at_x at_y alike = absurd (cc)
+  pub at_missing : (asked : List AskedLabel) (missing : List MissingTexts) (i : ℕ)
+      (m : MissingTexts) → AreMissing a s asked missing → slice_get missing i ≡ Some m
+      → (l : AskedLabel) × (slice_get asked i ≡ Some l) × IsMissingAt a s l m
+  at_missing asked [] i m zip at = absurd (cc)
+  at_missing [] (k ∷ missing) i m zip at = absurd zip
+  at_missing (x ∷ asked) (k ∷ missing) zero m zip at =
+      let same : k ≡ m = cc in (x, refl, subst (IsMissingAt a s x) same zip.0)
+  at_missing (x ∷ asked) (k ∷ missing) (suc i) m zip at = at_missing asked missing i m zip.1 at
 
--- a label with one class of texts need not be declared
-pub stands_undeclared : (alphabet : Alphabet) (u : List Label) (name : List ℕ) (ms : List Condition)
-    (texts : List (List ℕ)) → (Contains (names u) name → ⊥) → length texts ≤ 1
-    → Covers alphabet ms texts → StandForAll alphabet ms (label_texts u name)
-stands_undeclared alphabet u name ms texts fresh few covers =
-    rw (unnamed_texts u name fresh) (record {
-      covers = lone_covers alphabet ms texts few covers;
-      apart = one_apart ms [];
-      over = (nil_over alphabet, tt);
-    })
-
--- and one that is declared has the texts that it is declared with
-texts_declared : (u v : List Label) (name : List ℕ) (texts : List (List ℕ)) → IsUniverse v
-    → IsWithLabel u v name texts → label_texts v name ≡ texts
-texts_declared u v name texts universe more =
-    let l = more.0 in
-    let there : IsIn v l =
-    subst (λ w. IsIn w l) (sym more.1) (IsIn-right u (l ∷ []) l (inl refl)) in
-    ap (label_texts v) (sym more.2) ∙ declared_texts v l universe there ∙ more.3
-
-pub stands_declared : (alphabet : Alphabet) (u v : List Label) (name : List ℕ) (ms : List Condition)
-    (texts : List (List ℕ)) → IsUniverse v → IsWithLabel u v name texts → Covers alphabet ms texts
-    → AreApart ms texts → AreOver alphabet texts → StandForAll alphabet ms (label_texts v name)
-stands_declared alphabet u v name ms texts universe more covers apart over =
-    rw (texts_declared u v name texts universe more)
-    (record { covers = covers; apart = apart; over = over })
-
--- ---- One label after another.
-
--- a declared label is asked of; it has values that are apart, and needs more than one
-abbrev pub IsDeclaredFor : Alphabet → List Label → List AskedLabel → List ℕ → Type 0
-IsDeclaredFor alphabet u asked name =
-    (l : AskedLabel) × IsIn asked l × (l.name ≡ name) × AreApart l.matchers (label_texts u name)
-    × HasMoreClasses alphabet 1 l.matchers
-
--- what is kept of a universe that is made of some labels that are asked of
-pub record IsMadeOf (alphabet : Alphabet) (u : List Label) (asked : List AskedLabel)
-    (unproved : List ℕ) : Type 0 where
-  pub universe : IsUniverse u
-  pub named : (name : List ℕ) → IsIn (names u) name → IsDeclaredFor alphabet u asked name
-  pub stands : StandsForEachBut alphabet u asked unproved
-  pub within : (k : ℕ) → Contains unproved k → k < length asked
-  pub noted : AreUnproved alphabet asked unproved
-  pub over : HasTextsOver alphabet u
-
--- the next label is of none of the names so far
-other_name : (asked : List AskedLabel) (l x : AskedLabel)
-    → IsDistinct same_text (asked_names (asked ++ l ∷ [])) → IsIn asked x → x.name ≡ l.name → ⊥
-other_name asked l x distinct among same =
-    let split = distinct_pushed same_text (asked_names asked) l.name
-    (subst (IsDistinct same_text) (map-append (λ y. y.name) asked (l ∷ [])) distinct) in
-    both_ways (list_any (λ z. same_text z l.name) (asked_names asked)) split.1
-    (in_any (λ z. same_text z l.name) (asked_names asked) x.name
-    (IsIn-map (λ y. y.name) asked x among) ((bytes_decides x.name l.name).1 same))
-
-pub fresh_name : (alphabet : Alphabet) (u : List Label) (asked : List AskedLabel) (l : AskedLabel) (unproved : List ℕ)
-    → IsMadeOf alphabet u asked unproved → IsDistinct same_text (asked_names (asked ++ l ∷ []))
-    → Contains (names u) l.name → ⊥
-fresh_name alphabet u asked l unproved made distinct h =
-    let declared = made.named l.name (IsIn-from_Contains (names u) l.name h) in
-    other_name asked l declared.0 distinct declared.1 declared.2
-
--- ---- The positions that are noted.
-
-kept_noted : (alphabet : Alphabet) (u : List Label) (l : AskedLabel) (n : ℕ) (before after : List ℕ)
-    → IsSettled alphabet u l n before after → (k : ℕ) → Contains before k → Contains after k
-kept_noted alphabet u l n before after (inl same) k h = rw same.0 h
-kept_noted alphabet u l n before after (inr more) k h =
-    rw more.0 (Contains-from_IsIn (before ++ n ∷ []) k
-    (IsIn-left before (n ∷ []) k (IsIn-from_Contains before k h)))
-
-alone_noted : (alphabet : Alphabet) (u : List Label) (l : AskedLabel) (n : ℕ) (before after : List ℕ)
-    → IsSettled alphabet u l n before after → (k : ℕ) → Contains after k
-    → Contains before k ⊎ ((k ≡ n) × MayBeUnproved alphabet l)
-alone_noted alphabet u l n before after (inl same) k h = inl (rw same.0 at h)
-alone_noted alphabet u l n before after (inr more) k h =
-    elim (in_pushed before n k (IsIn-from_Contains (before ++ n ∷ []) k (rw more.0 at h))) [
-      | inl a ↦ inl (Contains-from_IsIn before k a)
-      | inr e ↦ inr (sym e, more.1)
-    ]
-
--- the first of them stays the first
-first_noted : (before : List ℕ) (n : ℕ) → ((k : ℕ) → Contains before k → k < n)
-    → ((i k : ℕ) → slice_get before 0 ≡ Some i → Contains before k → i ≤ k)
-    → (i k : ℕ) → slice_get (before ++ n ∷ []) 0 ≡ Some i → Contains (before ++ n ∷ []) k → i ≤ k
-first_noted [] n within first i k at h =
-    let here : n ≡ i = cc in omega (arith, here, only n k h)
-first_noted (b ∷ before) n within first i k at h =
-    let is : b ≡ i = cc in
-    elim (in_pushed (b ∷ before) n k (IsIn-from_Contains (b ∷ before ++ n ∷ []) k h)) [
-      | inl a ↦ first i k at (Contains-from_IsIn (b ∷ before) k a)
-      | inr e ↦
-          let lt = within b (Contains-from_IsIn (b ∷ before) b (inl refl)) in
-          omega (arith, lt, is, e)
-    ]
-
-first_settled : (alphabet : Alphabet) (u : List Label) (l : AskedLabel) (n : ℕ) (before after : List ℕ)
-    → IsSettled alphabet u l n before after → ((k : ℕ) → Contains before k → k < n)
-    → ((i k : ℕ) → slice_get before 0 ≡ Some i → Contains before k → i ≤ k)
-    → (i k : ℕ) → slice_get after 0 ≡ Some i → Contains after k → i ≤ k
-first_settled alphabet u l n before after (inl same) within first i k at h =
-    first i k (rw same.0 at at) (rw same.0 at h)
-first_settled alphabet u l n before after (inr more) within first i k at h =
-    first_noted before n within first i k (rw more.0 at at) (rw more.0 at h)
-
--- ---- One label more.
-
--- its values are over the alphabet, as its texts are
-values_over : (alphabet : Alphabet) (values : Values)
-    → AreOver alphabet (map (λ v. unwrap_or v []) values)
-    → AllByRecursion (λ v. IfSome v (IsOver alphabet)) values
-values_over alphabet [] over = tt
-values_over alphabet (None ∷ values) over = (tt, values_over alphabet values over.1)
-values_over alphabet (Some text ∷ values) over = (over.0, values_over alphabet values over.1)
-
-texts_over_more : (alphabet : Alphabet) (u v : List Label) (name : List ℕ) (texts : List (List ℕ))
-    → IsWithLabel u v name texts → AreOver alphabet texts → HasTextsOver alphabet u
-    → HasTextsOver alphabet v
-texts_over_more alphabet u v name texts more over before =
-    subst (HasTextsOver alphabet) (sym more.1)
-    (all_push (λ l. AllByRecursion (λ w. IfSome w (IsOver alphabet)) l.values) u more.0 before
-    (values_over alphabet more.0.values (subst (AreOver alphabet) (sym more.3) over)))
-
-pub made_step : (alphabet : Alphabet) (u v : List Label) (asked : List AskedLabel) (l : AskedLabel)
-    (unproved next : List ℕ) → IsMadeOf alphabet u asked unproved
-    → IsDistinct same_text (asked_names (asked ++ l ∷ [])) → IsUniverse v
-    → IsWithAtMost alphabet u v l → IsSettled alphabet v l (length asked) unproved next
-    → IsMadeOf alphabet v (asked ++ l ∷ []) next
-made_step alphabet u v asked l unproved next made distinct universe more settled =
-    record {
-      universe = universe;
-      named = named_step more;
-      stands = λ i x at proved.
-          elim (got_either asked l x i at) [
-            | inl before ↦
-                let apart = other_name asked l x distinct (in_at asked i x before) in
-                rw (other_texts alphabet u v l x.name more (λ same. apart (sym same)))
-                (made.stands i x before
-                (λ h. proved (kept_noted alphabet v l (length asked) unproved next settled i h)))
-            | inr last ↦
-                subst (λ (y : AskedLabel). StandForAll alphabet y.matchers (label_texts v y.name)) last.1
-                (here settled (λ h. proved (subst (Contains next) (sym last.0) h)))
-          ];
-      within = λ k h. elim (alone_noted alphabet v l (length asked) unproved next settled k h) [
-        | inl before ↦
-            let lt = made.within k before in omega (arith, lt, length-append asked (l ∷ []))
-        | inr last ↦ omega (arith, last.0, length-append asked (l ∷ []))
-      ];
-      noted = record {
-        each = λ k h. elim (alone_noted alphabet v l (length asked) unproved next settled k h) [
-          | inl before ↦
-              let r = made.noted.each k before in (r.0, got_front asked (l ∷ []) k r.0 r.1, r.2)
-          | inr last ↦ (
-            l,
-            subst (λ n. slice_get (asked ++ l ∷ []) n ≡ Some l) (sym last.0) (got_last asked l),
-            last.1,
-          )
-        ];
-        first = first_settled alphabet v l (length asked) unproved next settled made.within made.noted.first;
-      };
-      over = over_step more;
-    }
-  where
-    over_step : IsWithAtMost alphabet u v l → HasTextsOver alphabet v
-    over_step (inl same) = subst (HasTextsOver alphabet) (sym same) made.over
-    over_step (inr more) = texts_over_more alphabet u v l.name more.0 more.1 more.3 made.over
-
-    here : IsSettled alphabet v l (length asked) unproved next
-        → (Contains next (length asked) → ⊥) → StandForAll alphabet l.matchers (label_texts v l.name)
-    here (inl stands) proved = stands.1
-    here (inr noted) proved =
-        let n = length asked in
-        absurd (proved (rw noted.0 (Contains-from_IsIn (unproved ++ n ∷ []) n
-        (IsIn-right unproved (n ∷ []) n (inl refl)))))
-
-    -- a label that was declared before
-    before : (name : List ℕ) → IsWithAtMost alphabet u v l → IsIn (names u) name
-        → IsDeclaredFor alphabet v (asked ++ l ∷ []) name
-    before name more h =
-        let r = made.named name h in
-        let apart : l.name ≡ name → ⊥ = λ e. other_name asked l r.0 distinct r.1 (r.2 ∙ sym e) in (
-          r.0,
-          IsIn-left asked (l ∷ []) r.0 r.1,
-          r.2,
-          subst (AreApart r.0.matchers) (sym (other_texts alphabet u v l name more apart)) r.3,
-          r.4,
+  -- and that which is found by a name
+  pub by_name : (asked : List AskedLabel) (missing : List MissingTexts) (name : List ℕ)
+      (m : MissingTexts) → AreMissing a s asked missing → missing_for missing name ≡ Some m
+      → (l : AskedLabel) × IsIn asked l × (l.name ≡ name) × IsMissingAt a s l m
+  by_name asked [] name m zip e = absurd (cc)
+  by_name [] (k ∷ missing) name m zip e = absurd zip
+  by_name (l ∷ asked) (k ∷ missing) name m zip e = elim (cases_Bool (same_text k.name name)) [
+    | inl same ↦
+        let found : Some k ≡ Some m = rw same at e in
+        let first : k ≡ m = cc in (
+          l,
+          inl refl,
+          sym zip.0.name ∙ (bytes_decides k.name name).0 same,
+          subst (IsMissingAt a s l) first zip.0,
         )
+    | inr differs ↦
+        let r = by_name asked missing name m zip.1 (rw differs at e) in (r.0, inr r.1, r.2, r.3)
+  ]
 
-    named_step : IsWithAtMost alphabet u v l → (name : List ℕ) → IsIn (names v) name
-        → IsDeclaredFor alphabet v (asked ++ l ∷ []) name
-    named_step (inl same) name h = before name (inl same) (rw same at h)
-    named_step (inr more) name h =
-        let label : Label = more.1.0 in
-        let among : IsIn (names u ++ label.name ∷ []) name =
-        subst (λ ns. IsIn ns name)
-        (ap names more.1.1 ∙ map-append (λ x. x.name) u (label ∷ [])) h in
-        elim (in_pushed (names u) label.name name among) [
-          | inl a ↦ before name (inr more) a
-          | inr e ↦
-              let is : l.name ≡ name = sym more.1.2 ∙ e in (
-                l,
-                IsIn-right asked (l ∷ []) l (inl refl),
-                is,
-                rw (← is, texts_declared u v l.name more.0 universe more.1) more.4,
-                (more.0, more.2, more.3, more.4),
-              )
-        ]
+  -- by the name of the label at a position that is what this label lacks
+  pub named_at : (asked : List AskedLabel) (missing : List MissingTexts) (i : ℕ) (l : AskedLabel)
+      (m : MissingTexts) → AreMissing a s asked missing
+      → IsDistinct same_text (asked_names asked) → slice_get asked i ≡ Some l
+      → slice_get missing i ≡ Some m → missing_for missing l.name ≡ Some m
+  named_at [] missing i l m zip distinct at here = absurd (cc)
+  named_at (x ∷ asked) [] i l m zip distinct at here = absurd zip
+  named_at (x ∷ asked) (k ∷ missing) zero l m zip distinct at here =
+      let same : x ≡ l = cc in
+      let named : same_text k.name l.name ≡ true =
+      (bytes_decides k.name l.name).1 (zip.0.name ∙ ap (λ (y : AskedLabel). y.name) same) in
+      rw named here
+  named_at (x ∷ asked) (k ∷ missing) (suc i) l m zip distinct at here =
+      let there = IsIn-map (λ y. y.name) asked l (in_at asked i l at) in
+      let apart = AllByRecursion-at (λ y. same_text x.name y ≡ false) (asked_names asked) l.name
+      (IsDistinct-head same_text x.name (asked_names asked) distinct) there in
+      let differs : same_text k.name l.name ≡ false =
+      ap (λ n. same_text n l.name) zip.0.name ∙ apart in
+      rw differs
+      (named_at asked missing i l m zip.1
+      (IsDistinct-tail same_text x.name (asked_names asked) distinct) at here)
 
--- the names of the labels up to one that are asked of are distinct
-pub distinct_so_far : (asked : List AskedLabel) (i : ℕ) (l : AskedLabel)
-    → slice_get asked i ≡ Some l → IsDistinct same_text (asked_names asked)
-    → IsDistinct same_text (asked_names (take i asked ++ l ∷ []))
-distinct_so_far asked i l at distinct =
-    let first = take (i + 1) asked in
-    let last = drop (i + 1) asked in
-    let names : asked_names asked ≡ asked_names first ++ asked_names last =
-    ap asked_names (sym (take-append-drop (i + 1) asked)) ∙ map-append (λ x. x.name) first last in
-    subst (λ (xs : List AskedLabel). IsDistinct same_text (asked_names xs))
-    (sym (one_longer asked i l at))
-    (distinct_front same_text (asked_names first) (asked_names last)
-    (subst (IsDistinct same_text) names distinct))
+  needed_by_name : (asked : List AskedLabel) (missing : List MissingTexts) (ms : List Condition)
+      (name : List ℕ) → AreMissing a s asked missing → IsAskedOf asked ms → name ≢ []
+      → AreNeeded a s name (about name ms) (texts_of_missing (missing_for missing name))
+  needed_by_name asked missing ms name zip asks some = by (missing_for missing name) refl
+    where
+      by : (o : Option MissingTexts) → missing_for missing name ≡ o
+          → AreNeeded a s name (about name ms) (texts_of_missing o)
+      by None e = none_needed a s name (about name ms)
+      by (Some m) e =
+          let r = by_name asked missing name m zip e in
+          let same = on_name asked ms r.0 asks r.1 (λ empty. some (sym r.2 ∙ empty)) in
+          subst (λ n. AreNeeded a s n (about n ms) m.texts) r.2
+          (same_needed a s r.0.name r.0.matchers (about r.0.name ms) m.texts same r.3.needed)
 
--- so many labels stand before a position
-pub settled_so_far : (alphabet : Alphabet) (asked : List AskedLabel) (i : ℕ) (l : AskedLabel) (v : List Label)
-    (unproved noted : List ℕ) → slice_get asked i ≡ Some l → IsSettled alphabet v l i unproved noted
-    → IsSettled alphabet v l (length (take i asked)) unproved noted
-settled_so_far alphabet asked i l v unproved noted at settled =
-    let long = length-take-le i asked (omega (arith, slice_get_within asked i l at)) in
-    subst (λ n. IsSettled alphabet v l n unproved noted) (sym long) settled
+  pub adds : (asked : List AskedLabel) (missing : List MissingTexts) (v : List Label)
+      (ms : List Condition) → AreMissing a s asked missing → IsUniverse v
+      → AllByRecursion (IsWhole s missing) v → IsAskedOf asked ms → AddsNeeded a s ms v
+  adds asked missing v ms zip universe whole asks =
+      AllByRecursion-each (HasNeeded a s ms) v (λ l i. (
+        texts_of_missing (missing_for missing l.name),
+        needed_by_name asked missing ms l.name zip asks
+            (no_name l.name (AllByRecursion-at IsLabel v l universe.labels i).name),
+        AllByRecursion-at (IsWhole s missing) v l whole i,
+      ))
 
--- ---- No room.
+  -- ---- The alphabet.
 
--- the labels that are declared, as they are asked of
-collected : (alphabet : Alphabet) (u : List Label) (asked : List AskedLabel) (ns : List (List ℕ))
-    → ((name : List ℕ) → IsIn ns name → IsTrue (is_label_name name))
-    → ((name : List ℕ) → IsIn ns name → IsDeclaredFor alphabet u asked name)
-    → (labels : List AskedLabel) × (asked_names labels ≡ ns)
-    × AllByRecursion (λ l. Contains asked l × NeedsMoreValues alphabet 1 l) labels
-collected alphabet u asked [] form h = ([], refl, tt)
-collected alphabet u asked (n ∷ ns) form h =
-    let r = h n (inl refl) in
-    let rest = collected alphabet u asked ns (λ m i. form m (inr i)) (λ m i. h m (inr i)) in (
-      r.0 ∷ rest.0,
-      λ i. r.2 i ∷ rest.1 i,
-      (
-        (
-          Contains-from_IsIn asked r.0 r.1,
-          (subst (λ m. IsTrue (is_label_name m)) (sym r.2) (form n (inl refl)), r.4),
-        ),
-        rest.2,
-      ),
-    )
+  values_over : (values : Values) → AreOver a (map (λ v. unwrap_or v []) values)
+      → AllByRecursion (λ v. IfSome v (IsOver a)) values
+  values_over [] over = tt
+  values_over (None ∷ values) over = (tt, values_over values over.1)
+  values_over (Some text ∷ values) over = (over.0, values_over values over.1)
 
-longer_names : (labels : List AskedLabel) (ns : List (List ℕ)) → asked_names labels ≡ ns
-    → length labels ≡ length ns
-longer_names labels ns are =
-    sym (length-map labels (λ (l : AskedLabel). l.name)) ∙ ap (λ (xs : List (List ℕ)). length xs) are
+  texts_over : (values : Values) → AllByRecursion (λ v. IfSome v (IsOver a)) values
+      → AreOver a (map (λ v. unwrap_or v []) values)
+  texts_over [] over = tt
+  texts_over (None ∷ values) over = (nil_over a, texts_over values over.1)
+  texts_over (Some text ∷ values) over = (over.0, texts_over values over.1)
 
-no_room_at : (alphabet : Alphabet) (u : List Label) (asked : List AskedLabel) (l : AskedLabel) → IsUniverse u
-    → ((name : List ℕ) → IsIn (names u) name → IsDeclaredFor alphabet u asked name)
-    → (Contains (names u) l.name → ⊥) → IsIn asked l → HasNoRoomIn alphabet u l → HaveNoRoom alphabet asked
-no_room_at alphabet u asked l h named fresh among (inr many) =
-    inl (l, Contains-from_IsIn asked l among, many)
-no_room_at alphabet u asked l h named fresh among (inl full) =
-    let r = collected alphabet u asked (names u) (λ n i. named_labels u n h i) named in
-    let are : asked_names (r.0 ++ l ∷ []) ≡ names u ++ l.name ∷ [] =
-    map-append (λ (x : AskedLabel). x.name) r.0 (l ∷ []) ∙ ap (λ ns. ns ++ l.name ∷ []) r.1 in
-    let long = longer_names (r.0 ++ l ∷ []) (names u ++ l.name ∷ []) are in
-    inr (
-      r.0 ++ l ∷ [],
-      omega (
-        arith,
-        long,
-        full.0,
-        length-append (names u) (l.name ∷ []),
-        length-map u (λ (x : Label). x.name),
-      ),
-      all_push (λ x. Contains asked x × NeedsMoreValues alphabet 1 x) r.0 l r.2
-          (Contains-from_IsIn asked l among, full.1),
-      subst (IsDistinct same_text) (sym are)
-          (distinct_push same_text (names u) l.name h.distinct
-          (no_such_name (names u) l.name fresh)),
-    )
+  standing_over : (name : List ℕ) → HasTextsOver a s.labels → AreOver a (standing_texts s name)
+  standing_over name over = by (find (has_name name) s.labels) refl
+    where
+      by : (o : Option Label) → find (has_name name) s.labels ≡ o
+          → AreOver a (standing_in s.impossible name o)
+      by None e = all_kept (IsOver a) (may_have s.impossible name) ([] ∷ []) (nil_over a, tt)
+      by (Some l) e =
+          texts_over l.values
+          (AllByRecursion-at (λ k. AllByRecursion (λ v. IfSome v (IsOver a)) k.values) s.labels l
+          over (found_in name s.labels l e).0)
 
--- where there is no room for more than one text, no two of which are alike
-pub no_room_for : (alphabet : Alphabet) (u : List Label) (l : AskedLabel) (texts : List (String Global))
-    → IsTrue (is_label_name l.name) → 1 < length texts
-    → AreApart l.matchers (map string_bytes texts) → AreOver alphabet (map string_bytes texts)
-    → IsFullFor u (map string_bytes texts)
-    → HasNoRoomIn alphabet u l
-no_room_for alphabet u l texts named several apart over (inl full) =
-    let long : 1 < length (map string_bytes texts) =
-    omega (arith, several, length-map texts (string_bytes {Z = Global})) in
-    inl (full, (named, (map string_bytes texts, long, over, apart)))
-no_room_for alphabet u l texts named several apart over (inr many) =
-    inr (named, (map string_bytes texts, many, over, apart))
+  missing_over : (asked : List AskedLabel) (missing : List MissingTexts) (name : List ℕ)
+      → AreMissing a s asked missing
+      → AreOver a (texts_of_missing (missing_for missing name))
+  missing_over asked missing name zip = by (missing_for missing name) refl
+    where
+      by : (o : Option MissingTexts) → missing_for missing name ≡ o
+          → AreOver a (texts_of_missing o)
+      by None e = tt
+      by (Some m) e = (by_name asked missing name m zip e).3.needed.possible.over
 
--- there is none where a universe has none for the next label
-pub no_room_so_far : (alphabet : Alphabet) (u : List Label) (asked : List AskedLabel) (i : ℕ) (l : AskedLabel)
-    (unproved : List ℕ) → IsMadeOf alphabet u (take i asked) unproved
-    → (Contains (names u) l.name → ⊥) → slice_get asked i ≡ Some l → HasNoRoomIn alphabet u l
-    → HaveNoRoom alphabet asked
-no_room_so_far alphabet u asked i l unproved made fresh at full =
-    no_room_at alphabet u asked l made.universe
-    (λ name h. let r = made.named name h in (
-      r.0,
-      subst (λ (xs : List AskedLabel). IsIn xs r.0) (take-append-drop i asked)
-          (IsIn-left (take i asked) (drop i asked) r.0 r.1),
-      r.2,
-      r.3,
-      r.4,
-    ))
-    fresh (in_at asked i l at) full
+  pub made_over : (asked : List AskedLabel) (missing : List MissingTexts) (v : List Label)
+      → AreMissing a s asked missing → AllByRecursion (IsWhole s missing) v
+      → HasTextsOver a s.labels → HasTextsOver a v
+  made_over asked missing v zip whole over =
+      AllByRecursion-each (λ k. AllByRecursion (λ w. IfSome w (IsOver a)) k.values) v (λ l i.
+      values_over l.values
+      (subst (AreOver a) (sym (AllByRecursion-at (IsWhole s missing) v l whole i))
+      (all_joined (IsOver a) (standing_texts s l.name)
+      (texts_of_missing (missing_for missing l.name)) (standing_over l.name over)
+      (missing_over asked missing l.name zip))))
 
--- ---- All labels.
+  -- ---- What is covered.
 
-pub no_name : (name : List ℕ) → IsTrue (is_label_name name) → name ≡ [] → ⊥
-no_name [] h e = absurd (cc)
-no_name (c ∷ cs) h e = absurd (cc)
+  -- a label that lacks texts is declared, there or beside
+  named_beside : (missing : List MissingTexts) (m : MissingTexts) → IsIn missing m
+      → has_some m.texts ≡ true → IsIn (names s.labels ++ names_to_declare s.labels missing) m.name
+  named_beside missing m i some = elim (cases_Bool (is_declared s.labels m.name)) [
+    | inl declared ↦
+        IsIn-left (names s.labels) (names_to_declare s.labels missing) m.name
+        (declared_in s.labels m.name declared)
+    | inr absent ↦
+        IsIn-right (names s.labels) (names_to_declare s.labels missing) m.name
+        (IsIn-map (λ k. k.name) (filter (is_to_declare s.labels) missing) m
+        (kept_from_passes (is_to_declare s.labels) missing m i
+        (and_from (has_some m.texts) (not (is_declared s.labels m.name)) some (ap not absent))))
+  ]
 
-pub none_on : (name : List ℕ) (ms : List Condition) → ((m : Condition) → IsIn ms m → m.name ≡ name → ⊥)
-    → about name ms ≡ []
-none_on name [] none = refl
-none_on name (m ∷ ms) none = elim (cases_Bool (same_text m.name name)) [
-  | inl same ↦ absurd (none m (inl refl) ((bytes_decides m.name name).0 same))
-  | inr differs ↦ rw differs (none_on name ms (λ x i. none x (inr i)))
-]
+  none_there : (texts : List (List ℕ)) → has_some texts ≡ false → texts ≡ []
+  none_there [] e = refl
+  none_there (t ∷ texts) e = absurd (cc)
 
-pub on_name : (asked : List AskedLabel) (ms : List Condition) (l : AskedLabel) → IsAskedOf asked ms
-    → IsIn asked l → l.name ≢ [] → l.matchers ≡ about l.name ms
-on_name asked ms l asks i some =
-    AllByRecursion-at (λ x. x.name ≢ [] → x.matchers ≡ about x.name ms) asked l asks.matchers i some
+  -- the texts of a label that is declared
+  whole_there : (missing : List MissingTexts) (v : List Label) (name : List ℕ) (m : MissingTexts)
+      → IsUniverse v → AllByRecursion (IsWhole s missing) v → IsIn (names v) name
+      → missing_for missing name ≡ Some m → label_texts v name ≡ standing_texts s name ++ m.texts
+  whole_there missing v name m universe whole i found =
+      let k = IsIn-unmap (λ l. l.name) v name i in
+      ap (label_texts v) (sym k.2) ∙ declared_texts v k.0 universe k.1
+      ∙ AllByRecursion-at (IsWhole s missing) v k.0 whole k.1 ∙ ap (whole_texts s missing) k.2
+      ∙ ap (λ o. standing_texts s name ++ texts_of_missing o) found
 
-complete_at_asked : (alphabet : Alphabet) (u : List Label) (asked : List AskedLabel) (unproved : List ℕ) (l : AskedLabel)
-    → StandsForEachBut alphabet u asked unproved → unproved ≡ [] → (ms : List Condition)
-    → IsAskedOf asked ms → IsIn asked l → l.name ≢ [] → IsCompleteAt alphabet u ms l.name
-complete_at_asked alphabet u asked unproved l stands none ms asks i some =
-    let at = at_in asked l i in
-    rw (← on_name asked ms l asks i some)
-    (stands at.0 l at.1 (λ h. IsIn-from_Contains [] at.0 (rw none at h))).covers
+  -- and of one that is not, since it lacks none
+  alone_there : (missing : List MissingTexts) (v : List Label) (l : AskedLabel)
+      (m : MissingTexts) → names v ≡ names s.labels ++ names_to_declare s.labels missing
+      → (Contains (names v) l.name → ⊥) → IsIn missing m → m.name ≡ l.name
+      → CoverPossible a s.impossible l.name l.matchers (standing_texts s l.name ++ m.texts)
+      → CoverPossible a s.impossible l.name l.matchers (label_texts v l.name)
+  alone_there missing v l m are fresh i named cover =
+      let none = none_there m.texts (false_from_ne_true (has_some m.texts) (λ some.
+      fresh (Contains-from_IsIn (names v) l.name (subst (λ ns. IsIn ns l.name) (sym are)
+      (subst (IsIn (names s.labels ++ names_to_declare s.labels missing)) named
+      (named_beside missing m i some)))))) in
+      let absent = unnamed_texts s.labels l.name (λ there.
+      fresh (Contains-from_IsIn (names v) l.name (subst (λ ns. IsIn ns l.name) (sym are)
+      (IsIn-left (names s.labels) (names_to_declare s.labels missing) l.name
+      (IsIn-from_Contains (names s.labels) l.name there))))) in
+      cover_weaker a s l (standing_texts s l.name) (label_texts v l.name) (λ x j.
+      subst (λ ts. IsIn ts x) (absent ∙ sym (unnamed_texts v l.name fresh))
+      (standing_within s l.name x j))
+      (subst (CoverPossible a s.impossible l.name l.matchers)
+      (ap (λ ts. standing_texts s l.name ++ ts) none ∙ append-nil (standing_texts s l.name)) cover)
 
--- where texts stand for all at each label that is asked of, the universe is complete
-pub complete_where_each_stands : (alphabet : Alphabet) (u : List Label) (asked : List AskedLabel) (unproved : List ℕ)
-    → IsUniverse u → StandsForEachBut alphabet u asked unproved → unproved ≡ []
-    → (ms : List Condition) → IsAskedOf asked ms → IsComplete alphabet u ms
-complete_where_each_stands alphabet u asked unproved universe stands none ms asks =
-    complete_where_asked alphabet u asked ms universe asks
-    (λ l i some. complete_at_asked alphabet u asked unproved l stands none ms asks i some)
+  pub covers_each : (asked : List AskedLabel) (missing : List MissingTexts) (v : List Label)
+      → AreMissing a s asked missing → IsDistinct same_text (asked_names asked) → IsUniverse v
+      → names v ≡ names s.labels ++ names_to_declare s.labels missing
+      → AllByRecursion (IsWhole s missing) v
+      → CoversEachBut a s.impossible v asked (open_positions missing)
+  covers_each asked missing v zip distinct universe are whole i l at proved some =
+      let r = at_label asked missing i l zip at in
+      let m : MissingTexts = r.0 in
+      let cover = r.2.cover some (all_elsewhere missing i m r.1 proved) in
+      elim (cases_Bool (list_any (λ n. same_text n l.name) (names v))) [
+        | inl there ↦
+            let n = any_in (λ n. same_text n l.name) (names v) there in
+            let j = subst (IsIn (names v)) ((bytes_decides n.0 l.name).0 n.2) n.1 in
+            subst (CoverPossible a s.impossible l.name l.matchers)
+            (sym (whole_there missing v l.name m universe whole j
+            (named_at asked missing i l m zip distinct at r.1))) cover
+        | inr absent ↦
+            alone_there missing v l m are (λ h.
+            both_ways (list_any (λ n. same_text n l.name) (names v)) absent
+            (in_any (λ n. same_text n l.name) (names v) l.name
+            (IsIn-from_Contains (names v) l.name h) ((bytes_decides l.name l.name).1 refl)))
+            (in_at missing i m r.1) r.2.name cover
+      ]
 
--- and no two values of a label are alike
-pub apart_values : (alphabet : Alphabet) (u : List Label) (asked : List AskedLabel) (unproved : List ℕ)
-    → IsMadeOf alphabet u asked unproved → (ms : List Condition) → IsAskedOf asked ms → HasApartValues u ms
-apart_values alphabet u asked unproved made ms asks =
-    AllByRecursion-each (λ name. AreApart (about name ms) (label_texts u name)) (names u)
-    (λ name i.
-    let r = made.named name i in
-    let some : r.0.name ≢ [] = λ empty.
-    no_name name (named_labels u name made.universe i) (sym r.2 ∙ empty) in
-    subst (λ n. AreApart (about n ms) (label_texts u name)) r.2
-    (subst (λ (ns : List Condition). AreApart ns (label_texts u name))
-    (on_name asked ms r.0 asks r.1 some) r.3))
+  pub complete : (asked : List AskedLabel) (v : List Label) (positions : List ℕ) → IsUniverse v
+      → CoversEachBut a s.impossible v asked positions → positions ≡ [] → (ms : List Condition)
+      → IsAskedOf asked ms
+      → IsSpaceComplete a (record { labels = v; impossible = s.impossible }) ms
+  complete asked v positions universe covers none ms asks =
+      space_complete_where_asked a (record { labels = v; impossible = s.impossible }) asked ms
+      universe asks (λ l i some.
+      let at = at_in asked l i in
+      let cover = covers at.0 l at.1 (λ h. IsIn-from_Contains [] at.0 (rw none at h)) some in
+      cover_among a s.impossible l.name (about l.name ms) l.matchers (label_texts v l.name)
+      (on_name asked ms l asks i some).back cover)
+
+  -- ---- What is unproved.
+
+  pub are_unproved : (asked : List AskedLabel) (missing : List MissingTexts)
+      → AreMissing a s asked missing → AreUnproved a s asked (open_positions missing)
+  are_unproved asked missing zip = record {
+    each = λ i h.
+        let r = open_at missing i h in
+        let l = at_missing asked missing i r.0 zip r.1 in (l.0, l.1, l.2.unproved r.2);
+    first = λ i k at h.
+        first_open 0 missing i k at (IsIn-from_Contains (open_positions missing) k h);
+  }
+
+  pub within_asked : (asked : List AskedLabel) (missing : List MissingTexts)
+      → AreMissing a s asked missing
+      → AllByRecursion (λ i. i < length asked) (open_positions missing)
+  within_asked asked missing zip =
+      AllByRecursion-each (λ i. i < length asked) (open_positions missing) (λ i h.
+      let r = open_at missing i (Contains-from_IsIn (open_positions missing) i h) in
+      let l = at_missing asked missing i r.0 zip r.1 in slice_get_within asked i l.0 l.1)
+
+-- ---- What is kept.
+
+-- values that are not the empty text are the same where their texts are
+same_values : (v w : Option (List ℕ)) → is_empty_text v ≡ false → is_empty_text w ≡ false
+    → unwrap_or v [] ≡ unwrap_or w [] → v ≡ w
+same_values None None full whole e = refl
+same_values None (Some []) full whole e = absurd (cc)
+same_values None (Some (c ∷ cs)) full whole e = absurd (cc)
+same_values (Some []) w full whole e = absurd (cc)
+same_values (Some (c ∷ cs)) None full whole e = absurd (cc)
+same_values (Some (c ∷ cs)) (Some y) full whole e = ap Some e
+
+values_kept : (vs ws : Values) (texts : List (List ℕ))
+    → AllByRecursion (λ v. is_empty_text v ≡ false) vs
+    → AllByRecursion (λ v. is_empty_text v ≡ false) ws
+    → map (λ v. unwrap_or v []) ws ≡ map (λ v. unwrap_or v []) vs ++ texts
+    → (added : Values) × (ws ≡ vs ++ added)
+values_kept [] ws texts full whole are = (ws, refl)
+values_kept (v ∷ vs) [] texts full whole are = absurd (cc)
+values_kept (v ∷ vs) (w ∷ ws) texts full whole are =
+    let here : unwrap_or w [] ≡ unwrap_or v [] = cc in
+    let later : map (λ x. unwrap_or x []) ws ≡ map (λ x. unwrap_or x []) vs ++ texts = cc in
+    let r = values_kept vs ws texts full.1 whole.1 later in
+    let same = same_values w v whole.0 full.0 here in (r.0, λ i. same i ∷ r.1 i)
+
+module _ (s : Space) (missing : List MissingTexts) where
+  keeps_each : (u v : List Label) (rest : List (List ℕ))
+      → ((l : Label) → IsIn u l → standing_texts s l.name ≡ texts_of_label (Some l))
+      → AllByRecursion IsLabel u → AllByRecursion IsLabel v → names v ≡ names u ++ rest
+      → AllByRecursion (IsWhole s missing) v → KeepsLabels u v
+  keeps_each [] v rest stands labels made are whole = tt
+  keeps_each (l ∷ u) [] rest stands labels made are whole = absurd (cc)
+  keeps_each (l ∷ u) (m ∷ v) rest stands labels made are whole =
+      let named : m.name ≡ l.name = cc in
+      let later : names v ≡ names u ++ rest = cc in
+      let lacks = texts_of_missing (missing_for missing m.name) in
+      let texts : texts_of_label (Some m) ≡ texts_of_label (Some l) ++ lacks =
+      whole.0
+      ∙ ap (λ ts. ts ++ lacks) (ap (standing_texts s) named ∙ stands l (inl refl)) in (
+        (named, values_kept l.values m.values lacks labels.0.texts made.0.texts texts),
+        keeps_each u v rest (λ k i. stands k (inr i)) labels.1 made.1 later whole.1,
+      )
+
+  pub standing_of : (l : Label) → IsUniverse s.labels → IsIn s.labels l
+      → standing_texts s l.name ≡ texts_of_label (Some l)
+  standing_of l h i = ap (standing_in s.impossible l.name) (finds_label s.labels l h.distinct i)
+
+  pub keeps : (v : List Label) → IsUniverse s.labels → IsUniverse v
+      → names v ≡ names s.labels ++ names_to_declare s.labels missing
+      → AllByRecursion (IsWhole s missing) v → KeepsLabels s.labels v
+  keeps v h universe are whole =
+      keeps_each s.labels v (names_to_declare s.labels missing) (λ l i. standing_of l h i) h.labels
+      universe.labels are whole

@@ -20,14 +20,15 @@ use Rattle.am_classes.specs.Alike.{HasAlikeIn, AreApart}
 use Rattle.am_complete.specs.declared.label_state.Completeness.TheVariants as state_is
 use Rattle.am_complete.specs.Complete.{label_texts, may_have}
 use Rattle.am_complete.specs.AskedLabel.{AskedLabel}
-use Rattle.am_complete.specs.FoundState.{ArePossible, IsFoundAt}
+use Rattle.am_complete.specs.Covering.{ArePossible}
+use Rattle.am_complete.specs.FoundState.{IsFoundAt}
 use Rattle.am_complete.proofs.ApartTexts.{apart_are_no_more, distinct_where_apart}
 use Rattle.am_complete.proofs.DeclaredLabels.{distinct_texts}
 use Rattle.am_complete.proofs.LabelTexts.{texts_by}
 
 -- ---- The texts that a label has in a universe could be its values.
 
-one_distinct : (x : List ℕ) → IsDistinct same_text (x ∷ [])
+pub one_distinct : (x : List ℕ) → IsDistinct same_text (x ∷ [])
 unfolding IsDistinct
 one_distinct x = (tt, tt)
 
@@ -122,15 +123,16 @@ cut n most few is some = (omega arith, omega arith)
 
 -- ---- What is missing.
 
--- a text of a part that stands for what the label may have
-pub lacks : (alphabet : Alphabet) (s : Space) (l : AskedLabel) (have part : List (List ℕ))
-    (texts : List (String Global)) (text : String Global) → IsTrue (is_label_name l.name)
+-- a text of a part of those that the label may have
+pub lacks : (alphabet : Alphabet) (s : Space) (l : AskedLabel) (u : List Label)
+    (part : List (List ℕ)) (texts : List (String Global)) (text : String Global)
+    → u ≡ s.labels → IsTrue (is_label_name l.name)
     → ArePossible alphabet s.impossible l.name l.matchers (map string_bytes texts)
-    → have ≡ label_texts s.labels l.name
     → ((x : List ℕ) → IsIn part x → IsIn (map string_bytes texts) x)
-    → Contains part (string_bytes text) × (HasAlikeIn l.matchers have (string_bytes text) → ⊥)
+    → Contains part (string_bytes text)
+    × (HasAlikeIn l.matchers (label_texts u l.name) (string_bytes text) → ⊥)
     → IsFoundAt alphabet s l (state_is.Lacks text)
-lacks alphabet s l have part texts text named found are within missing =
+lacks alphabet s l u part texts text are named found within missing =
     let there = within (string_bytes text) (IsIn-from_Contains part (string_bytes text) missing.0) in (
       named,
       AllByRecursion-at (IsOver alphabet) (map string_bytes texts) (string_bytes text) found.over
@@ -138,16 +140,19 @@ lacks alphabet s l have part texts text named found are within missing =
       AllByRecursion-at (λ x. IsTrue (may_have s.impossible l.name x)) (map string_bytes texts)
           (string_bytes text) found.possible there,
       λ alike. missing.1 (subst
-          (λ (xs : List (List ℕ)). HasAlikeIn l.matchers xs (string_bytes text)) (sym are) alike),
+          (λ w. HasAlikeIn l.matchers (label_texts w l.name) (string_bytes text)) (sym are) alike),
     )
 
 -- where one more than the label may have values are needed, one of them is missing
-pub one_is_missing : (ms : List Condition) (have : List (List ℕ))
+pub one_is_missing : (ms : List Condition) (u : List Label) (name : List ℕ)
     (texts : List (String Global)) (few one : ℕ) → AreApart ms (map string_bytes texts)
-    → length have ≤ MAX_VALUES → few ≡ min (length texts) MAX_VALUES → (few ≡ length texts → ⊥)
-    → one ≡ 1 → AllByRecursion (HasAlikeIn ms have) (map string_bytes (take few texts))
-    → AllByRecursion (HasAlikeIn ms have) (map string_bytes (take one (drop few texts))) → ⊥
-one_is_missing ms have texts few one apart few_there is some single first last =
+    → IsUniverse u → few ≡ min (length texts) MAX_VALUES → (few ≡ length texts → ⊥) → one ≡ 1
+    → AllByRecursion (HasAlikeIn ms (label_texts u name)) (map string_bytes (take few texts))
+    → AllByRecursion (HasAlikeIn ms (label_texts u name))
+    (map string_bytes (take one (drop few texts))) → ⊥
+one_is_missing ms u name texts few one apart h is some single first last =
+    let have = label_texts u name in
+    let few_there = (of_label u name h).few in
     let part = take (suc few) texts in
     let each = all_taken (HasAlikeIn ms have) texts few first
     (subst

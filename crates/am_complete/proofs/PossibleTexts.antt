@@ -1,39 +1,31 @@
 -- Texts that a label may have, as impossible lists say that ask of this label alone.
 use Rattle.std.proofs.Common.{◌≡◌, ◌+◌, ◌||◌, ◌&&◌, ℕ, Bool, true, false, not, List, [], ◌∷◌}
-use Rattle.std.proofs.Common.{String, string_bytes, map, length, take, get_or, Some, None, cond}
-use Rattle.std.proofs.Common.{refl, sym, ap, ◌∙◌, subst, inl, inr, arith}
+use Rattle.std.proofs.Common.{take, get_or, Some, None, cond}
+use Rattle.std.proofs.Common.{refl, sym, ap, ◌∙◌, inl, inr}
 use Rattle.std.specs.Prelude.{IsTrue, slice_get, unwrap_or}
-use Rattle.std.specs.declared.alloc.Global.{Global}
 use Rattle.std.specs.FinMap.{get, empty}
 use Rattle.std.specs.List.{AllByRecursion, IsDistinct, filter, list_all, list_any}
 use Rattle.std.proofs.lemmas.Bool.{both_ways, false_from_ne_true, cases_Bool, cond_both, and_parts}
 use Rattle.std.proofs.lemmas.Bool.{and_from}
-use Rattle.std.proofs.lemmas.List.{length-map}
 use Rattle.std.proofs.lemmas.List.Folds.{list_all_more}
 use Rattle.std.proofs.lemmas.Option.{slice_get_within, get_or_from_slice_get}
 use Rattle.am_universe.specs.LabelSet.{LabelMap, value_of, with_value}
-use Rattle.am_universe.specs.Universe.{IsUniverse, is_label_name}
 use Rattle.am_universe.proofs.LabelMapLemmas.{removed_at, inserted_at}
 use Rattle.am_universe.proofs.LabelSetLemmas.{same_text-itself}
 use Rattle.am_universe.proofs.ListLemmas.{IsIn, IsIn-from_Contains, Contains-from_IsIn}
 use Rattle.am_universe.proofs.ListLemmas.{AllByRecursion-each, AllByRecursion-at}
 use Rattle.am_labels.specs.Matcher.{Condition, holds, all_hold}
-use Rattle.am_labels.specs.Space.{Space}
 use Rattle.am_labels.proofs.Passing.{passes_from_kept, kept_from_passes}
 use Rattle.am_classes.specs.declared.alphabet.Alphabet.{Alphabet}
 use Rattle.am_classes.specs.Alphabet.{IsOver, AreOver}
-use Rattle.am_classes.specs.Alike.{AreAlike, AreApart}
-use Rattle.am_classes.proofs.OverLemmas.{nil_over}
+use Rattle.am_classes.specs.Alike.{AreAlike, AreApart, Covers}
 use Rattle.am_complete.specs.Complete.{asks_only_of, matches_text, may_have, AreAmong}
 use Rattle.am_complete.specs.AskedLabel.{AskedLabel}
-use Rattle.am_complete.specs.Covering.{StandForAll}
-use Rattle.am_complete.specs.declared.label_state.Completeness.TheVariants as state_is
-use Rattle.am_complete.specs.FoundState.{ArePossible, HasThoseOfLists, IsFoundAt}
-use Rattle.am_complete.specs.LabelState.{CoverPossible, StandForPossible}
-use Rattle.am_complete.proofs.Alike.{alike_joined, alike_turned, only, absence_alike}
-use Rattle.am_complete.proofs.ChosenTexts.{alike, distinct_from_apart, apart_from_distinct_texts}
+use Rattle.am_complete.specs.Covering.{ArePossible, CoverPossible}
+use Rattle.am_complete.specs.FoundState.{HasThoseOfLists}
+use Rattle.am_complete.specs.Truths.{alike}
+use Rattle.am_complete.proofs.ChosenTexts.{distinct_from_apart, apart_from_distinct_texts}
 use Rattle.am_complete.proofs.CompleteUniverses.{alone_truth, takes_away}
-use Rattle.am_complete.proofs.LabelTexts.{undeclared_texts}
 
 -- ---- A list on the label set that has one text of a label, and no other label.
 
@@ -81,7 +73,7 @@ one_fails test xs x i fails =
 
 -- ---- Texts that are alike, and those of a filter.
 
-distinct_kept : (e : List ℕ → List ℕ → Bool) (test : List ℕ → Bool) (xs : List (List ℕ))
+pub distinct_kept : (e : List ℕ → List ℕ → Bool) (test : List ℕ → Bool) (xs : List (List ℕ))
     → IsDistinct e xs → IsDistinct e (filter test xs)
 unfolding IsDistinct
 distinct_kept e test [] distinct = tt
@@ -125,130 +117,40 @@ pub same_possible : (impossible : List (List Condition)) (l : AskedLabel) (x y :
 same_possible impossible l x y among alike =
     ap not (any_taken impossible l.name x y l.matchers among alike)
 
+-- a part of texts
+pub all_kept : (P : List ℕ → Type 0) (test : List ℕ → Bool) (xs : List (List ℕ))
+    → AllByRecursion P xs → AllByRecursion P (filter test xs)
+all_kept P test xs all =
+    AllByRecursion-each P (filter test xs)
+    (λ x i. AllByRecursion-at P xs x all (passes_from_kept test xs x i).0)
+
+pub apart_kept : (ms : List Condition) (test : List ℕ → Bool) (xs : List (List ℕ))
+    → AreApart ms xs → AreApart ms (filter test xs)
+apart_kept ms test xs apart =
+    apart_from_distinct_texts ms (filter test xs)
+    (distinct_kept (alike ms) test xs (distinct_from_apart ms xs apart))
+
 -- of texts of which no two are alike, those that the label may have
-pub are_possible : (alphabet : Alphabet) (impossible : List (List Condition)) (l : AskedLabel)
-    (texts kept : List (List ℕ)) → AreOver alphabet texts → AreApart l.matchers texts
-    → kept ≡ filter (may_have impossible l.name) texts
-    → ArePossible alphabet impossible l.name l.matchers kept
-are_possible alphabet impossible l texts kept over apart are =
-    subst (ArePossible alphabet impossible l.name l.matchers) (sym are) (record {
-      over = AllByRecursion-each (IsOver alphabet) (filter test texts)
-          (λ x i. AllByRecursion-at (IsOver alphabet) texts x over
-          (passes_from_kept test texts x i).0);
+pub are_possible : (alphabet : Alphabet) (impossible : List (List Condition)) (name : List ℕ)
+    (ms : List Condition) (texts : List (List ℕ)) → AreOver alphabet texts → AreApart ms texts
+    → ArePossible alphabet impossible name ms (filter (may_have impossible name) texts)
+are_possible alphabet impossible name ms texts over apart =
+    let test = may_have impossible name in
+    record {
+      over = all_kept (IsOver alphabet) test texts over;
       possible = AllByRecursion-each (λ text. IsTrue (test text)) (filter test texts)
           (λ x i. (passes_from_kept test texts x i).1);
-      apart = apart_from_distinct_texts l.matchers (filter test texts)
-          (distinct_kept (alike l.matchers) test texts
-          (distinct_from_apart l.matchers texts apart));
-    })
-  where
-    test : List ℕ → Bool
-    test = may_have impossible l.name
+      apart = apart_kept ms test texts apart;
+    }
 
--- of texts that stand for all, they stand for all that it may have
+-- of texts that cover all, they cover all that it may have
 pub cover_possible : (alphabet : Alphabet) (impossible : List (List Condition)) (l : AskedLabel)
-    (texts kept : List (List ℕ)) → HasThoseOfLists impossible l
-    → StandForAll alphabet l.matchers texts → kept ≡ filter (may_have impossible l.name) texts
-    → CoverPossible alphabet impossible l.name l.matchers kept
-cover_possible alphabet impossible l texts kept among stand are =
-    subst (CoverPossible alphabet impossible l.name l.matchers) (sym are)
-    (λ text valid possible.
-    let one = stand.covers text valid in
+    (texts : List (List ℕ)) → HasThoseOfLists impossible l → Covers alphabet l.matchers texts
+    → CoverPossible alphabet impossible l.name l.matchers
+    (filter (may_have impossible l.name) texts)
+cover_possible alphabet impossible l texts among covers text valid possible =
+    let one = covers text valid in
     let test = may_have impossible l.name in
     let passes = same_possible impossible l one.0 text among one.2 ∙ possible in
     let there = kept_from_passes test texts one.0 (IsIn-from_Contains texts one.0 one.1) passes in
-    (one.0, Contains-from_IsIn (filter test texts) one.0 there, one.2))
-
-pub stand_possible : (alphabet : Alphabet) (impossible : List (List Condition)) (l : AskedLabel)
-    (texts kept : List (List ℕ)) → HasThoseOfLists impossible l
-    → StandForAll alphabet l.matchers texts → kept ≡ filter (may_have impossible l.name) texts
-    → StandForPossible alphabet impossible l.name l.matchers kept
-stand_possible alphabet impossible l texts kept among stand are =
-    let some = are_possible alphabet impossible l texts kept stand.over stand.apart are in
-    record {
-      cover = cover_possible alphabet impossible l texts kept among stand are;
-      over = some.over;
-      possible = some.possible;
-      apart = some.apart;
-    }
-
--- ---- A label that is not declared, as no universe can declare it, has absence alone.
-
-module _ (alphabet : Alphabet) (impossible : List (List Condition)) (l : AskedLabel) where
-  abbrev Stand : List (List ℕ) → Type 0
-  Stand texts = StandForPossible alphabet impossible l.name l.matchers texts
-
-  abbrev Covered : Type 0
-  Covered = CoverPossible alphabet impossible l.name l.matchers ([] ∷ [])
-
-  -- it is enough where the label may have no text
-  pub none_found : (texts : List (String Global)) → length texts ≡ 0
-      → Stand (map string_bytes texts) → Covered
-  none_found [] none stand text valid possible =
-      let one = stand.cover text valid possible in
-      absurd (IsIn-from_Contains [] one.0 one.1)
-  none_found (x ∷ texts) none stand text valid possible = absurd (omega (arith, none))
-
-  -- and where the texts that it may have are of one class, and absence is one of them
-  pub one_found : (texts : List (String Global)) → length texts ≡ 1
-      → Stand (map string_bytes texts) → IsTrue (may_have impossible l.name []) → Covered
-  one_found [] one stand here text valid possible = absurd (omega (arith, one))
-  one_found (x ∷ []) one stand here text valid possible =
-      absence_alike l.matchers (string_bytes x) text (stand.cover [] (nil_over alphabet) here)
-      (stand.cover text valid possible)
-  one_found (x ∷ y ∷ texts) one stand here text valid possible = absurd (omega (arith, one))
-
-  -- else absence is alike to each text that it covers
-  alike_to_none : (x : String Global) → Covered → IsOver alphabet (string_bytes x)
-      → IsTrue (may_have impossible l.name (string_bytes x))
-      → AreAlike l.matchers [] (string_bytes x)
-  alike_to_none x covered over possible =
-      let one = covered (string_bytes x) over possible in
-      rw (only [] one.0 one.1) one.2
-
-  pub one_missing : (texts : List (String Global)) → length texts ≡ 1
-      → HasThoseOfLists impossible l → Stand (map string_bytes texts)
-      → may_have impossible l.name [] ≡ false → Covered → ⊥
-  one_missing [] one among stand taken covered = absurd (omega (arith, one))
-  one_missing (x ∷ []) one among stand taken covered =
-      let alike = alike_to_none x covered stand.over.0 stand.possible.0 in
-      both_ways (may_have impossible l.name []) taken
-      (same_possible impossible l [] (string_bytes x) among alike ∙ stand.possible.0)
-  one_missing (x ∷ y ∷ texts) one among stand taken covered = absurd (omega (arith, one))
-
-  pub more_missing : (texts : List (String Global)) → (length texts ≡ 0 → ⊥)
-      → (length texts ≡ 1 → ⊥) → Stand (map string_bytes texts) → Covered → ⊥
-  more_missing [] some more stand covered = absurd (some refl)
-  more_missing (x ∷ []) some more stand covered = absurd (more refl)
-  more_missing (x ∷ y ∷ texts) some more stand covered =
-      let first = alike_to_none x covered stand.over.0 stand.possible.0 in
-      let second = alike_to_none y covered stand.over.1.0 stand.possible.1.0 in
-      let e : 0 ≡ 1 = stand.apart 0 1 (string_bytes x) (string_bytes y) refl refl
-      (alike_joined l.matchers (string_bytes x) [] (string_bytes y)
-      (alike_turned l.matchers [] (string_bytes x) first) second) in
-      omega (arith, e)
-
--- what is found then, by whether absence covers all
-no_label_name : (name : List ℕ) → is_label_name name ≡ false → IsTrue (is_label_name name) → ⊥
-no_label_name name unnamed named = both_ways (is_label_name name) unnamed named
-
-pub absence_stands : (alphabet : Alphabet) (s : Space) (l : AskedLabel) (texts : List (String Global)) (n : ℕ)
-    → IsUniverse s.labels → is_label_name l.name ≡ false
-    → StandForPossible alphabet s.impossible l.name l.matchers (map string_bytes texts)
-    → n ≡ length texts → CoverPossible alphabet s.impossible l.name l.matchers ([] ∷ [])
-    → IsFoundAt alphabet s l (state_is.Complete n)
-absence_stands alphabet s l texts n h unnamed stand count covered = (
-  subst (CoverPossible alphabet s.impossible l.name l.matchers)
-      (sym (undeclared_texts s.labels l.name h (no_label_name l.name unnamed))) covered,
-  (map string_bytes texts, stand, length-map texts string_bytes ∙ sym count),
-)
-
-pub absence_fails : (alphabet : Alphabet) (s : Space) (l : AskedLabel) → IsUniverse s.labels
-    → is_label_name l.name ≡ false
-    → (CoverPossible alphabet s.impossible l.name l.matchers ([] ∷ []) → ⊥)
-    → IsFoundAt alphabet s l state_is.Undeclarable
-absence_fails alphabet s l h unnamed fails = (
-  unnamed,
-  λ covered. fails (subst (CoverPossible alphabet s.impossible l.name l.matchers)
-      (undeclared_texts s.labels l.name h (no_label_name l.name unnamed)) covered),
-)
+    (one.0, Contains-from_IsIn (filter test texts) one.0 there, one.2)

@@ -90,6 +90,13 @@ IsSpaceComplete a s ms = (name : List ℕ) → name ≢ [] → IsSpaceCompleteAt
 abbrev pub AreAmong : List Condition → List Condition → Type 0
 AreAmong ns ms = AllByRecursion (Contains ms) ns
 
+-- Two lists have the same matchers, in whatever order and however often.
+-- Source: own choice.
+-- Example: `team="db"` and `env=""` have the same as `env=""`, `team="db"` and again `env=""`.
+pub record HaveSameMatchers (ns ms : List Condition) : Type 0 where
+  pub there : AreAmong ns ms
+  pub back : AreAmong ms ns
+
 -- The matchers of impossible lists.
 abbrev pub impossible_conditions : List (List Condition) → List Condition
 impossible_conditions lists = flat_map (λ ms. ms) lists

@@ -1,44 +1,106 @@
--- Universes that are made of what matchers ask.
-use Rattle.std.specs.Prelude.{◌≡◌, ◌⊎◌, ◌<◌, ℕ, List, [], ◌∷◌, ◌++◌, Some, Contains, slice_get}
-use Rattle.std.specs.Prelude.{length, map, unwrap_or, IfSome}
-use Rattle.std.specs.List.{AllByRecursion}
+-- Universes that are made of what matchers ask, beside the labels and values that there are.
+use Rattle.std.specs.Prelude.{◌≡◌, ◌≢◌, ◌⊎◌, ◌<◌, ℕ, List, [], ◌∷◌, ◌++◌, length, Contains, IsTrue}
+use Rattle.std.specs.Prelude.{Option, Some, None, IfSome, slice_get, ⊤, Bool}
+use Rattle.std.specs.List.{filter, find, AllByRecursion}
 use Rattle.am_universe.specs.declared.kind.Kind.{Kind}
 use Rattle.am_universe.specs.declared.kind.Kind.TheVariants as kinds
-use Rattle.am_universe.specs.Universe.{Label, names}
+use Rattle.am_universe.specs.declared.limits.TheConstants.{MAX_LABELS, MAX_VALUES}
+use Rattle.am_universe.specs.Text.{same_text}
+use Rattle.am_universe.specs.Universe.{Label, Values}
 use Rattle.am_labels.specs.Matcher.{Condition}
+use Rattle.am_labels.specs.Space.{Space}
 use Rattle.am_classes.specs.declared.alphabet.Alphabet.{Alphabet}
 use Rattle.am_classes.specs.Alphabet.{IsOver, AreOver}
-use Rattle.am_classes.specs.Alike.{Covers, AreApart}
-use Rattle.am_complete.specs.Complete.{about, label_texts}
+use Rattle.am_classes.specs.Alike.{HasAlikeIn, Covers, AreApart}
+use Rattle.am_complete.specs.Complete.{about, label_texts, texts_of_label, may_have}
 use Rattle.am_complete.specs.AskedLabel.{AskedLabel}
 
--- Some texts stand for all that are over an alphabet, to matchers, and each of them is needed:
--- whatever such text there is, one of them is alike to it; no two of them are alike; and they are
--- over it themselves.
+-- Some texts are of classes that matchers cannot tell apart: they are over an alphabet, and no two
+-- are alike; and where they are of all classes, each text over it has one alike among them.
 -- Source: own choice.
--- Example: to `team="db"` alone, `db` and the empty text do; `db`, `web` and the empty text do not.
-pub record StandForAll (a : Alphabet) (ms : List Condition) (texts : List (List ℕ)) : Type 0 where
-  pub covers : Covers a ms texts
+-- Example: to `team="db"` alone, `db` and the empty text are of all classes, and `db` is of one.
+pub record AreClasses (a : Alphabet) (ms : List Condition) (texts : List (List ℕ))
+    (all : Bool) : Type 0 where
+  pub covers : IsTrue all → Covers a ms texts
   pub apart : AreApart ms texts
   pub over : AreOver a texts
 
--- In a universe the texts of each label that is asked of stand for all, but for labels at some
--- positions.
+-- Some texts cover all over an alphabet that a label may have: whatever text that is, one of them
+-- is alike to it.
+-- Source: own choice.
+-- Example: to `team="db"`, where `team!="db"` is impossible, `db` alone covers all.
+abbrev pub CoverPossible :
+    Alphabet → List (List Condition) → List ℕ → List Condition → List (List ℕ) → Type 0
+CoverPossible a impossible name ms texts =
+    (text : List ℕ) → IsOver a text → IsTrue (may_have impossible name text)
+    → HasAlikeIn ms texts text
+
+-- Some texts are over an alphabet, a label may have each of them, and no two are alike.
+-- Source: own choice.
+-- Example: to `team="db"` alone `db` and `web` are; where `team=web` is impossible, they are not.
+pub record ArePossible (a : Alphabet) (impossible : List (List Condition)) (name : List ℕ)
+    (ms : List Condition) (texts : List (List ℕ)) : Type 0 where
+  pub over : AreOver a texts
+  pub possible : AllByRecursion (λ text. IsTrue (may_have impossible name text)) texts
+  pub apart : AreApart ms texts
+
+-- The texts that stand in a space for a label: its values, absence being the empty text; and where
+-- it is not declared absence alone, if that is possible.
+-- Source: own choice.
+-- Example: for `env`, which is not declared, it is the empty text, and where `env=""` is
+-- impossible there is none.
+abbrev pub standing_in : List (List Condition) → List ℕ → Option Label → List (List ℕ)
+standing_in impossible name None = filter (may_have impossible name) ([] ∷ [])
+standing_in impossible name (Some label) = texts_of_label (Some label)
+
+abbrev pub standing_texts : Space → List ℕ → List (List ℕ)
+standing_texts s name = standing_in s.impossible name (find (λ l. same_text l.name name) s.labels)
+
+-- A label needs each of some texts beside those that stand in a space: the label may have them,
+-- they are over an alphabet, no two are alike, and none is alike to one that stands there.
+-- Source: own choice.
+-- Example: where `team` may be `db` alone, it needs `web` for `team="db"`, and not `ops` too.
+pub record AreNeeded (a : Alphabet) (s : Space) (name : List ℕ) (ms : List Condition)
+    (texts : List (List ℕ)) : Type 0 where
+  pub possible : ArePossible a s.impossible name ms texts
+  pub new : AllByRecursion (λ text. HasAlikeIn ms (standing_texts s name) text → ⊥) texts
+
+-- In a universe the texts of each label that is asked of cover all that the label may have, but for
+-- labels at some positions. Of a name that is the empty text nothing is said.
 -- Source: own choice.
 -- Example: where `team="db"` and `a:b="x"` are asked, a universe in which `team` has `db` and
 -- absence does, but for the second label.
-abbrev pub StandsForEachBut : Alphabet → List Label → List AskedLabel → List ℕ → Type 0
-StandsForEachBut a u asked unproved =
+abbrev pub CoversEachBut :
+    Alphabet → List (List Condition) → List Label → List AskedLabel → List ℕ → Type 0
+CoversEachBut a impossible u asked unproved =
     (i : ℕ) (l : AskedLabel) → slice_get asked i ≡ Some l
-    → (Contains unproved i → ⊥) → StandForAll a l.matchers (label_texts u l.name)
+    → (Contains unproved i → ⊥) → l.name ≢ []
+    → CoverPossible a impossible l.name l.matchers (label_texts u l.name)
 
--- No two values of a label of a universe are alike to the matchers on it.
+-- A universe keeps the labels of another: each stands at its position, and has its values in front.
 -- Source: own choice.
--- Example: for `team="db"` alone, it is so where `team` has `db` and absence, and not where it has
--- `web` too.
-abbrev pub HasApartValues : List Label → List Condition → Type 0
-HasApartValues u ms =
-    AllByRecursion (λ name. AreApart (about name ms) (label_texts u name)) (names u)
+-- Example: one with `team`, which may be `db`, `web` or absent, and `env` keeps that of `team`
+-- alone, which may be `db`.
+abbrev pub KeepsValues : Label → Label → Type 0
+KeepsValues l m = (m.name ≡ l.name) × ((added : Values) × (m.values ≡ l.values ++ added))
+
+abbrev pub KeepsLabels : List Label → List Label → Type 0
+KeepsLabels [] v = ⊤
+KeepsLabels (l ∷ u) [] = ⊥
+KeepsLabels (l ∷ u) (m ∷ v) = KeepsValues l m × KeepsLabels u v
+
+-- Each label of a universe has the texts that stand for it in a space, and behind them texts that
+-- it needs for some matchers.
+-- Source: own choice.
+-- Example: for `team="db"` alone, and a space without labels, it is so where `team` has absence and
+-- `db`, and not where it has `web` too.
+abbrev pub HasNeeded : Alphabet → Space → List Condition → Label → Type 0
+HasNeeded a s ms l =
+    (needed : List (List ℕ)) × AreNeeded a s l.name (about l.name ms) needed
+    × (texts_of_label (Some l) ≡ standing_texts s l.name ++ needed)
+
+abbrev pub AddsNeeded : Alphabet → Space → List Condition → List Label → Type 0
+AddsNeeded a s ms u = AllByRecursion (HasNeeded a s ms) u
 
 -- The texts that the labels of a universe may have are over an alphabet.
 -- Source: RFC 8259, section 8.1: JSON text, which says them, is UTF-8.
@@ -50,16 +112,11 @@ HasTextsOver a u = AllByRecursion (λ l. AllByRecursion (λ v. IfSome v (IsOver 
 -- absence being the empty text.
 abbrev pub IsWithLabel : List Label → List Label → List ℕ → List (List ℕ) → Type 0
 IsWithLabel u v name texts =
-    (l : Label) × (v ≡ u ++ l ∷ []) × (l.name ≡ name)
-    × (map (λ value. unwrap_or value []) l.values ≡ texts)
+    (l : Label) × (v ≡ u ++ l ∷ []) × (l.name ≡ name) × (texts_of_label (Some l) ≡ texts)
 
--- Or those of another, and at most one more: that of a label that is asked of, with more than one
--- text, no two of which are alike to the matchers on it.
-abbrev pub IsWithAtMost : Alphabet → List Label → List Label → AskedLabel → Type 0
-IsWithAtMost a u v l =
-    (v ≡ u)
-    ⊎ ((texts : List (List ℕ)) × IsWithLabel u v l.name texts × (1 < length texts)
-    × AreOver a texts × AreApart l.matchers texts)
+-- In a universe there is no room for a label with some texts.
+abbrev pub IsFullFor : List Label → List (List ℕ) → Type 0
+IsFullFor u texts = (length u ≡ MAX_LABELS) ⊎ (MAX_VALUES < length texts)
 
 -- Why no universe is made, or no label is declared: there is no room for it, or no memory.
 abbrev pub IsLimitOrMemory : Kind → Type 0

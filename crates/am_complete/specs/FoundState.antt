@@ -8,14 +8,15 @@ use Rattle.am_universe.specs.Universe.{is_label_name}
 use Rattle.am_labels.specs.Matcher.{Condition}
 use Rattle.am_labels.specs.Space.{Space}
 use Rattle.am_classes.specs.declared.alphabet.Alphabet.{Alphabet}
-use Rattle.am_classes.specs.Alphabet.{IsOver, AreOver}
-use Rattle.am_classes.specs.Alike.{HasAlikeIn, AreApart, HasPattern}
+use Rattle.am_classes.specs.Alphabet.{IsOver}
+use Rattle.am_classes.specs.Alike.{HasAlikeIn, HasPattern}
 use Rattle.am_complete.specs.declared.label_state.Completeness.{Completeness}
 use Rattle.am_complete.specs.declared.label_state.Completeness.TheVariants as state_is
 use Rattle.am_complete.specs.declared.label_state.LabelState.{LabelState}
 use Rattle.am_complete.specs.Complete.{label_texts, asks_only_of, may_have, AreAmong}
 use Rattle.am_complete.specs.AskedLabel.{AskedLabel, IsAskedOf}
-use Rattle.am_complete.specs.LabelState.{CoverPossible, HasClasses, IsSoIfNamed, is_declared}
+use Rattle.am_complete.specs.Covering.{CoverPossible}
+use Rattle.am_complete.specs.LabelState.{HasClasses, IsSoIfNamed, is_declared}
 
 -- What is found at a label with some texts is so, for the matchers on it, where these lists are
 -- impossible.
@@ -36,13 +37,6 @@ IsFoundOf a impossible l texts (state_is.Unproved origin) =
 
 abbrev pub IsFoundAt : Alphabet → Space → AskedLabel → Completeness → Type 0
 IsFoundAt a s l found = IsFoundOf a s.impossible l (label_texts s.labels l.name) found
-
--- Some texts are over an alphabet, a label may have each of them, and no two are alike.
-pub record ArePossible (a : Alphabet) (impossible : List (List Condition)) (name : List ℕ)
-    (ms : List Condition) (texts : List (List ℕ)) : Type 0 where
-  pub over : AreOver a texts
-  pub possible : AllByRecursion (λ text. IsTrue (may_have impossible name text)) texts
-  pub apart : AreApart ms texts
 
 -- The matchers of the impossible lists that ask of a label alone are among those on it.
 abbrev pub HasThoseOfLists : List (List Condition) → AskedLabel → Type 0

@@ -1,39 +1,28 @@
 -- How a space stands at a label, for some matchers.
 use Rattle.std.specs.Prelude.{◌≡◌, ◌≢◌, ℕ, List, [], ◌++◌, length, Bool, true, false, not}
 use Rattle.std.specs.Prelude.{Contains, string_bytes, IsTrue}
-use Rattle.std.specs.List.{filter, list_any, AllByRecursion}
+use Rattle.std.specs.List.{filter, list_any}
 use Rattle.am_universe.specs.Text.{same_text}
 use Rattle.am_universe.specs.Universe.{Label, is_label_name, names}
 use Rattle.am_labels.specs.Matcher.{Condition}
 use Rattle.am_labels.specs.Space.{Space}
 use Rattle.am_classes.specs.declared.alphabet.Alphabet.{Alphabet}
-use Rattle.am_classes.specs.Alphabet.{IsOver, AreOver}
-use Rattle.am_classes.specs.Alike.{HasAlikeIn, AreApart, HasPattern}
+use Rattle.am_classes.specs.Alphabet.{IsOver}
+use Rattle.am_classes.specs.Alike.{HasPattern}
 use Rattle.am_complete.specs.declared.label_state.Completeness.{Completeness}
 use Rattle.am_complete.specs.declared.label_state.Completeness.TheVariants as state_is
 use Rattle.am_complete.specs.Complete.{about, HasAlike, may_have, IsSpaceCompleteAt}
 use Rattle.am_complete.specs.AskedLabel.{AskedLabel, asked_names}
+use Rattle.am_complete.specs.Covering.{ArePossible, CoverPossible}
 
--- Some texts cover all over an alphabet that a label may have: whatever text that is, one of them
--- is alike to it.
--- Source: own choice.
--- Example: to `team="db"`, where `team!="db"` is impossible, `db` alone covers all.
-abbrev pub CoverPossible :
-    Alphabet → List (List Condition) → List ℕ → List Condition → List (List ℕ) → Type 0
-CoverPossible a impossible name ms texts =
-    (text : List ℕ) → IsOver a text → IsTrue (may_have impossible name text)
-    → HasAlikeIn ms texts text
-
--- They stand for all that it may have, and each of them is needed: they cover all, they are over
--- the alphabet, the label may have each, and no two are alike.
+-- Some texts stand for all over an alphabet that a label may have, and each of them is needed: they
+-- cover all, they are over the alphabet, the label may have each, and no two are alike.
 -- Source: own choice.
 -- Example: to `team="db"` and `team!~"db|web"`, where the latter is impossible, `db` and `web` do.
 pub record StandForPossible (a : Alphabet) (impossible : List (List Condition)) (name : List ℕ)
     (ms : List Condition) (texts : List (List ℕ)) : Type 0 where
   pub cover : CoverPossible a impossible name ms texts
-  pub over : AreOver a texts
-  pub possible : AllByRecursion (λ text. IsTrue (may_have impossible name text)) texts
-  pub apart : AreApart ms texts
+  pub possible : ArePossible a impossible name ms texts
 
 -- There are so many classes of texts over an alphabet that a label may have and some matchers
 -- cannot tell apart.

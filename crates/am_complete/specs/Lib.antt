@@ -1,9 +1,11 @@
 pub mod Complete
 pub mod AskedLabel
+pub mod Operators
 pub mod Gathering
 pub mod Covering
 pub mod Room
 pub mod Truths
+pub mod Missing
 pub mod LabelState
 pub mod FoundState
 pub mod Words

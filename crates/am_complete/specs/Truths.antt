@@ -1,5 +1,8 @@
 -- Texts that are tested by matchers.
-use Rattle.std.specs.Prelude.{◌≡◌, ℕ, List, [], ◌∷◌, map, Some, slice_get, ⊤}
+use Rattle.std.specs.Prelude.{◌≡◌, ℕ, List, [], ◌∷◌, map, Some, slice_get, ⊤, Bool, true, not}
+use Rattle.std.specs.Prelude.{◌&&◌}
+use Rattle.std.specs.List.{list_any}
+use mathlib.Core.Bool.{beq}
 use Rattle.am_labels.specs.Matcher.{Condition, holds}
 use Rattle.am_labels.specs.Row.{TruthRow}
 use Rattle.am_classes.specs.Alike.{AreAlike}
@@ -25,3 +28,11 @@ AreAlikeEach ms [] [] = ⊤
 AreAlikeEach ms [] (y ∷ ys) = ⊥
 AreAlikeEach ms (x ∷ xs) [] = ⊥
 AreAlikeEach ms (x ∷ xs) (y ∷ ys) = AreAlike ms x y × AreAlikeEach ms xs ys
+
+-- Whether texts are alike, and whether none of some texts is alike to a text.
+abbrev pub alike : List Condition → List ℕ → List ℕ → Bool
+alike [] x y = true
+alike (m ∷ ms) x y = beq (holds m.op m.value x) (holds m.op m.value y) && alike ms x y
+
+abbrev pub is_new : List Condition → List (List ℕ) → List ℕ → Bool
+is_new ms texts text = not (list_any (λ x. alike ms x text) texts)

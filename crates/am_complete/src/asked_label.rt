@@ -1,21 +1,27 @@
 // The module of words stands on this type, so its own words come from where they stand.
-ghost use Rattle.std.specs.Prelude.{◌≡◌, map};
+ghost use Rattle.std.specs.Prelude.{◌≡◌, map, IfOk, OnOk, OnErr};
+ghost use Rattle.am_complete.specs.AskedLabel.{label_of, with_matcher};
 
 use crate::Origin;
+use crate::operators::{Operators, operators_with};
 use am_labels::Matcher;
+use std::alloc::{AllocError, Global};
+use std::collections::BTreeMap;
 use std::marker::Model;
 
-/// A label that matchers ask of, with those matchers.
+/// A label that matchers ask of, with those matchers, equal ones once.
 #[derive(Drop)]
 pub struct AskedLabel<'m> {
-    pub(crate) name: &'m str,
-    pub(crate) matchers: Vec<&'m Matcher>,
-    pub(crate) first: Origin,
+    name: &'m str,
+    matchers: Vec<&'m Matcher>,
+    operators: BTreeMap<&'m str, Operators>,
+    first: Origin,
 }
 
 impl<'m> Model for AskedLabel<'m> {
     ghost use Rattle.std.specs.Prelude.{map};
     ghost use Rattle.am_complete.specs.AskedLabel as spec;
+    ghost use Rattle.am_complete.specs.Operators.{HasOperatorsOf};
 
     ghost Value = { spec.AskedLabel };
 
@@ -24,9 +30,51 @@ impl<'m> Model for AskedLabel<'m> {
       matchers = map (λ m. m.now) l.matchers.items;
       first = l.first;
     } };
+
+    // The operators that stand with each value, by which an equal matcher is found.
+    ghost invariant = { λ l. HasOperatorsOf l.operators (map (λ m. m.now) l.matchers.items) };
 }
 
 impl<'m> AskedLabel<'m> {
+    /// The label of a matcher that stands somewhere, with that matcher alone.
+    pub(crate) fn of(
+        alloc: Global,
+        origin: &Origin,
+        matcher: &'m Matcher,
+    ) -> Result<AskedLabel<'m>, AllocError>
+        ensures { IfOk result (λ label. label ≡ label_of (origin.now, matcher.now)) }
+    {
+        let mut label = AskedLabel {
+            name: matcher.name(),
+            matchers: Vec::new(alloc),
+            operators: BTreeMap::new(alloc),
+            first: *origin,
+        };
+        label.add(matcher)?;
+        Ok(label)
+    }
+
+    /// Adds a matcher on this label, unless it has an equal one. An `Err` comes only where memory
+    /// was refused; then nothing has changed.
+    pub(crate) fn add(&mut self, matcher: &'m Matcher) -> Result<(), AllocError>
+        ensures ok { OnOk result (self.new ≡ with_matcher matcher.now self.old) }
+        ensures err { OnErr result (self.new ≡ self.old) }
+    {
+        let found = operators_with(&self.operators, matcher.value());
+        if found.has(matcher.op()) {
+            return Ok(());
+        }
+        // Room comes first, so that nothing has changed where memory is refused.
+        self.matchers.reserve(1)?;
+        self.operators
+            .insert(matcher.value(), found.with(matcher.op()))?;
+        match self.matchers.push(matcher) {
+            Ok(()) => Ok(()),
+            // There is room: it was reserved.
+            Err(_) => unreachable!(),
+        }
+    }
+
     /// The name of the label. Matchers may ask of a name that no universe can declare.
     pub fn name(&self) -> &'m str
         ensures name { result.now ≡ self.now.name }
@@ -34,7 +82,7 @@ impl<'m> AskedLabel<'m> {
         self.name
     }
 
-    /// The matchers that ask of it, in the order of the files.
+    /// The matchers that ask of it, in the order in which they are first asked.
     pub fn matchers(&self) -> &[&'m Matcher]
         ensures matchers { map (λ m. m.now) result.now ≡ self.now.matchers }
     {

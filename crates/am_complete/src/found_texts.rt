@@ -1,10 +1,9 @@
 //! Texts of a label whose classes could not be computed.
 
-ghost use Rattle.std.specs.Prelude.{◌≡◌, ◌≤◌, IfOk, length, map, string_bytes};
+ghost use Rattle.std.specs.Prelude.{◌≡◌, IfOk, false, map, string_bytes};
 ghost use Rattle.std.specs.List.{AllByRecursion};
-ghost use Rattle.am_universe.specs.declared.limits.TheConstants.{MAX_VALUES};
 ghost use Rattle.am_classes.specs.declared.alphabet.Alphabet.{Alphabet};
-ghost use Rattle.am_complete.specs.Words.{AreApart, AreOver};
+ghost use Rattle.am_complete.specs.Words.{AreApart, AreClasses, AreOver};
 
 use crate::AskedLabel;
 use crate::representatives::put_in_order;
@@ -25,10 +24,8 @@ pub(crate) fn found_texts(
     alerts: Option<&Alerts>,
 ) -> Result<Vec<String>, AllocError>
     requires on { AllByRecursion (λ m. m.name ≡ label.now.name) label.now.matchers }
-    ensures apart { IfOk result (λ texts.
-        AreApart label.now.matchers (map string_bytes texts.items)) }
-    ensures over { IfOk result (λ texts. AreOver alphabet (map string_bytes texts.items)) }
-    ensures few { IfOk result (λ texts. length texts.items ≤ MAX_VALUES) }
+    ensures { IfOk result (λ texts.
+        AreClasses alphabet label.now.matchers (map string_bytes texts.items) false) }
 {
     let texts = texts_to_try(alloc, alphabet, label, alerts)?;
     let tried = Truths::of(alloc, label.name(), label.matchers(), texts.as_slice())?;
@@ -46,7 +43,6 @@ fn first_of_each_class(alloc: Global, tried: &Truths<'_>) -> Result<Vec<String>,
         AreApart tried.now.matchers (map string_bytes texts.items)) }
     ensures over { IfOk result (λ texts. (a : Alphabet) → AreOver a tried.now.texts
         → AreOver a (map string_bytes texts.items)) }
-    ensures few { IfOk result (λ texts. length texts.items ≤ length tried.now.texts) }
 {
     let mut found = Vec::new(alloc);
     for j in 0..tried.len() {

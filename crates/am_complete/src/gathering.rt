@@ -1,82 +1,82 @@
 //! Gathering matchers by the label that they ask of.
 
-ghost use Rattle.std.specs.Prelude.{◌≡◌, [], ◌∷◌, ◌++◌, None, OnOk};
+ghost use Rattle.std.specs.Prelude.{◌≡◌, [], ◌∷◌, ◌++◌, false, OnOk, OnErr};
+ghost use Rattle.std.specs.List.{list_any};
+ghost use Rattle.am_universe.specs.Text.{same_text};
 ghost use Rattle.am_complete.specs.AskedLabel.{label_of, with_asked};
-ghost use Rattle.am_complete.specs.Gathering.{position_in, IsIndexed};
 
 use crate::{AskedLabel, Origin};
 use am_labels::Matcher;
 use std::alloc::{AllocError, Global};
 use std::collections::BTreeMap;
+use std::marker::Model;
 
-/// The labels that matchers ask of so far, in the order in which they were first asked of, and the
-/// position of each by its name.
+/// The labels that matchers ask of so far, in the order in which they were first asked of.
 #[derive(Drop)]
 pub struct Gathering<'m> {
-    pub labels: Vec<AskedLabel<'m>>,
-    pub positions: BTreeMap<&'m str, usize>,
-}
-
-/// No labels yet. It keeps the allocator.
-pub fn no_labels<'m>(alloc: Global) -> Gathering<'m>
-    ensures indexed { IsIndexed result.positions result.labels.items }
-    ensures labels { result.labels.items ≡ [] }
-{
-    Gathering {
-        labels: Vec::new(alloc),
-        positions: BTreeMap::new(alloc),
-    }
-}
-
-/// Adds a matcher to those of its label.
-pub fn add_matcher<'m>(
     alloc: Global,
-    gathering: &mut Gathering<'m>,
-    origin: &Origin,
-    matcher: &'m Matcher,
-) -> Result<(), AllocError>
-    requires indexed { IsIndexed gathering.old.positions gathering.old.labels.items }
-    ensures indexed { OnOk result (IsIndexed gathering.new.positions gathering.new.labels.items) }
-    ensures added { OnOk result (gathering.new.labels.items
-        ≡ with_asked gathering.old.labels.items (origin.now, matcher.now)) }
-{
-    match gathering.positions.get(matcher.name()).copied() {
-        Some(position) => add_to_label(&mut gathering.labels[position], matcher),
-        None => add_label(alloc, gathering, origin, matcher),
+    labels: Vec<AskedLabel<'m>>,
+    positions: BTreeMap<&'m str, usize>,
+}
+
+impl<'m> Model for Gathering<'m> {
+    ghost use Rattle.std.specs.Prelude.{List};
+    ghost use Rattle.am_complete.specs.AskedLabel.{AskedLabel};
+    ghost use Rattle.am_complete.specs.Gathering.{IsIndexed};
+
+    ghost Value = { List AskedLabel };
+
+    ghost view = { λ g. g.labels.items };
+
+    // The position of each label by its name.
+    ghost invariant = { λ g. IsIndexed g.positions g.labels.items };
+}
+
+impl<'m> Gathering<'m> {
+    /// No labels yet. It keeps the allocator.
+    pub fn empty(alloc: Global) -> Gathering<'m>
+        ensures { result ≡ [] }
+    {
+        Gathering {
+            alloc,
+            labels: Vec::new(alloc),
+            positions: BTreeMap::new(alloc),
+        }
     }
-}
 
-/// Adds a matcher on a label that was asked of before.
-fn add_to_label<'m>(label: &mut AskedLabel<'m>, matcher: &'m Matcher) -> Result<(), AllocError>
-    ensures { OnOk result (label.new
-        ≡ record label.old { matchers = label.old.matchers ++ matcher.now ∷ [] }) }
-{
-    label.matchers.push(matcher)?;
-    Ok(())
-}
+    /// Adds a matcher, which stands somewhere, to those of its label. An `Err` comes only where
+    /// memory was refused; then nothing has changed.
+    pub fn add(&mut self, origin: &Origin, matcher: &'m Matcher) -> Result<(), AllocError>
+        ensures ok { OnOk result (self.new ≡ with_asked self.old (origin.now, matcher.now)) }
+        ensures err { OnErr result (self.new ≡ self.old) }
+    {
+        match self.positions.get(matcher.name()).copied() {
+            Some(position) => self.labels[position].add(matcher),
+            None => self.add_label(origin, matcher),
+        }
+    }
 
-/// Adds a matcher on a label that was not asked of before.
-fn add_label<'m>(
-    alloc: Global,
-    gathering: &mut Gathering<'m>,
-    origin: &Origin,
-    matcher: &'m Matcher,
-) -> Result<(), AllocError>
-    requires indexed { IsIndexed gathering.old.positions gathering.old.labels.items }
-    requires absent { position_in gathering.old.positions matcher.now.name ≡ None }
-    ensures indexed { OnOk result (IsIndexed gathering.new.positions gathering.new.labels.items) }
-    ensures added { OnOk result (gathering.new.labels.items ≡ gathering.old.labels.items
-        ++ label_of (origin.now, matcher.now) ∷ []) }
-{
-    let mut matchers = Vec::new(alloc);
-    matchers.push(matcher)?;
-    gathering
-        .positions
-        .insert(matcher.name(), gathering.labels.len())?;
-    gathering.labels.push(AskedLabel {
-        name: matcher.name(),
-        matchers,
-        first: *origin,
-    })?;
-    Ok(())
+    /// Adds a matcher on a label that was not asked of before.
+    fn add_label(&mut self, origin: &Origin, matcher: &'m Matcher) -> Result<(), AllocError>
+        requires { list_any (λ l. same_text l.name matcher.now.name) self.old ≡ false }
+        ensures ok { OnOk result (self.new ≡ self.old ++ label_of (origin.now, matcher.now) ∷ []) }
+        ensures err { OnErr result (self.new ≡ self.old) }
+    {
+        let label = AskedLabel::of(self.alloc, origin, matcher)?;
+        // Room comes first, so that nothing has changed where memory is refused.
+        self.labels.reserve(1)?;
+        self.positions.insert(matcher.name(), self.labels.len())?;
+        match self.labels.push(label) {
+            Ok(()) => Ok(()),
+            // There is room: it was reserved.
+            Err(_) => unreachable!(),
+        }
+    }
+
+    /// The labels that were gathered.
+    pub fn into_labels(self) -> Vec<AskedLabel<'m>>
+        ensures { result.items ≡ self.entry }
+    {
+        self.labels
+    }
 }

@@ -1,32 +1,39 @@
 //! Which universes stand for every alert, and how one is made from the matchers that decide.
 //!
-//! A [`Gathering`] has the labels that some matchers ask of. [`universe_of`] makes a universe of
-//! these that is complete, and [`label_states`] says what a space with another one lacks.
+//! A [`Gathering`] has the labels that some matchers ask of. [`universe_beside`] makes a universe
+//! that is complete for these, and keeps the labels of a space; [`label_states`] says what a space
+//! lacks.
 #![tactic(auto)]
 
 // Labels with the matchers that ask of them, and where in the files they are first asked of.
 mod asked_label;
 mod gathering;
+mod operators;
 mod origin;
 
 pub use asked_label::AskedLabel;
-pub use gathering::{Gathering, add_matcher, no_labels};
+pub use gathering::Gathering;
 pub use origin::Origin;
 
-// A universe made of what they ask, and which texts stand there for the others.
+// The texts that a label has, may have and lacks, and which of them stands for others.
 mod found_texts;
-mod made_universe;
+mod label_texts;
+mod missing_texts;
+mod possible_classes;
+mod possible_texts;
 mod representatives;
+mod truths;
 mod usual_texts;
 
-pub use made_universe::{MadeUniverse, MakingFault, is_label_name, universe_of};
+// A universe made of what they ask.
+mod made_universe;
+
+pub use made_universe::{MadeUniverse, is_label_name, universe_beside};
 
 // What a space has, and lacks, at each label.
 mod completeness_at;
 mod label_state;
-mod possible_texts;
 mod states_of_labels;
-mod truths;
 
 pub use label_state::{Completeness, LabelState};
 pub use states_of_labels::label_states;

@@ -1,246 +1,222 @@
-//! A universe that is made of what matchers ask.
+//! A universe that is made of what matchers ask, beside the labels and values of a space.
 
-ghost use Rattle.std.specs.Prelude.{◌≡◌, ◌≢◌, ◌++◌, ◌∷◌, ◌<◌, ℕ, [], List, length, map, Contains};
+ghost use Rattle.std.specs.Prelude.{◌≡◌, ◌≢◌, ◌++◌, ◌<◌, [], List, length, map, Contains, false};
 ghost use Rattle.std.specs.Prelude.{IfOk, IfErr, OnOk, IsTrue, string_bytes, unwrap_or, option_map};
-ghost use Rattle.std.specs.Prelude.{◌≤◌, false, vec_len};
-ghost use Rattle.am_universe.specs.declared.limits.TheConstants.{MAX_VALUES};
 ghost use Rattle.std.specs.List.{AllByRecursion, IsDistinct};
 ghost use Rattle.am_universe.specs.Text.{same_text};
 ghost use Rattle.am_universe.specs.Universe.{is_empty_text};
 ghost use Rattle.am_universe.specs.declared.kind.Kind.TheVariants as kinds;
-ghost use Rattle.am_labels.specs.Words.{is_label_name, Label, IsUniverse, names};
+ghost use Rattle.am_labels.specs.Words.{is_label_name, IsUniverse, names};
 ghost use Rattle.am_labels.specs.Words.{texts_of, Condition};
-ghost use Rattle.am_complete.specs.Words.{AreApart, Covers, IsAskedOf, IsComplete, label_texts};
-ghost use Rattle.am_complete.specs.Words.{StandForAll, StandsForEachBut, HasApartValues};
-ghost use Rattle.am_complete.specs.Words.{AreOver, HasTextsOver};
-ghost use Rattle.am_complete.specs.Words.{AreUnproved, HaveNoRoom, MayBeUnproved};
-ghost use Rattle.am_complete.specs.Covering.{IsWithAtMost, IsWithLabel, IsLimitOrMemory};
-ghost use Rattle.am_complete.specs.Room.{IsFullFor, HasNoRoomIn, IsSettled};
+ghost use Rattle.am_complete.specs.Words.{AreAmong, impossible_conditions, IsAskedOf};
+ghost use Rattle.am_complete.specs.Words.{KeepsLabels, AddsNeeded, CoversEachBut, AreUnproved};
+ghost use Rattle.am_complete.specs.Words.{IsSpaceComplete, HasTextsOver, HaveNoRoom};
+ghost use Rattle.am_complete.specs.Words.{HaveTooManyValues};
+ghost use Rattle.am_complete.specs.Covering.{IsWithLabel, IsFullFor, IsLimitOrMemory};
+ghost use Rattle.am_complete.specs.Missing.{AreMissing, missing_for, whole_texts, IsWhole};
+ghost use Rattle.am_complete.specs.Missing.{is_to_declare, names_to_declare, CanBeDeclared};
+ghost use Rattle.am_complete.specs.Missing.{AreTooLarge, open_positions};
 
 use crate::AskedLabel;
-use crate::found_texts::found_texts;
-use crate::representatives::representatives;
-use am_classes::{Alphabet, ClassTexts, classes};
+use crate::label_texts::standing_texts;
+use crate::missing_texts::{Missing, missing_at};
+use am_classes::Alphabet;
 use am_files::Alerts;
-use am_labels::{Kind, Universe};
+use am_labels::{Kind, Space, Universe};
 use std::alloc::{AllocError, Global};
 
 /// A universe that is made of what matchers ask.
 #[derive(Drop)]
 pub struct MadeUniverse {
-    /// The labels of which matchers tell texts apart, each with one value for each class of texts.
+    /// The labels of a space, and then those of which matchers tell texts apart that may be there.
     pub universe: Universe,
-    /// The positions, among the labels that are asked of, of those that the universe need not stand
-    /// for, in their order. The classes of such a label could not be computed, and it has values
-    /// that were found, or is not declared; or no universe can declare it, since its name is no
-    /// label name, though it has more than one class.
+    /// The positions, among the labels that are asked of, of those that the universe need not
+    /// cover, in their order. The classes of such a label could not be computed, and it has values
+    /// that were found; or it needs a value, and no universe can declare it, since its name is no
+    /// label name.
     pub unproved: Vec<usize>,
 }
 
-/// Why no universe was made.
-#[derive(Clone, Copy, Debug, PartialEq, Eq)]
-pub struct MakingFault {
-    /// `Limit`: a label has more classes than a label may have values, or more labels have to be
-    /// declared than a universe may have; `Memory`.
-    pub kind: Kind,
-    /// The position of the label that was being declared.
-    pub label: usize,
-}
-
-/// The smallest universe in which each label that is asked of has, whatever text over the alphabet
-/// it has in an alert, a value that its matchers cannot tell from that: for each class of texts one
-/// value, and no label where there is one class alone. Its labels are in the order in which they
-/// are asked of.
+/// The smallest universe beside a space in which each label that is asked of has, whatever text
+/// over the alphabet it may have in an alert of the space, a value that its matchers cannot tell
+/// from that. The labels of the space come first, each with its values in front; then come those
+/// that have to be declared, in the order in which they are asked of.
 ///
-/// First stands absence; then the values that matchers name, in their order; then those of other
-/// classes, each that which most of the alerts have, or else `other`, or else a short one; and last
-/// values with a line feed. A label whose classes could not be computed has values that were found,
-/// and may lack some. A name that is no label name is not declared. `Limit` where there is no room
-/// for a label or its classes; `Memory`.
-pub fn universe_of(
+/// A label that the space does not declare has absence first, where that is possible; then come the
+/// values that matchers name, in their order; then those of other classes, each that which most of
+/// the alerts have, or else `other`, or else a short one; and last values with a line feed. To a
+/// label of the space what it lacks of these is added. A label whose classes could not be computed
+/// gets values that were found, and may lack some. A name that is no label name is not declared.
+/// `Limit` where there is no room for a label or its values; `Memory`.
+pub fn universe_beside(
     alloc: Global,
     alphabet: Alphabet,
+    space: &Space,
     asked: &[AskedLabel<'_>],
     alerts: Option<&Alerts>,
-) -> Result<MadeUniverse, MakingFault>
-    requires { (ms : List Condition) × IsAskedOf asked.now ms }
+) -> Result<MadeUniverse, Kind>
+    requires { (ms : List Condition) × IsAskedOf asked.now ms
+        × AreAmong (impossible_conditions space.now.impossible) ms }
     ensures universe { IfOk result (λ made. IsUniverse made.universe) }
-    ensures stands { IfOk result (λ made.
-        StandsForEachBut alphabet made.universe asked.now made.unproved.items) }
+    ensures keeps { IfOk result (λ made. KeepsLabels space.now.labels made.universe) }
+    ensures adds { IfOk result (λ made. (ms : List Condition) → IsAskedOf asked.now ms
+        → AddsNeeded alphabet space.now ms made.universe) }
+    ensures covers { IfOk result (λ made. CoversEachBut alphabet space.now.impossible
+        made.universe asked.now made.unproved.items) }
     ensures within { IfOk result (λ made.
         AllByRecursion (λ i. i < length asked.now) made.unproved.items) }
-    ensures unproved { IfOk result (λ made. AreUnproved alphabet asked.now made.unproved.items) }
-    ensures apart { IfOk result (λ made. (ms : List Condition) → IsAskedOf asked.now ms
-        → HasApartValues made.universe ms) }
+    ensures unproved { IfOk result (λ made.
+        AreUnproved alphabet space.now asked.now made.unproved.items) }
     ensures complete { IfOk result (λ made. made.unproved.items ≡ []
-        → (ms : List Condition) → IsAskedOf asked.now ms → IsComplete alphabet made.universe ms) }
-    ensures over { IfOk result (λ made. HasTextsOver alphabet made.universe) }
-    ensures kind { IfErr result (λ fault. IsLimitOrMemory fault.kind) }
-    ensures limit { IfErr result (λ fault. fault.kind ≡ kinds.Limit
-        → HaveNoRoom alphabet asked.now) }
+        → (ms : List Condition) → IsAskedOf asked.now ms
+        → IsSpaceComplete alphabet
+        (record { labels = made.universe; impossible = space.now.impossible }) ms) }
+    ensures over { IfOk result (λ made. HasTextsOver alphabet space.now.labels
+        → HasTextsOver alphabet made.universe) }
+    ensures kind { IfErr result IsLimitOrMemory }
+    ensures limit { IfErr result (λ kind. kind ≡ kinds.Limit
+        → HaveNoRoom alphabet space.now asked.now) }
 {
-    let mut universe = Universe::empty(alloc);
-    let mut unproved = Vec::new(alloc);
-    for (i, label) in asked.iter().enumerate() {
-        add_or_note(
-            alloc,
-            alphabet,
-            &mut universe,
-            &mut unproved,
-            i,
-            label,
-            alerts,
-        )?;
-    }
+    let mut names = names_of(alloc, space.universe())?;
+    let missing = missing_of_each(alloc, alphabet, space, asked, alerts)?;
+    add_names(&mut names, space.universe(), missing.as_slice())?;
+    let universe = universe_of(alloc, space, names.as_slice(), missing.as_slice())?;
+    let unproved = open_positions(alloc, missing.as_slice())?;
     Ok(MadeUniverse { universe, unproved })
 }
 
-/// Declares the label at a position, or notes the position where the universe need not stand for
-/// the label.
-fn add_or_note(
+/// The names of the labels of a universe.
+fn names_of(alloc: Global, universe: &Universe) -> Result<Vec<&str>, AllocError>
+    ensures universe { OnOk result (IsUniverse universe.now) }
+    ensures names { IfOk result (λ found. map (λ n. n.now) found.items ≡ names universe.now) }
+{
+    let mut names = Vec::with_capacity(alloc, universe.len())?;
+    for i in 0..universe.len() {
+        names.push(universe.name(i))?;
+    }
+    Ok(names)
+}
+
+/// What each label that is asked of lacks in a space.
+fn missing_of_each<'m>(
     alloc: Global,
     alphabet: Alphabet,
-    universe: &mut Universe,
-    unproved: &mut Vec<usize>,
-    position: usize,
-    label: &AskedLabel<'_>,
+    space: &Space,
+    asked: &[AskedLabel<'m>],
     alerts: Option<&Alerts>,
-) -> Result<(), MakingFault>
-    requires universe { IsUniverse universe.old }
-    requires on { IsTrue (is_label_name label.now.name)
-        → AllByRecursion (λ m. m.name ≡ label.now.name) label.now.matchers }
-    requires fresh { ¬ Contains (names universe.old) label.now.name }
-    ensures universe { OnOk result (IsUniverse universe.new) }
-    ensures others { OnOk result (IsWithAtMost alphabet universe.old universe.new label.now) }
-    ensures settled { OnOk result (IsSettled alphabet universe.new label.now position
-        unproved.old.items unproved.new.items) }
-    ensures kind { IfErr result (λ fault. IsLimitOrMemory fault.kind) }
-    ensures limit { IfErr result (λ fault.
-        fault.kind ≡ kinds.Limit → HasNoRoomIn alphabet universe.old label.now) }
-{
-    match add_label(alloc, alphabet, universe, label, alerts) {
-        Ok(true) => Ok(()),
-        Ok(false) => note(unproved, position),
-        Err(kind) => Err(MakingFault {
-            kind,
-            label: position,
-        }),
-    }
-}
-
-/// Adds a position.
-fn note(positions: &mut Vec<usize>, position: usize) -> Result<(), MakingFault>
-    ensures noted { OnOk result (positions.new.items ≡ positions.old.items ++ position ∷ []) }
-    ensures kind { IfErr result (λ fault. fault.kind ≡ kinds.Memory) }
-{
-    match positions.push(position) {
-        Ok(()) => Ok(()),
-        Err(_) => Err(MakingFault {
-            kind: Kind::Memory,
-            label: position,
-        }),
-    }
-}
-
-/// Declares a label, where it has a label name and more than one class of texts. `false` where the
-/// universe need not stand for it: its classes cannot be computed, or there is more than one and
-/// its name is no label name.
-fn add_label(
-    alloc: Global,
-    alphabet: Alphabet,
-    universe: &mut Universe,
-    label: &AskedLabel<'_>,
-    alerts: Option<&Alerts>,
-) -> Result<bool, Kind>
-    requires universe { IsUniverse universe.old }
-    requires on { IsTrue (is_label_name label.now.name)
-        → AllByRecursion (λ m. m.name ≡ label.now.name) label.now.matchers }
-    requires fresh { ¬ Contains (names universe.old) label.now.name }
-    ensures universe { OnOk result (IsUniverse universe.new) }
-    ensures stands { IfOk result (λ proved. IsTrue proved
-        → StandForAll alphabet label.now.matchers (label_texts universe.new label.now.name)) }
-    ensures why { IfOk result (λ proved. proved ≡ false → MayBeUnproved alphabet label.now) }
-    ensures others { OnOk result (IsWithAtMost alphabet universe.old universe.new label.now) }
+) -> Result<Vec<Missing<'m>>, Kind>
+    requires universe { IsUniverse space.now.labels }
+    requires asked { (ms : List Condition) × IsAskedOf asked.now ms
+        × AreAmong (impossible_conditions space.now.impossible) ms }
+    ensures missing { IfOk result (λ missing.
+        AreMissing alphabet space.now asked.now missing.items) }
     ensures kind { IfErr result IsLimitOrMemory }
-    ensures limit { IfErr result (λ kind.
-        kind ≡ kinds.Limit → HasNoRoomIn alphabet universe.old label.now) }
+    ensures limit { IfErr result (λ kind. kind ≡ kinds.Limit
+        → HaveTooManyValues alphabet space.now asked.now) }
 {
-    let Some(classes) = classes(alloc, alphabet, label.matchers())? else {
-        add_found(alloc, alphabet, universe, label, alerts)?;
-        return Ok(false);
-    };
-    if !is_label_name(alloc, label.name()) {
-        // Absence alone stands for one class.
-        return Ok(is_one_class(&classes));
+    let mut missing = Vec::with_capacity(alloc, asked.len())?;
+    for label in asked {
+        missing.push(missing_at(alloc, alphabet, space, label, alerts)?)?;
     }
-    if !classes.all {
-        return Err(Kind::Limit);
-    }
-    let texts = representatives(alloc, alphabet, label, alerts, classes.texts)?;
-    declare_classes(alloc, alphabet, universe, label, texts.as_slice())?;
-    Ok(true)
+    Ok(missing)
 }
 
-/// Whether there is one class alone.
-fn is_one_class(classes: &ClassTexts) -> bool
-    requires { classes.now.all ≡ false → MAX_VALUES < vec_len classes.now.texts }
-    ensures yes { IsTrue result → IsTrue classes.now.all × (vec_len classes.now.texts ≤ 1) }
-    ensures no { result ≡ false → 1 < vec_len classes.now.texts }
+/// Adds the names of the labels that lack texts and that a universe does not declare.
+fn add_names<'n>(
+    names: &mut Vec<&'n str>,
+    universe: &Universe,
+    missing: &[Missing<'n>],
+) -> Result<(), AllocError>
+    ensures { OnOk result (map (λ n. n.now) names.new.items
+        ≡ map (λ n. n.now) names.old.items ++ names_to_declare universe.now missing.now) }
 {
-    classes.all && classes.texts.len() < 2
+    for label in missing {
+        if is_to_declare(universe, label) {
+            names.push(label.name())?;
+        }
+    }
+    Ok(())
 }
 
-/// Declares a label whose classes cannot be computed with texts that were found, where it has a
-/// label name.
-fn add_found(
+/// Whether a label lacks texts, and a universe does not declare it.
+fn is_to_declare(universe: &Universe, label: &Missing<'_>) -> bool
+    ensures { result ≡ is_to_declare universe.now label.now }
+{
+    !label.texts().is_empty() && universe.position(label.name()).is_none()
+}
+
+/// The universe whose labels have these names, each with the texts that stand for it in a space,
+/// and with those that it lacks there. `Limit` where there is no room for them; `Memory`.
+fn universe_of(
     alloc: Global,
-    alphabet: Alphabet,
-    universe: &mut Universe,
-    label: &AskedLabel<'_>,
-    alerts: Option<&Alerts>,
-) -> Result<(), Kind>
-    requires universe { IsUniverse universe.old }
-    requires on { IsTrue (is_label_name label.now.name)
-        → AllByRecursion (λ m. m.name ≡ label.now.name) label.now.matchers }
-    requires fresh { ¬ Contains (names universe.old) label.now.name }
-    ensures universe { OnOk result (IsUniverse universe.new) }
-    ensures others { OnOk result (IsWithAtMost alphabet universe.old universe.new label.now) }
+    space: &Space,
+    named: &[&str],
+    missing: &[Missing<'_>],
+) -> Result<Universe, Kind>
+    requires distinct { IsDistinct same_text (map (λ n. n.now) named.now) }
+    requires labels { AllByRecursion (CanBeDeclared space.now missing.now)
+        (map (λ n. n.now) named.now) }
+    ensures universe { IfOk result (λ universe. IsUniverse universe) }
+    ensures names { IfOk result (λ universe. names universe ≡ map (λ n. n.now) named.now) }
+    ensures whole { IfOk result (AllByRecursion (IsWhole space.now missing.now)) }
     ensures kind { IfErr result IsLimitOrMemory }
-    ensures limit { IfErr result (λ kind.
-        kind ≡ kinds.Limit → HasNoRoomIn alphabet universe.old label.now) }
+    ensures limit { IfErr result (λ kind. kind ≡ kinds.Limit
+        → AreTooLarge space.now missing.now (map (λ n. n.now) named.now)) }
 {
-    if !is_label_name(alloc, label.name()) {
-        return Ok(());
+    let mut universe = Universe::empty(alloc);
+    for name in named {
+        let texts = whole_texts(alloc, space, missing, name)?;
+        declare(alloc, &mut universe, name, texts.as_slice())?;
     }
-    let texts = found_texts(alloc, alphabet, label, alerts)?;
-    declare_classes(alloc, alphabet, universe, label, texts.as_slice())
+    Ok(universe)
 }
 
-/// Declares a label with these texts, each of another class, where there is more than one.
-fn declare_classes(
+/// The texts that stand in a space for the label of a name, and those that it lacks there.
+fn whole_texts(
     alloc: Global,
-    alphabet: Alphabet,
-    universe: &mut Universe,
-    label: &AskedLabel<'_>,
-    texts: &[String],
-) -> Result<(), Kind>
-    requires universe { IsUniverse universe.old }
-    requires named { IsTrue (is_label_name label.now.name) }
-    requires fresh { ¬ Contains (names universe.old) label.now.name }
-    requires apart { AreApart label.now.matchers (map string_bytes texts.now) }
-    requires over { AreOver alphabet (map string_bytes texts.now) }
-    ensures universe { OnOk result (IsUniverse universe.new) }
-    ensures stands { OnOk result (Covers alphabet label.now.matchers (map string_bytes texts.now)
-        → StandForAll alphabet label.now.matchers (label_texts universe.new label.now.name)) }
-    ensures others { OnOk result (IsWithAtMost alphabet universe.old universe.new label.now) }
-    ensures kind { IfErr result IsLimitOrMemory }
-    ensures limit { IfErr result (λ kind.
-        kind ≡ kinds.Limit → HasNoRoomIn alphabet universe.old label.now) }
+    space: &Space,
+    missing: &[Missing<'_>],
+    name: &str,
+) -> Result<Vec<String>, AllocError>
+    ensures { IfOk result (λ texts.
+        map string_bytes texts.items ≡ whole_texts space.now missing.now name.now) }
 {
-    if texts.len() < 2 {
-        return Ok(());
+    let mut texts = standing_texts(alloc, space, name)?;
+    if let Some(label) = missing_for(missing, name) {
+        add_texts(alloc, &mut texts, label.texts())?;
     }
-    declare(alloc, universe, label.name(), texts)
+    Ok(texts)
+}
+
+/// What the label of a name lacks, if it is asked of.
+fn missing_for<'a, 'm>(missing: &'a [Missing<'m>], name: &str) -> Option<&'a Missing<'m>>
+    ensures { option_map (λ m. m.now) result ≡ missing_for missing.now name.now }
+{
+    missing.iter().find(|label| label.name() == name)
+}
+
+/// Adds texts behind others.
+fn add_texts(alloc: Global, texts: &mut Vec<String>, more: &[String]) -> Result<(), AllocError>
+    ensures { OnOk result (map string_bytes texts.new.items
+        ≡ map string_bytes texts.old.items ++ map string_bytes more.now) }
+{
+    for text in more {
+        texts.push(String::from_str(alloc, text.as_str())?)?;
+    }
+    Ok(())
+}
+
+/// The positions of the labels of which it is not known that they lack no others.
+fn open_positions(alloc: Global, missing: &[Missing<'_>]) -> Result<Vec<usize>, AllocError>
+    ensures { IfOk result (λ positions. positions.items ≡ open_positions missing.now) }
+{
+    let mut positions = Vec::new(alloc);
+    for (i, label) in missing.iter().enumerate() {
+        if !label.all() {
+            positions.push(i)?;
+        }
+    }
+    Ok(positions)
 }
 
 /// Whether the text is a label name.

@@ -9,6 +9,8 @@ pub enum Origin {
     Rule(usize),
     /// In the silence at this position.
     Silence(usize),
+    /// In the question at this position.
+    Question(usize),
     /// In the impossible list at this position.
     Impossible(usize),
 }

@@ -1,11 +1,11 @@
 //! Which text stands for each class of a label's texts.
 
-ghost use Rattle.std.specs.Prelude.{◌≡◌, ◌<◌, ℕ, List, Some, IfOk, length, map};
+ghost use Rattle.std.specs.Prelude.{◌≡◌, ◌<◌, ℕ, List, Some, IfOk, length, map, Bool, true};
 ghost use Rattle.std.specs.Prelude.{slice_get, string_bytes};
 ghost use Rattle.std.specs.List.{AllByRecursion};
 ghost use Rattle.am_labels.specs.Words.{Condition};
 ghost use Rattle.am_classes.specs.declared.alphabet.Alphabet.{Alphabet};
-ghost use Rattle.am_complete.specs.Words.{AreAlike, AreApart, AreOver, IsOver, StandForAll};
+ghost use Rattle.am_complete.specs.Words.{AreAlike, AreClasses, AreOver, IsOver};
 ghost use Rattle.am_complete.specs.Truths.{AreAlikeEach};
 
 use crate::AskedLabel;
@@ -27,9 +27,9 @@ pub(crate) fn representatives(
     texts: Vec<String>,
 ) -> Result<Vec<String>, AllocError>
     requires on { AllByRecursion (λ m. m.name ≡ label.now.name) label.now.matchers }
-    requires stand { StandForAll alphabet label.now.matchers (map string_bytes texts.items) }
+    requires classes { AreClasses alphabet label.now.matchers (map string_bytes texts.items) true }
     ensures { IfOk result (λ chosen.
-        StandForAll alphabet label.now.matchers (map string_bytes chosen.items)) }
+        AreClasses alphabet label.now.matchers (map string_bytes chosen.items) true) }
 {
     let mut chosen = usual_where_alike(alloc, alphabet, label, alerts, texts)?;
     put_in_order(&mut chosen)?;
@@ -45,9 +45,9 @@ fn usual_where_alike(
     texts: Vec<String>,
 ) -> Result<Vec<String>, AllocError>
     requires on { AllByRecursion (λ m. m.name ≡ label.now.name) label.now.matchers }
-    requires stand { StandForAll alphabet label.now.matchers (map string_bytes texts.items) }
+    requires classes { AreClasses alphabet label.now.matchers (map string_bytes texts.items) true }
     ensures { IfOk result (λ chosen.
-        StandForAll alphabet label.now.matchers (map string_bytes chosen.items)) }
+        AreClasses alphabet label.now.matchers (map string_bytes chosen.items) true) }
 {
     let (name, matchers) = (label.name(), label.matchers());
     let usual = texts_over(alloc, alphabet, usual_texts(alloc, alerts, name)?)?;
@@ -109,14 +109,9 @@ fn chosen_text(
 
 /// Puts the texts of a label in order: absence before the others, and texts with a line feed last.
 pub(crate) fn put_in_order(texts: &mut Vec<String>) -> Result<(), AllocError>
-    ensures stand { (a : Alphabet) (ms : List Condition)
-        → StandForAll a ms (map string_bytes texts.old.items)
-        → StandForAll a ms (map string_bytes texts.new.items) }
-    ensures over { (a : Alphabet) → AreOver a (map string_bytes texts.old.items)
-        → AreOver a (map string_bytes texts.new.items) }
-    ensures apart { (ms : List Condition) → AreApart ms (map string_bytes texts.old.items)
-        → AreApart ms (map string_bytes texts.new.items) }
-    ensures length { length texts.new.items ≡ length texts.old.items }
+    ensures { (a : Alphabet) (ms : List Condition) (all : Bool)
+        → AreClasses a ms (map string_bytes texts.old.items) all
+        → AreClasses a ms (map string_bytes texts.new.items) all }
 {
     texts.sort_by_key(|text| rank_of(text.as_str()))
 }

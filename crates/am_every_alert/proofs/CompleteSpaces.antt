@@ -1,26 +1,31 @@
 -- Where a universe and a space are complete: by texts that cover all, and for matchers that are among
 -- others.
-use Rattle.std.proofs.Common.{◌≡◌, ◌≢◌, ℕ, List, [], ◌∷◌, ◌++◌, refl, ap}
+use Rattle.std.proofs.Common.{◌≡◌, ◌≢◌, ℕ, List, [], ◌∷◌, ◌++◌, refl, ap, subst, inl, inr}
+use Rattle.std.proofs.Common.{Contains}
 use Rattle.std.specs.List.{AllByRecursion}
 use Rattle.am_universe.specs.Universe.{Label, IsUniverse}
-use Rattle.am_universe.proofs.ListLemmas.{IsIn, AllByRecursion-at, AllByRecursion-each}
-use Rattle.am_labels.specs.Matcher.{Condition, holds}
+use Rattle.am_universe.proofs.ListLemmas.{IsIn, IsIn-from_Contains, AllByRecursion-at}
+use Rattle.am_universe.proofs.ListLemmas.{AllByRecursion-each, Contains-from_IsIn}
+use Rattle.am_labels.specs.Matcher.{Condition}
 use Rattle.am_labels.specs.Space.{Space}
 use Rattle.am_files.specs.ConfigFile.{Configuration}
+use Rattle.am_eval.specs.Question.{Question}
 use Rattle.am_eval.specs.World.{World}
 use Rattle.am_classes.specs.declared.alphabet.Alphabet.{Alphabet}
-use Rattle.am_classes.specs.Alike.{AreAlike, Covers}
+use Rattle.am_classes.specs.Alike.{Covers}
 use Rattle.am_complete.specs.Complete.{about, HasAlike, IsCompleteAt, IsComplete, AreAmong}
 use Rattle.am_complete.specs.Complete.{may_have, label_texts, IsSpaceCompleteAt, IsSpaceComplete}
 use Rattle.am_complete.specs.Complete.{impossible_conditions}
 use Rattle.am_asked.specs.Asked.{route_conditions, rule_conditions, equal_conditions}
-use Rattle.am_asked.specs.Asked.{silence_conditions, world_conditions}
+use Rattle.am_asked.specs.Asked.{silence_conditions, world_conditions, question_conditions}
+use Rattle.am_asked.specs.Asked.{questions_conditions}
 use Rattle.am_complete.proofs.Alike.{is_about, about_is, is_among}
-use Rattle.am_complete.proofs.AmongMatchers.{first_among, last_among, among_through}
+use Rattle.am_complete.proofs.AmongMatchers.{among_by, first_among, last_among, among_through}
 use Rattle.am_complete.proofs.CompleteUniverses.{complete_without_matchers, by_names}
 use Rattle.am_complete.proofs.CompleteUniverses.{space_complete_without_matchers}
 use Rattle.am_complete.proofs.LabelStates.{covered}
-use Rattle.am_every_alert.specs.Deciding.{coverage_conditions}
+use Rattle.am_complete.proofs.SameMatchers.{has_alike_among}
+use Rattle.am_every_alert.specs.Deciding.{coverage_conditions, asked_conditions}
 
 -- ---- By texts that cover all.
 
@@ -33,30 +38,18 @@ complete_by_cover a u ms name texts covers each text valid =
 
 -- ---- For fewer matchers.
 
--- what is alike to matchers is alike to some of them
-abbrev AreAlikeTo : List ℕ → List ℕ → Condition → Type 0
-AreAlikeTo x y m = holds m.op m.value x ≡ holds m.op m.value y
-
-alike_to_some : (ns ms : List Condition) (x y : List ℕ)
-    → ((m : Condition) → IsIn ns m → IsIn ms m) → AreAlike ms x y → AreAlike ns x y
-alike_to_some ns ms x y among h =
-    AllByRecursion-each (AreAlikeTo x y) ns
-    (λ m i. AllByRecursion-at (AreAlikeTo x y) ms m h (among m i))
-
--- and some of the matchers on a label are among all of them
+-- some of the matchers on a label are among all of them
 about_among : (name : List ℕ) (ns ms : List Condition) → AreAmong ns ms
-    → (m : Condition) → IsIn (about name ns) m → IsIn (about name ms) m
-about_among name ns ms among m i =
-    let r = about_is name ns m i in is_about name ms m (is_among ns ms m among r.0) r.1
+    → AreAmong (about name ns) (about name ms)
+about_among name ns ms among =
+    among_by (about name ns) (about name ms) (λ m i.
+    let r = about_is name ns m i in is_about name ms m (is_among ns ms m among r.0) r.1)
 
 pub complete_at_for_some : (a : Alphabet) (u : List Label) (ns ms : List Condition)
     (name : List ℕ) → AreAmong ns ms → IsCompleteAt a u ms name → IsCompleteAt a u ns name
 complete_at_for_some a u ns ms name among complete text valid =
-    let one = complete text valid in (
-      one.0,
-      one.1,
-      alike_to_some (about name ns) (about name ms) one.0 text (about_among name ns ms among) one.2,
-    )
+    has_alike_among (about name ns) (about name ms) (label_texts u name) text
+    (about_among name ns ms among) (complete text valid)
 
 pub complete_for_some : (a : Alphabet) (u : List Label) (ns ms : List Condition) → AreAmong ns ms
     → IsComplete a u ms → IsComplete a u ns
@@ -89,11 +82,8 @@ complete_universe a s ms none complete name some text valid =
 pub space_complete_for_some : (a : Alphabet) (s : Space) (ns ms : List Condition) → AreAmong ns ms
     → IsSpaceComplete a s ms → IsSpaceComplete a s ns
 space_complete_for_some a s ns ms among complete name some text valid possible =
-    let one = complete name some text valid possible in (
-      one.0,
-      one.1,
-      alike_to_some (about name ns) (about name ms) one.0 text (about_among name ns ms among) one.2,
-    )
+    has_alike_among (about name ns) (about name ms) (label_texts s.labels name) text
+    (about_among name ns ms among) (complete name some text valid possible)
 
 pub space_complete_by_names : (a : Alphabet) (s : Space) (ms : List Condition)
     → IsUniverse s.labels
@@ -117,18 +107,76 @@ routes_in_world w =
     (rule_conditions w.config.rules
     ++ (equal_conditions w.config.rules w.alerts ++ silence_conditions w.silences))
 
-pub complete_for_routes : (a : Alphabet) (s : Space) (w : World)
-    → IsSpaceComplete a s (world_conditions w ++ impossible_conditions s.impossible)
-    → IsSpaceComplete a s (coverage_conditions s w.config)
-complete_for_routes a s w complete =
-    let routes = route_conditions w.config.root in
-    let world = world_conditions w in
+among_itself : (ms : List Condition) → AreAmong ms ms
+among_itself ms =
+    AllByRecursion-each (Contains ms) ms (λ m i. Contains-from_IsIn ms m i)
+
+-- what is behind others, after the first of two further ones
+behind_more : (ms ns ks : List Condition) → AreAmong ks (ms ++ (ns ++ ks))
+behind_more ms ns ks =
+    among_through ks (ns ++ ks) (ms ++ (ns ++ ks)) (last_among ns ks) (last_among ms (ns ++ ks))
+
+pub complete_for_routes : (a : Alphabet) (s : Space) (c : Configuration) (ms ns : List Condition)
+    → AreAmong (route_conditions c.root) ms
+    → IsSpaceComplete a s (ms ++ (ns ++ impossible_conditions s.impossible))
+    → IsSpaceComplete a s (coverage_conditions s c)
+complete_for_routes a s c ms ns among complete =
+    let routes = route_conditions c.root in
     let lists = impossible_conditions s.impossible in
-    space_complete_for_some a s (coverage_conditions s w.config) (world ++ lists)
-    (both_among routes lists (world ++ lists)
-    (among_through routes world (world ++ lists) (routes_in_world w) (first_among world lists))
-    (last_among world lists))
-    complete
+    let all = ms ++ (ns ++ lists) in
+    space_complete_for_some a s (coverage_conditions s c) all
+    (both_among routes lists all (among_through routes ms all among (first_among ms (ns ++ lists)))
+    (behind_more ms ns lists)) complete
+
+pub complete_for_world : (a : Alphabet) (s : Space) (w : World) (questions : List Question)
+    → IsSpaceComplete a s
+    (world_conditions w ++ (questions_conditions questions ++ impossible_conditions s.impossible))
+    → IsSpaceComplete a s (coverage_conditions s w.config)
+complete_for_world a s w questions =
+    complete_for_routes a s w.config (world_conditions w) (questions_conditions questions)
+    (routes_in_world w)
+
+pub complete_for_routes_alone : (a : Alphabet) (s : Space) (c : Configuration)
+    (questions : List Question)
+    → IsSpaceComplete a s (route_conditions c.root
+    ++ (questions_conditions questions ++ impossible_conditions s.impossible))
+    → IsSpaceComplete a s (coverage_conditions s c)
+complete_for_routes_alone a s c questions =
+    complete_for_routes a s c (route_conditions c.root) (questions_conditions questions)
+    (among_itself (route_conditions c.root))
+
+-- ---- What is complete for questions is so for each of them.
+
+in_questions : (questions : List Question) (q : Question) → IsIn questions q
+    → AreAmong (question_conditions q) (questions_conditions questions)
+in_questions [] q i = absurd i
+in_questions (p ∷ questions) q (inl same) =
+    subst (λ (r : Question). AreAmong (question_conditions r)
+    (question_conditions p ++ questions_conditions questions)) same
+    (first_among (question_conditions p) (questions_conditions questions))
+in_questions (p ∷ questions) q (inr later) =
+    among_through (question_conditions q) (questions_conditions questions)
+    (question_conditions p ++ questions_conditions questions) (in_questions questions q later)
+    (last_among (question_conditions p) (questions_conditions questions))
+
+pub complete_for_question : (a : Alphabet) (s : Space) (w : World) (questions : List Question)
+    (q : Question) → Contains questions q
+    → IsSpaceComplete a s
+    (world_conditions w ++ (questions_conditions questions ++ impossible_conditions s.impossible))
+    → IsSpaceComplete a s (asked_conditions s w q)
+complete_for_question a s w questions q there complete =
+    let world = world_conditions w in
+    let asked = questions_conditions questions in
+    let lists = impossible_conditions s.impossible in
+    let all = world ++ (asked ++ lists) in
+    let one = question_conditions q in
+    let among = among_through one asked all
+    (in_questions questions q (IsIn-from_Contains questions q there))
+    (among_through asked (asked ++ lists) all (first_among asked lists)
+    (last_among world (asked ++ lists))) in
+    space_complete_for_some a s (asked_conditions s w q) all
+    (both_among world (one ++ lists) all (first_among world (asked ++ lists))
+    (both_among one lists all among (behind_more world asked lists))) complete
 
 -- where nothing is impossible
 pub complete_without_lists : (a : Alphabet) (u : List Label) (c : Configuration)

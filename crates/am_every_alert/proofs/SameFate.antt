@@ -20,7 +20,7 @@ use Rattle.am_eval.specs.Question.{Question, Simple, Any, Silenced, Inhibited, R
 use Rattle.am_eval.specs.Question.{Enters, Braces, holds_of, satisfies}
 use Rattle.am_files.specs.Path.{leads_through}
 use Rattle.am_universe.specs.Text.{same_text}
-use Rattle.am_every_alert.specs.Deciding.{simple_conditions, question_conditions}
+use Rattle.am_asked.specs.Asked.{simple_conditions, question_conditions}
 use Rattle.am_eval.proofs.HidingConditions.{same_values}
 use Rattle.am_every_alert.specs.EveryAlert.{MeetsTheSame, HaveTheSameFate}
 use Rattle.am_complete.specs.Complete.{AreAmong, impossible_conditions}

@@ -23,13 +23,13 @@ use Rattle.am_classes.specs.Alike.{AreAlike}
 use Rattle.am_classes.proofs.OverLemmas.{nil_over}
 use Rattle.am_complete.specs.Complete.{about, label_texts, HasAlike, IsComplete, IsSpaceComplete}
 use Rattle.am_complete.specs.Complete.{asks_only_of, matches_text, may_have}
-use Rattle.am_asked.specs.Asked.{route_conditions, world_conditions}
+use Rattle.am_asked.specs.Asked.{route_conditions, world_conditions, question_conditions}
 use Rattle.am_complete.specs.Complete.{impossible_conditions}
 use Rattle.am_complete.proofs.Alike.{alike_itself}
 use Rattle.am_complete.proofs.LabelTexts.{undeclared_texts}
 use Rattle.am_complete.proofs.CompleteUniverses.{alone_truth, takes_away}
 use Rattle.am_every_alert.specs.EveryAlert.{IsAlert, IsAlertOf, MeetsTheSame, HaveTheSameFate}
-use Rattle.am_every_alert.specs.Deciding.{coverage_conditions, question_conditions, asked_conditions}
+use Rattle.am_every_alert.specs.Deciding.{coverage_conditions, asked_conditions}
 use Rattle.am_every_alert.proofs.CompleteSpaces.{complete_space}
 use Rattle.am_every_alert.proofs.StandingChoice.{standing_choice}
 use Rattle.am_every_alert.proofs.SameFate.{front_met, rest_met, same_ends, same_receivers}

@@ -17,7 +17,7 @@ use Rattle.am_classes.specs.declared.alphabet.Alphabet.{Alphabet}
 use Rattle.am_classes.specs.Alphabet.{IsOver}
 use Rattle.am_complete.specs.Covering.{HasTextsOver}
 use Rattle.am_every_alert.specs.EveryAlert.{IsAlert}
-use Rattle.am_complete.proofs.MadeUniverses.{no_name}
+use Rattle.am_complete.proofs.AskedLabels.{no_name}
 
 abbrev found : List ℕ → List (List ℕ × List ℕ) → Option (List ℕ)
 found name pairs = find (slice_cmp nat_cmp) name pairs

@@ -16,9 +16,10 @@ ghost use Rattle.am_classes.specs.declared.alphabet.Alphabet.TheVariants.{Unicod
 ghost use Rattle.am_complete.specs.Words.{AreAlike, HasAlike, Covers, about, AreAmong};
 ghost use Rattle.am_complete.specs.Words.{IsCompleteAt, IsComplete, IsSpaceComplete};
 ghost use Rattle.am_complete.specs.Words.{impossible_conditions, AskedLabel, IsAskedOf};
-ghost use Rattle.am_complete.specs.Words.{HaveNoRoom, HasTextsOver};
+ghost use Rattle.am_complete.specs.Words.{HaveNoRoom, HasTextsOver, KeepsLabels};
 ghost use Rattle.am_asked.specs.Words.{route_conditions, rule_conditions, equal_conditions};
 ghost use Rattle.am_asked.specs.Words.{silence_conditions, world_conditions};
+ghost use Rattle.am_asked.specs.Words.{questions_conditions};
 ghost use Rattle.am_coverage.specs.declared.coverage.RouteCoverage.TheVariants as route_is;
 ghost use Rattle.am_coverage.specs.declared.coverage.ReceiverCoverage.TheVariants as receiver_is;
 ghost use Rattle.am_coverage.specs.Words.{IsDead, IsNeverEntered, IsUnmatched};
@@ -241,13 +242,23 @@ pub fn parts_of_matchers_are_among_them()
         → AreAmong ks ns → AreAmong ns ms → AreAmong ks ms }
 {}
 
-/// What is complete for a world and for what is impossible is complete, over the same alphabet, for
-/// the routes and for what is impossible. Where nothing is, it is enough to be complete for
+/// What is complete for a world, or for routes, for questions and for what is impossible is
+/// complete, over the same alphabet, for the routes and for what is impossible; and, if for a
+/// world, for each of the questions. Where nothing is impossible, it is enough to be complete for
 /// matchers with those of the routes among them.
 pub fn what_is_complete_for_a_world_is_so_for_its_routes()
-    ensures routes { (a : Alphabet) (s : Space) (w : World)
-        → IsSpaceComplete a s (world_conditions w ++ impossible_conditions s.impossible)
+    ensures routes { (a : Alphabet) (s : Space) (w : World) (questions : List Question)
+        → IsSpaceComplete a s (world_conditions w
+        ++ (questions_conditions questions ++ impossible_conditions s.impossible))
         → IsSpaceComplete a s (coverage_conditions s w.config) }
+    ensures routes_alone { (a : Alphabet) (s : Space) (c : Configuration)
+        (questions : List Question) → IsSpaceComplete a s (route_conditions c.root
+        ++ (questions_conditions questions ++ impossible_conditions s.impossible))
+        → IsSpaceComplete a s (coverage_conditions s c) }
+    ensures question { (a : Alphabet) (s : Space) (w : World) (questions : List Question)
+        (q : Question) → Contains questions q → IsSpaceComplete a s (world_conditions w
+        ++ (questions_conditions questions ++ impossible_conditions s.impossible))
+        → IsSpaceComplete a s (asked_conditions s w q) }
     ensures all_possible { (a : Alphabet) (u : List Label) (c : Configuration) (ms : List Condition)
         → AreAmong (route_conditions c.root) ms → IsComplete a u ms
         → IsComplete a u (coverage_conditions (record { labels = u; impossible = [] }) c) }
@@ -290,10 +301,12 @@ pub fn an_example_of_completeness()
     ensures not_over_unicode { ¬ IsComplete Unicode (team_universe absent_alone) (any_line ∷ []) }
 {}
 
-/// Where there is no room for the labels that matchers ask of, each with its classes of texts over
-/// an alphabet, no universe is complete for these matchers over this alphabet.
+/// Where there is no room beside a space for the labels that matchers ask of, and those of its
+/// impossible lists are among these matchers, no universe that keeps the labels of the space is
+/// complete for them over the alphabet, where the same lists are impossible.
 pub fn what_has_no_room_has_no_complete_universe()
-    ensures none { (a : Alphabet) (asked : List AskedLabel) (ms : List Condition)
-        (u : List Label) → IsUniverse u → IsAskedOf asked ms → HaveNoRoom a asked
-        → ¬ IsComplete a u ms }
+    ensures none { (a : Alphabet) (s : Space) (asked : List AskedLabel) (ms : List Condition)
+        (v : List Label) → IsUniverse v → KeepsLabels s.labels v → IsAskedOf asked ms
+        → AreAmong (impossible_conditions s.impossible) ms → HaveNoRoom a s asked
+        → ¬ IsSpaceComplete a (record { labels = v; impossible = s.impossible }) ms }
 {}

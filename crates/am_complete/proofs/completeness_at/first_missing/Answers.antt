@@ -1,19 +1,20 @@
-use Rattle.std.proofs.Common.{◌<◌, [], length, get_or, arith}
-use Rattle.std.proofs.lemmas.Option.{slice_get-get_or}
-use Rattle.am_classes.specs.Alike.{HasAlikeIn}
-use Rattle.am_complete.proofs.ChosenTexts.{found_among}
-use Rattle.am_complete.proofs.Pushed.{one_more_passes}
+use Rattle.std.proofs.Common.{map, string_bytes, sym, ◌∙◌, arith}
+use Rattle.am_complete.specs.Complete.{label_texts}
+use Rattle.am_complete.proofs.NeededTexts.{first_new, none_new}
 use Rattle.am_complete.proofs.completeness_at.first_missing.Goals as goal
 
-pub loop-j-preserved : goal.loop-j-preserved
-loop-j-preserved c =
-    let ms = c.args.have.now.matchers in
-    let have = c.args.have.now.texts in
-    let texts = c.args.wanted.now.texts in
-    let j = c.loop-j.j in
-    let inside : j < length texts = omega (arith, c.loop-j-test.true, c.len-j-end.ensures) in
-    let y = get_or texts j [] in
-    let at_y = slice_get-get_or texts j [] inside in
-    one_more_passes (HasAlikeIn ms have) texts j y at_y c.loop-j.invariant
-    (found_among ms have texts j y c.first_alike.result at_y c.first_alike.ensures.some
-    c.if-is_none.ensures)
+pub returns-clause-missing : goal.returns-clause-missing
+returns-clause-missing c =
+    let l = c.args.label.now in
+    first_new l.matchers (label_texts c.args.universe.now l.name)
+    (map string_bytes c.args.texts.now) c.in_ok-missing.missing.items c.next.new.self.rest.items
+    c.next.result c.in_ok-missing.ensures
+    (sym c.into_iter.ensures.rest ∙ c.next.ensures.items)
+
+pub returns-clause-none : goal.returns-clause-none
+returns-clause-none c =
+    let l = c.args.label.now in
+    let news = c.in_ok-missing.missing in
+    none_new l.matchers (label_texts c.args.universe.now l.name)
+    (map string_bytes c.args.texts.now) news.items c.next.result c.in_ok-missing.ensures
+    (λ some. c.next.ensures.variant.1 (omega (arith, some, news.ok.0, c.into_iter.ensures.len)))

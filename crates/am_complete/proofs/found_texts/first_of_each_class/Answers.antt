@@ -38,7 +38,6 @@ loop-j-preserved c =
       from = λ text i.
           one_more tried.texts before c.loop-j.j x at c.loop-j.invariant.from text
           (subst (λ (ts : List (List ℕ)). IsIn ts text) texts i);
-      few = omega (arith, c.loop-j.invariant.few, c.in_ok-push.ensures.len);
     }
 
 pub returns-clause-over : goal.returns-clause-over

@@ -1,7 +1,13 @@
-use Rattle.std.proofs.Common.{take}
-use Rattle.am_complete.proofs.MadeUniverses.{IsMadeOf}
+use Rattle.std.proofs.Common.{◌≡◌, map, take}
+use Rattle.std.specs.List.{AllByRecursion}
+use Rattle.am_universe.specs.Universe.{IsUniverse, names}
+use Rattle.am_complete.specs.Missing.{IsWhole}
 use Rattle.am_complete.proofs.made_universe.universe_of.Given as goal
 
--- the universe is made of the labels so far
-abbrev pub invariant-loop-i : goal.invariant-loop-i
-invariant-loop-i l = IsMadeOf l.alphabet l.universe (take l.i l.asked) l.unproved.items
+-- the labels so far have the names so far, and their texts
+abbrev pub invariant-loop-name : goal.invariant-loop-name
+invariant-loop-name l = record {
+  universe : IsUniverse l.universe;
+  names : names l.universe ≡ take l.name-index (map (λ n. n.now) l.named);
+  whole : AllByRecursion (IsWhole l.space l.missing) l.universe;
+}

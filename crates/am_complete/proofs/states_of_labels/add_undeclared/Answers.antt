@@ -1,6 +1,7 @@
 use Rattle.std.proofs.Common.{option_map}
 use Rattle.am_universe.proofs.Members.{in_at}
-use Rattle.am_complete.proofs.LabelStates.{asked_for, stands_at, state_names, states_so}
+use Rattle.am_complete.proofs.AskedLabels.{asked_for}
+use Rattle.am_complete.proofs.LabelStates.{stands_at, state_names, states_so}
 use Rattle.am_complete.proofs.states_of_labels.add_undeclared.Goals as goal
 
 pub add_if_undeclared-requires : goal.add_if_undeclared-requires

@@ -4,7 +4,8 @@ use Rattle.am_universe.proofs.Members.{in_at}
 use Rattle.am_complete.specs.AskedLabel.{asked_names}
 use Rattle.am_complete.specs.FoundState.{is_unseen}
 use Rattle.am_complete.proofs.GatheringLemmas.{named_at, within_names}
-use Rattle.am_complete.proofs.LabelStates.{asked_for, stands_at, state_is_so, not_asked}
+use Rattle.am_complete.proofs.AskedLabels.{asked_for, not_asked}
+use Rattle.am_complete.proofs.LabelStates.{stands_at, state_is_so}
 use Rattle.am_complete.proofs.states_of_labels.declared_state.Goals as goal
 
 pub asked_state-requires : goal.asked_state-requires

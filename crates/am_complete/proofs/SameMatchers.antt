@@ -1,0 +1,116 @@
+-- Equal matchers of a label, and lists that have the same matchers.
+use Rattle.std.proofs.Common.{◌≡◌, ℕ, true, List, refl}
+use Rattle.std.specs.Prelude.{IsTrue}
+use Rattle.std.specs.Cmp.Lexicographic.{bytes_decides}
+use Rattle.std.proofs.lemmas.Bool.{and_parts}
+use Rattle.am_universe.specs.Text.{same_text}
+use Rattle.am_universe.proofs.ListLemmas.{IsIn, IsIn-from_Contains, Contains-from_IsIn}
+use Rattle.am_universe.proofs.ListLemmas.{AllByRecursion-each, AllByRecursion-at}
+use Rattle.am_labels.specs.declared.op.Op.{Op}
+use Rattle.am_labels.specs.declared.op.Op.TheVariants.{Equal, NotEqual, Matches, NotMatches}
+use Rattle.am_labels.specs.Matcher.{Condition, holds}
+use Rattle.am_labels.specs.Space.{Space}
+use Rattle.am_classes.specs.declared.alphabet.Alphabet.{Alphabet}
+use Rattle.am_classes.specs.Alike.{AreAlike, HasAlikeIn, AreApart, HasPattern}
+use Rattle.am_complete.specs.Complete.{AreAmong, HaveSameMatchers}
+use Rattle.am_complete.specs.AskedLabel.{same_op, asks_same}
+use Rattle.am_complete.specs.Covering.{ArePossible, CoverPossible, standing_texts}
+use Rattle.am_complete.specs.Covering.{AreNeeded}
+use Rattle.am_complete.specs.LabelState.{HasClasses}
+use Rattle.am_complete.proofs.Alike.{is_among}
+use Rattle.am_complete.proofs.AmongMatchers.{among_by}
+
+-- ---- Equal matchers.
+
+op_is : (o p : Op) → same_op o p ≡ true → o ≡ p
+op_is Equal Equal h = refl
+op_is NotEqual NotEqual h = refl
+op_is Matches Matches h = refl
+op_is NotMatches NotMatches h = refl
+op_is o p h = absurd (cc)
+
+-- equal matchers on one label are one
+pub equal_is : (m n : Condition) → m.name ≡ n.name → IsTrue (asks_same m n) → m ≡ n
+equal_is m n named h =
+    let both = and_parts (same_op m.op n.op) (same_text m.value n.value) h in
+    let op = op_is m.op n.op both.0 in
+    let value = (bytes_decides m.value n.value).0 both.1 in
+    λ i. record { name = named i; op = op i; value = value i }
+
+-- ---- The same matchers.
+
+pub same_by : (ns ms : List Condition) → ((m : Condition) → IsIn ns m → IsIn ms m)
+    → ((m : Condition) → IsIn ms m → IsIn ns m) → HaveSameMatchers ns ms
+same_by ns ms to from = record { there = among_by ns ms to; back = among_by ms ns from }
+
+pub in_there : (ns ms : List Condition) (m : Condition) → HaveSameMatchers ns ms → IsIn ns m
+    → IsIn ms m
+in_there ns ms m same i = is_among ns ms m same.there i
+
+pub in_back : (ns ms : List Condition) (m : Condition) → HaveSameMatchers ns ms → IsIn ms m
+    → IsIn ns m
+in_back ns ms m same i = is_among ms ns m same.back i
+
+-- ---- What texts are to matchers, they are to those among them, or to those that they are among.
+
+pub alike_among : (ns ms : List Condition) (x y : List ℕ) → AreAmong ns ms → AreAlike ms x y
+    → AreAlike ns x y
+alike_among ns ms x y among h =
+    AllByRecursion-each (λ m. holds m.op m.value x ≡ holds m.op m.value y) ns (λ m i.
+    AllByRecursion-at (λ m. holds m.op m.value x ≡ holds m.op m.value y) ms m h
+    (is_among ns ms m among i))
+
+pub has_alike_among : (ns ms : List Condition) (texts : List (List ℕ)) (text : List ℕ)
+    → AreAmong ns ms → HasAlikeIn ms texts text → HasAlikeIn ns texts text
+has_alike_among ns ms texts text among h = (h.0, h.1, alike_among ns ms h.0 text among h.2)
+
+pub apart_among : (ns ms : List Condition) (texts : List (List ℕ)) → AreAmong ns ms
+    → AreApart ns texts → AreApart ms texts
+apart_among ns ms texts among apart i j x y at_x at_y alike =
+    apart i j x y at_x at_y (alike_among ns ms x y among alike)
+
+pub cover_among : (a : Alphabet) (impossible : List (List Condition)) (name : List ℕ)
+    (ns ms : List Condition) (texts : List (List ℕ)) → AreAmong ns ms
+    → CoverPossible a impossible name ms texts → CoverPossible a impossible name ns texts
+cover_among a impossible name ns ms texts among cover text over possible =
+    has_alike_among ns ms texts text among (cover text over possible)
+
+pub pattern_among : (ns ms : List Condition) → AreAmong ns ms → HasPattern ns → HasPattern ms
+pattern_among ns ms among h = (
+  h.0,
+  Contains-from_IsIn ms h.0 (is_among ns ms h.0 among (IsIn-from_Contains ns h.0 h.1)),
+  h.2,
+)
+
+pub possible_among : (a : Alphabet) (impossible : List (List Condition)) (name : List ℕ)
+    (ns ms : List Condition) (texts : List (List ℕ)) → AreAmong ns ms
+    → ArePossible a impossible name ns texts → ArePossible a impossible name ms texts
+possible_among a impossible name ns ms texts among h = record {
+  over = h.over;
+  possible = h.possible;
+  apart = apart_among ns ms texts among h.apart;
+}
+
+pub same_classes : (a : Alphabet) (impossible : List (List Condition)) (name : List ℕ)
+    (ns ms : List Condition) (n : ℕ) → HaveSameMatchers ns ms
+    → HasClasses a impossible name ns n → HasClasses a impossible name ms n
+same_classes a impossible name ns ms n same h = (
+  h.0,
+  record {
+    cover = cover_among a impossible name ms ns h.0 same.back h.1.cover;
+    possible = possible_among a impossible name ns ms h.0 same.there h.1.possible;
+  },
+  h.2,
+)
+
+pub same_needed : (a : Alphabet) (s : Space) (name : List ℕ) (ns ms : List Condition)
+    (texts : List (List ℕ)) → HaveSameMatchers ns ms → AreNeeded a s name ns texts
+    → AreNeeded a s name ms texts
+same_needed a s name ns ms texts same h =
+    let standing = standing_texts s name in
+    record {
+      possible = possible_among a s.impossible name ns ms texts same.there h.possible;
+      new = AllByRecursion-each (λ text. HasAlikeIn ms standing text → ⊥) texts (λ text i alike.
+          AllByRecursion-at (λ text. HasAlikeIn ns standing text → ⊥) texts text h.new i
+          (has_alike_among ns ms standing text same.there alike));
+    }

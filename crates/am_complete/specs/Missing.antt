@@ -1,0 +1,87 @@
+-- What the labels that are asked of lack in a space, and the labels that are made of it.
+use Rattle.std.specs.Prelude.{◌≡◌, ◌≢◌, ◌⊎◌, ◌<◌, ℕ, List, [], ◌∷◌, ◌++◌, map, length, Contains}
+use Rattle.std.specs.Prelude.{Option, Some, None, Bool, true, false, not, ◌&&◌, IsTrue}
+use Rattle.std.specs.List.{find, filter, AllZip, IsDistinct, enumerate_from}
+use Rattle.am_universe.specs.declared.limits.TheConstants.{MAX_LABELS, MAX_VALUES}
+use Rattle.am_universe.specs.Text.{same_text}
+use Rattle.am_universe.specs.Universe.{Label, is_label_name}
+use Rattle.am_labels.specs.Space.{Space}
+use Rattle.am_classes.specs.declared.alphabet.Alphabet.{Alphabet}
+use Rattle.am_classes.specs.Alike.{HasPattern}
+use Rattle.am_labels.specs.Matcher.{Condition}
+use Rattle.am_complete.specs.Complete.{texts_of_label}
+use Rattle.am_complete.specs.AskedLabel.{AskedLabel}
+use Rattle.am_complete.specs.Covering.{ArePossible, AreNeeded, CoverPossible, standing_texts}
+use Rattle.am_complete.specs.LabelState.{is_declared}
+use Rattle.am_complete.specs.Room.{MayBeUnproved}
+
+-- Some texts are of classes that a label may have, and cover all that it may have where they are of
+-- all classes. They always are where no matcher on it takes a pattern.
+pub record ArePossibleClasses (a : Alphabet) (impossible : List (List Condition)) (l : AskedLabel)
+    (texts : List (List ℕ)) (all : Bool) : Type 0 where
+  pub possible : ArePossible a impossible l.name l.matchers texts
+  pub cover : l.name ≢ [] → IsTrue all → CoverPossible a impossible l.name l.matchers texts
+  pub pattern : all ≡ false → HasPattern l.matchers
+
+-- The texts that a label lacks, by its name, and whether these are all that it lacks.
+pub record MissingTexts : Type 0 where
+  pub name : List ℕ
+  pub texts : List (List ℕ)
+  pub all : Bool
+
+-- It lacks them in a space. Where they are all, they and those that stand there cover all that it
+-- may have. A label that no universe can declare is not made to lack texts.
+pub record IsMissingAt (a : Alphabet) (s : Space) (l : AskedLabel)
+    (m : MissingTexts) : Type 0 where
+  pub name : m.name ≡ l.name
+  pub needed : AreNeeded a s l.name l.matchers m.texts
+  pub cover : l.name ≢ [] → IsTrue m.all
+      → CoverPossible a s.impossible l.name l.matchers (standing_texts s l.name ++ m.texts)
+  pub unproved : m.all ≡ false → MayBeUnproved a s l
+  pub named : m.texts ≢ [] → IsTrue (is_label_name l.name)
+
+abbrev pub AreMissing : Alphabet → Space → List AskedLabel → List MissingTexts → Type 0
+AreMissing a s asked missing = AllZip (IsMissingAt a s) asked missing
+
+-- The texts that the label of a name lacks: none where it is not asked of.
+abbrev pub texts_of_missing : Option MissingTexts → List (List ℕ)
+texts_of_missing None = []
+texts_of_missing (Some m) = m.texts
+
+abbrev pub missing_for : List MissingTexts → List ℕ → Option MissingTexts
+missing_for missing name = find (λ m. same_text m.name name) missing
+
+-- The texts of the label of a name: those that stand in a space, and behind them those that it
+-- lacks there.
+abbrev pub whole_texts : Space → List MissingTexts → List ℕ → List (List ℕ)
+whole_texts s missing name = standing_texts s name ++ texts_of_missing (missing_for missing name)
+
+abbrev pub IsWhole : Space → List MissingTexts → Label → Type 0
+IsWhole s missing l = texts_of_label (Some l) ≡ whole_texts s missing l.name
+
+-- The names of the labels that lack texts and that a universe does not declare.
+abbrev pub has_some : List (List ℕ) → Bool
+has_some [] = false
+has_some (t ∷ texts) = true
+
+abbrev pub is_to_declare : List Label → MissingTexts → Bool
+is_to_declare u m = has_some m.texts && not (is_declared u m.name)
+
+abbrev pub names_to_declare : List Label → List MissingTexts → List (List ℕ)
+names_to_declare u missing = map (λ m. m.name) (filter (is_to_declare u) missing)
+
+-- Labels of such names can stand in one universe, if there is room for them.
+abbrev pub CanBeDeclared : Space → List MissingTexts → List ℕ → Type 0
+CanBeDeclared s missing name =
+    IsTrue (is_label_name name) × (whole_texts s missing name ≢ [])
+    × IsDistinct same_text (whole_texts s missing name)
+
+-- There is none: one has more texts than a label may have values, or they are too many.
+abbrev pub AreTooLarge : Space → List MissingTexts → List (List ℕ) → Type 0
+AreTooLarge s missing ns =
+    (MAX_LABELS < length ns)
+    ⊎ ((name : List ℕ) × Contains ns name × (MAX_VALUES < length (whole_texts s missing name)))
+
+-- The positions of those of which not all is known, in order.
+abbrev pub open_positions : List MissingTexts → List ℕ
+open_positions missing = map (λ p. p.0) (filter (λ p. not p.1.all) (enumerate_from 0 missing))

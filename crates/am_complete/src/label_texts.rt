@@ -1,0 +1,66 @@
+//! The texts that a label has in a universe, and those that stand for it in a space.
+
+ghost use Rattle.std.specs.Prelude.{◌≡◌, ◌<◌, ◌∷◌, [], IfOk, length, map, string_bytes};
+ghost use Rattle.std.specs.Prelude.{unwrap_or};
+ghost use Rattle.am_labels.specs.Words.{values_at};
+ghost use Rattle.am_complete.specs.Words.{label_texts, standing_texts};
+
+use crate::possible_texts::possible_texts;
+use am_labels::{Space, Universe};
+use std::alloc::{AllocError, Global};
+
+/// The texts that a label has in a universe, absence being the empty text: absence alone where it
+/// is not declared.
+pub(crate) fn texts_in(
+    alloc: Global,
+    universe: &Universe,
+    name: &str,
+) -> Result<Vec<String>, AllocError>
+    ensures { IfOk result (λ texts.
+        map string_bytes texts.items ≡ label_texts universe.now name.now) }
+{
+    match universe.position(name) {
+        Some(i) => values_in(alloc, universe, i),
+        None => absence_alone(alloc),
+    }
+}
+
+/// The texts that stand in a space for a label: those that it has, but absence where it is not
+/// declared and has to be there.
+pub(crate) fn standing_texts(
+    alloc: Global,
+    space: &Space,
+    name: &str,
+) -> Result<Vec<String>, AllocError>
+    ensures { IfOk result (λ texts.
+        map string_bytes texts.items ≡ standing_texts space.now name.now) }
+{
+    match space.universe().position(name) {
+        Some(i) => values_in(alloc, space.universe(), i),
+        None => possible_texts(alloc, space.impossible(), name, absence_alone(alloc)?),
+    }
+}
+
+/// The empty text alone.
+fn absence_alone(alloc: Global) -> Result<Vec<String>, AllocError>
+    ensures { IfOk result (λ texts. map string_bytes texts.items ≡ [] ∷ []) }
+{
+    let mut texts = Vec::with_capacity(alloc, 1)?;
+    texts.push(String::new(alloc))?;
+    Ok(texts)
+}
+
+/// The texts of the label at `i`.
+fn values_in(alloc: Global, universe: &Universe, i: usize) -> Result<Vec<String>, AllocError>
+    requires { i < length universe.now }
+    ensures { IfOk result (λ texts. map string_bytes texts.items
+        ≡ map (λ v. unwrap_or v []) (values_at universe.now i)) }
+{
+    let size = universe.size(i);
+    let mut texts = Vec::with_capacity(alloc, size)?;
+    for j in 0..size {
+        let text = universe.value(i, j).unwrap_or("");
+        texts.push(String::from_str(alloc, text)?)?;
+    }
+    Ok(texts)
+}
