@@ -1,11 +1,10 @@
 -- The labels that gathered matchers make are those that the matchers ask of.
-use Rattle.std.proofs.Common.{◌≡◌, ◌≢◌, ℕ, Bool, true, false, cond, List, [], ◌∷◌, ◌++◌, map, ◌||◌}
+use Rattle.std.proofs.Common.{◌≡◌, ◌≢◌, ℕ, Bool, true, false, cond, List, [], ◌∷◌, ◌++◌, map, ◌||◌, ◌⊎◌}
 use Rattle.std.proofs.Common.{fold, Contains, refl, sym, ap, ◌∙◌, subst, inl, inr, append_assoc}
 use Rattle.std.specs.List.{AllByRecursion, IsDistinct, list_any, filter}
 use Rattle.std.specs.Cmp.Lexicographic.{bytes_decides}
 use Rattle.std.proofs.lemmas.Bool.{both_ways, cases_Bool, false_from_ne_true}
 use Rattle.std.proofs.lemmas.List.{map-append, append-nil}
-use Rattle.std.proofs.lemmas.List.Elements.{filter-append}
 use Rattle.am_universe.specs.Text.{same_text}
 use Rattle.am_universe.proofs.ListLemmas.{IsIn, IsIn-left, IsIn-right, IsIn-map, IsIn-unmap}
 use Rattle.am_universe.proofs.ListLemmas.{Contains-from_IsIn, AllByRecursion-each}
@@ -14,17 +13,25 @@ use Rattle.am_universe.proofs.DistinctLists.{all_push, distinct_none, distinct_p
 use Rattle.am_labels.specs.Matcher.{Condition}
 use Rattle.am_labels.proofs.Passing.{any_in, in_any, passes_from_kept, kept_from_passes}
 use Rattle.am_complete.specs.declared.origin.Origin.{Origin}
-use Rattle.am_complete.specs.Complete.{about}
+use Rattle.am_complete.specs.Complete.{about, HaveSameMatchers}
 use Rattle.am_complete.specs.AskedLabel.{AskedLabel, asked_names, and_asked, label_of, with_asked}
-use Rattle.am_complete.specs.AskedLabel.{asked_labels, IsAskedOf}
+use Rattle.am_complete.specs.AskedLabel.{asks_same, with_matcher, asked_labels, IsAskedOf}
 use Rattle.am_complete.specs.FoundState.{begins}
+use Rattle.am_complete.proofs.Alike.{about_is, is_about}
+use Rattle.am_complete.proofs.GatheringLemmas.{with_matcher_name}
+use Rattle.am_complete.proofs.Pushed.{in_pushed}
+use Rattle.am_complete.proofs.SameMatchers.{equal_is, same_by, in_there, in_back}
 use Rattle.am_asked.specs.Placed.{is_named}
 use Rattle.am_asked.proofs.PlacedConditions.{conditions_of, SameNamed}
+
+-- a label has the same matchers as stand on it
+abbrev HasThoseOn : List Condition → AskedLabel → Type 0
+HasThoseOn ms l = HaveSameMatchers l.matchers (about l.name ms)
 
 -- each label has a name of its own and the matchers on it, and none is missing
 record Gathers (labels : List AskedLabel) (ms : List Condition) : Type 0 where
   distinct : IsDistinct same_text (asked_names labels)
-  matchers : AllByRecursion (λ l. l.matchers ≡ about l.name ms) labels
+  matchers : AllByRecursion (HasThoseOn ms) labels
   every : AllByRecursion (λ m. IsIn (asked_names labels) m.name) ms
 
 -- a text without a first byte, and one with
@@ -38,29 +45,74 @@ some_text (c ∷ cs) h = refl
 
 -- ---- One matcher more.
 
--- the matchers on a name, with one more, which is on it or not
-about_push : (name : List ℕ) (ms : List Condition) (m : Condition)
-    → about name (ms ++ m ∷ []) ≡ about name ms ++ cond (same_text m.name name) (m ∷ []) []
-about_push name ms m = filter-append (λ x. same_text x.name name) ms (m ∷ [])
+-- of the matchers on a name, with one more
+on_front : (name : List ℕ) (ms : List Condition) (m x : Condition) → IsIn (about name ms) x
+    → IsIn (about name (ms ++ m ∷ [])) x
+on_front name ms m x i =
+    let r = about_is name ms x i in
+    is_about name (ms ++ m ∷ []) x (IsIn-left ms (m ∷ []) x r.0) r.1
 
-about_same : (name : List ℕ) (ms : List Condition) (m : Condition) → m.name ≡ name
-    → about name (ms ++ m ∷ []) ≡ about name ms ++ m ∷ []
-about_same name ms m e =
-    about_push name ms m
-    ∙ ap (λ b. about name ms ++ cond b (m ∷ []) []) ((bytes_decides m.name name).1 e)
+on_last : (name : List ℕ) (ms : List Condition) (m x : Condition) → m.name ≡ name → m ≡ x
+    → IsIn (about name (ms ++ m ∷ [])) x
+on_last name ms m x named is =
+    subst (IsIn (about name (ms ++ m ∷ []))) is
+    (is_about name (ms ++ m ∷ []) m (IsIn-right ms (m ∷ []) m (inl refl)) named)
 
-about_other : (name : List ℕ) (ms : List Condition) (m : Condition)
-    → same_text name m.name ≡ false → about name (ms ++ m ∷ []) ≡ about name ms
-about_other name ms m e =
-    let other = false_from_ne_true (same_text m.name name) (λ same.
-    both_ways (same_text name m.name) e
-    ((bytes_decides name m.name).1 (sym ((bytes_decides m.name name).0 same)))) in
-    about_push name ms m ∙ ap (λ b. about name ms ++ cond b (m ∷ []) []) other
-    ∙ append-nil (about name ms)
+on_either : (name : List ℕ) (ms : List Condition) (m x : Condition)
+    → IsIn (about name (ms ++ m ∷ [])) x
+    → IsIn (about name ms) x ⊎ ((m ≡ x) × (m.name ≡ name))
+on_either name ms m x i =
+    let r = about_is name (ms ++ m ∷ []) x i in
+    elim (in_pushed ms m x r.0) [
+      | inl before ↦ inl (is_about name ms x before r.1)
+      | inr is ↦ inr (is, ap (λ n. n.name) is ∙ r.1)
+    ]
+
+-- a label with another name has the same
+stays : (m : Condition) (ms : List Condition) (l : AskedLabel) → same_text l.name m.name ≡ false
+    → HasThoseOn ms l → HasThoseOn (ms ++ m ∷ []) l
+stays m ms l other h =
+    same_by l.matchers (about l.name (ms ++ m ∷ []))
+    (λ x i. on_front l.name ms m x (in_there l.matchers (about l.name ms) x h i))
+    (λ x i. elim (on_either l.name ms m x i) [
+      | inl before ↦ in_back l.matchers (about l.name ms) x h before
+      | inr last ↦
+          absurd (both_ways (same_text l.name m.name) other
+          ((bytes_decides l.name m.name).1 (sym last.1)))
+    ])
+
+-- that of its name has it too, once
+gains_it : (m : Condition) (ms : List Condition) (l : AskedLabel) → m.name ≡ l.name
+    → HasThoseOn ms l
+    → HaveSameMatchers (with_matcher m l).matchers (about l.name (ms ++ m ∷ []))
+gains_it m ms l named h =
+    let on = about l.name ms in
+    elim (cases_Bool (list_any (asks_same m) l.matchers)) [
+      | inl some ↦
+          let found = any_in (asks_same m) l.matchers some in
+          let there = about_is l.name ms found.0 (in_there l.matchers on found.0 h found.1) in
+          let is = equal_is m found.0 (named ∙ sym there.1) found.2 in
+          rw some (same_by l.matchers (about l.name (ms ++ m ∷ []))
+          (λ x i. on_front l.name ms m x (in_there l.matchers on x h i))
+          (λ x i. elim (on_either l.name ms m x i) [
+            | inl before ↦ in_back l.matchers on x h before
+            | inr last ↦ subst (IsIn l.matchers) (sym is ∙ last.0) found.1
+          ]))
+      | inr none ↦
+          rw none (same_by (l.matchers ++ m ∷ []) (about l.name (ms ++ m ∷ []))
+          (λ x i. elim (in_pushed l.matchers m x i) [
+            | inl before ↦ on_front l.name ms m x (in_there l.matchers on x h before)
+            | inr last ↦ on_last l.name ms m x named last
+          ])
+          (λ x i. elim (on_either l.name ms m x i) [
+            | inl before ↦ IsIn-left l.matchers (m ∷ []) x (in_back l.matchers on x h before)
+            | inr last ↦ IsIn-right l.matchers (m ∷ []) x (inl last.0)
+          ]))
+    ]
 
 name_stays : (m : Condition) (l : AskedLabel) → (and_asked m l).name ≡ l.name
 name_stays m l = elim (cases_Bool (same_text l.name m.name)) [
-  | inl same ↦ rw same refl
+  | inl same ↦ rw same (with_matcher_name m l)
   | inr other ↦ rw other refl
 ]
 
@@ -69,18 +121,18 @@ names_stay : (m : Condition) (labels : List AskedLabel)
 names_stay m [] = refl
 names_stay m (l ∷ labels) = λ i. name_stays m l i ∷ names_stay m labels i
 
-gains : (m : Condition) (ms : List Condition) (l : AskedLabel) → l.matchers ≡ about l.name ms
-    → (and_asked m l).matchers ≡ about (and_asked m l).name (ms ++ m ∷ [])
-gains m ms l here = elim (cases_Bool (same_text l.name m.name)) [
-  | inl same ↦
-      rw same (ap (λ xs. xs ++ m ∷ []) here
-      ∙ sym (about_same l.name ms m (sym ((bytes_decides l.name m.name).0 same))))
-  | inr other ↦ rw other (here ∙ sym (about_other l.name ms m other))
-]
+gains : (m : Condition) (ms : List Condition) (l : AskedLabel) → HasThoseOn ms l
+    → HasThoseOn (ms ++ m ∷ []) (and_asked m l)
+gains m ms l h =
+    subst (λ name. HaveSameMatchers (and_asked m l).matchers (about name (ms ++ m ∷ [])))
+    (sym (name_stays m l)) (elim (cases_Bool (same_text l.name m.name)) [
+      | inl same ↦ rw same (gains_it m ms l (sym ((bytes_decides l.name m.name).0 same)) h)
+      | inr other ↦ rw other (stays m ms l other h)
+    ])
 
 all_gain : (m : Condition) (ms : List Condition) (labels : List AskedLabel)
-    → AllByRecursion (λ l. l.matchers ≡ about l.name ms) labels
-    → AllByRecursion (λ l. l.matchers ≡ about l.name (ms ++ m ∷ [])) (map (and_asked m) labels)
+    → AllByRecursion (HasThoseOn ms) labels
+    → AllByRecursion (HasThoseOn (ms ++ m ∷ [])) (map (and_asked m) labels)
 all_gain m ms [] h = tt
 all_gain m ms (l ∷ labels) h = (gains m ms l h.0, all_gain m ms labels h.1)
 
@@ -109,6 +161,19 @@ none_about labels (m ∷ ms) name every none =
     subst (λ n. same_text n name ≡ false) found.2 (other labels name none found.0 found.1) in
     rw differs (none_about labels ms name every.1 none)
 
+-- the first matcher on a name is all that its label has
+first_on : (m : Condition) (ms : List Condition) → about m.name ms ≡ []
+    → HaveSameMatchers (m ∷ []) (about m.name (ms ++ m ∷ []))
+first_on m ms none =
+    same_by (m ∷ []) (about m.name (ms ++ m ∷ []))
+    (λ x i. elim i [ inl is ↦ on_last m.name ms m x refl is | inr never ↦ absurd never ])
+    (λ x i. elim (on_either m.name ms m x i) [
+      | inl before ↦
+          let never : IsIn [] x = subst (λ (xs : List Condition). IsIn xs x) none before in
+          absurd never
+      | inr last ↦ inl last.0
+    ])
+
 step : (labels : List AskedLabel) (ms : List Condition) (origin : Origin) (m : Condition)
     → Gathers labels ms → Gathers (with_asked labels (origin, m)) (ms ++ m ∷ [])
 step labels ms origin m h =
@@ -135,13 +200,11 @@ step labels ms origin m h =
             distinct = subst (IsDistinct same_text) names
                 (distinct_push same_text (asked_names labels) m.name h.distinct
                 (any_named m.name labels ∙ none));
-            matchers = all_push (λ l. l.matchers ≡ about l.name (ms ++ m ∷ [])) labels
-                (label_of (origin, m))
-                (AllByRecursion-each (λ l. l.matchers ≡ about l.name (ms ++ m ∷ [])) labels (λ l i.
-                AllByRecursion-at (λ x. x.matchers ≡ about x.name ms) labels l h.matchers i
-                ∙ sym (about_other l.name ms m (other labels m.name none l i))))
-                (ap (λ xs. xs ++ m ∷ []) (sym (none_about labels ms m.name h.every none))
-                ∙ sym (about_same m.name ms m refl));
+            matchers = all_push (HasThoseOn (ms ++ m ∷ [])) labels (label_of (origin, m))
+                (AllByRecursion-each (HasThoseOn (ms ++ m ∷ [])) labels (λ l i.
+                stays m ms l (other labels m.name none l i)
+                (AllByRecursion-at (HasThoseOn ms) labels l h.matchers i)))
+                (first_on m ms (none_about labels ms m.name h.every none));
             every = subst (λ (ns : List (List ℕ)).
                 AllByRecursion (λ x. IsIn ns x.name) (ms ++ m ∷ [])) names
                 (all_push (λ x. IsIn (asked_names labels ++ m.name ∷ []) x.name) ms m
@@ -187,10 +250,10 @@ asked_from_gathered placed ms same =
     let all : Gathers labels cs = steps placed [] [] none in
     record {
       distinct = all.distinct;
-      matchers = AllByRecursion-each (λ l. l.name ≢ [] → l.matchers ≡ about l.name ms) labels
-          (λ l i some.
-          AllByRecursion-at (λ x. x.matchers ≡ about x.name cs) labels l all.matchers i
-          ∙ sym (about_named l.name cs some) ∙ ap (about l.name) same ∙ about_named l.name ms some);
+      matchers = AllByRecursion-each (λ l. l.name ≢ [] → HasThoseOn ms l) labels (λ l i some.
+          subst (HaveSameMatchers l.matchers)
+          (sym (about_named l.name cs some) ∙ ap (about l.name) same ∙ about_named l.name ms some)
+          (AllByRecursion-at (HasThoseOn cs) labels l all.matchers i));
       every = AllByRecursion-each (λ m. m.name ≢ [] → Contains (asked_names labels) m.name) ms
           (λ m i some.
           let kept = kept_from_passes is_named ms m i (some_text m.name some) in

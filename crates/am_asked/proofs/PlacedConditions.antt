@@ -13,16 +13,18 @@ use Rattle.am_files.specs.ConfigFile.{RouteTree, Routes, route, no_routes, next_
 use Rattle.am_files.specs.ConfigFile.{Configuration}
 use Rattle.am_files.specs.RoutePaths.{routes_at, routes_from}
 use Rattle.am_eval.specs.World.{World}
+use Rattle.am_eval.specs.Question.{Question}
 use Rattle.am_complete.specs.declared.origin.Origin.{Origin}
 use Rattle.am_complete.specs.declared.origin.Origin.TheVariants as origin_is
 use Rattle.am_asked.specs.Asked.{route_conditions, routes_conditions, rule_conditions}
 use Rattle.am_asked.specs.Asked.{equal_to_alert, equal_conditions, silence_conditions}
-use Rattle.am_asked.specs.Asked.{world_conditions}
+use Rattle.am_asked.specs.Asked.{world_conditions, question_conditions, questions_conditions}
 use Rattle.am_complete.specs.Complete.{impossible_conditions}
 use Rattle.am_asked.specs.Placed.{placed_at, placed_by_route, placed_in_routes, placed_in_rule}
 use Rattle.am_asked.specs.Placed.{placed_in_rules, placed_by_alert, placed_in_equal, is_named}
 use Rattle.am_asked.specs.Placed.{placed_in_silence, placed_in_silences, placed_in_list}
-use Rattle.am_asked.specs.Placed.{placed_in_lists, placed_in_world}
+use Rattle.am_asked.specs.Placed.{placed_in_lists, placed_in_world, placed_in_question}
+use Rattle.am_asked.specs.Placed.{placed_in_questions}
 
 -- matchers without their places
 abbrev pub conditions_of : List (Origin × Condition) → List Condition
@@ -39,17 +41,17 @@ mutual
       map-append (λ p. p.1) (placed_at (origin_is.Route path) settings.matchers)
       (flat_map placed_by_route (routes_from path 0 children))
       ∙ (λ i. at_one_place (origin_is.Route path) settings.matchers i
-      ++ of_routes path 0 children i)
+      ++ of_children path 0 children i)
 
-  of_routes : (path : List ℕ) (i : ℕ) (ts : Routes)
+  of_children : (path : List ℕ) (i : ℕ) (ts : Routes)
       → conditions_of (flat_map placed_by_route (routes_from path i ts)) ≡ routes_conditions ts
-  of_routes path i no_routes = refl
-  of_routes path i (next_route t ts) =
+  of_children path i no_routes = refl
+  of_children path i (next_route t ts) =
       let first = routes_at (path ++ i ∷ []) t in
       let others = routes_from path (i + 1) ts in
       ap conditions_of (flat_map-append placed_by_route first others)
       ∙ map-append (λ p. p.1) (flat_map placed_by_route first) (flat_map placed_by_route others)
-      ∙ (λ j. of_route (path ++ i ∷ []) t j ++ of_routes path (i + 1) ts j)
+      ∙ (λ j. of_route (path ++ i ∷ []) t j ++ of_children path (i + 1) ts j)
 
 -- those of some things, where each has matchers
 of_things : {X : Type 0} (f : ℕ × X → List (Origin × Condition)) (g : X → List Condition)
@@ -74,6 +76,12 @@ of_silences : (silences : List Silence)
 of_silences silences =
     of_things placed_in_silence (λ silence. silence.matchers)
     (λ p. at_one_place (origin_is.Silence p.0) p.1.matchers) 0 silences
+
+of_questions : (questions : List Question)
+    → conditions_of (placed_in_questions questions) ≡ questions_conditions questions
+of_questions questions =
+    of_things placed_in_question question_conditions
+    (λ p. at_one_place (origin_is.Question p.0) (question_conditions p.1)) 0 questions
 
 pub of_lists : (lists : List (List Condition))
     → conditions_of (placed_in_lists lists) ≡ impossible_conditions lists
@@ -137,18 +145,29 @@ both_placed ps qs ms ns p q =
     ∙ filter-append is_named (conditions_of ps) (conditions_of qs)
     ∙ (λ i. p i ++ q i) ∙ sym (filter-append is_named ms ns)
 
-pub of_world : (w : World) (lists : List (List Condition))
-    → SameNamed (conditions_of (placed_in_world w ++ placed_in_lists lists))
-    (world_conditions w ++ impossible_conditions lists)
-of_world w lists =
+-- what stands behind those of a world, or of routes: questions, and impossible lists
+of_behind : (questions : List Question) (lists : List (List Condition))
+    → SameNamed (conditions_of (placed_in_questions questions ++ placed_in_lists lists))
+    (questions_conditions questions ++ impossible_conditions lists)
+of_behind questions lists =
+    both_placed (placed_in_questions questions) (placed_in_lists lists)
+    (questions_conditions questions) (impossible_conditions lists)
+    (ap (filter is_named) (of_questions questions)) (ap (filter is_named) (of_lists lists))
+
+pub of_world : (w : World) (questions : List Question) (lists : List (List Condition))
+    → SameNamed
+    (conditions_of
+    (placed_in_world w ++ (placed_in_questions questions ++ placed_in_lists lists)))
+    (world_conditions w ++ (questions_conditions questions ++ impossible_conditions lists))
+of_world w questions lists =
     let rules = placed_in_rules w.config.rules in
     let equal = placed_in_equal w in
     let silences = placed_in_silences w.silences in
     let asked_by_rules = rule_conditions w.config.rules in
     let asked_by_equal = equal_conditions w.config.rules w.alerts in
     let asked_by_silences = silence_conditions w.silences in
-    both_placed (placed_in_world w) (placed_in_lists lists) (world_conditions w)
-    (impossible_conditions lists)
+    both_placed (placed_in_world w) (placed_in_questions questions ++ placed_in_lists lists)
+    (world_conditions w) (questions_conditions questions ++ impossible_conditions lists)
     (both_placed (placed_in_routes w.config) (rules ++ (equal ++ silences))
     (route_conditions w.config.root) (asked_by_rules ++ (asked_by_equal ++ asked_by_silences))
     (ap (filter is_named) (of_route [] w.config.root))
@@ -157,12 +176,14 @@ of_world w lists =
     (both_placed equal silences asked_by_equal asked_by_silences
     (ap (filter is_named) (of_equal w) ∙ filter_twice is_named asked_by_equal)
     (ap (filter is_named) (of_silences w.silences)))))
-    (ap (filter is_named) (of_lists lists))
+    (of_behind questions lists)
 
-pub of_routes_and_lists : (c : Configuration) (lists : List (List Condition))
-    → SameNamed (conditions_of (placed_in_routes c ++ placed_in_lists lists))
-    (route_conditions c.root ++ impossible_conditions lists)
-of_routes_and_lists c lists =
-    both_placed (placed_in_routes c) (placed_in_lists lists) (route_conditions c.root)
-    (impossible_conditions lists) (ap (filter is_named) (of_route [] c.root))
-    (ap (filter is_named) (of_lists lists))
+pub of_routes : (c : Configuration) (questions : List Question) (lists : List (List Condition))
+    → SameNamed
+    (conditions_of
+    (placed_in_routes c ++ (placed_in_questions questions ++ placed_in_lists lists)))
+    (route_conditions c.root ++ (questions_conditions questions ++ impossible_conditions lists))
+of_routes c questions lists =
+    both_placed (placed_in_routes c) (placed_in_questions questions ++ placed_in_lists lists)
+    (route_conditions c.root) (questions_conditions questions ++ impossible_conditions lists)
+    (ap (filter is_named) (of_route [] c.root)) (of_behind questions lists)

@@ -9,16 +9,13 @@ use Rattle.am_labels.specs.Matcher.{Condition}
 use Rattle.am_universe.proofs.Members.{left_at}
 use Rattle.am_files.specs.ConfigFile.{RouteTree}
 use Rattle.am_complete.specs.declared.origin.Origin.{Origin}
-use Rattle.am_complete.specs.declared.gathering.Gathering.{Gathering}
 use Rattle.am_complete.specs.AskedLabel.{AskedLabel, with_asked}
-use Rattle.am_complete.specs.Gathering.{IsIndexed}
 use Rattle.am_asked.specs.Placed.{placed_at, placed_by_route}
 
--- what was gathered so far, with the matchers that are left, is what all of them make of the first
-pub record IsOnTheWay (before : Gathering) (all : List (Origin × Condition)) (now : Gathering)
-    (left : List (Origin × Condition)) : Type 0 where
-  pub indexed : IsIndexed now.positions now.labels.items
-  pub added : fold with_asked now.labels.items left ≡ fold with_asked before.labels.items all
+-- the labels so far, with the matchers that are left, are what all of them make of the first
+abbrev pub IsOnTheWay : List AskedLabel → List (Origin × Condition) → List AskedLabel
+    → List (Origin × Condition) → Type 0
+IsOnTheWay before all now left = fold with_asked now left ≡ fold with_asked before all
 
 -- what is left, with the first item apart
 left : {X Y : Type 0} (F : List X → Y) (xs : List X) (i : ℕ) (x : X) → i < length xs

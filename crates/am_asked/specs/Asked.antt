@@ -7,6 +7,9 @@ use Rattle.am_records.specs.SilencesFile.{Silence}
 use Rattle.am_files.specs.ConfigFile.{RouteTree, Routes, route, no_routes, next_route, Rule}
 use Rattle.am_eval.specs.World.{World}
 use Rattle.am_eval.specs.Conditions.{same_value}
+use Rattle.am_eval.specs.Tree.{Part, Not, And, Or}
+use Rattle.am_eval.specs.Question.{Question, Simple, Any, Silenced, Inhibited, Receiver, Ends}
+use Rattle.am_eval.specs.Question.{Enters, Braces}
 
 -- The matchers of a route and of all routes below it, in preorder; and those of some children.
 abbrev mutual
@@ -48,3 +51,24 @@ world_conditions w =
     route_conditions w.config.root
     ++ (rule_conditions w.config.rules
     ++ (equal_conditions w.config.rules w.alerts ++ silence_conditions w.silences))
+
+-- The matchers that a question has itself: those in its braces. And those of some questions.
+-- Source: own choice.
+-- Example: those of `receiver web-chat and not {env="prod"}` are `env="prod"` alone.
+abbrev pub simple_conditions : Simple → List Condition
+simple_conditions Any = []
+simple_conditions Silenced = []
+simple_conditions Inhibited = []
+simple_conditions (Receiver receiver) = []
+simple_conditions (Ends path) = []
+simple_conditions (Enters path) = []
+simple_conditions (Braces matchers) = matchers
+
+abbrev pub question_conditions : Question → List Condition
+question_conditions (Part simple) = simple_conditions simple
+question_conditions (Not q) = question_conditions q
+question_conditions (And q r) = question_conditions q ++ question_conditions r
+question_conditions (Or q r) = question_conditions q ++ question_conditions r
+
+abbrev pub questions_conditions : List Question → List Condition
+questions_conditions questions = flat_map question_conditions questions

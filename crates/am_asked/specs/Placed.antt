@@ -1,5 +1,5 @@
 -- The matchers that decide, each with the place where it stands.
-use Rattle.std.specs.Prelude.{◌≡◌, ℕ, List, [], ◌∷◌, ◌++◌, map, fold, Bool, true, false, Option}
+use Rattle.std.specs.Prelude.{ℕ, List, [], ◌++◌, map, Bool, Option}
 use Rattle.std.specs.Prelude.{Some, None, slice_get}
 use Rattle.std.specs.List.{flat_map, filter, enumerate_from}
 use Rattle.am_universe.specs.LabelSet.{LabelMap}
@@ -9,23 +9,15 @@ use Rattle.am_files.specs.ConfigFile.{Configuration, RouteTree, Rule, matchers_o
 use Rattle.am_files.specs.RoutePaths.{all_routes}
 use Rattle.am_eval.specs.declared.pair.Pair.{Pair}
 use Rattle.am_eval.specs.World.{World}
+use Rattle.am_eval.specs.Question.{Question}
 use Rattle.am_complete.specs.declared.origin.Origin.{Origin}
 use Rattle.am_complete.specs.declared.origin.Origin.TheVariants as origin_is
-use Rattle.am_complete.specs.declared.gathering.Gathering.{Gathering}
-use Rattle.am_complete.specs.AskedLabel.{with_asked}
 use Rattle.am_complete.specs.FoundState.{begins}
-use Rattle.am_complete.specs.Gathering.{IsIndexed}
-use Rattle.am_asked.specs.Asked.{equal_to_alert}
+use Rattle.am_asked.specs.Asked.{equal_to_alert, question_conditions}
 
 -- Matchers that all stand at one place.
 abbrev pub placed_at : Origin → List Condition → List (Origin × Condition)
 placed_at origin ms = map (λ m. (origin, m)) ms
-
--- What was gathered of matchers has some more of them: the position of each label is known still.
-pub record AddsTo (before : Gathering) (placed : List (Origin × Condition)) (after : Gathering) :
-    Type 0 where
-  pub indexed : IsIndexed after.positions after.labels.items
-  pub added : after.labels.items ≡ fold with_asked before.labels.items placed
 
 -- The matchers of a route, which stands at a path; and of all routes, in preorder.
 abbrev pub placed_by_route : List ℕ × RouteTree → List (Origin × Condition)
@@ -75,6 +67,14 @@ placed_in_silence silence = placed_at (origin_is.Silence silence.0) silence.1.ma
 
 abbrev pub placed_in_silences : List Silence → List (Origin × Condition)
 placed_in_silences silences = flat_map placed_in_silence (enumerate_from 0 silences)
+
+-- The matchers in the braces of a question at a position, and of all questions.
+abbrev pub placed_in_question : ℕ × Question → List (Origin × Condition)
+placed_in_question question =
+    placed_at (origin_is.Question question.0) (question_conditions question.1)
+
+abbrev pub placed_in_questions : List Question → List (Origin × Condition)
+placed_in_questions questions = flat_map placed_in_question (enumerate_from 0 questions)
 
 -- The matchers of an impossible list at a position, and of all of them.
 abbrev pub placed_in_list : ℕ × List Condition → List (Origin × Condition)

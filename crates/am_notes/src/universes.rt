@@ -31,7 +31,7 @@ fn states_by_routes(
     space: &Space,
     config: &Config,
 ) -> Result<Vec<LabelState>, AllocError> {
-    let asked = asked_by_routes(alloc, config, space.impossible())?;
+    let asked = asked_by_routes(alloc, config, &[], space.impossible())?;
     label_states(alloc, Alphabet::Ascii, space, asked.as_slice(), None)
 }
 

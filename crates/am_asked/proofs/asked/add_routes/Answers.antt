@@ -17,12 +17,8 @@ loop-i-preserved c =
     let lt : i < length listed.paths.items = omega (arith, c.len-i-end.ensures, c.loop-i-test.true) in
     let there = listed_at all listed i path route c.in_ok-listed.ensures.routes lt c.index.ensures
     c.index-in-loop-i.ensures in
-    let labels = c.loop-i.gathering.labels.items in
-    record {
-      indexed = c.in_ok-add_matchers.ensures.indexed;
-      added = one_more_route all i (path, route_view route.now) labels _ _ there
-          (c.in_ok-add_matchers.ensures.added
-          ∙ ap (λ ms. fold with_asked labels (placed_at (origin_is.Route path) ms))
-          c.matchers.ensures.matchers)
-          c.loop-i.invariant.added;
-    }
+    one_more_route all i (path, route_view route.now) c.loop-i.gathering _ _ there
+    (c.in_ok-add_matchers.ensures
+    ∙ ap (λ ms. fold with_asked c.loop-i.gathering (placed_at (origin_is.Route path) ms))
+    c.matchers.ensures.matchers)
+    c.loop-i.invariant
