@@ -1,24 +1,29 @@
--- The text of a universe is read as the universe.
+-- The text of a universe and of texts of lists is read as the universe and the lists.
 use Rattle.std.proofs.Common.{◌≡◌, ◌≤◌, ℕ, List, [], ◌∷◌, length, Option, Some, None, refl, sym, ap}
-use Rattle.std.proofs.Common.{◌∙◌, append-nil, arith, codes, inl, inr, option_and_then}
+use Rattle.std.proofs.Common.{◌∙◌, append-nil, arith, codes, inl, inr, map, option_and_then}
 use Rattle.std.specs.List.{AllZip}
+use Rattle.std.proofs.lemmas.List.{length-map}
 use Rattle.std.specs.Str.{IsUtf8}
 use Rattle.std.proofs.lemmas.Str.{is_utf8-from_IsUtf8}
 use Rattle.json.specs.Json as json
 use Rattle.json.specs.Tree as tree
 use Rattle.json.proofs.Printed.Trees.{value-json_tokens}
 use Rattle.serde_json.specs.Data.{Data, null, string, array, object, Items, no_items, item}
-use Rattle.serde_json.specs.Data.{no_members, member}
+use Rattle.serde_json.specs.Data.{Members, no_members, member}
 use Rattle.serde_json.specs.Read.{read, max_depth, of_json, of_items}
 use Rattle.json.specs.Token.{Token}
 use Rattle.am_universe.specs.Universe.{Label, Values, IsUniverse}
-use Rattle.am_json.specs.Json.{item_list}
+use Rattle.am_json.specs.Json.{json_of, field, items_of, item_list, HasOnlyFields}
 use Rattle.am_json.specs.declared.limits.TheConstants.{MAX_FILE_BYTES}
+use Rattle.am_labels.specs.Matcher.{Condition}
 use Rattle.am_labels.specs.Space.{Space}
 use Rattle.am_records.specs.UniverseFile.{FileSaysUniverse, SaysUniverse, SaysLabel, SaysValue}
+use Rattle.am_records.specs.UniverseFile.{file_fields, AreTextsOfLists, HasImpossibleTexts}
+use Rattle.am_records.specs.UniverseFile.{FileHasImpossibleTexts}
 use Rattle.am_complete_texts.specs.UniverseText.{universe_text}
 use Rattle.am_complete_texts.proofs.TextTokens.{value_tree, values_tree, label_tree, labels_tree}
-use Rattle.am_complete_texts.proofs.TextTokens.{universe_tree, tokens-universe_text}
+use Rattle.am_complete_texts.proofs.TextTokens.{as_values, universe_tree}
+use Rattle.am_complete_texts.proofs.TextTokens.{tokens-universe_text}
 
 abbrev value_data : Option (List ℕ) → Data
 value_data None = null
@@ -37,8 +42,15 @@ abbrev labels_data : List Label → Items
 labels_data [] = no_items
 labels_data (label ∷ u) = item (label_data label) (labels_data u)
 
-abbrev universe_data : List Label → Data
-universe_data u = object (member (codes "labels") (array (labels_data u)) no_members)
+-- the members go by the bytes of their keys
+abbrev with_lists : List (List ℕ) → Members → Members
+with_lists [] members = members
+with_lists (text ∷ texts) members =
+    member (codes "impossible") (array (values_data (as_values (text ∷ texts)))) members
+
+abbrev universe_data : List Label → List (List ℕ) → Data
+universe_data u texts =
+    object (with_lists texts (member (codes "labels") (array (labels_data u)) no_members))
 
 value_of_tree : (v : Option (List ℕ)) → of_json (value_tree v) ≡ Some (value_data v)
 value_of_tree None = refl
@@ -55,8 +67,10 @@ labels_of_tree : (u : List Label) → of_items (labels_tree u) ≡ Some (labels_
 labels_of_tree [] = refl
 labels_of_tree (label ∷ u) = rw (label_of_tree label, labels_of_tree u)
 
-universe_of_tree : (u : List Label) → of_json (universe_tree u) ≡ Some (universe_data u)
-universe_of_tree u = rw (labels_of_tree u)
+universe_of_tree : (u : List Label) (texts : List (List ℕ))
+    → of_json (universe_tree u texts) ≡ Some (universe_data u texts)
+universe_of_tree u [] = rw (labels_of_tree u)
+universe_of_tree u (text ∷ texts) = rw (labels_of_tree u, values_of_tree (as_values texts))
 
 -- ---- It is not deep.
 
@@ -75,21 +89,25 @@ labels_depth (label ∷ u) =
     let later = labels_depth u in
     omega (arith, values, later)
 
-universe_depth : (u : List Label) → tree.depth (universe_tree u) ≤ max_depth
-universe_depth u = omega (arith, labels_depth u)
+universe_depth : (u : List Label) (texts : List (List ℕ))
+    → tree.depth (universe_tree u texts) ≤ max_depth
+universe_depth u [] = omega (arith, labels_depth u)
+universe_depth u (text ∷ texts) =
+    omega (arith, labels_depth u, values_depth (as_values (text ∷ texts)))
 
 -- the value of the tokens of a whole text
 abbrev whole : Option (json.Json × List Token) → Option Data
 whole o = option_and_then of_json (option_and_then (λ p. json.if_last p.0 p.1) o)
 
-universe_read : (u : List Label) → read (universe_text u) ≡ Some (universe_data u)
-universe_read u =
+universe_read : (u : List Label) (texts : List (List ℕ))
+    → read (universe_text u texts) ≡ Some (universe_data u texts)
+universe_read u texts =
     ap whole
-    (ap (json.value max_depth) (tokens-universe_text u ∙ sym (append-nil _))
-    ∙ value-json_tokens (universe_tree u) max_depth [] (universe_depth u))
-    ∙ universe_of_tree u
+    (ap (json.value max_depth) (tokens-universe_text u texts ∙ sym (append-nil _))
+    ∙ value-json_tokens (universe_tree u texts) max_depth [] (universe_depth u texts))
+    ∙ universe_of_tree u texts
 
--- ---- It says the universe.
+-- ---- It says the universe and the lists.
 
 value_said : (v : Option (List ℕ)) → SaysValue (value_data v) v
 value_said None = refl
@@ -112,28 +130,70 @@ labels_said : (u : List Label) → AllZip SaysLabel (item_list (labels_data u)) 
 labels_said [] = tt
 labels_said (label ∷ u) = (label_said label, labels_said u)
 
-abbrev space_of : List Label → Space
-space_of u = record { labels = u; impossible = [] }
+string_items : (texts : List (List ℕ))
+    → item_list (values_data (as_values texts)) ≡ map string texts
+string_items [] = refl
+string_items (text ∷ texts) = ap (λ ds. string text ∷ ds) (string_items texts)
 
-data_says : (u : List Label) → IsUniverse u → SaysUniverse (universe_data u) (space_of u)
-data_says u is = record {
-  only = (_, refl, (inr refl, tt));
+texts_said : (u : List Label) (texts : List (List ℕ))
+    → HasImpossibleTexts (universe_data u texts) texts
+texts_said u [] = inl (refl, refl)
+texts_said u (text ∷ texts) = inr (ap (λ ds. Some ds) (string_items (text ∷ texts)))
+
+only_file_fields : (u : List Label) (texts : List (List ℕ))
+    → HasOnlyFields file_fields (universe_data u texts)
+only_file_fields u [] = (_, refl, (inr refl, tt))
+only_file_fields u (text ∷ texts) = (_, refl, (inr refl, (inr refl, tt)))
+
+labels_are_items : (u : List Label) (texts : List (List ℕ))
+    → option_and_then items_of (field (codes "labels") (universe_data u texts))
+    ≡ Some (item_list (labels_data u))
+labels_are_items u [] = refl
+labels_are_items u (text ∷ texts) = refl
+
+abbrev space_of : List Label → List (List Condition) → Space
+space_of u lists = record { labels = u; impossible = lists }
+
+data_says : (u : List Label) (texts : List (List ℕ)) (lists : List (List Condition))
+    → IsUniverse u → AreTextsOfLists texts lists
+    → SaysUniverse (universe_data u texts) (space_of u lists)
+data_says u texts lists is spell = record {
+  only = only_file_fields u texts;
   items = item_list (labels_data u);
-  is_array = refl;
+  is_array = labels_are_items u texts;
   labels = labels_said u;
   is_universe = is;
-  texts = [];
-  has_texts = inl (refl, refl);
-  few = omega arith;
-  impossible = tt;
+  texts = map string texts;
+  has_texts = texts_said u texts;
+  few = omega (arith, length-map texts string, spell.few);
+  impossible = spell.each;
 }
 
-pub universe_said : (u : List Label) → IsUniverse u → IsUtf8 (universe_text u)
-    → length (universe_text u) ≤ MAX_FILE_BYTES → FileSaysUniverse (universe_text u) (space_of u)
-universe_said u is utf8 short = (short, universe_data u, rw (is_utf8-from_IsUtf8 (universe_text u) utf8) (universe_read u), data_says u is)
+json_of_text : (u : List Label) (texts : List (List ℕ)) → IsUtf8 (universe_text u texts)
+    → json_of (universe_text u texts) ≡ Some (universe_data u texts)
+json_of_text u texts utf8 =
+    rw (is_utf8-from_IsUtf8 (universe_text u texts) utf8) (universe_read u texts)
 
--- a text that is that of a universe
-pub text_says : (u : List Label) (text : List ℕ) → text ≡ universe_text u → IsUniverse u
-    → IsUtf8 text → length text ≤ MAX_FILE_BYTES → FileSaysUniverse text (space_of u)
-text_says u text is universe utf8 short =
-    rw is (universe_said u universe (rw is at utf8) (rw is at short))
+pub universe_said : (u : List Label) (texts : List (List ℕ)) (lists : List (List Condition))
+    → IsUniverse u → AreTextsOfLists texts lists → IsUtf8 (universe_text u texts)
+    → length (universe_text u texts) ≤ MAX_FILE_BYTES
+    → FileSaysUniverse (universe_text u texts) (space_of u lists)
+universe_said u texts lists is spell utf8 short =
+    (short, universe_data u texts, json_of_text u texts utf8, data_says u texts lists is spell)
+
+pub texts_kept : (u : List Label) (texts : List (List ℕ)) → IsUtf8 (universe_text u texts)
+    → length (universe_text u texts) ≤ MAX_FILE_BYTES
+    → FileHasImpossibleTexts (universe_text u texts) texts
+texts_kept u texts utf8 short =
+    (short, universe_data u texts, json_of_text u texts utf8, texts_said u texts)
+
+-- no texts say no lists
+pub no_texts : AreTextsOfLists [] []
+no_texts = record { few = omega arith; each = tt }
+
+-- a text that is that of a universe and of texts of lists
+pub text_says : (u : List Label) (texts : List (List ℕ)) (lists : List (List Condition))
+    (text : List ℕ) → text ≡ universe_text u texts → IsUniverse u → AreTextsOfLists texts lists
+    → IsUtf8 text → length text ≤ MAX_FILE_BYTES → FileSaysUniverse text (space_of u lists)
+text_says u texts lists text is universe spell utf8 short =
+    rw is (universe_said u texts lists universe spell (rw is at utf8) (rw is at short))

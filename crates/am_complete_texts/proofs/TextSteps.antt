@@ -1,16 +1,17 @@
--- The text of one more value, and of one more label.
+-- The text of one more value, of one more label, and of one more list.
 use Rattle.std.proofs.Common.{◌≡◌, ◌≤◌, ◌<◌, ◌+◌, ℕ, zero, suc, List, [], ◌∷◌, ◌++◌, length, take}
 use Rattle.std.proofs.Common.{Option, Some, None, sym, ap, ◌∙◌, append_assoc, append-nil, add-one}
 use Rattle.std.proofs.Common.{codes, slice_get, get_or, option_map, ap₂, option_and_then, arith}
 use Rattle.std.proofs.Common.{cond, ◌==◌, Bool, true, false, map, refl}
-use Rattle.std.proofs.lemmas.List.{take_all}
+use Rattle.std.proofs.lemmas.List.{take_all, length-map}
 use Rattle.std.proofs.lemmas.Bool.Decides.{nat_tests}
 use Rattle.std.proofs.lemmas.Option.{slice_get-map, slice_get-get_or, same_Some}
 use Rattle.json.specs.Print.{quoted}
 use Rattle.am_universe.specs.Universe.{Label, sizes, names}
 use Rattle.am_universe.specs.LabelSet.{value_at}
 use Rattle.am_complete_texts.specs.UniverseText.{value_text, texts_behind, values_text, label_text}
-use Rattle.am_complete_texts.specs.UniverseText.{labels_text, gap_before_label, gap_before_value}
+use Rattle.am_complete_texts.specs.UniverseText.{labels_text, lists_text, impossible_text}
+use Rattle.am_complete_texts.specs.UniverseText.{gap_before_line, gap_before_value}
 
 -- ---- One thing more.
 
@@ -84,7 +85,7 @@ label_pushed u i label name old a b c d e here named first second third fourth f
     ∙ simp append_assoc
 
 pub one_label_pushed : (u : List Label) (i : ℕ) (front text gap gapped new : List ℕ) → i < length u
-    → text ≡ front ++ labels_text (take i u) → gap ≡ gap_before_label i → gapped ≡ text ++ gap
+    → text ≡ front ++ labels_text (take i u) → gap ≡ gap_before_line i → gapped ≡ text ++ gap
     → ((label : Label) → slice_get u i ≡ Some label → new ≡ gapped ++ label_text label)
     → new ≡ front ++ labels_text (take (i + 1) u)
 one_label_pushed u i front text gap gapped new within so_far gap_is gap_put pushed =
@@ -93,3 +94,35 @@ one_label_pushed u i front text gap gapped new within so_far gap_is gap_put push
     let at = slice_get-get_or u i none within in
     one_pushed (codes "\n  ") (codes ",\n  ") label_text u i label front text gap gapped new at
     so_far gap_is gap_put (pushed label at)
+
+-- ---- Lists.
+
+module _ {X : Type 0} (view : X → List ℕ) where
+  pub one_list_pushed : (lists : List X) (i : ℕ) (list : X) (front text gap gapped new : List ℕ)
+      → i < length lists → list ≡ get_or lists i list
+      → text ≡ front ++ lists_text (take i (map view lists)) → gap ≡ gap_before_line i
+      → gapped ≡ text ++ gap → new ≡ gapped ++ quoted (view list)
+      → new ≡ front ++ lists_text (take (i + 1) (map view lists))
+  one_list_pushed lists i list front text gap gapped new within is so_far gap_is gap_put pushed =
+      let at : slice_get (map view lists) i ≡ Some (view list) =
+      slice_get-map view lists i
+      ∙ ap (option_map view) (slice_get-get_or lists i list within)
+      ∙ ap (λ x. Some (view x)) (sym is) in
+      one_pushed (codes "\n  ") (codes ",\n  ") quoted (map view lists) i (view list) front text
+      gap gapped new at so_far gap_is gap_put pushed
+
+  some_lists : (lists : List X) → false ≡ (length lists == 0) → impossible_text (map view lists)
+      ≡ codes ", \"impossible\": [" ++ (lists_text (map view lists) ++ codes "\n]")
+  some_lists [] some = absurd cc
+  some_lists (list ∷ lists) some = refl
+
+  pub lists_pushed : (lists : List X) (i : ℕ) (old front text new : List ℕ)
+      → false ≡ (length lists == 0) → length lists ≤ i
+      → front ≡ old ++ codes ", \"impossible\": ["
+      → text ≡ front ++ lists_text (take i (map view lists)) → new ≡ text ++ codes "\n]"
+      → new ≡ old ++ impossible_text (map view lists)
+  lists_pushed lists i old front text new some all opened so_far closed =
+      let texts = map view lists in
+      let whole : take i texts ≡ texts =
+      take_all i texts (omega (arith, length-map lists view, all)) in
+      rw (closed, so_far, whole, opened, some_lists lists some) (simp append_assoc)

@@ -1,17 +1,18 @@
 -- The text of a universe has the tokens of its JSON value.
 use Rattle.std.proofs.Common.{◌≡◌, ℕ, List, [], ◌∷◌, ◌++◌, Option, Some, None, refl, sym, ap, ap₂}
-use Rattle.std.proofs.Common.{◌∙◌, append_assoc, codes, drop}
+use Rattle.std.proofs.Common.{◌∙◌, append_assoc, codes, drop, map}
 use Rattle.json.specs.Token.{Token, begin_object, end_object, begin_array, end_array, key, string, null}
 use Rattle.json.specs.Word.{word}
 use Rattle.json.specs.Text.{content}
 use Rattle.json.specs.Lex.{Lexeme, token, comma, colon, string_token, lex, between, fresh, after_value, punctuate, tokens}
 use Rattle.json.specs.Print.{escape, quoted}
 use Rattle.json.specs.Json as json
-use Rattle.json.specs.Tree.{json_tokens, items_tokens}
+use Rattle.json.specs.Tree.{json_tokens, items_tokens, members_tokens}
 use Rattle.json.proofs.Printed.Strings.{content-escape, lex-escape}
 use Rattle.am_universe.specs.Universe.{Label, Values}
 use Rattle.am_complete_texts.specs.UniverseText.{value_text, texts_behind, values_text, label_text}
-use Rattle.am_complete_texts.specs.UniverseText.{labels_text, universe_text}
+use Rattle.am_complete_texts.specs.UniverseText.{labels_text, lists_text, impossible_text}
+use Rattle.am_complete_texts.specs.UniverseText.{universe_text}
 
 -- ---- The JSON value.
 
@@ -32,8 +33,18 @@ abbrev pub labels_tree : List Label → json.Items
 labels_tree [] = json.no_items
 labels_tree (label ∷ later) = json.item (label_tree label) (labels_tree later)
 
-abbrev pub universe_tree : List Label → json.Json
-universe_tree u = json.object (json.member (codes "labels") (json.array (labels_tree u)) json.no_members)
+-- texts of lists, as values
+abbrev pub as_values : List (List ℕ) → Values
+as_values texts = map (λ text. Some text) texts
+
+abbrev pub lists_member : List (List ℕ) → json.Members
+lists_member [] = json.no_members
+lists_member (text ∷ texts) = json.member (codes "impossible")
+    (json.array (values_tree (as_values (text ∷ texts)))) json.no_members
+
+abbrev pub universe_tree : List Label → List (List ℕ) → json.Json
+universe_tree u texts =
+    json.object (json.member (codes "labels") (json.array (labels_tree u)) (lists_member texts))
 
 -- ---- The lexemes of the text.
 
@@ -63,12 +74,21 @@ abbrev labels_lexemes : List Label → List Lexeme → List Lexeme
 labels_lexemes [] rest = rest
 labels_lexemes (label ∷ later) rest = label_lexemes label (later_label_lexemes later rest)
 
--- the texts of the values and of the labels behind the first
+abbrev lists_lexemes : List (List ℕ) → List Lexeme → List Lexeme
+lists_lexemes [] rest = rest
+lists_lexemes (text ∷ texts) rest =
+    comma ∷ token (string (codes "impossible")) ∷ colon ∷ token begin_array
+    ∷ value_lexemes (as_values (text ∷ texts)) (token end_array ∷ rest)
+
+-- the texts of the values, of the labels and of the lists behind the first
 abbrev later_values_text : Values → List ℕ
 later_values_text values = texts_behind (codes ", ") (codes ", ") value_text values
 
 abbrev later_labels_text : List Label → List ℕ
 later_labels_text u = texts_behind (codes ",\n  ") (codes ",\n  ") label_text u
+
+abbrev later_lists_text : List (List ℕ) → List ℕ
+later_lists_text texts = texts_behind (codes ",\n  ") (codes ",\n  ") quoted texts
 
 lex-quoted : (s r : List ℕ) → lex between (quoted s ++ r) ≡ token (string s) ∷ lex between r
 unfolding lex content
@@ -137,13 +157,40 @@ unfolding lex content
 lex_labels [] r = refl
 lex_labels (label ∷ u) r = ap (drop 1) (lex_later_labels (label ∷ u) r)
 
-lex_universe : (u : List Label) → lex between (universe_text u)
-    ≡ token begin_object ∷ token (string (codes "labels")) ∷ colon ∷ token begin_array
-    ∷ labels_lexemes u (token end_array ∷ token end_object ∷ [])
+lex_later_lists : (texts : List (List ℕ)) (r : List ℕ)
+    → lex between (later_lists_text texts ++ r)
+    ≡ later_value_lexemes (as_values texts) (lex between r)
 unfolding lex content
-lex_universe u =
+lex_later_lists [] r = refl
+lex_later_lists (text ∷ texts) r =
+    ap (λ l. comma ∷ l)
+    (ap (lex between) (append_assoc (quoted text) (later_lists_text texts) r)
+    ∙ lex-quoted text (later_lists_text texts ++ r)
+    ∙ ap (λ l. token (string text) ∷ l) (lex_later_lists texts r))
+
+lex_lists : (text : List ℕ) (texts : List (List ℕ)) (r : List ℕ)
+    → lex between (lists_text (text ∷ texts) ++ r)
+    ≡ value_lexemes (as_values (text ∷ texts)) (lex between r)
+unfolding lex content
+lex_lists text texts r = ap (drop 1) (lex_later_lists (text ∷ texts) r)
+
+lex_impossible : (texts : List (List ℕ)) (r : List ℕ)
+    → lex between (impossible_text texts ++ r) ≡ lists_lexemes texts (lex between r)
+unfolding lex content
+lex_impossible [] r = refl
+lex_impossible (text ∷ texts) r =
+    ap (λ l. comma ∷ token (string (codes "impossible")) ∷ colon ∷ token begin_array ∷ l)
+    (ap (lex between) (append_assoc (lists_text (text ∷ texts)) (codes "\n]") r)
+    ∙ lex_lists text texts (codes "\n]" ++ r))
+
+lex_universe : (u : List Label) (texts : List (List ℕ)) → lex between (universe_text u texts)
+    ≡ token begin_object ∷ token (string (codes "labels")) ∷ colon ∷ token begin_array
+    ∷ labels_lexemes u (token end_array ∷ lists_lexemes texts (token end_object ∷ []))
+unfolding lex content
+lex_universe u texts =
     ap (λ l. token begin_object ∷ token (string (codes "labels")) ∷ colon ∷ token begin_array ∷ l)
-    (lex_labels u (codes "\n]}\n"))
+    (lex_labels u (codes "\n]" ++ (impossible_text texts ++ codes "}\n"))
+    ∙ ap (λ l. labels_lexemes u (token end_array ∷ l)) (lex_impossible texts (codes "}\n")))
 
 -- ---- The tokens.
 
@@ -223,9 +270,22 @@ tree_labels (label ∷ u) rest =
     ∙ tree_label label (items_tokens (labels_tree u) ++ rest)
     ∙ ap (label_tokens label) (tree_labels u rest)
 
-pub tokens-universe_text : (u : List Label) → tokens (universe_text u) ≡ json_tokens (universe_tree u)
+lists_tokens : (texts : List (List ℕ))
+    → punctuate after_value (lists_lexemes texts (token end_object ∷ []))
+    ≡ members_tokens (lists_member texts)
 unfolding punctuate
-tokens-universe_text u =
-    ap (punctuate fresh) (lex_universe u)
+lists_tokens [] = refl
+lists_tokens (text ∷ texts) =
+    let values = as_values (text ∷ texts) in
+    ap (λ l. key (codes "impossible") ∷ begin_array ∷ l)
+    (place_values values (token end_object ∷ []) ∙ sym (tree_values values (end_object ∷ [])))
+
+pub tokens-universe_text : (u : List Label) (texts : List (List ℕ))
+    → tokens (universe_text u texts) ≡ json_tokens (universe_tree u texts)
+unfolding punctuate
+tokens-universe_text u texts =
+    ap (punctuate fresh) (lex_universe u texts)
     ∙ ap (λ l. begin_object ∷ key (codes "labels") ∷ begin_array ∷ l)
-    (place_labels u (token end_object ∷ []) ∙ sym (tree_labels u (end_object ∷ [])))
+    (place_labels u (lists_lexemes texts (token end_object ∷ []))
+    ∙ ap (λ l. later_label_tokens u (end_array ∷ l)) (lists_tokens texts)
+    ∙ sym (tree_labels u (members_tokens (lists_member texts))))

@@ -12,7 +12,7 @@ use Rattle.am_complete.specs.declared.origin.Origin.TheVariants as origin_is
 use Rattle.am_complete.specs.LabelState.{is_settled}
 
 -- The pointer to what a matcher stands in, in its file: a route, a rule, a silence, or an
--- impossible list.
+-- impossible list; and that to a question, among those that are asked.
 -- Source: RFC 6901, over the forms of the files.
 -- Example: that of the second child of the first child of the top-level route is
 -- `/route/routes/0/routes/1`, and that of the third rule `/inhibit_rules/2`.
@@ -23,6 +23,7 @@ abbrev pub origin_pointer : Origin → List ℕ
 origin_pointer (origin_is.Route path) = codes "/route" ++ flat_map child_pointer path
 origin_pointer (origin_is.Rule position) = codes "/inhibit_rules/" ++ decimal position
 origin_pointer (origin_is.Silence position) = codes "/" ++ decimal position
+origin_pointer (origin_is.Question position) = codes "/" ++ decimal position
 origin_pointer (origin_is.Impossible position) = codes "/impossible/" ++ decimal position
 
 -- The name of a label: as it stands where it is a label name, and else in quotes. And a text that

@@ -30,15 +30,30 @@ label_text label =
 abbrev pub labels_text : List Label → List ℕ
 labels_text u = texts_behind (codes "\n  ") (codes ",\n  ") label_text u
 
--- The file: an object that has the labels alone.
--- Source: own choice.
--- Example: without a label it is `{"labels": [`, a line feed, `]}` and a line feed.
-abbrev pub universe_text : List Label → List ℕ
-universe_text u = codes "{\"labels\": [" ++ (labels_text u ++ codes "\n]}\n")
+-- The texts of impossible lists, each in quotes on a line of its own.
+abbrev pub lists_text : List (List ℕ) → List ℕ
+lists_text texts = texts_behind (codes "\n  ") (codes ",\n  ") quoted texts
 
--- What stands before the label at a position, and before the value at a position.
-abbrev pub gap_before_label : ℕ → List ℕ
-gap_before_label i = if i == 0 then codes "\n  " else codes ",\n  "
+-- The field of the impossible lists, behind the labels; without a list there is none.
+-- Source: own choice.
+-- Example: of the text `team=web` it is `, "impossible": [`, a line feed, two spaces, `"team=web"`,
+-- a line feed and `]`.
+abbrev pub impossible_text : List (List ℕ) → List ℕ
+impossible_text [] = []
+impossible_text (text ∷ texts) =
+    codes ", \"impossible\": [" ++ (lists_text (text ∷ texts) ++ codes "\n]")
+
+-- The file: an object that has the labels, and the texts of impossible lists where there are some.
+-- Source: own choice.
+-- Example: without a label and a list it is `{"labels": [`, a line feed, `]}` and a line feed.
+abbrev pub universe_text : List Label → List (List ℕ) → List ℕ
+universe_text u impossible =
+    codes "{\"labels\": [" ++ (labels_text u
+    ++ (codes "\n]" ++ (impossible_text impossible ++ codes "}\n")))
+
+-- What stands before the label or the list at a position, and before the value at a position.
+abbrev pub gap_before_line : ℕ → List ℕ
+gap_before_line i = if i == 0 then codes "\n  " else codes ",\n  "
 
 abbrev pub gap_before_value : ℕ → List ℕ
 gap_before_value j = if j == 0 then [] else codes ", "

@@ -16,7 +16,9 @@ pub fn pointer_to(alloc: Global, origin: &Origin) -> Result<String, AllocError>
     match origin {
         Origin::Route(path) => route_pointer(alloc, path),
         Origin::Rule(position) => format!(in alloc; "/inhibit_rules/{position}"),
-        Origin::Silence(position) => format!(in alloc; "/{position}"),
+        Origin::Silence(position) | Origin::Question(position) => {
+            format!(in alloc; "/{position}")
+        }
         Origin::Impossible(position) => format!(in alloc; "/impossible/{position}"),
     }
 }

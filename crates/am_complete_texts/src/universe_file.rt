@@ -1,29 +1,59 @@
 //! The text of a universe file.
 
 ghost use Rattle.std.specs.Prelude.{◌≡◌, ◌<◌, ◌++◌, length, slice_get, slice_index, Some};
-ghost use Rattle.std.specs.Prelude.{string_bytes, option_map, IfOk, OnOk};
+ghost use Rattle.std.specs.Prelude.{string_bytes, map, option_map, IfOk, OnOk};
 ghost use Rattle.json.specs.Print.{quoted};
 ghost use Rattle.am_labels.specs.Words.{Label};
 ghost use Rattle.am_complete_texts.specs.Words.{universe_text, label_text, values_text, value_text};
-ghost use Rattle.am_complete_texts.specs.Words.{gap_before_label, gap_before_value};
+ghost use Rattle.am_complete_texts.specs.Words.{gap_before_line, gap_before_value};
+ghost use Rattle.am_complete_texts.specs.Words.{impossible_text};
 
 use am_labels::Universe;
 use serde_json::Value;
 use std::alloc::{AllocError, Global};
 
-/// The text of the universe file that says a universe: JSON, with one label a line. It is read back
-/// as the universe, as long as it has no more than `MAX_FILE_BYTES` bytes. An `Err` only where
-/// memory was refused.
-pub fn universe_text(alloc: Global, universe: &Universe) -> Result<String, AllocError>
-    ensures text { IfOk result (λ text. string_bytes text ≡ universe_text universe.now) }
+/// The text of the universe file that says a universe and, by these texts, the lists of matchers
+/// that are impossible: JSON, with one label and one list a line. It is read back as them, as long
+/// as each text is that of a list and it has no more than `MAX_FILE_BYTES` bytes. An `Err` only
+/// where memory was refused.
+pub fn universe_text(
+    alloc: Global,
+    universe: &Universe,
+    impossible: &[String],
+) -> Result<String, AllocError>
+    ensures text { IfOk result (λ text.
+        string_bytes text ≡ universe_text universe.now (map string_bytes impossible.now)) }
 {
     let mut text = String::from_str(alloc, "{\"labels\": [")?;
     for i in 0..universe.len() {
-        text.push_str(gap_before_label(i))?;
+        text.push_str(gap_before_line(i))?;
         push_label(alloc, &mut text, universe, i)?;
     }
-    text.push_str("\n]}\n")?;
+    text.push_str("\n]")?;
+    push_impossible(alloc, &mut text, impossible)?;
+    text.push_str("}\n")?;
     Ok(text)
+}
+
+/// Adds the field of the impossible lists, where there are some.
+fn push_impossible(
+    alloc: Global,
+    text: &mut String,
+    impossible: &[String],
+) -> Result<(), AllocError>
+    ensures { OnOk result (string_bytes text.new
+        ≡ string_bytes text.old ++ impossible_text (map string_bytes impossible.now)) }
+{
+    if impossible.is_empty() {
+        return Ok(());
+    }
+    text.push_str(", \"impossible\": [")?;
+    for (i, list) in impossible.iter().enumerate() {
+        text.push_str(gap_before_line(i))?;
+        push_quoted(alloc, text, list.as_str())?;
+    }
+    text.push_str("\n]")?;
+    Ok(())
 }
 
 /// Adds the label at `i`, in one line.
@@ -83,9 +113,9 @@ fn push_quoted(alloc: Global, text: &mut String, value: &str) -> Result<(), Allo
     text.push_str(quoted.as_str())
 }
 
-/// What stands before the label at `i`.
-fn gap_before_label(i: usize) -> &'static str
-    ensures { result.now ≡ gap_before_label i }
+/// What stands before the label or the list at `i`.
+fn gap_before_line(i: usize) -> &'static str
+    ensures { result.now ≡ gap_before_line i }
 {
     if i == 0 { "\n  " } else { ",\n  " }
 }

@@ -8,5 +8,5 @@ loop-i-preserved c =
     let within : c.loop-i.i < length c.args.universe.now =
     omega (arith, c.loop-i-test.true, c.len-i-end.ensures.len) in
     one_label_pushed c.args.universe.now c.loop-i.i (codes "{\"labels\": [")
-    (string_bytes c.loop-i.text) _ _ _ within c.loop-i.invariant c.gap_before_label.ensures
+    (string_bytes c.loop-i.text) _ _ _ within c.loop-i.invariant c.gap_before_line.ensures
     c.in_ok-push_str.ensures.bytes c.in_ok-push_label.ensures
