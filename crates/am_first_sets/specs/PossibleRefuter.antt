@@ -1,9 +1,13 @@
 -- The parts of what refutes prefixes for a space.
 use Rattle.std.specs.Prelude.{ℕ, List, Bool}
-use Rattle.am_labels.specs.Words.{sizes}
+use Rattle.am_labels.specs.Words.{Space, sizes}
 use Rattle.am_search.specs.Words.{AreSizes}
 use Rattle.am_first_sets.specs.declared.possible_choices.PossibleRefuter.{PossibleRefuter}
 use Rattle.am_first_sets.specs.ImpossibleCubes.{is_possible_by}
+
+-- The space.
+abbrev pub possible_space : PossibleRefuter → Space
+possible_space refuter = refuter.space.now
 
 -- The sizes of its labels, that they are sizes, and which choices are true: those that are
 -- possible.

@@ -8,7 +8,7 @@
 // The first that is possible.
 mod possible_choices;
 
-pub use possible_choices::first_possible;
+pub use possible_choices::{PossibleRefuter, first_possible};
 
 // The first that ends at a route.
 mod route_cubes;

@@ -26,7 +26,7 @@ pub fn first_possible(alloc: Global, space: &Space) -> Result<Option<Choice>, Al
 
 /// What refutes prefixes none of whose completions is possible in a space.
 #[derive(Drop)]
-pub(crate) struct PossibleRefuter<'a> {
+pub struct PossibleRefuter<'a> {
     space: &'a Space,
     impossible: Vec<Cube>,
     ghost are_sizes: { AreSizes (sizes space.now.labels) } by { Prim.hlevel props },
@@ -34,10 +34,12 @@ pub(crate) struct PossibleRefuter<'a> {
 }
 
 impl<'a> PossibleRefuter<'a> {
+    ghost use Rattle.am_first_sets.specs.PossibleRefuter.{possible_space};
+
     /// That of a space, with a cube for each list that the space calls impossible. An `Err` only
     /// where memory was refused.
-    pub(crate) fn of(alloc: Global, space: &'a Space) -> Result<PossibleRefuter<'a>, AllocError>
-        ensures space { IfOk result (λ refuter. refuter.space.now ≡ space.now) }
+    pub fn of(alloc: Global, space: &'a Space) -> Result<PossibleRefuter<'a>, AllocError>
+        ensures space { IfOk result (λ refuter. possible_space refuter ≡ space.now) }
     {
         let universe = space.universe();
         // What `len` promises tells the proof that the sizes are such as a refuter may have.

@@ -1,0 +1,292 @@
+-- Literals that are named or not, one after another.
+use Rattle.std.proofs.Common.{◌≡◌, ◌<◌, ◌≤◌, ◌+◌, ℕ, zero, suc, List, [], ◌∷◌, Bool, true, false, not}
+use Rattle.std.proofs.Common.{◌||◌, ◌&&◌, Some, None, IsTrue, refl, sym, ap, ◌∙◌, subst, inl, inr}
+use Rattle.std.proofs.Common.{arith, length, set, ◌⊎◌}
+use Rattle.std.specs.Prelude.{slice_get, slice_index_or}
+use Rattle.std.specs.List.{AllZip, list_all, find}
+use Rattle.std.specs.Prelude.{Option, IfSome, is_some}
+use Rattle.std.proofs.lemmas.Option.{slice_get_within}
+use Rattle.std.proofs.lemmas.Bool.{and_parts, both_ways}
+use Rattle.std.proofs.Math.Nat.{eq-or-lt_of_le}
+use Rattle.am_labels.specs.Words.{Space, all_choices, IsChoiceOf}
+use Rattle.am_first_sets.proofs.FirstPossible.{is_found}
+use Rattle.am_reasons.specs.declared.candidate.Candidate.{Candidate}
+use Rattle.am_reasons.specs.Meeting.{holds_at, hold_all, meets, IsMet, IsUnmet}
+use Rattle.am_reasons.specs.Reason.{AreSameLiterals, AreNamedBefore, renamed, without}
+use Rattle.am_reasons.specs.Reason.{count_unnamed}
+
+-- of the literals from one position on, those before another are needed where they are named
+abbrev pub AreNeededBefore : Space → ℕ → ℕ → List Candidate → Type 0
+AreNeededBefore s from n ks =
+    (i : ℕ) (k : Candidate) → slice_get ks i ≡ Some k → from ≤ i → i < n → IsTrue k.named
+    → IsMet s (without i ks)
+
+-- ---- The same literals.
+
+pub same_itself : (ks : List Candidate) → AreSameLiterals ks ks
+same_itself [] = tt
+same_itself (k ∷ ks) = ((refl, refl), same_itself ks)
+
+pub same_renamed : (i : ℕ) (name : Bool) (ks ls : List Candidate) → AreSameLiterals ks ls
+    → AreSameLiterals ks (renamed i name ls)
+same_renamed i name [] [] same = tt
+same_renamed i name [] (l ∷ ls) same = absurd same
+same_renamed i name (k ∷ ks) [] same = absurd same
+same_renamed zero name (k ∷ ks) (l ∷ ls) same = same
+same_renamed (suc i) name (k ∷ ks) (l ∷ ls) same = (same.0, same_renamed i name ks ls same.1)
+
+pub same_through : (ks ls ms : List Candidate) → AreSameLiterals ks ls → AreSameLiterals ls ms
+    → AreSameLiterals ks ms
+same_through [] [] [] a b = tt
+same_through [] [] (m ∷ ms) a b = absurd b
+same_through [] (l ∷ ls) ms a b = absurd a
+same_through (k ∷ ks) [] ms a b = absurd a
+same_through (k ∷ ks) (l ∷ ls) [] a b = absurd b
+same_through (k ∷ ks) (l ∷ ls) (m ∷ ms) a b =
+    ((a.0.0 ∙ b.0.0, a.0.1 ∙ b.0.1), same_through ks ls ms a.1 b.1)
+
+-- ---- One literal that is named, or is not.
+
+-- the literal at its place gets the name, and the others stay
+pub got_renamed : (i : ℕ) (name : Bool) (ks : List Candidate) (j : ℕ) (k : Candidate)
+    → slice_get (renamed i name ks) j ≡ Some k
+    → ((j ≡ i) × (k.named ≡ name)) ⊎ ((slice_get ks j ≡ Some k) × (j ≡ i → ⊥))
+got_renamed i name [] j k at = absurd (cc)
+got_renamed zero name (l ∷ ks) zero k at =
+    let is : record l { named = name } ≡ k = cc in inl (refl, ap (λ x. x.named) (sym is))
+got_renamed zero name (l ∷ ks) (suc j) k at = inr (at, λ e. cc)
+got_renamed (suc i) name (l ∷ ks) zero k at = inr (at, λ e. cc)
+got_renamed (suc i) name (l ∷ ks) (suc j) k at = elim (got_renamed i name ks j k at) [
+  | inl here ↦ inl (ap suc here.0, here.1)
+  | inr other ↦ inr (other.0, λ e. other.1 (omega (arith, e)))
+]
+
+pub renamed_is_set : (i : ℕ) (name : Bool) (ks : List Candidate) (d : Candidate)
+    → i < length ks
+    → set ks i (record {
+      cube = (slice_index_or ks i d).cube;
+      wanted = (slice_index_or ks i d).wanted;
+      named = name;
+    }) ≡ renamed i name ks
+renamed_is_set i name [] d lt = absurd (omega (arith, lt))
+renamed_is_set zero name (k ∷ ks) d lt = refl
+renamed_is_set (suc i) name (k ∷ ks) d lt =
+    ap (λ rest. k ∷ rest) (renamed_is_set i name ks d (omega (arith, lt)))
+
+-- what was named stays so, where another is named, or one behind it is not
+pub named_more : (n i : ℕ) (ks : List Candidate) → AreNamedBefore n ks
+    → AreNamedBefore n (renamed i true ks)
+named_more n i ks h j k at lt = elim (got_renamed i true ks j k at) [
+  | inl here ↦ here.1
+  | inr other ↦ h j k other.0 lt
+]
+
+pub named_less : (n i : ℕ) (ks : List Candidate) → n ≤ i → AreNamedBefore n ks
+    → AreNamedBefore n (without i ks)
+named_less n i ks behind h j k at lt = elim (got_renamed i false ks j k at) [
+  | inl here ↦ absurd (omega (arith, behind, lt, here.0))
+  | inr other ↦ h j k other.0 lt
+]
+
+-- of the first so many literals those before a position are named
+abbrev pub AreNamedSoFar : List Candidate → List Candidate → ℕ → ℕ → Type 0
+AreNamedSoFar ks ls count n =
+    AreSameLiterals ks ls
+    × ((j : ℕ) (k : Candidate) → slice_get ls j ≡ Some k → j < n → j < count → IsTrue k.named)
+
+at_most : (j i : ℕ) → j < i + 1 → j ≤ i
+at_most j i lt = omega (arith, lt)
+
+-- one more of them is named
+pub named_first : (ks before after : List Candidate) (count i : ℕ) (name : Bool)
+    → AreNamedSoFar ks before count i → (i < count → name ≡ true)
+    → after ≡ renamed i name before → AreNamedSoFar ks after count (i + 1)
+named_first ks before after count i name h so is = (
+  subst (AreSameLiterals ks) (sym is) (same_renamed i name ks before h.0),
+  λ j k at lt low.
+      elim (got_renamed i name before j k
+      (subst (λ (ls : List Candidate). slice_get ls j ≡ Some k) is at)) [
+        | inl here ↦ here.1 ∙ so (omega (arith, low, here.0))
+        | inr other ↦ elim (eq-or-lt_of_le (at_most j i lt)) [
+          | inl e ↦ absurd (other.1 e)
+          | inr below ↦ h.1 j k other.0 below low
+        ]
+      ],
+)
+
+-- naming again what was named gives the same
+pub restored : (i : ℕ) (ks : List Candidate) (k : Candidate) → slice_get ks i ≡ Some k
+    → k.named ≡ true → renamed i true (without i ks) ≡ ks
+restored i [] k at named = refl
+restored zero (l ∷ ks) k at named =
+    let is : l ≡ k = cc in
+    let so : l.named ≡ true = ap (λ x. x.named) is ∙ named in
+    λ j. record { cube = l.cube; wanted = l.wanted; named = sym so j } ∷ ks
+restored (suc i) (l ∷ ks) k at named = ap (λ rest. l ∷ rest) (restored i ks k at named)
+
+-- the order in which names are taken off is no matter
+swapped : (i j : ℕ) (ks : List Candidate) → without j (without i ks) ≡ without i (without j ks)
+swapped i j [] = refl
+swapped zero zero (k ∷ ks) = refl
+swapped zero (suc j) (k ∷ ks) = refl
+swapped (suc i) zero (k ∷ ks) = refl
+swapped (suc i) (suc j) (k ∷ ks) = ap (λ rest. k ∷ rest) (swapped i j ks)
+
+-- and the literal at its place is not named without it
+pub at_place : {P : Type 0} (i : ℕ) (ks : List Candidate) (k : Candidate)
+    → slice_get (without i ks) i ≡ Some k → IsTrue k.named → P
+at_place i ks k at named = elim (got_renamed i false ks i k at) [
+  | inl here ↦ absurd (both_ways k.named here.1 named)
+  | inr other ↦ absurd (other.1 refl)
+]
+
+-- ---- What is met.
+
+-- with fewer names the rest is met
+fewer_met : (c : List ℕ) (i : ℕ) (ks : List Candidate) → meets c ks ≡ true
+    → meets c (without i ks) ≡ true
+fewer_met c i [] h = refl
+fewer_met c zero (k ∷ ks) h = (and_parts (not k.named || holds_at c k) (meets c ks) h).1
+fewer_met c (suc i) (k ∷ ks) h =
+    let parts = and_parts (not k.named || holds_at c k) (meets c ks) h in
+    rw (parts.0) (fewer_met c i ks parts.1)
+
+pub needed_still : (s : Space) (i j : ℕ) (ks : List Candidate) → IsMet s (without j ks)
+    → IsMet s (without j (without i ks))
+needed_still s i j ks met = (
+  met.0,
+  met.1,
+  ap (meets met.0) (swapped i j ks) ∙ fewer_met met.0 i (without j ks) met.2,
+)
+
+-- where what is named is met, a literal that is false is not named
+pub false_unnamed : (c : List ℕ) (ks : List Candidate) (i : ℕ) (k : Candidate)
+    → meets c ks ≡ true → slice_get ks i ≡ Some k → holds_at c k ≡ false → k.named ≡ false
+false_unnamed c [] i k h at fails = absurd (cc)
+false_unnamed c (l ∷ ks) zero k h at fails =
+    let is : l ≡ k = cc in
+    let here = subst (λ (x : Candidate). (not x.named || holds_at c x) ≡ true) is
+    (and_parts (not l.named || holds_at c l) (meets c ks) h).0 in
+    unnamed k.named (ap (λ b. not k.named || b) (sym fails) ∙ here)
+  where
+    unnamed : (b : Bool) → (not b || false) ≡ true → b ≡ false
+    unnamed true e = sym e
+    unnamed false e = refl
+false_unnamed c (l ∷ ks) (suc i) k h at fails =
+    false_unnamed c ks i k (and_parts (not l.named || holds_at c l) (meets c ks) h).1 at fails
+
+-- so naming it leaves fewer without a name
+pub fewer_unnamed : (ks : List Candidate) (i : ℕ) (k : Candidate) → slice_get ks i ≡ Some k
+    → k.named ≡ false → count_unnamed (renamed i true ks) < count_unnamed ks
+fewer_unnamed [] i k at none = absurd (cc)
+fewer_unnamed (l ∷ ks) zero k at none =
+    let is : l ≡ k = cc in
+    let so : l.named ≡ false = ap (λ x. x.named) is ∙ none in
+    rw so (omega arith)
+fewer_unnamed (l ∷ ks) (suc i) k at none =
+    let later = fewer_unnamed ks i k at none in omega (arith, later)
+
+-- the truth of literals does not ask whether they are named
+pub hold_alike : (c : List ℕ) (ks ls : List Candidate) → AreSameLiterals ks ls
+    → hold_all c ls ≡ true → hold_all c ks ≡ true
+hold_alike c [] [] same h = refl
+hold_alike c [] (l ∷ ls) same h = absurd same
+hold_alike c (k ∷ ks) [] same h = absurd same
+hold_alike c (k ∷ ks) (l ∷ ls) same h =
+    let parts = and_parts (holds_at c l) (hold_all c ls) h in
+    let is : holds_at c k ≡ holds_at c l = alike k l same.0.0 same.0.1 in
+    rw (is ∙ parts.0) (hold_alike c ks ls same.1 parts.1)
+  where
+    alike : (k l : Candidate) → k.cube ≡ l.cube → k.wanted ≡ l.wanted
+        → holds_at c k ≡ holds_at c l
+    alike k l cube wanted = rw (cube, wanted) refl
+
+-- ---- What was looked at is needed.
+
+pub needed_more : (s : Space) (from i : ℕ) (before after : List Candidate)
+    → (after ≡ before) ⊎ (after ≡ without i before)
+    → ((k : Candidate) → slice_get after i ≡ Some k → IsTrue k.named → IsMet s (without i after))
+    → AreNeededBefore s from i before → AreNeededBefore s from (i + 1) after
+needed_more s from i before after either here so j k at low lt named =
+    elim (eq-or-lt_of_le (at_most j i lt)) [
+      | inr below ↦ elim either [
+        | inl same ↦
+            subst (λ (ks : List Candidate). IsMet s (without j ks)) (sym same)
+            (so j k (subst (λ (ks : List Candidate). slice_get ks j ≡ Some k) same at) low below named)
+        | inr less ↦
+            let there = subst (λ (ks : List Candidate). slice_get ks j ≡ Some k) less at in
+            subst (λ (ks : List Candidate). IsMet s (without j ks)) (sym less)
+            (elim (got_renamed i false before j k there) [
+              | inl it ↦ absurd (omega (arith, below, it.0))
+              | inr other ↦ needed_still s i j before (so j k other.0 low below named)
+            ])
+      ]
+      | inl is ↦
+          subst (λ (n : ℕ). IsMet s (without n after)) (sym is)
+          (here k (subst (λ (n : ℕ). slice_get after n ≡ Some k) is at) named)
+    ]
+
+pub named_either : (n i : ℕ) (before after : List Candidate) → n ≤ i
+    → (after ≡ before) ⊎ (after ≡ without i before) → AreNamedBefore n before
+    → AreNamedBefore n after
+named_either n i before after le (inl same) h = subst (AreNamedBefore n) (sym same) h
+named_either n i before after le (inr less) h =
+    subst (AreNamedBefore n) (sym less) (named_less n i before le h)
+
+pub same_either : (ks before after : List Candidate) (i : ℕ)
+    → (after ≡ before) ⊎ (after ≡ without i before) → AreSameLiterals ks before
+    → AreSameLiterals ks after
+same_either ks before after i (inl same) h = subst (AreSameLiterals ks) (sym same) h
+same_either ks before after i (inr less) h =
+    subst (AreSameLiterals ks) (sym less) (same_renamed i false ks before h)
+
+-- ---- What was looked for.
+
+-- what is found meets the literals that are named, and where nothing is found none does
+pub found_meets : (s : Space) (ks : List Candidate) (found : Option (List ℕ)) (c : List ℕ)
+    → found ≡ find (λ d. meets d ks) (all_choices s) → found ≡ Some c → meets c ks ≡ true
+found_meets s ks found c first is =
+    (is_found (λ d. meets d ks) (all_choices s) c (sym first ∙ is)).1
+
+pub met_if : (s : Space) (ks : List Candidate) (found : Option (List ℕ))
+    → found ≡ find (λ d. meets d ks) (all_choices s) → IfSome found (IsChoiceOf s)
+    → is_some found ≡ true → IsMet s ks
+met_if s ks None first possible some = absurd (cc)
+met_if s ks (Some c) first possible some =
+    (c, possible, found_meets s ks (Some c) c first refl)
+
+pub unmet_if : (s : Space) (ks : List Candidate) (found : Option (List ℕ))
+    → found ≡ find (λ d. meets d ks) (all_choices s) → is_some found ≡ false → IsUnmet s ks
+unmet_if s ks None first none = sym first
+unmet_if s ks (Some c) first none = absurd (cc)
+
+pub literal_at : (ks : List Candidate) (i : ℕ) → i < length ks
+    → (k : Candidate) × (slice_get ks i ≡ Some k)
+literal_at [] i lt = absurd (omega (arith, lt))
+literal_at (k ∷ ks) zero lt = (k, refl)
+literal_at (k ∷ ks) (suc i) lt = literal_at ks i (omega (arith, lt))
+
+-- the next literal that is named was not
+pub one_more : (s : Space) (ks : List Candidate) (found : Option (List ℕ)) (c : List ℕ) (i : ℕ)
+    → found ≡ find (λ d. meets d ks) (all_choices s) → found ≡ Some c → i < length ks
+    → ((k : Candidate) → slice_get ks i ≡ Some k → holds_at c k ≡ false)
+    → count_unnamed (renamed i true ks) < count_unnamed ks
+one_more s ks found c i first is lt fails =
+    let at = literal_at ks i lt in
+    fewer_unnamed ks i at.0 at.1
+    (false_unnamed c ks i at.0 (found_meets s ks found c first is) at.1 (fails at.0 at.1))
+
+-- the literals of two lists are as many
+pub as_many : (ks ls : List Candidate) → AreSameLiterals ks ls → length ks ≡ length ls
+as_many [] [] same = refl
+as_many [] (l ∷ ls) same = absurd same
+as_many (k ∷ ks) [] same = absurd same
+as_many (k ∷ ks) (l ∷ ls) same = ap suc (as_many ks ls same.1)
+
+-- where all are looked at, the first so many are named
+pub all_named : (ks ls : List Candidate) (count n : ℕ) → AreNamedSoFar ks ls count n
+    → length ks ≤ n → AreNamedBefore count ls
+all_named ks ls count n h all j l at lt =
+    let there = slice_get_within ls j l at in
+    let long = as_many ks ls h.0 in
+    h.1 j l at (omega (arith, there, long, all)) lt

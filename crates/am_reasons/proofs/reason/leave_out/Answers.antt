@@ -1,0 +1,27 @@
+use Rattle.std.proofs.Common.{arith}
+use Rattle.am_first_sets.specs.Words.{possible_space}
+use Rattle.am_reasons.proofs.ReasonLemmas.{same_itself, same_either, named_either, needed_more}
+use Rattle.am_reasons.proofs.ReasonLemmas.{as_many}
+use Rattle.am_reasons.proofs.reason.leave_out.Goals as goal
+
+pub loop-i-init : goal.loop-i-init
+loop-i-init c = (
+  same_itself c.args.candidates.now,
+  c.requires.first,
+  c.requires.enough,
+  λ i k at low lt. absurd (omega (arith, low, lt)),
+)
+
+pub loop-i-preserved : goal.loop-i-preserved
+loop-i-preserved c =
+    let s = possible_space c.args.possible.now in
+    let before = c.loop-i.candidates in
+    let after = c.leave_out_at.new.candidates in
+    let i = c.loop-i.i in
+    let told = c.leave_out_at.ensures in
+    let so = c.loop-i.invariant in (
+      same_either c.args.candidates.now before after i told.either so.0,
+      named_either c.args.from i before after c.loop-i.auto.i told.either so.1,
+      told.enough,
+      needed_more s c.args.from i before after told.either told.needed so.3,
+    )

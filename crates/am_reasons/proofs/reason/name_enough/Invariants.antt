@@ -1,0 +1,13 @@
+use Rattle.std.proofs.Common.{ℕ}
+use Rattle.am_reasons.specs.Reason.{AreSameLiterals, AreNamedBefore, count_unnamed}
+use Rattle.am_reasons.proofs.reason.name_enough.Given as goal
+
+-- the literals are the same, and what was named is
+abbrev pub invariant-loop-choice : goal.invariant-loop-choice
+invariant-loop-choice l =
+    AreSameLiterals l.fn.candidates l.candidates
+    × ((n : ℕ) → AreNamedBefore n l.fn.candidates → AreNamedBefore n l.candidates)
+
+-- fewer and fewer are not named
+abbrev pub decreases-loop-choice : goal.decreases-loop-choice
+decreases-loop-choice l = count_unnamed l.candidates

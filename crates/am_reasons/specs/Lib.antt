@@ -1,0 +1,4 @@
+pub mod Meeting
+pub mod MeetingRefuter
+pub mod Reason
+pub mod Words

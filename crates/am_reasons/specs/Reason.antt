@@ -1,0 +1,41 @@
+-- Reasons: which of some literals are to blame that no label set of a space meets all of them.
+use Rattle.std.specs.Prelude.{◌≡◌, ◌<◌, ◌≤◌, ◌+◌, ℕ, zero, suc, List, [], ◌∷◌, Bool, false, Some}
+use Rattle.std.specs.Prelude.{slice_get, IsTrue, if◌then◌else◌}
+use Rattle.std.specs.List.{AllZip}
+use Rattle.am_labels.specs.Words.{Space}
+use Rattle.am_reasons.specs.declared.candidate.Candidate.{Candidate}
+use Rattle.am_reasons.specs.Meeting.{IsMet, IsUnmet}
+
+-- Two lists have the same literals, whichever of them are named.
+abbrev pub AreSameLiterals : List Candidate → List Candidate → Type 0
+AreSameLiterals ks ls = AllZip (λ k l. (k.cube ≡ l.cube) × (k.wanted ≡ l.wanted)) ks ls
+
+-- The first so many literals are named.
+abbrev pub AreNamedBefore : ℕ → List Candidate → Type 0
+AreNamedBefore n ks =
+    (i : ℕ) (k : Candidate) → slice_get ks i ≡ Some k → i < n → IsTrue k.named
+
+-- The literals, of which that at a position is named, or is not; and how many are not named.
+abbrev pub renamed : ℕ → Bool → List Candidate → List Candidate
+renamed i name [] = []
+renamed zero name (k ∷ ks) = record k { named = name } ∷ ks
+renamed (suc i) name (k ∷ ks) = k ∷ renamed i name ks
+
+abbrev pub without : ℕ → List Candidate → List Candidate
+without i ks = renamed i false ks
+
+abbrev pub count_unnamed : List Candidate → ℕ
+count_unnamed [] = 0
+count_unnamed (k ∷ ks) = (if k.named then 0 else 1) + count_unnamed ks
+
+-- The literals that are named are a reason why no label set of a space meets all: the first so many
+-- are among them; they are enough, as none meets those that are named; and each of the others is
+-- needed, as without it some label set meets those that are left.
+-- Source: own choice; in logic what is enough and needed so is a minimal unsatisfiable set.
+-- Example: of `team="db"`, `env="prod"` and not `team=~"d.*"` the first and the third are one,
+-- where none has to be among them; with the second it is none, as that is not needed.
+pub record IsReason (s : Space) (fixed : ℕ) (ks : List Candidate) : Type 0 where
+  pub first : AreNamedBefore fixed ks
+  pub enough : IsUnmet s ks
+  pub needed : (i : ℕ) (k : Candidate) → slice_get ks i ≡ Some k → fixed ≤ i → IsTrue k.named
+      → IsMet s (without i ks)

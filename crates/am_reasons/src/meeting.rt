@@ -1,0 +1,80 @@
+//! The first label set that meets the literals that are named.
+
+ghost use Rattle.std.specs.Prelude.{◌≡◌, true, IfSome, IfNone};
+ghost use Rattle.std.specs.List.{find};
+ghost use Rattle.am_labels.specs.Words.{all_choices, IsChoiceOf};
+ghost use Rattle.am_first_sets.specs.Words.{possible_space};
+ghost use Rattle.am_first_sets.specs.Reasons.{IsReasonAgainst};
+ghost use Rattle.am_reasons.specs.Meeting.{meets};
+
+use crate::Candidate;
+use am_first_sets::PossibleRefuter;
+use am_labels::Choice;
+use am_search::{Labels, Refuter, first_by_jumps};
+
+/// The first choice of a space, in declared order, that meets the literals that are named, if there
+/// is one. No memory is taken.
+pub(crate) fn first_meeting(
+    possible: &PossibleRefuter<'_>,
+    candidates: &[Candidate<'_>],
+) -> Option<Choice>
+    ensures first { result ≡ find (λ c. meets c candidates.now)
+        (all_choices (possible_space possible.now)) }
+    ensures possible { IfSome result (IsChoiceOf (possible_space possible.now)) }
+{
+    let refuter = MeetingRefuter {
+        possible,
+        candidates,
+    };
+    first_by_jumps(&refuter)
+}
+
+/// What refutes prefixes none of whose completions is possible and meets the literals.
+#[derive(Drop)]
+struct MeetingRefuter<'a> {
+    possible: &'a PossibleRefuter<'a>,
+    candidates: &'a [Candidate<'a>],
+}
+
+impl<'a> Refuter for MeetingRefuter<'a> {
+    ghost use Rattle.am_reasons.specs.MeetingRefuter.{meeting_sizes, meeting_truth};
+    ghost use Rattle.am_reasons.specs.MeetingRefuter.{meeting_are_sizes};
+
+    ghost sizes = { meeting_sizes };
+
+    ghost truth = { meeting_truth };
+
+    ghost laws = { meeting_are_sizes };
+
+    fn labels(&self) -> usize {
+        self.possible.labels()
+    }
+
+    fn size(&self, i: usize) -> usize {
+        self.possible.size(i)
+    }
+
+    fn refute(&self, prefix: &Choice) -> Option<Labels> {
+        if let Some(labels) = self.possible.refute(prefix) {
+            return Some(labels);
+        }
+        why_unmet(self.candidates, prefix)
+    }
+}
+
+/// Why no completion of a prefix meets the literals that are named, where their cubes say so: the
+/// reason against the first that is not met.
+fn why_unmet(candidates: &[Candidate<'_>], prefix: &Choice) -> Option<Labels>
+    ensures some { IfSome result (λ labels.
+        IsReasonAgainst (λ c. meets c candidates.now) labels prefix.now) }
+    ensures none { IfNone result (meets prefix.now candidates.now ≡ true) }
+{
+    for candidate in candidates {
+        if candidate.named
+            && let Some(labels) = candidate.why_not(prefix)
+        {
+            return Some(labels);
+        }
+    }
+    None
+}

@@ -1,0 +1,123 @@
+//! The search for literals that are to blame.
+
+ghost use Rattle.std.specs.Prelude.{◌≡◌, ◌⊎◌, ◌<◌, ℕ, true, false, length, slice_get, Some};
+ghost use Rattle.std.specs.Prelude.{IsTrue, IfSome, IfNone};
+ghost use Rattle.am_first_sets.specs.Words.{possible_space};
+ghost use Rattle.am_reasons.specs.declared.candidate.Candidate.{Candidate};
+ghost use Rattle.am_reasons.specs.Words.{holds_at, hold_all, IsMet, IsUnmet, IsAnyMet};
+ghost use Rattle.am_reasons.specs.Words.{AreSameLiterals, AreNamedBefore, renamed, without};
+ghost use Rattle.am_reasons.specs.Words.{IsReason};
+
+use crate::Candidate;
+use crate::meeting::first_meeting;
+use am_first_sets::PossibleRefuter;
+use am_labels::Choice;
+
+/// Names the literals that are to blame where no label set of a space meets all of them: enough, so
+/// that none meets those that are named; the first `fixed` of them all, and of the others only such
+/// as are needed, so that without any of these some label set meets those that are left. `false`
+/// where some label set meets all. No memory is taken.
+///
+/// It begins with the first `fixed` alone, and looks for a label set that meets what is named; the
+/// first other literal that this one does not meet is named next. Where there is no such label set
+/// any more, what is not needed is left out, one after the other.
+pub fn find_reason(
+    possible: &PossibleRefuter<'_>,
+    candidates: &mut [Candidate<'_>],
+    fixed: usize,
+) -> bool
+    ensures same { AreSameLiterals candidates.old candidates.new }
+    ensures reason { IsTrue result
+        → IsReason (possible_space possible.now) fixed candidates.new }
+    ensures none { result ≡ false → IsAnyMet (possible_space possible.now) candidates.old }
+{
+    name_first(candidates, fixed);
+    if !name_enough(possible, candidates) {
+        return false;
+    }
+    leave_out(possible, candidates, fixed);
+    true
+}
+
+/// Names the first so many literals, and no other.
+fn name_first(candidates: &mut [Candidate<'_>], count: usize)
+    ensures same { AreSameLiterals candidates.old candidates.new }
+    ensures named { AreNamedBefore count candidates.new }
+{
+    for i in 0..candidates.len() {
+        set_named(candidates, i, i < count);
+    }
+}
+
+/// Names further literals until no label set of a space meets those that are named. `false` where
+/// some label set meets all.
+fn name_enough(possible: &PossibleRefuter<'_>, candidates: &mut [Candidate<'_>]) -> bool
+    ensures same { AreSameLiterals candidates.old candidates.new }
+    ensures named { (n : ℕ) → AreNamedBefore n candidates.old
+        → AreNamedBefore n candidates.new }
+    ensures enough { IsTrue result → IsUnmet (possible_space possible.now) candidates.new }
+    ensures none { result ≡ false → IsAnyMet (possible_space possible.now) candidates.new }
+{
+    while let Some(choice) = first_meeting(possible, candidates) {
+        match first_false(candidates, &choice) {
+            Some(i) => set_named(candidates, i, true),
+            None => return false,
+        }
+    }
+    true
+}
+
+/// The first literal that is false at a choice, if one is.
+fn first_false(candidates: &[Candidate<'_>], choice: &Choice) -> Option<usize>
+    ensures some { IfSome result (λ i. (k : Candidate) → slice_get candidates.now i ≡ Some k
+        → holds_at choice.now k ≡ false) }
+    ensures within { IfSome result (λ i. i < length candidates.now) }
+    ensures none { IfNone result (hold_all choice.now candidates.now ≡ true) }
+{
+    for (i, candidate) in candidates.iter().enumerate() {
+        if candidate.why_not(choice).is_some() {
+            return Some(i);
+        }
+    }
+    None
+}
+
+/// Takes the names off literals that are not needed, from a position on: without one of those that
+/// are left named some label set of a space meets the others.
+fn leave_out(possible: &PossibleRefuter<'_>, candidates: &mut [Candidate<'_>], from: usize)
+    requires first { AreNamedBefore from candidates.old }
+    requires enough { IsUnmet (possible_space possible.now) candidates.old }
+    ensures same { AreSameLiterals candidates.old candidates.new }
+    ensures reason { IsReason (possible_space possible.now) from candidates.new }
+{
+    for i in from..candidates.len() {
+        leave_out_at(possible, candidates, i);
+    }
+}
+
+/// Takes the name off the literal at a position, if it is not needed.
+fn leave_out_at(possible: &PossibleRefuter<'_>, candidates: &mut [Candidate<'_>], i: usize)
+    requires there { i < length candidates.old }
+    requires enough { IsUnmet (possible_space possible.now) candidates.old }
+    ensures either { (candidates.new ≡ candidates.old)
+        ⊎ (candidates.new ≡ without i candidates.old) }
+    ensures enough { IsUnmet (possible_space possible.now) candidates.new }
+    ensures needed { (k : Candidate) → slice_get candidates.new i ≡ Some k → IsTrue k.named
+        → IsMet (possible_space possible.now) (without i candidates.new) }
+{
+    if !candidates[i].named {
+        return;
+    }
+    set_named(candidates, i, false);
+    if first_meeting(possible, candidates).is_some() {
+        set_named(candidates, i, true);
+    }
+}
+
+/// Names the literal at a position, or takes its name off.
+fn set_named(candidates: &mut [Candidate<'_>], i: usize, named: bool)
+    requires { i < length candidates.old }
+    ensures { candidates.new ≡ renamed i named candidates.old }
+{
+    candidates[i].named = named;
+}
