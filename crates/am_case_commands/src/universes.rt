@@ -6,7 +6,7 @@ use am_case_texts::{Refusal, made_refused, told};
 use am_classes::Alphabet;
 use am_eval::Files;
 use am_labels::{Fault, Out, Sink};
-use am_universe_command::{UniverseForm, check_universe, universe};
+use am_universe_command::{UniverseForm, UniverseInputs, check_universe, universe};
 use std::alloc::Global;
 
 /// What a table asks of universes.
@@ -59,10 +59,18 @@ pub fn write_universes<W: Sink>(
         alerts: over.alerts,
         at: None,
     };
+    let inputs = UniverseInputs {
+        universe: match asked {
+            Universes::Made(_) => None,
+            Universes::Checked(_) => Some(checked),
+        },
+        files: &files,
+        questions: &[],
+    };
     match asked {
-        Universes::Made(form) => universe(alloc, &files, form, out),
+        Universes::Made(form) => universe(alloc, &inputs, form, out),
         Universes::Checked(form) => {
-            check_universe(alloc, checked, &files, form.routes, form.alphabet, out)
+            check_universe(alloc, &inputs, form.routes, form.alphabet, out)
         }
     }
 }

@@ -30,17 +30,21 @@ pub enum Request<'a> {
     Explain {
         set: Vec<&'a str>,
     },
-    /// A universe that stands for every alert: of the routes alone; for alerts of printable ASCII
-    /// alone; and also where it cannot be proved of a label.
+    /// A universe that stands for every alert: beside the labels of the universe file; of the
+    /// routes alone; for alerts of printable ASCII alone; and also where it cannot be proved of a
+    /// label. The matchers of questions count too.
     Universe {
+        from: bool,
         routes: bool,
         ascii: bool,
         open: bool,
+        questions: Vec<&'a str>,
     },
     /// What a universe lacks to stand for every alert, or for those of printable ASCII.
     CheckUniverse {
         routes: bool,
         ascii: bool,
+        questions: Vec<&'a str>,
     },
 }
 
@@ -391,6 +395,23 @@ With --alerts a class without a text that a matcher names has, of its values, th
 most of these alerts have. For `amcover dead` and `amcover receivers` --routes is enough:
 it leaves out all but the matchers of routes, and the universe is smaller.
 
+The matchers in the braces of a question of `amcover ask` count with --question, which may
+be given several times:
+
+  amcover universe --config alertmanager.json --question '{team=\"db\"}' > u.json
+
+Where a question has no answer over such a universe, it is true of no alert.
+
+To say what never occurs, write it to a universe file, never.json, and let the program
+write the rest:
+
+  {\"labels\": [], \"impossible\": [\"team=web,severity=critical\"]}
+
+  amcover universe --from never.json --config alertmanager.json > u.json
+
+keeps the labels of that file, their values and its impossible lists, in their order, and
+adds what it lacks.
+
 A value may have any character, also a line feed, which . does not match: so a route behind
 team=~\".*\" is live. With --ascii alerts count alone whose values have printable ASCII,
 from the blank to ~, and no other alert. The universe is smaller then, it is made faster,
@@ -398,7 +419,7 @@ and the same --ascii with --check says that it lacks nothing.
 
 Of some patterns it cannot be found which texts they tell apart, as of those with \\b,
 unless --ascii is given. And some names no universe can declare, as a:b. Then nothing is
-written, and the fault says which route, rule or silence it is:
+written, and the fault says which route, rule, silence, question or list it is:
 
   amcover: config: /route/routes/0: unproved
 
@@ -463,7 +484,7 @@ fn request_of<'a>(
         "dead" => Ok(Some(Request::Dead)),
         "receivers" => Ok(Some(Request::Receivers)),
         "explain" => explain_request(alloc, matches),
-        "universe" => Ok(Some(universe_request(matches))),
+        "universe" => Ok(Some(universe_request(alloc, matches)?)),
         _ => Ok(None),
     }
 }
@@ -494,23 +515,33 @@ fn explain_request<'a>(
 }
 
 /// What `universe` asks for: one that is made, or what the one of `--check` lacks.
-fn universe_request<'a>(matches: &ArgMatches<'a>) -> Request<'a> {
+fn universe_request<'a>(
+    alloc: Global,
+    matches: &ArgMatches<'a>,
+) -> Result<Request<'a>, AllocError> {
     let routes = matches.get_flag("routes");
     let ascii = matches.get_flag("ascii");
+    let questions = Vec::from_slice(alloc, matches.get_strs("question").unwrap_or(&[]))?;
     if matches.get_str("universe").is_some() {
-        return Request::CheckUniverse { routes, ascii };
+        return Ok(Request::CheckUniverse {
+            routes,
+            ascii,
+            questions,
+        });
     }
-    Request::Universe {
+    Ok(Request::Universe {
+        from: matches.get_str("from").is_some(),
         routes,
         ascii,
         open: matches.get_flag("open"),
-    }
+        questions,
+    })
 }
 
 /// The files that a command names, and the time, as far as it has such options.
 fn files_of<'a>(matches: &ArgMatches<'a>) -> InputFiles<'a, &'a str> {
     InputFiles {
-        universe: matches.get_str("universe"),
+        universe: matches.get_str("universe").or(matches.get_str("from")),
         config: matches.get_str("config"),
         silences: matches.get_str("silences"),
         alerts: matches.get_str("alerts"),
@@ -602,6 +633,11 @@ fn universe_command<'a>(alloc: Global) -> Result<Command<'a>, AllocError> {
         .long("check")
         .value_name("UNIVERSE")
         .help("Say what this universe lacks, a JSON file, and make none");
+    let from = Arg::new(alloc, "from")
+        .long("from")
+        .value_name("UNIVERSE")
+        .conflicts_with("universe")?
+        .help("Keep this universe, a JSON file, and add what it lacks");
     let routes = Arg::new(alloc, "routes")
         .long("routes")
         .action(ArgAction::SetTrue)
@@ -615,11 +651,18 @@ fn universe_command<'a>(alloc: Global) -> Result<Command<'a>, AllocError> {
         .action(ArgAction::SetTrue)
         .conflicts_with("universe")?
         .help("Write the universe also where it cannot be proved of a label");
+    let question = Arg::new(alloc, "question")
+        .long("question")
+        .value_name("QUESTION")
+        .action(ArgAction::Append)
+        .help("Let the matchers of this question count too; may be given several times");
     Command::new(alloc, "universe")
         .about(UNIVERSE_ABOUT)
         .after_help(UNIVERSE_HELP)
         .arg(check)?
+        .arg(from)?
         .arg(config_arg(alloc).required(true))?
+        .arg(question)?
         .arg(routes)?
         .arg(ascii)?
         .arg(silences_arg(alloc))?

@@ -1,6 +1,6 @@
 -- What is owed for a request, over the bytes of its files. (This project's own.)
 use Rattle.std.specs.Prelude.{ℕ, List, [], map, Option, option_map, option_copied, unwrap_or, ⊤}
-use Rattle.std.specs.Prelude.{Bool, if◌then◌else◌}
+use Rattle.std.specs.Prelude.{Bool, if◌then◌else◌, Some, None}
 use Rattle.std.specs.Global.{Vec}
 use Rattle.std.specs.Int.NonZero.{non_zero_u64_get}
 use Rattle.am_classes.specs.declared.alphabet.Alphabet.{Alphabet}
@@ -36,6 +36,10 @@ files_of files = record {
 abbrev pub alphabet_of : Bool → Alphabet
 alphabet_of ascii = if ascii then Ascii else Unicode
 
+-- The bytes of the universe that is kept, if one is, as with `--from`.
+abbrev pub kept_universe : Bool → List ℕ → Option (List ℕ)
+kept_universe from universe = if from then Some universe else None
+
 -- What is owed for a request: for `ask` the page of the answers to that question, from that token
 -- on and under that limit and that budget; for `dead` the report of routes; for `receivers` that of
 -- receivers; for `explain` the explanation of that set; for `universe` a universe in that form, or
@@ -55,8 +59,15 @@ promise_of requests.Dead universe files = dead_promise universe (config_of files
 promise_of requests.Receivers universe files = receivers_promise universe (config_of files.config)
 promise_of (requests.Explain set) universe files =
     explain_promise files (map (λ word. word.now) set.items)
-promise_of (requests.Universe routes ascii open_form) universe files =
-    universe_promise files
-    (record { routes = routes; alphabet = alphabet_of ascii; «open» = open_form })
-promise_of (requests.CheckUniverse routes ascii) universe files =
-    check_promise (alphabet_of ascii) universe files routes
+promise_of (requests.Universe from routes ascii open_form questions) universe files =
+    universe_promise (record {
+      universe = kept_universe from universe;
+      files = files;
+      questions = map (λ question. question.now) questions.items;
+    }) (record { routes = routes; alphabet = alphabet_of ascii; «open» = open_form })
+promise_of (requests.CheckUniverse routes ascii questions) universe files =
+    check_promise (alphabet_of ascii) (record {
+      universe = Some universe;
+      files = files;
+      questions = map (λ question. question.now) questions.items;
+    }) routes

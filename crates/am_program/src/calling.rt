@@ -6,7 +6,7 @@ ghost use Rattle.am_universe.specs.declared.limits.TheConstants.{MAX_LABELS};
 ghost use Rattle.am_command_line.specs.Words.{step_count};
 ghost use Rattle.am_eval.specs.Words.{IsKept};
 ghost use Rattle.am_program.specs.Words.{bytes_if_any, universe_bytes, files_of, promise_of};
-ghost use Rattle.am_program.specs.Requests.{alphabet_of};
+ghost use Rattle.am_program.specs.Requests.{alphabet_of, kept_universe};
 
 use am_classes::Alphabet;
 use am_command_line::{InputFiles, Request, Steps};
@@ -15,7 +15,7 @@ use am_eval::Files;
 use am_labels::{Fault, Sink};
 use am_notes::Call;
 use am_search::Page;
-use am_universe_command::{UniverseForm, check_universe, universe};
+use am_universe_command::{UniverseForm, UniverseInputs, check_universe, universe};
 use std::alloc::Global;
 use std::num::NonZeroU64;
 
@@ -45,20 +45,35 @@ pub fn make_call<W: Sink>(alloc: Global, call: &Call<'_>, out: &mut W) -> Result
         Request::Receivers => receivers(alloc, call.universe, call.files.config(), out),
         Request::Explain { set } => explain_words(alloc, &call.files, set.as_slice(), out),
         Request::Universe {
+            from,
             routes,
             ascii,
             open,
+            questions,
         } => {
+            let inputs = UniverseInputs {
+                universe: kept_universe(*from, call.universe),
+                files: &call.files,
+                questions: questions.as_slice(),
+            };
             let form = UniverseForm {
                 routes: *routes,
                 alphabet: alphabet_of(*ascii),
                 open: *open,
             };
-            universe(alloc, &call.files, form, out)
+            universe(alloc, &inputs, form, out)
         }
-        Request::CheckUniverse { routes, ascii } => {
-            let alphabet = alphabet_of(*ascii);
-            check_universe(alloc, call.universe, &call.files, *routes, alphabet, out)
+        Request::CheckUniverse {
+            routes,
+            ascii,
+            questions,
+        } => {
+            let inputs = UniverseInputs {
+                universe: Some(call.universe),
+                files: &call.files,
+                questions: questions.as_slice(),
+            };
+            check_universe(alloc, &inputs, *routes, alphabet_of(*ascii), out)
         }
     }
 }
@@ -90,6 +105,13 @@ fn bytes_of(file: &Option<Vec<u8>>) -> Option<&[u8]>
         Some(bytes) => Some(bytes.as_slice()),
         None => None,
     }
+}
+
+/// The universe beside which one is made, if there is one.
+fn kept_universe(from: bool, universe: &[u8]) -> Option<&[u8]>
+    ensures { option_copied result ≡ kept_universe from universe.now }
+{
+    if from { Some(universe) } else { None }
 }
 
 /// Which texts the labels of alerts may have.

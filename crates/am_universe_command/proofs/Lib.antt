@@ -1,2 +1,4 @@
 pub mod UniverseStages
+pub mod AskedFacts
 pub mod CheckFacts
+pub mod ReadQuestions

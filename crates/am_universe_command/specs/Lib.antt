@@ -1,2 +1,3 @@
+pub mod UniverseInputs
 pub mod Universes
 pub mod Words

@@ -4,9 +4,18 @@
 //! it, and [`check_universe`] says what another one lacks.
 #![tactic(auto)]
 
-// The calls.
-mod completing;
+// What the calls are handed, and what that says.
+mod asked_labels;
+mod read_inputs;
 mod universe_form;
+mod universe_inputs;
 
-pub use completing::{check_universe, universe};
 pub use universe_form::UniverseForm;
+pub use universe_inputs::UniverseInputs;
+
+// The calls.
+mod checking;
+mod making;
+
+pub use checking::check_universe;
+pub use making::universe;

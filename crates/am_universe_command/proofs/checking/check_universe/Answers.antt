@@ -1,0 +1,41 @@
+-- The inputs come first, and what is written is what was found.
+use Rattle.std.proofs.Common.{Bool, is_some, refl, string_bytes, subst, ap, map, ◌∙◌}
+use Rattle.am_eval.specs.Files.{Files}
+use Rattle.am_eval.specs.QuestionView.{question_view}
+use Rattle.am_eval.proofs.Promises.{refused, written, nothing_told}
+use Rattle.am_universe_command.specs.UniverseInputs.{UniverseInputs}
+use Rattle.am_universe_command.specs.Universes.{IsCheckOf, check_promise}
+use Rattle.am_universe_command.proofs.CheckFacts.{is_there}
+use Rattle.am_universe_command.proofs.checking.check_universe.Goals as goal
+
+pub returns-in_err-read : goal.returns-in_err-read
+returns-in_err-read g c =
+    record {
+      kept = refused (check_promise c.args.alphabet c.args.inputs.now c.args.routes)
+          c.in_err-read.field-0.0 c.from_residual.result refl c.from_residual.ensures.1
+          c.in_err-read.ensures.first;
+    }
+
+pub returns : goal.returns
+returns g c =
+    let read = c.in_ok-read.read in
+    let questions = map question_view read.questions.items in
+    record {
+      kept = written (check_promise c.args.alphabet c.args.inputs.now c.args.routes) tt
+          (string_bytes c.in-Ok.text) c.put_str.result c.answer_of_write.result
+          (record {
+            space = read.space;
+            world = read.world;
+            questions = questions;
+            accepts = c.in_ok-read.ensures.accepts;
+            checked = subst
+                (λ (b : Bool). IsCheckOf c.args.alphabet read.space read.world questions b
+                c.args.routes (string_bytes c.in-Ok.text))
+                (c.is_some-has_alerts.ensures ∙ is_there c.files.inside.alerts
+                ∙ ap (λ (f : Files). is_some f.alerts) c.files.view_is
+                ∙ ap (λ (i : UniverseInputs). is_some i.files.alerts) c.inputs.view_is)
+                c.in-Ok.ensures;
+          })
+          (nothing_told c.put_str.result) (rw (← c.as_str.ensures.value) c.put_str.ensures.written)
+          c.answer_of_write.ensures.answer;
+    }

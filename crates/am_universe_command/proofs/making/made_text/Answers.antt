@@ -1,0 +1,57 @@
+-- The text is read back as the universe, with the impossible lists of the space.
+use Rattle.std.proofs.Common.{◌≡◌, ℕ, List, inl, inr, ◌<◌, ◌≤◌, length, map, string_bytes, subst, sym}
+use Rattle.std.proofs.Common.{ap, ◌∙◌}
+use Rattle.std.specs.Str.{IsUtf8}
+use Rattle.am_json.specs.declared.limits.TheConstants.{MAX_FILE_BYTES}
+use Rattle.am_json.specs.Reading.{refusal_of}
+use Rattle.am_records.specs.UniverseFile.{FileHasImpossibleTexts}
+use Rattle.am_eval.specs.QuestionView.{question_view}
+use Rattle.am_complete_texts.specs.UniverseText.{universe_text}
+use Rattle.am_complete_texts.proofs.SaidByText.{text_says, texts_kept}
+use Rattle.am_universe_command.specs.Universes.{TooLongFor}
+use Rattle.am_universe_command.proofs.UniverseStages.{refused_here}
+use Rattle.am_universe_command.proofs.making.made_text.Goals as goal
+
+pub returns-clause-made : goal.returns-clause-made
+returns-clause-made c =
+    let u = c.in_ok-universe.universe in
+    let lists = map string_bytes c.args.read.now.texts.items in
+    let text = string_bytes c.in-Ok.text in
+    let is : text ≡ universe_text u lists =
+    c.in-Ok.ensures.text ∙ ap (λ ts. universe_text u (map string_bytes ts)) c.as_slice.ensures.value in
+    let utf8 = subst IsUtf8 c.as_str.ensures.value c.as_str.utf8 in
+    let short = subst (λ (t : List ℕ). length t ≤ MAX_FILE_BYTES) c.as_str.ensures.value
+    c.if-as_str-gt-MAX_FILE_BYTES.false in
+    record {
+      labels = u;
+      says = text_says u lists c.args.read.now.space.impossible text is
+          c.in_ok-universe.ensures.made.universe c.requires utf8 short;
+      word_for_word = subst (λ (t : List ℕ). FileHasImpossibleTexts t lists) (sym is)
+          (texts_kept u lists (subst IsUtf8 is utf8)
+          (subst (λ (t : List ℕ). length t ≤ MAX_FILE_BYTES) is short));
+      made = c.in_ok-universe.ensures.made;
+    }
+
+pub returns-then-as_str-gt-MAX_FILE_BYTES-clause-first :
+    goal.returns-then-as_str-gt-MAX_FILE_BYTES-clause-first
+returns-then-as_str-gt-MAX_FILE_BYTES-clause-first c = λ inputs accepts remembered.
+    let read = c.args.read.now in
+    let u = c.in_ok-universe.universe in
+    let lists = map string_bytes read.texts.items in
+    let found : TooLongFor inputs c.args.form (refusal_of c.at.result) = record {
+      space = read.space;
+      world = read.world;
+      questions = map question_view read.questions.items;
+      accepts = accepts;
+      labels = u;
+      made = c.in_ok-universe.ensures.made;
+      texts = lists;
+      of_lists = c.requires;
+      long = subst (λ (t : List ℕ). MAX_FILE_BYTES < length t)
+          (c.as_str.ensures.value ∙ c.in-Ok.ensures.text
+          ∙ ap (λ ts. universe_text u (map string_bytes ts)) c.as_slice.ensures.value)
+          c.if-as_str-gt-MAX_FILE_BYTES.true;
+      refusal = refused_here c.at.result _ c.at.ensures.kind c.at.ensures.pointer;
+    } in
+    let at = c.at.ensures.place (λ e. cc e) (λ e. cc e) in
+    inr (tt, inr (tt, inr (tt, inr (tt, inr (tt, inl (at, found))))))

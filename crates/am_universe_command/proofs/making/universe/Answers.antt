@@ -1,0 +1,56 @@
+-- The inputs come before what is made of them, and what is written is the text that is made.
+use Rattle.std.proofs.Common.{refl, string_bytes, map}
+use Rattle.am_json.specs.Reading.{refusal_of}
+use Rattle.am_eval.specs.QuestionView.{question_view}
+use Rattle.am_eval.proofs.FirstFaults.{first_of_more}
+use Rattle.am_eval.proofs.Promises.{refused, written, nothing_told}
+use Rattle.am_universe_command.specs.UniverseInputs.{universe_input_stages}
+use Rattle.am_universe_command.specs.Universes.{universe_promise, made_stages}
+use Rattle.am_universe_command.proofs.UniverseStages.{first_behind_inputs}
+use Rattle.am_universe_command.proofs.making.universe.Goals as goal
+
+pub returns-in_err-read : goal.returns-in_err-read
+returns-in_err-read g c =
+    let fault = c.in_err-read.field-0.0 in
+    let inputs = c.args.inputs.now in
+    record {
+      kept = refused (universe_promise inputs c.args.form) fault c.from_residual.result refl
+          c.from_residual.ensures.1
+          (λ remembered. first_of_more (universe_input_stages inputs)
+          (made_stages inputs c.args.form) fault.place (refusal_of fault)
+          (c.in_err-read.ensures.first remembered));
+    }
+
+pub returns-in_err-text : goal.returns-in_err-text
+returns-in_err-text g c =
+    let fault = c.in_err-text.field-0.0 in
+    let inputs = c.args.inputs.now in
+    let read = c.in_ok-read.read in
+    let accepts = c.in_ok-read.ensures.accepts in
+    record {
+      kept = refused (universe_promise inputs c.args.form) fault
+          c.from_residual-in_err-text.result refl c.from_residual-in_err-text.ensures.1
+          (λ remembered. first_behind_inputs inputs read.space read.world
+          (map question_view read.questions.items) (made_stages inputs c.args.form) fault.place
+          (refusal_of fault) accepts (c.in_err-text.ensures.first inputs accepts remembered));
+    }
+
+pub returns : goal.returns
+returns g c =
+    let inputs = c.args.inputs.now in
+    let read = c.in_ok-read.read in
+    record {
+      kept = written (universe_promise inputs c.args.form) tt (string_bytes c.in_ok-text.text)
+          c.put_str.result c.answer_of_write.result
+          (record {
+            space = read.space;
+            lists = map string_bytes read.texts.items;
+            world = read.world;
+            questions = map question_view read.questions.items;
+            accepts = c.in_ok-read.ensures.accepts;
+            has_lists = c.in_ok-read.ensures.lists;
+            made = c.in_ok-text.ensures.made;
+          })
+          (nothing_told c.put_str.result) (rw (← c.as_str.ensures.value) c.put_str.ensures.written)
+          c.answer_of_write.ensures.answer;
+    }

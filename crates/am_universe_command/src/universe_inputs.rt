@@ -1,0 +1,27 @@
+use am_eval::Files;
+use std::marker::Model;
+
+/// What a universe is made for, or checked for.
+#[derive(Drop)]
+pub struct UniverseInputs<'a> {
+    /// The bytes of a universe file. What is made keeps its labels, values and impossible lists;
+    /// without one there are none.
+    pub universe: Option<&'a [u8]>,
+    /// The configuration, the silences and the alerts. The instant is not looked at.
+    pub files: &'a Files<'a>,
+    /// The texts of questions, whose matchers count too.
+    pub questions: &'a [&'a str],
+}
+
+impl<'a> Model for UniverseInputs<'a> {
+    ghost use Rattle.std.specs.Prelude.{map, option_copied};
+    ghost use Rattle.am_universe_command.specs.UniverseInputs as spec;
+
+    ghost Value = { spec.UniverseInputs };
+
+    ghost view = { λ inputs. record {
+      universe = option_copied inputs.universe;
+      files = inputs.files.now;
+      questions = map (λ text. text.now) inputs.questions.now;
+    } };
+}
