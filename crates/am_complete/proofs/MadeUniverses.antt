@@ -226,13 +226,17 @@ module _ (a : Alphabet) (s : Space) where
 
   pub adds : (asked : List AskedLabel) (missing : List MissingTexts) (v : List Label)
       (ms : List Condition) → AreMissing a s asked missing → IsUniverse v
-      → AllByRecursion (IsWhole s missing) v → IsAskedOf asked ms → AddsNeeded a s ms v
-  adds asked missing v ms zip universe whole asks =
+      → AllByRecursion (IsWhole s missing) v
+      → ((name : List ℕ) → IsIn (names v) name
+      → texts_of_missing (missing_for missing name) ≡ [] → Contains (names s.labels) name)
+      → IsAskedOf asked ms → AddsNeeded a s ms v
+  adds asked missing v ms zip universe whole named asks =
       AllByRecursion-each (HasNeeded a s ms) v (λ l i. (
         texts_of_missing (missing_for missing l.name),
         needed_by_name asked missing ms l.name zip asks
             (no_name l.name (AllByRecursion-at IsLabel v l universe.labels i).name),
         AllByRecursion-at (IsWhole s missing) v l whole i,
+        named l.name (IsIn-map (λ k. k.name) v l i),
       ))
 
   -- ---- The alphabet.

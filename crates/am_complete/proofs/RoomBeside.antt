@@ -129,6 +129,20 @@ module _ (a : Alphabet) (s : Space) (asked : List AskedLabel) (missing : List Mi
             ∙ named_at a s asked missing at.0 l.0 m zip distinct l.1 at.1,
       )
 
+  -- a name that lacks nothing is one of the space
+  pub named_before : (name : List ℕ)
+      → IsIn (names s.labels ++ names_to_declare s.labels missing) name
+      → texts_of_missing (missing_for missing name) ≡ [] → Contains (names s.labels) name
+  named_before name i none =
+      elim (IsIn-split (names s.labels) (names_to_declare s.labels missing) name i) [
+        | inl here ↦ Contains-from_IsIn (names s.labels) name here
+        | inr there ↦
+            let r = asked_there name there in
+            let found : missing_for missing name ≡ Some r.0 =
+            ap (missing_for missing) (sym r.2) ∙ (entry_named r.0 r.1).3 in
+            absurd ((some_there r.0.texts r.3).0 (sym (ap texts_of_missing found) ∙ none))
+      ]
+
   pub can_be_declared : AllByRecursion (CanBeDeclared s missing)
       (names s.labels ++ names_to_declare s.labels missing)
   can_be_declared =

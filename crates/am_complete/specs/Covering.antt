@@ -6,7 +6,7 @@ use Rattle.am_universe.specs.declared.kind.Kind.{Kind}
 use Rattle.am_universe.specs.declared.kind.Kind.TheVariants as kinds
 use Rattle.am_universe.specs.declared.limits.TheConstants.{MAX_LABELS, MAX_VALUES}
 use Rattle.am_universe.specs.Text.{same_text}
-use Rattle.am_universe.specs.Universe.{Label, Values}
+use Rattle.am_universe.specs.Universe.{Label, Values, names}
 use Rattle.am_labels.specs.Matcher.{Condition}
 use Rattle.am_labels.specs.Space.{Space}
 use Rattle.am_classes.specs.declared.alphabet.Alphabet.{Alphabet}
@@ -90,14 +90,15 @@ KeepsLabels (l ∷ u) [] = ⊥
 KeepsLabels (l ∷ u) (m ∷ v) = KeepsValues l m × KeepsLabels u v
 
 -- Each label of a universe has the texts that stand for it in a space, and behind them texts that
--- it needs for some matchers.
+-- it needs for some matchers. A label that needs none is one of the space.
 -- Source: own choice.
 -- Example: for `team="db"` alone, and a space without labels, it is so where `team` has absence and
--- `db`, and not where it has `web` too.
+-- `db`, and not where it has `web` too, or where there is `env`, which is always absent.
 abbrev pub HasNeeded : Alphabet → Space → List Condition → Label → Type 0
 HasNeeded a s ms l =
     (needed : List (List ℕ)) × AreNeeded a s l.name (about l.name ms) needed
     × (texts_of_label (Some l) ≡ standing_texts s l.name ++ needed)
+    × (needed ≡ [] → Contains (names s.labels) l.name)
 
 abbrev pub AddsNeeded : Alphabet → Space → List Condition → List Label → Type 0
 AddsNeeded a s ms u = AllByRecursion (HasNeeded a s ms) u

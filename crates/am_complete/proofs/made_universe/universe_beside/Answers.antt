@@ -3,6 +3,7 @@ use Rattle.std.specs.List.{AllByRecursion, IsDistinct}
 use Rattle.std.proofs.lemmas.Result.{err_from_is_err_and}
 use Rattle.am_universe.specs.Text.{same_text}
 use Rattle.am_universe.specs.Universe.{Label, IsUniverse, names}
+use Rattle.am_universe.proofs.ListLemmas.{IsIn}
 use Rattle.am_complete.specs.AskedLabel.{AskedLabel}
 use Rattle.am_complete.specs.Covering.{CoversEachBut}
 use Rattle.am_complete.specs.Room.{AreUnproved}
@@ -10,7 +11,7 @@ use Rattle.am_complete.specs.Missing.{MissingTexts, IsWhole, open_positions, Are
 use Rattle.am_complete.specs.Missing.{names_to_declare, CanBeDeclared}
 use Rattle.am_complete.proofs.MadeUniverses.{keeps, adds, covers_each, within_asked, are_unproved}
 use Rattle.am_complete.proofs.MadeUniverses.{complete, made_over}
-use Rattle.am_complete.proofs.RoomBeside.{names_distinct, can_be_declared, no_room}
+use Rattle.am_complete.proofs.RoomBeside.{names_distinct, can_be_declared, no_room, named_before}
 use Rattle.am_complete.proofs.made_universe.universe_beside.Goals as goal
 use Rattle.am_complete.proofs.made_universe.universe_beside.Goals.{After-as_slice-3}
 
@@ -82,7 +83,9 @@ returns c =
     record {
       universe = is;
       keeps = keeps s missing v (universe here) is are whole;
-      adds = λ ms asks. adds a s asked missing v ms zip is whole asks;
+      adds = λ ms asks. adds a s asked missing v ms zip is whole (λ name i.
+          named_before a s asked missing (universe here) zip c.requires.1.distinct name
+          (subst (λ (ns : List (List ℕ)). IsIn ns name) are i)) asks;
       covers = covers;
       within = subst (AllByRecursion (λ i. i < length asked)) (sym opens)
           (within_asked a s asked missing zip);
