@@ -4,7 +4,7 @@ use Rattle.std.proofs.Common.{◌||◌, ◌&&◌, Some, None, IsTrue, refl, sym,
 use Rattle.std.proofs.Common.{arith, length, set, ◌⊎◌}
 use Rattle.std.specs.Prelude.{slice_get, slice_index_or}
 use Rattle.std.specs.List.{AllZip, list_all, find}
-use Rattle.std.specs.Prelude.{Option, IfSome, is_some}
+use Rattle.std.specs.Prelude.{Option, IfSome, is_some, if◌then◌else◌}
 use Rattle.std.proofs.lemmas.Option.{slice_get_within}
 use Rattle.std.proofs.lemmas.Bool.{and_parts, both_ways}
 use Rattle.std.proofs.Math.Nat.{eq-or-lt_of_le}
@@ -13,7 +13,11 @@ use Rattle.am_first_sets.proofs.FirstPossible.{is_found}
 use Rattle.am_reasons.specs.declared.candidate.Candidate.{Candidate}
 use Rattle.am_reasons.specs.Meeting.{holds_at, hold_all, meets, IsMet, IsUnmet}
 use Rattle.am_reasons.specs.Reason.{AreSameLiterals, AreNamedBefore, renamed, without}
-use Rattle.am_reasons.specs.Reason.{count_unnamed}
+
+-- how many are not named
+abbrev pub count_unnamed : List Candidate → ℕ
+count_unnamed [] = 0
+count_unnamed (k ∷ ks) = (if k.named then 0 else 1) + count_unnamed ks
 
 -- of the literals from one position on, those before another are needed where they are named
 abbrev pub AreNeededBefore : Space → ℕ → ℕ → List Candidate → Type 0

@@ -1,6 +1,6 @@
 -- Reasons: which of some literals are to blame that no label set of a space meets all of them.
-use Rattle.std.specs.Prelude.{◌≡◌, ◌<◌, ◌≤◌, ◌+◌, ℕ, zero, suc, List, [], ◌∷◌, Bool, false, Some}
-use Rattle.std.specs.Prelude.{slice_get, IsTrue, if◌then◌else◌}
+use Rattle.std.specs.Prelude.{◌≡◌, ◌<◌, ◌≤◌, ℕ, zero, suc, List, [], ◌∷◌, Bool, false, Some}
+use Rattle.std.specs.Prelude.{slice_get, IsTrue}
 use Rattle.std.specs.List.{AllZip}
 use Rattle.am_labels.specs.Words.{Space}
 use Rattle.am_reasons.specs.declared.candidate.Candidate.{Candidate}
@@ -15,7 +15,7 @@ abbrev pub AreNamedBefore : ℕ → List Candidate → Type 0
 AreNamedBefore n ks =
     (i : ℕ) (k : Candidate) → slice_get ks i ≡ Some k → i < n → IsTrue k.named
 
--- The literals, of which that at a position is named, or is not; and how many are not named.
+-- The literals, of which that at a position is named, or is not.
 abbrev pub renamed : ℕ → Bool → List Candidate → List Candidate
 renamed i name [] = []
 renamed zero name (k ∷ ks) = record k { named = name } ∷ ks
@@ -23,10 +23,6 @@ renamed (suc i) name (k ∷ ks) = k ∷ renamed i name ks
 
 abbrev pub without : ℕ → List Candidate → List Candidate
 without i ks = renamed i false ks
-
-abbrev pub count_unnamed : List Candidate → ℕ
-count_unnamed [] = 0
-count_unnamed (k ∷ ks) = (if k.named then 0 else 1) + count_unnamed ks
 
 -- The literals that are named are a reason why no label set of a space meets all: the first so many
 -- are among them; they are enough, as none meets those that are named; and each of the others is

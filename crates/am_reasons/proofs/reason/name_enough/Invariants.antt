@@ -1,5 +1,6 @@
 use Rattle.std.proofs.Common.{ℕ}
-use Rattle.am_reasons.specs.Reason.{AreSameLiterals, AreNamedBefore, count_unnamed}
+use Rattle.am_reasons.specs.Reason.{AreSameLiterals, AreNamedBefore}
+use Rattle.am_reasons.proofs.ReasonLemmas.{count_unnamed}
 use Rattle.am_reasons.proofs.reason.name_enough.Given as goal
 
 -- the literals are the same, and what was named is
