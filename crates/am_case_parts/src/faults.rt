@@ -29,7 +29,7 @@ fn fault_parts(alloc: Global, text: &[u8]) -> Result<(Kind, Place, &str), Proble
     Err(Problem::about(alloc, "a refusal's word and a place are wanted", text))
 }
 
-const KINDS: [Kind; 22] = [
+const KINDS: [Kind; 23] = [
     Kind::NotJson,
     Kind::Shape,
     Kind::UnknownField,
@@ -52,6 +52,7 @@ const KINDS: [Kind; 22] = [
     Kind::Memory,
     Kind::Read,
     Kind::Unproved,
+    Kind::Incomplete,
 ];
 
 fn kind_named(name: &[u8]) -> Option<Kind> {

@@ -60,6 +60,14 @@ impl Space {
         }
     }
 
+    /// Declares other labels in the place of those that there are. What is impossible stays so.
+    pub fn declare(&mut self, universe: Universe)
+        ensures labels { self.new.labels ≡ universe }
+        ensures impossible { self.new.impossible ≡ self.old.impossible }
+    {
+        self.universe = universe;
+    }
+
     /// The labels and their values, without regard to what is impossible.
     pub fn universe(&self) -> &Universe
         ensures labels { result.now ≡ self.now.labels }

@@ -8,8 +8,9 @@ use Rattle.am_universe.specs.declared.kind.Kind.TheVariants.{RootMatchers, BadTi
 use Rattle.am_universe.specs.declared.kind.Kind.TheVariants.{QuestionSyntax, UnknownReceiver}
 use Rattle.am_universe.specs.declared.kind.Kind.TheVariants.{UnknownRoute, BadToken, OtherInputs}
 use Rattle.am_universe.specs.declared.kind.Kind.TheVariants.{NeedAt, Write, Memory, Read, Unproved}
+use Rattle.am_universe.specs.declared.kind.Kind.TheVariants.{Incomplete}
 
--- The number of a kind, 1 to 22.
+-- The number of a kind, 1 to 23.
 abbrev pub kind_number : Kind → ℕ
 kind_number NotJson = 1
 kind_number Shape = 2
@@ -33,6 +34,7 @@ kind_number Memory = 19
 kind_number Read = 20
 kind_number OtherInputs = 21
 kind_number Unproved = 22
+kind_number Incomplete = 23
 
 -- The word for a kind that the program prints.
 abbrev pub kind_text : Kind → List ℕ
@@ -58,3 +60,4 @@ kind_text Write = codes "write"
 kind_text Memory = codes "memory"
 kind_text Read = codes "read"
 kind_text Unproved = codes "unproved"
+kind_text Incomplete = codes "incomplete"

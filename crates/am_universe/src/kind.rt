@@ -52,10 +52,12 @@ pub enum Kind {
     Read,
     /// It was not found which values of a label its matchers tell apart.
     Unproved,
+    /// A label of a universe lacks a value that alerts may have.
+    Incomplete,
 }
 
 impl Kind {
-    /// The number of the kind, 1 to 22.
+    /// The number of the kind, 1 to 23.
     pub fn number(self) -> u8
         ensures number { result ≡ kind_number self }
     {
@@ -82,6 +84,7 @@ impl Kind {
             Kind::Read => 20,
             Kind::OtherInputs => 21,
             Kind::Unproved => 22,
+            Kind::Incomplete => 23,
         }
     }
 
@@ -112,6 +115,7 @@ impl Kind {
             Kind::Memory => "memory",
             Kind::Read => "read",
             Kind::Unproved => "unproved",
+            Kind::Incomplete => "incomplete",
         }
     }
 }
