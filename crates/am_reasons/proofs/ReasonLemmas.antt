@@ -1,9 +1,9 @@
 -- Literals that are named or not, one after another.
 use Rattle.std.proofs.Common.{◌≡◌, ◌<◌, ◌≤◌, ◌+◌, ℕ, zero, suc, List, [], ◌∷◌, Bool, true, false, not}
-use Rattle.std.proofs.Common.{◌||◌, ◌&&◌, Some, None, IsTrue, refl, sym, ap, ◌∙◌, subst, inl, inr}
+use Rattle.std.proofs.Common.{◌||◌, Some, None, IsTrue, refl, sym, ap, ◌∙◌, subst, inl, inr}
 use Rattle.std.proofs.Common.{arith, length, set, ◌⊎◌}
 use Rattle.std.specs.Prelude.{slice_get, slice_index_or}
-use Rattle.std.specs.List.{AllZip, list_all, find}
+use Rattle.std.specs.List.{find}
 use Rattle.std.specs.Prelude.{Option, IfSome, is_some, if◌then◌else◌}
 use Rattle.std.proofs.lemmas.Option.{slice_get_within}
 use Rattle.std.proofs.lemmas.Bool.{and_parts, both_ways}
@@ -29,7 +29,7 @@ AreNeededBefore s from n ks =
 
 pub same_itself : (ks : List Candidate) → AreSameLiterals ks ks
 same_itself [] = tt
-same_itself (k ∷ ks) = ((refl, refl), same_itself ks)
+same_itself (k ∷ ks) = ((refl, refl, refl), same_itself ks)
 
 pub same_renamed : (i : ℕ) (name : Bool) (ks ls : List Candidate) → AreSameLiterals ks ls
     → AreSameLiterals ks (renamed i name ls)
@@ -47,7 +47,7 @@ same_through [] (l ∷ ls) ms a b = absurd a
 same_through (k ∷ ks) [] ms a b = absurd a
 same_through (k ∷ ks) (l ∷ ls) [] a b = absurd b
 same_through (k ∷ ks) (l ∷ ls) (m ∷ ms) a b =
-    ((a.0.0 ∙ b.0.0, a.0.1 ∙ b.0.1), same_through ks ls ms a.1 b.1)
+    ((a.0.0 ∙ b.0.0, a.0.1 ∙ b.0.1, a.0.2 ∙ b.0.2), same_through ks ls ms a.1 b.1)
 
 -- ---- One literal that is named, or is not.
 
@@ -71,6 +71,7 @@ pub renamed_is_set : (i : ℕ) (name : Bool) (ks : List Candidate) (d : Candidat
       cube = (slice_index_or ks i d).cube;
       wanted = (slice_index_or ks i d).wanted;
       named = name;
+      tag = (slice_index_or ks i d).tag;
     }) ≡ renamed i name ks
 renamed_is_set i name [] d lt = absurd (omega (arith, lt))
 renamed_is_set zero name (k ∷ ks) d lt = refl
@@ -125,7 +126,7 @@ restored i [] k at named = refl
 restored zero (l ∷ ks) k at named =
     let is : l ≡ k = cc in
     let so : l.named ≡ true = ap (λ x. x.named) is ∙ named in
-    λ j. record { cube = l.cube; wanted = l.wanted; named = sym so j } ∷ ks
+    λ j. record { cube = l.cube; wanted = l.wanted; named = sym so j; tag = l.tag } ∷ ks
 restored (suc i) (l ∷ ks) k at named = ap (λ rest. l ∷ rest) (restored i ks k at named)
 
 -- the order in which names are taken off is no matter

@@ -8,7 +8,8 @@ use Rattle.am_reasons.specs.Meeting.{IsMet, IsUnmet}
 
 -- Two lists have the same literals, whichever of them are named.
 abbrev pub AreSameLiterals : List Candidate → List Candidate → Type 0
-AreSameLiterals ks ls = AllZip (λ k l. (k.cube ≡ l.cube) × (k.wanted ≡ l.wanted)) ks ls
+AreSameLiterals ks ls =
+    AllZip (λ k l. (k.cube ≡ l.cube) × (k.wanted ≡ l.wanted) × (k.tag ≡ l.tag)) ks ls
 
 -- The first so many literals are named.
 abbrev pub AreNamedBefore : ℕ → List Candidate → Type 0

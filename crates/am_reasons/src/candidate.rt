@@ -6,14 +6,16 @@ use am_labels::Choice;
 use am_masks::Cube;
 use am_search::Labels;
 
-/// A literal: a list of matchers, as a cube, which a label set has to match or must not match. And
-/// whether it is named as one of those that are to blame.
+/// A literal: a list of matchers, as a cube, which a label set has to match or must not match. With
+/// it stand whether it is named as one of those that are to blame, and a number by which the caller
+/// knows it.
 #[derive(Clone, Copy)]
 pub struct Candidate<'a> {
     pub cube: &'a Cube,
     /// The label set has to match, and not: it must not.
     pub wanted: bool,
     pub named: bool,
+    pub tag: usize,
 }
 
 impl<'a> Candidate<'a> {

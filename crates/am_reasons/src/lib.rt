@@ -1,8 +1,9 @@
 //! Which literals are to blame that no label set of a space meets all of them.
 //!
 //! A [`Candidate`] is a literal, a cube that has to match or must not match, which may be named or
-//! not. [`find_reason`] names some of them: enough, so that no label set meets those that are
-//! named, and each of them needed.
+//! not. [`first_meeting`] finds the first label set that meets those that are named. Where there is
+//! none that meets all, [`find_reason`] names some of them: enough, so that no label set meets
+//! those that are named, and each of them needed.
 #![tactic(auto)]
 
 // Literals, and the first label set that meets those that are named.
@@ -10,6 +11,7 @@ mod candidate;
 mod meeting;
 
 pub use candidate::Candidate;
+pub use meeting::first_meeting;
 
 // The search for those that are to blame.
 mod reason;

@@ -14,10 +14,7 @@ use am_search::{Labels, Refuter, first_by_jumps};
 
 /// The first choice of a space, in declared order, that meets the literals that are named, if there
 /// is one. No memory is taken.
-pub(crate) fn first_meeting(
-    possible: &PossibleRefuter<'_>,
-    candidates: &[Candidate<'_>],
-) -> Option<Choice>
+pub fn first_meeting(possible: &PossibleRefuter<'_>, candidates: &[Candidate<'_>]) -> Option<Choice>
     ensures first { result ≡ find (λ c. meets c candidates.now)
         (all_choices (possible_space possible.now)) }
     ensures possible { IfSome result (IsChoiceOf (possible_space possible.now)) }

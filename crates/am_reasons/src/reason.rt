@@ -15,28 +15,20 @@ use am_labels::Choice;
 
 /// Names the literals that are to blame where no label set of a space meets all of them: enough, so
 /// that none meets those that are named; the first `fixed` of them all, and of the others only such
-/// as are needed, so that without any of these some label set meets those that are left. `false`
-/// where some label set meets all. No memory is taken.
+/// as are needed, so that without any of these some label set meets those that are left. No memory
+/// is taken.
 ///
 /// It begins with the first `fixed` alone, and looks for a label set that meets what is named; the
 /// first other literal that this one does not meet is named next. Where there is no such label set
 /// any more, what is not needed is left out, one after the other.
-pub fn find_reason(
-    possible: &PossibleRefuter<'_>,
-    candidates: &mut [Candidate<'_>],
-    fixed: usize,
-) -> bool
+pub fn find_reason(possible: &PossibleRefuter<'_>, candidates: &mut [Candidate<'_>], fixed: usize)
+    requires none { IsAnyMet (possible_space possible.now) candidates.old → ⊥ }
     ensures same { AreSameLiterals candidates.old candidates.new }
-    ensures reason { IsTrue result
-        → IsReason (possible_space possible.now) fixed candidates.new }
-    ensures none { result ≡ false → IsAnyMet (possible_space possible.now) candidates.old }
+    ensures reason { IsReason (possible_space possible.now) fixed candidates.new }
 {
     name_first(candidates, fixed);
-    if !name_enough(possible, candidates) {
-        return false;
-    }
+    name_enough(possible, candidates);
     leave_out(possible, candidates, fixed);
-    true
 }
 
 /// Names the first so many literals, and no other.
@@ -49,22 +41,21 @@ fn name_first(candidates: &mut [Candidate<'_>], count: usize)
     }
 }
 
-/// Names further literals until no label set of a space meets those that are named. `false` where
-/// some label set meets all.
-fn name_enough(possible: &PossibleRefuter<'_>, candidates: &mut [Candidate<'_>]) -> bool
+/// Names further literals until no label set of a space meets those that are named.
+fn name_enough(possible: &PossibleRefuter<'_>, candidates: &mut [Candidate<'_>])
+    requires none { IsAnyMet (possible_space possible.now) candidates.old → ⊥ }
     ensures same { AreSameLiterals candidates.old candidates.new }
     ensures named { (n : ℕ) → AreNamedBefore n candidates.old
         → AreNamedBefore n candidates.new }
-    ensures enough { IsTrue result → IsUnmet (possible_space possible.now) candidates.new }
-    ensures none { result ≡ false → IsAnyMet (possible_space possible.now) candidates.new }
+    ensures enough { IsUnmet (possible_space possible.now) candidates.new }
 {
     while let Some(choice) = first_meeting(possible, candidates) {
         match first_false(candidates, &choice) {
             Some(i) => set_named(candidates, i, true),
-            None => return false,
+            // No label set meets all literals.
+            None => unreachable!(),
         }
     }
-    true
 }
 
 /// The first literal that is false at a choice, if one is.

@@ -1,7 +1,6 @@
 use Rattle.std.proofs.Common.{arith}
 use Rattle.am_first_sets.specs.Words.{possible_space}
 use Rattle.am_reasons.proofs.ReasonLemmas.{same_itself, same_either, named_either, needed_more}
-use Rattle.am_reasons.proofs.ReasonLemmas.{as_many}
 use Rattle.am_reasons.proofs.reason.leave_out.Goals as goal
 
 pub loop-i-init : goal.loop-i-init

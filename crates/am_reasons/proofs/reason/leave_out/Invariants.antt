@@ -1,7 +1,4 @@
-use Rattle.std.proofs.Common.{◌≡◌, ◌<◌, ◌≤◌, ℕ, Some, IsTrue}
-use Rattle.std.specs.Prelude.{slice_get}
 use Rattle.am_first_sets.specs.Words.{possible_space}
-use Rattle.am_reasons.specs.declared.candidate.Candidate.{Candidate}
 use Rattle.am_reasons.specs.Meeting.{IsUnmet}
 use Rattle.am_reasons.specs.Reason.{AreSameLiterals, AreNamedBefore}
 use Rattle.am_reasons.proofs.ReasonLemmas.{AreNeededBefore}

@@ -3,7 +3,7 @@ use Rattle.am_reasons.specs.declared.candidate.Candidate.{Candidate}
 use Rattle.am_reasons.specs.Reason.{AreSameLiterals, AreNamedBefore}
 use Rattle.am_first_sets.specs.Words.{possible_space}
 use Rattle.am_reasons.proofs.ReasonLemmas.{same_itself, same_renamed, named_more, one_more}
-use Rattle.am_reasons.proofs.ReasonLemmas.{count_unnamed}
+use Rattle.am_reasons.proofs.ReasonLemmas.{count_unnamed, hold_alike}
 use Rattle.am_reasons.proofs.reason.name_enough.Goals as goal
 
 pub loop-choice-init : goal.loop-choice-init
@@ -26,3 +26,13 @@ loop-choice-smaller c =
     (one_more (possible_space c.args.possible.now) c.loop-choice.candidates
     c.first_meeting.result c.in-Some.choice c.in-Some-first_false.i c.first_meeting.ensures.first
     c.in-Some.is c.in-Some-first_false.ensures.within c.in-Some-first_false.ensures.some)
+
+pub unreachable-requires : goal.unreachable-requires
+unreachable-requires c =
+    let choice = c.in-Some.choice in
+    c.requires.none (
+      choice,
+      c.in-Some.ensures.possible,
+      hold_alike choice c.args.candidates.now c.loop-choice.candidates
+          c.loop-choice.invariant.0 c.in-None.ensures.none,
+    )

@@ -1,8 +1,7 @@
 use Rattle.std.proofs.Common.{ap}
 use Rattle.std.specs.Prelude.{◌&&◌}
-use Rattle.std.proofs.lemmas.Bool.{and_right}
 use Rattle.am_first_sets.specs.PossibleRefuter.{possible_truth}
-use Rattle.am_first_sets.proofs.ReasonLemmas.{conflict_if_any, narrower}
+use Rattle.am_first_sets.proofs.ReasonLemmas.{conflict_if_any}
 use Rattle.am_reasons.specs.Meeting.{meets}
 use Rattle.am_reasons.specs.MeetingRefuter.{meeting_sizes, meeting_truth}
 use Rattle.am_reasons.proofs.meeting.MeetingRefuterRefuter.refute.Goals as goal
