@@ -10,6 +10,7 @@ mod read_inputs;
 mod universe_form;
 mod universe_inputs;
 
+pub use read_inputs::read_universe_if_any;
 pub use universe_form::UniverseForm;
 pub use universe_inputs::UniverseInputs;
 
@@ -18,4 +19,4 @@ mod checking;
 mod making;
 
 pub use checking::check_universe;
-pub use making::universe;
+pub use making::{universe, unproved_fault};

@@ -113,7 +113,7 @@ fn made_universe(alloc: Global, read: &ReadInputs, form: UniverseForm) -> Result
         Err(kind) => return Err(Fault::at(alloc, kind, Place::Universe)),
     };
     if let Some(label) = first_unproved(asked.as_slice(), made.unproved.as_slice(), form) {
-        return Err(unproved(alloc, label));
+        return Err(unproved_fault(alloc, &label.first()));
     }
     Ok(made.universe)
 }
@@ -139,15 +139,15 @@ fn first_unproved<'a, 'm>(
     }
 }
 
-/// Why no universe is made where a label is unproved.
-fn unproved(alloc: Global, label: &AskedLabel<'_>) -> Fault
-    ensures refusal { result.kind ≢ kinds.Memory → (result.place ≡ origin_place label.now.first)
+/// Why nothing is made where a label is unproved that is first asked of there. It fails only where
+/// memory ran out.
+pub fn unproved_fault(alloc: Global, origin: &Origin) -> Fault
+    ensures refusal { result.kind ≢ kinds.Memory → (result.place ≡ origin_place origin.now)
         × (refusal_of result
-        ≡ record { kind = kinds.Unproved; pointer = origin_pointer label.now.first }) }
+        ≡ record { kind = kinds.Unproved; pointer = origin_pointer origin.now }) }
 {
-    let origin = label.first();
-    match pointer_to(alloc, &origin) {
-        Ok(pointer) => Fault::within(Kind::Unproved, place_of(&origin), pointer),
+    match pointer_to(alloc, origin) {
+        Ok(pointer) => Fault::within(Kind::Unproved, place_of(origin), pointer),
         Err(_) => Fault::memory(alloc),
     }
 }

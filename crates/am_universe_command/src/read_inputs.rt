@@ -57,7 +57,10 @@ pub(crate) fn read_inputs(alloc: Global, inputs: &UniverseInputs<'_>) -> Result<
 
 /// The space of a universe file, with the texts of its impossible lists; without one there is no
 /// label, and nothing is impossible.
-fn read_universe_if_any(alloc: Global, file: Option<&[u8]>) -> Result<(Space, Vec<String>), Fault>
+pub fn read_universe_if_any(
+    alloc: Global,
+    file: Option<&[u8]>,
+) -> Result<(Space, Vec<String>), Fault>
     ensures says { IfOk result (λ read. SaysUniverseIfAny (option_copied file.entry) read.0) }
     ensures texts { IfOk result (λ read.
         AreTextsOfLists (map string_bytes read.1.items) read.0.impossible) }

@@ -69,7 +69,7 @@ first_unproved-requires c =
 pub returns-in-Some-clause-first : goal.returns-in-Some-clause-first
 returns-in-Some-clause-first c = λ inputs accepts remembered.
     let read = c.args.read.now in
-    let told = c.unproved.ensures.refusal remembered in
+    let told = rw c.first.ensures.first at (c.unproved_fault.ensures.refusal remembered) in
     let label = c.in-Some.label.now in
     let made = c.in-Ok-universe_beside.made in
     let is = c.in-Ok-universe_beside.ensures in
