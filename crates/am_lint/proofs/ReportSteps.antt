@@ -1,0 +1,142 @@
+-- The report's text, piece by piece.
+use Rattle.std.proofs.Common.{◌≡◌, ◌<◌, ◌≤◌, ◌+◌, ℕ, zero, suc, List, [], ◌∷◌, ◌++◌, length, take}
+use Rattle.std.proofs.Common.{Some, option_map, codes, slice_get, get_or, map, cond, Bool, true}
+use Rattle.std.proofs.Common.{false, refl, sym, ap, ◌∙◌, append_assoc, append-nil, add-one, arith}
+use Rattle.std.proofs.Common.{Result, Ok, Err}
+use Rattle.std.specs.Prelude.{◌==◌}
+use Rattle.std.specs.Result.{OnOk, is_ok}
+use Rattle.std.specs.List.{flat_map, enumerate_from}
+use Rattle.std.proofs.lemmas.Bool.Decides.{nat_tests}
+use Rattle.std.proofs.lemmas.List.{take_all, take_more, map-append, flat_map_more}
+use Rattle.std.proofs.lemmas.List.FromFn.{get_or-enumerate_from}
+use Rattle.std.proofs.lemmas.List.Elements.{filter_more}
+use Rattle.std.proofs.lemmas.Option.{slice_get-map, slice_get-get_or}
+use Rattle.am_universe.proofs.CompletionLemmas.{filter_of_map}
+use Rattle.am_files.specs.ConfigFile.{Configuration}
+use Rattle.am_complete_texts.specs.UniverseText.{texts_behind}
+use Rattle.am_lint.specs.declared.found.FoundRoute.{FoundRoute}
+use Rattle.am_lint.specs.FoundView.{said_of}
+use Rattle.am_lint.specs.ReportText.{Said, having, have_text, said_text}
+
+-- ---- One piece more of a text.
+
+pub one_put : (old body piece more now next : List ℕ) → now ≡ old ++ body → next ≡ now ++ piece
+    → body ++ piece ≡ more → next ≡ old ++ more
+one_put old body piece more now next so_far put same =
+    rw (put, so_far, append_assoc old body piece, same) refl
+
+-- the last piece, whose call is the function's own result
+pub last_put : {T E : Type 0} (r : Result T E) (old body piece more now next : List ℕ)
+    → next ≡ cond (is_ok r) (now ++ piece) now → now ≡ old ++ body → body ++ piece ≡ more
+    → OnOk r (next ≡ old ++ more)
+last_put (Ok x) old body piece more now next put so_far same =
+    one_put old body piece more now next so_far put same
+last_put (Err e) old body piece more now next put so_far same = tt
+
+-- the line of a route
+pub route_line_put : {T E : Type 0} (r : Result T E)
+    (path kind name matchers why old a b c d e f g h i next : List ℕ)
+    → a ≡ old ++ path → b ≡ a ++ codes " " → c ≡ b ++ kind → d ≡ c ++ codes ": "
+    → e ≡ d ++ name → f ≡ e ++ codes " " → g ≡ f ++ matchers → h ≡ g ++ codes ": "
+    → i ≡ h ++ why → next ≡ cond (is_ok r) (i ++ codes "\n") i
+    → OnOk r (next ≡ old ++ (path ++ (codes " " ++ (kind ++ (codes ": " ++ (name ++ (codes " "
+    ++ (matchers ++ (codes ": " ++ (why ++ codes "\n"))))))))))
+route_line_put r path kind name matchers why old a b c d e f g h i next a-is b-is c-is d-is e-is
+    f-is g-is h-is i-is next-is =
+    let line = path ++ (codes " " ++ (kind ++ (codes ": " ++ (name ++ (codes " "
+    ++ (matchers ++ (codes ": " ++ why))))))) in
+    let so_far : i ≡ old ++ line =
+    rw (i-is, h-is, g-is, f-is, e-is, d-is, c-is, b-is, a-is) (simp append_assoc) in
+    last_put r old line (codes "\n") _ i next next-is so_far (simp append_assoc)
+
+-- ---- One line more.
+
+pub line_more : {X : Type 0} (f : X → List ℕ) (xs : List X) (i : ℕ) (d x : X)
+    (start now next : List ℕ) → i < length xs → get_or xs i d ≡ x
+    → now ≡ start ++ flat_map f (take i xs) → next ≡ now ++ f x
+    → next ≡ start ++ flat_map f (take (i + 1) xs)
+line_more f xs i d x start now next within is so_far put =
+    put ∙ ap (λ t. t ++ f x) so_far ∙ flat_map_more f start (take i xs) x
+    ∙ ap (λ l. start ++ flat_map f l)
+    (ap (λ y. take i xs ++ y ∷ []) (sym is) ∙ sym (take_more xs i d within))
+
+pub lines_closed : {X : Type 0} (f : X → List ℕ) (xs : List X) (i : ℕ) (start now : List ℕ)
+    → length xs ≤ i → now ≡ start ++ flat_map f (take i xs) → now ≡ start ++ flat_map f xs
+lines_closed f xs i start now all so_far =
+    so_far ∙ ap (λ l. start ++ flat_map f l) (take_all i xs all)
+
+-- what stands at a position, with it
+pub numbered : {X : Type 0} (xs : List X) (i : ℕ) (d : X) → i < length xs
+    → get_or (enumerate_from 0 xs) i (i, d) ≡ (i, get_or xs i d)
+numbered xs i d within =
+    let same : 0 + i ≡ i = omega arith in
+    get_or-enumerate_from 0 xs i (i, d) within ∙ ap (λ n. (n, get_or xs i d)) same
+
+-- ---- One thing more of a row.
+
+either : (b : Bool) (x : List ℕ) → cond b x x ≡ x
+either true x = refl
+either false x = refl
+
+one_more : {X : Type 0} (first gap : List ℕ) (text : X → List ℕ) (xs : List X) (i : ℕ) (x : X)
+    → slice_get xs i ≡ Some x
+    → texts_behind first gap text (take (suc i) xs)
+    ≡ texts_behind first gap text (take i xs) ++ (cond (i == 0) first gap ++ text x)
+one_more first gap text [] i x e = absurd (cc)
+one_more first gap text (y ∷ xs) zero x e =
+    let same : y ≡ x = cc in ap (λ t. first ++ t) (append-nil (text y) ∙ ap text same)
+one_more first gap text (y ∷ xs) (suc i) x e =
+    let later : (suc i == 0) ≡ false = grind (arith, nat_tests) in
+    rw (later, one_more gap gap text xs i x e, either (i == 0) gap) (simp append_assoc)
+
+pub one_pushed : {X : Type 0} (first gap : List ℕ) (text : X → List ℕ) (xs : List X) (i : ℕ)
+    (x : X) (old before between gapped after : List ℕ) → slice_get xs i ≡ Some x
+    → before ≡ old ++ texts_behind first gap text (take i xs) → between ≡ cond (i == 0) first gap
+    → gapped ≡ before ++ between → after ≡ gapped ++ text x
+    → after ≡ old ++ texts_behind first gap text (take (i + 1) xs)
+one_pushed first gap text xs i x old before between gapped after at so_far is put pushed =
+    rw (pushed, put, so_far, is, add-one i, one_more first gap text xs i x at) (simp append_assoc)
+
+pub row_closed : {X : Type 0} (first gap : List ℕ) (text : X → List ℕ) (xs : List X) (i : ℕ)
+    (old now : List ℕ) → length xs ≤ i → now ≡ old ++ texts_behind first gap text (take i xs)
+    → now ≡ old ++ texts_behind first gap text xs
+row_closed first gap text xs i old now all so_far =
+    so_far ∙ ap (λ l. old ++ texts_behind first gap text l) (take_all i xs all)
+
+-- what the code reads of a list
+pub item_here : {X : Type 0} (xs : List X) (i : ℕ) (x : X) → i < length xs → x ≡ get_or xs i x
+    → slice_get xs i ≡ Some x
+item_here xs i x within is = slice_get-get_or xs i x within ∙ ap Some (sym is)
+
+pub view_here : {X Y : Type 0} (view : X → Y) (xs : List X) (i : ℕ) (x : X) → i < length xs
+    → x ≡ get_or xs i x → slice_get (map view xs) i ≡ Some (view x)
+view_here view xs i x within is =
+    slice_get-map view xs i ∙ ap (option_map view) (item_here xs i x within is)
+
+-- ---- Routes that have a receiver.
+
+said_if : (b : Bool) (route : FoundRoute)
+    → map said_of (cond b (route ∷ []) []) ≡ cond b (said_of route ∷ []) []
+said_if true route = refl
+said_if false route = refl
+
+pub having_more : (routes : List FoundRoute) (receiver i : ℕ) (route : FoundRoute)
+    → i < length routes → route ≡ get_or routes i route
+    → having receiver (map said_of (take (i + 1) routes))
+    ≡ having receiver (map said_of (take i routes))
+    ++ cond (route.receiver == receiver) (said_of route ∷ []) []
+having_more routes receiver i route l e =
+    rw (
+      filter_of_map said_of (λ said. said.receiver == receiver) (take (i + 1) routes),
+      filter_of_map said_of (λ said. said.receiver == receiver) (take i routes),
+      filter_more (λ r. r.receiver == receiver) routes i route l,
+      map-append,
+      ← e,
+      said_if (route.receiver == receiver) route,
+    ) refl
+
+pub have_some : {X : Type 0} (view : X → Said) (c : Configuration) (xs : List X)
+    → false ≡ (length xs == 0) → have_text c (map view xs)
+    ≡ texts_behind (codes "") (codes ", ") (said_text c) (map view xs)
+have_some view c [] some = absurd cc
+have_some view c (x ∷ xs) some = refl

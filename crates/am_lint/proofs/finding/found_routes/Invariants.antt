@@ -1,0 +1,14 @@
+use Rattle.std.proofs.Common.{◌≡◌, take, None}
+use Rattle.std.specs.List.{AllByRecursion, AllZip}
+use Rattle.am_files.specs.ConfigView.{config_view}
+use Rattle.am_files.specs.RoutePaths.{all_routes}
+use Rattle.am_lint.specs.FoundView.{IsFoundIn}
+use Rattle.am_lint.proofs.finding.found_routes.Given as goal
+
+-- the routes so far are found
+abbrev pub invariant-loop-i : goal.invariant-loop-i
+invariant-loop-i l = record {
+  found : AllZip (IsFoundIn l.space (config_view l.config))
+      (take l.i (all_routes (config_view l.config))) l.found.items;
+  once : AllByRecursion (λ route. route.every ≡ None) l.found.items;
+}

@@ -1,0 +1,14 @@
+use Rattle.std.proofs.Common.{take}
+use Rattle.std.specs.List.{AllByRecursion, AllZip}
+use Rattle.am_files.specs.ConfigView.{config_view}
+use Rattle.am_lint.specs.FoundView.{IsSameButEvery, IsLookedAt}
+use Rattle.am_lint.proofs.finding.look_further.Given as goal
+
+-- the routes so far are looked at, and all are the same else
+abbrev pub invariant-loop-i : goal.invariant-loop-i
+invariant-loop-i l = record {
+  same : AllZip IsSameButEvery l.fn.found l.found;
+  looked : AllByRecursion
+      (λ route. IsLookedAt l.space (config_view l.config) route.path route.ordinary route.every)
+      (take l.i l.found);
+}

@@ -1,0 +1,25 @@
+-- What is found does as the parts want, and so it ends there.
+use Rattle.am_lint.specs.declared.literals.Part.TheVariants.{Children}
+use Rattle.am_lint.specs.Table.{table_space, table_config}
+use Rattle.am_lint.proofs.LiteralLemmas.{more_literals}
+use Rattle.am_lint.proofs.PartsEntering.{to_enter, to_end, meets_end}
+use Rattle.am_lint.proofs.PartsMet.{shown_if_found, none_if_unfound}
+use Rattle.am_lint.proofs.standing.first_ending.Goals as goal
+
+pub returns : goal.returns
+returns c =
+    let s = table_space c.args.table.now in
+    let config = table_config c.args.table.now in
+    let routes = c.args.table.now.routes.items in
+    let path = c.args.path.now in
+    let ks = c.add_part.new.literals.items in
+    let are = more_literals routes to_enter Children path c.in_ok-literals.literals.items ks
+    c.in_ok-literals.ensures.literals c.in_ok-add_part.ensures in
+    let first = rw c.as_slice.ensures.value at c.first_meeting.ensures.first in
+    let means = meets_end config path c.requires.there in
+    record {
+      some = shown_if_found s config routes c.requires.knows to_end path ks are
+          c.first_meeting.result _ first c.first_meeting.ensures.possible (λ set. (means set).0);
+      none = none_if_unfound s config routes c.requires.knows to_end path ks are
+          c.first_meeting.result _ first (λ set. (means set).1);
+    }

@@ -1,0 +1,23 @@
+-- What is found does as the parts want, and so it is such a label set.
+use Rattle.am_lint.specs.Table.{table_space, table_config}
+use Rattle.am_lint.proofs.PartsEntering.{to_enter, meets_enter}
+use Rattle.am_lint.proofs.PartsMet.{shown_if_found, none_if_unfound}
+use Rattle.am_lint.proofs.standing.first_entering.Goals as goal
+
+pub returns : goal.returns
+returns c =
+    let s = table_space c.args.table.now in
+    let config = table_config c.args.table.now in
+    let routes = c.args.table.now.routes.items in
+    let path = c.args.path.now in
+    let ks = c.in_ok-literals.literals.items in
+    let are = c.in_ok-literals.ensures.literals in
+    let first = rw c.as_slice.ensures.value at c.first_meeting.ensures.first in
+    let means = meets_enter config path c.requires.there in
+    record {
+      some = shown_if_found s config routes c.requires.knows to_enter path ks are
+          c.first_meeting.result
+          _ first c.first_meeting.ensures.possible (λ set. (means set).0);
+      none = none_if_unfound s config routes c.requires.knows to_enter path ks are
+          c.first_meeting.result _ first (λ set. (means set).1);
+    }

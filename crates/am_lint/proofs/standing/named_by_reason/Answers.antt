@@ -1,0 +1,35 @@
+-- What is left of the literals behind the first ones.
+use Rattle.std.proofs.Common.{◌≡◌, ◌-◌, ℕ, length, take, drop, List, subst, sym, ap, ◌∙◌, arith}
+use Rattle.std.proofs.Common.{length-drop}
+use Rattle.std.proofs.lemmas.List.{take_all}
+use Rattle.am_reasons.specs.declared.candidate.Candidate.{Candidate}
+use Rattle.am_lint.specs.Literals.{AreTagged, named_paths}
+use Rattle.am_lint.proofs.LiteralLemmas.{tagged_alike, tagged_behind, if_ok_more}
+use Rattle.am_lint.proofs.standing.named_by_reason.Goals as goal
+
+left : (n : ℕ) (ks : List Candidate) → take (length ks - n) (drop n ks) ≡ drop n ks
+left n ks = take_all (length ks - n) (drop n ks) (omega (arith, length-drop n ks))
+
+pub named_routes-requires : goal.named_routes-requires
+named_routes-requires c =
+    let routes = c.args.table.now.routes.items in
+    let ks = c.find_reason.new.candidates in
+    let n = c.args.fixed in
+    subst (AreTagged routes) (sym (left n ks))
+    (tagged_behind routes ks n
+    (tagged_alike routes c.args.literals.now ks c.find_reason.ensures.same c.requires.tagged))
+
+pub returns : goal.returns
+returns c =
+    let routes = c.args.table.now.routes.items in
+    let old = c.args.literals.now in
+    let ks = c.find_reason.new.candidates in
+    let n = c.args.fixed in
+    record {
+      reason = if_ok_more c.named_routes.result _ _ (λ found is. (
+        ks,
+        c.find_reason.ensures.same,
+        c.find_reason.ensures.reason,
+        is ∙ ap (named_paths routes) (left n ks),
+      )) c.named_routes.ensures;
+    }

@@ -1,0 +1,109 @@
+-- What clauses read of what was found of a route: what is to be said of it.
+use Rattle.std.specs.Prelude.{◌≡◌, ◌<◌, ℕ, List, Option, Some, None, Bool, true, false, ⊤, length}
+use Rattle.std.specs.Prelude.{◌&&◌, ◌==◌, if◌then◌else◌}
+use Rattle.std.specs.List.{list_any}
+use Rattle.am_universe.specs.Choice.{IsWhole}
+use Rattle.am_labels.specs.Words.{Space}
+use Rattle.am_files.specs.ConfigFile.{Configuration, RouteTree, receiver_of}
+use Rattle.am_lint.specs.declared.standing.Standing.{Standing}
+use Rattle.am_lint.specs.declared.standing.Standing.TheVariants as standing_is
+use Rattle.am_lint.specs.declared.standing.Reason.{Reason}
+use Rattle.am_lint.specs.declared.found.FoundRoute.{FoundRoute}
+use Rattle.am_lint.specs.declared.found.RouteFinding.{RouteFinding}
+use Rattle.am_lint.specs.declared.found.RouteFinding.TheVariants as finding_is
+use Rattle.am_lint.specs.declared.found.ReceiverFinding.{ReceiverFinding}
+use Rattle.am_lint.specs.declared.found.ReceiverFinding.TheVariants as receiver_is
+use Rattle.am_lint.specs.Findings.{Finding, Dead, Unusual, HandsOn}
+use Rattle.am_lint.specs.ReportText.{Said}
+use Rattle.am_lint.specs.Reaching.{IsSetOf}
+use Rattle.am_lint.specs.Standing.{IsStanding}
+
+-- What is to be said of a route where no ordinary alert enters it, by how it stands over every
+-- alert, if others count; and what is to be said of it in any case.
+abbrev pub unentered : Reason → Option Standing → Finding
+unentered reason None = Dead reason.cause reason.routes.items
+unentered reason (Some (standing_is.Ends choice)) =
+    Unusual reason.cause reason.routes.items choice
+unentered reason (Some (standing_is.HandsOn entry children)) =
+    Unusual reason.cause reason.routes.items entry
+unentered reason (Some (standing_is.NeverEntered other)) = Dead other.cause other.routes.items
+
+abbrev pub finding_by : Standing → Option Standing → Option Finding
+finding_by (standing_is.Ends choice) every = None
+finding_by (standing_is.HandsOn entry children) every = Some (HandsOn children.items)
+finding_by (standing_is.NeverEntered reason) every = Some (unentered reason every)
+
+abbrev pub finding_of : FoundRoute → Option Finding
+finding_of found = finding_by found.ordinary found.every
+
+-- The same of what the code hands on, which borrows its parts.
+abbrev pub finding_view : RouteFinding → Finding
+finding_view (finding_is.Dead reason) = Dead reason.now.cause reason.now.routes.items
+finding_view (finding_is.Unusual reason entry) =
+    Unusual reason.now.cause reason.now.routes.items entry
+finding_view (finding_is.HandsOn children) = HandsOn children.now.items
+
+-- Some label set ends there.
+abbrev pub is_end : Standing → Bool
+is_end (standing_is.Ends choice) = true
+is_end (standing_is.HandsOn entry children) = false
+is_end (standing_is.NeverEntered reason) = false
+
+abbrev pub is_end_if_any : Option Standing → Bool
+is_end_if_any None = false
+is_end_if_any (Some standing) = is_end standing
+
+-- What was found of a route, by its path: its receiver, and how it stands over a space. Over
+-- another one it was not looked at.
+abbrev pub IsFoundIn : Space → Configuration → List ℕ × RouteTree → FoundRoute → Type 0
+IsFoundIn s c route found =
+    (found.path ≡ route.0) × (found.receiver ≡ receiver_of route.1)
+    × IsStanding s.labels (IsSetOf s) c route.0 found.ordinary
+
+-- How a route stands over a second space: it is looked at where no label set of the first ends
+-- there.
+abbrev pub IsLookedAt : Space → Configuration → List ℕ → Standing → Option Standing → Type 0
+IsLookedAt s c path (standing_is.Ends choice) every = ⊤
+IsLookedAt s c path (standing_is.HandsOn entry children) None = ⊥
+IsLookedAt s c path (standing_is.HandsOn entry children) (Some standing) =
+    IsStanding s.labels (IsSetOf s) c path standing
+IsLookedAt s c path (standing_is.NeverEntered reason) None = ⊥
+IsLookedAt s c path (standing_is.NeverEntered reason) (Some standing) =
+    IsStanding s.labels (IsSetOf s) c path standing
+
+-- A route was found so, but for how it stands over the second space.
+abbrev pub IsSameButEvery : FoundRoute → FoundRoute → Type 0
+IsSameButEvery found other =
+    (other.path ≡ found.path) × (other.receiver ≡ found.receiver)
+    × (other.ordinary ≡ found.ordinary)
+
+-- What the report says of a route that was found so.
+abbrev pub said_of : FoundRoute → Said
+said_of found =
+    record { path = found.path; receiver = found.receiver; finding = finding_of found }
+
+-- The choice that is shown of an unusual route is whole, and the receiver is declared.
+abbrev pub IsShownFinding : List ℕ → Option Finding → Type 0
+IsShownFinding sizes None = ⊤
+IsShownFinding sizes (Some (Dead cause routes)) = ⊤
+IsShownFinding sizes (Some (Unusual cause routes entry)) = IsWhole sizes entry
+IsShownFinding sizes (Some (HandsOn children)) = ⊤
+
+abbrev pub IsShown : List ℕ → Configuration → FoundRoute → Type 0
+IsShown sizes c found =
+    IsShownFinding sizes (finding_of found) × (found.receiver < length c.receivers)
+
+-- What is to be said of the receiver at a position, by what was found of all routes: nothing where
+-- an ordinary alert ends at a route that has it; that it is unusual, where another alert does; and
+-- else that it is unmatched.
+abbrev pub has_ordinary : ℕ → FoundRoute → Bool
+has_ordinary receiver found = found.receiver == receiver && is_end found.ordinary
+
+abbrev pub has_other : ℕ → FoundRoute → Bool
+has_other receiver found = found.receiver == receiver && is_end_if_any found.every
+
+abbrev pub receiver_finding : List FoundRoute → ℕ → Option ReceiverFinding
+receiver_finding routes receiver =
+    if list_any (has_ordinary receiver) routes then None
+    else if list_any (has_other receiver) routes then Some receiver_is.Unusual
+    else Some receiver_is.Unmatched

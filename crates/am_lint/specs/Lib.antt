@@ -1,0 +1,13 @@
+pub mod Places
+pub mod Reaching
+pub mod Reasons
+pub mod Table
+pub mod Literals
+pub mod Parts
+pub mod Standing
+pub mod Findings
+pub mod FoundView
+pub mod MatchersText
+pub mod ReportText
+pub mod Report
+pub mod Words

@@ -1,0 +1,42 @@
+-- How a route stands, where only such label sets count as occur.
+use Rattle.std.specs.Prelude.{ℕ, List}
+use Rattle.am_universe.specs.Universe.{Label, sizes}
+use Rattle.am_universe.specs.Choice.{IsWhole}
+use Rattle.am_universe.specs.LabelSet.{LabelMap, label_set_of}
+use Rattle.am_labels.specs.Space.{Space, IsChoiceOf}
+use Rattle.am_files.specs.ConfigFile.{Configuration}
+use Rattle.am_lint.specs.declared.standing.Cause.{Cause}
+use Rattle.am_lint.specs.declared.standing.Cause.TheVariants as cause_is
+use Rattle.am_lint.specs.declared.standing.Standing.{Standing}
+use Rattle.am_lint.specs.declared.standing.Standing.TheVariants as standing_is
+use Rattle.am_lint.specs.Reaching.{EndsAt, Enters, NoneIs}
+use Rattle.am_lint.specs.Reasons.{IsExcludedBy, IsTakenBy, IsHandedTo}
+
+-- A choice of a space whose label set is such.
+abbrev pub IsShownBy : Space → (LabelMap → Type 0) → List ℕ → Type 0
+IsShownBy s Is choice = IsChoiceOf s choice × Is (label_set_of s.labels choice)
+
+-- The same of a choice of some labels, where its label set occurs.
+abbrev pub IsSeenBy :
+    List Label → (LabelMap → Type 0) → (LabelMap → Type 0) → List ℕ → Type 0
+IsSeenBy u Occurs Is choice =
+    IsWhole (sizes u) choice × Occurs (label_set_of u choice) × Is (label_set_of u choice)
+
+-- The routes are to blame that no alert enters the one at a path, in this way.
+abbrev pub IsReasonFor :
+    (LabelMap → Type 0) → Configuration → List ℕ → Cause → List (List ℕ) → Type 0
+IsReasonFor Occurs c path cause_is.Excluded routes = IsExcludedBy Occurs c path routes
+IsReasonFor Occurs c path cause_is.Taken routes = IsTakenBy Occurs c path routes
+
+-- The route at a path stands so: some label set ends there; or one enters the route, none ends
+-- there, and these children take all; or none enters it, and these routes are to blame.
+-- Source: own choice.
+-- Example: a route whose one child has no matchers hands on to that child.
+abbrev pub IsStanding :
+    List Label → (LabelMap → Type 0) → Configuration → List ℕ → Standing → Type 0
+IsStanding u Occurs c path (standing_is.Ends choice) = IsSeenBy u Occurs (EndsAt c path) choice
+IsStanding u Occurs c path (standing_is.HandsOn entry children) =
+    IsSeenBy u Occurs (Enters c path) entry
+    × NoneIs Occurs (EndsAt c path) × IsHandedTo Occurs c path children.items
+IsStanding u Occurs c path (standing_is.NeverEntered reason) =
+    NoneIs Occurs (Enters c path) × IsReasonFor Occurs c path reason.cause reason.routes.items

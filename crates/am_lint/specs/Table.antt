@@ -1,0 +1,37 @@
+-- The routes of a configuration over labels, as a table.
+use Rattle.std.specs.Prelude.{◌≡◌, ℕ, List, Some}
+use Rattle.std.specs.List.{AllZip}
+use Rattle.am_labels.specs.Words.{Label, Space}
+use Rattle.am_files.specs.ConfigFile.{Configuration, RouteTree, matchers_of, continues_of}
+use Rattle.am_files.specs.ConfigView.{config_view}
+use Rattle.am_files.specs.Path.{route_at}
+use Rattle.am_files.specs.RoutePaths.{all_routes}
+use Rattle.am_masks.specs.Words.{IsCubeOf}
+use Rattle.am_first_sets.specs.Words.{possible_space}
+use Rattle.am_lint.specs.declared.table.TableRoute.{TableRoute}
+use Rattle.am_lint.specs.declared.table.Table.{Table}
+
+-- A route stands in the table with its path, whether it has `continue`, and the cube of its
+-- matchers over the labels. And so all routes of a configuration do, in preorder.
+abbrev pub IsTabled : List Label → List ℕ × RouteTree → TableRoute → Type 0
+IsTabled u found route =
+    (route.path ≡ found.0) × (route.continues ≡ continues_of found.1)
+    × IsCubeOf u (matchers_of found.1) route.cube
+
+abbrev pub IsTableOf : List Label → Configuration → List TableRoute → Type 0
+IsTableOf u c routes = AllZip (IsTabled u) (all_routes c) routes
+
+-- The space and the configuration of a table; and that it has the routes of the one over the
+-- labels of the other.
+abbrev pub table_space : Table → Space
+table_space table = possible_space table.possible
+
+abbrev pub table_config : Table → Configuration
+table_config table = config_view table.config.now
+
+abbrev pub KnowsRoutes : Table → Type 0
+KnowsRoutes table = IsTableOf (table_space table).labels (table_config table) table.routes.items
+
+-- A route is at the path.
+abbrev pub IsRoute : Configuration → List ℕ → Type 0
+IsRoute c path = (t : RouteTree) × (route_at c.root path ≡ Some t)

@@ -1,0 +1,95 @@
+//! What is found of all routes and receivers.
+
+ghost use Rattle.std.specs.Prelude.{◌≡◌, IfOk, OnOk, map, length, None};
+ghost use Rattle.std.specs.List.{AllByRecursion, AllZip, range_with_len};
+ghost use Rattle.am_files.specs.Words.{config_view, all_routes};
+ghost use Rattle.am_lint.specs.FoundView.{IsFoundIn, IsLookedAt, IsSameButEvery, receiver_finding};
+ghost use Rattle.am_lint.specs.Table.{KnowsRoutes, table_space, table_config, IsRoute};
+
+use crate::found::{FoundRoute, ReceiverFinding, receiver_finding};
+use crate::standing::standing_of;
+use crate::table::Table;
+use am_files::Config;
+use am_labels::Space;
+use std::alloc::{AllocError, Global};
+
+/// How each route of a configuration stands over a space, in preorder. An `Err` only where memory
+/// was refused.
+pub fn found_routes(
+    alloc: Global,
+    space: &Space,
+    config: &Config,
+) -> Result<Vec<FoundRoute>, AllocError>
+    ensures found { IfOk result (λ found. AllZip (IsFoundIn space.now (config_view config.now))
+        (all_routes (config_view config.now)) found.items) }
+    ensures once { IfOk result (λ found. AllByRecursion (λ route. route.every ≡ None) found.items) }
+{
+    let table = Table::of(alloc, space, config)?;
+    let listed = config.routes(alloc)?;
+    let mut found = Vec::with_capacity(alloc, listed.paths.len())?;
+    for i in 0..listed.paths.len() {
+        let path = listed.paths[i];
+        found.push(FoundRoute {
+            path,
+            receiver: listed.routes[i].receiver(),
+            ordinary: standing_of(alloc, &table, &path)?,
+            every: None,
+        })?;
+    }
+    Ok(found)
+}
+
+/// Adds how each of these routes stands over another space, where no label set of the first ends at
+/// it. An `Err` only where memory was refused; then some of them may have been looked at.
+pub fn look_further(
+    alloc: Global,
+    space: &Space,
+    config: &Config,
+    found: &mut [FoundRoute],
+) -> Result<(), AllocError>
+    requires routes { AllByRecursion (λ route. IsRoute (config_view config.now) route.path)
+        found.old }
+    ensures same { OnOk result (AllZip IsSameButEvery found.old found.new) }
+    ensures looked { OnOk result (AllByRecursion (λ route. IsLookedAt space.now
+        (config_view config.now) route.path route.ordinary route.every) found.new) }
+{
+    let table = Table::of(alloc, space, config)?;
+    for i in 0..found.len() {
+        look_further_at(alloc, &table, &mut found[i])?;
+    }
+    Ok(())
+}
+
+fn look_further_at(
+    alloc: Global,
+    table: &Table<'_>,
+    route: &mut FoundRoute,
+) -> Result<(), AllocError>
+    requires knows { KnowsRoutes table.now }
+    requires there { IsRoute (table_config table.now) route.old.path }
+    ensures same { OnOk result (IsSameButEvery route.old route.new) }
+    ensures looked { OnOk result (IsLookedAt (table_space table.now) (table_config table.now)
+        route.new.path route.new.ordinary route.new.every) }
+{
+    if !route.has_ordinary_end() {
+        route.every = Some(standing_of(alloc, table, &route.path)?);
+    }
+    Ok(())
+}
+
+/// What is to be said of each receiver of a configuration, by what is found of all routes. An `Err`
+/// only where memory was refused.
+pub fn found_receivers(
+    alloc: Global,
+    config: &Config,
+    routes: &[FoundRoute],
+) -> Result<Vec<Option<ReceiverFinding>>, AllocError>
+    ensures found { IfOk result (λ found. found.items ≡ map (receiver_finding routes.now)
+        (range_with_len 0 (length (config_view config.now).receivers))) }
+{
+    let mut found = Vec::with_capacity(alloc, config.receivers())?;
+    for i in 0..config.receivers() {
+        found.push(receiver_finding(routes, i))?;
+    }
+    Ok(found)
+}

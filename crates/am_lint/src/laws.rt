@@ -1,0 +1,61 @@
+//! Facts about the definitions alone: each is the contract of a function with an empty body.
+ghost use Rattle.std.specs.Prelude.{ℕ, List, IsTrue};
+ghost use Rattle.std.specs.List.{AllByRecursion};
+ghost use Rattle.am_labels.specs.Matcher.{Condition};
+ghost use Rattle.am_labels.specs.MatcherText.{is_name, Spells};
+ghost use Rattle.am_labels.specs.Words.{IsUniverse, Space};
+ghost use Rattle.am_files.specs.Words.{Configuration};
+ghost use Rattle.am_classes.specs.declared.alphabet.Alphabet.{Alphabet};
+ghost use Rattle.am_complete.specs.Words.{IsSpaceComplete, HasTextsOver};
+ghost use Rattle.am_every_alert.specs.Words.{IsAlertOf, NoAlertEndsAt, NoAlertEnters};
+ghost use Rattle.am_every_alert.specs.Words.{coverage_conditions};
+ghost use Rattle.am_lint.specs.declared.standing.Cause.{Cause};
+ghost use Rattle.am_lint.specs.declared.standing.Standing.{Standing};
+ghost use Rattle.am_lint.specs.Reaching.{IsSetOf};
+ghost use Rattle.am_lint.specs.Reasons.{IsExcludedBy, IsTakenBy, IsHandedTo};
+ghost use Rattle.am_lint.specs.Standing.{IsStanding, IsReasonFor};
+ghost use Rattle.am_lint.specs.MatchersText.{matchers_text};
+
+/// The text of matchers is that of a list that is read back as them, where each name is such as may
+/// stand in a matcher list.
+#[tactic(auto, using(crate::proofs::MatchersSpelled::matchers_spelled))]
+pub fn the_text_of_matchers_spells_them()
+    ensures spells { (ms : List Condition) → AllByRecursion (λ m. IsTrue (is_name m.name)) ms
+        → Spells (matchers_text ms) ms }
+{}
+
+/// The routes that are to blame keep the alerts of a space out: where routes on the way exclude
+/// each other, or siblings take each alert first that matches the way, none enters the route; and
+/// where its children take all, none ends there.
+pub fn a_reason_keeps_alerts_out()
+    ensures excluded { (a : Alphabet) (s : Space) (c : Configuration) (path : List ℕ)
+        (routes : List (List ℕ)) → IsExcludedBy (IsAlertOf a s) c path routes
+        → NoAlertEnters a s c path }
+    ensures taken { (a : Alphabet) (s : Space) (c : Configuration) (path : List ℕ)
+        (siblings : List (List ℕ)) → IsTakenBy (IsAlertOf a s) c path siblings
+        → NoAlertEnters a s c path }
+    ensures handed { (a : Alphabet) (s : Space) (c : Configuration) (path : List ℕ)
+        (children : List (List ℕ)) → IsHandedTo (IsAlertOf a s) c path children
+        → NoAlertEndsAt a s c path }
+{}
+
+/// In a space that is complete, over an alphabet, for the matchers of the routes and of what is
+/// impossible, and whose texts are over it, a route stands over all alerts of the space over this
+/// alphabet as it does over the label sets of the space, and for the same reasons.
+pub fn a_route_stands_over_all_alerts_as_over_a_complete_space()
+    ensures standing { (a : Alphabet) (s : Space) (c : Configuration) (path : List ℕ)
+        (standing : Standing) → IsUniverse s.labels → HasTextsOver a s.labels
+        → IsSpaceComplete a s (coverage_conditions s c)
+        → IsStanding s.labels (IsSetOf s) c path standing
+        → IsStanding s.labels (IsAlertOf a s) c path standing }
+    ensures reason { (a : Alphabet) (s : Space) (c : Configuration) (path : List ℕ) (cause : Cause)
+        (routes : List (List ℕ)) → IsUniverse s.labels → HasTextsOver a s.labels
+        → IsSpaceComplete a s (coverage_conditions s c)
+        → IsReasonFor (IsSetOf s) c path cause routes
+        → IsReasonFor (IsAlertOf a s) c path cause routes }
+    ensures handed { (a : Alphabet) (s : Space) (c : Configuration) (path : List ℕ)
+        (children : List (List ℕ)) → IsUniverse s.labels → HasTextsOver a s.labels
+        → IsSpaceComplete a s (coverage_conditions s c)
+        → IsHandedTo (IsSetOf s) c path children
+        → IsHandedTo (IsAlertOf a s) c path children }
+{}

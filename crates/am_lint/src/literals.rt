@@ -1,0 +1,66 @@
+//! What a route asks of an alert, as literals that name other routes.
+
+ghost use Rattle.std.specs.Prelude.{◌≡◌, OnOk};
+ghost use Rattle.am_lint.specs.Literals.{stands_in, is_wanted, AddsPart};
+
+use crate::places::{is_child_of, stands_before};
+use crate::table::{Table, TableRoute};
+use am_files::Path;
+use am_reasons::Candidate;
+use std::alloc::AllocError;
+
+/// Which routes some literals about a route are about.
+#[derive(Clone, Copy)]
+pub(crate) enum Part {
+    /// Those on the way to it, itself among them. An alert has to match each.
+    Way,
+    /// Those that stand before it or before one on the way, and lack `continue`. An alert must not
+    /// match any of them, to be tried at the route.
+    Before,
+    /// Its children. An alert must not match any of them, to end at the route.
+    Children,
+}
+
+impl Part {
+    /// Whether an alert has to match these routes, and not: it must not.
+    fn is_wanted(self) -> bool
+        ensures { result ≡ is_wanted self }
+    {
+        matches!(self, Part::Way)
+    }
+
+    /// Whether a route is one of them, for the route at a path.
+    fn has(self, path: &Path, route: &TableRoute) -> bool
+        ensures { result ≡ stands_in self path.now route.now.path route.now.continues }
+    {
+        match self {
+            Part::Way => path.leads_through(&route.path),
+            Part::Before => !route.continues && stands_before(path, &route.path),
+            Part::Children => is_child_of(path, &route.path),
+        }
+    }
+}
+
+/// Adds the literals of a part, for the route at a path, all of them named. Each has the position
+/// of its route in the table as its tag. An `Err` only where memory was refused.
+pub(crate) fn add_part<'t>(
+    table: &'t Table<'_>,
+    part: Part,
+    path: &Path,
+    literals: &mut Vec<Candidate<'t>>,
+) -> Result<(), AllocError>
+    ensures { OnOk result (AddsPart table.now.routes.items part path.now
+        literals.old.items literals.new.items) }
+{
+    for (i, route) in table.routes.iter().enumerate() {
+        if part.has(path, route) {
+            literals.push(Candidate {
+                cube: &route.cube,
+                wanted: part.is_wanted(),
+                named: true,
+                tag: i,
+            })?;
+        }
+    }
+    Ok(())
+}

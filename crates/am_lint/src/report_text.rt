@@ -1,0 +1,444 @@
+//! The report of what is found, as a text.
+
+ghost use Rattle.std.specs.Prelude.{◌≡◌, ◌<◌, ◌++◌, length, map, codes, string_bytes, IfOk, OnOk};
+ghost use Rattle.std.specs.Prelude.{Some};
+ghost use Rattle.std.specs.List.{AllByRecursion};
+ghost use Rattle.am_labels.specs.Words.{sizes, IsWhole, set_text, pair_text};
+ghost use Rattle.am_labels.specs.MatcherText.{operator_text};
+ghost use Rattle.am_files.specs.Words.{config_view, path_text, step_text};
+ghost use Rattle.am_lint.specs.FoundView.{finding_view, finding_of, said_of, IsShown};
+ghost use Rattle.am_lint.specs.FoundView.{IsShownFinding};
+ghost use Rattle.am_lint.specs.MatchersText.{matcher_text, matchers_text, gap_before_matcher};
+ghost use Rattle.am_lint.specs.ReportText.{report_text, route_line, receiver_line, count_text};
+ghost use Rattle.am_lint.specs.ReportText.{count_findings, count_notes, kind_text, why_text};
+ghost use Rattle.am_lint.specs.ReportText.{reason_text, cause_text, routes_text, route_text};
+ghost use Rattle.am_lint.specs.ReportText.{gap_before, receiver_kind, having, have_text, said_text};
+ghost use Rattle.am_lint.specs.ReportText.{matchers_at_path, kind_if_any, plural, is_dead, is_note};
+ghost use Rattle.am_lint.specs.ReportText.{is_unmatched, is_unusual};
+
+use crate::found::{FoundRoute, ReceiverFinding, RouteFinding};
+use crate::standing::{Cause, Reason};
+use am_complete_texts::push_quoted;
+use am_files::{Config, Path};
+use am_labels::{Choice, Matcher, Matchers, Op, Universe};
+use std::alloc::{AllocError, Global};
+
+/// What is to be said of routes and receivers: a line for each of which something is, and then how
+/// many findings and notes there are. `universe` has the labels of the label sets that are shown.
+/// An `Err` only where memory was refused.
+pub fn lint_text(
+    alloc: Global,
+    universe: &Universe,
+    config: &Config,
+    routes: &[FoundRoute],
+    receivers: &[Option<ReceiverFinding>],
+) -> Result<String, AllocError>
+    requires shown { AllByRecursion (IsShown (sizes universe.now) (config_view config.now))
+        routes.now }
+    requires each { length receivers.now ≡ length (config_view config.now).receivers }
+    ensures text { IfOk result (λ text. string_bytes text ≡ report_text universe.now
+        (config_view config.now) (map said_of routes.now) receivers.now) }
+{
+    let mut text = String::new(alloc);
+    for route in routes {
+        push_route_line(alloc, &mut text, universe, config, route)?;
+    }
+    for (i, finding) in receivers.iter().enumerate() {
+        push_receiver_line(alloc, &mut text, config, routes, i, *finding)?;
+    }
+    push_count(
+        alloc,
+        &mut text,
+        count_findings(routes, receivers),
+        count_notes(routes, receivers),
+    )?;
+    Ok(text)
+}
+
+/// How many findings there are.
+pub fn count_findings(routes: &[FoundRoute], receivers: &[Option<ReceiverFinding>]) -> usize
+    ensures count { result ≡ count_findings (map said_of routes.now) receivers.now }
+{
+    let dead = routes.iter().filter(|route| is_dead(route)).count();
+    let unmatched = receivers
+        .iter()
+        .filter(|found| is_unmatched(**found))
+        .count();
+    dead + unmatched
+}
+
+/// How many notes there are.
+fn count_notes(routes: &[FoundRoute], receivers: &[Option<ReceiverFinding>]) -> usize
+    ensures { result ≡ count_notes (map said_of routes.now) receivers.now }
+{
+    let noted = routes.iter().filter(|route| is_noted(route)).count();
+    let unusual = receivers.iter().filter(|found| is_unusual(**found)).count();
+    noted + unusual
+}
+
+fn is_dead(route: &FoundRoute) -> bool
+    ensures { result ≡ is_dead (finding_of route.now) }
+{
+    matches!(route.finding(), Some(RouteFinding::Dead(_)))
+}
+
+fn is_noted(route: &FoundRoute) -> bool
+    ensures { result ≡ is_note (finding_of route.now) }
+{
+    match route.finding() {
+        None | Some(RouteFinding::Dead(_)) => false,
+        Some(RouteFinding::Unusual(_, _)) | Some(RouteFinding::HandsOn(_)) => true,
+    }
+}
+
+fn is_unmatched(found: Option<ReceiverFinding>) -> bool
+    ensures { result ≡ is_unmatched found }
+{
+    matches!(found, Some(ReceiverFinding::Unmatched))
+}
+
+fn is_unusual(found: Option<ReceiverFinding>) -> bool
+    ensures { result ≡ is_unusual found }
+{
+    matches!(found, Some(ReceiverFinding::Unusual))
+}
+
+// ---- Routes.
+
+fn push_route_line(
+    alloc: Global,
+    text: &mut String,
+    universe: &Universe,
+    config: &Config,
+    route: &FoundRoute,
+) -> Result<(), AllocError>
+    requires { IsShown (sizes universe.now) (config_view config.now) route.now }
+    ensures { OnOk result (string_bytes text.new ≡ string_bytes text.old
+        ++ route_line universe.now (config_view config.now) (said_of route.now)) }
+{
+    let Some(finding) = route.finding() else {
+        return Ok(());
+    };
+    push_path(alloc, text, &route.path)?;
+    text.push_str(" ")?;
+    text.push_str(kind_text(&finding))?;
+    text.push_str(": ")?;
+    push_quoted(text, config.receiver_name(route.receiver))?;
+    text.push_str(" ")?;
+    push_matchers_at(text, config, &route.path)?;
+    text.push_str(": ")?;
+    push_why(alloc, text, universe, config, &finding)?;
+    text.push_str("\n")
+}
+
+/// The word for what is to be said of a route.
+fn kind_text(finding: &RouteFinding<'_>) -> &'static str
+    ensures { result.now ≡ kind_text (finding_view finding.now) }
+{
+    match finding {
+        RouteFinding::Dead(_) => "dead",
+        RouteFinding::Unusual(_, _) => "unusual",
+        RouteFinding::HandsOn(_) => "hands on",
+    }
+}
+
+/// Adds why it is said of a route.
+fn push_why(
+    alloc: Global,
+    text: &mut String,
+    universe: &Universe,
+    config: &Config,
+    finding: &RouteFinding<'_>,
+) -> Result<(), AllocError>
+    requires { IsShownFinding (sizes universe.now) (Some (finding_view finding.now)) }
+    ensures { OnOk result (string_bytes text.new ≡ string_bytes text.old
+        ++ why_text universe.now (config_view config.now) (finding_view finding.now)) }
+{
+    match finding {
+        RouteFinding::Dead(reason) => push_reason(alloc, text, config, reason),
+        RouteFinding::Unusual(reason, entry) => {
+            push_reason(alloc, text, config, reason)?;
+            text.push_str("; entered by ")?;
+            push_set(text, universe, entry)
+        }
+        RouteFinding::HandsOn(children) => {
+            text.push_str("taken by ")?;
+            push_routes(alloc, text, config, children.as_slice())
+        }
+    }
+}
+
+fn push_reason(
+    alloc: Global,
+    text: &mut String,
+    config: &Config,
+    reason: &Reason,
+) -> Result<(), AllocError>
+    ensures { OnOk result (string_bytes text.new ≡ string_bytes text.old
+        ++ reason_text (config_view config.now) reason.now.cause reason.now.routes.items) }
+{
+    if reason.routes.is_empty() {
+        return text.push_str("no alert is possible");
+    }
+    text.push_str(cause_text(reason.cause))?;
+    push_routes(alloc, text, config, reason.routes.as_slice())
+}
+
+fn cause_text(cause: Cause) -> &'static str
+    ensures { result.now ≡ cause_text cause }
+{
+    match cause {
+        Cause::Excluded => "excluded by ",
+        Cause::Taken => "taken by ",
+    }
+}
+
+/// Adds routes, each with its path and its matchers.
+fn push_routes(
+    alloc: Global,
+    text: &mut String,
+    config: &Config,
+    routes: &[Path],
+) -> Result<(), AllocError>
+    ensures { OnOk result (string_bytes text.new
+        ≡ string_bytes text.old ++ routes_text (config_view config.now) routes.now) }
+{
+    for (i, path) in routes.iter().enumerate() {
+        text.push_str(gap_before(i))?;
+        push_route(alloc, text, config, path)?;
+    }
+    Ok(())
+}
+
+fn push_route(
+    alloc: Global,
+    text: &mut String,
+    config: &Config,
+    path: &Path,
+) -> Result<(), AllocError>
+    ensures { OnOk result (string_bytes text.new
+        ≡ string_bytes text.old ++ route_text (config_view config.now) path.now) }
+{
+    push_path(alloc, text, path)?;
+    text.push_str(" ")?;
+    push_matchers_at(text, config, path)
+}
+
+fn gap_before(i: usize) -> &'static str
+    ensures { result.now ≡ gap_before i }
+{
+    if i == 0 { "" } else { ", " }
+}
+
+// ---- Receivers.
+
+fn push_receiver_line(
+    alloc: Global,
+    text: &mut String,
+    config: &Config,
+    routes: &[FoundRoute],
+    receiver: usize,
+    finding: Option<ReceiverFinding>,
+) -> Result<(), AllocError>
+    requires { receiver < length (config_view config.now).receivers }
+    ensures { OnOk result (string_bytes text.new ≡ string_bytes text.old
+        ++ receiver_line (config_view config.now) (map said_of routes.now) receiver finding) }
+{
+    let Some(finding) = finding else {
+        return Ok(());
+    };
+    let having = having(alloc, routes, receiver)?;
+    text.push_str("receiver ")?;
+    push_quoted(text, config.receiver_name(receiver))?;
+    text.push_str(receiver_kind(finding))?;
+    push_having(alloc, text, config, having.as_slice())?;
+    text.push_str("\n")
+}
+
+fn receiver_kind(finding: ReceiverFinding) -> &'static str
+    ensures { result.now ≡ receiver_kind finding }
+{
+    match finding {
+        ReceiverFinding::Unmatched => " unmatched: ",
+        ReceiverFinding::Unusual => " unusual: ",
+    }
+}
+
+/// Those of some routes that have a receiver.
+fn having(
+    alloc: Global,
+    routes: &[FoundRoute],
+    receiver: usize,
+) -> Result<Vec<&FoundRoute>, AllocError>
+    ensures { IfOk result (λ found. map (λ route. said_of route.now) found.items
+        ≡ having receiver (map said_of routes.now)) }
+{
+    let mut found = Vec::new(alloc);
+    for route in routes {
+        if route.receiver == receiver {
+            found.push(route)?;
+        }
+    }
+    Ok(found)
+}
+
+/// Adds the routes that have a receiver, each with the word for what is to be said of it.
+fn push_having(
+    alloc: Global,
+    text: &mut String,
+    config: &Config,
+    routes: &[&FoundRoute],
+) -> Result<(), AllocError>
+    ensures { OnOk result (string_bytes text.new ≡ string_bytes text.old
+        ++ have_text (config_view config.now) (map (λ route. said_of route.now) routes.now)) }
+{
+    if routes.is_empty() {
+        return text.push_str("no route names it");
+    }
+    for (i, route) in routes.iter().enumerate() {
+        text.push_str(gap_before(i))?;
+        push_said(alloc, text, config, route)?;
+    }
+    Ok(())
+}
+
+fn push_said(
+    alloc: Global,
+    text: &mut String,
+    config: &Config,
+    route: &FoundRoute,
+) -> Result<(), AllocError>
+    ensures { OnOk result (string_bytes text.new
+        ≡ string_bytes text.old ++ said_text (config_view config.now) (said_of route.now)) }
+{
+    push_route(alloc, text, config, &route.path)?;
+    match route.finding() {
+        Some(finding) => {
+            text.push_str(" ")?;
+            text.push_str(kind_text(&finding))
+        }
+        None => Ok(()),
+    }
+}
+
+// ---- The last line.
+
+fn push_count(
+    alloc: Global,
+    text: &mut String,
+    findings: usize,
+    notes: usize,
+) -> Result<(), AllocError>
+    ensures { OnOk result (string_bytes text.new
+        ≡ string_bytes text.old ++ count_text findings notes) }
+{
+    let (found, noted) = (plural(findings), plural(notes));
+    let line = format!(in alloc; "# {findings} finding{found}, {notes} note{noted}\n")?;
+    text.push_str(line.as_str())
+}
+
+/// What stands behind the word for so many things.
+fn plural(n: usize) -> &'static str
+    ensures { result.now ≡ plural n }
+{
+    if n == 1 { "" } else { "s" }
+}
+
+// ---- Paths, matchers and label sets.
+
+/// Adds the text of a path.
+fn push_path(alloc: Global, text: &mut String, path: &Path) -> Result<(), AllocError>
+    ensures { OnOk result (string_bytes text.new ≡ string_bytes text.old ++ path_text path.now) }
+{
+    if path.len() == 0 {
+        return text.push_str("/");
+    }
+    for position in path.steps() {
+        push_step(alloc, text, *position)?;
+    }
+    Ok(())
+}
+
+fn push_step(alloc: Global, text: &mut String, position: u16) -> Result<(), AllocError>
+    ensures { OnOk result (string_bytes text.new ≡ string_bytes text.old ++ step_text position) }
+{
+    let step = format!(in alloc; "/{position}")?;
+    text.push_str(step.as_str())
+}
+
+/// Adds the matchers of the route at a path, in braces.
+fn push_matchers_at(text: &mut String, config: &Config, path: &Path) -> Result<(), AllocError>
+    ensures { OnOk result (string_bytes text.new
+        ≡ string_bytes text.old ++ matchers_at_path (config_view config.now) path.now) }
+{
+    match config.at(path) {
+        Some(route) => push_matchers(text, route.matchers()),
+        None => Ok(()),
+    }
+}
+
+/// Adds matchers in braces, as the text of a list that is read back as them.
+fn push_matchers(text: &mut String, matchers: &Matchers) -> Result<(), AllocError>
+    ensures { OnOk result (string_bytes text.new
+        ≡ string_bytes text.old ++ matchers_text matchers.now) }
+{
+    text.push_str("{")?;
+    for i in 0..matchers.len() {
+        text.push_str(gap_before_matcher(i))?;
+        push_matcher(text, matchers.get(i))?;
+    }
+    text.push_str("}")
+}
+
+fn push_matcher(text: &mut String, matcher: &Matcher) -> Result<(), AllocError>
+    ensures { OnOk result (string_bytes text.new
+        ≡ string_bytes text.old ++ matcher_text matcher.now) }
+{
+    text.push_str(matcher.name())?;
+    text.push_str(operator_text(matcher.op()))?;
+    push_quoted(text, matcher.value())
+}
+
+fn gap_before_matcher(i: usize) -> &'static str
+    ensures { result.now ≡ gap_before_matcher i }
+{
+    if i == 0 { "" } else { "," }
+}
+
+fn operator_text(op: Op) -> &'static str
+    ensures { result.now ≡ operator_text op }
+{
+    match op {
+        Op::Equal => "=",
+        Op::NotEqual => "!=",
+        Op::Matches => "=~",
+        Op::NotMatches => "!~",
+    }
+}
+
+/// Adds the label set of a choice.
+fn push_set(text: &mut String, universe: &Universe, choice: &Choice) -> Result<(), AllocError>
+    requires { IsWhole (sizes universe.now) choice.now }
+    ensures { OnOk result (string_bytes text.new
+        ≡ string_bytes text.old ++ set_text universe.now choice.now) }
+{
+    text.push_str("{")?;
+    let mut separator = "";
+    for i in 0..universe.len() {
+        if let Some(value) = universe.value(i, usize::from(choice.get(i))) {
+            push_pair(text, separator, universe.name(i), value)?;
+            separator = ",";
+        }
+    }
+    text.push_str("}")
+}
+
+fn push_pair(text: &mut String, separator: &str, name: &str, value: &str) -> Result<(), AllocError>
+    ensures { OnOk result (string_bytes text.new ≡ string_bytes text.old
+        ++ (separator.now ++ pair_text (name.now, value.now))) }
+{
+    text.push_str(separator)?;
+    text.push_str(name)?;
+    text.push_str("=")?;
+    push_quoted(text, value)
+}

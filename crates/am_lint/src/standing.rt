@@ -1,0 +1,269 @@
+//! How a route stands over a space: whether label sets end there, or enter it, and why none do.
+
+ghost use Rattle.std.specs.Prelude.{◌≡◌, ◌≤◌, ◌∷◌, ◌++◌, [], List, length, drop, IfOk, IfSome};
+ghost use Rattle.std.specs.Prelude.{IfNone};
+ghost use Rattle.am_reasons.specs.declared.candidate.Candidate.{Candidate};
+ghost use Rattle.am_reasons.specs.Words.{IsAnyMet, AreSameLiterals, IsReason};
+ghost use Rattle.am_lint.specs.declared.literals.Part.{Part};
+ghost use Rattle.am_lint.specs.declared.literals.Part.TheVariants as parts;
+ghost use Rattle.am_lint.specs.Table.{KnowsRoutes, table_space, table_config, IsRoute};
+ghost use Rattle.am_lint.specs.Literals.{AreLiterals, named_paths, AreTagged};
+ghost use Rattle.am_lint.specs.Parts.{MeetsParts, IsReasonOfParts};
+ghost use Rattle.am_lint.specs.Reaching.{IsSetOf, EndsAt, Enters, SomeIs, NoneIs};
+ghost use Rattle.am_lint.specs.Reasons.{MatchesWay, IsExcludedBy, IsTakenBy, IsHandedTo};
+ghost use Rattle.am_lint.specs.Standing.{IsStanding, IsReasonFor, IsShownBy};
+
+use crate::literals::{Part, add_part};
+use crate::table::Table;
+use am_files::Path;
+use am_labels::Choice;
+use am_reasons::{Candidate, find_reason, first_meeting};
+use std::alloc::{AllocError, Global};
+
+/// How routes keep label sets from entering another.
+#[derive(Clone, Copy)]
+pub enum Cause {
+    /// Routes on the way exclude each other.
+    Excluded,
+    /// Siblings take each label set first.
+    Taken,
+}
+
+/// Why no label set enters a route: the routes that are to blame, by their paths in preorder. They
+/// are enough, and each is needed.
+#[derive(Drop)]
+pub struct Reason {
+    pub cause: Cause,
+    pub routes: Vec<Path>,
+}
+
+/// How a route stands over a space.
+#[derive(Drop)]
+pub enum Standing {
+    /// The label set of this choice ends there.
+    Ends(Choice),
+    /// The label set of this choice enters the route, and none ends there: these children take all.
+    HandsOn { entry: Choice, children: Vec<Path> },
+    /// No label set enters it.
+    NeverEntered(Reason),
+}
+
+/// How the route at a path stands. An `Err` only where memory was refused.
+pub(crate) fn standing_of(
+    alloc: Global,
+    table: &Table<'_>,
+    path: &Path,
+) -> Result<Standing, AllocError>
+    requires knows { KnowsRoutes table.now }
+    requires there { IsRoute (table_config table.now) path.now }
+    ensures standing { IfOk result (IsStanding (table_space table.now).labels
+        (IsSetOf (table_space table.now)) (table_config table.now) path.now) }
+{
+    if let Some(choice) = first_ending(alloc, table, path)? {
+        return Ok(Standing::Ends(choice));
+    }
+    if let Some(entry) = first_entering(alloc, table, path)? {
+        let children = why_handed_on(alloc, table, path)?;
+        return Ok(Standing::HandsOn { entry, children });
+    }
+    Ok(Standing::NeverEntered(why_never_entered(alloc, table, path)?))
+}
+
+/// A choice whose label set ends at the route at a path, if there is one.
+fn first_ending(alloc: Global, table: &Table<'_>, path: &Path) -> Result<Option<Choice>, AllocError>
+    requires knows { KnowsRoutes table.now }
+    requires there { IsRoute (table_config table.now) path.now }
+    ensures some { IfOk result (λ found. IfSome found
+        (IsShownBy (table_space table.now) (EndsAt (table_config table.now) path.now))) }
+    ensures none { IfOk result (λ found. IfNone found
+        (NoneIs (IsSetOf (table_space table.now)) (EndsAt (table_config table.now) path.now))) }
+{
+    let mut literals = literals_to_enter(alloc, table, path)?;
+    add_part(table, Part::Children, path, &mut literals)?;
+    Ok(first_meeting(&table.possible, literals.as_slice()))
+}
+
+/// A choice whose label set enters the route at a path, if there is one.
+fn first_entering(
+    alloc: Global,
+    table: &Table<'_>,
+    path: &Path,
+) -> Result<Option<Choice>, AllocError>
+    requires knows { KnowsRoutes table.now }
+    requires there { IsRoute (table_config table.now) path.now }
+    ensures some { IfOk result (λ found. IfSome found
+        (IsShownBy (table_space table.now) (Enters (table_config table.now) path.now))) }
+    ensures none { IfOk result (λ found. IfNone found
+        (NoneIs (IsSetOf (table_space table.now)) (Enters (table_config table.now) path.now))) }
+{
+    let literals = literals_to_enter(alloc, table, path)?;
+    Ok(first_meeting(&table.possible, literals.as_slice()))
+}
+
+/// A choice whose label set matches the way to the route at a path, if there is one.
+fn first_on_way(alloc: Global, table: &Table<'_>, path: &Path) -> Result<Option<Choice>, AllocError>
+    requires knows { KnowsRoutes table.now }
+    requires there { IsRoute (table_config table.now) path.now }
+    ensures some { IfOk result (λ found. IfSome found
+        (IsShownBy (table_space table.now) (MatchesWay (table_config table.now) path.now))) }
+    ensures none { IfOk result (λ found. IfNone found (NoneIs (IsSetOf (table_space table.now))
+        (MatchesWay (table_config table.now) path.now))) }
+{
+    let literals = literals_of_way(alloc, table, path)?;
+    Ok(first_meeting(&table.possible, literals.as_slice()))
+}
+
+/// Which children take all label sets that enter the route at a path, where none ends there.
+fn why_handed_on(alloc: Global, table: &Table<'_>, path: &Path) -> Result<Vec<Path>, AllocError>
+    requires knows { KnowsRoutes table.now }
+    requires there { IsRoute (table_config table.now) path.now }
+    requires none { NoneIs (IsSetOf (table_space table.now))
+        (EndsAt (table_config table.now) path.now) }
+    ensures handed { IfOk result (λ children. IsHandedTo (IsSetOf (table_space table.now))
+        (table_config table.now) path.now children.items) }
+{
+    let literals = literals_to_enter(alloc, table, path)?;
+    reason_of(alloc, table, path, literals, Part::Children)
+}
+
+/// Why no label set enters the route at a path, where none does.
+fn why_never_entered(alloc: Global, table: &Table<'_>, path: &Path) -> Result<Reason, AllocError>
+    requires knows { KnowsRoutes table.now }
+    requires there { IsRoute (table_config table.now) path.now }
+    requires none { NoneIs (IsSetOf (table_space table.now))
+        (Enters (table_config table.now) path.now) }
+    ensures reason { IfOk result (λ reason. IsReasonFor (IsSetOf (table_space table.now))
+        (table_config table.now) path.now reason.cause reason.routes.items) }
+{
+    let shown = first_on_way(alloc, table, path)?;
+    match shown {
+        Some(_) => Ok(Reason {
+            cause: Cause::Taken,
+            routes: why_taken(alloc, table, path)?,
+        }),
+        None => Ok(Reason {
+            cause: Cause::Excluded,
+            routes: why_excluded(alloc, table, path)?,
+        }),
+    }
+}
+
+/// Which siblings take all label sets that match the way to the route at a path, where some do and
+/// none of them enters it.
+fn why_taken(alloc: Global, table: &Table<'_>, path: &Path) -> Result<Vec<Path>, AllocError>
+    requires knows { KnowsRoutes table.now }
+    requires there { IsRoute (table_config table.now) path.now }
+    requires none { NoneIs (IsSetOf (table_space table.now))
+        (Enters (table_config table.now) path.now) }
+    requires some { SomeIs (IsSetOf (table_space table.now))
+        (MatchesWay (table_config table.now) path.now) }
+    ensures taken { IfOk result (λ siblings. IsTakenBy (IsSetOf (table_space table.now))
+        (table_config table.now) path.now siblings.items) }
+{
+    let literals = literals_of_way(alloc, table, path)?;
+    reason_of(alloc, table, path, literals, Part::Before)
+}
+
+/// Which routes on the way to the route at a path exclude each other, where no label set matches
+/// all of them.
+fn why_excluded(alloc: Global, table: &Table<'_>, path: &Path) -> Result<Vec<Path>, AllocError>
+    requires knows { KnowsRoutes table.now }
+    requires there { IsRoute (table_config table.now) path.now }
+    requires none { NoneIs (IsSetOf (table_space table.now))
+        (MatchesWay (table_config table.now) path.now) }
+    ensures excluded { IfOk result (λ routes. IsExcludedBy (IsSetOf (table_space table.now))
+        (table_config table.now) path.now routes.items) }
+{
+    reason_of(alloc, table, path, Vec::new(alloc), Part::Way)
+}
+
+/// Which routes of a part are to blame that no label set meets these literals and those of the
+/// part, in preorder.
+fn reason_of<'t>(
+    alloc: Global,
+    table: &'t Table<'_>,
+    path: &Path,
+    literals: Vec<Candidate<'t>>,
+    part: Part,
+) -> Result<Vec<Path>, AllocError>
+    requires knows { KnowsRoutes table.now }
+    requires none { (ps : List Part)
+        × AreLiterals table.now.routes.items ps path.now literals.items
+        × NoneIs (IsSetOf (table_space table.now))
+        (MeetsParts (table_config table.now) (ps ++ part ∷ []) path.now) }
+    ensures reason { IfOk result (λ routes. (ps : List Part)
+        → AreLiterals table.now.routes.items ps path.now literals.entry.items
+        → IsReasonOfParts (IsSetOf (table_space table.now)) (table_config table.now) ps part
+        path.now routes.items) }
+{
+    let mut literals = literals;
+    let fixed = literals.len();
+    add_part(table, part, path, &mut literals)?;
+    named_by_reason(alloc, table, &mut literals, fixed)
+}
+
+/// The paths of the routes that are to blame, beside the first so many literals, that no label set
+/// meets all literals.
+fn named_by_reason(
+    alloc: Global,
+    table: &Table<'_>,
+    literals: &mut [Candidate<'_>],
+    fixed: usize,
+) -> Result<Vec<Path>, AllocError>
+    requires none { IsAnyMet (table_space table.now) literals.old → ⊥ }
+    requires tagged { AreTagged table.now.routes.items literals.old }
+    requires within { fixed ≤ length literals.old }
+    ensures reason { IfOk result (λ routes. (ks : List Candidate)
+        × AreSameLiterals literals.old ks × IsReason (table_space table.now) fixed ks
+        × (routes.items ≡ named_paths table.now.routes.items (drop fixed ks))) }
+{
+    find_reason(&table.possible, literals, fixed);
+    named_routes(alloc, table, &literals[fixed..])
+}
+
+/// The literals that a label set meets where it matches the way to the route at a path.
+fn literals_of_way<'t>(
+    alloc: Global,
+    table: &'t Table<'_>,
+    path: &Path,
+) -> Result<Vec<Candidate<'t>>, AllocError>
+    ensures literals { IfOk result (λ literals.
+        AreLiterals table.now.routes.items (parts.Way ∷ []) path.now literals.items) }
+{
+    let mut literals = Vec::new(alloc);
+    add_part(table, Part::Way, path, &mut literals)?;
+    Ok(literals)
+}
+
+/// The literals that a label set meets where it enters the route at a path.
+fn literals_to_enter<'t>(
+    alloc: Global,
+    table: &'t Table<'_>,
+    path: &Path,
+) -> Result<Vec<Candidate<'t>>, AllocError>
+    ensures literals { IfOk result (λ literals. AreLiterals table.now.routes.items
+        (parts.Way ∷ parts.Before ∷ []) path.now literals.items) }
+{
+    let mut literals = literals_of_way(alloc, table, path)?;
+    add_part(table, Part::Before, path, &mut literals)?;
+    Ok(literals)
+}
+
+/// The paths of the routes whose literals are named.
+fn named_routes(
+    alloc: Global,
+    table: &Table<'_>,
+    literals: &[Candidate<'_>],
+) -> Result<Vec<Path>, AllocError>
+    requires { AreTagged table.now.routes.items literals.now }
+    ensures { IfOk result (λ routes.
+        routes.items ≡ named_paths table.now.routes.items literals.now) }
+{
+    let mut routes = Vec::new(alloc);
+    for literal in literals {
+        if literal.named {
+            routes.push(table.routes[literal.tag].path)?;
+        }
+    }
+    Ok(routes)
+}

@@ -1,0 +1,57 @@
+//! The routes of a configuration over a space, each with the cube of its matchers.
+
+ghost use Rattle.std.specs.Prelude.{◌≡◌, IfOk};
+ghost use Rattle.am_files.specs.Words.{config_view};
+ghost use Rattle.am_lint.specs.Table.{KnowsRoutes, table_space, table_config};
+
+use am_files::{Config, Path};
+use am_first_sets::PossibleRefuter;
+use am_labels::Space;
+use am_masks::Cube;
+use std::alloc::{AllocError, Global};
+
+/// A route, by its path, with what a search asks of it.
+#[derive(Drop)]
+pub(crate) struct TableRoute {
+    pub path: Path,
+    pub continues: bool,
+    pub cube: Cube,
+}
+
+/// The routes of a configuration over a space, in preorder, and what is impossible.
+#[derive(Drop)]
+pub(crate) struct Table<'a> {
+    pub possible: PossibleRefuter<'a>,
+    pub config: &'a Config,
+    pub routes: Vec<TableRoute>,
+}
+
+impl<'a> Table<'a> {
+    /// That of a configuration over a space. An `Err` only where memory was refused.
+    pub(crate) fn of(
+        alloc: Global,
+        space: &'a Space,
+        config: &'a Config,
+    ) -> Result<Table<'a>, AllocError>
+        ensures space { IfOk result (λ table. table_space table ≡ space.now) }
+        ensures config { IfOk result (λ table. table_config table ≡ config_view config.now) }
+        ensures knows { IfOk result KnowsRoutes }
+    {
+        let possible = PossibleRefuter::of(alloc, space)?;
+        let listed = config.routes(alloc)?;
+        let mut routes = Vec::with_capacity(alloc, listed.paths.len())?;
+        for i in 0..listed.paths.len() {
+            let route = listed.routes[i];
+            routes.push(TableRoute {
+                path: listed.paths[i],
+                continues: route.continues(),
+                cube: Cube::of(alloc, route.matchers(), space.universe())?,
+            })?;
+        }
+        Ok(Table {
+            possible,
+            config,
+            routes,
+        })
+    }
+}
