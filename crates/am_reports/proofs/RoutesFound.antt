@@ -1,0 +1,70 @@
+-- Routes that are found over universes that stand for alerts, are found so for these alerts.
+use Rattle.std.proofs.Common.{◌≡◌, List, Bool, false, Option, Some, None, is_none, IfSome}
+use Rattle.std.proofs.Common.{sym, subst, ◌∙◌}
+use Rattle.std.specs.Prelude.{Vec, length}
+use Rattle.std.specs.Global.{Global}
+use Rattle.std.specs.Vec.{with_items}
+use Rattle.std.specs.List.{AllByRecursion, AllZip}
+use Rattle.std.proofs.lemmas.List.{with_items_is}
+use Rattle.std.proofs.lemmas.List.Elements.{length_all_zip}
+use Rattle.am_universe.specs.Universe.{Label}
+use Rattle.am_labels.specs.Matcher.{Condition}
+use Rattle.am_labels.specs.Space.{Space}
+use Rattle.am_files.specs.ConfigFile.{Configuration}
+use Rattle.am_files.specs.RoutePaths.{all_routes}
+use Rattle.am_classes.specs.declared.alphabet.Alphabet.{Alphabet}
+use Rattle.am_classes.specs.declared.alphabet.Alphabet.TheVariants.{Unicode, Ascii}
+use Rattle.am_lint.specs.declared.found.FoundRoute.{FoundRoute}
+use Rattle.am_lint.specs.FoundView.{IsFoundIn, IsLookedAt, IsSameButEvery}
+use Rattle.am_lint.proofs.Transfer.{StandsForAlerts}
+use Rattle.am_lint.proofs.FoundLemmas.{IsFoundSo}
+use Rattle.am_lint.proofs.FoundOver.{found_over_ascii, found_over_unicode}
+use Rattle.am_reports.specs.Made.{StandsForAll}
+
+-- each route is found so, by choices of some labels and, over every alert, of those of a universe
+abbrev pub AreFoundSo : Bool → Space → List Label → Configuration → List FoundRoute → Type 0
+AreFoundSo ascii s v c found =
+    (u : List Label) × AllZip (IsFoundSo ascii s u v c) (all_routes c) found
+
+-- a space with these labels, beside what another calls impossible
+abbrev pub IsSpaceWith : Space → List Label → Space → Type 0
+IsSpaceWith s u o = (o.labels ≡ u) × (o.impossible ≡ s.impossible)
+
+stands : (a : Alphabet) (s o : Space) (c : Configuration) (u : List Label) → StandsForAll a s c u
+    → IsSpaceWith s u o → StandsForAlerts a o c
+stands a s o c u h is =
+    let Stands = λ (labels : List Label) (lists : List (List Condition)).
+    StandsForAlerts a (record { labels = labels; impossible = lists }) c in
+    subst (λ (x : List Label). Stands x o.impossible) (sym is.0)
+    (subst (λ (x : List (List Condition)). Stands u x) (sym is.1)
+    (record { universe = h.universe; complete = h.complete; over = h.over }))
+
+module _ (s o : Space) (c : Configuration) (u : List Label) (over : StandsForAll Ascii s c u)
+    (is : IsSpaceWith s u o) where
+  pub found_ordinary : (every : Option (List Label)) (v : List Label) (found : List FoundRoute)
+      → every ≡ None → AllZip (IsFoundIn o c) (all_routes c) found
+      → AllByRecursion (λ route. route.every ≡ None) found
+      → AreFoundSo (is_none every) s v c found
+  found_ordinary every v found none so once =
+      subst (λ (x : Option (List Label)). AreFoundSo (is_none x) s v c found) (sym none)
+      (o.labels, found_over_ascii s o c (stands Ascii s o c u over is) is.1 v found so once)
+
+  pub found_every : (every : Option (List Label)) (v : List Label) (e : Space)
+      (old : Vec FoundRoute Global) (new : List FoundRoute) → every ≡ Some v
+      → IfSome every (StandsForAll Unicode s c) → IsSpaceWith s v e
+      → AllZip (IsFoundIn o c) (all_routes c) old.items → AllZip IsSameButEvery old.items new
+      → AllByRecursion (λ route. IsLookedAt e c route.path route.ordinary route.every) new
+      → AreFoundSo (is_none every) s e.labels c (with_items old new).items
+  found_every every v e old new some all at so same looked =
+      let stands_all : StandsForAll Unicode s c v = rw some at all in
+      let long : length new ≡ old.len =
+      sym (length_all_zip IsSameButEvery old.items new same) ∙ sym old.ok.0 in
+      let found : AreFoundSo false s e.labels c new = (
+        o.labels,
+        found_over_unicode s o c (stands Ascii s o c u over is) is.1 e
+            (stands Unicode s e c v stands_all at) at.1 old.items new so same looked,
+      ) in
+      subst (λ (x : Option (List Label)).
+      AreFoundSo (is_none x) s e.labels c (with_items old new).items) (sym some)
+      (subst (λ (items : List FoundRoute). AreFoundSo false s e.labels c items)
+      (sym (with_items_is old new long)) found)

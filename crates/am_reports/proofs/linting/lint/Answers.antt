@@ -1,0 +1,73 @@
+-- The inputs come before what is made of them, and what is written is the report.
+use Rattle.std.proofs.Common.{Ok, Err, refl, string_bytes}
+use Rattle.am_json.specs.Reading.{refusal_of}
+use Rattle.am_files.specs.ConfigView.{config_view}
+use Rattle.am_eval.proofs.FirstFaults.{first_of_more}
+use Rattle.am_eval.proofs.Promises.{refused, written}
+use Rattle.am_reports.specs.LintInputs.{lint_input_stages}
+use Rattle.am_reports.specs.Linting.{lint_promise, later_stages}
+use Rattle.am_reports.proofs.LintStages.{first_behind_inputs}
+use Rattle.am_reports.proofs.linting.lint.Goals as goal
+
+pub returns-in_err-read : goal.returns-in_err-read
+returns-in_err-read g c =
+    let fault = c.in_err-read.field-0.0 in
+    let inputs = c.args.inputs.now in
+    record {
+      kept = refused (lint_promise inputs) fault c.from_residual.result refl
+          c.from_residual.ensures.1
+          (λ remembered. first_of_more (lint_input_stages inputs) (later_stages inputs)
+          fault.place (refusal_of fault) (c.in_err-read.ensures.first remembered));
+    }
+
+pub returns-in_err-lint : goal.returns-in_err-lint
+returns-in_err-lint g c =
+    let fault = c.in_err-lint.field-0.0 in
+    let inputs = c.args.inputs.now in
+    let read = c.in_ok-read.read in
+    let accepts = c.in_ok-read.ensures.accepts in
+    record {
+      kept = refused (lint_promise inputs) fault c.from_residual-in_err-lint.result refl
+          c.from_residual-in_err-lint.ensures.1
+          (λ remembered. first_behind_inputs inputs read.space (config_view read.config)
+          (later_stages inputs) fault.place (refusal_of fault) accepts
+          (c.in_err-lint.ensures.first accepts remembered));
+    }
+
+pub returns-in-Ok : goal.returns-in-Ok
+returns-in-Ok g c =
+    let inputs = c.args.inputs.now in
+    let read = c.in_ok-read.read in
+    let lint = c.in_ok-lint.lint in
+    let accepts = c.in_ok-read.ensures.accepts in
+    let writes = rw c.as_str.ensures.value at c.in-Ok.ensures.written in
+    record {
+      kept = written (lint_promise inputs) lint.findings (string_bytes lint.text)
+          (Ok lint.findings) (Ok lint.findings)
+          (record {
+            space = read.space;
+            configuration = config_view read.config;
+            accepts = accepts;
+            linted = c.in_ok-lint.ensures.linted accepts;
+          })
+          refl (record { ok = writes.ok; err = tt }) refl;
+    }
+
+pub returns : goal.returns
+returns g c =
+    let inputs = c.args.inputs.now in
+    let read = c.in_ok-read.read in
+    let lint = c.in_ok-lint.lint in
+    let accepts = c.in_ok-read.ensures.accepts in
+    let writes = rw c.as_str.ensures.value at c.in-Err.ensures.written in
+    record {
+      kept = written (lint_promise inputs) lint.findings (string_bytes lint.text)
+          (Err c.in-Err.field-0) (Err c.write.result)
+          (record {
+            space = read.space;
+            configuration = config_view read.config;
+            accepts = accepts;
+            linted = c.in_ok-lint.ensures.linted accepts;
+          })
+          tt (record { ok = tt; err = writes.err }) c.write.ensures.kind;
+    }

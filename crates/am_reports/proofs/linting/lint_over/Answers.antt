@@ -1,0 +1,88 @@
+-- What is found over the universes is so of the alerts that they stand for, and the report says it.
+use Rattle.std.proofs.Common.{List, is_none, length, sym, ap, subst, ◌∙◌}
+use Rattle.std.specs.List.{AllByRecursion, AllZip}
+use Rattle.std.proofs.lemmas.List.FromFn.{length-map-range_with_len}
+use Rattle.am_files.specs.ConfigView.{config_view}
+use Rattle.am_lint.specs.declared.found.FoundRoute.{FoundRoute}
+use Rattle.am_lint.specs.Table.{IsRoute}
+use Rattle.am_lint.specs.FoundView.{IsSameButEvery, receiver_finding}
+use Rattle.am_lint.proofs.FoundLemmas.{report_so}
+use Rattle.am_lint.proofs.FoundOver.{found_there, found_shown}
+use Rattle.am_reports.proofs.RoutesFound.{AreFoundSo, IsSpaceWith, found_ordinary, found_every}
+use Rattle.am_reports.proofs.linting.lint_over.Goals as goal
+use Rattle.am_reports.proofs.linting.lint_over.Goals.{in-Some+in_ok-look_further, in_default}
+use Rattle.am_reports.proofs.linting.lint_over.Goals.{After-as_slice-2}
+
+pub look_further-requires : goal.look_further-requires
+look_further-requires c =
+    let config = config_view c.args.config.now in
+    record {
+      routes = subst (λ (found : List FoundRoute).
+          AllByRecursion (λ route. IsRoute config route.path) found) (sym c.deref_mut.ensures.value)
+          (found_there c.declare.new.self config c.in_ok-routes.routes.items
+          c.in_ok-routes.ensures.found);
+    }
+
+-- the routes are found so, whether every alert counts or not
+so : (c : After-as_slice-2)
+    → AreFoundSo (is_none c.args.every) c.args.space c.match-every-2.space.labels
+    (config_view c.args.config.now) c.match-every-2.routes.items
+so c =
+    let s = c.args.space in
+    let o = c.declare.new.self in
+    let config = config_view c.args.config.now in
+    let every = c.args.every in
+    let old = c.in_ok-routes.routes.items in
+    let first : IsSpaceWith s c.args.ordinary o =
+    (c.declare.ensures.labels, c.declare.ensures.impossible) in
+    elim c.match-every-2.branch [
+      | in-Some+in_ok-look_further w ↦
+          let new = w.look_further.new.found in
+          rw (w.space-is, w.routes-is) (found_every s o config c.args.ordinary c.requires.ordinary
+          first every w.in-Some.universe w.declare-in-Some.new.self c.in_ok-routes.routes new w.in-Some.is
+          c.requires.every
+          (w.declare-in-Some.ensures.labels, w.declare-in-Some.ensures.impossible ∙ first.1)
+          c.in_ok-routes.ensures.found
+          (subst (λ (found : List FoundRoute). AllZip IsSameButEvery found new)
+          w.deref_mut.ensures.value w.in_ok-look_further.ensures.same)
+          w.in_ok-look_further.ensures.looked)
+      | in_default w ↦
+          rw (w.space-is, w.routes-is) (found_ordinary s o config c.args.ordinary
+          c.requires.ordinary first every o.labels old w.in_default.is
+          c.in_ok-routes.ensures.found c.in_ok-routes.ensures.once)
+    ]
+
+pub lint_text-requires-clause-shown : goal.lint_text-requires-clause-shown
+lint_text-requires-clause-shown c =
+    let s = c.args.space in
+    let config = config_view c.args.config.now in
+    let every = c.args.every in
+    let labels = c.match-every-2.space.labels in
+    let routes = c.match-every-2.routes.items in
+    let found = so (goal.at.lint_text-requires-clause-shown c).After-as_slice-2 in
+    rw (c.universe.ensures.labels, c.as_slice-2.ensures.value)
+    (found_shown (is_none every) s found.0 labels config routes c.args.config.now.sound found.1)
+
+pub lint_text-requires-clause-each : goal.lint_text-requires-clause-each
+lint_text-requires-clause-each c =
+    let config = config_view c.args.config.now in
+    ap length (c.as_slice-3.ensures.value ∙ c.in_ok-receivers.ensures.found)
+    ∙ length-map-range_with_len (receiver_finding c.as_slice.result.now) 0 (length config.receivers)
+
+pub returns : goal.returns
+returns c =
+    let s = c.args.space in
+    let config = config_view c.args.config.now in
+    let every = c.args.every in
+    let labels = c.match-every-2.space.labels in
+    let routes = c.match-every-2.routes.items in
+    let found = so (goal.at.returns c).After-as_slice-2 in
+    let are = rw (c.as_slice.ensures.value) at c.in_ok-receivers.ensures.found in
+    let count = rw (c.as_slice-4.ensures.value, c.as_slice-5.ensures.value)
+    at c.count_findings-findings.ensures.count in
+    let text = rw (c.universe.ensures.labels, c.as_slice-2.ensures.value, c.as_slice-3.ensures.value)
+    at c.in_ok-text.ensures.text in
+    record {
+      linted = report_so (is_none every) s found.0 labels config routes found.1
+          c.in_ok-receivers.receivers.items c.count_findings-findings.result _ are count text;
+    }

@@ -1,0 +1,89 @@
+-- Where nothing is lacking at each label; and what is refused for the first at which something is.
+use Rattle.std.proofs.Common.{◌≡◌, ◌≢◌, ◌<◌, List, length, Some, slice_get, sym, ◌∙◌, subst, arith}
+use Rattle.std.proofs.lemmas.Option.{get_or_from_slice_get}
+use Rattle.am_json.specs.Reading.{refusal_of}
+use Rattle.am_files.specs.ConfigView.{config_view}
+use Rattle.am_eval.proofs.FirstFaults.{handed_on}
+use Rattle.am_universe.specs.declared.kind.Kind.TheVariants as kinds
+use Rattle.am_universe.specs.Universe.{Label, IsUniverse}
+use Rattle.am_complete.specs.declared.label_state.LabelState.{LabelState}
+use Rattle.am_complete.specs.AskedLabel.{AskedLabel, IsAskedOf}
+use Rattle.am_complete.specs.LabelState.{IsSoAt}
+use Rattle.am_complete.proofs.Pushed.{one_more_passes}
+use Rattle.am_every_alert.specs.Deciding.{coverage_conditions}
+use Rattle.am_reports.specs.Made.{labels_of_routes, IsDeclaredRefusal, IsDeclaredWhole}
+use Rattle.am_reports.proofs.RoutesAsked.{lists_decide}
+use Rattle.am_reports.proofs.DeclaredStates.{there_is, told_at, whole_by, refused_by}
+use Rattle.am_reports.proofs.made.check_declared.Goals as goal
+use Rattle.am_reports.proofs.made.check_declared.Goals.{In-Ok, After-index}
+
+-- the labels are those that matchers ask of which decide
+is_asked : (c : In-Ok) → IsAskedOf c.in-Ok.asked.items
+    (coverage_conditions c.args.space.now (config_view c.args.config.now))
+is_asked c = rw (← c.impossible.ensures.lists) c.in-Ok.ensures.asked
+
+pub label_states-requires : goal.label_states-requires
+label_states-requires c =
+    let s = c.args.space.now in
+    let config = config_view c.args.config.now in (
+      coverage_conditions s config,
+      rw (c.as_slice.ensures.value) (is_asked (goal.at.label_states-requires c).In-Ok),
+      lists_decide s config,
+    )
+
+-- the label there, and what is so of it
+here : (c : After-index) → (l : Label) × (slice_get c.args.space.now.labels c.loop-i.i ≡ Some l)
+    × IsSoAt c.args.alphabet c.args.space.now
+    (coverage_conditions c.args.space.now (config_view c.args.config.now))
+    (labels_of_routes (config_view c.args.config.now) c.args.space.now.impossible) l.name
+    c.index.result.now.completeness
+here c =
+    let s = c.args.space.now in
+    let config = config_view c.args.config.now in
+    let ms = coverage_conditions s config in
+    let states = c.in-Ok-label_states.states.items in
+    let i = c.loop-i.i in
+    let asked : c.as_slice.result.now ≡ labels_of_routes config s.impossible =
+    c.as_slice.ensures.value ∙ rw (← c.impossible.ensures.lists) c.in-Ok.ensures.labels in
+    let of : IsAskedOf c.as_slice.result.now ms =
+    rw (c.as_slice.ensures.value, ← c.impossible.ensures.lists) c.in-Ok.ensures.asked in
+    let is : IsUniverse s.labels = rw (← c.universe.ensures.labels) c.len-i-end.ensures.universe in
+    let within : i < length s.labels =
+    subst (λ (u : List Label). i < length u) c.universe.ensures.labels
+    (omega (arith, c.loop-i-test.true, c.len-i-end.ensures.len)) in
+    let l = there_is s.labels i within in
+    let told = told_at c.args.alphabet s ms c.as_slice.result.now states i l.0 is
+    c.in-Ok-label_states.ensures.names (c.in-Ok-label_states.ensures.each ms of) l.1 in
+    let same : told.0 ≡ c.index.result.now =
+    sym (get_or_from_slice_get states i told.0 c.index.result.now told.1) ∙ sym c.index.ensures in (
+      l.0,
+      l.1,
+      subst (λ (state : LabelState). IsSoAt c.args.alphabet s ms
+          (labels_of_routes config s.impossible) l.0.name state.completeness) same
+          (subst (λ (ls : List AskedLabel). IsSoAt c.args.alphabet s ms ls l.0.name
+          told.0.completeness) asked told.2),
+    )
+
+pub returns-in_err-check_state-clause-refused : goal.returns-in_err-check_state-clause-refused
+returns-in_err-check_state-clause-refused c =
+    let s = c.args.space.now in
+    let config = config_view c.args.config.now in
+    let a = c.args.alphabet in
+    let fault = c.in_err-check_state.field-0.0 in
+    let l = here (goal.at.returns-in_err-check_state-clause-refused c).After-index in
+    handed_on (λ f. f.kind ≢ kinds.Memory → IsDeclaredRefusal a s config f.place (refusal_of f))
+    fault c.from_residual.result c.from_residual.ensures.1
+    (λ remembered. refused_by a s config c.loop-i.i l.0 c.index.result.now.completeness fault.place
+    (refusal_of fault) l.1 c.loop-i.invariant
+    (c.in_err-check_state.ensures.refused remembered) l.2)
+
+pub loop-i-preserved : goal.loop-i-preserved
+loop-i-preserved c =
+    let s = c.args.space.now in
+    let config = config_view c.args.config.now in
+    let a = c.args.alphabet in
+    let l = here (goal.at.loop-i-preserved c).After-index in
+    let is : IsUniverse s.labels = rw (← c.universe.ensures.labels) c.len-i-end.ensures.universe in
+    one_more_passes (IsDeclaredWhole a s config) s.labels c.loop-i.i l.0 l.1 c.loop-i.invariant
+    (whole_by a s (coverage_conditions s config) (labels_of_routes config s.impossible) l.0.name
+    c.index.result.now.completeness is c.in_ok-check_state.ensures.settled l.2)

@@ -1,0 +1,4 @@
+pub mod LintInputs
+pub mod Made
+pub mod Linting
+pub mod Words

@@ -1,0 +1,55 @@
+//! What `lint` looks at.
+
+ghost use Rattle.std.specs.Prelude.{◌≡◌, IfOk, IfErr, option_copied};
+ghost use Rattle.am_files.specs.Words.{config_view};
+ghost use Rattle.am_eval.specs.Words.{IsFirstFault};
+ghost use Rattle.am_reports.specs.LintInputs.{AcceptsLintInputs, lint_input_stages};
+
+use am_files::{Config, read_config};
+use am_labels::{Fault, Space};
+use am_universe_command::read_universe_if_any;
+use std::alloc::Global;
+use std::marker::Model;
+
+/// What `lint` looks at.
+#[derive(Drop)]
+pub struct LintInputs<'a> {
+    /// The bytes of a universe file, whose impossible lists count.
+    pub universe: Option<&'a [u8]>,
+    /// The bytes of the configuration file.
+    pub config: &'a [u8],
+    /// Alerts whose values are printable ASCII count alone.
+    pub ascii: bool,
+}
+
+impl<'a> Model for LintInputs<'a> {
+    ghost use Rattle.std.specs.Prelude.{option_copied};
+    ghost use Rattle.am_reports.specs.LintInputs as spec;
+
+    ghost Value = { spec.LintInputs };
+
+    ghost view = { λ inputs. record {
+      universe = option_copied inputs.universe;
+      config = inputs.config.now;
+      ascii = inputs.ascii;
+    } };
+}
+
+/// What the files say.
+#[derive(Drop)]
+pub(crate) struct ReadInputs {
+    pub space: Space,
+    pub config: Config,
+}
+
+/// Reads the universe file, if there is one, and then the configuration file. The first fault is
+/// the one answered.
+pub(crate) fn read_inputs(alloc: Global, inputs: &LintInputs<'_>) -> Result<ReadInputs, Fault>
+    ensures accepts { IfOk result (λ read.
+        AcceptsLintInputs inputs.now read.space (config_view read.config)) }
+    ensures first { IfErr result (IsFirstFault (lint_input_stages inputs.now)) }
+{
+    let (space, _texts) = read_universe_if_any(alloc, inputs.universe)?;
+    let config = read_config(alloc, inputs.config)?;
+    Ok(ReadInputs { space, config })
+}

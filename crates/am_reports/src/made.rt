@@ -1,0 +1,107 @@
+//! Universes that stand for every alert, made in memory.
+
+ghost use Rattle.std.specs.Prelude.{◌≡◌, ◌≢◌, ◌<◌, ◌++◌, IfOk, IfErr, OnOk, length, codes, decimal};
+ghost use Rattle.std.specs.Prelude.{[], string_bytes};
+ghost use Rattle.am_universe.specs.declared.kind.Kind.TheVariants as kinds;
+ghost use Rattle.am_universe.specs.declared.place.Place.TheVariants as places;
+ghost use Rattle.am_json.specs.Reading.{refusal_of};
+ghost use Rattle.am_files.specs.Words.{config_view};
+ghost use Rattle.am_reports.specs.Made.{StandsForAll, AreDeclaredWhole, IsMadeRefusal};
+ghost use Rattle.am_reports.specs.Made.{IsDeclaredRefusal, IsStateRefusal, IsSettledState};
+
+use am_asked::asked_by_routes;
+use am_classes::Alphabet;
+use am_complete::{Completeness, LabelState, label_states, universe_beside};
+use am_files::Config;
+use am_labels::{Fault, Kind, Place, Space, Universe};
+use am_universe_command::unproved_fault;
+use std::alloc::Global;
+
+/// A universe that stands for every alert over an alphabet, for the matchers of the routes and of
+/// the impossible lists of a space that declares no label.
+///
+/// `Limit`, at `Universe`, where there is no room for the labels that are asked of; `Unproved`, at
+/// the file and with the pointer of the route or list that first asks of the first label whose
+/// classes could not be computed, or which needs a value and has no label name; `Memory`.
+pub(crate) fn universe_for_routes(
+    alloc: Global,
+    alphabet: Alphabet,
+    space: &Space,
+    config: &Config,
+) -> Result<Universe, Fault>
+    requires { space.now.labels ≡ [] }
+    ensures stands { IfOk result (StandsForAll alphabet space.now (config_view config.now)) }
+    ensures refused { IfErr result (λ fault. fault.kind ≢ kinds.Memory
+        → IsMadeRefusal alphabet space.now (config_view config.now) fault.place
+        (refusal_of fault)) }
+{
+    let Ok(asked) = asked_by_routes(alloc, config, &[], space.impossible()) else {
+        return Err(Fault::memory(alloc));
+    };
+    let made = match universe_beside(alloc, alphabet, space, asked.as_slice(), None) {
+        Ok(made) => made,
+        Err(kind) => return Err(Fault::at(alloc, kind, Place::Universe)),
+    };
+    if let Some(position) = made.unproved.first() {
+        return Err(unproved_fault(alloc, &asked[*position].first()));
+    }
+    Ok(made.universe)
+}
+
+/// Refuses a space that lacks a value at one of its labels, for the matchers of the routes and of
+/// the impossible lists.
+///
+/// `Incomplete`, at `Universe` and the pointer of the first label that lacks one; `Unproved`, at
+/// the file and with the pointer of the route or list that first asks of a label before that, where
+/// the classes of this label could not be computed; `Memory`.
+pub(crate) fn check_declared(
+    alloc: Global,
+    alphabet: Alphabet,
+    space: &Space,
+    config: &Config,
+) -> Result<(), Fault>
+    ensures whole { OnOk result
+        (AreDeclaredWhole alphabet space.now (config_view config.now) space.now.labels) }
+    ensures refused { IfErr result (λ fault. fault.kind ≢ kinds.Memory
+        → IsDeclaredRefusal alphabet space.now (config_view config.now) fault.place
+        (refusal_of fault)) }
+{
+    let Ok(asked) = asked_by_routes(alloc, config, &[], space.impossible()) else {
+        return Err(Fault::memory(alloc));
+    };
+    let Ok(states) = label_states(alloc, alphabet, space, asked.as_slice(), None) else {
+        return Err(Fault::memory(alloc));
+    };
+    for i in 0..space.universe().len() {
+        check_state(alloc, i, &states[i])?;
+    }
+    Ok(())
+}
+
+/// Refuses the state of the label at a position if a value is lacking there, or where that is not
+/// known.
+fn check_state(alloc: Global, position: usize, state: &LabelState) -> Result<(), Fault>
+    ensures settled { OnOk result (IsSettledState state.now.completeness) }
+    ensures refused { IfErr result (λ fault. fault.kind ≢ kinds.Memory
+        → IsStateRefusal position state.now.completeness fault.place (refusal_of fault)) }
+{
+    match &state.completeness {
+        Completeness::Complete(_) | Completeness::Unasked => Ok(()),
+        Completeness::Unproved(origin) => Err(unproved_fault(alloc, origin)),
+        Completeness::Lacks(_) | Completeness::Undeclarable => {
+            Err(incomplete_fault(alloc, position))
+        }
+    }
+}
+
+/// That a value is lacking at the label at a position. It fails only where memory ran out.
+fn incomplete_fault(alloc: Global, position: usize) -> Fault
+    ensures refusal { result.kind ≢ kinds.Memory → (result.place ≡ places.Universe)
+        × (refusal_of result
+        ≡ record { kind = kinds.Incomplete; pointer = codes "/labels/" ++ decimal position }) }
+{
+    match format!(in alloc; "/labels/{position}") {
+        Ok(pointer) => Fault::within(Kind::Incomplete, Place::Universe, pointer),
+        Err(_) => Fault::memory(alloc),
+    }
+}
