@@ -104,6 +104,11 @@ impl Call for CommandCall {
             ("ask", CommandCall::Ask),
             ("dead", CommandCall::Report(Report::Routes)),
             ("receivers", CommandCall::Report(Report::Receivers)),
+            ("lint", CommandCall::Report(Report::Lint { ascii: false })),
+            (
+                "lint-ascii",
+                CommandCall::Report(Report::Lint { ascii: true }),
+            ),
             ("explain", CommandCall::Explain),
             ("made", made(form(false))),
             ("made-by-routes", made(form(true))),

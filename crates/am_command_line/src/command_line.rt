@@ -15,6 +15,12 @@ pub struct CommandLine<'a> {
 /// What is asked for.
 #[derive(Drop)]
 pub enum Request<'a> {
+    /// What is wrong with a configuration, for every alert: with what the universe file calls
+    /// impossible, if there is one; and for alerts of printable ASCII alone.
+    Lint {
+        universe: bool,
+        ascii: bool,
+    },
     /// The label sets of a universe that satisfy a question.
     Ask {
         question: &'a str,
@@ -67,13 +73,85 @@ const ABOUT: &str = "Decides where Alertmanager routes alerts, and what silences
 const EXAMPLE: &str = "\
 Example:
 
-  amcover universe --config alertmanager.json > u.json
-  amcover dead --universe u.json --config alertmanager.json
-  amcover ask --universe u.json '{team=\"db\"}'
-  amcover receivers --universe u.json --config alertmanager.json
+  amcover lint --config alertmanager.json
   amcover explain --config alertmanager.json 'team=db,severity=warning'
+  amcover universe --config alertmanager.json > u.json
+  amcover ask --universe u.json --config alertmanager.json 'receiver db-pager'
+  amcover dead --universe u.json --config alertmanager.json
+  amcover receivers --universe u.json --config alertmanager.json
 
 `amcover ask --help` and so on say what each command reads and writes.";
+
+const LINT_ABOUT: &str = "Write what is wrong with the routes and receivers, and why";
+
+const LINT_HELP: &str = "\
+The configuration is JSON; an alertmanager.yml becomes JSON by
+
+  yq -o=json . alertmanager.yml > alertmanager.json
+
+or, with the yq that Debian has, by
+
+  yq . alertmanager.yml > alertmanager.json
+
+Example:
+
+  amcover lint --config alertmanager.json
+
+writes a line for each finding and each note, those on routes before those on receivers,
+and last how many there are. The lines are for example
+
+  /2 hands on: \"db-mail\" {team=\"db\"}: taken by /2/0 {env=\"prod\"}, /2/1 {env!=\"prod\"}
+  /3/2 dead: \"web-chat\" {env!=\"prod\"}: taken by /1 {env!=\"prod\"}
+  receiver \"web-chat\" unmatched: /3/2 {env!=\"prod\"} dead
+  # 2 findings, 1 note
+
+/ is the top-level route, /3 its fourth child, and /3/2 the third child of that. Behind the
+path of a route stands what is said of it, then its receiver, its matchers, and why:
+
+  dead       a finding: no alert enters the route, whatever its labels are
+  unusual    a note: no ordinary alert enters the route, and some other alert does; the
+             label set of one of these is shown
+  hands on   a note: ordinary alerts enter the route, and its children take all of them
+
+An alert is ordinary where its values have no other characters than printable ASCII, from
+the blank to ~. So one with a line feed, which . does not match, is not.
+
+The reason names routes. Together they are enough, and none of them can be left out:
+without it some alert would enter the route, or would end there.
+
+  excluded by ROUTES    no alert matches all of these; they are on the way to the route,
+                        at the end of which it stands itself
+  taken by ROUTES       each alert for a dead or an unusual route matches one of these
+                        first: siblings before it or before a route above it, without
+                        continue; for a route that hands on they are its children
+  no alert is possible  the universe file calls all of them impossible
+
+A receiver is unmatched, a finding, where no alert goes to it; and unusual, a note, where
+some alert does, and no ordinary one. Behind that stand the routes that have the receiver,
+each with what is said of it, or that there is none.
+
+Every alert counts, whatever its labels are. What never occurs is said by a universe file,
+as never.json:
+
+  {\"labels\": [], \"impossible\": [\"team=web,severity=critical\"]}
+
+  amcover lint --config alertmanager.json --universe never.json
+
+Such a file may declare labels too. It is refused where one of these lacks a value that
+the matchers of the routes tell apart from the others:
+
+  amcover: universe: /labels/0: incomplete
+
+amcover universe --from never.json --config alertmanager.json adds what a file lacks.
+
+With --ascii ordinary alerts count alone, and a route that is unusual without it is dead.
+Patterns with \\b are read then too, for which a configuration is refused as unproved
+without it.
+
+Silences, inhibition and time intervals make no difference.
+
+Exit status: 0 done without a finding, 1 refused input, 2 usage, 3 out of memory, 4 the
+output failed, 5 done with a finding.";
 
 const ASK_ABOUT: &str = "Write every label set of a universe that satisfies a question";
 
@@ -480,12 +558,21 @@ fn request_of<'a>(
     matches: &ArgMatches<'a>,
 ) -> Result<Option<Request<'a>>, AllocError> {
     match name {
+        "lint" => Ok(Some(lint_request(matches))),
         "ask" => Ok(ask_request(matches)),
         "dead" => Ok(Some(Request::Dead)),
         "receivers" => Ok(Some(Request::Receivers)),
         "explain" => explain_request(alloc, matches),
         "universe" => Ok(Some(universe_request(alloc, matches)?)),
         _ => Ok(None),
+    }
+}
+
+/// What `lint` asks for.
+fn lint_request<'a>(matches: &ArgMatches<'a>) -> Request<'a> {
+    Request::Lint {
+        universe: matches.get_str("universe").is_some(),
+        ascii: matches.get_flag("ascii"),
     }
 }
 
@@ -558,11 +645,25 @@ fn command<'a>(alloc: Global) -> Result<Command<'a>, AllocError> {
         .arg_required_else_help(true)
         .subcommand_required(true)
         .disable_help_subcommand(true)
+        .subcommand(lint_command(alloc)?)?
         .subcommand(ask_command(alloc)?)?
         .subcommand(coverage_command(alloc, "dead", DEAD_ABOUT, DEAD_HELP)?)?
         .subcommand(coverage_command(alloc, "receivers", RECEIVERS_ABOUT, RECEIVERS_HELP)?)?
         .subcommand(explain_command(alloc)?)?
         .subcommand(universe_command(alloc)?)
+}
+
+fn lint_command<'a>(alloc: Global) -> Result<Command<'a>, AllocError> {
+    let universe = Arg::new(alloc, "universe")
+        .long("universe")
+        .value_name("FILE")
+        .help("A universe, a JSON file that says which label sets never occur");
+    Command::new(alloc, "lint")
+        .about(LINT_ABOUT)
+        .after_help(LINT_HELP)
+        .arg(config_arg(alloc).required(true))?
+        .arg(universe)?
+        .arg(ascii_arg(alloc))
 }
 
 fn ask_command<'a>(alloc: Global) -> Result<Command<'a>, AllocError> {
@@ -642,10 +743,6 @@ fn universe_command<'a>(alloc: Global) -> Result<Command<'a>, AllocError> {
         .long("routes")
         .action(ArgAction::SetTrue)
         .help("Let the matchers of routes count alone");
-    let ascii = Arg::new(alloc, "ascii")
-        .long("ascii")
-        .action(ArgAction::SetTrue)
-        .help("Let alerts with values of printable ASCII count alone");
     let open = Arg::new(alloc, "open")
         .long("open")
         .action(ArgAction::SetTrue)
@@ -664,7 +761,7 @@ fn universe_command<'a>(alloc: Global) -> Result<Command<'a>, AllocError> {
         .arg(config_arg(alloc).required(true))?
         .arg(question)?
         .arg(routes)?
-        .arg(ascii)?
+        .arg(ascii_arg(alloc))?
         .arg(silences_arg(alloc))?
         .arg(alerts_arg(alloc))?
         .arg(open)
@@ -683,6 +780,13 @@ fn config_arg<'a>(alloc: Global) -> Arg<'a> {
         .long("config")
         .value_name("FILE")
         .help("The Alertmanager configuration, as JSON")
+}
+
+fn ascii_arg<'a>(alloc: Global) -> Arg<'a> {
+    Arg::new(alloc, "ascii")
+        .long("ascii")
+        .action(ArgAction::SetTrue)
+        .help("Let alerts with values of printable ASCII count alone")
 }
 
 fn silences_arg<'a>(alloc: Global) -> Arg<'a> {

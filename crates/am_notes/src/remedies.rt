@@ -178,10 +178,11 @@ fn remedy(call: &Call<'_>, kind: Kind, place: Place) -> Option<&'static str> {
         Kind::OtherInputs => {
             Some("an input has changed since the page before: start again without --after")
         }
-        Kind::Unproved => Some(
-            "with --open a universe is made all the same; \
-            amcover universe --check UNIVERSE --config FILE says what of it is not proved",
+        Kind::Incomplete => Some(
+            "a universe file need not declare this label: what it does not declare is added; \
+            amcover universe --from UNIVERSE --config FILE adds what it lacks",
         ),
+        Kind::Unproved => Some(unproved_remedy(call.request)),
         _ => None,
     }
 }
@@ -194,5 +195,23 @@ fn question_remedy(request: &Request<'_>) -> &'static str {
         }
         _ => "amcover ask --help lists the forms; a name with a blank stands in quotes: \
             receiver \"on call\"",
+    }
+}
+
+/// Where it is not proved that a universe stands for every alert. The patterns that are not read
+/// over all texts may be read over those of printable ASCII.
+fn unproved_remedy(request: &Request<'_>) -> &'static str {
+    match request {
+        Request::Lint { ascii: false, .. } => {
+            "with --ascii patterns are read that are not read otherwise; \
+            amcover universe --check UNIVERSE --config FILE says more"
+        }
+        Request::Lint { ascii: true, .. } => {
+            "amcover universe --ascii --check UNIVERSE --config FILE says more"
+        }
+        _ => {
+            "with --open a universe is made all the same; \
+            amcover universe --check UNIVERSE --config FILE says what of it is not proved"
+        }
     }
 }

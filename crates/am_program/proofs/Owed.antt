@@ -1,33 +1,83 @@
--- What is owed for a request, by what it was read as.
-use Rattle.std.proofs.Common.{◌≡◌, ℕ, List, Option, Result, subst, sym}
-use Rattle.std.specs.Prelude.{⊤}
+-- What is owed for a request, by what it was read as, and what is kept of it by a command.
+use Rattle.std.proofs.Common.{◌≡◌, ℕ, List, Bool, false, Option, Result, Ok, Err, MatchResult}
+use Rattle.std.proofs.Common.{refl, sym, subst}
+use Rattle.std.specs.Prelude.{nat_lt}
 use Rattle.am_universe.specs.declared.fault.Fault.{Fault}
 use Rattle.am_command_line.specs.declared.command_line.Request.{Request}
 use Rattle.am_questions.specs.Inputs.{Inputs}
 use Rattle.am_eval.specs.Files.{Files}
-use Rattle.am_eval.specs.Promise.{Promise, IsKept, any_answer}
+use Rattle.am_eval.specs.Promise.{Promise, IsKept}
 use Rattle.am_commands.specs.AskOutcome.{ask_promise}
-use Rattle.am_program.specs.Requests.{promise_of}
+use Rattle.am_program.specs.Requests.{finds_nothing, finds, promise_of}
 
-module _ {S : Type 0} {taken : S → List ℕ} {failures : S → ℕ} {old new : S} {result : Result ⊤ Fault} where
+module _ {S : Type 0} {taken : S → List ℕ} {failures : S → ℕ} {old new : S} where
   -- what is owed for a thing is owed for one that is the same
-  pub owed_as : {X : Type 0} (promise : X → Promise ⊤) {x other : X} → x ≡ other
-      → IsKept (promise x) taken failures old new result
+  pub owed_as : {X A : Type 0} {result : Result A Fault} (promise : X → Promise A) {x other : X}
+      → x ≡ other → IsKept (promise x) taken failures old new result
       → IsKept (promise other) taken failures old new result
-  owed_as promise same kept =
+  owed_as {result = result} promise same kept =
       subst (λ x. IsKept (promise x) taken failures old new result) same kept
 
   -- so for a request
-  pub owed_for : (universe : List ℕ) (files : Files) {request other : Request} → request ≡ other
+  pub owed_for : {result : Result Bool Fault} (universe : List ℕ) (files : Files)
+      {request other : Request} → request ≡ other
       → IsKept (promise_of other universe files) taken failures old new result
       → IsKept (promise_of request universe files) taken failures old new result
   owed_for universe files same = owed_as (λ r. promise_of r universe files) (sym same)
 
+  -- a call kept what is owed where another answer is given for its own: each text that may be
+  -- written beside the one may be written beside the other
+  answered_as : {A B : Type 0} (promise : Promise A) (May : B → List ℕ → Type 0) (answer : A → B)
+      → ((a : A) (text : List ℕ) → promise.May a text → May (answer a) text)
+      → (result : Result A Fault) (other : Result B Fault)
+      → MatchResult result (λ a. other ≡ Ok (answer a)) (λ fault. other ≡ Err fault)
+      → IsKept promise taken failures old new result
+      → IsKept (record { stages = promise.stages; May = May }) taken failures old new other
+  answered_as {B = B} promise May answer may (Ok a) other is kept =
+      subst (λ (r : Result B Fault).
+      IsKept (record { stages = promise.stages; May = May }) taken failures old new r) (sym is)
+      (record {
+        done = (kept.done.0, may a kept.done.0 kept.done.1, kept.done.2);
+        first = tt;
+        untouched = tt;
+        write = tt;
+      })
+  answered_as {B = B} promise May answer may (Err fault) other is kept =
+      subst (λ (r : Result B Fault).
+      IsKept (record { stages = promise.stages; May = May }) taken failures old new r) (sym is)
+      (record {
+        done = tt;
+        first = kept.first;
+        untouched = kept.untouched;
+        write = λ writing.
+            let told = kept.write writing in
+            (answer told.0, (told.1.0, may told.0 told.1.0 told.1.1, told.1.2));
+      })
+
+  -- so where nothing is found
+  pub nothing_found : {A : Type 0} (promise : Promise A) (result : Result A Fault)
+      (other : Result Bool Fault)
+      → MatchResult result (λ _. other ≡ Ok false) (λ fault. other ≡ Err fault)
+      → IsKept promise taken failures old new result
+      → IsKept (finds_nothing promise) taken failures old new other
+  nothing_found promise result other is kept =
+      answered_as promise (finds_nothing promise).May (λ a. false) (λ a text may. (refl, (a, may)))
+      result other is kept
+
+  -- and where there are so many findings
+  pub so_many_found : (promise : Promise ℕ) (result : Result ℕ Fault) (other : Result Bool Fault)
+      → MatchResult result (λ count. other ≡ Ok (nat_lt 0 count)) (λ fault. other ≡ Err fault)
+      → IsKept promise taken failures old new result
+      → IsKept (finds promise) taken failures old new other
+  so_many_found promise result other is kept =
+      answered_as promise (finds promise).May (nat_lt 0) (λ count text may. (count, refl, may))
+      result other is kept
+
   -- and for a page under a limit and a budget
-  pub owed_under : (inputs : Inputs) {limit limit' steps steps' : Option ℕ} → limit ≡ limit'
-      → steps ≡ steps'
-      → IsKept (any_answer (ask_promise inputs limit steps)) taken failures old new result
-      → IsKept (any_answer (ask_promise inputs limit' steps')) taken failures old new result
+  pub owed_under : {result : Result Bool Fault} (inputs : Inputs)
+      {limit limit' steps steps' : Option ℕ} → limit ≡ limit' → steps ≡ steps'
+      → IsKept (finds_nothing (ask_promise inputs limit steps)) taken failures old new result
+      → IsKept (finds_nothing (ask_promise inputs limit' steps')) taken failures old new result
   owed_under inputs {limit} {limit'} {steps} same_limit same_steps kept =
-      owed_as (λ s. any_answer (ask_promise inputs limit' s)) same_steps
-      (owed_as (λ l. any_answer (ask_promise inputs l steps)) same_limit kept)
+      owed_as (λ s. finds_nothing (ask_promise inputs limit' s)) same_steps
+      (owed_as (λ l. finds_nothing (ask_promise inputs l steps)) same_limit kept)

@@ -1,6 +1,7 @@
 //! The call that does what is asked for.
 
-ghost use Rattle.std.specs.Prelude.{◌≡◌, ◌<◌, IfSome, option_map, option_copied};
+ghost use Rattle.std.specs.Prelude.{◌≡◌, ◌<◌, IfSome, option_map, option_copied, MatchResult};
+ghost use Rattle.std.specs.Prelude.{Ok, Err, false, nat_lt};
 ghost use Rattle.std.specs.Int.NonZero.{non_zero_u64_get};
 ghost use Rattle.am_universe.specs.declared.limits.TheConstants.{MAX_LABELS};
 ghost use Rattle.am_command_line.specs.Words.{step_count};
@@ -14,17 +15,26 @@ use am_commands::{ask, dead, explain_words, receivers};
 use am_eval::Files;
 use am_labels::{Fault, Sink};
 use am_notes::Call;
+use am_reports::{LintInputs, lint};
 use am_search::Page;
 use am_universe_command::{UniverseForm, UniverseInputs, check_universe, universe};
 use std::alloc::Global;
 use std::num::NonZeroU64;
 
-/// Makes the call that does what is asked for.
-pub fn make_call<W: Sink>(alloc: Global, call: &Call<'_>, out: &mut W) -> Result<(), Fault>
+/// Makes the call that does what is asked for. The answer is whether it found what is wrong.
+pub fn make_call<W: Sink>(alloc: Global, call: &Call<'_>, out: &mut W) -> Result<bool, Fault>
     ensures kept { IsKept (promise_of call.now.request.now call.now.universe.now call.now.files)
         W.taken W.failures out.old out.new result }
 {
     match call.request {
+        Request::Lint { universe, ascii } => {
+            let inputs = LintInputs {
+                universe: kept_universe(*universe, call.universe),
+                config: call.files.config(),
+                ascii: *ascii,
+            };
+            something_found(lint(alloc, &inputs, out))
+        }
         Request::Ask {
             question,
             after,
@@ -36,14 +46,15 @@ pub fn make_call<W: Sink>(alloc: Global, call: &Call<'_>, out: &mut W) -> Result
                 limit: limit_of(*limit),
                 steps: steps_of(*steps),
             };
-            match ask(alloc, call.universe, &call.files, question, &page, out) {
-                Ok(_) => Ok(()),
-                Err(fault) => Err(fault),
-            }
+            nothing_found(ask(alloc, call.universe, &call.files, question, &page, out))
         }
-        Request::Dead => dead(alloc, call.universe, call.files.config(), out),
-        Request::Receivers => receivers(alloc, call.universe, call.files.config(), out),
-        Request::Explain { set } => explain_words(alloc, &call.files, set.as_slice(), out),
+        Request::Dead => nothing_found(dead(alloc, call.universe, call.files.config(), out)),
+        Request::Receivers => {
+            nothing_found(receivers(alloc, call.universe, call.files.config(), out))
+        }
+        Request::Explain { set } => {
+            nothing_found(explain_words(alloc, &call.files, set.as_slice(), out))
+        }
         Request::Universe {
             from,
             routes,
@@ -61,7 +72,7 @@ pub fn make_call<W: Sink>(alloc: Global, call: &Call<'_>, out: &mut W) -> Result
                 alphabet: alphabet_of(*ascii),
                 open: *open,
             };
-            universe(alloc, &inputs, form, out)
+            nothing_found(universe(alloc, &inputs, form, out))
         }
         Request::CheckUniverse {
             routes,
@@ -73,8 +84,29 @@ pub fn make_call<W: Sink>(alloc: Global, call: &Call<'_>, out: &mut W) -> Result
                 files: &call.files,
                 questions: questions.as_slice(),
             };
-            check_universe(alloc, &inputs, *routes, alphabet_of(*ascii), out)
+            nothing_found(check_universe(alloc, &inputs, *routes, alphabet_of(*ascii), out))
         }
+    }
+}
+
+/// The answer of a call that says how many findings there are.
+fn something_found(findings: Result<usize, Fault>) -> Result<bool, Fault>
+    ensures { MatchResult findings (λ count. result ≡ Ok (nat_lt 0 count))
+        (λ fault. result ≡ Err fault) }
+{
+    match findings {
+        Ok(count) => Ok(count > 0),
+        Err(fault) => Err(fault),
+    }
+}
+
+/// The answer of a call that looks for nothing wrong: where it is done it found nothing.
+fn nothing_found<T: Drop>(answer: Result<T, Fault>) -> Result<bool, Fault>
+    ensures { MatchResult answer (λ _. result ≡ Ok false) (λ fault. result ≡ Err fault) }
+{
+    match answer {
+        Ok(_) => Ok(false),
+        Err(fault) => Err(fault),
     }
 }
 

@@ -16,12 +16,15 @@ const DONE: u8 = 0;
 /// The exit status of a usage fault.
 const USAGE: u8 = 2;
 
+/// The exit status where a call found what is wrong.
+const FOUND: u8 = 5;
+
 /// How many bytes of output are held back before they go out.
 const BUFFER: usize = 65536;
 
 /// Runs the program: `words` are its command line, the program's name first. Answers go to `out`,
 /// and a fault is one line on `err`. The answer is the exit status: 0 done, 1 refused input, 2
-/// usage, 3 memory, 4 writing failed.
+/// usage, 3 memory, 4 writing failed, 5 done, and what is wrong was found.
 pub fn run<R: Files + AllocGlobal, W: Write + Drop, E: Write + Drop>(
     rt: &R,
     words: &[String],
@@ -163,14 +166,14 @@ fn call_buffered<W: Write + Drop>(
     let outcome = make_call(alloc, call, &mut sink);
     let mut buffered = sink.into_inner();
     let flushed = match &outcome {
-        Ok(()) => buffered.flush().is_ok(),
+        Ok(_) => buffered.flush().is_ok(),
         Err(_) => true,
     };
     // What is left in the buffer after a failure is not tried again, as dropping the buffer would.
     let _ = buffered.into_parts();
-    outcome?;
+    let found = outcome?;
     if flushed {
-        Ok(DONE)
+        Ok(if found { FOUND } else { DONE })
     } else {
         Err(Fault::write(alloc))
     }
