@@ -6,6 +6,7 @@
 #![tactic(auto)]
 
 mod command_line;
+mod help;
 mod steps;
 
 pub use command_line::{CommandLine, InputFiles, Request, parse_command_line};
