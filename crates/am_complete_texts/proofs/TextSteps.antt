@@ -30,7 +30,7 @@ one_more first gap text (y ∷ xs) (suc i) x e =
     let later : (suc i == 0) ≡ false = grind (arith, nat_tests) in
     rw (later, one_more gap gap text xs i x e, either (i == 0) gap) (simp append_assoc)
 
-one_pushed : {X : Type 0} (first gap : List ℕ) (text : X → List ℕ) (xs : List X) (i : ℕ) (x : X)
+pub one_pushed : {X : Type 0} (first gap : List ℕ) (text : X → List ℕ) (xs : List X) (i : ℕ) (x : X)
     (old before between gapped after : List ℕ) → slice_get xs i ≡ Some x
     → before ≡ old ++ texts_behind first gap text (take i xs) → between ≡ cond (i == 0) first gap
     → gapped ≡ before ++ between → after ≡ gapped ++ text x

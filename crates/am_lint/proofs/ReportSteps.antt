@@ -1,12 +1,11 @@
 -- The report's text, piece by piece.
-use Rattle.std.proofs.Common.{◌≡◌, ◌<◌, ◌≤◌, ◌+◌, ℕ, zero, suc, List, [], ◌∷◌, ◌++◌, length, take}
+use Rattle.std.proofs.Common.{◌≡◌, ◌<◌, ◌≤◌, ◌+◌, ℕ, List, [], ◌∷◌, ◌++◌, length, take}
 use Rattle.std.proofs.Common.{Some, option_map, codes, slice_get, get_or, map, cond, Bool, true}
-use Rattle.std.proofs.Common.{false, refl, sym, ap, ◌∙◌, append_assoc, append-nil, add-one, arith}
+use Rattle.std.proofs.Common.{false, refl, sym, ap, ◌∙◌, append_assoc, arith}
 use Rattle.std.proofs.Common.{Result, Ok, Err}
 use Rattle.std.specs.Prelude.{◌==◌}
 use Rattle.std.specs.Result.{OnOk, is_ok}
 use Rattle.std.specs.List.{flat_map, enumerate_from}
-use Rattle.std.proofs.lemmas.Bool.Decides.{nat_tests}
 use Rattle.std.proofs.lemmas.List.{take_all, take_more, map-append, flat_map_more}
 use Rattle.std.proofs.lemmas.List.FromFn.{get_or-enumerate_from}
 use Rattle.std.proofs.lemmas.List.Elements.{filter_more}
@@ -73,29 +72,6 @@ numbered xs i d within =
     get_or-enumerate_from 0 xs i (i, d) within ∙ ap (λ n. (n, get_or xs i d)) same
 
 -- ---- One thing more of a row.
-
-either : (b : Bool) (x : List ℕ) → cond b x x ≡ x
-either true x = refl
-either false x = refl
-
-one_more : {X : Type 0} (first gap : List ℕ) (text : X → List ℕ) (xs : List X) (i : ℕ) (x : X)
-    → slice_get xs i ≡ Some x
-    → texts_behind first gap text (take (suc i) xs)
-    ≡ texts_behind first gap text (take i xs) ++ (cond (i == 0) first gap ++ text x)
-one_more first gap text [] i x e = absurd (cc)
-one_more first gap text (y ∷ xs) zero x e =
-    let same : y ≡ x = cc in ap (λ t. first ++ t) (append-nil (text y) ∙ ap text same)
-one_more first gap text (y ∷ xs) (suc i) x e =
-    let later : (suc i == 0) ≡ false = grind (arith, nat_tests) in
-    rw (later, one_more gap gap text xs i x e, either (i == 0) gap) (simp append_assoc)
-
-pub one_pushed : {X : Type 0} (first gap : List ℕ) (text : X → List ℕ) (xs : List X) (i : ℕ)
-    (x : X) (old before between gapped after : List ℕ) → slice_get xs i ≡ Some x
-    → before ≡ old ++ texts_behind first gap text (take i xs) → between ≡ cond (i == 0) first gap
-    → gapped ≡ before ++ between → after ≡ gapped ++ text x
-    → after ≡ old ++ texts_behind first gap text (take (i + 1) xs)
-one_pushed first gap text xs i x old before between gapped after at so_far is put pushed =
-    rw (pushed, put, so_far, is, add-one i, one_more first gap text xs i x at) (simp append_assoc)
 
 pub row_closed : {X : Type 0} (first gap : List ℕ) (text : X → List ℕ) (xs : List X) (i : ℕ)
     (old now : List ℕ) → length xs ≤ i → now ≡ old ++ texts_behind first gap text (take i xs)
