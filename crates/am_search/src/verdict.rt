@@ -1,5 +1,5 @@
 /// What a judge knows of the completions of a prefix.
-#[derive(Clone, Copy, Debug, PartialEq, Eq)]
+#[derive(Clone, Copy, Debug, PartialEq, Eq, Hash)]
 pub enum Verdict {
     /// Every completion is true.
     Yes,

@@ -2,13 +2,15 @@
 use Rattle.std.specs.Prelude.{ℕ, List, codes}
 use Rattle.am_universe.specs.declared.place.Place.{Place}
 use Rattle.am_universe.specs.declared.place.Place.TheVariants.{Universe, Config, Silences, Alerts}
-use Rattle.am_universe.specs.declared.place.Place.TheVariants.{Instant, Question, Set, Token}
-use Rattle.am_universe.specs.declared.place.Place.TheVariants.{Output, Memory}
+use Rattle.am_universe.specs.declared.place.Place.TheVariants.{Old, New, Instant, Question, Set}
+use Rattle.am_universe.specs.declared.place.Place.TheVariants.{Token, Output, Memory}
 
 -- The word for a place that the program prints.
 abbrev pub place_text : Place → List ℕ
 place_text Universe = codes "universe"
 place_text Config = codes "config"
+place_text Old = codes "old"
+place_text New = codes "new"
 place_text Silences = codes "silences"
 place_text Alerts = codes "alerts"
 place_text Instant = codes "instant"

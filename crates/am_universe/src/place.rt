@@ -8,6 +8,10 @@ pub enum Place {
     Universe,
     /// The configuration file.
     Config,
+    /// The configuration file that another one is compared with.
+    Old,
+    /// The configuration file that is compared with that.
+    New,
     /// The export of silences.
     Silences,
     /// The list of firing alerts.
@@ -34,6 +38,8 @@ impl Place {
         match self {
             Place::Universe => "universe",
             Place::Config => "config",
+            Place::Old => "old",
+            Place::New => "new",
             Place::Silences => "silences",
             Place::Alerts => "alerts",
             Place::Instant => "instant",
