@@ -136,7 +136,7 @@ module _ (u : List Label) (choice : List ℕ) (whole : IsWhole (sizes u) choice)
 
   below : (t : RouteTree) (r : RouteCubes) → AreCubesOf u choice t r
       → AreCubesOfEach u choice (children_of t) (out-RouteCubes r).routes.items
-  below (route settings children) r are = are.2
+  below (route settings children) r are = are.3
 
   -- all siblings count
   none_matched : (ts : Routes) (rs : List RouteCubes) → AreCubesOfEach u choice ts rs

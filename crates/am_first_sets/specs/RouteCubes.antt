@@ -15,12 +15,14 @@ use Rattle.am_first_sets.specs.ChoiceEnds.{is_end_at}
 use Rattle.am_first_sets.specs.Reasons.{may_match, must_match}
 
 -- The cubes are those of a route and of all routes below it: at a choice, each says what the
--- matchers at its place do. And those of the children of a route.
+-- matchers at its place do; and `continue` and the receivers are theirs. And those of the children
+-- of a route.
 abbrev mutual
   pub AreCubesOf : List Label → List ℕ → RouteTree → RouteCubes → Type 0
   AreCubesOf u choice (route settings children) r =
       (verdict_at (out-RouteCubes r).cube choice ≡ verdict_of_list u settings.matchers choice)
       × ((out-RouteCubes r).continues ≡ settings.continues)
+      × ((out-RouteCubes r).receiver ≡ settings.receiver)
       × AreCubesOfEach u choice children (out-RouteCubes r).routes.items
 
   pub AreCubesOfEach : List Label → List ℕ → Routes → List RouteCubes → Type 0

@@ -10,8 +10,12 @@ mod possible_choices;
 
 pub use possible_choices::{PossibleRefuter, first_possible};
 
-// The first that ends at a route.
+// The routes of a configuration as cubes.
 mod route_cubes;
+
+pub use route_cubes::RouteCubes;
+
+// The first that ends at a route.
 mod route_ends;
 
 pub use route_ends::RouteEnds;

@@ -14,12 +14,14 @@ use am_masks::Cube;
 use am_search::Labels;
 use std::alloc::{AllocError, Global};
 
-/// The matchers of a route as a cube, and those of all routes below it.
+/// The matchers of a route as a cube, with its receiver and whether it has `continue`; and the same
+/// of all routes below it.
 #[derive(Drop)]
-pub(crate) struct RouteCubes {
-    cube: Cube,
-    continues: bool,
-    routes: Vec<RouteCubes>,
+pub struct RouteCubes {
+    pub cube: Cube,
+    pub continues: bool,
+    pub receiver: usize,
+    pub routes: Vec<RouteCubes>,
 }
 
 /// The way to end at a route: the cubes of the routes that have to be matched; for each of them but
@@ -35,11 +37,7 @@ pub(crate) struct RouteWay<'a> {
 impl RouteCubes {
     /// The cubes of a route, and of all routes below it. An `Err` only where memory was refused.
     #[cycle(cubes)]
-    pub(crate) fn of(
-        alloc: Global,
-        universe: &Universe,
-        route: &Route,
-    ) -> Result<RouteCubes, AllocError>
+    pub fn of(alloc: Global, universe: &Universe, route: &Route) -> Result<RouteCubes, AllocError>
         ensures cubes { IfOk result (λ cubes. (prefix : List ℕ)
             → IsTrue (admits (sizes universe.now) prefix)
             → AreCubesOf universe.now prefix (route_view route.now) cubes) }
@@ -49,6 +47,7 @@ impl RouteCubes {
         Ok(RouteCubes {
             cube,
             continues: route.continues(),
+            receiver: route.receiver(),
             routes,
         })
     }
