@@ -187,3 +187,16 @@ of_routes c questions lists =
     both_placed (placed_in_routes c) (placed_in_questions questions ++ placed_in_lists lists)
     (route_conditions c.root) (questions_conditions questions ++ impossible_conditions lists)
     (ap (filter is_named) (of_route [] c.root)) (of_behind questions lists)
+
+pub of_both : (old new : Configuration) (lists : List (List Condition))
+    → SameNamed
+    (conditions_of
+    (placed_in_routes old ++ (placed_in_routes new ++ placed_in_lists lists)))
+    (route_conditions old.root ++ (route_conditions new.root ++ impossible_conditions lists))
+of_both old new lists =
+    both_placed (placed_in_routes old) (placed_in_routes new ++ placed_in_lists lists)
+    (route_conditions old.root) (route_conditions new.root ++ impossible_conditions lists)
+    (ap (filter is_named) (of_route [] old.root))
+    (both_placed (placed_in_routes new) (placed_in_lists lists) (route_conditions new.root)
+    (impossible_conditions lists) (ap (filter is_named) (of_route [] new.root))
+    (ap (filter is_named) (of_lists lists)))

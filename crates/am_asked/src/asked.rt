@@ -45,6 +45,32 @@ pub fn asked_by_routes<'m>(
     Ok(gathering.into_labels())
 }
 
+/// The labels that the routes of an old configuration ask of, then those that the routes of a new
+/// one ask of, and then those that impossible lists ask of, in the order in which they are first
+/// asked of, each with all of these matchers on it, equal ones once. An `Err` only where memory was
+/// refused.
+pub fn asked_by_both<'m>(
+    alloc: Global,
+    old: &'m Config,
+    new: &'m Config,
+    impossible: &'m [Matchers],
+) -> Result<Vec<AskedLabel<'m>>, AllocError>
+    ensures asked { IfOk result (λ labels. IsAskedOf labels.items
+        (route_conditions (config_view old.now).root
+        ++ (route_conditions (config_view new.now).root
+        ++ impossible_conditions impossible.now))) }
+    ensures labels { IfOk result (λ labels. labels.items
+        ≡ asked_labels (placed_in_routes (config_view old.now)
+        ++ (placed_in_routes (config_view new.now)
+        ++ placed_in_lists impossible.now))) }
+{
+    let mut gathering = Gathering::empty(alloc);
+    add_routes(alloc, &mut gathering, old)?;
+    add_routes(alloc, &mut gathering, new)?;
+    add_lists(&mut gathering, impossible)?;
+    Ok(gathering.into_labels())
+}
+
 /// The labels that matchers of a world ask of: those of its routes, of its rules, of `equal`, which
 /// are handed in, and of its silences, whatever the instant; then those that questions ask of; and
 /// then those that impossible lists ask of. Each has all of these matchers on it, equal ones once,

@@ -1,11 +1,12 @@
 //! Which labels decide what becomes of an alert, and by which matchers of the files.
 //!
-//! [`asked_by_routes`] gathers the matchers of a configuration's routes, and [`asked_in_world`]
-//! those of a whole world, with what [`equal_matchers_of`] says that `equal` asks.
+//! [`asked_by_routes`] gathers the matchers of a configuration's routes, [`asked_by_both`] those of
+//! two configurations, and [`asked_in_world`] those of a whole world, with what
+//! [`equal_matchers_of`] says that `equal` asks.
 #![tactic(auto)]
 
 mod asked;
 mod equal_matchers;
 
-pub use asked::{asked_by_routes, asked_in_world};
+pub use asked::{asked_by_both, asked_by_routes, asked_in_world};
 pub use equal_matchers::{EqualMatcher, equal_matchers_of};
