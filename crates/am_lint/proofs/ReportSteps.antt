@@ -13,26 +13,13 @@ use Rattle.std.proofs.lemmas.Option.{slice_get-map, slice_get-get_or}
 use Rattle.am_universe.proofs.CompletionLemmas.{filter_of_map}
 use Rattle.am_files.specs.ConfigFile.{Configuration}
 use Rattle.am_complete_texts.specs.UniverseText.{texts_behind}
+use Rattle.am_complete_texts.proofs.PieceSteps.{last_put, item_here}
 use Rattle.am_lint.specs.declared.found.FoundRoute.{FoundRoute}
 use Rattle.am_lint.specs.FoundView.{said_of}
 use Rattle.am_lint.specs.ReportText.{Said, having, have_text, said_text}
 
--- ---- One piece more of a text.
+-- ---- The line of a route.
 
-pub one_put : (old body piece more now next : List ℕ) → now ≡ old ++ body → next ≡ now ++ piece
-    → body ++ piece ≡ more → next ≡ old ++ more
-one_put old body piece more now next so_far put same =
-    rw (put, so_far, append_assoc old body piece, same) refl
-
--- the last piece, whose call is the function's own result
-pub last_put : {T E : Type 0} (r : Result T E) (old body piece more now next : List ℕ)
-    → next ≡ cond (is_ok r) (now ++ piece) now → now ≡ old ++ body → body ++ piece ≡ more
-    → OnOk r (next ≡ old ++ more)
-last_put (Ok x) old body piece more now next put so_far same =
-    one_put old body piece more now next so_far put same
-last_put (Err e) old body piece more now next put so_far same = tt
-
--- the line of a route
 pub route_line_put : {T E : Type 0} (r : Result T E)
     (path kind name matchers why old a b c d e f g h i next : List ℕ)
     → a ≡ old ++ path → b ≡ a ++ codes " " → c ≡ b ++ kind → d ≡ c ++ codes ": "
@@ -48,22 +35,6 @@ route_line_put r path kind name matchers why old a b c d e f g h i next a-is b-i
     rw (i-is, h-is, g-is, f-is, e-is, d-is, c-is, b-is, a-is) (simp append_assoc) in
     last_put r old line (codes "\n") _ i next next-is so_far (simp append_assoc)
 
--- ---- One line more.
-
-pub line_more : {X : Type 0} (f : X → List ℕ) (xs : List X) (i : ℕ) (d x : X)
-    (start now next : List ℕ) → i < length xs → get_or xs i d ≡ x
-    → now ≡ start ++ flat_map f (take i xs) → next ≡ now ++ f x
-    → next ≡ start ++ flat_map f (take (i + 1) xs)
-line_more f xs i d x start now next within is so_far put =
-    put ∙ ap (λ t. t ++ f x) so_far ∙ flat_map_more f start (take i xs) x
-    ∙ ap (λ l. start ++ flat_map f l)
-    (ap (λ y. take i xs ++ y ∷ []) (sym is) ∙ sym (take_more xs i d within))
-
-pub lines_closed : {X : Type 0} (f : X → List ℕ) (xs : List X) (i : ℕ) (start now : List ℕ)
-    → length xs ≤ i → now ≡ start ++ flat_map f (take i xs) → now ≡ start ++ flat_map f xs
-lines_closed f xs i start now all so_far =
-    so_far ∙ ap (λ l. start ++ flat_map f l) (take_all i xs all)
-
 -- what stands at a position, with it
 pub numbered : {X : Type 0} (xs : List X) (i : ℕ) (d : X) → i < length xs
     → get_or (enumerate_from 0 xs) i (i, d) ≡ (i, get_or xs i d)
@@ -71,19 +42,7 @@ numbered xs i d within =
     let same : 0 + i ≡ i = omega arith in
     get_or-enumerate_from 0 xs i (i, d) within ∙ ap (λ n. (n, get_or xs i d)) same
 
--- ---- One thing more of a row.
-
-pub row_closed : {X : Type 0} (first gap : List ℕ) (text : X → List ℕ) (xs : List X) (i : ℕ)
-    (old now : List ℕ) → length xs ≤ i → now ≡ old ++ texts_behind first gap text (take i xs)
-    → now ≡ old ++ texts_behind first gap text xs
-row_closed first gap text xs i old now all so_far =
-    so_far ∙ ap (λ l. old ++ texts_behind first gap text l) (take_all i xs all)
-
--- what the code reads of a list
-pub item_here : {X : Type 0} (xs : List X) (i : ℕ) (x : X) → i < length xs → x ≡ get_or xs i x
-    → slice_get xs i ≡ Some x
-item_here xs i x within is = slice_get-get_or xs i x within ∙ ap Some (sym is)
-
+-- what the code reads of a list, as it is seen
 pub view_here : {X Y : Type 0} (view : X → Y) (xs : List X) (i : ℕ) (x : X) → i < length xs
     → x ≡ get_or xs i x → slice_get (map view xs) i ≡ Some (view x)
 view_here view xs i x within is =

@@ -3,7 +3,7 @@
 ghost use Rattle.std.specs.Prelude.{◌≡◌, ◌<◌, ◌++◌, length, map, codes, string_bytes, IfOk, OnOk};
 ghost use Rattle.std.specs.Prelude.{Some};
 ghost use Rattle.std.specs.List.{AllByRecursion};
-ghost use Rattle.am_labels.specs.Words.{sizes, IsWhole, set_text, pair_text};
+ghost use Rattle.am_labels.specs.Words.{sizes};
 ghost use Rattle.am_labels.specs.MatcherText.{operator_text};
 ghost use Rattle.am_files.specs.Words.{config_view, path_text, step_text};
 ghost use Rattle.am_lint.specs.FoundView.{finding_view, finding_of, said_of, IsShown};
@@ -18,9 +18,9 @@ ghost use Rattle.am_lint.specs.ReportText.{is_unmatched, is_unusual};
 
 use crate::found::{FoundRoute, ReceiverFinding, RouteFinding};
 use crate::standing::{Cause, Reason};
-use am_complete_texts::push_quoted;
+use am_complete_texts::{push_label_set, push_quoted};
 use am_files::{Config, Path};
-use am_labels::{Choice, Matcher, Matchers, Op, Universe};
+use am_labels::{Matcher, Matchers, Op, Universe};
 use std::alloc::{AllocError, Global};
 
 /// What is to be said of routes and receivers: a line for each of which something is, and then how
@@ -159,7 +159,7 @@ fn push_why(
         RouteFinding::Unusual(reason, entry) => {
             push_reason(alloc, text, config, reason)?;
             text.push_str("; entered by ")?;
-            push_set(text, universe, entry)
+            push_label_set(text, universe, entry)
         }
         RouteFinding::HandsOn(children) => {
             text.push_str("taken by ")?;
@@ -344,7 +344,7 @@ fn plural(n: usize) -> &'static str
     if n == 1 { "" } else { "s" }
 }
 
-// ---- Paths, matchers and label sets.
+// ---- Paths and matchers.
 
 /// Adds the text of a path.
 fn push_path(alloc: Global, text: &mut String, path: &Path) -> Result<(), AllocError>
@@ -414,31 +414,4 @@ fn operator_text(op: Op) -> &'static str
         Op::Matches => "=~",
         Op::NotMatches => "!~",
     }
-}
-
-/// Adds the label set of a choice.
-fn push_set(text: &mut String, universe: &Universe, choice: &Choice) -> Result<(), AllocError>
-    requires { IsWhole (sizes universe.now) choice.now }
-    ensures { OnOk result (string_bytes text.new
-        ≡ string_bytes text.old ++ set_text universe.now choice.now) }
-{
-    text.push_str("{")?;
-    let mut separator = "";
-    for i in 0..universe.len() {
-        if let Some(value) = universe.value(i, usize::from(choice.get(i))) {
-            push_pair(text, separator, universe.name(i), value)?;
-            separator = ",";
-        }
-    }
-    text.push_str("}")
-}
-
-fn push_pair(text: &mut String, separator: &str, name: &str, value: &str) -> Result<(), AllocError>
-    ensures { OnOk result (string_bytes text.new ≡ string_bytes text.old
-        ++ (separator.now ++ pair_text (name.now, value.now))) }
-{
-    text.push_str(separator)?;
-    text.push_str(name)?;
-    text.push_str("=")?;
-    push_quoted(text, value)
 }

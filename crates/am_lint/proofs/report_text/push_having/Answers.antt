@@ -7,7 +7,8 @@ use Rattle.am_lint.specs.declared.found.FoundRoute.{FoundRoute}
 use Rattle.am_lint.specs.FoundView.{said_of}
 use Rattle.am_lint.specs.ReportText.{Said, said_text}
 use Rattle.am_complete_texts.proofs.TextSteps.{one_pushed}
-use Rattle.am_lint.proofs.ReportSteps.{row_closed, view_here, have_some}
+use Rattle.am_complete_texts.proofs.PieceSteps.{row_closed}
+use Rattle.am_lint.proofs.ReportSteps.{view_here, have_some}
 use Rattle.am_lint.proofs.report_text.push_having.Goals as goal
 
 abbrev view : Bor FoundRoute → Said

@@ -4,7 +4,7 @@ use Rattle.std.proofs.Common.{arith}
 use Rattle.am_complete_texts.specs.UniverseText.{texts_behind}
 use Rattle.am_lint.specs.MatchersText.{matcher_text}
 use Rattle.am_complete_texts.proofs.TextSteps.{one_pushed}
-use Rattle.am_lint.proofs.ReportSteps.{row_closed, last_put}
+use Rattle.am_complete_texts.proofs.PieceSteps.{row_closed, last_put}
 use Rattle.am_lint.proofs.report_text.push_matchers.Goals as goal
 
 pub loop-i-preserved : goal.loop-i-preserved

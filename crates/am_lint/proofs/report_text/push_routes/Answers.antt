@@ -3,7 +3,7 @@ use Rattle.std.proofs.Common.{codes, string_bytes}
 use Rattle.am_files.specs.Words.{config_view}
 use Rattle.am_lint.specs.ReportText.{route_text}
 use Rattle.am_complete_texts.proofs.TextSteps.{one_pushed}
-use Rattle.am_lint.proofs.ReportSteps.{row_closed, item_here}
+use Rattle.am_complete_texts.proofs.PieceSteps.{row_closed, item_here}
 use Rattle.am_lint.proofs.report_text.push_routes.Goals as goal
 
 pub loop-i-preserved : goal.loop-i-preserved

@@ -4,7 +4,7 @@ use Rattle.std.proofs.lemmas.Result.{on_ok_weaker}
 use Rattle.am_labels.specs.Words.{set_text}
 use Rattle.am_files.specs.Words.{config_view}
 use Rattle.am_lint.specs.ReportText.{reason_text}
-use Rattle.am_lint.proofs.ReportSteps.{one_put}
+use Rattle.am_complete_texts.proofs.PieceSteps.{one_put}
 use Rattle.am_lint.proofs.report_text.push_why.Goals as goal
 
 pub returns-in_ok-push_str-in-Unusual : goal.returns-in_ok-push_str-in-Unusual
@@ -19,6 +19,6 @@ returns-in_ok-push_str-in-Unusual c =
     (string_bytes c.push_reason-in-Unusual.new.text) (string_bytes c.push_str.new.self)
     c.in_ok-push_reason-in-Unusual.ensures c.in_ok-push_str-in-Unusual.ensures.bytes refl in
     rw c.in-Unusual.is
-    (on_ok_weaker c.push_set.result
+    (on_ok_weaker c.push_label_set.result
     (λ put. one_put old (reason ++ codes "; entered by ") set _ (string_bytes c.push_str.new.self) _
-    so_far put (append_assoc reason (codes "; entered by ") set)) c.push_set.ensures)
+    so_far put (append_assoc reason (codes "; entered by ") set)) c.push_label_set.ensures)

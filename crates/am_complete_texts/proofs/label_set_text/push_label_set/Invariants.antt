@@ -3,7 +3,7 @@ use denote.Text.{Utf8}
 use denote.Shadow.{shadow}
 use Rattle.am_universe.specs.LabelSet.{label_pairs}
 use Rattle.am_universe.proofs.SetTextLemmas.{joined, separator}
-use Rattle.am_lint.proofs.report_text.push_set.Given as goal
+use Rattle.am_complete_texts.proofs.label_set_text.push_label_set.Given as goal
 
 -- The brace and the pairs of the first labels are written; and what separates the next from them.
 abbrev pub invariant-loop-i : goal.invariant-loop-i

@@ -5,9 +5,9 @@ use Rattle.std.proofs.lemmas.List.{length-map}
 use Rattle.am_universe.proofs.WholeChoiceLemmas.{admitted_at}
 use Rattle.am_universe.proofs.SetTextLemmas.{next_pair, no_pair, set_more, set_end}
 use Rattle.am_universe.proofs.SetTextLemmas.{separator, separator_behind}
-use Rattle.am_lint.proofs.ReportSteps.{one_put, last_put}
-use Rattle.am_lint.proofs.report_text.push_set.Goals as goal
-use Rattle.am_lint.proofs.report_text.push_set.Goals.{in-Some+in_ok-push_pair, in_default}
+use Rattle.am_complete_texts.proofs.PieceSteps.{one_put, last_put}
+use Rattle.am_complete_texts.proofs.label_set_text.push_label_set.Goals as goal
+use Rattle.am_complete_texts.proofs.label_set_text.push_label_set.Goals.{in-Some+in_ok-push_pair, in_default}
 
 pub value-requires-clause-value : goal.value-requires-clause-value
 value-requires-clause-value c =
