@@ -1,0 +1,135 @@
+-- The first thing with each key: it is one of the things, each of them has its key among the first,
+-- and no two of these have the same.
+use Rattle.std.proofs.Common.{◌≡◌, ◌⊎◌, Bool, true, false, ◌||◌, List, [], ◌∷◌, ◌++◌, map, fold, refl}
+use Rattle.std.proofs.Common.{sym, ap, ◌∙◌, subst, inl, inr}
+use Rattle.std.specs.Prelude.{if◌then◌else◌}
+use Rattle.std.specs.List.{list_any, IsDistinct}
+use Rattle.std.proofs.lemmas.Bool.{cases_Bool, or_parts, false≢true}
+use Rattle.std.proofs.lemmas.List.{map-append}
+use Rattle.am_universe.proofs.DistinctLists.{distinct_none, distinct_push}
+use Rattle.am_universe.proofs.ListLemmas.{IsIn, IsIn-left, IsIn-right, IsIn-split}
+use Rattle.am_labels.proofs.Passing.{any_in}
+use Rattle.am_outcomes.specs.Outcomes.{with_first, firsts}
+
+-- a test that decides whether two keys are the same
+abbrev pub Decides : {K : Type 0} → (K → K → Bool) → Type 0
+Decides {K = K} same = (x y : K) → (same x y ≡ true → x ≡ y) × (x ≡ y → same x y ≡ true)
+
+flipped : {K : Type 0} (same : K → K → Bool) → Decides same → (x y : K) → same x y ≡ false
+    → same y x ≡ false
+flipped same decides x y apart = elim (cases_Bool (same y x)) [
+  | inl is ↦
+      let turned : same x y ≡ true = (decides x y).1 (sym ((decides y x).0 is)) in
+      absurd (false≢true (sym apart ∙ turned))
+  | inr other ↦ other
+]
+
+module _ {K A : Type 0} (same : K → K → Bool) where
+  abbrev has_key : List (K × A) → K → Bool
+  has_key found key = list_any (λ e. same key e.0) found
+
+  -- the things with one more, unless its key is there
+  abbrev more_if : Bool → List (K × A) → K × A → List (K × A)
+  more_if b found one = if b then found else found ++ one ∷ []
+
+  abbrev keys : List (K × A) → List K
+  keys found = map (λ e. e.0) found
+
+  -- ---- What was found stays.
+
+  stays : (b : Bool) (found : List (K × A)) (one f : K × A) → IsIn found f
+      → IsIn (more_if b found one) f
+  stays true found one f i = i
+  stays false found one f i = IsIn-left found (one ∷ []) f i
+
+  all_stay : (all found : List (K × A)) (f : K × A) → IsIn found f
+      → IsIn (fold (with_first same) found all) f
+  all_stay [] found f i = i
+  all_stay (one ∷ all) found f i =
+      all_stay all (with_first same found one) f (stays (has_key found one.0) found one f i)
+
+  -- ---- Each of the first is one of the things.
+
+  from_either : (b : Bool) (found : List (K × A)) (one f : K × A) → IsIn (more_if b found one) f
+      → IsIn found f ⊎ (one ≡ f)
+  from_either true found one f i = inl i
+  from_either false found one f i = elim (IsIn-split found (one ∷ []) f i) [
+    | inl before ↦ inl before
+    | inr (inl last) ↦ inr last
+    | inr (inr none) ↦ absurd none
+  ]
+
+  from_all : (all found : List (K × A)) (f : K × A) → IsIn (fold (with_first same) found all) f
+      → IsIn found f ⊎ IsIn all f
+  from_all [] found f i = inl i
+  from_all (one ∷ all) found f i =
+      elim (from_all all (with_first same found one) f i) [
+        | inl before ↦
+            elim (from_either (has_key found one.0) found one f before) [
+              | inl earlier ↦ inl earlier
+              | inr is ↦ inr (inl is)
+            ]
+        | inr later ↦ inr (inr later)
+      ]
+
+  pub first_is_one : (all : List (K × A)) (f : K × A) → IsIn (firsts same all) f → IsIn all f
+  first_is_one all f i = elim (from_all all [] f i) [ inl none ↦ absurd none | inr there ↦ there ]
+
+  -- ---- Each thing has its key among the first.
+
+  abbrev HasKeyOf : List (K × A) → K × A → Type 0
+  HasKeyOf found one = (f : K × A) × IsIn found f × (f.0 ≡ one.0)
+
+  key_there : Decides same → (b : Bool) (found : List (K × A)) (one : K × A)
+      → has_key found one.0 ≡ b → HasKeyOf (more_if b found one) one
+  key_there decides true found one has =
+      let r = any_in (λ e. same one.0 e.0) found has in
+      (r.0, r.1, sym ((decides one.0 r.0.0).0 r.2))
+  key_there decides false found one none =
+      (one, IsIn-right found (one ∷ []) one (inl refl), refl)
+
+  each_key_there : Decides same → (all found : List (K × A)) (one : K × A) → IsIn all one
+      → HasKeyOf (fold (with_first same) found all) one
+  each_key_there decides [] found one i = absurd i
+  each_key_there decides (other ∷ all) found one (inl is) =
+      let r = key_there decides (has_key found other.0) found other refl in (
+        r.0,
+        all_stay all (with_first same found other) r.0 r.1,
+        r.2 ∙ ap (λ (e : K × A). e.0) is,
+      )
+  each_key_there decides (other ∷ all) found one (inr i) =
+      each_key_there decides all (with_first same found other) one i
+
+  pub first_of_key : Decides same → (all : List (K × A)) (one : K × A) → IsIn all one
+      → (f : K × A) × IsIn (firsts same all) f × (f.0 ≡ one.0)
+  first_of_key decides all one i = each_key_there decides all [] one i
+
+  -- ---- No two of the first have the same key.
+
+  none_before : Decides same → (found : List (K × A)) (key : K) → has_key found key ≡ false
+      → list_any (λ k. same k key) (keys found) ≡ false
+  none_before decides [] key none = refl
+  none_before decides (f ∷ found) key none =
+      let parts = or_parts (same key f.0) (has_key found key) none in
+      let here = flipped same decides key f.0 parts.0 in
+      let others = none_before decides found key parts.1 in
+      λ i. here i || others i
+
+  one_more_apart : Decides same → (b : Bool) (found : List (K × A)) (one : K × A)
+      → has_key found one.0 ≡ b → IsDistinct same (keys found)
+      → IsDistinct same (keys (more_if b found one))
+  one_more_apart decides true found one has apart = apart
+  one_more_apart decides false found one none apart =
+      subst (IsDistinct same) (sym (map-append (λ e. e.0) found (one ∷ [])))
+      (distinct_push same (keys found) one.0 apart (none_before decides found one.0 none))
+
+  all_apart : Decides same → (all found : List (K × A)) → IsDistinct same (keys found)
+      → IsDistinct same (keys (fold (with_first same) found all))
+  all_apart decides [] found apart = apart
+  all_apart decides (one ∷ all) found apart =
+      all_apart decides all (with_first same found one)
+      (one_more_apart decides (has_key found one.0) found one refl apart)
+
+  pub firsts_apart : Decides same → (all : List (K × A))
+      → IsDistinct same (map (λ e. e.0) (firsts same all))
+  firsts_apart decides all = all_apart decides all [] (distinct_none same)

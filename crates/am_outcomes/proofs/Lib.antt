@@ -1,0 +1,13 @@
+pub mod OpenCubes
+pub mod RouteReceivers
+pub mod StateLemmas
+pub mod SameFates
+pub mod Gathered
+pub mod FirstSteps
+pub mod WalkSteps
+pub mod JudgedSteps
+pub mod LayerSteps
+pub mod FoundSteps
+pub mod FirstsLemmas
+pub mod TextSteps
+pub mod AlikeSteps

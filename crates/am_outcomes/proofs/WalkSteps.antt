@@ -1,0 +1,283 @@
+-- A walk down the routes, child by child.
+use Rattle.std.proofs.Common.{◌≡◌, ◌≢◌, ℕ, suc, ◌+◌, ◌<◌, ◌≤◌, Bool, true, false, not, cond, ◌&&◌, List, [], ◌∷◌}
+use Rattle.std.proofs.Common.{◌++◌, length, drop, get_or, drop-cons, add-one, append_assoc, append-nil, refl, ap}
+use Rattle.std.proofs.Common.{sym, ◌∙◌, subst, arith}
+use Rattle.std.proofs.lemmas.List.{drop_all, length-append}
+use denote.Enum.Bare.{sameb}
+use Rattle.am_labels.specs.Words.{Label, LabelMap, sizes, IsWhole, label_set_of, all_hold}
+use Rattle.am_files.specs.ConfigFile.{RouteTree, Routes, route, no_routes, next_route}
+use Rattle.am_files.specs.ConfigFile.{matchers_of, continues_of, receiver_of, children_of}
+use Rattle.am_search.specs.contracts.verdict.Verdict.{the_type}
+use Rattle.am_search.specs.declared.verdict.Verdict.{Verdict}
+use Rattle.am_search.specs.declared.verdict.Verdict.TheVariants.{Yes, No, Open}
+use Rattle.am_masks.specs.Words.{verdict_at, verdict_of_list, is_yes, is_no}
+use Rattle.am_first_sets.specs.declared.route_cubes.RouteCubes.{RouteCubes}
+use Rattle.am_first_sets.specs.declared.route_cubes.RouteCubes.TheViews.{out-RouteCubes}
+use Rattle.am_first_sets.specs.RouteCubes.{AreCubesOf, AreCubesOfEach}
+use Rattle.am_masks.proofs.VerdictLemmas.{list_says}
+use Rattle.am_outcomes.specs.States.{route_state, children_state, is_certain}
+use Rattle.am_outcomes.specs.Receivers.{receivers_at, child_receivers, or_own}
+
+-- ---- Verdicts that were compared.
+
+pub excluded_by : (v : Verdict) (b : Bool) → b ≡ sameb the_type v No → b ≡ is_no v
+excluded_by Yes b e = e
+excluded_by No b e = e
+excluded_by Open b e = e
+
+pub certain_by : (v : Verdict) (b : Bool) → b ≡ sameb the_type v Yes → b ≡ is_yes v
+certain_by Yes b e = e
+certain_by No b e = e
+certain_by Open b e = e
+
+-- ---- One level.
+
+pub own_verdict : (u : List Label) (prefix : List ℕ) (t : RouteTree) (r : RouteCubes)
+    → AreCubesOf u prefix t r
+    → verdict_at (out-RouteCubes r).cube prefix ≡ verdict_of_list u (matchers_of t) prefix
+own_verdict u prefix (route settings children) r are = are.0
+
+pub own_children : (u : List Label) (prefix : List ℕ) (t : RouteTree) (r : RouteCubes)
+    → AreCubesOf u prefix t r
+    → AreCubesOfEach u prefix (children_of t) (out-RouteCubes r).routes.items
+own_children u prefix (route settings children) r are = are.3
+
+pub own_continues : (u : List Label) (prefix : List ℕ) (t : RouteTree) (r : RouteCubes)
+    → AreCubesOf u prefix t r → (out-RouteCubes r).continues ≡ continues_of t
+own_continues u prefix (route settings children) r are = are.1
+
+pub own_receiver : (u : List Label) (prefix : List ℕ) (t : RouteTree) (r : RouteCubes)
+    → AreCubesOf u prefix t r → (out-RouteCubes r).receiver ≡ receiver_of t
+own_receiver u prefix (route settings children) r are = are.2
+
+-- what is left of children, and what stands behind the next of them
+abbrev pub AreLeft : List Label → List ℕ → Routes → List RouteCubes → ℕ → Type 0
+AreLeft u prefix ts rs i = AreCubesOfEach u prefix ts (drop i rs)
+
+pub record IsNext (u : List Label) (prefix : List ℕ) (ts : Routes) (rs : List RouteCubes) (i : ℕ)
+    (child : RouteCubes) : Type 0 where
+  pub tree : RouteTree
+  pub later : Routes
+  pub is : ts ≡ next_route tree later
+  pub cubes : AreCubesOf u prefix tree child
+  pub left : AreLeft u prefix later rs (i + 1)
+
+pub next_of : (u : List Label) (prefix : List ℕ) (ts : Routes) (rs : List RouteCubes) (i : ℕ)
+    (child : RouteCubes) → i < length rs → child ≡ get_or rs i child → AreLeft u prefix ts rs i
+    → IsNext u prefix ts rs i child
+next_of u prefix ts rs i child within is left =
+    by ts (subst (AreCubesOfEach u prefix ts) (drop-cons rs i child within) left)
+  where
+    by : (ts : Routes) → AreCubesOfEach u prefix ts (get_or rs i child ∷ drop (suc i) rs)
+        → IsNext u prefix ts rs i child
+    by no_routes are = absurd are
+    by (next_route t later) are = record {
+      tree = t;
+      later = later;
+      is = refl;
+      cubes = subst (AreCubesOf u prefix t) (sym is) are.0;
+      left = subst (λ n. AreCubesOfEach u prefix later (drop n rs)) (sym (add-one i)) are.1;
+    }
+
+pub none_left : (u : List Label) (prefix : List ℕ) (ts : Routes) (rs : List RouteCubes) (i : ℕ)
+    → length rs ≤ i → AreLeft u prefix ts rs i → ts ≡ no_routes
+none_left u prefix ts rs i past left =
+    by ts (subst (AreCubesOfEach u prefix ts) (drop_all i rs past) left)
+  where
+    by : (ts : Routes) → AreCubesOfEach u prefix ts [] → ts ≡ no_routes
+    by no_routes are = refl
+    by (next_route t later) are = absurd are
+
+-- ---- The state of a route.
+
+-- the state of a route is being made: these children are left
+abbrev pub IsBeingSeen : List Label → List ℕ → RouteTree → List RouteCubes → ℕ → List Verdict
+    → List Verdict → Type 0
+IsBeingSeen u prefix t rs i old now =
+    (ts : Routes) × AreLeft u prefix ts rs i
+    × (now ++ children_state u prefix ts ≡ old ++ route_state u prefix t)
+
+pub state_begun : (u : List Label) (prefix : List ℕ) (t : RouteTree) (r : RouteCubes)
+    (rs : List RouteCubes) (v : Verdict) (old now : List Verdict) → AreCubesOf u prefix t r
+    → v ≡ verdict_at (out-RouteCubes r).cube prefix → is_no v ≡ false
+    → rs ≡ (out-RouteCubes r).routes.items → now ≡ old ++ v ∷ []
+    → IsBeingSeen u prefix t rs 0 old now
+state_begun u prefix (route settings children) r rs v old now are is may same added =
+    let own : v ≡ verdict_of_list u settings.matchers prefix = is ∙ are.0 in (
+      children,
+      subst (AreCubesOfEach u prefix children) (sym same) are.3,
+      ap (λ l. l ++ children_state u prefix children) added
+          ∙ append_assoc old (v ∷ []) (children_state u prefix children)
+          ∙ ap (λ b. old ++ v ∷ cond b [] (children_state u prefix children)) (sym may)
+          ∙ ap (λ w. old ++ w ∷ cond (is_no w) [] (children_state u prefix children)) own,
+    )
+
+pub state_excluded : (u : List Label) (prefix : List ℕ) (t : RouteTree) (r : RouteCubes)
+    (v : Verdict) (old now : List Verdict) → AreCubesOf u prefix t r
+    → v ≡ verdict_at (out-RouteCubes r).cube prefix → is_no v ≡ true → now ≡ old ++ v ∷ []
+    → now ≡ old ++ route_state u prefix t
+state_excluded u prefix (route settings children) r v old now are is excluded added =
+    let own : v ≡ verdict_of_list u settings.matchers prefix = is ∙ are.0 in
+    added ∙ ap (λ b. old ++ v ∷ cond b [] (children_state u prefix children)) (sym excluded)
+    ∙ ap (λ w. old ++ w ∷ cond (is_no w) [] (children_state u prefix children)) own
+
+module _ (u : List Label) (prefix : List ℕ) (t : RouteTree) (rs : List RouteCubes) (i : ℕ)
+    (old now after : List Verdict) (child : RouteCubes) (below : Verdict)
+    (within : i < length rs) (is : child ≡ get_or rs i child)
+    (seen : IsBeingSeen u prefix t rs i old now)
+    (adds : (tree : RouteTree) → AreCubesOf u prefix tree child
+    → (below ≡ verdict_of_list u (matchers_of tree) prefix)
+    × (after ≡ now ++ route_state u prefix tree)) where
+  next : IsNext u prefix seen.0 rs i child
+  next = next_of u prefix seen.0 rs i child within is seen.1
+
+  abbrev pub last : Bool
+  last = is_yes below && not (out-RouteCubes child).continues
+
+  is_last : is_certain u prefix next.tree ≡ last
+  is_last =
+      λ j. is_yes (sym (adds next.tree next.cubes).0 j)
+      && not (sym (own_continues u prefix next.tree child next.cubes) j)
+
+  behind : after ++ cond last [] (children_state u prefix next.later)
+      ≡ old ++ route_state u prefix t
+  behind =
+      ap (λ l. l ++ cond last [] (children_state u prefix next.later)) (adds next.tree next.cubes).1
+      ∙ append_assoc now (route_state u prefix next.tree)
+      (cond last [] (children_state u prefix next.later))
+      ∙ ap (λ b. now ++ (route_state u prefix next.tree
+      ++ cond b [] (children_state u prefix next.later))) (sym is_last)
+      ∙ ap (λ ts. now ++ children_state u prefix ts) (sym next.is) ∙ seen.2
+
+  pub state_goes_on : last ≡ false → IsBeingSeen u prefix t rs (i + 1) old after
+  state_goes_on more = (
+    next.later,
+    next.left,
+    ap (λ b. after ++ cond b [] (children_state u prefix next.later)) (sym more) ∙ behind,
+  )
+
+  pub state_stops : last ≡ true → after ≡ old ++ route_state u prefix t
+  state_stops stops =
+      sym (append-nil after)
+      ∙ ap (λ b. after ++ cond b [] (children_state u prefix next.later)) (sym stops) ∙ behind
+
+pub state_closed : (u : List Label) (prefix : List ℕ) (t : RouteTree) (rs : List RouteCubes) (i : ℕ)
+    (old now : List Verdict) → length rs ≤ i → IsBeingSeen u prefix t rs i old now
+    → now ≡ old ++ route_state u prefix t
+state_closed u prefix t rs i old now past seen =
+    sym (append-nil now)
+    ∙ ap (λ ts. now ++ children_state u prefix ts)
+    (sym (none_left u prefix seen.0 rs i past seen.1))
+    ∙ seen.2
+
+-- ---- The receivers of a whole choice.
+
+-- whether a cube is matched there
+pub matched_by : (u : List Label) (choice : List ℕ) (t : RouteTree) (r : RouteCubes) (b : Bool)
+    → IsWhole (sizes u) choice → AreCubesOf u choice t r
+    → b ≡ not (is_no (verdict_at (out-RouteCubes r).cube choice))
+    → b ≡ all_hold (label_set_of u choice) (matchers_of t)
+matched_by u choice t r b whole are is =
+    is ∙ ap (λ v. not (is_no v)) (own_verdict u choice t r are ∙ list_says u (matchers_of t) choice whole)
+    ∙ by (all_hold (label_set_of u choice) (matchers_of t))
+  where
+    by : (m : Bool) → not (is_no (cond m Yes No)) ≡ m
+    by true = refl
+    by false = refl
+
+abbrev pub AreBeingFound : List Label → List ℕ → RouteTree → List RouteCubes → ℕ → List ℕ → List ℕ
+    → Type 0
+AreBeingFound u choice t rs i old now =
+    (ts : Routes) × AreLeft u choice ts rs i
+    × (now ++ child_receivers (label_set_of u choice) ts
+    ≡ old ++ child_receivers (label_set_of u choice) (children_of t))
+
+pub none_found : (s : LabelMap) (t : RouteTree) → all_hold s (matchers_of t) ≡ false
+    → receivers_at s t ≡ []
+none_found s (route settings children) unmatched =
+    ap (λ b. cond b (or_own settings.receiver (child_receivers s children)) []) unmatched
+
+module _ (u : List Label) (choice : List ℕ) (t : RouteTree) (rs : List RouteCubes) (i : ℕ)
+    (old now after : List ℕ) (child : RouteCubes) (matches : Bool)
+    (within : i < length rs) (is : child ≡ get_or rs i child)
+    (found : AreBeingFound u choice t rs i old now)
+    (adds : (tree : RouteTree) → AreCubesOf u choice tree child
+    → (matches ≡ all_hold (label_set_of u choice) (matchers_of tree))
+    × (after ≡ now ++ receivers_at (label_set_of u choice) tree)) where
+  abbrev s : LabelMap
+  s = label_set_of u choice
+
+  one : IsNext u choice found.0 rs i child
+  one = next_of u choice found.0 rs i child within is found.1
+
+  abbrev pub ends : Bool
+  ends = matches && not (out-RouteCubes child).continues
+
+  its_end : (all_hold s (matchers_of one.tree) && not (continues_of one.tree)) ≡ ends
+  its_end =
+      λ j. sym (adds one.tree one.cubes).0 j
+      && not (sym (own_continues u choice one.tree child one.cubes) j)
+
+  found_behind : after ++ cond ends [] (child_receivers s one.later)
+      ≡ old ++ child_receivers s (children_of t)
+  found_behind =
+      ap (λ l. l ++ cond ends [] (child_receivers s one.later)) (adds one.tree one.cubes).1
+      ∙ append_assoc now (receivers_at s one.tree) (cond ends [] (child_receivers s one.later))
+      ∙ ap (λ b. now ++ (receivers_at s one.tree ++ cond b [] (child_receivers s one.later)))
+      (sym its_end)
+      ∙ ap (λ ts. now ++ child_receivers s ts) (sym one.is) ∙ found.2
+
+  pub search_goes_on : ends ≡ false → AreBeingFound u choice t rs (i + 1) old after
+  search_goes_on more = (
+    one.later,
+    one.left,
+    ap (λ b. after ++ cond b [] (child_receivers s one.later)) (sym more) ∙ found_behind,
+  )
+
+  pub search_stops : ends ≡ true → after ≡ old ++ child_receivers s (children_of t)
+  search_stops stops =
+      sym (append-nil after)
+      ∙ ap (λ b. after ++ cond b [] (child_receivers s one.later)) (sym stops) ∙ found_behind
+
+pub search_closed : (u : List Label) (choice : List ℕ) (t : RouteTree) (rs : List RouteCubes) (i : ℕ)
+    (old now : List ℕ) → length rs ≤ i → AreBeingFound u choice t rs i old now
+    → now ≡ old ++ child_receivers (label_set_of u choice) (children_of t)
+search_closed u choice t rs i old now past found =
+    sym (append-nil now)
+    ∙ ap (λ ts. now ++ child_receivers (label_set_of u choice) ts)
+    (sym (none_left u choice found.0 rs i past found.1))
+    ∙ found.2
+
+-- the receivers of a route that is matched: those of its children, or its own
+pub its_receivers : (s : LabelMap) (t : RouteTree) → all_hold s (matchers_of t) ≡ true
+    → receivers_at s t ≡ or_own (receiver_of t) (child_receivers s (children_of t))
+its_receivers s (route settings children) matched =
+    ap (λ b. cond b (or_own settings.receiver (child_receivers s children)) []) matched
+
+pub its_own : (s : LabelMap) (t : RouteTree) (r : RouteCubes) (u : List Label) (choice : List ℕ)
+    (old now after : List ℕ) → AreCubesOf u choice t r → all_hold s (matchers_of t) ≡ true
+    → now ≡ old ++ child_receivers s (children_of t) → length now ≡ length old
+    → after ≡ now ++ (out-RouteCubes r).receiver ∷ [] → after ≡ old ++ receivers_at s t
+its_own s t r u choice old now after are matched found same adds =
+    by (child_receivers s (children_of t)) found (its_receivers s t matched)
+  where
+    by : (below : List ℕ) → now ≡ old ++ below
+        → receivers_at s t ≡ or_own (receiver_of t) below → after ≡ old ++ receivers_at s t
+    by [] f own =
+        adds ∙ (λ i. (f ∙ append-nil old) i ++ own_receiver u choice t r are i ∷ [])
+        ∙ ap (λ l. old ++ l) (sym own)
+    by (x ∷ below) f own =
+        let longer = ap length f ∙ length-append old (x ∷ below) in
+        absurd (omega (arith, longer, same))
+
+pub of_children : (s : LabelMap) (t : RouteTree) (old now : List ℕ)
+    → all_hold s (matchers_of t) ≡ true
+    → now ≡ old ++ child_receivers s (children_of t) → length now ≢ length old
+    → now ≡ old ++ receivers_at s t
+of_children s t old now matched found other =
+    by (child_receivers s (children_of t)) found (its_receivers s t matched)
+  where
+    by : (below : List ℕ) → now ≡ old ++ below
+        → receivers_at s t ≡ or_own (receiver_of t) below → now ≡ old ++ receivers_at s t
+    by [] f own = absurd (other (ap length (f ∙ append-nil old)))
+    by (x ∷ below) f own = f ∙ ap (λ l. old ++ l) (sym own)

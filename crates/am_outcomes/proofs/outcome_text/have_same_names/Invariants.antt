@@ -1,0 +1,7 @@
+use Rattle.am_files.specs.ConfigView.{config_view}
+use Rattle.am_outcomes.proofs.TextSteps.{SameFrom}
+use Rattle.am_outcomes.proofs.outcome_text.have_same_names.Given as goal
+
+-- the names that are left decide
+abbrev pub invariant-loop-i : goal.invariant-loop-i
+invariant-loop-i l = SameFrom (config_view l.old) (config_view l.new) l.before l.after l.i

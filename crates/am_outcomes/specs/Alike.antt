@@ -1,0 +1,18 @@
+-- Routes of two configurations of which the same is seen.
+use Rattle.std.specs.Prelude.{◌≡◌, ℕ, List}
+use Rattle.am_labels.specs.Words.{Label}
+use Rattle.am_files.specs.ConfigFile.{RouteTree, matchers_of, continues_of}
+use Rattle.am_masks.specs.Words.{verdict_of_list}
+use Rattle.am_first_sets.specs.RouteCubes.{AreCubesOf}
+use Rattle.am_first_sets.specs.declared.route_cubes.RouteCubes.{RouteCubes}
+use Rattle.am_outcomes.specs.States.{route_state}
+
+-- Whichever routes the cubes are of, at each prefix their states are the same, and so are their own
+-- verdicts and whether they have `continue`.
+abbrev pub AreAlike : RouteCubes → RouteCubes → Type 0
+AreAlike one other =
+    (u : List Label) (prefix : List ℕ) (t t′ : RouteTree)
+    → AreCubesOf u prefix t one → AreCubesOf u prefix t′ other
+    → (verdict_of_list u (matchers_of t) prefix ≡ verdict_of_list u (matchers_of t′) prefix)
+    × (continues_of t ≡ continues_of t′)
+    × (route_state u prefix t ≡ route_state u prefix t′)

@@ -1,0 +1,13 @@
+-- The parts of what is judged.
+use Rattle.std.specs.Prelude.{List}
+use Rattle.am_labels.specs.Space.{Space}
+use Rattle.am_files.specs.ConfigFile.{Configuration}
+use Rattle.am_outcomes.specs.declared.judged.Judged.{Judged}
+use Rattle.am_outcomes.specs.Knows.{configs_view}
+
+-- The space, and the configurations.
+abbrev pub judged_space : Judged → Space
+judged_space judged = judged.space.now
+
+abbrev pub judged_configs : Judged → List Configuration
+judged_configs judged = configs_view judged.configs.now

@@ -1,0 +1,10 @@
+pub mod Outcomes
+pub mod States
+pub mod Knows
+pub mod JudgedView
+pub mod OutcomeText
+pub mod FatesView
+pub mod LayerView
+pub mod Receivers
+pub mod Alike
+pub mod Words

@@ -1,0 +1,29 @@
+//! What becomes of the alerts of a space: to which receivers they go, under one configuration or
+//! under each of several that are compared.
+//!
+//! [`find_outcomes`] lists each outcome that some choice has, with the first choice that has it. It
+//! does not go through the choices one by one. It goes from label to label, and of all prefixes
+//! with one state it keeps only the first. A state is what is known at a prefix of the impossible
+//! lists and of the routes that matter still. [`outcomes_text`] and [`changes_text`] write a line
+//! for each outcome, or for each one that differs between two configurations.
+#![tactic(auto)]
+
+// How much there may be.
+pub mod limits;
+
+// The first choice of each key.
+mod firsts;
+
+// What is seen of configurations and of impossible lists at a prefix.
+mod judged;
+mod route_walk;
+
+// From label to label.
+mod layers;
+
+// What was found, and its text.
+mod found;
+mod outcome_text;
+
+pub use found::{Outcomes, find_outcomes};
+pub use outcome_text::{Changes, changes_text, outcomes_text};

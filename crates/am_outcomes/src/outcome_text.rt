@@ -1,0 +1,163 @@
+//! What was found, as a text.
+
+ghost use Rattle.std.specs.Prelude.{◌≡◌, ◌++◌, [], ◌∷◌, length, string_bytes, IfOk, OnOk};
+ghost use Rattle.am_labels.specs.Words.{sizes, IsWhole};
+ghost use Rattle.am_labels.specs.Space.{Space};
+ghost use Rattle.am_files.specs.Words.{config_view};
+ghost use Rattle.am_outcomes.specs.Outcomes.{outcomes_of};
+ghost use Rattle.am_outcomes.specs.OutcomeText.{outcomes_text, changes_text, changes_of};
+ghost use Rattle.am_outcomes.specs.OutcomeText.{names_text, names_of, gap_before_name, same_names};
+ghost use Rattle.am_outcomes.specs.OutcomeText.{change_text, first_text, plural, count_text};
+ghost use Rattle.am_outcomes.specs.OutcomeText.{AreDeclared};
+
+use crate::found::Outcomes;
+use am_complete_texts::{push_label_set, push_quoted};
+use am_files::Config;
+use am_labels::{Choice, Universe};
+use std::alloc::{AllocError, Global};
+
+/// A line for each outcome under a configuration: the names of its receivers, and the label set of
+/// its first choice; and then `# end`. The outcomes are those of a space with the labels of the
+/// universe. An `Err` only where memory was refused.
+pub fn outcomes_text(
+    alloc: Global,
+    universe: &Universe,
+    config: &Config,
+    outcomes: &Outcomes,
+) -> Result<String, AllocError>
+    requires { (s : Space) × (s.labels ≡ universe.now)
+        × (outcomes.now ≡ outcomes_of s (config_view config.now ∷ [])) }
+    ensures text { IfOk result (λ text. string_bytes text
+        ≡ outcomes_text universe.now (config_view config.now) outcomes.now) }
+{
+    let mut text = String::new(alloc);
+    for i in 0..outcomes.len() {
+        let (fates, first) = outcomes.get(i);
+        push_names(&mut text, config, fates[0].as_slice())?;
+        push_first(&mut text, universe, first)?;
+    }
+    text.push_str("# end\n")?;
+    Ok(text)
+}
+
+/// The lines of changes, and how many they are.
+#[derive(Drop)]
+pub struct Changes {
+    pub text: String,
+    pub count: usize,
+}
+
+/// A line for each outcome that differs between two configurations: the names of its receivers
+/// under the one and under the other, and the label set of its first choice; and then how many
+/// there are. The outcomes are those of a space with the labels of the universe. An `Err` only
+/// where memory was refused.
+pub fn changes_text(
+    alloc: Global,
+    universe: &Universe,
+    old: &Config,
+    new: &Config,
+    outcomes: &Outcomes,
+) -> Result<Changes, AllocError>
+    requires { (s : Space) × (s.labels ≡ universe.now) × (outcomes.now
+        ≡ outcomes_of s (config_view old.now ∷ config_view new.now ∷ [])) }
+    ensures text { IfOk result (λ changes. string_bytes changes.text
+        ≡ changes_text universe.now (config_view old.now) (config_view new.now) outcomes.now) }
+    ensures count { IfOk result (λ changes. changes.count
+        ≡ length (changes_of (config_view old.now) (config_view new.now) outcomes.now)) }
+{
+    let mut text = String::new(alloc);
+    let mut count = 0;
+    for i in 0..outcomes.len() {
+        let (fates, first) = outcomes.get(i);
+        let (before, after) = (fates[0].as_slice(), fates[1].as_slice());
+        if !have_same_names(old, before, new, after) {
+            push_change(&mut text, old, before, new, after)?;
+            push_first(&mut text, universe, first)?;
+            count += 1;
+        }
+    }
+    push_count(alloc, &mut text, count)?;
+    Ok(Changes { text, count })
+}
+
+/// Whether receivers have the same names under two configurations.
+fn have_same_names(old: &Config, before: &[usize], new: &Config, after: &[usize]) -> bool
+    requires before { AreDeclared (config_view old.now) before.now }
+    requires after { AreDeclared (config_view new.now) after.now }
+    ensures { result ≡ same_names (names_of (config_view old.now) before.now)
+        (names_of (config_view new.now) after.now) }
+{
+    if before.len() != after.len() {
+        return false;
+    }
+    for i in 0..before.len() {
+        if old.receiver_name(before[i]) != new.receiver_name(after[i]) {
+            return false;
+        }
+    }
+    true
+}
+
+/// Adds the names of receivers under one configuration and under another.
+fn push_change(
+    text: &mut String,
+    old: &Config,
+    before: &[usize],
+    new: &Config,
+    after: &[usize],
+) -> Result<(), AllocError>
+    requires before { AreDeclared (config_view old.now) before.now }
+    requires after { AreDeclared (config_view new.now) after.now }
+    ensures { OnOk result (string_bytes text.new ≡ string_bytes text.old
+        ++ change_text (names_of (config_view old.now) before.now)
+        (names_of (config_view new.now) after.now)) }
+{
+    push_names(text, old, before)?;
+    text.push_str(" -> ")?;
+    push_names(text, new, after)
+}
+
+/// Adds the names of receivers, in quotes.
+fn push_names(text: &mut String, config: &Config, receivers: &[usize]) -> Result<(), AllocError>
+    requires { AreDeclared (config_view config.now) receivers.now }
+    ensures { OnOk result (string_bytes text.new ≡ string_bytes text.old
+        ++ names_text (names_of (config_view config.now) receivers.now)) }
+{
+    for (i, receiver) in receivers.iter().enumerate() {
+        text.push_str(gap_before_name(i))?;
+        push_quoted(text, config.receiver_name(*receiver))?;
+    }
+    Ok(())
+}
+
+fn gap_before_name(i: usize) -> &'static str
+    ensures { result.now ≡ gap_before_name i }
+{
+    if i == 0 { "" } else { "," }
+}
+
+/// Adds the label set of the first choice, which closes a line.
+fn push_first(text: &mut String, universe: &Universe, first: &Choice) -> Result<(), AllocError>
+    requires { IsWhole (sizes universe.now) first.now }
+    ensures { OnOk result (string_bytes text.new
+        ≡ string_bytes text.old ++ first_text universe.now first.now) }
+{
+    text.push_str(" ")?;
+    push_label_set(text, universe, first)?;
+    text.push_str("\n")
+}
+
+fn push_count(alloc: Global, text: &mut String, count: usize) -> Result<(), AllocError>
+    ensures { OnOk result (string_bytes text.new ≡ string_bytes text.old ++ count_text count) }
+{
+    let more = plural(count);
+    let line = format!(in alloc; "# {count} change{more}\n")?;
+    text.push_str(line.as_str())
+}
+
+/// What stands behind the word for so many changes.
+fn plural(n: usize) -> &'static str
+    ensures { result.now ≡ plural n }
+{
+    if n == 1 { "" } else { "s" }
+}

@@ -1,0 +1,94 @@
+//! Walks down the routes of a configuration at a prefix, and at a whole choice.
+
+ghost use Rattle.std.specs.Prelude.{◌≡◌, ◌++◌, List, IfOk, IsTrue};
+ghost use Rattle.am_labels.specs.Words.{Label, sizes, IsWhole, label_set_of, all_hold};
+ghost use Rattle.am_files.specs.ConfigFile.{RouteTree};
+ghost use Rattle.am_files.specs.Words.{matchers_of};
+ghost use Rattle.am_masks.specs.Words.{verdict_of_list};
+ghost use Rattle.am_first_sets.specs.RouteCubes.{AreCubesOf};
+ghost use Rattle.am_outcomes.specs.States.{route_state};
+ghost use Rattle.am_outcomes.specs.Receivers.{receivers_at};
+ghost use Rattle.am_outcomes.specs.Alike.{AreAlike};
+
+use am_first_sets::RouteCubes;
+use am_labels::Choice;
+use am_masks::JudgedList;
+use am_search::Verdict;
+use std::alloc::AllocError;
+
+/// Adds the verdicts of a route and of those below it that matter at a prefix, and answers that of
+/// the route. No route below an excluded one matters, and none behind a sibling that is certain and
+/// has no `continue`. An `Err` only where memory was refused.
+pub(crate) fn push_state(
+    route: &RouteCubes,
+    prefix: &Choice,
+    state: &mut Vec<Verdict>,
+) -> Result<Verdict, AllocError>
+    ensures { IfOk result (λ verdict. (u : List Label) (t : RouteTree)
+        → AreCubesOf u prefix.now t route.now
+        → (verdict ≡ verdict_of_list u (matchers_of t) prefix.now)
+        × (state.new.items ≡ state.old.items ++ route_state u prefix.now t)) }
+{
+    let verdict = route.cube.judge(prefix);
+    state.push(verdict)?;
+    if verdict == Verdict::No {
+        return Ok(verdict);
+    }
+    for child in &route.routes {
+        let below = push_state(child, prefix, state)?;
+        if below == Verdict::Yes && !child.continues {
+            break;
+        }
+    }
+    Ok(verdict)
+}
+
+/// Adds the receivers of a whole choice at a route and below it: that of each route where its label
+/// set ends, in order. The answer is whether it matches the route. An `Err` only where memory was
+/// refused.
+pub(crate) fn push_receivers(
+    route: &RouteCubes,
+    choice: &Choice,
+    found: &mut Vec<usize>,
+) -> Result<bool, AllocError>
+    ensures { IfOk result (λ matches. (u : List Label) (t : RouteTree)
+        → AreCubesOf u choice.now t route.now → IsWhole (sizes u) choice.now
+        → (matches ≡ all_hold (label_set_of u choice.now) (matchers_of t))
+        × (found.new.items ≡ found.old.items ++ receivers_at (label_set_of u choice.now) t)) }
+{
+    if !route.cube.may(choice) {
+        return Ok(false);
+    }
+    let before = found.len();
+    for child in &route.routes {
+        let matches = push_receivers(child, choice, found)?;
+        if matches && !child.continues {
+            break;
+        }
+    }
+    if found.len() == before {
+        found.push(route.receiver)?;
+    }
+    Ok(true)
+}
+
+/// Whether what is seen of the routes of two configurations is known to be the same at every
+/// prefix: the routes stand in the same tree, with the same matchers and with `continue` at the
+/// same places, whatever their receivers are.
+pub(crate) fn are_alike(one: &RouteCubes, other: &RouteCubes) -> bool
+    ensures { IsTrue result → AreAlike one.now other.now }
+{
+    let (routes, others) = (one.routes.as_slice(), other.routes.as_slice());
+    if one.continues != other.continues || routes.len() != others.len() {
+        return false;
+    }
+    if !one.cube.is_same(&other.cube) {
+        return false;
+    }
+    for (i, route) in routes.iter().enumerate() {
+        if !are_alike(route, &others[i]) {
+            return false;
+        }
+    }
+    true
+}
