@@ -1,6 +1,6 @@
 -- How a space stands at the label at a position, and what follows from that.
 use Rattle.std.proofs.Common.{◌≡◌, ◌≢◌, ◌<◌, ℕ, zero, suc, List, [], ◌∷◌, length, map, take}
-use Rattle.std.proofs.Common.{Some, slice_get, string_bytes, refl, sym, ap, subst, inl, inr}
+use Rattle.std.proofs.Common.{Some, slice_get, string_bytes, refl, sym, ap, subst, inl, inr, ◌∙◌}
 use Rattle.std.proofs.Common.{arith}
 use Rattle.std.specs.Prelude.{IsTrue}
 use Rattle.std.specs.List.{AllByRecursion}
@@ -12,7 +12,6 @@ use Rattle.am_universe.proofs.Members.{in_at}
 use Rattle.am_labels.specs.Matcher.{Condition}
 use Rattle.am_labels.specs.Space.{Space}
 use Rattle.am_json.specs.Pointer.{Refusal}
-use Rattle.am_files.specs.ConfigFile.{Configuration}
 use Rattle.am_classes.specs.declared.alphabet.Alphabet.{Alphabet}
 use Rattle.am_complete.specs.declared.label_state.Completeness.{Completeness}
 use Rattle.am_complete.specs.declared.label_state.Completeness.TheVariants as state_is
@@ -22,8 +21,9 @@ use Rattle.am_complete.specs.AskedLabel.{AskedLabel}
 use Rattle.am_complete.specs.LabelState.{IsSoAt, IsSoIfNamed, reported_names}
 use Rattle.am_complete.proofs.CompleteUniverses.{space_complete_without_matchers}
 use Rattle.am_complete.proofs.Pushed.{got_front}
-use Rattle.am_every_alert.specs.Deciding.{coverage_conditions}
-use Rattle.am_reports.specs.Made.{labels_of_routes, AreDeclaredWhole, IsDeclaredRefusal}
+use Rattle.am_reports.specs.Configurations.{Configurations, routing_conditions}
+use Rattle.am_reports.specs.Configurations.{labels_of_routes, first_place}
+use Rattle.am_reports.specs.Made.{AreDeclaredWhole, IsDeclaredRefusal}
 use Rattle.am_reports.specs.Made.{IsSettledState, IsStateRefusal}
 
 -- ---- The state at a position.
@@ -61,7 +61,7 @@ pub told_at : (a : Alphabet) (s : Space) (ms : List Condition) (asked : List Ask
     (λ state. IsSoIfNamed a s ms asked (string_bytes state.name) state.completeness) states
     → slice_get s.labels i ≡ Some l
     → (state : LabelState) × (slice_get states i ≡ Some state)
-    × IsSoAt a s ms asked l.name state.completeness
+    × (string_bytes state.name ≡ l.name) × IsSoAt a s ms asked l.name state.completeness
 told_at a s ms asked states i l is reported each at =
     let name_there = got_front (names s.labels) _ i l.name
     (mapped_there (λ k. k.name) s.labels i l at) in
@@ -72,6 +72,7 @@ told_at a s ms asked states i l is reported each at =
     found.0 each found.1 in (
       found.0,
       found.1,
+      found.2,
       subst (λ (name : List ℕ). IsSoIfNamed a s ms asked name found.0.completeness) found.2 so
           (named l (all_there IsLabel s.labels i l is.labels at)),
     )
@@ -88,13 +89,13 @@ whole_by a s ms asked name state_is.Unasked is settled so =
 whole_by a s ms asked name state_is.Undeclarable is settled so = absurd settled
 whole_by a s ms asked name (state_is.Unproved origin) is settled so = absurd settled
 
-pub refused_by : (a : Alphabet) (s : Space) (c : Configuration) (i : ℕ) (l : Label)
+pub refused_by : (a : Alphabet) (s : Space) (k : Configurations) (i : ℕ) (l : Label)
     (found : Completeness) (place : Place) (r : Refusal) → slice_get s.labels i ≡ Some l
-    → AreDeclaredWhole a s c (take i s.labels) → IsStateRefusal i found place r
-    → IsSoAt a s (coverage_conditions s c) (labels_of_routes c s.impossible) l.name found
-    → IsDeclaredRefusal a s c place r
-refused_by a s c i l (state_is.Complete classes) place r at before refused so = absurd refused
-refused_by a s c i l (state_is.Lacks text) place r at before refused so =
+    → AreDeclaredWhole a s k (take i s.labels) → IsStateRefusal k i l.name found place r
+    → IsSoAt a s (routing_conditions s k) (labels_of_routes k s.impossible) l.name found
+    → IsDeclaredRefusal a s k place r
+refused_by a s k i l (state_is.Complete classes) place r at before refused so = absurd refused
+refused_by a s k i l (state_is.Lacks text) place r at before refused so =
     inl (
       refused.0,
       record {
@@ -106,8 +107,8 @@ refused_by a s c i l (state_is.Lacks text) place r at before refused so =
         refusal = refused.1;
       },
     )
-refused_by a s c i l state_is.Unasked place r at before refused so = absurd refused
-refused_by a s c i l state_is.Undeclarable place r at before refused so =
+refused_by a s k i l state_is.Unasked place r at before refused so = absurd refused
+refused_by a s k i l state_is.Undeclarable place r at before refused so =
     inl (
       refused.0,
       record {
@@ -119,7 +120,7 @@ refused_by a s c i l state_is.Undeclarable place r at before refused so =
         refusal = refused.1;
       },
     )
-refused_by a s c i l (state_is.Unproved origin) place r at before refused so =
+refused_by a s k i l (state_is.Unproved origin) place r at before refused so =
     inr (record {
       position = i;
       label = l;
@@ -129,6 +130,6 @@ refused_by a s c i l (state_is.Unproved origin) place r at before refused so =
       found = so.0.1;
       same = so.0.2;
       pattern = so.1;
-      stands = rw so.0.3 refused.0;
+      stands = refused.0 ∙ sym (λ j. first_place k (so.0.2 j) (so.0.3 j));
       refusal = rw so.0.3 refused.1;
     })

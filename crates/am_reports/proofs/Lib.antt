@@ -1,5 +1,10 @@
 pub mod RoutesAsked
 pub mod DeclaredStates
 pub mod Origins
+pub mod StageLemmas
 pub mod LintStages
+pub mod InputStages
 pub mod RoutesFound
+pub mod KeptItems
+pub mod OutcomesOver
+pub mod ChangeLemmas

@@ -1,12 +1,13 @@
--- What routes and impossible lists ask of is first asked of in one of their two files.
-use Rattle.std.proofs.Common.{◌≡◌, ◌⊎◌, ℕ, List, [], ◌∷◌, ◌++◌, Bool, true, false, map, fold, refl}
+-- What routes and impossible lists ask of is first asked of in one of their files.
+use Rattle.std.proofs.Common.{◌≡◌, ℕ, List, [], ◌∷◌, ◌++◌, Bool, true, false, map, fold, refl}
 use Rattle.std.proofs.Common.{inl, inr, sym, subst, Contains}
-use Rattle.std.specs.Prelude.{if◌then◌else◌}
+use Rattle.std.specs.Prelude.{if◌then◌else◌, ⊤}
 use Rattle.std.specs.List.{AllByRecursion, flat_map, list_any, enumerate_from}
+use Rattle.am_universe.specs.declared.place.Place.{Place}
 use Rattle.am_universe.specs.declared.place.Place.TheVariants as places
 use Rattle.am_universe.specs.Text.{same_text}
 use Rattle.am_universe.proofs.DistinctLists.{all_push}
-use Rattle.am_universe.proofs.ListLemmas.{AllByRecursion-at, IsIn-from_Contains}
+use Rattle.am_universe.proofs.ListLemmas.{AllByRecursion-at, IsIn, IsIn-from_Contains}
 use Rattle.am_labels.specs.Matcher.{Condition}
 use Rattle.am_files.specs.ConfigFile.{Configuration, RouteTree, matchers_of}
 use Rattle.am_files.specs.RoutePaths.{all_routes}
@@ -16,11 +17,18 @@ use Rattle.am_complete.specs.AskedLabel.{AskedLabel, asks_same, with_matcher, an
 use Rattle.am_complete.specs.AskedLabel.{with_asked}
 use Rattle.am_asked.specs.Placed.{placed_at, placed_by_route, placed_in_routes, placed_in_list}
 use Rattle.am_asked.specs.Placed.{placed_in_lists}
-use Rattle.am_universe_command.specs.Universes.{origin_place}
-use Rattle.am_reports.specs.Made.{labels_of_routes}
+use Rattle.am_reports.specs.Configurations.{Configurations, One, Pair, labels_of_routes, asks_of}
+use Rattle.am_reports.specs.Configurations.{first_place}
+use Rattle.am_reports.specs.ReportInputs.{report_places}
+use Rattle.am_reports.specs.CompareInputs.{compare_places}
 
-abbrev pub StandsInFiles : Origin → Type 0
-StandsInFiles o = (origin_place o ≡ places.Config) ⊎ (origin_place o ≡ places.Universe)
+-- a matcher stands in a route, or in an impossible list
+abbrev IsOfRoutes : Origin → Type 0
+IsOfRoutes (origin_is.Route path) = ⊤
+IsOfRoutes (origin_is.Rule position) = ⊥
+IsOfRoutes (origin_is.Silence position) = ⊥
+IsOfRoutes (origin_is.Question position) = ⊥
+IsOfRoutes (origin_is.Impossible position) = ⊤
 
 -- ---- A label keeps where it is first asked of.
 
@@ -76,25 +84,65 @@ module _ (P : Origin → Type 0) where
 -- ---- Routes, and impossible lists.
 
 in_routes : (found : List (List ℕ × RouteTree))
-    → AllPlaced StandsInFiles (flat_map placed_by_route found)
+    → AllPlaced IsOfRoutes (flat_map placed_by_route found)
 in_routes [] = tt
 in_routes (route ∷ found) =
-    both_placed StandsInFiles (placed_by_route route) (flat_map placed_by_route found)
-    (at_one StandsInFiles (origin_is.Route route.0) (matchers_of route.1) (inl refl))
-    (in_routes found)
+    both_placed IsOfRoutes (placed_by_route route) (flat_map placed_by_route found)
+    (at_one IsOfRoutes (origin_is.Route route.0) (matchers_of route.1) tt) (in_routes found)
 
 in_lists : (lists : List (ℕ × List Condition))
-    → AllPlaced StandsInFiles (flat_map placed_in_list lists)
+    → AllPlaced IsOfRoutes (flat_map placed_in_list lists)
 in_lists [] = tt
 in_lists (list ∷ lists) =
-    both_placed StandsInFiles (placed_in_list list) (flat_map placed_in_list lists)
-    (at_one StandsInFiles (origin_is.Impossible list.0) list.1 (inr refl)) (in_lists lists)
+    both_placed IsOfRoutes (placed_in_list list) (flat_map placed_in_list lists)
+    (at_one IsOfRoutes (origin_is.Impossible list.0) list.1 tt) (in_lists lists)
 
-pub in_files : (c : Configuration) (lists : List (List Condition)) (l : AskedLabel)
-    → Contains (labels_of_routes c lists) l → StandsInFiles l.first
-in_files c lists l there =
-    let all = all_asked StandsInFiles (placed_in_routes c ++ placed_in_lists lists) [] tt
-    (both_placed StandsInFiles (placed_in_routes c) (placed_in_lists lists)
-    (in_routes (all_routes c)) (in_lists (enumerate_from 0 lists))) in
-    AllByRecursion-at (λ k. StandsInFiles k.first) (labels_of_routes c lists) l all
-    (IsIn-from_Contains (labels_of_routes c lists) l there)
+of_routes : (c : Configuration) → AllPlaced IsOfRoutes (placed_in_routes c)
+of_routes c = in_routes (all_routes c)
+
+of_lists : (lists : List (List Condition)) → AllPlaced IsOfRoutes (placed_in_lists lists)
+of_lists lists = in_lists (enumerate_from 0 lists)
+
+labels_placed : (k : Configurations) (lists : List (List Condition))
+    → AllFirst IsOfRoutes (labels_of_routes k lists)
+labels_placed (One c) lists =
+    all_asked IsOfRoutes (placed_in_routes c ++ placed_in_lists lists) [] tt
+    (both_placed IsOfRoutes (placed_in_routes c) (placed_in_lists lists) (of_routes c)
+    (of_lists lists))
+labels_placed (Pair old new) lists =
+    let behind = placed_in_routes new ++ placed_in_lists lists in
+    all_asked IsOfRoutes (placed_in_routes old ++ behind) [] tt
+    (both_placed IsOfRoutes (placed_in_routes old) behind (of_routes old)
+    (both_placed IsOfRoutes (placed_in_routes new) (placed_in_lists lists) (of_routes new)
+    (of_lists lists)))
+
+-- ---- The files.
+
+-- the places of the matchers that are looked at
+abbrev pub places_of : Configurations → List Place
+places_of (One c) = report_places
+places_of (Pair old new) = compare_places
+
+old_or_new : (b : Bool) → IsIn compare_places (if b then places.Old else places.New)
+old_or_new true = inl refl
+old_or_new false = inr (inl refl)
+
+in_places : (k : Configurations) (name : List ℕ) (o : Origin) → IsOfRoutes o
+    → IsIn (places_of k) (first_place k name o)
+in_places (One c) name (origin_is.Route path) of = inl refl
+in_places (One c) name (origin_is.Rule position) of = absurd of
+in_places (One c) name (origin_is.Silence position) of = absurd of
+in_places (One c) name (origin_is.Question position) of = absurd of
+in_places (One c) name (origin_is.Impossible position) of = inr (inl refl)
+in_places (Pair old new) name (origin_is.Route path) of = old_or_new (asks_of old name)
+in_places (Pair old new) name (origin_is.Rule position) of = absurd of
+in_places (Pair old new) name (origin_is.Silence position) of = absurd of
+in_places (Pair old new) name (origin_is.Question position) of = absurd of
+in_places (Pair old new) name (origin_is.Impossible position) of = inr (inr (inl refl))
+
+pub in_files : (k : Configurations) (lists : List (List Condition)) (l : AskedLabel)
+    → Contains (labels_of_routes k lists) l → IsIn (places_of k) (first_place k l.name l.first)
+in_files k lists l there =
+    in_places k l.name l.first
+    (AllByRecursion-at (λ m. IsOfRoutes m.first) (labels_of_routes k lists) l
+    (labels_placed k lists) (IsIn-from_Contains (labels_of_routes k lists) l there))

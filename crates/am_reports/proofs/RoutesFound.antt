@@ -19,6 +19,7 @@ use Rattle.am_lint.specs.FoundView.{IsFoundIn, IsLookedAt, IsSameButEvery}
 use Rattle.am_lint.proofs.Transfer.{StandsForAlerts}
 use Rattle.am_lint.proofs.FoundLemmas.{IsFoundSo}
 use Rattle.am_lint.proofs.FoundOver.{found_over_ascii, found_over_unicode}
+use Rattle.am_reports.specs.Configurations.{One}
 use Rattle.am_reports.specs.Made.{StandsForAll}
 
 -- each route is found so, by choices of some labels and, over every alert, of those of a universe
@@ -30,8 +31,8 @@ AreFoundSo ascii s v c found =
 abbrev pub IsSpaceWith : Space → List Label → Space → Type 0
 IsSpaceWith s u o = (o.labels ≡ u) × (o.impossible ≡ s.impossible)
 
-stands : (a : Alphabet) (s o : Space) (c : Configuration) (u : List Label) → StandsForAll a s c u
-    → IsSpaceWith s u o → StandsForAlerts a o c
+stands : (a : Alphabet) (s o : Space) (c : Configuration) (u : List Label)
+    → StandsForAll a s (One c) u → IsSpaceWith s u o → StandsForAlerts a o c
 stands a s o c u h is =
     let Stands = λ (labels : List Label) (lists : List (List Condition)).
     StandsForAlerts a (record { labels = labels; impossible = lists }) c in
@@ -39,7 +40,7 @@ stands a s o c u h is =
     (subst (λ (x : List (List Condition)). Stands u x) (sym is.1)
     (record { universe = h.universe; complete = h.complete; over = h.over }))
 
-module _ (s o : Space) (c : Configuration) (u : List Label) (over : StandsForAll Ascii s c u)
+module _ (s o : Space) (c : Configuration) (u : List Label) (over : StandsForAll Ascii s (One c) u)
     (is : IsSpaceWith s u o) where
   pub found_ordinary : (every : Option (List Label)) (v : List Label) (found : List FoundRoute)
       → every ≡ None → AllZip (IsFoundIn o c) (all_routes c) found
@@ -51,12 +52,12 @@ module _ (s o : Space) (c : Configuration) (u : List Label) (over : StandsForAll
 
   pub found_every : (every : Option (List Label)) (v : List Label) (e : Space)
       (old : Vec FoundRoute Global) (new : List FoundRoute) → every ≡ Some v
-      → IfSome every (StandsForAll Unicode s c) → IsSpaceWith s v e
+      → IfSome every (StandsForAll Unicode s (One c)) → IsSpaceWith s v e
       → AllZip (IsFoundIn o c) (all_routes c) old.items → AllZip IsSameButEvery old.items new
       → AllByRecursion (λ route. IsLookedAt e c route.path route.ordinary route.every) new
       → AreFoundSo (is_none every) s e.labels c (with_items old new).items
   found_every every v e old new some all at so same looked =
-      let stands_all : StandsForAll Unicode s c v = rw some at all in
+      let stands_all : StandsForAll Unicode s (One c) v = rw some at all in
       let long : length new ≡ old.len =
       sym (length_all_zip IsSameButEvery old.items new same) ∙ sym old.ok.0 in
       let found : AreFoundSo false s e.labels c new = (

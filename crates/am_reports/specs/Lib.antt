@@ -1,4 +1,11 @@
-pub mod LintInputs
+pub mod Configurations
+pub mod ConfigsView
+pub mod ReportInputs
+pub mod CompareInputs
 pub mod Made
+pub mod LaterStages
 pub mod Linting
+pub mod AllOutcomes
+pub mod OutcomesReport
+pub mod Comparing
 pub mod Words

@@ -1,16 +1,28 @@
 //! The commands that speak of every alert, as functions over bytes and a [`Sink`](am_labels::Sink).
 //!
-//! [`lint`] says what is wrong with the routes and receivers of a configuration, and why. It needs
-//! no universe file: it makes the universes that stand for every alert by itself.
+//! [`lint`] says what is wrong with the routes and receivers of a configuration, and why.
+//! [`outcomes`] lists to which receivers alerts go, and [`compare`] what changes between two
+//! configurations. They need no universe file: they make the universes that stand for every alert
+//! by themselves.
 #![tactic(auto)]
 
-// What is handed in, and the universes that stand for the alerts.
-mod lint_inputs;
+// What is handed in.
+mod compare_inputs;
+mod report_inputs;
+
+pub use compare_inputs::CompareInputs;
+pub use report_inputs::ReportInputs;
+
+// The universes that stand for the alerts, and what becomes of these.
+mod all_outcomes;
+mod configs;
 mod made;
 
-pub use lint_inputs::LintInputs;
-
 // The commands.
+mod comparing;
 mod linting;
+mod outcomes_report;
 
+pub use comparing::compare;
 pub use linting::lint;
+pub use outcomes_report::outcomes;

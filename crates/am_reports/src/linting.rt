@@ -8,13 +8,15 @@ ghost use Rattle.am_json.specs.Reading.{refusal_of};
 ghost use Rattle.am_files.specs.Words.{config_view};
 ghost use Rattle.am_eval.specs.Words.{IsFirstFault, IsKept};
 ghost use Rattle.am_lint.specs.Words.{IsLintReport, alphabet_of};
-ghost use Rattle.am_reports.specs.LintInputs.{LintInputs, AcceptsLintInputs};
+ghost use Rattle.am_reports.specs.ReportInputs.{ReportInputs, AcceptsReportInputs};
+ghost use Rattle.am_reports.specs.Configurations.{One};
 ghost use Rattle.am_reports.specs.Linting.{lint_promise, IsLinted, later_stages};
 ghost use Rattle.am_reports.specs.Made.{StandsForAll, IsMadeRefusal};
 
-use crate::LintInputs;
-use crate::lint_inputs::{ReadInputs, read_inputs};
-use crate::made::{check_declared, universe_for_routes};
+use crate::ReportInputs;
+use crate::configs::Configs;
+use crate::made::{alphabet_of, check_declared, universe_for_routes};
+use crate::report_inputs::{ReadInputs, read_inputs};
 use am_classes::Alphabet;
 use am_files::Config;
 use am_labels::{Fault, Sink, Space, Universe, put_str};
@@ -43,7 +45,7 @@ struct LintReport {
 /// needs a value and its name is no label name, at the file and with the pointer of the route or
 /// impossible list that first asks of it; `Write`. `Memory` comes wherever memory ran out. After
 /// any but `Write` the sink is as it was.
-pub fn lint<W: Sink>(alloc: Global, inputs: &LintInputs<'_>, out: &mut W) -> Result<usize, Fault>
+pub fn lint<W: Sink>(alloc: Global, inputs: &ReportInputs<'_>, out: &mut W) -> Result<usize, Fault>
     // What is said of each route and each receiver is so, and each reason is enough and needed.
     ensures kept { IsKept (lint_promise inputs.now) W.taken W.failures out.old out.new result }
 {
@@ -56,20 +58,21 @@ pub fn lint<W: Sink>(alloc: Global, inputs: &LintInputs<'_>, out: &mut W) -> Res
 }
 
 /// The report on what inputs say.
-fn linted(alloc: Global, inputs: &LintInputs<'_>, read: ReadInputs) -> Result<LintReport, Fault>
-    ensures linted { IfOk result (λ lint. AcceptsLintInputs inputs.now read.space
+fn linted(alloc: Global, inputs: &ReportInputs<'_>, read: ReadInputs) -> Result<LintReport, Fault>
+    ensures linted { IfOk result (λ lint. AcceptsReportInputs inputs.now read.space
         (config_view read.config) → IsLinted inputs.now read.space (config_view read.config)
         lint.findings (string_bytes lint.text)) }
-    ensures first { IfErr result (λ fault. AcceptsLintInputs inputs.now read.space
+    ensures first { IfErr result (λ fault. AcceptsReportInputs inputs.now read.space
         (config_view read.config) → IsFirstFault (later_stages inputs.now) fault) }
 {
     let (mut space, config) = (read.space, read.config);
+    let configs = Configs::One(&config);
     if inputs.universe.is_some() {
-        check_declared(alloc, alphabet_of(inputs.ascii), &space, &config)?;
+        check_declared(alloc, alphabet_of(inputs.ascii), &space, configs)?;
     }
     space.declare(Universe::empty(alloc));
     let every = every_universe(alloc, inputs.ascii, &space, &config)?;
-    let ordinary = universe_for_routes(alloc, Alphabet::Ascii, &space, &config)?;
+    let ordinary = universe_for_routes(alloc, Alphabet::Ascii, &space, configs)?;
     match lint_over(alloc, space, &config, ordinary, every) {
         Ok(lint) => Ok(lint),
         Err(_) => Err(Fault::memory(alloc)),
@@ -85,16 +88,17 @@ fn every_universe(
 ) -> Result<Option<Universe>, Fault>
     requires { space.now.labels ≡ [] }
     ensures some { IfOk result (λ universe. IfSome universe (λ u. (ascii ≡ false)
-        × StandsForAll Unicode space.now (config_view config.now) u)) }
+        × StandsForAll Unicode space.now (One (config_view config.now)) u)) }
     ensures none { IfOk result (λ universe. IfNone universe (ascii ≡ true)) }
     ensures refused { IfErr result (λ fault. fault.kind ≢ kinds.Memory
-        → IsMadeRefusal (alphabet_of ascii) space.now (config_view config.now) fault.place
+        → IsMadeRefusal (alphabet_of ascii) space.now (One (config_view config.now)) fault.place
         (refusal_of fault)) }
 {
     if ascii {
         return Ok(None);
     }
-    Ok(Some(universe_for_routes(alloc, Alphabet::Unicode, space, config)?))
+    let configs = Configs::One(config);
+    Ok(Some(universe_for_routes(alloc, Alphabet::Unicode, space, configs)?))
 }
 
 /// The report on a configuration over a universe for ordinary alerts, and one for every alert, if
@@ -106,8 +110,8 @@ fn lint_over(
     ordinary: Universe,
     every: Option<Universe>,
 ) -> Result<LintReport, AllocError>
-    requires ordinary { StandsForAll Ascii space (config_view config.now) ordinary }
-    requires every { IfSome every (StandsForAll Unicode space (config_view config.now)) }
+    requires ordinary { StandsForAll Ascii space (One (config_view config.now)) ordinary }
+    requires every { IfSome every (StandsForAll Unicode space (One (config_view config.now))) }
     ensures linted { IfOk result (λ lint. IsLintReport (is_none every) space
         (config_view config.now) lint.findings (string_bytes lint.text)) }
 {
@@ -128,15 +132,4 @@ fn lint_over(
     )?;
     let findings = count_findings(routes.as_slice(), receivers.as_slice());
     Ok(LintReport { text, findings })
-}
-
-/// Which texts the labels of alerts may have.
-fn alphabet_of(ascii: bool) -> Alphabet
-    ensures { result ≡ alphabet_of ascii }
-{
-    if ascii {
-        Alphabet::Ascii
-    } else {
-        Alphabet::Unicode
-    }
 }

@@ -5,17 +5,27 @@ ghost use Rattle.std.specs.Prelude.{[], string_bytes};
 ghost use Rattle.am_universe.specs.declared.kind.Kind.TheVariants as kinds;
 ghost use Rattle.am_universe.specs.declared.place.Place.TheVariants as places;
 ghost use Rattle.am_json.specs.Reading.{refusal_of};
-ghost use Rattle.am_files.specs.Words.{config_view};
+ghost use Rattle.am_lint.specs.Words.{alphabet_of};
+ghost use Rattle.am_reports.specs.ConfigsView.{configurations_of};
 ghost use Rattle.am_reports.specs.Made.{StandsForAll, AreDeclaredWhole, IsMadeRefusal};
 ghost use Rattle.am_reports.specs.Made.{IsDeclaredRefusal, IsStateRefusal, IsSettledState};
 
-use am_asked::asked_by_routes;
+use crate::configs::{Configs, labels_asked, unproved_label};
 use am_classes::Alphabet;
 use am_complete::{Completeness, LabelState, label_states, universe_beside};
-use am_files::Config;
 use am_labels::{Fault, Kind, Place, Space, Universe};
-use am_universe_command::unproved_fault;
 use std::alloc::Global;
+
+/// Which texts the labels of alerts may have.
+pub(crate) fn alphabet_of(ascii: bool) -> Alphabet
+    ensures { result ≡ alphabet_of ascii }
+{
+    if ascii {
+        Alphabet::Ascii
+    } else {
+        Alphabet::Unicode
+    }
+}
 
 /// A universe that stands for every alert over an alphabet, for the matchers of the routes and of
 /// the impossible lists of a space that declares no label.
@@ -27,15 +37,16 @@ pub(crate) fn universe_for_routes(
     alloc: Global,
     alphabet: Alphabet,
     space: &Space,
-    config: &Config,
+    configs: Configs<'_>,
 ) -> Result<Universe, Fault>
     requires { space.now.labels ≡ [] }
-    ensures stands { IfOk result (StandsForAll alphabet space.now (config_view config.now)) }
+    ensures stands { IfOk result
+        (StandsForAll alphabet space.now (configurations_of configs.entry)) }
     ensures refused { IfErr result (λ fault. fault.kind ≢ kinds.Memory
-        → IsMadeRefusal alphabet space.now (config_view config.now) fault.place
+        → IsMadeRefusal alphabet space.now (configurations_of configs.entry) fault.place
         (refusal_of fault)) }
 {
-    let Ok(asked) = asked_by_routes(alloc, config, &[], space.impossible()) else {
+    let Ok(asked) = labels_asked(alloc, configs, space) else {
         return Err(Fault::memory(alloc));
     };
     let made = match universe_beside(alloc, alphabet, space, asked.as_slice(), None) {
@@ -43,7 +54,8 @@ pub(crate) fn universe_for_routes(
         Err(kind) => return Err(Fault::at(alloc, kind, Place::Universe)),
     };
     if let Some(position) = made.unproved.first() {
-        return Err(unproved_fault(alloc, &asked[*position].first()));
+        let label = &asked[*position];
+        return Err(unproved_label(alloc, configs, label.name(), &label.first()));
     }
     Ok(made.universe)
 }
@@ -58,36 +70,44 @@ pub(crate) fn check_declared(
     alloc: Global,
     alphabet: Alphabet,
     space: &Space,
-    config: &Config,
+    configs: Configs<'_>,
 ) -> Result<(), Fault>
     ensures whole { OnOk result
-        (AreDeclaredWhole alphabet space.now (config_view config.now) space.now.labels) }
+        (AreDeclaredWhole alphabet space.now (configurations_of configs.entry) space.now.labels) }
     ensures refused { IfErr result (λ fault. fault.kind ≢ kinds.Memory
-        → IsDeclaredRefusal alphabet space.now (config_view config.now) fault.place
+        → IsDeclaredRefusal alphabet space.now (configurations_of configs.entry) fault.place
         (refusal_of fault)) }
 {
-    let Ok(asked) = asked_by_routes(alloc, config, &[], space.impossible()) else {
+    let Ok(asked) = labels_asked(alloc, configs, space) else {
         return Err(Fault::memory(alloc));
     };
     let Ok(states) = label_states(alloc, alphabet, space, asked.as_slice(), None) else {
         return Err(Fault::memory(alloc));
     };
     for i in 0..space.universe().len() {
-        check_state(alloc, i, &states[i])?;
+        check_state(alloc, configs, i, &states[i])?;
     }
     Ok(())
 }
 
 /// Refuses the state of the label at a position if a value is lacking there, or where that is not
 /// known.
-fn check_state(alloc: Global, position: usize, state: &LabelState) -> Result<(), Fault>
+fn check_state(
+    alloc: Global,
+    configs: Configs<'_>,
+    position: usize,
+    state: &LabelState,
+) -> Result<(), Fault>
     ensures settled { OnOk result (IsSettledState state.now.completeness) }
     ensures refused { IfErr result (λ fault. fault.kind ≢ kinds.Memory
-        → IsStateRefusal position state.now.completeness fault.place (refusal_of fault)) }
+        → IsStateRefusal (configurations_of configs.entry) position (string_bytes state.now.name)
+        state.now.completeness fault.place (refusal_of fault)) }
 {
     match &state.completeness {
         Completeness::Complete(_) | Completeness::Unasked => Ok(()),
-        Completeness::Unproved(origin) => Err(unproved_fault(alloc, origin)),
+        Completeness::Unproved(origin) => {
+            Err(unproved_label(alloc, configs, state.name.as_str(), origin))
+        }
         Completeness::Lacks(_) | Completeness::Undeclarable => {
             Err(incomplete_fault(alloc, position))
         }

@@ -4,9 +4,9 @@ use Rattle.am_json.specs.Reading.{refusal_of}
 use Rattle.am_files.specs.ConfigView.{config_view}
 use Rattle.am_eval.proofs.FirstFaults.{first_of_more}
 use Rattle.am_eval.proofs.Promises.{refused, written}
-use Rattle.am_reports.specs.LintInputs.{lint_input_stages}
+use Rattle.am_reports.specs.ReportInputs.{report_input_stages}
 use Rattle.am_reports.specs.Linting.{lint_promise, later_stages}
-use Rattle.am_reports.proofs.LintStages.{first_behind_inputs}
+use Rattle.am_reports.proofs.InputStages.{first_behind_report_inputs}
 use Rattle.am_reports.proofs.linting.lint.Goals as goal
 
 pub returns-in_err-read : goal.returns-in_err-read
@@ -16,7 +16,7 @@ returns-in_err-read g c =
     record {
       kept = refused (lint_promise inputs) fault c.from_residual.result refl
           c.from_residual.ensures.1
-          (λ remembered. first_of_more (lint_input_stages inputs) (later_stages inputs)
+          (λ remembered. first_of_more (report_input_stages inputs) (later_stages inputs)
           fault.place (refusal_of fault) (c.in_err-read.ensures.first remembered));
     }
 
@@ -29,7 +29,7 @@ returns-in_err-lint g c =
     record {
       kept = refused (lint_promise inputs) fault c.from_residual-in_err-lint.result refl
           c.from_residual-in_err-lint.ensures.1
-          (λ remembered. first_behind_inputs inputs read.space (config_view read.config)
+          (λ remembered. first_behind_report_inputs inputs read.space (config_view read.config)
           (later_stages inputs) fault.place (refusal_of fault) accepts
           (c.in_err-lint.ensures.first accepts remembered));
     }

@@ -1,8 +1,8 @@
 -- Where nothing is lacking at each label; and what is refused for the first at which something is.
-use Rattle.std.proofs.Common.{◌≡◌, ◌≢◌, ◌<◌, List, length, Some, slice_get, sym, ◌∙◌, subst, arith}
+use Rattle.std.proofs.Common.{◌≡◌, ◌≢◌, ◌<◌, ℕ, List, length, string_bytes, Some, slice_get}
+use Rattle.std.proofs.Common.{sym, ◌∙◌, subst, arith}
 use Rattle.std.proofs.lemmas.Option.{get_or_from_slice_get}
 use Rattle.am_json.specs.Reading.{refusal_of}
-use Rattle.am_files.specs.ConfigView.{config_view}
 use Rattle.am_eval.proofs.FirstFaults.{handed_on}
 use Rattle.am_universe.specs.declared.kind.Kind.TheVariants as kinds
 use Rattle.am_universe.specs.Universe.{Label, IsUniverse}
@@ -10,43 +10,40 @@ use Rattle.am_complete.specs.declared.label_state.LabelState.{LabelState}
 use Rattle.am_complete.specs.AskedLabel.{AskedLabel, IsAskedOf}
 use Rattle.am_complete.specs.LabelState.{IsSoAt}
 use Rattle.am_complete.proofs.Pushed.{one_more_passes}
-use Rattle.am_every_alert.specs.Deciding.{coverage_conditions}
-use Rattle.am_reports.specs.Made.{labels_of_routes, IsDeclaredRefusal, IsDeclaredWhole}
+use Rattle.am_reports.specs.Configurations.{routing_conditions, labels_of_routes}
+use Rattle.am_reports.specs.ConfigsView.{configurations_of}
+use Rattle.am_reports.specs.Made.{IsDeclaredRefusal, IsDeclaredWhole, IsStateRefusal}
 use Rattle.am_reports.proofs.RoutesAsked.{lists_decide}
 use Rattle.am_reports.proofs.DeclaredStates.{there_is, told_at, whole_by, refused_by}
 use Rattle.am_reports.proofs.made.check_declared.Goals as goal
-use Rattle.am_reports.proofs.made.check_declared.Goals.{In-Ok, After-index}
-
--- the labels are those that matchers ask of which decide
-is_asked : (c : In-Ok) → IsAskedOf c.in-Ok.asked.items
-    (coverage_conditions c.args.space.now (config_view c.args.config.now))
-is_asked c = rw (← c.impossible.ensures.lists) c.in-Ok.ensures.asked
+use Rattle.am_reports.proofs.made.check_declared.Goals.{After-index}
 
 pub label_states-requires : goal.label_states-requires
 label_states-requires c =
     let s = c.args.space.now in
-    let config = config_view c.args.config.now in (
-      coverage_conditions s config,
-      rw (c.as_slice.ensures.value) (is_asked (goal.at.label_states-requires c).In-Ok),
-      lists_decide s config,
+    let k = configurations_of c.args.configs in (
+      routing_conditions s k,
+      rw (c.as_slice.ensures.value) c.in-Ok.ensures.asked,
+      lists_decide s k,
     )
 
 -- the label there, and what is so of it
 here : (c : After-index) → (l : Label) × (slice_get c.args.space.now.labels c.loop-i.i ≡ Some l)
+    × (string_bytes c.index.result.now.name ≡ l.name)
     × IsSoAt c.args.alphabet c.args.space.now
-    (coverage_conditions c.args.space.now (config_view c.args.config.now))
-    (labels_of_routes (config_view c.args.config.now) c.args.space.now.impossible) l.name
+    (routing_conditions c.args.space.now (configurations_of c.args.configs))
+    (labels_of_routes (configurations_of c.args.configs) c.args.space.now.impossible) l.name
     c.index.result.now.completeness
 here c =
     let s = c.args.space.now in
-    let config = config_view c.args.config.now in
-    let ms = coverage_conditions s config in
+    let k = configurations_of c.args.configs in
+    let ms = routing_conditions s k in
     let states = c.in-Ok-label_states.states.items in
     let i = c.loop-i.i in
-    let asked : c.as_slice.result.now ≡ labels_of_routes config s.impossible =
-    c.as_slice.ensures.value ∙ rw (← c.impossible.ensures.lists) c.in-Ok.ensures.labels in
+    let asked : c.as_slice.result.now ≡ labels_of_routes k s.impossible =
+    c.as_slice.ensures.value ∙ c.in-Ok.ensures.labels in
     let of : IsAskedOf c.as_slice.result.now ms =
-    rw (c.as_slice.ensures.value, ← c.impossible.ensures.lists) c.in-Ok.ensures.asked in
+    rw (c.as_slice.ensures.value) c.in-Ok.ensures.asked in
     let is : IsUniverse s.labels = rw (← c.universe.ensures.labels) c.len-i-end.ensures.universe in
     let within : i < length s.labels =
     subst (λ (u : List Label). i < length u) c.universe.ensures.labels
@@ -58,32 +55,35 @@ here c =
     sym (get_or_from_slice_get states i told.0 c.index.result.now told.1) ∙ sym c.index.ensures in (
       l.0,
       l.1,
+      subst (λ (state : LabelState). string_bytes state.name ≡ l.0.name) same told.2,
       subst (λ (state : LabelState). IsSoAt c.args.alphabet s ms
-          (labels_of_routes config s.impossible) l.0.name state.completeness) same
+          (labels_of_routes k s.impossible) l.0.name state.completeness) same
           (subst (λ (ls : List AskedLabel). IsSoAt c.args.alphabet s ms ls l.0.name
-          told.0.completeness) asked told.2),
+          told.0.completeness) asked told.3),
     )
 
 pub returns-in_err-check_state-clause-refused : goal.returns-in_err-check_state-clause-refused
 returns-in_err-check_state-clause-refused c =
     let s = c.args.space.now in
-    let config = config_view c.args.config.now in
+    let k = configurations_of c.args.configs in
     let a = c.args.alphabet in
     let fault = c.in_err-check_state.field-0.0 in
     let l = here (goal.at.returns-in_err-check_state-clause-refused c).After-index in
-    handed_on (λ f. f.kind ≢ kinds.Memory → IsDeclaredRefusal a s config f.place (refusal_of f))
+    handed_on (λ f. f.kind ≢ kinds.Memory → IsDeclaredRefusal a s k f.place (refusal_of f))
     fault c.from_residual.result c.from_residual.ensures.1
-    (λ remembered. refused_by a s config c.loop-i.i l.0 c.index.result.now.completeness fault.place
+    (λ remembered. refused_by a s k c.loop-i.i l.0 c.index.result.now.completeness fault.place
     (refusal_of fault) l.1 c.loop-i.invariant
-    (c.in_err-check_state.ensures.refused remembered) l.2)
+    (subst (λ (name : List ℕ).
+    IsStateRefusal k c.loop-i.i name c.index.result.now.completeness fault.place (refusal_of fault))
+    l.2 (c.in_err-check_state.ensures.refused remembered)) l.3)
 
 pub loop-i-preserved : goal.loop-i-preserved
 loop-i-preserved c =
     let s = c.args.space.now in
-    let config = config_view c.args.config.now in
+    let k = configurations_of c.args.configs in
     let a = c.args.alphabet in
     let l = here (goal.at.loop-i-preserved c).After-index in
     let is : IsUniverse s.labels = rw (← c.universe.ensures.labels) c.len-i-end.ensures.universe in
-    one_more_passes (IsDeclaredWhole a s config) s.labels c.loop-i.i l.0 l.1 c.loop-i.invariant
-    (whole_by a s (coverage_conditions s config) (labels_of_routes config s.impossible) l.0.name
-    c.index.result.now.completeness is c.in_ok-check_state.ensures.settled l.2)
+    one_more_passes (IsDeclaredWhole a s k) s.labels c.loop-i.i l.0 l.1 c.loop-i.invariant
+    (whole_by a s (routing_conditions s k) (labels_of_routes k s.impossible) l.0.name
+    c.index.result.now.completeness is c.in_ok-check_state.ensures.settled l.3)

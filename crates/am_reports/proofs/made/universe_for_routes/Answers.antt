@@ -6,34 +6,23 @@ use Rattle.std.proofs.lemmas.Option.{slice_get_read}
 use Rattle.am_universe.specs.declared.kind.Kind.{Kind}
 use Rattle.am_universe.specs.declared.kind.Kind.TheVariants as kinds
 use Rattle.am_labels.specs.Space.{Space}
-use Rattle.am_files.specs.ConfigView.{config_view}
-use Rattle.am_complete.specs.AskedLabel.{AskedLabel, IsAskedOf}
-use Rattle.am_complete.specs.Covering.{IsLimitOrMemory}
+use Rattle.am_complete.specs.AskedLabel.{AskedLabel}
+use Rattle.am_complete.specs.Covering.{IsLimitOrMemory, AddsNeeded}
 use Rattle.am_complete.specs.Room.{HaveNoRoom, AreUnproved}
 use Rattle.am_universe_command.specs.Universes.{HaveRoomBut}
 use Rattle.am_universe_command.proofs.UniverseStages.{refused_here}
-use Rattle.am_every_alert.specs.Deciding.{coverage_conditions}
-use Rattle.am_reports.specs.Made.{labels_of_routes}
+use Rattle.am_reports.specs.Configurations.{routing_conditions, labels_of_routes}
+use Rattle.am_reports.specs.ConfigsView.{configurations_of}
 use Rattle.am_reports.proofs.RoutesAsked.{undeclared_is, lists_decide}
 use Rattle.am_reports.proofs.made.universe_for_routes.Goals as goal
-use Rattle.am_reports.proofs.made.universe_for_routes.Goals.{In-Ok}
-
--- the labels are those that matchers ask of which decide
-is_asked : (c : In-Ok) → IsAskedOf c.in-Ok.asked.items
-    (coverage_conditions c.args.space.now (config_view c.args.config.now))
-is_asked c = rw (← c.impossible.ensures.lists) c.in-Ok.ensures.asked
-
-are_asked : (c : In-Ok) → c.in-Ok.asked.items
-    ≡ labels_of_routes (config_view c.args.config.now) c.args.space.now.impossible
-are_asked c = rw (← c.impossible.ensures.lists) c.in-Ok.ensures.labels
 
 pub universe_beside-requires : goal.universe_beside-requires
 universe_beside-requires c =
     let s = c.args.space.now in
-    let config = config_view c.args.config.now in (
-      coverage_conditions s config,
-      rw (c.as_slice.ensures.value) (is_asked (goal.at.universe_beside-requires c).In-Ok),
-      lists_decide s config,
+    let k = configurations_of c.args.configs in (
+      routing_conditions s k,
+      rw (c.as_slice.ensures.value) c.in-Ok.ensures.asked,
+      lists_decide s k,
     )
 
 -- a fault that is not of memory is that there is no room
@@ -48,16 +37,15 @@ returns-in-Err-clause-refused c = λ remembered.
     (λ memory. remembered (c.at.ensures.kind ∙ memory)) in
     let place = c.at.ensures.place (λ e. let both : kinds.Limit ≡ kinds.Memory = sym limit ∙ e in cc both)
     (λ e. let both : kinds.Limit ≡ kinds.Write = sym limit ∙ e in cc both) in
-    let asked = c.as_slice.ensures.value
-    ∙ are_asked (goal.at.returns-in-Err-clause-refused c).In-Ok in
+    let asked = c.as_slice.ensures.value ∙ c.in-Ok.ensures.labels in
     let full : HaveNoRoom c.args.alphabet s
-    (labels_of_routes (config_view c.args.config.now) s.impossible) =
+    (labels_of_routes (configurations_of c.args.configs) s.impossible) =
     rw asked at (c.in-Err.ensures.limit limit) in
     inl (
       place,
       (
         subst (λ (t : Space). HaveNoRoom c.args.alphabet t
-            (labels_of_routes (config_view c.args.config.now) s.impossible))
+            (labels_of_routes (configurations_of c.args.configs) s.impossible))
             (undeclared_is s c.requires) full,
         refused_here c.at.result kinds.Limit (c.at.ensures.kind ∙ limit) c.at.ensures.pointer,
       ),
@@ -76,14 +64,15 @@ none_first (x ∷ xs) none = cc none
 pub returns-in-Some-clause-refused : goal.returns-in-Some-clause-refused
 returns-in-Some-clause-refused c = λ remembered.
     let s = c.args.space.now in
-    let config = config_view c.args.config.now in
+    let k = configurations_of c.args.configs in
     let a = c.args.alphabet in
-    let told = rw (c.first-in-Some.ensures.first) at (c.unproved_fault.ensures.refusal remembered) in
+    let told = rw (c.first-in-Some.ensures.first, c.name.ensures.name)
+    at (c.unproved_label.ensures.refusal remembered) in
     let made = c.in-Ok-universe_beside.made in
     let is = c.in-Ok-universe_beside.ensures in
-    let label = c.index.result.now in
+    let label = c.index-label.result.now in
     let position = c.in-Some.position.now in
-    let these = are_asked (goal.at.returns-in-Some-clause-refused c).In-Ok in
+    let these = c.in-Ok.ensures.labels in
     let asked = c.as_slice.ensures.value ∙ these in
     let bare = undeclared_is s c.requires in
     let first : slice_get made.unproved.items 0 ≡ Some position =
@@ -91,22 +80,22 @@ returns-in-Some-clause-refused c = λ remembered.
     let within : position < length c.in-Ok.asked.items =
     all_first (λ i. i < length c.in-Ok.asked.items) made.unproved.items position
     (rw c.as_slice.ensures.value at is.within) first in
-    let unproved : AreUnproved a s (labels_of_routes config s.impossible) made.unproved.items =
+    let unproved : AreUnproved a s (labels_of_routes k s.impossible) made.unproved.items =
     rw asked at is.unproved in
-    let room : HaveRoomBut a s (labels_of_routes config s.impossible) made.unproved.items =
+    let room : HaveRoomBut a s (labels_of_routes k s.impossible) made.unproved.items =
     (made.universe, is.universe, is.keeps, rw asked at is.covers) in
     inr (record {
       unproved = made.unproved.items;
       labels = subst (λ (t : Space).
-          AreUnproved a t (labels_of_routes config s.impossible) made.unproved.items) bare unproved;
+          AreUnproved a t (labels_of_routes k s.impossible) made.unproved.items) bare unproved;
       room = subst (λ (t : Space).
-          HaveRoomBut a t (labels_of_routes config s.impossible) made.unproved.items) bare room;
+          HaveRoomBut a t (labels_of_routes k s.impossible) made.unproved.items) bare room;
       position = position;
       first = first;
       label = label;
       asked = subst (λ (ls : List AskedLabel). slice_get ls position ≡ Some label) these
           (slice_get_read c.in-Ok.asked.items (length c.in-Ok.asked.items) position label refl
-          within c.index.ensures);
+          within c.index-label.ensures);
       stands = told.0;
       refusal = told.1;
     })
@@ -114,7 +103,7 @@ returns-in-Some-clause-refused c = λ remembered.
 pub returns-clause-stands : goal.returns-clause-stands
 returns-clause-stands c =
     let s = c.args.space.now in
-    let config = config_view c.args.config.now in
+    let k = configurations_of c.args.configs in
     let made = c.in-Ok-universe_beside.made in
     let is = c.in-Ok-universe_beside.ensures in
     let none : made.unproved.items ≡ [] =
@@ -122,7 +111,10 @@ returns-clause-stands c =
     (sym (rw c.deref.ensures.value at c.in_default-first.ensures.value)) in
     record {
       universe = is.universe;
-      complete = is.complete none (coverage_conditions s config)
-          (rw (c.as_slice.ensures.value) (is_asked (goal.at.returns-clause-stands c).In-Ok));
+      complete = is.complete none (routing_conditions s k)
+          (rw (c.as_slice.ensures.value) c.in-Ok.ensures.asked);
       over = is.over (rw c.requires tt);
+      adds = subst (λ (t : Space). AddsNeeded c.args.alphabet t (routing_conditions s k)
+          made.universe) (undeclared_is s c.requires)
+          (is.adds (routing_conditions s k) (rw (c.as_slice.ensures.value) c.in-Ok.ensures.asked));
     }

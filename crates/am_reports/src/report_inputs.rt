@@ -1,9 +1,9 @@
-//! What `lint` looks at.
+//! What a report on one configuration is made of.
 
 ghost use Rattle.std.specs.Prelude.{◌≡◌, IfOk, IfErr, option_copied};
 ghost use Rattle.am_files.specs.Words.{config_view};
 ghost use Rattle.am_eval.specs.Words.{IsFirstFault};
-ghost use Rattle.am_reports.specs.LintInputs.{AcceptsLintInputs, lint_input_stages};
+ghost use Rattle.am_reports.specs.ReportInputs.{AcceptsReportInputs, report_input_stages};
 
 use am_files::{Config, read_config};
 use am_labels::{Fault, Space};
@@ -11,9 +11,9 @@ use am_universe_command::read_universe_if_any;
 use std::alloc::Global;
 use std::marker::Model;
 
-/// What `lint` looks at.
+/// What a report on one configuration is made of: the input of `lint` and `outcomes`.
 #[derive(Drop)]
-pub struct LintInputs<'a> {
+pub struct ReportInputs<'a> {
     /// The bytes of a universe file, whose impossible lists count.
     pub universe: Option<&'a [u8]>,
     /// The bytes of the configuration file.
@@ -22,11 +22,11 @@ pub struct LintInputs<'a> {
     pub ascii: bool,
 }
 
-impl<'a> Model for LintInputs<'a> {
+impl<'a> Model for ReportInputs<'a> {
     ghost use Rattle.std.specs.Prelude.{option_copied};
-    ghost use Rattle.am_reports.specs.LintInputs as spec;
+    ghost use Rattle.am_reports.specs.ReportInputs as spec;
 
-    ghost Value = { spec.LintInputs };
+    ghost Value = { spec.ReportInputs };
 
     ghost view = { λ inputs. record {
       universe = option_copied inputs.universe;
@@ -44,10 +44,10 @@ pub(crate) struct ReadInputs {
 
 /// Reads the universe file, if there is one, and then the configuration file. The first fault is
 /// the one answered.
-pub(crate) fn read_inputs(alloc: Global, inputs: &LintInputs<'_>) -> Result<ReadInputs, Fault>
+pub(crate) fn read_inputs(alloc: Global, inputs: &ReportInputs<'_>) -> Result<ReadInputs, Fault>
     ensures accepts { IfOk result (λ read.
-        AcceptsLintInputs inputs.now read.space (config_view read.config)) }
-    ensures first { IfErr result (IsFirstFault (lint_input_stages inputs.now)) }
+        AcceptsReportInputs inputs.now read.space (config_view read.config)) }
+    ensures first { IfErr result (IsFirstFault (report_input_stages inputs.now)) }
 {
     let (space, _texts) = read_universe_if_any(alloc, inputs.universe)?;
     let config = read_config(alloc, inputs.config)?;

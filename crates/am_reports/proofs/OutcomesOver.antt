@@ -1,0 +1,159 @@
+-- The outcomes of a space that stands for the alerts that count are those of these alerts.
+use Rattle.std.proofs.Common.{◌≡◌, Bool, ℕ, List, [], ◌∷◌, map, Contains, refl, sym, subst, ◌∙◌}
+use Rattle.std.specs.Cmp.Lexicographic.{bytes_decides}
+use lib.Pointwise.{pointwise_decides}
+use Rattle.am_universe.specs.declared.kind.Kind.TheVariants as kinds
+use Rattle.am_universe.specs.Universe.{Label}
+use Rattle.am_universe.specs.LabelSet.{LabelMap, label_set_of}
+use Rattle.am_universe.proofs.ListLemmas.{IsIn, IsIn-map, IsIn-unmap, IsIn-from_Contains}
+use Rattle.am_universe.proofs.ListLemmas.{Contains-from_IsIn, AllByRecursion-each}
+use Rattle.am_labels.specs.Matcher.{Condition}
+use Rattle.am_labels.specs.Space.{Space, all_choices}
+use Rattle.am_labels.proofs.SpaceLaws.{space_choices}
+use Rattle.am_json.specs.Pointer.{Refusal, refusal_here}
+use Rattle.am_files.specs.ConfigFile.{Configuration}
+use Rattle.am_classes.specs.declared.alphabet.Alphabet.{Alphabet}
+use Rattle.am_complete.specs.Complete.{impossible_conditions}
+use Rattle.am_asked.specs.Asked.{route_conditions}
+use Rattle.am_every_alert.specs.EveryAlert.{MeetsTheSame}
+use Rattle.am_every_alert.specs.Deciding.{coverage_conditions}
+use Rattle.am_every_alert.proofs.UniverseAlerts.{universe_alert}
+use Rattle.am_every_alert.proofs.SpaceAlerts.{space_choice}
+use Rattle.am_every_alert.proofs.SameFate.{front_met, rest_met, same_receivers, same_possible}
+use Rattle.am_lint.specs.Findings.{alphabet_of, Counts}
+use Rattle.am_outcomes.specs.Outcomes.{fate, same_fate, with_fate, outcomes_of}
+use Rattle.am_outcomes.specs.States.{HaveManyStates}
+use Rattle.am_outcomes.proofs.FirstsLemmas.{Decides, first_is_one, first_of_key, firsts_apart}
+use Rattle.am_reports.specs.Configurations.{Configurations, One, Pair, each_of}
+use Rattle.am_reports.specs.Configurations.{routing_conditions}
+use Rattle.am_reports.specs.Made.{StandsForAll}
+use Rattle.am_reports.specs.LaterStages.{TooManyStatesFor}
+use Rattle.am_reports.specs.AllOutcomes.{AreAllOutcomes, IsOutcome, fates}
+use Rattle.am_reports.proofs.RoutesAsked.{stands_as}
+
+-- the labels of one space, beside what another one calls impossible
+abbrev pub beside : List (List Condition) → List Label → Space
+beside lists u = record { labels = u; impossible = lists }
+
+pub fate_decides : Decides same_fate
+fate_decides = pointwise_decides bytes_decides
+
+-- ---- What meets the same of the matchers has the same fate.
+
+module _ (s : Space) (set alert : LabelMap) where
+  one_met : (c : Configuration) → MeetsTheSame (coverage_conditions s c) set alert
+      → fate (c ∷ []) set ≡ fate (c ∷ []) alert
+  one_met c met =
+      let routes = route_conditions c.root in
+      let lists = impossible_conditions s.impossible in
+      let same = same_receivers set alert c (front_met set alert routes lists met) in
+      λ i. same i ∷ []
+
+  fate_met : (k : Configurations) → MeetsTheSame (routing_conditions s k) set alert
+      → fate (each_of k) set ≡ fate (each_of k) alert
+  fate_met (One c) met = one_met c met
+  fate_met (Pair old new) met =
+      let routes = route_conditions old.root in
+      let behind = coverage_conditions s new in
+      let first = same_receivers set alert old (front_met set alert routes behind met) in
+      let second = one_met new (rest_met set alert routes behind met) in
+      λ i. first i ∷ second i
+
+  lists_met : (k : Configurations) → MeetsTheSame (routing_conditions s k) set alert
+      → MeetsTheSame (impossible_conditions s.impossible) set alert
+  lists_met (One c) met =
+      rest_met set alert (route_conditions c.root) (impossible_conditions s.impossible) met
+  lists_met (Pair old new) met =
+      rest_met set alert (route_conditions new.root) (impossible_conditions s.impossible)
+      (rest_met set alert (route_conditions old.root) (coverage_conditions s new) met)
+
+-- ---- The outcomes.
+
+module _ (ascii : Bool) (s : Space) (k : Configurations) (u : List Label)
+    (stands : StandsForAll (alphabet_of ascii) s k u) where
+  abbrev made : Space
+  made = beside s.impossible u
+
+  abbrev with_fates : List (List (List ℕ) × List ℕ)
+  with_fates = map (with_fate made (each_of k)) (all_choices made)
+
+  choice_counts : (choice : List ℕ) → IsIn (all_choices made) choice
+      → Counts ascii s (label_set_of u choice)
+  choice_counts choice there =
+      let is = (space_choices made choice).0 (Contains-from_IsIn (all_choices made) choice there) in
+      (universe_alert (alphabet_of ascii) u choice stands.universe stands.over, is.1)
+
+  is_outcome : (outcome : List (List ℕ) × List ℕ) → IsIn (outcomes_of made (each_of k)) outcome
+      → IsOutcome ascii s u (each_of k) outcome
+  is_outcome outcome there =
+      let from = IsIn-unmap (with_fate made (each_of k)) (all_choices made) outcome
+      (first_is_one same_fate with_fates outcome there) in
+      subst (IsOutcome ascii s u (each_of k)) from.2 (choice_counts from.0 from.1, refl)
+
+  choice_of : (alert : LabelMap) → Counts ascii s alert
+      → (choice : List ℕ) × IsIn (all_choices made) choice
+      × (fate (each_of k) (label_set_of u choice) ≡ fate (each_of k) alert)
+  choice_of alert counts =
+      let ms = routing_conditions made k in
+      let r = space_choice (alphabet_of ascii) made ms alert stands.universe stands.complete counts
+      in
+      let set = label_set_of u r.0 in
+      let possible = same_possible set alert s.impossible (lists_met made set alert k r.2) in
+      let there = (space_choices made r.0).1 (r.1, possible ∙ counts.1) in (
+        r.0,
+        IsIn-from_Contains (all_choices made) r.0 there,
+        fate_met made set alert k r.2,
+      )
+
+  has_fate : (alert : LabelMap) → Counts ascii s alert
+      → Contains (fates (outcomes_of made (each_of k))) (fate (each_of k) alert)
+  has_fate alert counts =
+      let outcomes = outcomes_of made (each_of k) in
+      let choice = choice_of alert counts in
+      let one = with_fate made (each_of k) choice.0 in
+      let there : IsIn with_fates one =
+      IsIn-map (with_fate made (each_of k)) (all_choices made) choice.0 choice.1 in
+      let first = first_of_key same_fate fate_decides with_fates one there in
+      let same : first.0.0 ≡ fate (each_of k) alert = first.2 ∙ choice.2 in
+      subst (Contains (fates outcomes)) same
+      (Contains-from_IsIn (fates outcomes) first.0.0
+      (IsIn-map (λ outcome. outcome.0) outcomes first.0 first.1))
+
+  pub outcomes_are : (outcomes : List (List (List ℕ) × List ℕ))
+      → outcomes ≡ outcomes_of made (each_of k) → AreAllOutcomes ascii s k u outcomes
+  outcomes_are outcomes order =
+      let all : AreAllOutcomes ascii s k u (outcomes_of made (each_of k)) = record {
+        stands = stands;
+        order = refl;
+        each = AllByRecursion-each (IsOutcome ascii s u (each_of k))
+            (outcomes_of made (each_of k)) is_outcome;
+        all = has_fate;
+        once = firsts_apart same_fate fate_decides with_fates;
+      } in
+      subst (AreAllOutcomes ascii s k u) (sym order) all
+
+-- ---- Of a space with the same impossible lists.
+
+pub outcomes_over : (ascii : Bool) (k : Configurations) (s t : Space)
+    (outcomes : List (List (List ℕ) × List ℕ)) → t.impossible ≡ s.impossible
+    → StandsForAll (alphabet_of ascii) s k t.labels → outcomes ≡ outcomes_of t (each_of k)
+    → AreAllOutcomes ascii s k t.labels outcomes
+outcomes_over ascii k s t outcomes same stands is =
+    outcomes_are ascii s k t.labels stands outcomes
+    (subst
+    (λ (lists : List (List Condition)). outcomes ≡ outcomes_of (beside lists t.labels) (each_of k))
+    same is)
+
+-- more states have to be told apart than there is room for
+pub too_many : (a : Alphabet) (k : Configurations) (s o t : Space) (u : List Label) (r : Refusal)
+    → o.impossible ≡ s.impossible → t.impossible ≡ o.impossible → t.labels ≡ u
+    → StandsForAll a o k u → HaveManyStates t (each_of k) → r ≡ refusal_here kinds.Limit
+    → TooManyStatesFor a s k r
+too_many a k s o t u r first second labels stands many refusal = record {
+  labels = t.labels;
+  stands = subst (StandsForAll a s k) (sym labels) (stands_as a k o s u first stands);
+  many = subst
+      (λ (lists : List (List Condition)). HaveManyStates (beside lists t.labels) (each_of k))
+      (second ∙ first) many;
+  refusal = refusal;
+}

@@ -1,0 +1,81 @@
+-- The inputs come before what is made of them, and what is written is the comparison.
+use Rattle.std.proofs.Common.{Ok, Err, refl, string_bytes}
+use Rattle.am_json.specs.Reading.{refusal_of}
+use Rattle.am_files.specs.ConfigView.{config_view}
+use Rattle.am_eval.proofs.FirstFaults.{first_of_more}
+use Rattle.am_eval.proofs.Promises.{refused, written}
+use Rattle.am_lint.specs.Findings.{alphabet_of}
+use Rattle.am_reports.specs.CompareInputs.{compare_input_stages, AcceptsCompare, compare_places}
+use Rattle.am_reports.specs.LaterStages.{outcome_stages}
+use Rattle.am_reports.specs.Comparing.{compare_promise}
+use Rattle.am_reports.proofs.InputStages.{first_behind_compare_inputs}
+use Rattle.am_reports.proofs.comparing.compare.Goals as goal
+
+pub returns-in_err-read : goal.returns-in_err-read
+returns-in_err-read g c =
+    let fault = c.in_err-read.field-0.0 in
+    let inputs = c.args.inputs.now in
+    let later = outcome_stages (AcceptsCompare inputs) compare_places (alphabet_of inputs.ascii) in
+    record {
+      kept = refused (compare_promise inputs) fault c.from_residual.result refl
+          c.from_residual.ensures.1
+          (λ remembered. first_of_more (compare_input_stages inputs) later fault.place
+          (refusal_of fault) (c.in_err-read.ensures.first remembered));
+    }
+
+pub returns-in_err-changes : goal.returns-in_err-changes
+returns-in_err-changes g c =
+    let fault = c.in_err-changes.field-0.0 in
+    let inputs = c.args.inputs.now in
+    let read = c.in_ok-read.read in
+    let accepts = c.in_ok-read.ensures.accepts in
+    let later = outcome_stages (AcceptsCompare inputs) compare_places (alphabet_of inputs.ascii) in
+    record {
+      kept = refused (compare_promise inputs) fault c.from_residual-in_err-changes.result refl
+          c.from_residual-in_err-changes.ensures.1
+          (λ remembered. first_behind_compare_inputs inputs read.space (config_view read.old)
+          (config_view read.new) later fault.place (refusal_of fault) accepts
+          (c.in_err-changes.ensures.first accepts remembered));
+    }
+
+pub returns-in-Ok : goal.returns-in-Ok
+returns-in-Ok g c =
+    let inputs = c.args.inputs.now in
+    let read = c.in_ok-read.read in
+    let changes = c.in_ok-changes.changes in
+    let accepts = c.in_ok-read.ensures.accepts in
+    let writes = rw c.as_str.ensures.value at c.in-Ok.ensures.written in
+    record {
+      kept = written (compare_promise inputs) changes.count (string_bytes changes.text)
+          (Ok changes.count) (Ok changes.count)
+          (record {
+            space = read.space;
+            old = config_view read.old;
+            new = config_view read.new;
+            accepts = accepts;
+            whole = c.in_ok-changes.ensures.whole accepts;
+            compares = c.in_ok-changes.ensures.compares;
+          })
+          refl (record { ok = writes.ok; err = tt }) refl;
+    }
+
+pub returns : goal.returns
+returns g c =
+    let inputs = c.args.inputs.now in
+    let read = c.in_ok-read.read in
+    let changes = c.in_ok-changes.changes in
+    let accepts = c.in_ok-read.ensures.accepts in
+    let writes = rw c.as_str.ensures.value at c.in-Err.ensures.written in
+    record {
+      kept = written (compare_promise inputs) changes.count (string_bytes changes.text)
+          (Err c.in-Err.field-0) (Err c.write.result)
+          (record {
+            space = read.space;
+            old = config_view read.old;
+            new = config_view read.new;
+            accepts = accepts;
+            whole = c.in_ok-changes.ensures.whole accepts;
+            compares = c.in_ok-changes.ensures.compares;
+          })
+          tt (record { ok = tt; err = writes.err }) c.write.ensures.kind;
+    }

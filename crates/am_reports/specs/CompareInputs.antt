@@ -1,0 +1,51 @@
+-- What `compare` is handed, when that is accepted, and the order of its faults. (This project's
+-- own.)
+use Rattle.std.specs.Prelude.{ℕ, List, [], ◌∷◌, Bool, Option}
+use Rattle.am_universe.specs.declared.place.Place.{Place}
+use Rattle.am_universe.specs.declared.place.Place.TheVariants as places
+use Rattle.am_labels.specs.Space.{Space}
+use Rattle.am_files.specs.ConfigFile.{Configuration, FileSaysConfig}
+use Rattle.am_files.specs.ConfigFaults.{ConfigFileRefusedFor}
+use Rattle.am_eval.specs.Faults.{Stage, SaysSomeConfig}
+use Rattle.am_universe_command.specs.UniverseInputs.{SaysUniverseIfAny, universe_stage_if_any}
+use Rattle.am_reports.specs.Configurations.{Configurations, One, Pair}
+
+-- The bytes of a universe file, if there is one, and those of the old and the new configuration
+-- file; and whether ordinary alerts count alone.
+pub record CompareInputs : Type 0 where
+  pub universe : Option (List ℕ)
+  pub old : List ℕ
+  pub new : List ℕ
+  pub ascii : Bool
+
+-- The files are accepted: they say the space, which without a universe file has no labels and in
+-- which nothing is impossible, and both configurations.
+pub record AcceptsCompareInputs (inputs : CompareInputs) (s : Space) (old new : Configuration)
+    : Type 0 where
+  pub says_universe : SaysUniverseIfAny inputs.universe s
+  pub says_old : FileSaysConfig inputs.old old
+  pub says_new : FileSaysConfig inputs.new new
+
+-- A configuration file whose faults stand at a place of its own.
+abbrev pub config_stage_at : Place → List ℕ → Stage
+config_stage_at place bytes = record {
+  place = place;
+  accepts = SaysSomeConfig bytes;
+  refuses = ConfigFileRefusedFor bytes;
+}
+
+abbrev pub compare_input_stages : CompareInputs → List Stage
+compare_input_stages inputs =
+    universe_stage_if_any inputs.universe
+    ∷ config_stage_at places.Old inputs.old
+    ∷ config_stage_at places.New inputs.new
+    ∷ []
+
+-- They say an old and a new configuration.
+abbrev pub AcceptsCompare : CompareInputs → Space → Configurations → Type 0
+AcceptsCompare inputs s (One c) = ⊥
+AcceptsCompare inputs s (Pair old new) = AcceptsCompareInputs inputs s old new
+
+-- The places of matchers that are looked at, in the order in which their faults come.
+abbrev pub compare_places : List Place
+compare_places = places.Old ∷ places.New ∷ places.Universe ∷ []

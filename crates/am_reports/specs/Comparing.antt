@@ -1,0 +1,80 @@
+-- What `compare` owes. (This project's own.)
+use Rattle.std.specs.Prelude.{◌≡◌, ◌⊎◌, ◌↔◌, ℕ, List, [], ◌∷◌, ◌++◌, Bool, length, Contains}
+use Rattle.std.specs.List.{AllByRecursion, IsDistinct}
+use Rattle.am_universe.specs.Universe.{Label}
+use Rattle.am_universe.specs.LabelSet.{LabelMap, label_set_of}
+use Rattle.am_labels.specs.Space.{Space}
+use Rattle.am_files.specs.ConfigFile.{Configuration}
+use Rattle.am_eval.specs.Promise.{Promise}
+use Rattle.am_eval.specs.Routing.{receivers}
+use Rattle.am_lint.specs.Findings.{alphabet_of, Counts}
+use Rattle.am_outcomes.specs.Outcomes.{fate, same_fate}
+use Rattle.am_outcomes.specs.OutcomeText.{names_of, changes_of, changes_text}
+use Rattle.am_reports.specs.Configurations.{Pair}
+use Rattle.am_reports.specs.CompareInputs.{CompareInputs, AcceptsCompareInputs}
+use Rattle.am_reports.specs.CompareInputs.{compare_input_stages, AcceptsCompare, compare_places}
+use Rattle.am_reports.specs.LaterStages.{outcome_stages}
+use Rattle.am_reports.specs.Made.{AreDeclaredWhole}
+use Rattle.am_reports.specs.AllOutcomes.{AreAllOutcomes, fates}
+
+-- An alert goes to receivers of the same names under both configurations.
+-- Source: own choice.
+-- Example: where the new configuration declares the same receivers in another order and has the
+-- same routes, each alert does.
+abbrev pub GoesTheSameWay : Configuration → Configuration → LabelMap → Type 0
+GoesTheSameWay old new alert =
+    names_of old (receivers alert old) ≡ names_of new (receivers alert new)
+
+-- The label set that is shown of a change is one of an alert that counts. It goes to these
+-- receivers under the old configuration and under the new one, and their names differ.
+abbrev pub IsChange : Bool → Space → List Label → Configuration → Configuration
+    → List (List ℕ) × List ℕ → Type 0
+IsChange ascii s u old new change =
+    Counts ascii s (label_set_of u change.1)
+    × (fate (old ∷ new ∷ []) (label_set_of u change.1) ≡ change.0)
+    × (GoesTheSameWay old new (label_set_of u change.1) → ⊥)
+
+-- The text is a comparison of two configurations, for the alerts of a space or the ordinary ones of
+-- them: a line for each outcome that is a change, and how many changes there are. What is shown of
+-- each change is so; each alert that counts goes to receivers of the same names under both
+-- configurations, or its fate is that of one of the changes; and no change is told twice. There is
+-- none exactly where every alert that counts goes to receivers of the same names under both.
+-- Source: own choice.
+-- Example: `"db-mail" -> "web-pager" {team="web"}` says that `{team="web"}` goes to `db-mail` under
+-- the old configuration, and to `web-pager` under the new one.
+pub record IsComparison (ascii : Bool) (s : Space) (old new : Configuration) (changes : ℕ)
+    (report : List ℕ) : Type 0 where
+  pub labels : List Label
+  pub outcomes : List (List (List ℕ) × List ℕ)
+  pub are : AreAllOutcomes ascii s (Pair old new) labels outcomes
+  pub each : AllByRecursion (IsChange ascii s labels old new) (changes_of old new outcomes)
+  pub all : (alert : LabelMap) → Counts ascii s alert
+      → GoesTheSameWay old new alert
+      ⊎ Contains (fates (changes_of old new outcomes)) (fate (old ∷ new ∷ []) alert)
+  pub once : IsDistinct same_fate (fates (changes_of old new outcomes))
+  pub none : (changes ≡ 0)
+      ↔ ((alert : LabelMap) → Counts ascii s alert → GoesTheSameWay old new alert)
+  pub counted : changes ≡ length (changes_of old new outcomes)
+  pub text : report ≡ changes_text labels old new outcomes
+
+-- The inputs are accepted, at the labels that the universe file declares nothing is lacking, and
+-- the text is a comparison of the configurations, for every alert that is possible; with `--ascii`
+-- for every one of these whose values are printable ASCII.
+pub record ComparesFiles (inputs : CompareInputs) (changes : ℕ) (report : List ℕ)
+    : Type 0 where
+  pub space : Space
+  pub old : Configuration
+  pub new : Configuration
+  pub accepts : AcceptsCompareInputs inputs space old new
+  pub whole : AreDeclaredWhole (alphabet_of inputs.ascii) space (Pair old new) space.labels
+  pub compares : IsComparison inputs.ascii space old new changes report
+
+-- What `compare` owes. It answers how many changes there are.
+-- Source: own choice.
+-- Example: where neither configuration is JSON, the first fault is the `not-json` of the old one.
+abbrev pub compare_promise : CompareInputs → Promise ℕ
+compare_promise inputs = record {
+  stages = compare_input_stages inputs
+      ++ outcome_stages (AcceptsCompare inputs) compare_places (alphabet_of inputs.ascii);
+  May = ComparesFiles inputs;
+}

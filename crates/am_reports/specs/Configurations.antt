@@ -1,0 +1,58 @@
+-- The configurations that a call is about, and what they ask of labels. (This project's own.)
+use Rattle.std.specs.Prelude.{ℕ, List, [], ◌∷◌, ◌++◌, Bool, if◌then◌else◌}
+use Rattle.std.specs.List.{list_any}
+use Rattle.am_universe.specs.declared.place.Place.{Place}
+use Rattle.am_universe.specs.declared.place.Place.TheVariants as places
+use Rattle.am_universe.specs.Text.{same_text}
+use Rattle.am_labels.specs.Matcher.{Condition}
+use Rattle.am_labels.specs.Space.{Space}
+use Rattle.am_files.specs.ConfigFile.{Configuration}
+use Rattle.am_complete.specs.declared.origin.Origin.{Origin}
+use Rattle.am_complete.specs.declared.origin.Origin.TheVariants as origin_is
+use Rattle.am_complete.specs.AskedLabel.{AskedLabel, asked_labels}
+use Rattle.am_asked.specs.Asked.{route_conditions}
+use Rattle.am_asked.specs.Placed.{placed_in_routes, placed_in_lists}
+use Rattle.am_universe_command.specs.Universes.{origin_place}
+use Rattle.am_every_alert.specs.Deciding.{coverage_conditions}
+
+-- One configuration; or an old one, and a new one that is compared with it.
+pub data Configurations : Type 0 where
+  One : Configuration → Configurations
+  Pair : Configuration → Configuration → Configurations
+
+-- Each of them, in order.
+abbrev pub each_of : Configurations → List Configuration
+each_of (One c) = c ∷ []
+each_of (Pair old new) = old ∷ new ∷ []
+
+-- The matchers that decide to which receivers a label set goes under each of them, and whether it
+-- is possible: those of the routes, and of the impossible lists.
+-- Source: own choice.
+-- Example: of an old configuration whose routes ask for `team="db"`, and a new one whose routes ask
+-- for `team="web"`, they are these two, where nothing is impossible.
+abbrev pub routing_conditions : Space → Configurations → List Condition
+routing_conditions s (One c) = coverage_conditions s c
+routing_conditions s (Pair old new) = route_conditions old.root ++ coverage_conditions s new
+
+-- The labels that their routes and impossible lists ask of, each with where it is first asked of.
+abbrev pub labels_of_routes : Configurations → List (List Condition) → List AskedLabel
+labels_of_routes (One c) impossible =
+    asked_labels (placed_in_routes c ++ placed_in_lists impossible)
+labels_of_routes (Pair old new) impossible =
+    asked_labels
+    (placed_in_routes old ++ (placed_in_routes new ++ placed_in_lists impossible))
+
+-- The routes of a configuration ask of a label of this name.
+abbrev pub asks_of : Configuration → List ℕ → Bool
+asks_of c name = list_any (λ l. same_text l.name name) (labels_of_routes (One c) [])
+
+-- The file in which the matcher stands that is the first on a label of this name, where that is one
+-- of a route or of an impossible list. Of two configurations it is the old one, if its routes ask
+-- of such a label at all.
+-- Source: own choice.
+-- Example: where both configurations have `team=~"\bdb"`, the place is `old`.
+abbrev pub first_place : Configurations → List ℕ → Origin → Place
+first_place (One c) name origin = origin_place origin
+first_place (Pair old new) name (origin_is.Route path) =
+    if asks_of old name then places.Old else places.New
+first_place (Pair old new) name origin = origin_place origin

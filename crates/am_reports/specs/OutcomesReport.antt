@@ -1,0 +1,45 @@
+-- What `outcomes` owes. (This project's own.)
+use Rattle.std.specs.Prelude.{◌≡◌, ℕ, List, ◌++◌, Bool, ⊤}
+use Rattle.am_universe.specs.Universe.{Label}
+use Rattle.am_labels.specs.Space.{Space}
+use Rattle.am_files.specs.ConfigFile.{Configuration}
+use Rattle.am_eval.specs.Promise.{Promise}
+use Rattle.am_lint.specs.Findings.{alphabet_of}
+use Rattle.am_outcomes.specs.OutcomeText.{outcomes_text}
+use Rattle.am_reports.specs.Configurations.{One}
+use Rattle.am_reports.specs.ReportInputs.{ReportInputs, AcceptsReportInputs}
+use Rattle.am_reports.specs.ReportInputs.{report_input_stages, AcceptsReport, report_places}
+use Rattle.am_reports.specs.LaterStages.{outcome_stages}
+use Rattle.am_reports.specs.Made.{AreDeclaredWhole}
+use Rattle.am_reports.specs.AllOutcomes.{AreAllOutcomes}
+
+-- The text is a report of the outcomes of a configuration, for the alerts of a space or the
+-- ordinary ones of them: a line for each outcome.
+-- Source: own choice.
+-- Example: `"db-mail" {team="db"}` says that `{team="db"}` goes to `db-mail`.
+pub record IsOutcomesReport (ascii : Bool) (s : Space) (c : Configuration) (report : List ℕ)
+    : Type 0 where
+  pub labels : List Label
+  pub outcomes : List (List (List ℕ) × List ℕ)
+  pub are : AreAllOutcomes ascii s (One c) labels outcomes
+  pub text : report ≡ outcomes_text labels c outcomes
+
+-- The inputs are accepted, at the labels that the universe file declares nothing is lacking, and
+-- the text is a report of the outcomes of the configuration, for every alert that is possible; with
+-- `--ascii` for every one of these whose values are printable ASCII.
+pub record ReportsOutcomes (inputs : ReportInputs) (report : List ℕ) : Type 0 where
+  pub space : Space
+  pub configuration : Configuration
+  pub accepts : AcceptsReportInputs inputs space configuration
+  pub whole : AreDeclaredWhole (alphabet_of inputs.ascii) space (One configuration) space.labels
+  pub reports : IsOutcomesReport inputs.ascii space configuration report
+
+-- What `outcomes` owes.
+-- Source: own choice.
+-- Example: where the configuration is no JSON, the first fault is its `not-json`.
+abbrev pub outcomes_promise : ReportInputs → Promise ⊤
+outcomes_promise inputs = record {
+  stages = report_input_stages inputs
+      ++ outcome_stages (AcceptsReport inputs) report_places (alphabet_of inputs.ascii);
+  May = λ _. ReportsOutcomes inputs;
+}

@@ -1,0 +1,37 @@
+-- What a report on one configuration is made of, when that is accepted, and the order of its
+-- faults. (This project's own.)
+use Rattle.std.specs.Prelude.{ℕ, List, [], ◌∷◌, Bool, Option}
+use Rattle.am_universe.specs.declared.place.Place.{Place}
+use Rattle.am_universe.specs.declared.place.Place.TheVariants as places
+use Rattle.am_labels.specs.Space.{Space}
+use Rattle.am_files.specs.ConfigFile.{Configuration, FileSaysConfig}
+use Rattle.am_eval.specs.Faults.{Stage, config_stage}
+use Rattle.am_universe_command.specs.UniverseInputs.{SaysUniverseIfAny, universe_stage_if_any}
+use Rattle.am_reports.specs.Configurations.{Configurations, One, Pair}
+
+-- The bytes of a universe file, if there is one, and those of the configuration file; and whether
+-- ordinary alerts count alone.
+pub record ReportInputs : Type 0 where
+  pub universe : Option (List ℕ)
+  pub config : List ℕ
+  pub ascii : Bool
+
+-- The files are accepted: they say the space, which without a universe file has no labels and in
+-- which nothing is impossible, and the configuration.
+pub record AcceptsReportInputs (inputs : ReportInputs) (s : Space) (c : Configuration)
+    : Type 0 where
+  pub says_universe : SaysUniverseIfAny inputs.universe s
+  pub says_config : FileSaysConfig inputs.config c
+
+abbrev pub report_input_stages : ReportInputs → List Stage
+report_input_stages inputs =
+    universe_stage_if_any inputs.universe ∷ config_stage inputs.config ∷ []
+
+-- They say one configuration.
+abbrev pub AcceptsReport : ReportInputs → Space → Configurations → Type 0
+AcceptsReport inputs s (One c) = AcceptsReportInputs inputs s c
+AcceptsReport inputs s (Pair old new) = ⊥
+
+-- The places of matchers that are looked at, in the order in which their faults come.
+abbrev pub report_places : List Place
+report_places = places.Config ∷ places.Universe ∷ []

@@ -1,0 +1,91 @@
+//! What becomes of every alert.
+
+ghost use Rattle.std.specs.Prelude.{◌≡◌, ◌≢◌, true, IfOk, IfErr, is_some};
+ghost use Rattle.am_universe.specs.declared.kind.Kind.TheVariants as kinds;
+ghost use Rattle.am_universe.specs.declared.place.Place.TheVariants as places;
+ghost use Rattle.am_json.specs.Pointer.{refusal_here};
+ghost use Rattle.am_json.specs.Reading.{refusal_of};
+ghost use Rattle.am_outcomes.specs.Words.{outcomes_of, HaveManyStates};
+ghost use Rattle.am_reports.specs.Configurations.{each_of};
+ghost use Rattle.am_reports.specs.ConfigsView.{configurations_of};
+ghost use Rattle.am_reports.specs.Made.{StandsForAll, AreDeclaredWhole};
+ghost use Rattle.am_reports.specs.LaterStages.{IsOutcomesRefusal};
+
+use crate::configs::Configs;
+use crate::made::{check_declared, universe_for_routes};
+use am_classes::Alphabet;
+use am_labels::{Fault, Kind, Place, Space, Universe};
+use am_outcomes::{Outcomes, find_outcomes};
+use std::alloc::Global;
+
+/// Outcomes, and the space of whose choices they are.
+#[derive(Drop)]
+pub(crate) struct AllOutcomes {
+    pub space: Space,
+    pub outcomes: Outcomes,
+}
+
+/// The outcomes of every alert over an alphabet, under each of some configurations. Labels that are
+/// declared are looked at first.
+///
+/// Refused as [`check_declared`] and [`universe_for_routes`] have it, and then with `Limit`, at
+/// `Universe`, where more states have to be told apart than there is room for; `Memory`.
+pub(crate) fn all_outcomes(
+    alloc: Global,
+    alphabet: Alphabet,
+    is_declared: bool,
+    space: Space,
+    configs: Configs<'_>,
+) -> Result<AllOutcomes, Fault>
+    ensures whole { IfOk result (λ all. is_declared ≡ true
+        → AreDeclaredWhole alphabet space (configurations_of configs.entry) space.labels) }
+    ensures stands { IfOk result (λ all.
+        StandsForAll alphabet space (configurations_of configs.entry) all.space.labels) }
+    ensures impossible { IfOk result (λ all. all.space.impossible ≡ space.impossible) }
+    ensures outcomes { IfOk result (λ all.
+        all.outcomes ≡ outcomes_of all.space (each_of (configurations_of configs.entry))) }
+    ensures refused { IfErr result (λ fault. fault.kind ≢ kinds.Memory
+        → IsOutcomesRefusal (is_declared ≡ true → AreDeclaredWhole alphabet space
+        (configurations_of configs.entry) space.labels) alphabet space
+        (configurations_of configs.entry) fault.place (refusal_of fault)) }
+{
+    let mut made = space;
+    if is_declared {
+        check_declared(alloc, alphabet, &made, configs)?;
+    }
+    made.declare(Universe::empty(alloc));
+    let universe = universe_for_routes(alloc, alphabet, &made, configs)?;
+    made.declare(universe);
+    let outcomes = outcomes_told_apart(alloc, &made, configs)?;
+    Ok(AllOutcomes {
+        space: made,
+        outcomes,
+    })
+}
+
+/// The outcomes of the choices of a space.
+///
+/// `Limit`, at `Universe`, where more states have to be told apart than there is room for;
+/// `Memory`.
+fn outcomes_told_apart(
+    alloc: Global,
+    space: &Space,
+    configs: Configs<'_>,
+) -> Result<Outcomes, Fault>
+    ensures outcomes { IfOk result (λ outcomes.
+        outcomes ≡ outcomes_of space.now (each_of (configurations_of configs.entry))) }
+    ensures refused { IfErr result (λ fault. fault.kind ≢ kinds.Memory
+        → (fault.place ≡ places.Universe)
+        × HaveManyStates space.now (each_of (configurations_of configs.entry))
+        × (refusal_of fault ≡ refusal_here kinds.Limit)) }
+{
+    let found = match configs {
+        Configs::One(config) => find_outcomes(alloc, space, &[config]),
+        Configs::Pair(old, new) => find_outcomes(alloc, space, &[old, new]),
+    };
+    match found {
+        Ok(Some(found)) => Ok(found),
+        Ok(None) => Err(Fault::at(alloc, Kind::Limit, Place::Universe)),
+        Err(_) => Err(Fault::memory(alloc)),
+    }
+}

@@ -1,0 +1,72 @@
+//! What `compare` looks at.
+
+ghost use Rattle.std.specs.Prelude.{◌≡◌, IfOk, IfErr, option_copied};
+ghost use Rattle.am_json.specs.Words.{IsRefusalAt};
+ghost use Rattle.am_files.specs.Words.{config_view, FileSaysConfig, ConfigFileRefusedFor};
+ghost use Rattle.am_eval.specs.Words.{IsFirstFault};
+ghost use Rattle.am_reports.specs.CompareInputs.{AcceptsCompareInputs, compare_input_stages};
+
+use am_files::{Config, read_config};
+use am_labels::{Fault, Place, Space};
+use am_universe_command::read_universe_if_any;
+use std::alloc::Global;
+use std::marker::Model;
+
+/// What `compare` looks at.
+#[derive(Drop)]
+pub struct CompareInputs<'a> {
+    /// The bytes of a universe file, whose impossible lists count.
+    pub universe: Option<&'a [u8]>,
+    /// The bytes of the configuration file that the other one is compared with.
+    pub old: &'a [u8],
+    /// The bytes of the configuration file that is compared with it.
+    pub new: &'a [u8],
+    /// Alerts whose values are printable ASCII count alone.
+    pub ascii: bool,
+}
+
+impl<'a> Model for CompareInputs<'a> {
+    ghost use Rattle.std.specs.Prelude.{option_copied};
+    ghost use Rattle.am_reports.specs.CompareInputs as spec;
+
+    ghost Value = { spec.CompareInputs };
+
+    ghost view = { λ inputs. record {
+      universe = option_copied inputs.universe;
+      old = inputs.old.now;
+      new = inputs.new.now;
+      ascii = inputs.ascii;
+    } };
+}
+
+/// What the files say.
+#[derive(Drop)]
+pub(crate) struct ReadBoth {
+    pub space: Space,
+    pub old: Config,
+    pub new: Config,
+}
+
+/// Reads the universe file, if there is one, and then the old and the new configuration file. The
+/// first fault is the one answered.
+pub(crate) fn read_both(alloc: Global, inputs: &CompareInputs<'_>) -> Result<ReadBoth, Fault>
+    ensures accepts { IfOk result (λ read. AcceptsCompareInputs inputs.now read.space
+        (config_view read.old) (config_view read.new)) }
+    ensures first { IfErr result (IsFirstFault (compare_input_stages inputs.now)) }
+{
+    let (space, _texts) = read_universe_if_any(alloc, inputs.universe)?;
+    let old = read_config_at(alloc, Place::Old, inputs.old)?;
+    let new = read_config_at(alloc, Place::New, inputs.new)?;
+    Ok(ReadBoth { space, old, new })
+}
+
+/// Reads a configuration file whose faults stand at a place of its own.
+fn read_config_at(alloc: Global, place: Place, bytes: &[u8]) -> Result<Config, Fault>
+    ensures says { IfOk result (λ config. FileSaysConfig bytes.now (config_view config)) }
+    ensures refused { IfErr result (IsRefusalAt place (ConfigFileRefusedFor bytes.now)) }
+{
+    match read_config(alloc, bytes) {
+        Ok(config) => Ok(config),
+        Err(fault) => Err(Fault::within(fault.kind, place, fault.pointer)),
+    }
+}

@@ -1,0 +1,82 @@
+//! The configurations that a call is about.
+
+ghost use Rattle.std.specs.Prelude.{◌≡◌, ◌≢◌, IfOk};
+ghost use Rattle.std.specs.List.{list_any};
+ghost use Rattle.am_universe.specs.Text.{same_text};
+ghost use Rattle.am_universe.specs.declared.kind.Kind.TheVariants as kinds;
+ghost use Rattle.am_json.specs.Reading.{refusal_of};
+ghost use Rattle.am_files.specs.Words.{config_view};
+ghost use Rattle.am_complete.specs.Words.{IsAskedOf};
+ghost use Rattle.am_reports.specs.Configurations.{routing_conditions, labels_of_routes, asks_of};
+ghost use Rattle.am_reports.specs.ConfigsView.{configurations_of};
+ghost use Rattle.am_reports.specs.Made.{IsUnprovedAt};
+
+use am_asked::{asked_by_both, asked_by_routes};
+use am_complete::{AskedLabel, Origin};
+use am_files::Config;
+use am_labels::{Fault, Place, Space};
+use am_universe_command::unproved_fault;
+use std::alloc::{AllocError, Global};
+
+/// One configuration; or an old one, and a new one that is compared with it.
+#[derive(Clone, Copy)]
+pub(crate) enum Configs<'a> {
+    One(&'a Config),
+    Pair(&'a Config, &'a Config),
+}
+
+/// The labels that the routes of configurations ask of, and then those that the impossible lists of
+/// a space do. An `Err` only where memory was refused.
+pub(crate) fn labels_asked<'a>(
+    alloc: Global,
+    configs: Configs<'a>,
+    space: &'a Space,
+) -> Result<Vec<AskedLabel<'a>>, AllocError>
+    ensures asked { IfOk result (λ labels.
+        IsAskedOf labels.items (routing_conditions space.now (configurations_of configs.entry))) }
+    ensures labels { IfOk result (λ labels.
+        labels.items ≡ labels_of_routes (configurations_of configs.entry) space.now.impossible) }
+{
+    match configs {
+        Configs::One(config) => asked_by_routes(alloc, config, &[], space.impossible()),
+        Configs::Pair(old, new) => asked_by_both(alloc, old, new, space.impossible()),
+    }
+}
+
+/// Why nothing is made where a label of this name is unproved, which is first asked of there. It
+/// fails only where memory ran out.
+pub(crate) fn unproved_label(
+    alloc: Global,
+    configs: Configs<'_>,
+    name: &str,
+    origin: &Origin,
+) -> Fault
+    ensures refusal { result.kind ≢ kinds.Memory
+        → IsUnprovedAt (configurations_of configs.entry) name.now origin.now result.place
+        (refusal_of result) }
+{
+    let fault = unproved_fault(alloc, origin);
+    let (Configs::Pair(old, _), Origin::Route(_)) = (configs, origin) else {
+        return fault;
+    };
+    match asks_of(alloc, old, name) {
+        Ok(true) => Fault::within(fault.kind, Place::Old, fault.pointer),
+        Ok(false) => Fault::within(fault.kind, Place::New, fault.pointer),
+        Err(_) => Fault::memory(alloc),
+    }
+}
+
+/// Whether the routes of a configuration ask of a label of this name. An `Err` only where memory
+/// was refused.
+fn asks_of(alloc: Global, config: &Config, name: &str) -> Result<bool, AllocError>
+    ensures { IfOk result (λ asks. asks ≡ asks_of (config_view config.now) name.now) }
+{
+    let asked = asked_by_routes(alloc, config, &[], &[])?;
+    Ok(has_name(asked.as_slice(), name))
+}
+
+fn has_name(labels: &[AskedLabel<'_>], name: &str) -> bool
+    ensures { result ≡ list_any (λ l. same_text l.name name.now) labels.now }
+{
+    labels.iter().any(|label| label.name() == name)
+}
