@@ -1,6 +1,7 @@
 use crate::help::{
-    ABOUT, ASK_ABOUT, ASK_HELP, DEAD_ABOUT, DEAD_HELP, EXAMPLE, EXPLAIN_ABOUT, EXPLAIN_HELP,
-    LINT_ABOUT, LINT_HELP, RECEIVERS_ABOUT, RECEIVERS_HELP, UNIVERSE_ABOUT, UNIVERSE_HELP,
+    ABOUT, ASK_ABOUT, ASK_HELP, COMPARE_ABOUT, COMPARE_HELP, DEAD_ABOUT, DEAD_HELP, EXAMPLE,
+    EXPLAIN_ABOUT, EXPLAIN_HELP, LINT_ABOUT, LINT_HELP, OUTCOMES_ABOUT, OUTCOMES_HELP,
+    RECEIVERS_ABOUT, RECEIVERS_HELP, UNIVERSE_ABOUT, UNIVERSE_HELP,
 };
 use crate::steps::{MIN_STEPS, Steps};
 use clap::builder::ValueParser;
@@ -22,6 +23,17 @@ pub enum Request<'a> {
     /// What is wrong with a configuration, for every alert: with what the universe file calls
     /// impossible, if there is one; and for alerts of printable ASCII alone.
     Lint {
+        universe: bool,
+        ascii: bool,
+    },
+    /// Which alerts go to other receivers under a new configuration than under an old one; with
+    /// the same options.
+    Compare {
+        universe: bool,
+        ascii: bool,
+    },
+    /// Each list of receivers that some alert goes to; with the same options.
+    Outcomes {
         universe: bool,
         ascii: bool,
     },
@@ -64,6 +76,8 @@ pub enum Request<'a> {
 pub struct InputFiles<'a, F> {
     pub universe: Option<F>,
     pub config: Option<F>,
+    pub old: Option<F>,
+    pub new: Option<F>,
     pub silences: Option<F>,
     pub alerts: Option<F>,
     pub at: Option<&'a str>,
@@ -99,6 +113,8 @@ fn request_of<'a>(
 ) -> Result<Option<Request<'a>>, AllocError> {
     match name {
         "lint" => Ok(Some(lint_request(matches))),
+        "compare" => Ok(Some(compare_request(matches))),
+        "outcomes" => Ok(Some(outcomes_request(matches))),
         "ask" => Ok(ask_request(matches)),
         "dead" => Ok(Some(Request::Dead)),
         "receivers" => Ok(Some(Request::Receivers)),
@@ -111,6 +127,22 @@ fn request_of<'a>(
 /// What `lint` asks for.
 fn lint_request<'a>(matches: &ArgMatches<'a>) -> Request<'a> {
     Request::Lint {
+        universe: matches.get_str("universe").is_some(),
+        ascii: matches.get_flag("ascii"),
+    }
+}
+
+/// What `compare` asks for.
+fn compare_request<'a>(matches: &ArgMatches<'a>) -> Request<'a> {
+    Request::Compare {
+        universe: matches.get_str("universe").is_some(),
+        ascii: matches.get_flag("ascii"),
+    }
+}
+
+/// What `outcomes` asks for.
+fn outcomes_request<'a>(matches: &ArgMatches<'a>) -> Request<'a> {
+    Request::Outcomes {
         universe: matches.get_str("universe").is_some(),
         ascii: matches.get_flag("ascii"),
     }
@@ -170,6 +202,8 @@ fn files_of<'a>(matches: &ArgMatches<'a>) -> InputFiles<'a, &'a str> {
     InputFiles {
         universe: matches.get_str("universe").or(matches.get_str("from")),
         config: matches.get_str("config"),
+        old: matches.get_str("old"),
+        new: matches.get_str("new"),
         silences: matches.get_str("silences"),
         alerts: matches.get_str("alerts"),
         at: matches.get_str("at"),
@@ -186,6 +220,8 @@ fn command<'a>(alloc: Global) -> Result<Command<'a>, AllocError> {
         .subcommand_required(true)
         .disable_help_subcommand(true)
         .subcommand(lint_command(alloc)?)?
+        .subcommand(compare_command(alloc)?)?
+        .subcommand(outcomes_command(alloc)?)?
         .subcommand(ask_command(alloc)?)?
         .subcommand(coverage_command(alloc, "dead", DEAD_ABOUT, DEAD_HELP)?)?
         .subcommand(coverage_command(alloc, "receivers", RECEIVERS_ABOUT, RECEIVERS_HELP)?)?
@@ -194,15 +230,40 @@ fn command<'a>(alloc: Global) -> Result<Command<'a>, AllocError> {
 }
 
 fn lint_command<'a>(alloc: Global) -> Result<Command<'a>, AllocError> {
-    let universe = Arg::new(alloc, "universe")
-        .long("universe")
-        .value_name("FILE")
-        .help("A universe, a JSON file that says which label sets never occur");
     Command::new(alloc, "lint")
         .about(LINT_ABOUT)
         .after_help(LINT_HELP)
         .arg(config_arg(alloc).required(true))?
-        .arg(universe)?
+        .arg(impossible_arg(alloc))?
+        .arg(ascii_arg(alloc))
+}
+
+fn compare_command<'a>(alloc: Global) -> Result<Command<'a>, AllocError> {
+    let old = Arg::new(alloc, "old")
+        .long("old")
+        .value_name("FILE")
+        .required(true)
+        .help("The old Alertmanager configuration, as JSON");
+    let new = Arg::new(alloc, "new")
+        .long("new")
+        .value_name("FILE")
+        .required(true)
+        .help("The new Alertmanager configuration, as JSON");
+    Command::new(alloc, "compare")
+        .about(COMPARE_ABOUT)
+        .after_help(COMPARE_HELP)
+        .arg(old)?
+        .arg(new)?
+        .arg(impossible_arg(alloc))?
+        .arg(ascii_arg(alloc))
+}
+
+fn outcomes_command<'a>(alloc: Global) -> Result<Command<'a>, AllocError> {
+    Command::new(alloc, "outcomes")
+        .about(OUTCOMES_ABOUT)
+        .after_help(OUTCOMES_HELP)
+        .arg(config_arg(alloc).required(true))?
+        .arg(impossible_arg(alloc))?
         .arg(ascii_arg(alloc))
 }
 
@@ -313,6 +374,14 @@ fn universe_arg<'a>(alloc: Global) -> Arg<'a> {
         .value_name("FILE")
         .required(true)
         .help("The universe, a JSON file")
+}
+
+/// The universe file of a command that makes its own universe.
+fn impossible_arg<'a>(alloc: Global) -> Arg<'a> {
+    Arg::new(alloc, "universe")
+        .long("universe")
+        .value_name("FILE")
+        .help("A universe, a JSON file that says which label sets never occur")
 }
 
 fn config_arg<'a>(alloc: Global) -> Arg<'a> {

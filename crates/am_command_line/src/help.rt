@@ -7,6 +7,8 @@ pub(crate) const EXAMPLE: &str = "\
 Example:
 
   amcover lint --config alertmanager.json
+  amcover compare --old old.json --new alertmanager.json
+  amcover outcomes --config alertmanager.json
   amcover explain --config alertmanager.json 'team=db,severity=warning'
   amcover universe --config alertmanager.json > u.json
   amcover ask --universe u.json --config alertmanager.json 'receiver db-pager'
@@ -85,6 +87,126 @@ Silences, inhibition and time intervals make no difference.
 
 Exit status: 0 done without a finding, 1 refused input, 2 usage, 3 out of memory, 4 the
 output failed, 5 done with a finding.";
+
+pub(crate) const COMPARE_ABOUT: &str = "Write which alerts a change sends to other receivers";
+
+pub(crate) const COMPARE_HELP: &str = "\
+The configurations are JSON; an alertmanager.yml becomes JSON by
+
+  yq -o=json . alertmanager.yml > alertmanager.json
+
+or, with the yq that Debian has, by
+
+  yq . alertmanager.yml > alertmanager.json
+
+Example:
+
+  amcover compare --old old.json --new alertmanager.json
+
+writes a line for each change, and last how many there are. The lines are for example
+
+  \"db-mail\" -> \"web-pager\" {team=\"web\",severity=\"info\"}
+  \"web-pager\" -> \"web-pager\",\"incident-log\" {team=\"web\",severity=\"critical\"}
+  # 2 changes
+
+Before the arrow stand the receivers that an alert goes to by the old configuration, and
+behind it those by the new one, in the order of the routes at which it ends. A receiver
+stands twice where the alert ends at two routes that have it. Behind them stands the first
+label set of such an alert. All alerts that go from the same receivers to the same other
+ones share a line, however many they are.
+
+Every alert counts, whatever its labels are: one that goes from some receivers to others
+has a line. So where there is no line each alert goes to the same receivers as before, in
+the same order, however the routes are written. Receivers are the same where they have the
+same name. What a receiver does with an alert is not looked at, and neither are grouping,
+silences, inhibition and time intervals.
+
+In a pipeline of a merge request
+
+  git show origin/main:alertmanager.json > old.json
+  amcover compare --old old.json --new alertmanager.json
+
+ends with status 0 where the merge sends no alert elsewhere, and with 5 where it does. Any
+other status says that it is not known.
+
+What never occurs is said by a universe file, as never.json:
+
+  {\"labels\": [], \"impossible\": [\"team=web,severity=critical\"]}
+
+  amcover compare --old old.json --new alertmanager.json --universe never.json
+
+Such a file may declare labels too. It is refused where one of these lacks a value that
+the matchers of the routes of both files tell apart from the others:
+
+  amcover: universe: /labels/0: incomplete
+
+With --ascii alerts count alone whose values have no other characters than printable
+ASCII, from the blank to ~. So an alert with a line feed, which . does not match, does not
+count. Patterns with \\b are read then too, for which a configuration is refused as
+unproved without it.
+
+A fault names the file that it is in as old or new:
+
+  amcover: old: /route/receiver: undefined-receiver
+
+Exit status: 0 done without a change, 1 refused input, 2 usage, 3 out of memory, 4 the
+output failed, 5 done with a change.";
+
+pub(crate) const OUTCOMES_ABOUT: &str = "Write each list of receivers that some alert goes to";
+
+pub(crate) const OUTCOMES_HELP: &str = "\
+The configuration is JSON; an alertmanager.yml becomes JSON by
+
+  yq -o=json . alertmanager.yml > alertmanager.json
+
+or, with the yq that Debian has, by
+
+  yq . alertmanager.yml > alertmanager.json
+
+Example:
+
+  amcover outcomes --config alertmanager.json
+
+writes a line for each list of receivers that some alert goes to, and then `# end`. The
+lines are for example
+
+  \"default\" {}
+  \"db-mail\" {team=\"db\"}
+  \"db-pager\",\"incident-log\" {team=\"db\",severity=\"critical\"}
+  # end
+
+The receivers stand in the order of the routes at which an alert ends, and one stands
+twice where it ends at two routes that have it. Behind them stands the first label set of
+such an alert. Every alert counts: whatever its labels are, its receivers are one of these
+lists.
+
+Keep the text beside the configuration, and a review shows which lists come and go:
+
+  amcover outcomes --config alertmanager.json > outcomes.txt
+
+What becomes of each alert, `amcover compare` says.
+
+What never occurs is said by a universe file, as never.json:
+
+  {\"labels\": [], \"impossible\": [\"team=web,severity=critical\"]}
+
+  amcover outcomes --config alertmanager.json --universe never.json
+
+Such a file may declare labels too. It is refused where one of these lacks a value that
+the matchers of the routes tell apart from the others:
+
+  amcover: universe: /labels/0: incomplete
+
+amcover universe --from never.json --config alertmanager.json adds what a file lacks.
+
+With --ascii alerts count alone whose values have no other characters than printable
+ASCII, from the blank to ~. So an alert with a line feed, which . does not match, does not
+count. Patterns with \\b are read then too, for which a configuration is refused as
+unproved without it.
+
+Silences, inhibition and time intervals make no difference.
+
+Exit status: 0 done, 1 refused input, 2 usage, 3 out of memory, 4 the output failed.";
 
 pub(crate) const ASK_ABOUT: &str = "Write every label set of a universe that satisfies a question";
 

@@ -29,6 +29,7 @@ pub fn notes_of_answer(alloc: Global, call: &Call<'_>) -> Result<String, AllocEr
     match call.request {
         Request::Ask { question, .. } => add_ask(alloc, &mut notes, call, question)?,
         Request::Dead | Request::Receivers => add_report(alloc, &mut notes, call)?,
+        Request::Compare { .. } => add_compare(alloc, &mut notes, call)?,
         Request::Explain { set } => add_explain(alloc, &mut notes, set.as_slice())?,
         _ => {}
     }
@@ -45,6 +46,14 @@ fn add_groups(alloc: Global, notes: &mut Notes, call: &Call<'_>) -> Result<(), A
     };
     if Likeness::of(&value) == Some(Likeness::Groups) {
         notes.add_str(alloc, GROUPS)?;
+    }
+    Ok(())
+}
+
+/// Adds a note where a file was compared with itself.
+fn add_compare(alloc: Global, notes: &mut Notes, call: &Call<'_>) -> Result<(), AllocError> {
+    if call.old == call.new {
+        notes.add_str(alloc, "--old and --new are the same file, byte for byte")?;
     }
     Ok(())
 }

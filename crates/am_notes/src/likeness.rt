@@ -54,7 +54,7 @@ impl Likeness {
     pub(crate) fn belongs_at(self, place: Place) -> bool {
         match self {
             Likeness::Universe => place == Place::Universe,
-            Likeness::Config => place == Place::Config,
+            Likeness::Config => matches!(place, Place::Config | Place::Old | Place::New),
             Likeness::Silences => place == Place::Silences,
             Likeness::Alerts => place == Place::Alerts,
             Likeness::Groups | Likeness::ApiAnswer => false,

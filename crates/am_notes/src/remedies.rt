@@ -5,6 +5,7 @@ use crate::likeness::Likeness;
 use crate::notes::Notes;
 use crate::sentences::looks_like;
 use am_command_line::Request;
+use am_json::limits::MAX_FILE_BYTES;
 use am_json::read_json;
 use am_labels::{Fault, Kind, Place};
 use std::alloc::{AllocError, Global};
@@ -27,6 +28,7 @@ pub(crate) fn add_remedy(
         Kind::NotJson => add_if_any(alloc, notes, not_json_remedy(call, fault.place)),
         Kind::Shape | Kind::UnknownField => add_likeness(alloc, notes, call, fault.place),
         Kind::BadMatcher => add_bad_matcher(alloc, notes, call, fault),
+        Kind::Limit => add_if_any(alloc, notes, limit_remedy(call, fault)),
         kind => add_if_any(alloc, notes, remedy(call, kind, fault.place)),
     }
 }
@@ -47,6 +49,8 @@ fn file_at<'a>(call: &Call<'a>, place: Place) -> Option<&'a [u8]> {
     match place {
         Place::Universe => Some(call.universe),
         Place::Config => call.files.config,
+        Place::Old => Some(call.old),
+        Place::New => Some(call.new),
         Place::Silences => call.files.silences,
         Place::Alerts => call.files.alerts,
         _ => None,
@@ -60,8 +64,8 @@ fn not_json_remedy(call: &Call<'_>, place: Place) -> Option<&'static str> {
     }
     match place {
         Place::Universe => Some("a universe is JSON: amcover universe --config FILE writes one"),
-        Place::Config => Some(
-            "--config takes JSON: yq -o=json . alertmanager.yml (the yq in Go) or \
+        Place::Config | Place::Old | Place::New => Some(
+            "a configuration is JSON: yq -o=json . alertmanager.yml (the yq in Go) or \
             yq . alertmanager.yml (the yq in Python)",
         ),
         Place::Silences => Some("--silences takes JSON: amtool silence query -o json"),
@@ -178,10 +182,7 @@ fn remedy(call: &Call<'_>, kind: Kind, place: Place) -> Option<&'static str> {
         Kind::OtherInputs => {
             Some("an input has changed since the page before: start again without --after")
         }
-        Kind::Incomplete => Some(
-            "a universe file need not declare this label: what it does not declare is added; \
-            amcover universe --from UNIVERSE --config FILE adds what it lacks",
-        ),
+        Kind::Incomplete => Some(incomplete_remedy(call.request)),
         Kind::Unproved => Some(unproved_remedy(call.request)),
         _ => None,
     }
@@ -198,15 +199,58 @@ fn question_remedy(request: &Request<'_>) -> &'static str {
     }
 }
 
+/// Where a universe file lacks a value. What one lacks for two configurations together no command
+/// adds.
+fn incomplete_remedy(request: &Request<'_>) -> &'static str {
+    match request {
+        Request::Compare { .. } => {
+            "a universe file need not declare this label: what it does not declare is added"
+        }
+        _ => {
+            "a universe file need not declare this label: what it does not declare is added; \
+            amcover universe --from UNIVERSE --config FILE adds what it lacks"
+        }
+    }
+}
+
+/// Where the routes tell too many alerts apart. A limit that the universe file itself passes is
+/// none of these: it is at a part of the file, or the file is too long.
+fn limit_remedy(call: &Call<'_>, fault: &Fault) -> Option<&'static str> {
+    let is_of_file = !fault.pointer.is_empty() || call.universe.len() > MAX_FILE_BYTES;
+    if fault.place != Place::Universe || is_of_file {
+        return None;
+    }
+    match call.request {
+        Request::Outcomes { ascii, .. } | Request::Compare { ascii, .. } => {
+            Some(too_many_remedy(*ascii))
+        }
+        _ => None,
+    }
+}
+
+fn too_many_remedy(ascii: bool) -> &'static str {
+    if ascii {
+        "the routes tell too many alerts apart: \
+        a universe file that says what never occurs may help"
+    } else {
+        "the routes tell too many alerts apart: --ascii may help, \
+        or a universe file that says what never occurs"
+    }
+}
+
 /// Where it is not proved that a universe stands for every alert. The patterns that are not read
 /// over all texts may be read over those of printable ASCII.
 fn unproved_remedy(request: &Request<'_>) -> &'static str {
     match request {
-        Request::Lint { ascii: false, .. } => {
+        Request::Lint { ascii: false, .. }
+        | Request::Outcomes { ascii: false, .. }
+        | Request::Compare { ascii: false, .. } => {
             "with --ascii patterns are read that are not read otherwise; \
             amcover universe --check UNIVERSE --config FILE says more"
         }
-        Request::Lint { ascii: true, .. } => {
+        Request::Lint { ascii: true, .. }
+        | Request::Outcomes { ascii: true, .. }
+        | Request::Compare { ascii: true, .. } => {
             "amcover universe --ascii --check UNIVERSE --config FILE says more"
         }
         _ => {

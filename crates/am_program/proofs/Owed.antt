@@ -5,10 +5,10 @@ use Rattle.std.specs.Prelude.{nat_lt}
 use Rattle.am_universe.specs.declared.fault.Fault.{Fault}
 use Rattle.am_command_line.specs.declared.command_line.Request.{Request}
 use Rattle.am_questions.specs.Inputs.{Inputs}
-use Rattle.am_eval.specs.Files.{Files}
 use Rattle.am_eval.specs.Promise.{Promise, IsKept}
 use Rattle.am_commands.specs.AskOutcome.{ask_promise}
-use Rattle.am_program.specs.Requests.{finds_nothing, finds, promise_of}
+use Rattle.am_notes.specs.declared.call.Call.{Call}
+use Rattle.am_program.specs.Requests.{finds_nothing, finds, owed}
 
 module _ {S : Type 0} {taken : S → List ℕ} {failures : S → ℕ} {old new : S} where
   -- what is owed for a thing is owed for one that is the same
@@ -19,11 +19,10 @@ module _ {S : Type 0} {taken : S → List ℕ} {failures : S → ℕ} {old new :
       subst (λ x. IsKept (promise x) taken failures old new result) same kept
 
   -- so for a request
-  pub owed_for : {result : Result Bool Fault} (universe : List ℕ) (files : Files)
-      {request other : Request} → request ≡ other
-      → IsKept (promise_of other universe files) taken failures old new result
-      → IsKept (promise_of request universe files) taken failures old new result
-  owed_for universe files same = owed_as (λ r. promise_of r universe files) (sym same)
+  pub owed_for : {result : Result Bool Fault} (call : Call) {request other : Request}
+      → request ≡ other → IsKept (owed other call) taken failures old new result
+      → IsKept (owed request call) taken failures old new result
+  owed_for call same = owed_as (λ r. owed r call) (sym same)
 
   -- a call kept what is owed where another answer is given for its own: each text that may be
   -- written beside the one may be written beside the other

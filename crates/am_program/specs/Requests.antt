@@ -12,18 +12,22 @@ use Rattle.am_command_line.specs.declared.command_line.Request.TheVariants as re
 use Rattle.am_eval.specs.Files.{Files, config_of}
 use Rattle.am_eval.specs.Explanation.{explain_promise}
 use Rattle.am_eval.specs.Promise.{Promise}
+use Rattle.am_notes.specs.declared.call.Call.{Call}
 use Rattle.am_commands.specs.AskOutcome.{ask_promise}
 use Rattle.am_commands.specs.Reports.{dead_promise, receivers_promise}
 use Rattle.am_universe_command.specs.Universes.{universe_promise, check_promise}
+use Rattle.am_reports.specs.ReportInputs.{ReportInputs}
 use Rattle.am_reports.specs.Linting.{lint_promise}
+use Rattle.am_reports.specs.Comparing.{compare_promise}
+use Rattle.am_reports.specs.OutcomesReport.{outcomes_promise}
 
--- The bytes of a file that may be left out; those of the universe file, of which there are none
--- without one; and the other files, with the instant.
+-- The bytes of a file that may be left out; those of one of which there are none without it; and
+-- the files beside the universe, with the instant.
 abbrev pub bytes_if_any : Option (Vec ℕ) → Option (List ℕ)
 bytes_if_any file = option_map (λ bytes. bytes.items) file
 
-abbrev pub universe_bytes : InputFiles (Vec ℕ) → List ℕ
-universe_bytes files = unwrap_or (bytes_if_any files.universe) []
+abbrev pub bytes_or_none : Option (Vec ℕ) → List ℕ
+bytes_or_none file = unwrap_or (bytes_if_any file) []
 
 abbrev pub files_of : InputFiles (Vec ℕ) → Files
 files_of files = record {
@@ -41,8 +45,17 @@ alphabet_of ascii = if ascii then Ascii else Unicode
 abbrev pub kept_universe : Bool → List ℕ → Option (List ℕ)
 kept_universe from universe = if from then Some universe else None
 
--- What is owed where the answer is whether something wrong was found: by a command that looks for
--- nothing wrong, which finds nothing; and by one that answers how many findings there are.
+-- What a report on every alert looks at: the universe that is kept, and the configuration.
+abbrev pub report_inputs : Bool → Bool → Call → ReportInputs
+report_inputs from ascii call = record {
+  universe = kept_universe from call.universe.now;
+  config = config_of call.files.config;
+  ascii = ascii;
+}
+
+-- What is owed where the answer is whether something was found: by a command that looks for
+-- nothing, and so finds nothing; and by one that answers how many findings there are, or how many
+-- changes.
 abbrev pub finds_nothing : {A : Type 0} → Promise A → Promise Bool
 finds_nothing {A = A} promise = record {
   stages = promise.stages;
@@ -55,42 +68,54 @@ finds promise = record {
   May = λ found text. (count : ℕ) × (found ≡ nat_lt 0 count) × promise.May count text;
 }
 
--- What is owed for a request: for `lint` the report on a configuration; for `ask` the page of the
--- answers to that question, from that token on and under that limit and that budget; for `dead` the
--- report of routes; for `receivers` that of receivers; for `explain` the explanation of that set;
--- for `universe` a universe in that form, or how the one that is to be checked stands.
+-- What is owed for a request, over the bytes of the files of a call: for `lint` the report on a
+-- configuration; for `compare` what changes between two; for `outcomes` to which receivers alerts
+-- go; for `ask` the page of the answers to that question, from that token on and under that limit
+-- and that budget; for `dead` the report of routes; for `receivers` that of receivers; for
+-- `explain` the explanation of that set; for `universe` a universe in that form, or how the one
+-- that is to be checked stands.
 -- Source: own choice.
 -- Example: for `dead --universe u.json --config alertmanager.json` it is what `dead` owes for the
 -- bytes of these files.
-abbrev pub promise_of : Request → List ℕ → Files → Promise Bool
-promise_of (requests.Lint from ascii) universe files =
-    finds (lint_promise (record {
-      universe = kept_universe from universe;
-      config = config_of files.config;
+abbrev pub owed : Request → Call → Promise Bool
+owed (requests.Lint from ascii) call = finds (lint_promise (report_inputs from ascii call))
+owed (requests.Compare from ascii) call =
+    finds (compare_promise (record {
+      universe = kept_universe from call.universe.now;
+      old = call.old.now;
+      new = call.new.now;
       ascii = ascii;
     }))
-promise_of (requests.Ask question after limit steps) universe files =
+owed (requests.Outcomes from ascii) call =
+    finds_nothing (outcomes_promise (report_inputs from ascii call))
+owed (requests.Ask question after limit steps) call =
     finds_nothing (ask_promise (record {
-      universe = universe;
-      files = files;
+      universe = call.universe.now;
+      files = call.files;
       question = question.now;
       after = option_copied after;
     }) (option_map non_zero_u64_get limit) (option_map step_count steps))
-promise_of requests.Dead universe files =
-    finds_nothing (dead_promise universe (config_of files.config))
-promise_of requests.Receivers universe files =
-    finds_nothing (receivers_promise universe (config_of files.config))
-promise_of (requests.Explain set) universe files =
-    finds_nothing (explain_promise files (map (λ word. word.now) set.items))
-promise_of (requests.Universe from routes ascii open_form questions) universe files =
+owed requests.Dead call =
+    finds_nothing (dead_promise call.universe.now (config_of call.files.config))
+owed requests.Receivers call =
+    finds_nothing (receivers_promise call.universe.now (config_of call.files.config))
+owed (requests.Explain set) call =
+    finds_nothing (explain_promise call.files (map (λ word. word.now) set.items))
+owed (requests.Universe from routes ascii open_form questions) call =
     finds_nothing (universe_promise (record {
-      universe = kept_universe from universe;
-      files = files;
+      universe = kept_universe from call.universe.now;
+      files = call.files;
       questions = map (λ question. question.now) questions.items;
     }) (record { routes = routes; alphabet = alphabet_of ascii; «open» = open_form }))
-promise_of (requests.CheckUniverse routes ascii questions) universe files =
+owed (requests.CheckUniverse routes ascii questions) call =
     finds_nothing (check_promise (alphabet_of ascii) (record {
-      universe = Some universe;
-      files = files;
+      universe = Some call.universe.now;
+      files = call.files;
       questions = map (λ question. question.now) questions.items;
     }) routes)
+
+-- What is owed for a call, by its request.
+-- Source: own choice.
+-- Example: it is what `dead` owes, where that is the request.
+abbrev pub promise_of : Call → Promise Bool
+promise_of call = owed call.request.now call

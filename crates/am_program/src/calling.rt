@@ -6,8 +6,8 @@ ghost use Rattle.std.specs.Int.NonZero.{non_zero_u64_get};
 ghost use Rattle.am_universe.specs.declared.limits.TheConstants.{MAX_LABELS};
 ghost use Rattle.am_command_line.specs.Words.{step_count};
 ghost use Rattle.am_eval.specs.Words.{IsKept};
-ghost use Rattle.am_program.specs.Words.{bytes_if_any, universe_bytes, files_of, promise_of};
-ghost use Rattle.am_program.specs.Requests.{alphabet_of, kept_universe};
+ghost use Rattle.am_program.specs.Words.{bytes_if_any, bytes_or_none, files_of, promise_of};
+ghost use Rattle.am_program.specs.Requests.{alphabet_of, kept_universe, report_inputs};
 
 use am_classes::Alphabet;
 use am_command_line::{InputFiles, Request, Steps};
@@ -15,7 +15,7 @@ use am_commands::{ask, dead, explain_words, receivers};
 use am_eval::Files;
 use am_labels::{Fault, Sink};
 use am_notes::Call;
-use am_reports::{LintInputs, lint};
+use am_reports::{CompareInputs, ReportInputs, compare, lint, outcomes};
 use am_search::Page;
 use am_universe_command::{UniverseForm, UniverseInputs, check_universe, universe};
 use std::alloc::Global;
@@ -23,17 +23,23 @@ use std::num::NonZeroU64;
 
 /// Makes the call that does what is asked for. The answer is whether it found what is wrong.
 pub fn make_call<W: Sink>(alloc: Global, call: &Call<'_>, out: &mut W) -> Result<bool, Fault>
-    ensures kept { IsKept (promise_of call.now.request.now call.now.universe.now call.now.files)
-        W.taken W.failures out.old out.new result }
+    ensures kept { IsKept (promise_of call.now) W.taken W.failures out.old out.new result }
 {
     match call.request {
         Request::Lint { universe, ascii } => {
-            let inputs = LintInputs {
+            something_found(lint(alloc, &report_inputs(call, *universe, *ascii), out))
+        }
+        Request::Compare { universe, ascii } => {
+            let inputs = CompareInputs {
                 universe: kept_universe(*universe, call.universe),
-                config: call.files.config(),
+                old: call.old,
+                new: call.new,
                 ascii: *ascii,
             };
-            something_found(lint(alloc, &inputs, out))
+            something_found(compare(alloc, &inputs, out))
+        }
+        Request::Outcomes { universe, ascii } => {
+            nothing_found(outcomes(alloc, &report_inputs(call, *universe, *ascii), out))
         }
         Request::Ask {
             question,
@@ -89,12 +95,22 @@ pub fn make_call<W: Sink>(alloc: Global, call: &Call<'_>, out: &mut W) -> Result
     }
 }
 
-/// The answer of a call that says how many findings there are.
-fn something_found(findings: Result<usize, Fault>) -> Result<bool, Fault>
-    ensures { MatchResult findings (λ count. result ≡ Ok (nat_lt 0 count))
-        (λ fault. result ≡ Err fault) }
+/// What a report on every alert looks at, with the universe file, if one is given.
+fn report_inputs<'a>(call: &Call<'a>, universe: bool, ascii: bool) -> ReportInputs<'a>
+    ensures { result ≡ report_inputs universe ascii call.now }
 {
-    match findings {
+    ReportInputs {
+        universe: kept_universe(universe, call.universe),
+        config: call.files.config(),
+        ascii,
+    }
+}
+
+/// The answer of a call that says how many findings there are, or how many changes.
+fn something_found(count: Result<usize, Fault>) -> Result<bool, Fault>
+    ensures { MatchResult count (λ n. result ≡ Ok (nat_lt 0 n)) (λ fault. result ≡ Err fault) }
+{
+    match count {
         Ok(count) => Ok(count > 0),
         Err(fault) => Err(fault),
     }
@@ -111,15 +127,20 @@ fn nothing_found<T: Drop>(answer: Result<T, Fault>) -> Result<bool, Fault>
 }
 
 /// A request, with the bytes of the files that were read for it. The command line requires a
-/// universe file where it is looked at; without one there are no bytes.
+/// universe file, or the two that are compared, where they are looked at; without one there are no
+/// bytes.
 pub fn call_of<'a>(request: &'a Request<'a>, files: &'a InputFiles<'_, Vec<u8>>) -> Call<'a>
     ensures request { result.request.now ≡ request.now }
-    ensures universe { result.universe.now ≡ universe_bytes files.now }
+    ensures universe { result.universe.now ≡ bytes_or_none files.now.universe }
+    ensures old { result.old.now ≡ bytes_or_none files.now.old }
+    ensures new { result.new.now ≡ bytes_or_none files.now.new }
     ensures files { result.files ≡ files_of files.now }
 {
     Call {
         request,
         universe: bytes_of(&files.universe).unwrap_or(&[]),
+        old: bytes_of(&files.old).unwrap_or(&[]),
+        new: bytes_of(&files.new).unwrap_or(&[]),
         files: Files {
             config: bytes_of(&files.config),
             silences: bytes_of(&files.silences),

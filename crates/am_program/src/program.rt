@@ -141,11 +141,15 @@ fn read_files<'a, R: Files + AllocGlobal>(
 ) -> Result<InputFiles<'a, Vec<u8>>, Fault> {
     let universe = read_input_if_any(rt, paths.universe, Place::Universe)?;
     let config = read_input_if_any(rt, paths.config, Place::Config)?;
+    let old = read_input_if_any(rt, paths.old, Place::Old)?;
+    let new = read_input_if_any(rt, paths.new, Place::New)?;
     let silences = read_input_if_any(rt, paths.silences, Place::Silences)?;
     let alerts = read_input_if_any(rt, paths.alerts, Place::Alerts)?;
     Ok(InputFiles {
         universe,
         config,
+        old,
+        new,
         silences,
         alerts,
         at: paths.at,

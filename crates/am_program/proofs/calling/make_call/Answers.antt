@@ -10,8 +10,11 @@ use Rattle.am_universe_command.specs.declared.universe_form.UniverseForm.{Univer
 use Rattle.am_universe_command.specs.UniverseInputs.{UniverseInputs}
 use Rattle.am_universe_command.specs.Universes.{universe_promise, check_promise}
 use Rattle.am_classes.specs.declared.alphabet.Alphabet.{Alphabet}
-use Rattle.am_reports.specs.LintInputs.{LintInputs}
+use Rattle.am_reports.specs.ReportInputs.{ReportInputs}
+use Rattle.am_reports.specs.CompareInputs.{CompareInputs}
 use Rattle.am_reports.specs.Linting.{lint_promise}
+use Rattle.am_reports.specs.Comparing.{compare_promise}
+use Rattle.am_reports.specs.OutcomesReport.{outcomes_promise}
 use Rattle.am_program.specs.Requests.{kept_universe, finds_nothing, finds}
 use Rattle.am_program.proofs.Owed.{owed_as, owed_for, owed_under, nothing_found, so_many_found}
 use Rattle.am_program.proofs.calling.make_call.Goals as goal
@@ -19,27 +22,54 @@ use Rattle.am_program.proofs.calling.make_call.Goals as goal
 pub returns-in-Lint : goal.returns-in-Lint
 returns-in-Lint g c =
     let call = c.args.call.now in
-    let asked = c.in-Lint in
-    let inputs : LintInputs = record {
+    let given = c.report_inputs.result in
+    record {
+      kept = owed_for call c.in-Lint.is
+          (owed_as (λ (i : ReportInputs). finds (lint_promise i)) c.report_inputs.ensures
+          (so_many_found (lint_promise given) c.lint.result c.something_found.result
+          c.something_found.ensures c.lint.ensures.kept));
+    }
+
+pub returns-in-Compare : goal.returns-in-Compare
+returns-in-Compare g c =
+    let call = c.args.call.now in
+    let asked = c.in-Compare in
+    let inputs : CompareInputs = record {
       universe = kept_universe asked.universe call.universe.now;
-      config = config_of call.files.config;
+      old = call.old.now;
+      new = call.new.now;
       ascii = asked.ascii;
     } in
-    let given : LintInputs = record {
+    let given : CompareInputs = record {
       universe = option_copied c.kept_universe.result;
-      config = c.config.result.now;
+      old = call.old.now;
+      new = call.new.now;
       ascii = asked.ascii;
     } in
     let same : given ≡ inputs = λ j. record {
       universe = c.kept_universe.ensures j;
-      config = c.config.ensures.bytes j;
+      old = call.old.now;
+      new = call.new.now;
       ascii = asked.ascii;
     } in
     record {
-      kept = owed_for call.universe.now call.files asked.is
-          (owed_as (λ (i : LintInputs). finds (lint_promise i)) same
-          (so_many_found (lint_promise given) c.lint.result c.something_found.result
-          c.something_found.ensures c.lint.ensures.kept));
+      kept = owed_for call asked.is
+          (owed_as (λ (i : CompareInputs). finds (compare_promise i)) same
+          (so_many_found (compare_promise given) c.compare.result
+          c.something_found-in-Compare.result c.something_found-in-Compare.ensures
+          c.compare.ensures.kept));
+    }
+
+pub returns-in-Outcomes : goal.returns-in-Outcomes
+returns-in-Outcomes g c =
+    let call = c.args.call.now in
+    let given = c.report_inputs-in-Outcomes.result in
+    record {
+      kept = owed_for call c.in-Outcomes.is
+          (owed_as (λ (i : ReportInputs). finds_nothing (outcomes_promise i))
+          c.report_inputs-in-Outcomes.ensures
+          (nothing_found (outcomes_promise given) c.outcomes.result
+          c.nothing_found.result c.nothing_found.ensures c.outcomes.ensures.kept));
     }
 
 pub returns-in-Ask : goal.returns-in-Ask
@@ -52,20 +82,20 @@ returns-in-Ask g c =
       after = option_copied c.in-Ask.after;
     } in
     record {
-      kept = owed_for call.universe.now call.files c.in-Ask.is
+      kept = owed_for call c.in-Ask.is
           (owed_under inputs c.limit_of.ensures.limit c.steps_of.ensures.steps
           (nothing_found (ask_promise inputs c.limit_of.result c.steps_of.result) c.ask.result
-          c.nothing_found.result c.nothing_found.ensures c.ask.ensures.kept));
+          c.nothing_found-in-Ask.result c.nothing_found-in-Ask.ensures c.ask.ensures.kept));
     }
 
 pub returns-in-Dead : goal.returns-in-Dead
 returns-in-Dead g c =
     let call = c.args.call.now in
     record {
-      kept = owed_for call.universe.now call.files c.in-Dead.is
+      kept = owed_for call c.in-Dead.is
           (owed_as (λ config. finds_nothing (dead_promise call.universe.now config))
-          c.config-in-Dead.ensures.bytes
-          (nothing_found (dead_promise call.universe.now c.config-in-Dead.result.now)
+          c.config.ensures.bytes
+          (nothing_found (dead_promise call.universe.now c.config.result.now)
           c.dead.result c.nothing_found-in-Dead.result c.nothing_found-in-Dead.ensures
           c.dead.ensures.kept));
     }
@@ -74,7 +104,7 @@ pub returns-in-Receivers : goal.returns-in-Receivers
 returns-in-Receivers g c =
     let call = c.args.call.now in
     record {
-      kept = owed_for call.universe.now call.files c.in-Receivers.is
+      kept = owed_for call c.in-Receivers.is
           (owed_as (λ config. finds_nothing (receivers_promise call.universe.now config))
           c.config-in-Receivers.ensures.bytes
           (nothing_found (receivers_promise call.universe.now c.config-in-Receivers.result.now)
@@ -86,7 +116,7 @@ pub returns-in-Explain : goal.returns-in-Explain
 returns-in-Explain g c =
     let call = c.args.call.now in
     record {
-      kept = owed_for call.universe.now call.files c.in-Explain.is
+      kept = owed_for call c.in-Explain.is
           (owed_as (λ words. finds_nothing (explain_promise call.files (map (λ word. word.now) words)))
           c.as_slice.ensures.value
           (nothing_found
@@ -117,7 +147,7 @@ returns-in-Universe g c =
     let form : UniverseForm =
     record { routes = asked.routes; alphabet = c.alphabet_of.result; «open» = asked.open } in
     record {
-      kept = owed_for call.universe.now call.files asked.is
+      kept = owed_for call asked.is
           (owed_as (λ (a : Alphabet). finds_nothing (universe_promise inputs
           (record { routes = asked.routes; alphabet = a; «open» = asked.open })))
           c.alphabet_of.ensures
@@ -148,7 +178,7 @@ returns-in-CheckUniverse g c =
       questions = map (λ question. question.now) (c.as_slice-in-CheckUniverse.ensures.value j);
     } in
     record {
-      kept = owed_for call.universe.now call.files asked.is
+      kept = owed_for call asked.is
           (owed_as (λ (a : Alphabet). finds_nothing (check_promise a inputs asked.routes))
           c.alphabet_of-in-CheckUniverse.ensures
           (owed_as (λ (i : UniverseInputs).
