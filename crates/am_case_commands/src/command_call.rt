@@ -2,6 +2,7 @@
 
 use crate::coverage::{of_large, of_reports};
 use crate::fates::of_fates;
+use crate::outcomes::of_outcomes;
 use crate::pages::{count_pages, write_page};
 use crate::reports::{Report, write_report};
 use crate::universes::{Universes, ascii, form, of_universes, open, write_universes};
@@ -27,6 +28,7 @@ pub enum CommandCall {
     Reports,
     Large,
     Fates,
+    Outcomes,
 }
 
 impl CommandCall {
@@ -73,6 +75,7 @@ impl CommandCall {
             CommandCall::Reports => Ok(of_reports(alloc, text)?),
             CommandCall::Large => Ok(of_large(alloc, text)?),
             CommandCall::Fates => Ok(of_fates(alloc, text)?),
+            CommandCall::Outcomes => Ok(of_outcomes(alloc, text)?),
         }
     }
 }
@@ -109,6 +112,22 @@ impl Call for CommandCall {
                 "lint-ascii",
                 CommandCall::Report(Report::Lint { ascii: true }),
             ),
+            (
+                "outcomes",
+                CommandCall::Report(Report::Outcomes { ascii: false }),
+            ),
+            (
+                "outcomes-ascii",
+                CommandCall::Report(Report::Outcomes { ascii: true }),
+            ),
+            (
+                "compare",
+                CommandCall::Report(Report::Compare { ascii: false }),
+            ),
+            (
+                "compare-ascii",
+                CommandCall::Report(Report::Compare { ascii: true }),
+            ),
             ("explain", CommandCall::Explain),
             ("made", made(form(false))),
             ("made-by-routes", made(form(true))),
@@ -120,6 +139,7 @@ impl Call for CommandCall {
             ("reports", CommandCall::Reports),
             ("large", CommandCall::Large),
             ("fates", CommandCall::Fates),
+            ("all-choices", CommandCall::Outcomes),
         ];
         value_named(&calls, name)
     }

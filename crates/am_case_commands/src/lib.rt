@@ -1,8 +1,9 @@
 //! What cases call of the commands: answers and their pages, reports, explanations, universes.
 //!
 //! [`CommandCall`] is a call that a table names, and what it gives is a text. Some calls look at
-//! worlds that no one typed: whether the reports tell of them what holds, and whether the universes
-//! that are made stand for every alert.
+//! worlds that no one typed: whether the reports tell of them what holds, whether the universes
+//! that are made stand for every alert, and whether the outcomes that are found are those of all
+//! choices.
 #![tactic(auto)]
 
 // What the commands write.
@@ -13,6 +14,7 @@ mod universes;
 // Worlds that no one typed.
 mod coverage;
 mod fates;
+mod outcomes;
 
 // What a table calls.
 mod command_call;

@@ -1,9 +1,10 @@
-//! Reports: what becomes of each route, or of each receiver, and what is wrong with them.
+//! Reports: what becomes of each route, or of each receiver, and what is wrong with them; to which
+//! receivers alerts go, and what changes there from one configuration to another.
 
 use am_case_runner::Over;
 use am_commands::{dead, receivers};
 use am_labels::{Fault, Sink};
-use am_reports::{LintInputs, lint};
+use am_reports::{CompareInputs, ReportInputs, compare, lint, outcomes};
 use std::alloc::Global;
 
 /// What a report tells of.
@@ -13,10 +14,15 @@ pub enum Report {
     Receivers,
     /// What is wrong with either, for every alert, or for those of printable ASCII alone.
     Lint { ascii: bool },
+    /// To which receivers alerts go, all of them or those of printable ASCII alone.
+    Outcomes { ascii: bool },
+    /// What changes there from the configuration that the line names.
+    Compare { ascii: bool },
 }
 
 /// Writes a report. The text is a configuration file, or a universe file where the line names a
-/// configuration. `lint` has no universe file where the line names none.
+/// configuration; of `compare` it is the new configuration file, and the line names the old one. A
+/// report on every alert has no universe file where the line names none.
 pub fn write_report<W: Sink>(
     alloc: Global,
     report: Report,
@@ -31,29 +37,53 @@ pub fn write_report<W: Sink>(
     match report {
         Report::Routes => dead(alloc, universe, config, out),
         Report::Receivers => receivers(alloc, universe, config, out),
-        Report::Lint { ascii } => write_lint(alloc, ascii, universe, config, out),
+        Report::Lint { ascii } => {
+            uncounted(lint(alloc, &report_inputs(universe, config, ascii), out))
+        }
+        Report::Outcomes { ascii } => {
+            outcomes(alloc, &report_inputs(universe, config, ascii), out)
+        }
+        Report::Compare { ascii } => write_compare(alloc, ascii, over, text, out),
     }
 }
 
-/// Writes what is wrong with a configuration. A universe file without a byte is none.
-fn write_lint<W: Sink>(
+/// Writes what changes from the configuration of a line to that of a text.
+fn write_compare<W: Sink>(
     alloc: Global,
     ascii: bool,
-    universe: &[u8],
-    config: &[u8],
+    over: Over<'_>,
+    text: &[u8],
     out: &mut W,
 ) -> Result<(), Fault> {
-    let universe = if universe.is_empty() {
+    let inputs = CompareInputs {
+        universe: file_if_any(over.universe),
+        old: over.with.unwrap_or(b""),
+        new: text,
+        ascii,
+    };
+    uncounted(compare(alloc, &inputs, out))
+}
+
+fn report_inputs<'a>(universe: &'a [u8], config: &'a [u8], ascii: bool) -> ReportInputs<'a> {
+    ReportInputs {
+        universe: file_if_any(universe),
+        config,
+        ascii,
+    }
+}
+
+/// A universe file; one without a byte is none.
+fn file_if_any(universe: &[u8]) -> Option<&[u8]> {
+    if universe.is_empty() {
         None
     } else {
         Some(universe)
-    };
-    let inputs = LintInputs {
-        universe,
-        config,
-        ascii,
-    };
-    match lint(alloc, &inputs, out) {
+    }
+}
+
+/// The answer of a call that counts what it finds, without the number.
+fn uncounted(found: Result<usize, Fault>) -> Result<(), Fault> {
+    match found {
         Ok(_) => Ok(()),
         Err(fault) => Err(fault),
     }

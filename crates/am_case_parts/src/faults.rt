@@ -65,9 +65,11 @@ fn kind_named(name: &[u8]) -> Option<Kind> {
 }
 
 /// The places, by their names.
-const PLACES: [(&str, Place); 10] = [
+const PLACES: [(&str, Place); 12] = [
     ("universe", Place::Universe),
     ("config", Place::Config),
+    ("old", Place::Old),
+    ("new", Place::New),
     ("silences", Place::Silences),
     ("alerts", Place::Alerts),
     ("instant", Place::Instant),

@@ -62,6 +62,8 @@ fn read_files<'a, R: rt::Files + AllocGlobal>(
     Ok(InputFiles {
         universe: read_if_any(files, paths.universe)?,
         config: read_if_any(files, paths.config)?,
+        old: read_if_any(files, paths.old)?,
+        new: read_if_any(files, paths.new)?,
         silences: read_if_any(files, paths.silences)?,
         alerts: read_if_any(files, paths.alerts)?,
         at: paths.at,
