@@ -67,9 +67,10 @@ def read_cases(name):
     return answers, files
 
 
-def run(script, words, answers, files):
+def run(script, words, answers, files, prepare=None):
     """Runs a script with these words, in a folder with these files, and returns its status, its
-    output and its messages."""
+    output and its messages. `prepare` is called with that folder before, and returns what else is in
+    the environment."""
     with tempfile.TemporaryDirectory(prefix="stand-in-") as name:
         room = pathlib.Path(name)
         for path, text in files.items():
@@ -81,6 +82,7 @@ def run(script, words, answers, files):
         said["answers"] = [(it.out, it.err, it.status) for it in answers]
         (room / "answers").write_text(json.dumps(said), encoding="utf-8")
         env = dict(os.environ, AMCOVER=str(program), ANSWERS=str(room / "answers"))
+        env.update(prepare(room) if prepare else {})
         done = subprocess.run(
             [str(script), *words], cwd=room, env=env, capture_output=True, text=True, timeout=60
         )
