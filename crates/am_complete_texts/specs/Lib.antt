@@ -1,3 +1,5 @@
 pub mod UniverseText
 pub mod CheckText
+pub mod MatchersText
+pub mod Plural
 pub mod Words

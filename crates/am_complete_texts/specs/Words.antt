@@ -6,3 +6,5 @@ pub use Rattle.am_complete_texts.specs.CheckText.{check_text, state_line, state_
 pub use Rattle.am_complete_texts.specs.CheckText.{lacking_text, unseen_text, label_sets, count_text}
 pub use Rattle.am_complete_texts.specs.CheckText.{label_sets_text, all_impossible_text}
 pub use Rattle.am_complete_texts.specs.CheckText.{verdict_text, origin_pointer, child_pointer}
+pub use Rattle.am_complete_texts.specs.MatchersText.{matcher_text, matchers_text}
+pub use Rattle.am_complete_texts.specs.Plural.{plural}

@@ -8,6 +8,7 @@ use Rattle.am_universe.specs.Universe.{Label}
 use Rattle.am_universe.specs.Text.{quoted_text, same_text}
 use Rattle.am_universe.specs.WrittenLabelSet.{set_text}
 use Rattle.am_files.specs.ConfigFile.{Configuration}
+use Rattle.am_complete_texts.specs.Plural.{plural}
 use Rattle.am_complete_texts.specs.UniverseText.{texts_behind}
 
 -- The receivers of an outcome under the configuration at a position, and their names.
@@ -71,9 +72,6 @@ abbrev pub change_line :
 change_line u old new outcome =
     change_text (names_of old (under 0 outcome.0)) (names_of new (under 1 outcome.0))
     ++ first_text u outcome.1
-
-abbrev pub plural : ℕ → List ℕ
-plural n = if n == 1 then codes "" else codes "s"
 
 abbrev pub count_text : ℕ → List ℕ
 count_text n = codes "# " ++ (decimal n ++ (codes " change" ++ (plural n ++ codes "\n")))

@@ -7,11 +7,11 @@ ghost use Rattle.am_files.specs.Words.{config_view};
 ghost use Rattle.am_outcomes.specs.Outcomes.{outcomes_of};
 ghost use Rattle.am_outcomes.specs.OutcomeText.{outcomes_text, changes_text, changes_of};
 ghost use Rattle.am_outcomes.specs.OutcomeText.{names_text, names_of, gap_before_name, same_names};
-ghost use Rattle.am_outcomes.specs.OutcomeText.{change_text, first_text, plural, count_text};
+ghost use Rattle.am_outcomes.specs.OutcomeText.{change_text, first_text, count_text};
 ghost use Rattle.am_outcomes.specs.OutcomeText.{AreDeclared};
 
 use crate::found::Outcomes;
-use am_complete_texts::{push_label_set, push_quoted};
+use am_complete_texts::{plural, push_label_set, push_quoted};
 use am_files::Config;
 use am_labels::{Choice, Universe};
 use std::alloc::{AllocError, Global};
@@ -150,14 +150,7 @@ fn push_first(text: &mut String, universe: &Universe, first: &Choice) -> Result<
 fn push_count(alloc: Global, text: &mut String, count: usize) -> Result<(), AllocError>
     ensures { OnOk result (string_bytes text.new ≡ string_bytes text.old ++ count_text count) }
 {
-    let more = plural(count);
+    let more = plural(count as u128);
     let line = format!(in alloc; "# {count} change{more}\n")?;
     text.push_str(line.as_str())
-}
-
-/// What stands behind the word for so many changes.
-fn plural(n: usize) -> &'static str
-    ensures { result.now ≡ plural n }
-{
-    if n == 1 { "" } else { "s" }
 }

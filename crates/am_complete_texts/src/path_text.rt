@@ -1,0 +1,28 @@
+//! The path of a route, as a part of a longer text.
+
+ghost use Rattle.std.specs.Prelude.{◌≡◌, ◌++◌, string_bytes, OnOk};
+ghost use Rattle.am_files.specs.Words.{path_text, step_text};
+
+use am_files::Path;
+use std::alloc::{AllocError, Global};
+
+/// Adds the text of a path. An `Err` only where memory was refused.
+pub fn push_path(alloc: Global, text: &mut String, path: &Path) -> Result<(), AllocError>
+    ensures path { OnOk result
+        (string_bytes text.new ≡ string_bytes text.old ++ path_text path.now) }
+{
+    if path.len() == 0 {
+        return text.push_str("/");
+    }
+    for position in path.steps() {
+        push_step(alloc, text, *position)?;
+    }
+    Ok(())
+}
+
+fn push_step(alloc: Global, text: &mut String, position: u16) -> Result<(), AllocError>
+    ensures { OnOk result (string_bytes text.new ≡ string_bytes text.old ++ step_text position) }
+{
+    let step = format!(in alloc; "/{position}")?;
+    text.push_str(step.as_str())
+}
