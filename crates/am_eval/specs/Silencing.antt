@@ -16,6 +16,14 @@ abbrev pub is_active : Option ℤ → Silence → Bool
 is_active None silence = false
 is_active (Some instant) silence = int_le silence.starts instant && int_lt instant silence.ends
 
+-- A silence is over at an instant: it has ended by then. Where no instant is given, none is.
+-- Source: Alertmanager API v2, "silence": `endsAt`.
+-- Example: a silence from 10:00 to 11:00 is over at 11:00, and not at 9:00, though it is not active
+-- at either.
+abbrev pub is_over : Option ℤ → Silence → Bool
+is_over None silence = false
+is_over (Some instant) silence = int_le silence.ends instant
+
 -- A silence hides an alert: it is active, and each of its matchers matches the alert.
 -- Source: Alertmanager documentation 0.25, "Silences": an alert is checked whether it matches all
 -- the equality or regular expression matchers of an active silence.

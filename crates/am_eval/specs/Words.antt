@@ -3,7 +3,7 @@ pub use Rattle.am_eval.specs.Routing.{ends, receivers, ends_at, children_seen, e
 pub use Rattle.am_eval.specs.Routing.{receiver_at, MatchesAt, EndsThere}
 pub use Rattle.am_eval.specs.RoutingExamples.{worked, severity_critical, Has}
 pub use Rattle.am_eval.specs.World.{World}
-pub use Rattle.am_eval.specs.Silencing.{is_active, hides, is_silenced, silencers}
+pub use Rattle.am_eval.specs.Silencing.{is_active, is_over, hides, is_silenced, silencers}
 pub use Rattle.am_eval.specs.Silencing.{positions_where, at_instant, IsSteady}
 pub use Rattle.am_eval.specs.SilencingExample.{silenced_world}
 pub use Rattle.am_eval.specs.Pairs.{pairs_of, pairs_of_rule}

@@ -8,7 +8,7 @@ ghost use Rattle.am_universe.specs.declared.place.Place.TheVariants as places;
 ghost use Rattle.am_json.specs.Words.{IsRefusalAt, refusal_here};
 ghost use Rattle.am_files.specs.Words.{config_view};
 ghost use Rattle.am_eval.specs.declared.limits.TheConstants.{MAX_PAIRS};
-ghost use Rattle.am_eval.specs.Silencing.{is_active};
+ghost use Rattle.am_eval.specs.Silencing.{is_active, is_over};
 ghost use Rattle.am_eval.specs.Pairs.{pairs_of};
 
 use crate::limits::MAX_PAIRS;
@@ -130,6 +130,18 @@ impl World {
             → result ≡ is_active self.now.instant silence }
     {
         self.is_active(self.silences.get(i))
+    }
+
+    /// Whether the silence at `i` is over at the instant: it has ended. Without an instant none is.
+    pub fn over(&self, i: usize) -> bool
+        requires silence { i < length self.now.silences }
+        ensures over { (silence : _) → slice_get self.now.silences i ≡ Some silence
+            → result ≡ is_over self.now.instant silence }
+    {
+        match self.instant {
+            Some(instant) => self.silences.get(i).ends() <= instant,
+            None => false,
+        }
     }
 
     /// Whether a silence is active at the instant.
