@@ -99,7 +99,7 @@ AreNamedSoFar ks ls count n =
     AreSameLiterals ks ls
     × ((j : ℕ) (k : Candidate) → slice_get ls j ≡ Some k → j < n → j < count → IsTrue k.named)
 
-at_most : (j i : ℕ) → j < i + 1 → j ≤ i
+pub at_most : (j i : ℕ) → j < i + 1 → j ≤ i
 at_most j i lt = omega (arith, lt)
 
 -- one more of them is named
@@ -130,7 +130,7 @@ restored zero (l ∷ ks) k at named =
 restored (suc i) (l ∷ ks) k at named = ap (λ rest. l ∷ rest) (restored i ks k at named)
 
 -- the order in which names are taken off is no matter
-swapped : (i j : ℕ) (ks : List Candidate) → without j (without i ks) ≡ without i (without j ks)
+pub swapped : (i j : ℕ) (ks : List Candidate) → without j (without i ks) ≡ without i (without j ks)
 swapped i j [] = refl
 swapped zero zero (k ∷ ks) = refl
 swapped zero (suc j) (k ∷ ks) = refl
@@ -148,7 +148,7 @@ at_place i ks k at named = elim (got_renamed i false ks i k at) [
 -- ---- What is met.
 
 -- with fewer names the rest is met
-fewer_met : (c : List ℕ) (i : ℕ) (ks : List Candidate) → meets c ks ≡ true
+pub fewer_met : (c : List ℕ) (i : ℕ) (ks : List Candidate) → meets c ks ≡ true
     → meets c (without i ks) ≡ true
 fewer_met c i [] h = refl
 fewer_met c zero (k ∷ ks) h = (and_parts (not k.named || holds_at c k) (meets c ks) h).1

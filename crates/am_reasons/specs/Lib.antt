@@ -1,4 +1,6 @@
 pub mod Meeting
 pub mod MeetingRefuter
+pub mod PairRefuter
+pub mod Pairs
 pub mod Reason
 pub mod Words

@@ -2,3 +2,5 @@
 pub use Rattle.am_reasons.specs.Meeting.{holds_at, hold_all, meets, IsMet, IsUnmet, IsAnyMet}
 pub use Rattle.am_reasons.specs.Reason.{AreSameLiterals, AreNamedBefore, renamed, without}
 pub use Rattle.am_reasons.specs.Reason.{IsReason}
+pub use Rattle.am_reasons.specs.Pairs.{AreDeclaredIn, are_same_at, IsPair, ArePaired, AreUnpaired}
+pub use Rattle.am_reasons.specs.Pairs.{IsPairReason}

@@ -3,7 +3,8 @@
 //! A [`Candidate`] is a literal, a cube that has to match or must not match, which may be named or
 //! not. [`first_meeting`] finds the first label set that meets those that are named. Where there is
 //! none that meets all, [`find_reason`] names some of them: enough, so that no label set meets
-//! those that are named, and each of them needed.
+//! those that are named, and each of them needed. [`first_pair`] and [`find_pair_reason`] do the
+//! same for two label sets that share the values of some labels, each with literals of its own.
 #![tactic(auto)]
 
 // Literals, and the first label set that meets those that are named.
@@ -17,3 +18,10 @@ pub use meeting::first_meeting;
 mod reason;
 
 pub use reason::find_reason;
+
+// Pairs of label sets that share values, and the same search for them.
+mod pair;
+mod pair_reason;
+
+pub use pair::first_pair;
+pub use pair_reason::find_pair_reason;

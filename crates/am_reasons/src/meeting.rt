@@ -61,7 +61,7 @@ impl<'a> Refuter for MeetingRefuter<'a> {
 
 /// Why no completion of a prefix meets the literals that are named, where their cubes say so: the
 /// reason against the first that is not met.
-fn why_unmet(candidates: &[Candidate<'_>], prefix: &Choice) -> Option<Labels>
+pub(crate) fn why_unmet(candidates: &[Candidate<'_>], prefix: &Choice) -> Option<Labels>
     ensures some { IfSome result (λ labels.
         IsReasonAgainst (λ c. meets c candidates.now) labels prefix.now) }
     ensures none { IfNone result (meets prefix.now candidates.now ≡ true) }

@@ -106,7 +106,7 @@ fn leave_out_at(possible: &PossibleRefuter<'_>, candidates: &mut [Candidate<'_>]
 }
 
 /// Names the literal at a position, or takes its name off.
-fn set_named(candidates: &mut [Candidate<'_>], i: usize, named: bool)
+pub(crate) fn set_named(candidates: &mut [Candidate<'_>], i: usize, named: bool)
     requires { i < length candidates.old }
     ensures { candidates.new ≡ renamed i named candidates.old }
 {

@@ -1,0 +1,216 @@
+//! Pairs of label sets that share the values of some labels, and meet the literals of two sides.
+
+ghost use Rattle.std.specs.Prelude.{◌≡◌, ◌<◌, ◌≤◌, ℕ, true, false, length, IfSome, IfNone};
+ghost use Rattle.std.specs.List.{find, AllByRecursion};
+ghost use Rattle.std.proofs.Props.{props};
+ghost use Rattle.am_universe.specs.Words.{IsWhole};
+ghost use Rattle.am_universe.specs.declared.limits.TheConstants.{MAX_LABELS};
+ghost use Rattle.am_labels.specs.Words.{sizes, all_choices, IsChoiceOf};
+ghost use Rattle.am_search.specs.Words.{has_label};
+ghost use Rattle.am_first_sets.specs.Words.{possible_space};
+ghost use Rattle.am_first_sets.specs.Reasons.{IsReasonAgainst};
+ghost use Rattle.am_reasons.specs.Pairs.{AreDeclaredIn, are_same_at, IsPair, AreUnpaired};
+ghost use Rattle.am_reasons.specs.Pairs.{is_partner, has_partner, is_shared};
+
+use crate::Candidate;
+use crate::meeting::why_unmet;
+use am_first_sets::PossibleRefuter;
+use am_labels::Choice;
+use am_search::{Labels, Refuter, first_by_jumps};
+
+/// Two choices of a space that have the same positions at some labels, of which the first meets the
+/// literals of one side that are named, and the second those of the other; if there are such. No
+/// memory is taken.
+pub fn first_pair(
+    possible: &PossibleRefuter<'_>,
+    shared: &[usize],
+    first: &[Candidate<'_>],
+    second: &[Candidate<'_>],
+) -> Option<(Choice, Choice)>
+    requires labels { AreDeclaredIn (possible_space possible.now) shared.now }
+    ensures some { IfSome result (λ pair. IsPair (possible_space possible.now) shared.now
+        first.now second.now pair.0 pair.1) }
+    ensures none { IfNone result (AreUnpaired (possible_space possible.now) shared.now
+        first.now second.now) }
+{
+    let refuter = PairRefuter {
+        possible,
+        shared,
+        first,
+        second,
+    };
+    let Some(choice) = first_by_jumps(&refuter) else {
+        return None;
+    };
+    match first_partner(possible, shared, &choice, second) {
+        Some(partner) => Some((choice, partner)),
+        // What was found has a partner.
+        None => unreachable!(),
+    }
+}
+
+/// What refutes prefixes none of whose completions is possible, meets the literals of the first
+/// side, and has a partner that meets those of the second.
+#[derive(Drop)]
+struct PairRefuter<'a> {
+    possible: &'a PossibleRefuter<'a>,
+    shared: &'a [usize],
+    first: &'a [Candidate<'a>],
+    second: &'a [Candidate<'a>],
+    ghost labels: { AreDeclaredIn (possible_space possible.now)
+        shared.now } by { Prim.hlevel props },
+}
+
+impl<'a> Refuter for PairRefuter<'a> {
+    ghost use Rattle.am_reasons.specs.PairRefuter.{pair_sizes, pair_truth, pair_are_sizes};
+
+    ghost sizes = { pair_sizes };
+
+    ghost truth = { pair_truth };
+
+    ghost laws = { pair_are_sizes };
+
+    fn labels(&self) -> usize {
+        self.possible.labels()
+    }
+
+    fn size(&self, i: usize) -> usize {
+        self.possible.size(i)
+    }
+
+    fn refute(&self, prefix: &Choice) -> Option<Labels> {
+        if let Some(labels) = self.possible.refute(prefix) {
+            return Some(labels);
+        }
+        if let Some(labels) = why_unmet(self.first, prefix) {
+            return Some(labels);
+        }
+        if prefix.len() < self.possible.labels() {
+            return None;
+        }
+        match first_partner(self.possible, self.shared, prefix, self.second) {
+            Some(_) => None,
+            None => Some(shared_to_blame(self.possible, self.shared, prefix, self.second)),
+        }
+    }
+}
+
+/// Which of the shared labels are to blame that a whole choice has no partner: one of them, if it
+/// has none that shares that label alone; else all of them. Whatever has the same positions there
+/// has no partner either.
+fn shared_to_blame(
+    possible: &PossibleRefuter<'_>,
+    shared: &[usize],
+    choice: &Choice,
+    candidates: &[Candidate<'_>],
+) -> Labels
+    requires labels { AreDeclaredIn (possible_space possible.now) shared.now }
+    requires whole { IsWhole (sizes (possible_space possible.now).labels) choice.now }
+    requires none { has_partner (possible_space possible.now) shared.now candidates.now choice.now
+        ≡ false }
+    ensures { IsReasonAgainst (has_partner (possible_space possible.now) shared.now candidates.now)
+        result choice.now }
+{
+    for label in shared {
+        if first_partner(possible, &[*label], choice, candidates).is_none() {
+            return Labels::none().with(*label);
+        }
+    }
+    labels_at(shared)
+}
+
+/// The first choice of a space that has the same positions as another at some labels, and meets the
+/// literals that are named, if there is one.
+fn first_partner(
+    possible: &PossibleRefuter<'_>,
+    shared: &[usize],
+    choice: &Choice,
+    candidates: &[Candidate<'_>],
+) -> Option<Choice>
+    requires labels { AreDeclaredIn (possible_space possible.now) shared.now }
+    requires whole { IsWhole (sizes (possible_space possible.now).labels) choice.now }
+    ensures first { result ≡ find (is_partner shared.now candidates.now choice.now)
+        (all_choices (possible_space possible.now)) }
+    ensures possible { IfSome result (IsChoiceOf (possible_space possible.now)) }
+{
+    let refuter = PartnerRefuter {
+        possible,
+        shared,
+        choice,
+        candidates,
+    };
+    first_by_jumps(&refuter)
+}
+
+/// What refutes prefixes none of whose completions is possible, has the same positions as a whole
+/// choice at some labels, and meets the literals.
+#[derive(Drop)]
+struct PartnerRefuter<'a> {
+    possible: &'a PossibleRefuter<'a>,
+    shared: &'a [usize],
+    choice: &'a Choice,
+    candidates: &'a [Candidate<'a>],
+    ghost labels: { AreDeclaredIn (possible_space possible.now)
+        shared.now } by { Prim.hlevel props },
+    ghost whole: { IsWhole (sizes (possible_space possible.now).labels)
+        choice.now } by { Prim.hlevel props },
+}
+
+impl<'a> Refuter for PartnerRefuter<'a> {
+    ghost use Rattle.am_reasons.specs.PairRefuter.{partner_sizes, partner_truth};
+    ghost use Rattle.am_reasons.specs.PairRefuter.{partner_are_sizes};
+
+    ghost sizes = { partner_sizes };
+
+    ghost truth = { partner_truth };
+
+    ghost laws = { partner_are_sizes };
+
+    fn labels(&self) -> usize {
+        self.possible.labels()
+    }
+
+    fn size(&self, i: usize) -> usize {
+        self.possible.size(i)
+    }
+
+    fn refute(&self, prefix: &Choice) -> Option<Labels> {
+        if let Some(labels) = why_apart(self.shared, self.choice, prefix) {
+            return Some(labels);
+        }
+        if let Some(labels) = self.possible.refute(prefix) {
+            return Some(labels);
+        }
+        why_unmet(self.candidates, prefix)
+    }
+}
+
+/// Why no completion of a prefix has the same positions as a choice at some labels, where the
+/// prefix says so: the first of them at which it has another.
+fn why_apart(shared: &[usize], choice: &Choice, prefix: &Choice) -> Option<Labels>
+    requires labels { AllByRecursion (λ i. i < length choice.now) shared.now }
+    requires few { length choice.now ≤ MAX_LABELS }
+    ensures some { IfSome result (λ labels.
+        IsReasonAgainst (are_same_at shared.now choice.now) labels prefix.now) }
+    ensures none { IfNone result (length choice.now ≤ length prefix.now
+        → are_same_at shared.now choice.now prefix.now ≡ true) }
+{
+    for label in shared {
+        if *label < prefix.len() && prefix.get(*label) != choice.get(*label) {
+            return Some(Labels::none().with(*label));
+        }
+    }
+    None
+}
+
+/// The set of some labels.
+fn labels_at(shared: &[usize]) -> Labels
+    requires { AllByRecursion (λ i. i < MAX_LABELS) shared.now }
+    ensures { (i : ℕ) → has_label result i ≡ is_shared shared.now i }
+{
+    let mut labels = Labels::none();
+    for label in shared {
+        labels = labels.with(*label);
+    }
+    labels
+}
