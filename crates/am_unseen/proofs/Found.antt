@@ -1,0 +1,76 @@
+-- The first of a list that passes a test, and tests that all of a list pass.
+use Rattle.std.proofs.Common.{◌≡◌, List, [], ◌∷◌, refl, sym, ap, ◌∙◌, Bool, true, false}
+use Rattle.std.proofs.Common.{Some, None, inl, inr}
+use Rattle.std.specs.List.{find, list_all}
+use Rattle.std.proofs.lemmas.Bool.{cases_Bool, and_parts}
+use Rattle.am_universe.proofs.ListLemmas.{IsIn}
+
+-- ---- The first that passes.
+
+pub find_none : {X : Type 0} (test : X → Bool) (xs : List X)
+    → ((x : X) → IsIn xs x → test x ≡ false) → find test xs ≡ None
+find_none test [] each = refl
+find_none test (x ∷ xs) each =
+    rw (each x (inl refl)) (find_none test xs (λ y i. each y (inr i)))
+
+pub find_same : {X : Type 0} (p q : X → Bool) (xs : List X)
+    → ((x : X) → IsIn xs x → p x ≡ q x) → find p xs ≡ find q xs
+find_same p q [] each = refl
+find_same p q (x ∷ xs) each =
+    let later = find_same p q xs (λ y i. each y (inr i)) in
+    rw (each x (inl refl), later) refl
+
+pub found_in : {X : Type 0} (test : X → Bool) (xs : List X) (x : X) → find test xs ≡ Some x
+    → IsIn xs x × (test x ≡ true)
+found_in test [] x e = absurd (cc)
+found_in test (y ∷ xs) x e = elim (cases_Bool (test y)) [
+  | inl passes ↦
+      let first : Some y ≡ Some x = rw passes at e in
+      let same : y ≡ x = cc in (inl same, ap test (sym same) ∙ passes)
+  | inr fails ↦
+      let r = found_in test xs x (rw fails at e) in (inr r.0, r.1)
+]
+
+-- where one passes, one is found
+pub one_found : {X : Type 0} (test : X → Bool) (xs : List X) (x : X) → IsIn xs x
+    → test x ≡ true → (y : X) × (find test xs ≡ Some y)
+one_found test [] x i passes = absurd i
+one_found test (y ∷ xs) x (inl same) passes =
+    let here : test y ≡ true = ap test same ∙ passes in (y, rw here refl)
+one_found test (y ∷ xs) x (inr later) passes = elim (cases_Bool (test y)) [
+  | inl here ↦ (y, rw here refl)
+  | inr fails ↦ let r = one_found test xs x later passes in (r.0, rw fails r.1)
+]
+
+-- ---- All pass.
+
+pub all_each : {X : Type 0} (test : X → Bool) (xs : List X) (x : X) → list_all test xs ≡ true
+    → IsIn xs x → test x ≡ true
+all_each test [] x all i = absurd i
+all_each test (y ∷ xs) x all (inl same) =
+    ap test (sym same) ∙ (and_parts (test y) (list_all test xs) all).0
+all_each test (y ∷ xs) x all (inr i) =
+    all_each test xs x (and_parts (test y) (list_all test xs) all).1 i
+
+pub each_all : {X : Type 0} (test : X → Bool) (xs : List X)
+    → ((x : X) → IsIn xs x → test x ≡ true) → list_all test xs ≡ true
+each_all test [] each = refl
+each_all test (x ∷ xs) each = rw (each x (inl refl)) (each_all test xs (λ y i. each y (inr i)))
+
+-- ---- Lists with the same elements.
+
+abbrev pub HaveSame : {X : Type 0} → List X → List X → Type 0
+HaveSame {X} xs ys = ((x : X) → IsIn xs x → IsIn ys x) × ((x : X) → IsIn ys x → IsIn xs x)
+
+-- two tests that imply each other are one
+pub one_test : (a b : Bool) → (a ≡ true → b ≡ true) → (b ≡ true → a ≡ true) → a ≡ b
+one_test true b there back = sym (there refl)
+one_test false true there back = back refl
+one_test false false there back = refl
+
+pub all_same : {X : Type 0} (test : X → Bool) (xs ys : List X) → HaveSame xs ys
+    → list_all test xs ≡ list_all test ys
+all_same test xs ys same =
+    one_test (list_all test xs) (list_all test ys)
+    (λ all. each_all test ys (λ x i. all_each test xs x all (same.1 x i)))
+    (λ all. each_all test xs (λ x i. all_each test ys x all (same.0 x i)))

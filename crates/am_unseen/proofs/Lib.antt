@@ -1,0 +1,8 @@
+pub mod Found
+pub mod Nearest
+pub mod Lengths
+pub mod EachOnce
+pub mod SeenValues
+pub mod SeenSets
+pub mod UnseenMatchers
+pub mod SearchSteps

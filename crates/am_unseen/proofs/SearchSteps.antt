@@ -1,0 +1,132 @@
+-- Matchers that are looked at one after another: those that are left, and what the search finds.
+use Rattle.std.proofs.Common.{◌≡◌, ℕ, ◌+◌, ◌<◌, List, [], ◌∷◌, ◌++◌, length, get_or, drop}
+use Rattle.std.proofs.Common.{Some, fold, sym, ap, ◌∙◌, refl, false, true, append_assoc, append-nil}
+use Rattle.std.proofs.Common.{inl, inr, zero, suc, arith}
+use Rattle.std.specs.Prelude.{slice_get}
+use Rattle.std.specs.List.{flat_map, enumerate_from, filter}
+use Rattle.std.proofs.lemmas.Bool.{cases_Bool}
+use Rattle.std.proofs.lemmas.List.{at_drop_more}
+use Rattle.std.proofs.lemmas.List.Sums.{fold-append}
+use Rattle.am_universe.specs.LabelSet.{LabelMap}
+use Rattle.am_universe.proofs.Members.{left_at}
+use Rattle.am_labels.specs.Matcher.{Condition}
+use Rattle.am_records.specs.SilencesFile.{Silence}
+use Rattle.am_files.specs.ConfigFile.{RouteTree}
+use Rattle.am_eval.specs.World.{World}
+use Rattle.am_eval.specs.Silencing.{is_over}
+use Rattle.am_complete.specs.declared.origin.Origin.{Origin}
+use Rattle.am_asked.specs.Placed.{placed_at, placed_by_route, placed_in_silence}
+use Rattle.am_unseen.specs.Unseen.{UnseenValue, names_unseen_value, unseen_value_of, is_left}
+use Rattle.am_unseen.specs.Unseen.{unseen_values_among}
+use Rattle.am_unseen.specs.Search.{Search, after_matcher}
+
+-- the search so far, with the matchers that are left, is what all of them make of the first
+abbrev pub IsOnTheWay : Search → List (Origin × Condition) → Search → List (Origin × Condition)
+    → Type 0
+IsOnTheWay before all now left = fold after_matcher now left ≡ fold after_matcher before all
+
+-- ---- One more.
+
+-- one matcher of a list more
+pub one_more_matcher : (origin : Origin) (ms : List Condition) (i : ℕ) (m : Condition)
+    (now next whole : Search) → slice_get ms i ≡ Some m
+    → next ≡ after_matcher now (origin, m)
+    → fold after_matcher now (placed_at origin (drop i ms)) ≡ whole
+    → fold after_matcher next (placed_at origin (drop (i + 1) ms)) ≡ whole
+one_more_matcher origin ms i m now next whole there step before =
+    ap (λ s. fold after_matcher s (placed_at origin (drop (i + 1) ms))) step
+    ∙ ap (λ left. fold after_matcher now (placed_at origin left)) (sym (left_at ms i m there))
+    ∙ before
+
+-- the matchers that stand in front of the others
+passed : (front rest : List (Origin × Condition)) (now next whole : Search)
+    → next ≡ fold after_matcher now front → fold after_matcher now (front ++ rest) ≡ whole
+    → fold after_matcher next rest ≡ whole
+passed front rest now next whole step before =
+    ap (λ s. fold after_matcher s rest) step ∙ sym (fold-append after_matcher now front rest)
+    ∙ before
+
+-- the matchers of one thing more, of some that each have matchers
+pub one_more_thing : {X : Type 0} (f : ℕ × X → List (Origin × Condition)) (xs : List X) (i : ℕ)
+    (x : X) (now next whole : Search) → i < length xs → x ≡ get_or xs i x
+    → next ≡ fold after_matcher now (f (i, x))
+    → fold after_matcher now (flat_map f (enumerate_from i (drop i xs))) ≡ whole
+    → fold after_matcher next (flat_map f (enumerate_from (i + 1) (drop (i + 1) xs))) ≡ whole
+one_more_thing {X} f xs i x now next whole lt is step before =
+    let F : List X → Search = λ ys. fold after_matcher now (flat_map f (enumerate_from i ys)) in
+    passed (f (i, x)) (flat_map f (enumerate_from (i + 1) (drop (i + 1) xs))) now next whole step
+    (ap (λ y. F (y ∷ drop (i + 1) xs)) is ∙ sym (at_drop_more F xs i x lt) ∙ before)
+
+-- the matchers of one route more
+pub one_more_route : (all : List (List ℕ × RouteTree)) (i : ℕ) (r : List ℕ × RouteTree)
+    (now next whole : Search) → slice_get all i ≡ Some r
+    → next ≡ fold after_matcher now (placed_by_route r)
+    → fold after_matcher now (flat_map placed_by_route (drop i all)) ≡ whole
+    → fold after_matcher next (flat_map placed_by_route (drop (i + 1) all)) ≡ whole
+one_more_route all i r now next whole there step before =
+    passed (placed_by_route r) (flat_map placed_by_route (drop (i + 1) all)) now next whole step
+    (ap (λ left. fold after_matcher now (flat_map placed_by_route left))
+    (sym (left_at all i r there))
+    ∙ before)
+
+-- ---- Silences.
+
+-- the matchers of those from a position on that are not over
+abbrev pub left_from : World → ℕ → List (Origin × Condition)
+left_from w i =
+    flat_map placed_in_silence (filter (is_left w) (enumerate_from i (drop i w.silences)))
+
+with_first : (w : World) (i : ℕ) (silence : Silence) → slice_get w.silences i ≡ Some silence
+    → left_from w i ≡ flat_map placed_in_silence
+    (filter (is_left w) ((i, silence) ∷ enumerate_from (i + 1) (drop (i + 1) w.silences)))
+with_first w i silence at =
+    ap (λ left. flat_map placed_in_silence (filter (is_left w) (enumerate_from i left)))
+    (left_at w.silences i silence at)
+
+-- a silence stands at each position of the list
+pub stands_at : {X : Type 0} (xs : List X) (i : ℕ) → i < length xs
+    → (x : X) × (slice_get xs i ≡ Some x)
+stands_at [] i lt = absurd (omega (arith, lt))
+stands_at (x ∷ xs) zero lt = (x, refl)
+stands_at (x ∷ xs) (suc i) lt = stands_at xs i (omega (arith, lt))
+
+-- one that is over is passed over
+pub one_over : (w : World) (i : ℕ) (silence : Silence) (now whole : Search)
+    → slice_get w.silences i ≡ Some silence → is_over w.instant silence ≡ true
+    → fold after_matcher now (left_from w i) ≡ whole
+    → fold after_matcher now (left_from w (i + 1)) ≡ whole
+one_over w i silence now whole at over before =
+    let same : left_from w i ≡ left_from w (i + 1) = with_first w i silence at ∙ rw over refl in
+    ap (fold after_matcher now) (sym same) ∙ before
+
+-- and one that is not is looked at
+pub one_left : (w : World) (i : ℕ) (silence : Silence) (now next whole : Search)
+    → slice_get w.silences i ≡ Some silence → is_over w.instant silence ≡ false
+    → next ≡ fold after_matcher now (placed_in_silence (i, silence))
+    → fold after_matcher now (left_from w i) ≡ whole
+    → fold after_matcher next (left_from w (i + 1)) ≡ whole
+one_left w i silence now next whole at left step before =
+    let same : left_from w i ≡ placed_in_silence (i, silence) ++ left_from w (i + 1) =
+    with_first w i silence at ∙ rw left refl in
+    passed (placed_in_silence (i, silence)) (left_from w (i + 1)) now next whole step
+    (ap (fold after_matcher now) (sym same) ∙ before)
+
+-- ---- What is found in the end.
+
+abbrev state : List LabelMap → List UnseenValue → Search
+state alerts found = record { alerts = alerts; found = found }
+
+pub found_after : (alerts : List LabelMap) (found : List UnseenValue)
+    (placed : List (Origin × Condition))
+    → fold after_matcher (record { alerts = alerts; found = found }) placed
+    ≡ record { alerts = alerts; found = found ++ unseen_values_among alerts placed }
+found_after alerts found [] = ap (state alerts) (sym (append-nil found))
+found_after alerts found (p ∷ ps) =
+    elim (cases_Bool (names_unseen_value alerts p.1)) [
+      | inl unseen ↦
+          let more = unseen_value_of alerts p in
+          rw unseen (found_after alerts (found ++ more ∷ []) ps
+          ∙ ap (state alerts)
+          (append_assoc found (more ∷ []) (unseen_values_among alerts ps)))
+      | inr seen ↦ rw seen (found_after alerts found ps)
+    ]

@@ -1,0 +1,105 @@
+-- The values that alerts have for a label, alert by alert, and what a set of them is asked.
+use Rattle.std.proofs.Common.{◌≡◌, ℕ, ◌+◌, List, [], ◌∷◌, ◌++◌, refl, sym, ap, ◌∙◌, Bool, true, false}
+use Rattle.std.proofs.Common.{Some, take, map, fold, length, Bor, not, inl, inr, ◌≢◌}
+use Rattle.std.specs.Prelude.{slice_get}
+use Rattle.std.specs.List.{filter, list_any}
+use Rattle.std.proofs.lemmas.Bool.{cases_Bool}
+use Rattle.std.proofs.lemmas.List.{take_more, map_push, append-nil}
+use Rattle.std.proofs.lemmas.List.Elements.{filter-append}
+use Rattle.std.proofs.lemmas.List.Sums.{fold-append}
+use Rattle.std.proofs.lemmas.Option.{slice_get_within, get_or_from_slice_get}
+use Rattle.indexmap.specs.IndexSet.{insert_key}
+use Rattle.am_universe.specs.LabelSet.{LabelMap, value_of}
+use Rattle.am_universe.specs.Text.{same_text}
+use Rattle.am_complete.specs.FoundState.{begins}
+use Rattle.am_unseen.specs.Unseen.{seen_values, is_missing}
+use Rattle.am_unseen.specs.Search.{with_text, each_once}
+
+-- ---- One alert more.
+
+one_more : {X : Type 0} (xs : List X) (i : ℕ) (x : X) → slice_get xs i ≡ Some x
+    → take (i + 1) xs ≡ take i xs ++ x ∷ []
+one_more xs i x at =
+    take_more xs i x (slice_get_within xs i x at)
+    ∙ ap (λ y. take i xs ++ y ∷ []) (get_or_from_slice_get xs i x x at)
+
+seen_more : (alerts : List LabelMap) (name : List ℕ) (i : ℕ) (a : LabelMap)
+    → slice_get alerts i ≡ Some a
+    → seen_values (take (i + 1) alerts) name
+    ≡ seen_values (take i alerts) name ++ filter begins (value_of a name ∷ [])
+seen_more alerts name i a at =
+    ap (λ as'. seen_values as' name) (one_more alerts i a at)
+    ∙ ap (filter begins) (map_push (λ b. value_of b name) (take i alerts) a)
+    ∙ filter-append begins (map (λ b. value_of b name) (take i alerts)) (value_of a name ∷ [])
+
+-- an alert without the label
+pub none_more : (alerts : List LabelMap) (name : List ℕ) (i : ℕ) (a : LabelMap)
+    (texts : List (List ℕ)) → slice_get alerts i ≡ Some a → begins (value_of a name) ≡ false
+    → texts ≡ each_once (seen_values (take i alerts) name)
+    → texts ≡ each_once (seen_values (take (i + 1) alerts) name)
+none_more alerts name i a texts at none so_far =
+    let before = seen_values (take i alerts) name in
+    let same : seen_values (take (i + 1) alerts) name ≡ before =
+    seen_more alerts name i a at ∙ rw none (append-nil before) in
+    so_far ∙ ap each_once (sym same)
+
+-- and one with it
+pub value_more : (alerts : List LabelMap) (name : List ℕ) (i : ℕ) (a : LabelMap)
+    (texts more : List (List ℕ)) → slice_get alerts i ≡ Some a
+    → begins (value_of a name) ≡ true → more ≡ with_text texts (value_of a name)
+    → texts ≡ each_once (seen_values (take i alerts) name)
+    → more ≡ each_once (seen_values (take (i + 1) alerts) name)
+value_more alerts name i a texts more at some put so_far =
+    let before = seen_values (take i alerts) name in
+    let v = value_of a name in
+    let longer : seen_values (take (i + 1) alerts) name ≡ before ++ v ∷ [] =
+    seen_more alerts name i a at ∙ rw some refl in
+    put ∙ ap (λ ts. with_text ts v) so_far
+    ∙ sym (ap (λ vs. fold with_text [] vs) longer ∙ fold-append with_text [] before (v ∷ []))
+
+-- ---- A set.
+
+module _ (eq : Bor (List ℕ) → Bor (List ℕ) → Bool)
+    (same : (a b : Bor (List ℕ)) → eq a b ≡ same_text a.now b.now) where
+  any_text : (keys : List (Bor (List ℕ))) (k : Bor (List ℕ))
+      → list_any (eq k) keys ≡ list_any (same_text k.now) (map (λ t. t.now) keys)
+  any_text [] k = refl
+  any_text (x ∷ keys) k = rw (same k x, any_text keys k) refl
+
+  -- one text more
+  pub texts_inserted : (keys : List (Bor (List ℕ))) (k : Bor (List ℕ))
+      → map (λ t. t.now) (insert_key eq keys k) ≡ with_text (map (λ t. t.now) keys) k.now
+  texts_inserted keys k = elim (cases_Bool (list_any (eq k) keys)) [
+    | inl some ↦
+        let there : list_any (same_text k.now) (map (λ t. t.now) keys) ≡ true =
+        sym (any_text keys k) ∙ some in
+        rw (some, there) refl
+    | inr none ↦
+        let absent : list_any (same_text k.now) (map (λ t. t.now) keys) ≡ false =
+        sym (any_text keys k) ∙ none in
+        rw (none, absent) (map_push (λ (t : Bor (List ℕ)). t.now) keys k)
+  ]
+
+-- whether a set has a text
+pub text_there : (test : Bor (List ℕ) → Bool) (text : List ℕ)
+    → ((k : Bor (List ℕ)) → test k ≡ same_text text k.now) → (keys : List (Bor (List ℕ)))
+    → list_any test keys ≡ list_any (same_text text) (map (λ t. t.now) keys)
+text_there test text same [] = refl
+text_there test text same (k ∷ keys) = rw (same k, text_there test text same keys) refl
+
+-- a text that is missing, and one that is not
+pub none_missing : (text : List ℕ) (texts : List (Bor (List ℕ))) → length texts ≡ 0
+    → is_missing text (map (λ t. t.now) texts) ≡ false
+none_missing text [] e = refl
+none_missing text (t ∷ ts) e = absurd (cc)
+
+pub one_there : (text : List ℕ) (texts : List (List ℕ)) → list_any (same_text text) texts ≡ true
+    → is_missing text texts ≡ false
+one_there text [] e = refl
+one_there text (t ∷ ts) e = ap not e
+
+pub one_missing : (text : List ℕ) (texts : List (Bor (List ℕ))) → length texts ≢ 0
+    → list_any (same_text text) (map (λ t. t.now) texts) ≡ false
+    → is_missing text (map (λ t. t.now) texts) ≡ true
+one_missing text [] some e = absurd (some refl)
+one_missing text (t ∷ ts) some e = ap not e

@@ -1,0 +1,5 @@
+pub mod Unseen
+pub mod Search
+pub mod SearchCode
+pub mod UnseenText
+pub mod Words

@@ -1,0 +1,47 @@
+-- What is kept while the matchers of a world are looked at.
+use Rattle.std.specs.Prelude.{◌≡◌, ℕ, List, [], ◌∷◌, ◌++◌, map, fold, Option, Some}
+use Rattle.std.specs.Prelude.{if◌then◌else◌}
+use Rattle.std.specs.List.{list_any}
+use Rattle.std.specs.BTreeMap.{BTreeMap, get_by}
+use Rattle.std.specs.Ordering.{nat_cmp}
+use Rattle.std.specs.Cmp.Lexicographic.{slice_cmp}
+use Rattle.indexmap.specs.IndexSet.{IndexSet}
+use Rattle.am_universe.specs.LabelSet.{LabelMap}
+use Rattle.am_universe.specs.Text.{same_text}
+use Rattle.am_labels.specs.Matcher.{Condition}
+use Rattle.am_complete.specs.declared.origin.Origin.{Origin}
+use Rattle.am_unseen.specs.Unseen.{UnseenValue, seen_values, names_unseen_value, unseen_value_of}
+use denote.Ref.{Bor}
+
+-- The alerts, and the unseen values that were found so far.
+pub record Search : Type 0 where
+  pub alerts : List LabelMap
+  pub found : List UnseenValue
+
+-- A search that has looked at one matcher more, which stands somewhere.
+abbrev pub after_matcher : Search → Origin × Condition → Search
+after_matcher s placed =
+    if names_unseen_value s.alerts placed.1
+    then record s { found = s.found ++ unseen_value_of s.alerts placed ∷ [] }
+    else s
+
+-- Texts, each once, in the order in which they come first.
+abbrev pub with_text : List (List ℕ) → List ℕ → List (List ℕ)
+with_text texts text = if list_any (same_text text) texts then texts else texts ++ text ∷ []
+
+abbrev pub each_once : List (List ℕ) → List (List ℕ)
+each_once texts = fold with_text [] texts
+
+-- The texts of a set, in their order.
+abbrev pub texts_of : {S : Type 0} → IndexSet (Bor (List ℕ)) S → List (List ℕ)
+texts_of texts = map (λ t. t.now) texts.keys
+
+-- A map has for some names the values that alerts have for these labels, each once.
+abbrev pub set_at : {S : Type 0} → BTreeMap (Bor (List ℕ)) S → List ℕ → Option S
+set_at sets name = get_by (λ k. slice_cmp nat_cmp name k.now) sets
+
+abbrev pub AreSeen : {S : Type 0} → List LabelMap
+    → BTreeMap (Bor (List ℕ)) (IndexSet (Bor (List ℕ)) S) → Type 0
+AreSeen {S} alerts sets =
+    (name : List ℕ) (values : IndexSet (Bor (List ℕ)) S) → set_at sets name ≡ Some values
+    → texts_of values ≡ each_once (seen_values alerts name)

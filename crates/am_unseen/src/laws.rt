@@ -1,0 +1,35 @@
+//! Facts about the definitions alone: each is the contract of a function with an empty body.
+ghost use Rattle.std.specs.Prelude.{◌≡◌, ◌≢◌, ◌<◌, ◌≤◌, ℕ, List, [], Some, None, Contains, IsTrue};
+ghost use Rattle.std.specs.Prelude.{false};
+ghost use Rattle.std.specs.List.{AllByRecursion, list_any};
+ghost use Rattle.am_universe.specs.LabelSet.{LabelMap};
+ghost use Rattle.am_labels.specs.Matcher.{Condition, condition_holds};
+ghost use Rattle.am_labels.specs.declared.op.Op.TheVariants as operators;
+ghost use Rattle.am_complete.specs.FoundState.{has_label};
+ghost use Rattle.am_unseen.specs.declared.limits.TheConstants.{MOST_EDITS};
+ghost use Rattle.am_unseen.specs.Unseen.{names_unseen_value, most_similar, edits_between};
+
+/// A matcher that names an unseen value matches no alert, though some alert has its label. And a
+/// matcher with `=` and a value of which this is so names an unseen value.
+pub fn a_matcher_of_an_unseen_value_matches_no_alert()
+    ensures matches_none { (alerts : List LabelMap) (m : Condition)
+        → IsTrue (names_unseen_value alerts m)
+        → list_any (λ a. condition_holds a m) alerts ≡ false }
+    ensures some_has_label { (alerts : List LabelMap) (m : Condition)
+        → IsTrue (names_unseen_value alerts m) → IsTrue (list_any (has_label m.name) alerts) }
+    ensures each_is_told { (alerts : List LabelMap) (m : Condition) → m.op ≡ operators.Equal
+        → m.value ≢ [] → IsTrue (list_any (has_label m.name) alerts)
+        → list_any (λ a. condition_holds a m) alerts ≡ false
+        → IsTrue (names_unseen_value alerts m) }
+{}
+
+/// The most similar of some values is one of them, at most `MOST_EDITS` edits away, and no other is
+/// fewer edits away. Where there is none, all are more edits away than that.
+pub fn the_most_similar_value_is_the_nearest()
+    ensures nearest { (text : List ℕ) (values : List (List ℕ)) (similar : List ℕ)
+        → most_similar text values ≡ Some similar
+        → Contains values similar × (edits_between text similar ≤ MOST_EDITS)
+        × AllByRecursion (λ v. edits_between text similar ≤ edits_between text v) values }
+    ensures none { (text : List ℕ) (values : List (List ℕ)) → most_similar text values ≡ None
+        → AllByRecursion (λ v. MOST_EDITS < edits_between text v) values }
+{}
