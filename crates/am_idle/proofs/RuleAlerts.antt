@@ -1,0 +1,526 @@
+-- Two alerts that may meet in a rule have two choices that may meet and meet the same of its
+-- matchers, and the label sets of such choices are alerts that may meet. So what is found of a rule
+-- among the choices of a universe that stands for every alert is so of every alert.
+use Rattle.std.proofs.Common.{◌≡◌, ◌<◌, ℕ, zero, suc, List, [], ◌∷◌, length, Bool, true, false, not}
+use Rattle.std.proofs.Common.{cond, Option, Some, None, refl, sym, ap, ◌∙◌, subst, inl, inr, arith}
+use Rattle.std.specs.Prelude.{◌&&◌, ◌||◌, ◌==◌, IsTrue, IfSome, slice_get}
+use Rattle.std.specs.Prelude.{slice_index, unwrap_or, nat_lt}
+use Rattle.std.specs.List.{AllByRecursion, cons_option}
+use Rattle.std.specs.Cmp.Lexicographic.{bytes_decides}
+use Rattle.std.proofs.lemmas.Bool.{cases_Bool, and_parts, and_from, both_ways, eqb-true, eq-eqb}
+use Rattle.std.proofs.lemmas.List.{length-map}
+use Rattle.std.proofs.lemmas.List.Quantifiers.{position-Some}
+use Rattle.am_universe.specs.Text.{same_text}
+use Rattle.am_universe.specs.Universe.{Label, IsUniverse, sizes, label_position}
+use Rattle.am_universe.specs.Choice.{IsWhole, admits}
+use Rattle.am_universe.specs.LabelSet.{LabelMap, value_of, label_set_of}
+use Rattle.am_universe.proofs.LabelSetLemmas.{same_text-itself}
+use Rattle.am_universe.proofs.ListLemmas.{IsIn, AllByRecursion-each, AllByRecursion-at}
+use Rattle.am_universe.proofs.UniverseLemmas.{no_label}
+use Rattle.am_labels.specs.declared.op.Op.TheVariants.{Equal}
+use Rattle.am_labels.specs.Matcher.{Condition, holds, condition_holds, all_hold}
+use Rattle.am_labels.specs.Row.{is_reached, truth_among, truths_of}
+use Rattle.am_labels.specs.Space.{Space}
+use Rattle.am_labels.proofs.RowLawLemmas.{row_decides}
+use Rattle.am_files.specs.ConfigFile.{Rule}
+use Rattle.am_search.proofs.ChoiceOrder.{got_at}
+use Rattle.am_eval.specs.Inhibition.{have_equal, is_two_sided, inhibits}
+use Rattle.am_reasons.specs.Pairs.{is_shared, are_same_at}
+use Rattle.am_reasons.proofs.PairLemmas.{same_beside}
+use Rattle.am_classes.specs.declared.alphabet.Alphabet.{Alphabet}
+use Rattle.am_complete.specs.Complete.{impossible_conditions}
+use Rattle.am_every_alert.specs.EveryAlert.{IsAlertOf, MeetsTheSame}
+use Rattle.am_every_alert.proofs.UniverseAlerts.{universe_alert}
+use Rattle.am_every_alert.proofs.SpaceAlerts.{space_choice}
+use Rattle.am_every_alert.proofs.SameFate.{front_met, rest_met, all_alike, same_possible}
+use Rattle.am_idle.specs.declared.rules.IdleReason.{IdleReason}
+use Rattle.am_idle.specs.declared.rules.IdleReason.TheVariants as reason_is
+use Rattle.am_idle.specs.Lists.{listed_conditions, deciding_conditions, made_space}
+use Rattle.am_idle.specs.Lists.{StandsForLists}
+use Rattle.am_idle.specs.RuleChoices.{labels_named, AreMeeting, IsFoundOf}
+use Rattle.am_idle.specs.RuleText.{HasPositionsIfAny}
+use Rattle.am_idle.specs.Rules.{MayMeet, SomeMeet, SomeInhibit, Matches, MeetsAt, MeetsAtBut}
+use Rattle.am_idle.specs.Rules.{IsWhyNone, IsIdle, IsRuleFinding}
+
+-- ---- The labels of some names.
+
+cons_shared : (o : Option ℕ) (rest : List ℕ) (i : ℕ) → is_shared (cons_option o rest) i ≡ true
+    → (is_shared rest i ≡ true → ⊥) → o ≡ Some i
+cons_shared None rest i is not_there = absurd (not_there is)
+cons_shared (Some j) rest i is not_there = elim (cases_Bool (i == j)) [
+  | inl same ↦ ap Some (sym (eqb-true i j same))
+  | inr other ↦ absurd (not_there (ap (λ b. b || is_shared rest i) (sym other) ∙ is))
+]
+
+shared_later : (o : Option ℕ) (rest : List ℕ) (i : ℕ) → is_shared rest i ≡ true
+    → is_shared (cons_option o rest) i ≡ true
+shared_later None rest i is = is
+shared_later (Some j) rest i is = rw is (or_true (i == j))
+  where
+    or_true : (b : Bool) → (b || true) ≡ true
+    or_true true = refl
+    or_true false = refl
+
+-- what is one of the labels is that of one of the names
+name_of_shared : (u : List Label) (names : List (List ℕ)) (i : ℕ)
+    → is_shared (labels_named u names) i ≡ true
+    → (name : List ℕ) × IsIn names name × (label_position u name ≡ Some i)
+name_of_shared u [] i is = absurd (cc)
+name_of_shared u (name ∷ names) i is = elim (cases_Bool (is_shared (labels_named u names) i)) [
+  | inl later ↦ let r = name_of_shared u names i later in (r.0, inr r.1, r.2)
+  | inr none ↦ (
+    name,
+    inl refl,
+    cons_shared (label_position u name) (labels_named u names) i is
+        (λ there. both_ways (is_shared (labels_named u names) i) none there),
+  )
+]
+
+-- names with one position are one
+same_name : (u : List Label) (name other : List ℕ) (i : ℕ) → label_position u name ≡ Some i
+    → label_position u other ≡ Some i → name ≡ other
+same_name u name other i is also =
+    let first = position-Some (λ l. same_text l.name name) u i no_label is in
+    let second = position-Some (λ l. same_text l.name other) u i no_label also in
+    sym ((bytes_decides _ name).0 first.1) ∙ (bytes_decides _ other).0 second.1
+
+cons_within : (n : ℕ) (o : Option ℕ) (rest : List ℕ) → IfSome o (λ i. i < n)
+    → AllByRecursion (λ i. i < n) rest → AllByRecursion (λ i. i < n) (cons_option o rest)
+cons_within n None rest low later = later
+cons_within n (Some i) rest low later = (low, later)
+
+position_within : (u : List Label) (name : List ℕ) (o : Option ℕ) → label_position u name ≡ o
+    → IfSome o (λ i. i < length (sizes u))
+position_within u name None is = tt
+position_within u name (Some i) is =
+    let found = position-Some (λ l. same_text l.name name) u i no_label is in
+    let long = length-map u (λ (l : Label). length l.values) in
+    omega (arith, found.0, long)
+
+pub named_within : (u : List Label) (names : List (List ℕ))
+    → AllByRecursion (λ i. i < length (sizes u)) (labels_named u names)
+named_within u [] = tt
+named_within u (name ∷ names) =
+    cons_within (length (sizes u)) (label_position u name) (labels_named u names)
+    (position_within u name (label_position u name) refl) (named_within u names)
+
+-- ---- Choices with the same position at the label of a matcher.
+
+parts_same : (o : Option ℕ) (truths : List Bool) (c d : List ℕ) → length c ≡ length d
+    → IfSome o (λ i. slice_index c i ≡ slice_index d i)
+    → (is_reached o (length c) && truth_among o truths (slice_index c (unwrap_or o 0)))
+    ≡ (is_reached o (length d) && truth_among o truths (slice_index d (unwrap_or o 0)))
+parts_same None truths c d long same = refl
+parts_same (Some i) truths c d long same =
+    λ j. is_reached (Some i) (long j) && truth_among (Some i) truths (same j)
+
+module _ (u : List Label) (h : IsUniverse u) where
+  abbrev set_of : List ℕ → LabelMap
+  set_of c = label_set_of u c
+
+  same_condition : (m : Condition) (c d : List ℕ) → IsWhole (sizes u) c → IsWhole (sizes u) d
+      → IfSome (label_position u m.name) (λ i. slice_index c i ≡ slice_index d i)
+      → condition_holds (set_of c) m ≡ condition_holds (set_of d) m
+  same_condition m c d first second same =
+      let o = label_position u m.name in
+      row_decides u c m h first
+      ∙ parts_same o (truths_of u m o) c d (first.1 ∙ sym second.1) same
+      ∙ sym (row_decides u d m h second)
+
+  same_value : (name c d : List ℕ) → IsWhole (sizes u) c → IsWhole (sizes u) d
+      → IfSome (label_position u name) (λ i. slice_index c i ≡ slice_index d i)
+      → same_text (value_of (set_of c) name) (value_of (set_of d) name) ≡ true
+  same_value name c d first second same =
+      let value = value_of (set_of d) name in
+      let m : Condition = record { name = name; op = Equal; value = value } in
+      same_condition m c d first second same ∙ same_text-itself value
+
+  cons_same : (o : Option ℕ) (rest c d : List ℕ)
+      → are_same_at (cons_option o rest) c d ≡ true
+      → IfSome o (λ i. slice_index c i ≡ slice_index d i) × (are_same_at rest c d ≡ true)
+  cons_same None rest c d same = (tt, same)
+  cons_same (Some i) rest c d same =
+      let parts = and_parts (slice_index c i == slice_index d i) (are_same_at rest c d) same in
+      (eqb-true (slice_index c i) (slice_index d i) parts.0, parts.1)
+
+  -- choices that have the same positions at the labels of names have the same values for these
+  pub equal_values : (names : List (List ℕ)) (c d : List ℕ) → IsWhole (sizes u) c
+      → IsWhole (sizes u) d → are_same_at (labels_named u names) c d ≡ true
+      → have_equal names (set_of c) (set_of d) ≡ true
+  equal_values [] c d first second same = refl
+  equal_values (name ∷ names) c d first second same =
+      let parts = cons_same (label_position u name) (labels_named u names) c d same in
+      and_from (same_text (value_of (set_of c) name) (value_of (set_of d) name))
+      (have_equal names (set_of c) (set_of d)) (same_value name c d first second parts.0)
+      (equal_values names c d first second parts.1)
+
+-- and the other way round, with one of the names
+equal_at : (names : List (List ℕ)) (x y : LabelMap) (name : List ℕ)
+    → have_equal names x y ≡ true → IsIn names name → value_of x name ≡ value_of y name
+equal_at [] x y name same there = absurd there
+equal_at (first ∷ names) x y name same (inl is) =
+    let here = (and_parts (same_text (value_of x first) (value_of y first))
+    (have_equal names x y) same).0 in
+    subst (λ n. value_of x n ≡ value_of y n) is
+    ((bytes_decides (value_of x first) (value_of y first)).0 here)
+equal_at (first ∷ names) x y name same (inr later) =
+    equal_at names x y name
+    (and_parts (same_text (value_of x first) (value_of y first)) (have_equal names x y) same).1
+    later
+
+-- ---- A choice that has the positions of another at some labels.
+
+abbrev mixed : (ℕ → Bool) → List ℕ → List ℕ → List ℕ
+mixed takes [] d = []
+mixed takes (p ∷ c) [] = []
+mixed takes (p ∷ c) (q ∷ d) = cond (takes 0) p q ∷ mixed (λ i. takes (suc i)) c d
+
+mixed_long : (takes : ℕ → Bool) (c d : List ℕ) → length c ≡ length d
+    → length (mixed takes c d) ≡ length d
+mixed_long takes [] [] same = refl
+mixed_long takes [] (q ∷ d) same = absurd (omega (arith, same))
+mixed_long takes (p ∷ c) [] same = absurd (omega (arith, same))
+mixed_long takes (p ∷ c) (q ∷ d) same =
+    ap suc (mixed_long (λ i. takes (suc i)) c d (omega (arith, same)))
+
+mixed_admitted : (takes : ℕ → Bool) (ns c d : List ℕ) → admits ns c ≡ true → admits ns d ≡ true
+    → admits ns (mixed takes c d) ≡ true
+mixed_admitted takes ns [] d first second = refl
+mixed_admitted takes ns (p ∷ c) [] first second = refl
+mixed_admitted takes [] (p ∷ c) (q ∷ d) first second = absurd (cc)
+mixed_admitted takes (n ∷ ns) (p ∷ c) (q ∷ d) first second =
+    let one = and_parts (nat_lt p n) (admits ns c) first in
+    let two = and_parts (nat_lt q n) (admits ns d) second in
+    and_from (nat_lt (cond (takes 0) p q) n) (admits ns (mixed (λ i. takes (suc i)) c d))
+    (either (takes 0) one.0 two.0)
+    (mixed_admitted (λ i. takes (suc i)) ns c d one.1 two.1)
+  where
+    either : (b : Bool) → nat_lt p n ≡ true → nat_lt q n ≡ true → nat_lt (cond b p q) n ≡ true
+    either true a b = a
+    either false a b = b
+
+mixed_at : (takes : ℕ → Bool) (c d : List ℕ) (i : ℕ) → length c ≡ length d
+    → slice_index (mixed takes c d) i ≡ cond (takes i) (slice_index c i) (slice_index d i)
+mixed_at takes [] [] i same = either (takes i)
+  where
+    either : (b : Bool) → ◌≡◌ {A = ℕ} 0 (cond b 0 0)
+    either true = refl
+    either false = refl
+mixed_at takes [] (q ∷ d) i same = absurd (omega (arith, same))
+mixed_at takes (p ∷ c) [] i same = absurd (omega (arith, same))
+mixed_at takes (p ∷ c) (q ∷ d) zero same = refl
+mixed_at takes (p ∷ c) (q ∷ d) (suc i) same =
+    mixed_at (λ j. takes (suc j)) c d i (omega (arith, same))
+
+same_itself_at : (shared c : List ℕ) → are_same_at shared c c ≡ true
+same_itself_at [] c = refl
+same_itself_at (i ∷ shared) c =
+    and_from (slice_index c i == slice_index c i) (are_same_at shared c c)
+    (eq-eqb (slice_index c i) (slice_index c i) refl) (same_itself_at shared c)
+
+module _ (u : List Label) (h : IsUniverse u) (names : List (List ℕ)) (c d : List ℕ)
+    (first : IsWhole (sizes u) c) (second : IsWhole (sizes u) d) where
+  abbrev long : length c ≡ length d
+  long = first.1 ∙ sym second.1
+
+  -- the second choice, with the positions of the first at the labels of the names
+  abbrev partner : List ℕ
+  partner = mixed (is_shared (labels_named u names)) c d
+
+  partner_whole : IsWhole (sizes u) partner
+  partner_whole = (
+    mixed_admitted (is_shared (labels_named u names)) (sizes u) c d first.0 second.0,
+    mixed_long (is_shared (labels_named u names)) c d long ∙ second.1,
+  )
+
+  partner_at : (i : ℕ) → slice_index partner i
+      ≡ cond (is_shared (labels_named u names) i) (slice_index c i) (slice_index d i)
+  partner_at i = mixed_at (is_shared (labels_named u names)) c d i long
+
+  partner_same : are_same_at (labels_named u names) c partner ≡ true
+  partner_same =
+      same_beside (labels_named u names) partner c partner
+      (λ i is. sym (partner_at i ∙ ap (λ b. cond b (slice_index c i) (slice_index d i)) is))
+      ∙ same_itself_at (labels_named u names) partner
+
+  module _ (x y : LabelMap) (equal : have_equal names x y ≡ true) where
+    -- of each matcher it meets what the second alert does
+    partner_meets : (m : Condition)
+        → condition_holds (label_set_of u c) m ≡ condition_holds x m
+        → condition_holds (label_set_of u d) m ≡ condition_holds y m
+        → condition_holds (label_set_of u partner) m ≡ condition_holds y m
+    partner_meets m as_first as_second = by (label_position u m.name) refl
+      where
+        by : (o : Option ℕ) → label_position u m.name ≡ o
+            → condition_holds (label_set_of u partner) m ≡ condition_holds y m
+        by None is =
+            same_condition u h m partner d partner_whole second
+            (subst (λ o. IfSome o (λ i. slice_index partner i ≡ slice_index d i)) (sym is) tt)
+            ∙ as_second
+        by (Some i) is = elim (cases_Bool (is_shared (labels_named u names) i)) [
+          | inl shared ↦
+              let name = name_of_shared u names i shared in
+              let same = same_name u name.0 m.name i name.2 is in
+              let value = equal_at names x y name.0 equal name.1 in
+              same_condition u h m partner c partner_whole first
+              (subst (λ o. IfSome o (λ j. slice_index partner j ≡ slice_index c j)) (sym is)
+              (partner_at i ∙ ap (λ b. cond b (slice_index c i) (slice_index d i)) shared))
+              ∙ as_first
+              ∙ ap (holds m.op m.value)
+              (subst (λ n. value_of x n ≡ value_of y n) same value)
+          | inr other ↦
+              same_condition u h m partner d partner_whole second
+              (subst (λ o. IfSome o (λ j. slice_index partner j ≡ slice_index d j)) (sym is)
+              (partner_at i ∙ ap (λ b. cond b (slice_index c i) (slice_index d i)) other))
+              ∙ as_second
+        ]
+
+    partner_met : (ms : List Condition) → MeetsTheSame ms (label_set_of u c) x
+        → MeetsTheSame ms (label_set_of u d) y → MeetsTheSame ms (label_set_of u partner) y
+    partner_met ms as_first as_second =
+        AllByRecursion-each
+        (λ m. condition_holds (label_set_of u partner) m ≡ condition_holds y m) ms
+        (λ m there. partner_meets m
+        (AllByRecursion-at
+        (λ n. condition_holds (label_set_of u c) n ≡ condition_holds x n) ms m as_first there)
+        (AllByRecursion-at
+        (λ n. condition_holds (label_set_of u d) n ≡ condition_holds y n) ms m as_second there))
+
+-- ---- What is so of pairs.
+
+-- what an alert is, each label set is that meets the same of a list
+abbrev IsToldBy : List Condition → (LabelMap → Type 0) → Type 0
+IsToldBy ms Is = (set alert : LabelMap) → MeetsTheSame ms set alert → Is alert → Is set
+
+matches_told : (ms : List Condition) → IsToldBy ms (Matches ms)
+matches_told ms set alert met is = all_alike set alert ms met ∙ is
+
+condition_told : (ms : List Condition) (set alert : LabelMap) (i : ℕ) (m : Condition)
+    → MeetsTheSame ms set alert → slice_get ms i ≡ Some m → IsTrue (condition_holds alert m)
+    → IsTrue (condition_holds set m)
+condition_told ms set alert i m met at is =
+    AllByRecursion-at (λ n. condition_holds set n ≡ condition_holds alert n) ms m met
+    (got_at ms i m at)
+    ∙ is
+
+meets_told : (ms : List Condition) (positions : List ℕ) → IsToldBy ms (MeetsAt ms positions)
+meets_told ms positions set alert met is i m there at =
+    condition_told ms set alert i m met at (is i m there at)
+
+-- and what matches a list meets each matcher of it
+matched_at : (ms : List Condition) (set : LabelMap) (i : ℕ) (m : Condition)
+    → all_hold set ms ≡ true → slice_get ms i ≡ Some m → condition_holds set m ≡ true
+matched_at [] set i m all at = absurd (cc)
+matched_at (n ∷ ms) set zero m all at =
+    let is : n ≡ m = cc in
+    ap (condition_holds set) (sym is)
+    ∙ (and_parts (condition_holds set n) (all_hold set ms) all).0
+matched_at (n ∷ ms) set (suc i) m all at =
+    matched_at ms set i m (and_parts (condition_holds set n) (all_hold set ms) all).1 at
+
+meets_all : (ms : List Condition) (positions : List ℕ) (set : LabelMap) → Matches ms set
+    → MeetsAt ms positions set
+meets_all ms positions set all i m there at = matched_at ms set i m all at
+
+module _ (rule : Rule) where
+  some_of_inhibiting : (Meet : LabelMap → LabelMap → Type 0) → SomeInhibit Meet rule
+      → SomeMeet Meet (Matches rule.source) (Matches rule.target)
+  some_of_inhibiting Meet two = (two.0, two.1, two.2, two.3, two.4)
+
+  -- ---- What inhibits.
+
+  inhibits_where : (x y : LabelMap) → have_equal rule.equal x y ≡ true
+      → all_hold x rule.source ≡ true → all_hold y rule.target ≡ true
+      → (is_two_sided rule x && is_two_sided rule y) ≡ false → inhibits rule x y ≡ true
+  inhibits_where x y equal source target spared =
+      and_from (all_hold x rule.source && all_hold y rule.target && have_equal rule.equal x y)
+      (not (is_two_sided rule x && is_two_sided rule y))
+      (and_from (all_hold x rule.source && all_hold y rule.target) (have_equal rule.equal x y)
+      (and_from (all_hold x rule.source) (all_hold y rule.target) source target) equal)
+      (ap not spared)
+
+  module _ (a : Alphabet) (s : Space) where
+    two_of_inhibits : (x y : LabelMap) → IsAlertOf a s x → IsAlertOf a s y
+        → inhibits rule x y ≡ true → SomeInhibit (MayMeet a s rule) rule
+    two_of_inhibits x y first second is =
+        let source = all_hold x rule.source in
+        let target = all_hold y rule.target in
+        let same = have_equal rule.equal x y in
+        let both = is_two_sided rule x && is_two_sided rule y in
+        let parts = and_parts (source && target && same) (not both) is in
+        let front = and_parts (source && target) same parts.0 in
+        let sides = and_parts source target front.0 in
+        (x, y, (first, second, front.1), sides.0, sides.1, spared both parts.1)
+      where
+        spared : (b : Bool) → not b ≡ true → b ≡ false
+        spared true e = sym e
+        spared false e = refl
+
+    none_inhibits : (SomeInhibit (MayMeet a s rule) rule → ⊥) → IsIdle a s rule
+    none_inhibits none x y first second = elim (cases_Bool (inhibits rule x y)) [
+      | inl is ↦ absurd (none (two_of_inhibits x y first second is))
+      | inr is_not ↦ is_not
+    ]
+
+    -- why there are none shows that the rule is idle
+    pub idle_by : (reason : IdleReason) → IsWhyNone (MayMeet a s rule) rule reason
+        → IsIdle a s rule
+    idle_by (reason_is.Contradiction source target) why =
+        none_inhibits (λ two.
+        why.enough (
+          two.0,
+          two.1,
+          two.2,
+          meets_all rule.source source.items two.0 two.3,
+          meets_all rule.target target.items two.1 two.4,
+        ))
+    idle_by reason_is.Both why = none_inhibits why.1
+
+    -- ---- Over every alert.
+
+    module _ (u : List Label)
+        (stands : StandsForLists a s (rule.source ∷ rule.target ∷ []) u) where
+      abbrev made : Space
+      made = made_space s u
+
+      abbrev lists : List (List Condition)
+      lists = rule.source ∷ rule.target ∷ []
+
+      abbrev MeetsListed : LabelMap → LabelMap → Type 0
+      MeetsListed set alert = MeetsTheSame (listed_conditions lists) set alert
+
+      alerts_meet : (x y : LabelMap) → AreMeeting made rule.equal x y → MayMeet a s rule x y
+      alerts_meet x y (c, d, first, second, same, is, also) =
+          rw (is, also) (
+            (universe_alert a u c stands.universe stands.over, first.1),
+            (universe_alert a u d stands.universe stands.over, second.1),
+            equal_values u stands.universe rule.equal c d first.0 second.0 same,
+          )
+
+      sets_meet : (x y : LabelMap) → MayMeet a s rule x y
+          → (p : LabelMap) × (q : LabelMap) × AreMeeting made rule.equal p q × MeetsListed p x
+          × MeetsListed q y
+      sets_meet x y (first, second, equal) =
+          let listed = listed_conditions lists in
+          let impossible = impossible_conditions s.impossible in
+          let deciding = deciding_conditions s lists in
+          let one = space_choice a made deciding x stands.universe stands.complete first in
+          let two = space_choice a made deciding y stands.universe stands.complete second in
+          let c = one.0 in
+          let e = partner u stands.universe rule.equal one.0 two.0 one.1 two.1 in
+          let met = partner_met u stands.universe rule.equal one.0 two.0 one.1 two.1 x y equal
+          deciding one.2 two.2 in
+          let p = label_set_of u c in
+          let q = label_set_of u e in
+          let whole = partner_whole u stands.universe rule.equal one.0 two.0 one.1 two.1 in
+          let possible = same_possible p x s.impossible (rest_met p x listed impossible one.2) in
+          let also = same_possible q y s.impossible (rest_met q y listed impossible met) in (
+            p,
+            q,
+            (
+              c,
+              e,
+              (one.1, possible ∙ first.1),
+              (whole, also ∙ second.1),
+              partner_same u stands.universe rule.equal one.0 two.0 one.1 two.1,
+              refl,
+              refl,
+            ),
+            front_met p x listed impossible one.2,
+            front_met q y listed impossible met,
+          )
+
+      source_met : (set alert : LabelMap) → MeetsListed set alert
+          → MeetsTheSame rule.source set alert
+      source_met set alert met = front_met set alert rule.source (listed_conditions (rule.target ∷ [])) met
+
+      target_met : (set alert : LabelMap) → MeetsListed set alert
+          → MeetsTheSame rule.target set alert
+      target_met set alert met =
+          front_met set alert rule.target []
+          (rest_met set alert rule.source (listed_conditions (rule.target ∷ [])) met)
+
+      some_over : (First Second : LabelMap → Type 0)
+          → SomeMeet (AreMeeting made rule.equal) First Second
+          → SomeMeet (MayMeet a s rule) First Second
+      some_over First Second two =
+          (two.0, two.1, alerts_meet two.0 two.1 two.2, two.3, two.4)
+
+      none_over : (First Second : LabelMap → Type 0) → IsToldBy rule.source First
+          → IsToldBy rule.target Second
+          → (SomeMeet (AreMeeting made rule.equal) First Second → ⊥)
+          → SomeMeet (MayMeet a s rule) First Second → ⊥
+      none_over First Second told also none two =
+          let r = sets_meet two.0 two.1 two.2 in
+          none (
+            r.0,
+            r.1,
+            r.2,
+            told r.0 two.0 (source_met r.0 two.0 r.3) two.3,
+            also r.1 two.1 (target_met r.1 two.1 r.4) two.4,
+          )
+
+      inhibiting_over : SomeInhibit (AreMeeting made rule.equal) rule
+          → SomeInhibit (MayMeet a s rule) rule
+      inhibiting_over two =
+          (two.0, two.1, alerts_meet two.0 two.1 two.2, two.3, two.4, two.5)
+
+      same_sides : (set alert : LabelMap) → MeetsListed set alert
+          → is_two_sided rule set ≡ is_two_sided rule alert
+      same_sides set alert met = λ i.
+          all_alike set alert rule.source (source_met set alert met) i
+          && all_alike set alert rule.target (target_met set alert met) i
+
+      no_inhibiting_over : (SomeInhibit (AreMeeting made rule.equal) rule → ⊥)
+          → SomeInhibit (MayMeet a s rule) rule → ⊥
+      no_inhibiting_over none two =
+          let r = sets_meet two.0 two.1 two.2 in
+          none (
+            r.0,
+            r.1,
+            r.2,
+            all_alike r.0 two.0 rule.source (source_met r.0 two.0 r.3) ∙ two.3,
+            all_alike r.1 two.1 rule.target (target_met r.1 two.1 r.4) ∙ two.4,
+            (λ i. same_sides r.0 two.0 r.3 i && same_sides r.1 two.1 r.4 i) ∙ two.5,
+          )
+
+      why_over : (reason : IdleReason)
+          → IsWhyNone (AreMeeting made rule.equal) rule reason
+          → IsWhyNone (MayMeet a s rule) rule reason
+      why_over (reason_is.Contradiction source target) why = record {
+        in_source = why.in_source;
+        in_target = why.in_target;
+        source_order = why.source_order;
+        target_order = why.target_order;
+        enough = none_over (MeetsAt rule.source source.items) (MeetsAt rule.target target.items)
+            (meets_told rule.source source.items) (meets_told rule.target target.items) why.enough;
+        source_needed = λ i there.
+            some_over (MeetsAtBut rule.source source.items i) (MeetsAt rule.target target.items)
+            (why.source_needed i there);
+        target_needed = λ i there.
+            some_over (MeetsAt rule.source source.items) (MeetsAtBut rule.target target.items i)
+            (why.target_needed i there);
+      }
+      why_over reason_is.Both why =
+          (some_over (Matches rule.source) (Matches rule.target) why.0, no_inhibiting_over why.1)
+
+      pub found_over : (finding : Option IdleReason)
+          → IsFoundOf (AreMeeting made rule.equal) rule finding → IsRuleFinding a s rule finding
+      found_over None two =
+          let over = inhibiting_over two in (
+            over.0,
+            over.1,
+            over.2.0,
+            over.2.1,
+            inhibits_where over.0 over.1 over.2.2 over.3 over.4 over.5,
+          )
+      found_over (Some reason) why =
+          let over = why_over reason why in (idle_by reason over, over)
+
+-- the positions that are told are positions in the sides
+pub positions_told : (a : Alphabet) (s : Space) (rule : Rule) (finding : Option IdleReason)
+    → IsRuleFinding a s rule finding → HasPositionsIfAny rule finding
+positions_told a s rule None is = tt
+positions_told a s rule (Some (reason_is.Contradiction source target)) is =
+    (is.1.in_source, is.1.in_target)
+positions_told a s rule (Some reason_is.Both) is = tt

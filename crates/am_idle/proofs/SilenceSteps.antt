@@ -1,0 +1,78 @@
+-- Silences one after another: what is so of those before a position, and of the one that stands
+-- there.
+use Rattle.std.proofs.Common.{◌≡◌, ◌<◌, ◌+◌, ℕ, zero, suc, List, [], ◌∷◌, ◌++◌, length, take, Some}
+use Rattle.std.proofs.Common.{Bool, true, false, refl, sym, ap, ◌∙◌, subst, slice_get, inl, inr, arith}
+use Rattle.std.specs.Prelude.{◌&&◌}
+use Rattle.std.specs.List.{AllZip, list_any}
+use Rattle.std.proofs.lemmas.Bool.{cases_Bool}
+use Rattle.std.proofs.lemmas.Option.{same_Some}
+use Rattle.am_universe.specs.LabelSet.{LabelMap}
+use Rattle.am_labels.specs.Matcher.{Condition}
+use Rattle.am_labels.specs.Space.{Space}
+use Rattle.am_records.specs.SilencesFile.{Silence}
+use Rattle.am_complete.proofs.Pushed.{one_longer}
+use Rattle.am_idle.specs.declared.extent.Extent.{Extent}
+use Rattle.am_idle.specs.Extent.{IsExtent}
+
+-- ---- Lists.
+
+pub item_there : {X : Type 0} (xs : List X) (i : ℕ) → i < length xs
+    → (x : X) × (slice_get xs i ≡ Some x)
+item_there [] i lt = absurd (omega (arith, lt))
+item_there (x ∷ xs) zero lt = (x, refl)
+item_there (x ∷ xs) (suc i) lt = item_there xs i (omega (arith, lt))
+
+zip_push : {A B : Type 0} (R : A → B → Type 0) (xs : List A) (ys : List B) (x : A) (y : B)
+    → AllZip R xs ys → R x y → AllZip R (xs ++ x ∷ []) (ys ++ y ∷ [])
+zip_push R [] [] x y all last = (last, tt)
+zip_push R [] (z ∷ ys) x y all last = absurd all
+zip_push R (z ∷ xs) [] x y all last = absurd all
+zip_push R (z ∷ xs) (w ∷ ys) x y all last = (all.0, zip_push R xs ys x y all.1 last)
+
+-- what stands in two lists up to a position, and there, stands in them up to the next
+pub zip_more : {A B : Type 0} (R : A → B → Type 0) (xs : List A) (i : ℕ) (x : A) (y : B)
+    (ys zs : List B) → slice_get xs i ≡ Some x → zs ≡ ys ++ y ∷ [] → AllZip R (take i xs) ys
+    → R x y → AllZip R (take (i + 1) xs) zs
+zip_more R xs i x y ys zs at is all last =
+    subst (AllZip R (take (i + 1) xs)) (sym is)
+    (subst (λ (ws : List _). AllZip R ws (ys ++ y ∷ [])) (one_longer xs i x at)
+    (zip_push R (take i xs) ys x y all last))
+
+any_pushed : {X : Type 0} (test : X → Bool) (xs : List X) (x : X) → list_any test xs ≡ false
+    → test x ≡ false → list_any test (xs ++ x ∷ []) ≡ false
+any_pushed test [] x none fails = rw fails refl
+any_pushed test (y ∷ xs) x none fails = elim (cases_Bool (test y)) [
+  | inl passes ↦ absurd (let both = rw passes at none in cc both)
+  | inr other ↦ rw other (any_pushed test xs x (rw other at none) fails)
+]
+
+-- none up to a position passes, and what stands there does not, so none up to the next does
+pub none_more : {X : Type 0} (test : X → Bool) (xs : List X) (i : ℕ) (x : X)
+    → slice_get xs i ≡ Some x → list_any test (take i xs) ≡ false → test x ≡ false
+    → list_any test (take (i + 1) xs) ≡ false
+none_more test xs i x at none fails =
+    ap (list_any test) (sym (one_longer xs i x at)) ∙ any_pushed test (take i xs) x none fails
+
+-- ---- Silences.
+
+-- two spaces are one that declare no label, and of which the same is impossible
+pub same_space : (s t : Space) → s.labels ≡ [] → t.labels ≡ [] → s.impossible ≡ t.impossible
+    → s ≡ t
+same_space s t none other same = λ i. record { labels = (none ∙ sym other) i; impossible = same i }
+
+-- how far the matchers of the silence at a position reach
+pub extent_here : (Occurs : LabelMap → Type 0) (silences read : List Silence) (position : ℕ)
+    (got silence : Silence) (ms : List Condition) (extent : Extent) → read ≡ silences
+    → slice_get read position ≡ Some got → ms ≡ got.matchers
+    → slice_get silences position ≡ Some silence → IsExtent Occurs ms extent
+    → IsExtent Occurs silence.matchers extent
+extent_here Occurs silences read position got silence ms extent same at is there reaches =
+    let one = same_Some got silence
+    (sym at ∙ ap (λ xs. slice_get xs position) same ∙ there) in
+    subst (λ (ns : List Condition). IsExtent Occurs ns extent)
+    (is ∙ ap (λ (x : Silence). x.matchers) one) reaches
+
+-- what is false hides nothing
+pub and_false : (p q : Bool) → q ≡ false → (p && q) ≡ false
+and_false true q fails = fails
+and_false false q fails = refl

@@ -1,0 +1,36 @@
+-- By the two questions how far the list reaches is known.
+use Rattle.std.proofs.Common.{◌≡◌, true, false, sym, subst}
+use Rattle.am_labels.specs.Words.{Space}
+use Rattle.am_masks.specs.Words.{IsCubeOf}
+use Rattle.am_first_sets.specs.Words.{possible_space}
+use Rattle.am_idle.specs.Extent.{HasSet}
+use Rattle.am_idle.proofs.FoundSets.{one_matched, one_spared, each_matched}
+use Rattle.am_idle.proofs.extent.extent_in.Goals as goal
+
+pub returns-then-not-has_set-2 : goal.returns-then-not-has_set-2
+returns-then-not-has_set-2 c =
+    let s = c.args.space.now in
+    let ms = c.args.matchers.now in
+    let same : possible_space c.in_ok-possible.possible ≡ s = c.in_ok-possible.ensures.space in
+    let exact : IsCubeOf s.labels ms c.in_ok-cube.cube =
+    rw c.universe.ensures.labels at c.in_ok-cube.ensures.exact in
+    let cube = subst (λ (t : Space). IsCubeOf t.labels ms c.in_ok-cube.cube) (sym same) exact in
+    let has = c.has_set.ensures.some ms cube c.if-not-has_set.false in (
+      one_matched s ms (subst (λ (t : Space). HasSet t ms true) same has),
+      each_matched s ms (λ other. c.has_set-2.ensures.none ms cube c.if-not-has_set-2.true
+          (subst (λ (t : Space). HasSet t ms false) (sym same) other)),
+    )
+
+pub returns : goal.returns
+returns c =
+    let s = c.args.space.now in
+    let ms = c.args.matchers.now in
+    let same : possible_space c.in_ok-possible.possible ≡ s = c.in_ok-possible.ensures.space in
+    let exact : IsCubeOf s.labels ms c.in_ok-cube.cube =
+    rw c.universe.ensures.labels at c.in_ok-cube.ensures.exact in
+    let cube = subst (λ (t : Space). IsCubeOf t.labels ms c.in_ok-cube.cube) (sym same) exact in
+    let has = c.has_set.ensures.some ms cube c.if-not-has_set.false in
+    let other = c.has_set-2.ensures.some ms cube c.if-not-has_set-2.false in (
+      one_matched s ms (subst (λ (t : Space). HasSet t ms true) same has),
+      one_spared s ms (subst (λ (t : Space). HasSet t ms false) same other),
+    )

@@ -1,0 +1,21 @@
+-- What is so over the universe that is made is so over every alert.
+use Rattle.std.proofs.Common.{◌≡◌, subst}
+use Rattle.am_labels.specs.Space.{Space}
+use Rattle.am_idle.specs.Lists.{made_space}
+use Rattle.am_idle.specs.Extent.{IsExtent, IsSetOf}
+use Rattle.am_idle.proofs.ListsStand.{extent_over}
+use Rattle.am_idle.proofs.extent.extent_of.Goals as goal
+
+pub returns-clause-extent : goal.returns-clause-extent
+returns-clause-extent c =
+    let s = c.args.space.now in
+    let u = c.in_ok-universe.universe in
+    let ms = c.args.matchers.now in
+    let extent = c.in_ok-extent.field-0 in
+    let declared : c.declare.new.self ≡ made_space s u =
+    λ i. record {
+      labels = c.declare.ensures.labels i;
+      impossible = c.declare.ensures.impossible i;
+    } in
+    extent_over c.args.alphabet s u ms c.in_ok-universe.ensures.stands extent
+    (subst (λ (t : Space). IsExtent (IsSetOf t) ms extent) declared c.in_ok-extent.ensures)

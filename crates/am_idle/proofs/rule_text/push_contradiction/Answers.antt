@@ -1,0 +1,33 @@
+use Rattle.std.proofs.Common.{ℕ, List, ◌++◌, codes, string_bytes, ap, sym, ◌∙◌}
+use Rattle.std.proofs.lemmas.Result.{on_ok_weaker}
+use Rattle.am_labels.specs.Matcher.{Condition}
+use Rattle.am_complete_texts.proofs.PieceSteps.{one_put}
+use Rattle.am_idle.specs.RuleText.{matchers_text_at}
+use Rattle.am_idle.proofs.RuleTextSteps.{target_named, both_put}
+use Rattle.am_idle.proofs.rule_text.push_contradiction.Goals as goal
+
+pub returns-then-is_empty : goal.returns-then-is_empty
+returns-then-is_empty c =
+    let targets = c.args.target.now in
+    let old = string_bytes c.args.text.now in
+    let body : List ℕ = codes "no alert matches target " in
+    on_ok_weaker c.push_matchers_at.result
+    (λ put. one_put old body (matchers_text_at c.target.result.now targets) _
+    (string_bytes c.push_str-then-is_empty.new.self) _ c.in_ok-push_str.ensures.bytes put
+    (ap (λ (ms : List Condition). body ++ matchers_text_at ms targets) c.target.ensures.target
+    ∙ sym (target_named c.args.rule.now c.args.source.now targets
+    (sym c.is_empty.ensures ∙ c.if-is_empty.true)
+    (sym c.is_empty-then-is_empty.ensures ∙ c.if-is_empty-2.false))))
+    c.push_matchers_at.ensures
+
+pub returns : goal.returns
+returns c =
+    both_put c.push_str-4.result c.args.rule.now c.args.source.now c.args.target.now
+    c.source-2.result.now c.target-2.result.now (string_bytes c.args.text.now)
+    (string_bytes c.push_str-2.new.self) (string_bytes c.push_matchers_at-2.new.text)
+    (string_bytes c.push_str-3.new.self) (string_bytes c.push_matchers_at-3.new.text) _
+    (sym c.is_empty.ensures ∙ c.if-is_empty.false)
+    (sym c.is_empty-2.ensures ∙ c.if-is_empty-3.false)
+    c.source-2.ensures.source c.target-2.ensures.target c.in_ok-push_str-3.ensures.bytes
+    c.in_ok-push_matchers_at.ensures c.in_ok-push_str-4.ensures.bytes
+    c.in_ok-push_matchers_at-2.ensures c.push_str-4.ensures.bytes

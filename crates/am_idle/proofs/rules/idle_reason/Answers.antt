@@ -1,0 +1,33 @@
+-- What is so over the universe that is made is so over every alert.
+use Rattle.std.proofs.Common.{◌≡◌, subst, List, [], ◌∷◌}
+use Rattle.am_labels.specs.Matcher.{Condition}
+use Rattle.am_labels.specs.Space.{Space}
+use Rattle.am_idle.specs.Lists.{made_space, StandsForLists}
+use Rattle.am_idle.specs.RuleChoices.{AreMeeting, IsFoundOf}
+use Rattle.am_idle.proofs.RuleAlerts.{found_over, positions_told}
+use Rattle.am_idle.proofs.rules.idle_reason.Goals as goal
+
+pub returns-clause-finding : goal.returns-clause-finding
+returns-clause-finding c =
+    let a = c.args.alphabet in
+    let s = c.args.space.now in
+    let u = c.in_ok-universe.universe in
+    let rule = c.args.rule.now in
+    let finding = c.in_ok-reason.field-0 in
+    let declared : c.declare.new.self ≡ made_space s u =
+    λ i. record {
+      labels = c.declare.ensures.labels i;
+      impossible = c.declare.ensures.impossible i;
+    } in
+    let stands = subst
+    (λ (ms : List Condition). StandsForLists a s (ms ∷ rule.target ∷ []) u) c.source.ensures.source
+    (subst (λ (ms : List Condition). StandsForLists a s (c.source.result.now ∷ ms ∷ []) u)
+    c.target.ensures.target c.in_ok-universe.ensures.stands) in
+    found_over rule a s u stands finding
+    (subst (λ (t : Space). IsFoundOf (AreMeeting t rule.equal) rule finding) declared
+    c.in_ok-reason.ensures)
+
+pub returns-clause-positions : goal.returns-clause-positions
+returns-clause-positions c =
+    positions_told c.args.alphabet c.args.space.now c.args.rule.now c.in_ok-reason.field-0
+    (returns-clause-finding c)

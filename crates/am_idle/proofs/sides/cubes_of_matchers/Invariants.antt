@@ -1,0 +1,7 @@
+use Rattle.std.proofs.Common.{take}
+use Rattle.am_idle.specs.RuleChoices.{AreCubesOfMatchers}
+use Rattle.am_idle.proofs.sides.cubes_of_matchers.Given as goal
+
+-- the cubes so far are those of the matchers so far
+abbrev pub invariant-loop-i : goal.invariant-loop-i
+invariant-loop-i l = AreCubesOfMatchers l.universe (take l.i l.matchers) l.cubes.items

@@ -1,0 +1,57 @@
+-- What is said by how far the matchers reach.
+use Rattle.std.proofs.Common.{◌≡◌, false, sym, ap, ◌∙◌, inr}
+use Rattle.std.specs.Prelude.{◌&&◌}
+use Rattle.am_every_alert.specs.EveryAlert.{IsAlertOf}
+use Rattle.am_idle.specs.declared.extent.Extent.TheVariants as extent_is
+use Rattle.am_idle.specs.Extent.{IsExtent}
+use Rattle.am_idle.specs.Silences.{is_unused}
+use Rattle.am_idle.proofs.SilenceSteps.{extent_here}
+use Rattle.am_idle.proofs.silences.find_silence.Goals as goal
+use Rattle.am_idle.proofs.silences.find_silence.Goals.{else-alerts_given-via-then-alerts_given+in_ok-is_unused-in-SomeAlerts+else-branch, else-alerts_given-via-else-alerts_given}
+
+pub returns-in-EachAlert-clause-found : goal.returns-in-EachAlert-clause-found
+returns-in-EachAlert-clause-found c = λ silence at.
+    let Occurs = IsAlertOf c.args.alphabet c.args.space.now in
+    let reaches : IsExtent Occurs c.matchers-matchers.result.now extent_is.EachAlert =
+    rw c.in-EachAlert.is at c.in_ok-extent_of.ensures.extent in
+    let e = extent_here Occurs c.args.world.now.silences c.silences.result.now c.args.position
+    c.get.result.now silence c.matchers-matchers.result.now extent_is.EachAlert
+    c.silences.ensures.silences c.get.ensures.silence c.matchers-matchers.ensures.matchers at
+    reaches in
+    (sym (c.over.ensures.over silence at) ∙ c.if-over.false, e.0, e.1)
+
+pub returns-then-branch-clause-found : goal.returns-then-branch-clause-found
+returns-then-branch-clause-found c = λ silence at.
+    let Occurs = IsAlertOf c.args.alphabet c.args.space.now in
+    let reaches : IsExtent Occurs c.matchers-matchers.result.now extent_is.SomeAlerts =
+    rw c.in-SomeAlerts.is at c.in_ok-extent_of.ensures.extent in
+    let e = extent_here Occurs c.args.world.now.silences c.silences.result.now c.args.position
+    c.get.result.now silence c.matchers-matchers.result.now extent_is.SomeAlerts
+    c.silences.ensures.silences c.get.ensures.silence c.matchers-matchers.ensures.matchers at
+    reaches in (
+      sym (c.over.ensures.over silence at) ∙ c.if-over.false,
+      e.0,
+      e.1,
+      c.if-alerts_given.true,
+      sym (c.in_ok-is_unused-in-SomeAlerts.ensures silence at) ∙ c.if-branch.true,
+    )
+
+pub returns-else-alerts_given-clause-found : goal.returns-else-alerts_given-clause-found
+returns-else-alerts_given-clause-found c = λ silence at.
+    let Occurs = IsAlertOf c.args.alphabet c.args.space.now in
+    let reaches : IsExtent Occurs c.matchers-matchers.result.now extent_is.SomeAlerts =
+    rw c.in-SomeAlerts.is at c.in_ok-extent_of.ensures.extent in
+    let e = extent_here Occurs c.args.world.now.silences c.silences.result.now c.args.position
+    c.get.result.now silence c.matchers-matchers.result.now extent_is.SomeAlerts
+    c.silences.ensures.silences c.get.ensures.silence c.matchers-matchers.ensures.matchers at
+    reaches in
+    let unused = is_unused c.args.world.now silence in
+    let quiet : (c.args.alerts_given && unused) ≡ false =
+    elim c.else-alerts_given.branch [
+      | else-alerts_given-via-then-alerts_given+in_ok-is_unused-in-SomeAlerts+else-branch w ↦
+          ap (λ b. b && unused) w.if-alerts_given.true
+          ∙ sym (w.in_ok-is_unused-in-SomeAlerts.ensures silence at) ∙ w.if-branch.false
+      | else-alerts_given-via-else-alerts_given w ↦
+          ap (λ b. b && unused) w.if-alerts_given.false
+    ] in
+    inr (e.0, e.1, quiet)

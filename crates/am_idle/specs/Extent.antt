@@ -1,0 +1,43 @@
+-- Which of the label sets that occur a list of matchers matches. Which occur is handed in: those of
+-- the choices of a space, or those that alerts may have. (This project's own.)
+use Rattle.std.specs.Prelude.{◌≡◌, ℕ, List, Bool, IsTrue, IsFalse}
+use Rattle.am_universe.specs.LabelSet.{LabelMap, label_set_of}
+use Rattle.am_labels.specs.Matcher.{Condition, all_hold}
+use Rattle.am_labels.specs.Space.{Space, IsChoiceOf}
+use Rattle.am_idle.specs.declared.extent.Extent.{Extent}
+use Rattle.am_idle.specs.declared.extent.Extent.TheVariants as extent_is
+
+-- The label sets of the choices of a space.
+abbrev pub IsSetOf : Space → LabelMap → Type 0
+IsSetOf s set = (choice : List ℕ) × IsChoiceOf s choice × (set ≡ label_set_of s.labels choice)
+
+-- A space has a label set that a list matches, or one that it does not match.
+abbrev pub HasSet : Space → List Condition → Bool → Type 0
+HasSet s ms wanted = (choice : List ℕ) × IsChoiceOf s choice
+    × (all_hold (label_set_of s.labels choice) ms ≡ wanted)
+
+-- A list matches none of the label sets that occur; it matches each; it matches one; and there is
+-- one that it does not match.
+-- Source: Alertmanager configuration reference 0.25, "<matcher>": all matchers of a list have to
+-- match.
+-- Example: `team="db",team="web"` matches none, whatever occurs, and `team=~".*"` matches each
+-- whose team has no line feed.
+abbrev pub MatchesNone : (LabelMap → Type 0) → List Condition → Type 0
+MatchesNone Occurs ms = (set : LabelMap) → Occurs set → IsFalse (all_hold set ms)
+
+abbrev pub MatchesEach : (LabelMap → Type 0) → List Condition → Type 0
+MatchesEach Occurs ms = (set : LabelMap) → Occurs set → IsTrue (all_hold set ms)
+
+abbrev pub MatchesOne : (LabelMap → Type 0) → List Condition → Type 0
+MatchesOne Occurs ms = (set : LabelMap) × Occurs set × IsTrue (all_hold set ms)
+
+abbrev pub SparesOne : (LabelMap → Type 0) → List Condition → Type 0
+SparesOne Occurs ms = (set : LabelMap) × Occurs set × IsFalse (all_hold set ms)
+
+-- How far a list reaches. Where nothing occurs, it matches none.
+-- Source: own choice.
+-- Example: where every alert counts, `team="db"` matches some alerts and spares others.
+abbrev pub IsExtent : (LabelMap → Type 0) → List Condition → Extent → Type 0
+IsExtent Occurs ms extent_is.NoAlert = MatchesNone Occurs ms
+IsExtent Occurs ms extent_is.EachAlert = MatchesOne Occurs ms × MatchesEach Occurs ms
+IsExtent Occurs ms extent_is.SomeAlerts = MatchesOne Occurs ms × SparesOne Occurs ms

@@ -1,0 +1,40 @@
+-- What is to be said of each of some inhibition rules, and which of them is refused first. (This
+-- project's own.)
+use Rattle.std.specs.Prelude.{◌≡◌, ℕ, List, [], ◌∷◌, Option, Some, slice_get, take, count_by}
+use Rattle.std.specs.Prelude.{is_some}
+use Rattle.std.specs.List.{AllByRecursion}
+use Rattle.am_universe.specs.declared.kind.Kind.{Kind}
+use Rattle.am_universe.specs.Universe.{Label}
+use Rattle.am_labels.specs.Matcher.{Condition}
+use Rattle.am_labels.specs.Space.{Space}
+use Rattle.am_files.specs.ConfigFile.{Rule}
+use Rattle.am_classes.specs.declared.alphabet.Alphabet.{Alphabet}
+use Rattle.am_idle.specs.declared.rules.IdleReason.{IdleReason}
+use Rattle.am_idle.specs.Lists.{StandsForLists, IsRefusalForLists}
+
+-- The matchers of the two sides of a rule.
+abbrev pub sides_of : Rule → List (List Condition)
+sides_of rule = rule.source ∷ rule.target ∷ []
+
+-- A rule is not refused: there is a universe that stands for every alert, for its two sides.
+-- Source: own choice.
+-- Example: one with `team="db"` and `team="web"` is not, where nothing is impossible.
+abbrev pub IsRuleAccepted : Alphabet → Space → Rule → Type 0
+IsRuleAccepted a s rule = (u : List Label) × StandsForLists a s (sides_of rule) u
+
+-- The first rule that is refused is the one at a position, as of this kind.
+-- Source: own choice.
+-- Example: where the second of three has 65 matchers `=`, each on another label, it is the one at
+-- 1, as `limit`.
+pub record IsFirstRefusedRule (a : Alphabet) (s : Space) (rules : List Rule) (position : ℕ)
+    (kind : Kind) : Type 0 where
+  pub rule : Rule
+  pub there : slice_get rules position ≡ Some rule
+  pub before : AllByRecursion (IsRuleAccepted a s) (take position rules)
+  pub refused : IsRefusalForLists a s (sides_of rule) kind
+
+-- The findings among what is said of rules.
+-- Source: own choice.
+-- Example: of an idle rule and one of which nothing is said there is one.
+abbrev pub count_idle_rules : List (Option IdleReason) → ℕ
+count_idle_rules found = count_by is_some found

@@ -1,0 +1,89 @@
+//! Which of all alerts a list of matchers matches.
+
+ghost use Rattle.std.specs.Prelude.{◌≡◌, ◌≢◌, [], ◌∷◌, List, false, IfOk, IfErr, OnOk, IsTrue};
+ghost use Rattle.am_universe.specs.declared.kind.Kind.TheVariants as kinds;
+ghost use Rattle.am_labels.specs.Words.{Condition, Label};
+ghost use Rattle.am_masks.specs.Words.{IsCubeOf};
+ghost use Rattle.am_first_sets.specs.Words.{possible_space};
+ghost use Rattle.am_every_alert.specs.Words.{IsAlertOf};
+ghost use Rattle.am_idle.specs.Lists.{StandsForLists, IsRefusalForLists};
+ghost use Rattle.am_idle.specs.Extent.{IsExtent, IsSetOf, HasSet};
+
+use crate::lists::universe_for_lists;
+use am_classes::Alphabet;
+use am_first_sets::PossibleRefuter;
+use am_labels::{Kind, Matchers, Space, Universe};
+use am_masks::Cube;
+use am_reasons::{Candidate, first_meeting};
+use std::alloc::{AllocError, Global};
+
+/// How far a list of matchers reaches.
+#[derive(Clone, Copy)]
+pub(crate) enum Extent {
+    /// It matches no alert.
+    NoAlert,
+    /// It matches every alert.
+    EachAlert,
+    /// It matches some alerts, and not others.
+    SomeAlerts,
+}
+
+/// Which alerts over an alphabet a list matches, those left out that the impossible lists of a
+/// space match. The space declares no label, before and after.
+///
+/// `Limit`, `Unproved` and `Memory` as [`universe_for_lists`] has them.
+pub(crate) fn extent_of(
+    alloc: Global,
+    alphabet: Alphabet,
+    space: &mut Space,
+    matchers: &Matchers,
+) -> Result<Extent, Kind>
+    requires { space.old.labels ≡ [] }
+    ensures extent { IfOk result (IsExtent (IsAlertOf alphabet space.old) matchers.now) }
+    ensures made { OnOk result ((u : List Label)
+        × StandsForLists alphabet space.old (matchers.now ∷ []) u) }
+    ensures refused { IfErr result (λ kind. kind ≢ kinds.Memory
+        → IsRefusalForLists alphabet space.old (matchers.now ∷ []) kind) }
+    ensures labels { space.new.labels ≡ [] }
+    ensures impossible { space.new.impossible ≡ space.old.impossible }
+{
+    let universe = universe_for_lists(alloc, alphabet, space, &[matchers])?;
+    space.declare(universe);
+    let extent = extent_in(alloc, space, matchers);
+    space.declare(Universe::empty(alloc));
+    Ok(extent?)
+}
+
+/// Which label sets of a space a list matches. An `Err` only where memory was refused.
+fn extent_in(alloc: Global, space: &Space, matchers: &Matchers) -> Result<Extent, AllocError>
+    ensures { IfOk result (IsExtent (IsSetOf space.now) matchers.now) }
+{
+    let possible = PossibleRefuter::of(alloc, space)?;
+    let cube = Cube::of(alloc, matchers, space.universe())?;
+    if !has_set(&possible, &cube, true) {
+        return Ok(Extent::NoAlert);
+    }
+    if !has_set(&possible, &cube, false) {
+        return Ok(Extent::EachAlert);
+    }
+    Ok(Extent::SomeAlerts)
+}
+
+/// Whether a list matches some label set of a space (`wanted`), or does not match some. The list is
+/// that of the cube.
+fn has_set(possible: &PossibleRefuter<'_>, cube: &Cube, wanted: bool) -> bool
+    ensures some { (ms : List Condition)
+        → IsCubeOf (possible_space possible.now).labels ms cube.now
+        → IsTrue result → HasSet (possible_space possible.now) ms wanted }
+    ensures none { (ms : List Condition)
+        → IsCubeOf (possible_space possible.now).labels ms cube.now
+        → result ≡ false → HasSet (possible_space possible.now) ms wanted → ⊥ }
+{
+    let literal = [Candidate {
+        cube,
+        wanted,
+        named: true,
+        tag: 0,
+    }];
+    first_meeting(possible, &literal).is_some()
+}

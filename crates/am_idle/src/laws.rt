@@ -1,0 +1,49 @@
+//! Facts about the definitions alone: each is the contract of a function with an empty body.
+ghost use Rattle.std.specs.Prelude.{◌≡◌, ℕ, ℤ, List, [], ◌∷◌, Bool, Some, IsTrue, IsFalse};
+ghost use Rattle.am_labels.specs.Words.{Label, LabelMap, label_set_of, Condition};
+ghost use Rattle.am_labels.specs.Words.{Space, IsChoiceOf};
+ghost use Rattle.am_records.specs.SilencesFile.{Silence};
+ghost use Rattle.am_files.specs.ConfigFile.{Rule};
+ghost use Rattle.am_eval.specs.Words.{World, is_active, hides, at_instant};
+ghost use Rattle.am_classes.specs.declared.alphabet.Alphabet.{Alphabet};
+ghost use Rattle.am_every_alert.specs.Words.{IsAlertOf, MeetsTheSame};
+ghost use Rattle.am_idle.specs.declared.silences.SilenceFinding.TheVariants as finding_is;
+ghost use Rattle.am_idle.specs.Lists.{listed_conditions, made_space, StandsForLists};
+ghost use Rattle.am_idle.specs.Silences.{IsSilenceFinding};
+ghost use Rattle.am_idle.specs.declared.rules.IdleReason.{IdleReason};
+ghost use Rattle.am_idle.specs.Rules.{MayMeet, IsWhyNone, IsIdle};
+
+/// A universe that stands for some lists of matchers, over an alphabet and beside what is
+/// impossible of a space, stands for every alert: each alert of the space over this alphabet,
+/// whatever labels it has, meets the same of the lists as the label set of some choice; and the
+/// label set of each choice is such an alert.
+pub fn a_universe_for_lists_stands_for_every_alert()
+    ensures choice { (a : Alphabet) (s : Space) (lists : List (List Condition)) (u : List Label)
+        (alert : LabelMap) → StandsForLists a s lists u → IsAlertOf a s alert
+        → (choice : List ℕ) × IsChoiceOf (made_space s u) choice
+        × MeetsTheSame (listed_conditions lists) (label_set_of u choice) alert }
+    ensures alert { (a : Alphabet) (s : Space) (lists : List (List Condition)) (u : List Label)
+        (choice : List ℕ) → StandsForLists a s lists u → IsChoiceOf (made_space s u) choice
+        → IsAlertOf a s (label_set_of u choice) }
+{}
+
+/// At no instant does a silence that is idle hide an alert of the space over the alphabet. One that
+/// is all hides each of them at each instant at which it is active.
+pub fn an_idle_silence_hides_no_alert()
+    ensures idle { (a : Alphabet) (s : Space) (w : World) (given : Bool) (silence : Silence)
+        (instant : ℤ) (alert : LabelMap)
+        → IsSilenceFinding a s w given silence (Some finding_is.Idle) → IsAlertOf a s alert
+        → IsFalse (hides (at_instant w instant) alert silence) }
+    ensures all { (a : Alphabet) (s : Space) (w : World) (given : Bool) (silence : Silence)
+        (instant : ℤ) (alert : LabelMap)
+        → IsSilenceFinding a s w given silence (Some finding_is.All) → IsAlertOf a s alert
+        → IsTrue (is_active (Some instant) silence)
+        → IsTrue (hides (at_instant w instant) alert silence) }
+{}
+
+/// What is said of why a rule is idle shows that it is: where matchers of its sides contradict each
+/// other, or each two alerts that match the sides both match both, by it no alert inhibits another.
+pub fn a_reason_shows_that_a_rule_is_idle()
+    ensures idle { (a : Alphabet) (s : Space) (rule : Rule) (reason : IdleReason)
+        → IsWhyNone (MayMeet a s rule) rule reason → IsIdle a s rule }
+{}

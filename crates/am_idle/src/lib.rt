@@ -1,0 +1,36 @@
+//! Which silences and inhibition rules do nothing, and which silences hide everything, for any
+//! alert.
+//!
+//! [`universe_for_lists`] makes a universe that stands for every alert, for some lists of matchers.
+//! [`find_silences`] says of each silence of a world whether it hides any alert, and whether it
+//! hides every one; [`push_silence_line`] says it in a line. [`find_rules`] says of each inhibition
+//! rule why by it no alert inhibits another, if none does; [`push_rule_line`] says it in a line.
+#![tactic(auto)]
+
+// A universe for some lists of matchers, and which of all alerts a list matches.
+mod extent;
+mod lists;
+
+pub use lists::universe_for_lists;
+
+// What is said of silences.
+mod silence_text;
+mod silences;
+
+pub use silence_text::push_silence_line;
+pub use silences::{
+    SilenceFault, SilenceFinding, count_silence_findings, count_silence_notes, find_silences,
+};
+
+// What is said of inhibition rules.
+mod rule_findings;
+mod rule_text;
+mod rules;
+mod sides;
+
+pub use rule_findings::{RuleFault, count_idle_rules, find_rules};
+pub use rule_text::push_rule_line;
+pub use rules::{IdleReason, idle_reason};
+
+// What holds of the definitions by themselves.
+pub mod laws;

@@ -1,0 +1,96 @@
+//! A universe that stands for every alert, for some lists of matchers.
+
+ghost use Rattle.std.specs.Prelude.{◌≡◌, ◌≢◌, [], map, IfOk, IfErr, OnOk, fold};
+ghost use Rattle.am_universe.specs.declared.kind.Kind.TheVariants as kinds;
+ghost use Rattle.am_complete.specs.Words.{IsAskedOf, with_asked};
+ghost use Rattle.am_asked.specs.Words.{placed_at, placed_in_lists};
+ghost use Rattle.am_idle.specs.Lists.{deciding_conditions, placed_by_lists, labels_of_lists};
+ghost use Rattle.am_idle.specs.Lists.{StandsForLists, IsRefusalForLists};
+
+use am_classes::Alphabet;
+use am_complete::{AskedLabel, Gathering, Origin, universe_beside};
+use am_labels::{Kind, Matchers, Space, Universe};
+use std::alloc::{AllocError, Global};
+
+/// A universe that stands for every alert over an alphabet, for some lists of matchers and the
+/// impossible lists of a space that declares no label.
+///
+/// `Limit` where there is no room for the labels that are asked of; `Unproved` where the classes of
+/// one could not be computed, or one needs a value and has no label name; `Memory`.
+pub fn universe_for_lists(
+    alloc: Global,
+    alphabet: Alphabet,
+    space: &Space,
+    lists: &[&Matchers],
+) -> Result<Universe, Kind>
+    requires { space.now.labels ≡ [] }
+    ensures stands { IfOk result
+        (StandsForLists alphabet space.now (map (λ list. list.now) lists.now)) }
+    ensures refused { IfErr result (λ kind. kind ≢ kinds.Memory
+        → IsRefusalForLists alphabet space.now (map (λ list. list.now) lists.now) kind) }
+{
+    let asked = asked_by_lists(alloc, lists, space)?;
+    let made = universe_beside(alloc, alphabet, space, asked.as_slice(), None)?;
+    if !made.unproved.is_empty() {
+        return Err(Kind::Unproved);
+    }
+    Ok(made.universe)
+}
+
+/// The labels that some lists of matchers ask of, and then those that the impossible lists of a
+/// space ask of. An `Err` only where memory was refused.
+fn asked_by_lists<'m>(
+    alloc: Global,
+    lists: &[&'m Matchers],
+    space: &'m Space,
+) -> Result<Vec<AskedLabel<'m>>, AllocError>
+    ensures asked { IfOk result (λ labels. IsAskedOf labels.items
+        (deciding_conditions space.now (map (λ list. list.now) lists.now))) }
+    ensures labels { IfOk result (λ labels. labels.items
+        ≡ labels_of_lists space.now (map (λ list. list.now) lists.now)) }
+{
+    let mut gathering = Gathering::empty(alloc);
+    add_lists(&mut gathering, lists)?;
+    add_impossible(&mut gathering, space.impossible())?;
+    Ok(gathering.into_labels())
+}
+
+/// Adds the matchers of some lists.
+fn add_lists<'m>(gathering: &mut Gathering<'m>, lists: &[&'m Matchers]) -> Result<(), AllocError>
+    ensures { OnOk result (gathering.new ≡ fold with_asked gathering.old
+        (placed_by_lists (map (λ list. list.now) lists.now))) }
+{
+    for (i, list) in lists.iter().enumerate() {
+        add_matchers(gathering, &Origin::Rule(i), *list)?;
+    }
+    Ok(())
+}
+
+/// Adds the matchers of impossible lists.
+fn add_impossible<'m>(
+    gathering: &mut Gathering<'m>,
+    lists: &'m [Matchers],
+) -> Result<(), AllocError>
+    ensures { OnOk result (gathering.new
+        ≡ fold with_asked gathering.old (placed_in_lists lists.now)) }
+{
+    for (i, list) in lists.iter().enumerate() {
+        add_matchers(gathering, &Origin::Impossible(i), list)?;
+    }
+    Ok(())
+}
+
+/// Adds the matchers of a list, which all stand at one place.
+fn add_matchers<'m>(
+    gathering: &mut Gathering<'m>,
+    origin: &Origin,
+    matchers: &'m Matchers,
+) -> Result<(), AllocError>
+    ensures { OnOk result (gathering.new
+        ≡ fold with_asked gathering.old (placed_at origin.now matchers.now)) }
+{
+    for i in 0..matchers.len() {
+        gathering.add(origin, matchers.get(i))?;
+    }
+    Ok(())
+}

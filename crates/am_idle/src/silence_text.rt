@@ -1,0 +1,42 @@
+//! What is said of a silence, as a line.
+
+ghost use Rattle.std.specs.Prelude.{◌≡◌, ◌++◌, string_bytes, OnOk};
+ghost use Rattle.am_idle.specs.SilenceText.{silence_line, silence_kind_text};
+
+use crate::silences::SilenceFinding;
+use am_complete_texts::push_matchers;
+use am_files::Silence;
+use std::alloc::{AllocError, Global};
+
+/// Adds the line of the silence at a position; nothing where nothing is said of it. An `Err` only
+/// where memory was refused.
+pub fn push_silence_line(
+    alloc: Global,
+    text: &mut String,
+    position: usize,
+    silence: &Silence,
+    finding: Option<SilenceFinding>,
+) -> Result<(), AllocError>
+    ensures text { OnOk result (string_bytes text.new
+        ≡ string_bytes text.old ++ silence_line position silence.now finding) }
+{
+    let Some(finding) = finding else {
+        return Ok(());
+    };
+    let head = format!(in alloc; "silence {position}")?;
+    text.push_str(head.as_str())?;
+    text.push_str(silence_kind_text(finding))?;
+    push_matchers(text, silence.matchers())?;
+    text.push_str("\n")
+}
+
+/// What stands before the matchers.
+fn silence_kind_text(finding: SilenceFinding) -> &'static str
+    ensures { result.now ≡ silence_kind_text finding }
+{
+    match finding {
+        SilenceFinding::Idle => " idle: no alert matches ",
+        SilenceFinding::All => " all: every alert matches ",
+        SilenceFinding::Unused => " unused: no alert of the file matches ",
+    }
+}

@@ -1,0 +1,188 @@
+//! What is to be said of silences: that one does nothing, or hides everything.
+
+ghost use Rattle.std.specs.Prelude.{◌≡◌, ◌≢◌, ◌<◌, [], ◌∷◌, ◌++◌, length, slice_get, Some};
+ghost use Rattle.std.specs.Prelude.{IfOk, IfErr, OnOk};
+ghost use Rattle.std.specs.List.{AllZip, list_any};
+ghost use Rattle.am_universe.specs.declared.kind.Kind.TheVariants as kinds;
+ghost use Rattle.am_labels.specs.Words.{all_hold};
+ghost use Rattle.am_idle.specs.Silences.{IsSilenceFinding, IsAccepted, IsSilenceRefused};
+ghost use Rattle.am_idle.specs.Silences.{IsFirstRefused, is_unused};
+ghost use Rattle.am_idle.specs.Silences.{is_silence_finding, is_silence_note};
+ghost use Rattle.am_idle.specs.Silences.{count_silence_findings, count_silence_notes};
+
+use crate::extent::{Extent, extent_of};
+use am_classes::Alphabet;
+use am_eval::World;
+use am_files::Alerts;
+use am_labels::{Kind, Matchers, Space};
+use std::alloc::{AllocError, Global};
+
+/// What is to be said of a silence.
+#[derive(Clone, Copy)]
+pub enum SilenceFinding {
+    /// It hides no alert.
+    Idle,
+    /// It hides every alert.
+    All,
+    /// It hides none of the alerts that fire.
+    Unused,
+}
+
+/// Why it is not known what is to be said of silences.
+#[derive(Clone, Copy)]
+pub struct SilenceFault {
+    /// The position of the silence that is refused.
+    pub position: usize,
+    pub kind: Kind,
+}
+
+/// What is to be said of each silence of a world, in their order, for the alerts over an alphabet,
+/// those left out that the impossible lists of a space match. The space declares no label, before
+/// and after. Nothing is said of a silence that is over at the world's instant. Whether one hides
+/// none of the alerts that fire is said only where `alerts_given`.
+///
+/// The fault is that of the first silence that is refused. `Limit` where there is no room for the
+/// labels that its matchers and the impossible lists ask of; `Unproved` where it could not be
+/// computed which texts of a label these tell apart, or where one that has no label name needs a
+/// value; `Memory`, at whichever silence, where memory was refused.
+pub fn find_silences(
+    alloc: Global,
+    alphabet: Alphabet,
+    space: &mut Space,
+    world: &World,
+    alerts_given: bool,
+) -> Result<Vec<Option<SilenceFinding>>, SilenceFault>
+    requires { space.old.labels ≡ [] }
+    ensures found { IfOk result (λ found.
+        AllZip (IsSilenceFinding alphabet space.old world.now alerts_given)
+        world.now.silences found.items) }
+    ensures refused { IfErr result (λ fault. fault.kind ≢ kinds.Memory
+        → IsFirstRefused alphabet space.old world.now fault.position fault.kind) }
+    ensures labels { space.new.labels ≡ [] }
+    ensures impossible { space.new.impossible ≡ space.old.impossible }
+{
+    let mut found = Vec::new(alloc);
+    for i in 0..world.silences().len() {
+        match find_silence(alloc, alphabet, space, world, i, alerts_given) {
+            Ok(finding) => push_finding(&mut found, i, finding)?,
+            Err(kind) => return Err(SilenceFault { position: i, kind }),
+        }
+    }
+    Ok(found)
+}
+
+/// Adds what is to be said of the silence at a position. It fails only where memory ran out.
+fn push_finding(
+    found: &mut Vec<Option<SilenceFinding>>,
+    position: usize,
+    finding: Option<SilenceFinding>,
+) -> Result<(), SilenceFault>
+    ensures added { OnOk result (found.new.items ≡ found.old.items ++ finding ∷ []) }
+    ensures memory { IfErr result (λ fault. fault.kind ≡ kinds.Memory) }
+{
+    match found.push(finding) {
+        Ok(()) => Ok(()),
+        Err(_) => Err(SilenceFault {
+            position,
+            kind: Kind::Memory,
+        }),
+    }
+}
+
+/// What is to be said of the silence at a position. Its faults are those of [`find_silences`].
+fn find_silence(
+    alloc: Global,
+    alphabet: Alphabet,
+    space: &mut Space,
+    world: &World,
+    position: usize,
+    alerts_given: bool,
+) -> Result<Option<SilenceFinding>, Kind>
+    requires none { space.old.labels ≡ [] }
+    requires silence { position < length world.now.silences }
+    ensures found { IfOk result (λ finding. (silence : _)
+        → slice_get world.now.silences position ≡ Some silence
+        → IsSilenceFinding alphabet space.old world.now alerts_given silence finding) }
+    ensures accepted { OnOk result ((silence : _)
+        → slice_get world.now.silences position ≡ Some silence
+        → IsAccepted alphabet space.old world.now silence) }
+    ensures refused { IfErr result (λ kind. kind ≢ kinds.Memory → (silence : _)
+        → slice_get world.now.silences position ≡ Some silence
+        → IsSilenceRefused alphabet space.old world.now silence kind) }
+    ensures labels { space.new.labels ≡ [] }
+    ensures impossible { space.new.impossible ≡ space.old.impossible }
+{
+    if world.over(position) {
+        return Ok(None);
+    }
+    let matchers = world.silences().get(position).matchers();
+    match extent_of(alloc, alphabet, space, matchers)? {
+        Extent::NoAlert => Ok(Some(SilenceFinding::Idle)),
+        Extent::EachAlert => Ok(Some(SilenceFinding::All)),
+        Extent::SomeAlerts => {
+            if alerts_given && is_unused(alloc, world, position)? {
+                return Ok(Some(SilenceFinding::Unused));
+            }
+            Ok(None)
+        }
+    }
+}
+
+/// Whether the silence at a position is active, and hides none of the alerts that fire. An `Err`
+/// only where memory was refused.
+fn is_unused(alloc: Global, world: &World, position: usize) -> Result<bool, AllocError>
+    requires { position < length world.now.silences }
+    ensures { IfOk result (λ unused. (silence : _)
+        → slice_get world.now.silences position ≡ Some silence
+        → unused ≡ is_unused world.now silence) }
+{
+    if !world.active(position) {
+        return Ok(false);
+    }
+    let matchers = world.silences().get(position).matchers();
+    let found = matches_any(alloc, matchers, world.alerts())?;
+    Ok(!found)
+}
+
+/// Whether a list of matchers matches one of some alerts. An `Err` only where memory was refused.
+fn matches_any(alloc: Global, matchers: &Matchers, alerts: &Alerts) -> Result<bool, AllocError>
+    ensures { IfOk result (λ found.
+        found ≡ list_any (λ alert. all_hold alert matchers.now) alerts.now) }
+{
+    let mut prepared = matchers.prepare(alloc);
+    for i in 0..alerts.len() {
+        if prepared.matches(alloc, alerts.get(i))? {
+            return Ok(true);
+        }
+    }
+    Ok(false)
+}
+
+/// How many findings there are: silences that hide no alert, or every one.
+pub fn count_silence_findings(found: &[Option<SilenceFinding>]) -> usize
+    ensures count { result ≡ count_silence_findings found.now }
+{
+    found.iter().filter(|said| is_finding(**said)).count()
+}
+
+/// How many notes there are: silences that hide none of the alerts that fire.
+pub fn count_silence_notes(found: &[Option<SilenceFinding>]) -> usize
+    ensures count { result ≡ count_silence_notes found.now }
+{
+    found.iter().filter(|said| is_note(**said)).count()
+}
+
+fn is_finding(said: Option<SilenceFinding>) -> bool
+    ensures { result ≡ is_silence_finding said }
+{
+    match said {
+        Some(SilenceFinding::Idle) | Some(SilenceFinding::All) => true,
+        Some(SilenceFinding::Unused) | None => false,
+    }
+}
+
+fn is_note(said: Option<SilenceFinding>) -> bool
+    ensures { result ≡ is_silence_note said }
+{
+    matches!(said, Some(SilenceFinding::Unused))
+}
