@@ -1,0 +1,5 @@
+mod Truths
+mod Ids
+mod ListedSteps
+mod FoundSteps
+mod AlertLaws

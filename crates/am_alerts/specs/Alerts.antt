@@ -1,0 +1,40 @@
+-- Which alerts a question is true of: the text of `alerts`. (This project's own.)
+use Rattle.std.specs.Prelude.{◌≡◌, ℕ, List, [], ◌∷◌, ◌++◌, Option, unwrap_or, codes, ⊤}
+use Rattle.am_eval.specs.World.{World}
+use Rattle.am_eval.specs.Question.{Question}
+use Rattle.am_eval.specs.Faults.{Stage}
+use Rattle.am_eval.specs.Promise.{Promise}
+use Rattle.am_eval.specs.Files.{Files, config_of}
+use Rattle.am_eval.specs.AcceptedWorld.{AcceptsWorld, world_stages}
+use Rattle.am_questions.specs.QuestionText.{ReadsQuestion}
+use Rattle.am_questions.specs.QuestionStages.{question_stage}
+use Rattle.am_alerts.specs.SilenceIds.{ids_of_file}
+use Rattle.am_alerts.specs.AlertLines.{lines_of, lines_text}
+
+-- The text of the question, which is `any` where none is handed in.
+abbrev pub asked_text : Option (List ℕ) → List ℕ
+asked_text asked = unwrap_or asked (codes "any")
+
+-- The world is accepted, the text is read as the question about its configuration, and what is
+-- written is a line for each alert of the file that the question is true of, in their order: with
+-- its receivers, the silences that hide it, and the rules and alerts that inhibit it.
+pub record ReportsAlerts (files : Files) (asked : Option (List ℕ)) (text : List ℕ) : Type 0 where
+  pub world : World
+  pub question : Question
+  pub accepts : AcceptsWorld files world
+  pub reads : ReadsQuestion world.config (asked_text asked) question
+  pub report : text ≡ lines_text world.config (ids_of_file files.silences) (lines_of world question)
+
+-- What `alerts` owes. Its stages are those of the world, and then the question.
+-- Source: own choice.
+-- Example: where the file of alerts is `{}` and the question is `silenced and`, the first fault is
+-- the `shape` of the alerts, and not the `question-syntax` of the question.
+abbrev pub alerts_stages : Files → Option (List ℕ) → List Stage
+alerts_stages files asked =
+    world_stages files ++ question_stage (config_of files.config) (asked_text asked) ∷ []
+
+abbrev pub alerts_promise : Files → Option (List ℕ) → Promise ⊤
+alerts_promise files asked = record {
+  stages = alerts_stages files asked;
+  May = λ _. ReportsAlerts files asked;
+}

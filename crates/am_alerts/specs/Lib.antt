@@ -1,0 +1,6 @@
+pub mod SilenceIds
+pub mod Fates
+pub mod AlertLines
+pub mod FoundView
+pub mod Alerts
+pub mod Words

@@ -1,0 +1,34 @@
+//! What becomes of an alert.
+
+ghost use Rattle.std.specs.Prelude.{IfOk};
+ghost use Rattle.am_alerts.specs.Fates.{IsFate};
+
+use am_eval::{World, ends, inhibited_by, receivers_of, silenced_by};
+use am_files::Path;
+use am_labels::LabelSet;
+use std::alloc::{AllocError, Global};
+
+/// What becomes of an alert.
+#[derive(Drop)]
+pub(crate) struct Fate {
+    /// The routes that handle it.
+    pub ends: Vec<Path>,
+    /// The receivers to which it goes, by their positions.
+    pub receivers: Vec<usize>,
+    /// The silences that hide it, by their positions.
+    pub silencers: Vec<usize>,
+    /// The rules and firing alerts that inhibit it, by their positions.
+    pub inhibitors: Vec<(usize, usize)>,
+}
+
+/// Finds what becomes of an alert with these labels. An `Err` only where memory ran out.
+pub(crate) fn fate_of(alloc: Global, world: &World, set: &LabelSet) -> Result<Fate, AllocError>
+    ensures fate { IfOk result (IsFate world.now set.now) }
+{
+    Ok(Fate {
+        ends: ends(alloc, world.config(), set)?,
+        receivers: receivers_of(alloc, world.config(), set)?,
+        silencers: silenced_by(alloc, world, set)?,
+        inhibitors: inhibited_by(alloc, world, set)?,
+    })
+}

@@ -1,0 +1,54 @@
+//! Finding the alerts that a question is true of.
+
+ghost use Rattle.std.specs.Prelude.{◌≡◌, ◌<◌, ◌++◌, [], map, length, IfOk, OnOk, slice_get};
+ghost use Rattle.am_eval.specs.Words.{question_view};
+ghost use Rattle.am_alerts.specs.FoundView.{line_view};
+ghost use Rattle.am_alerts.specs.AlertLines.{lines_of};
+
+use crate::fates::fate_of;
+use crate::truth::satisfies;
+use am_eval::{Question, World};
+use am_labels::LabelSet;
+use std::alloc::{AllocError, Global};
+
+/// An alert that a question is true of, and what becomes of it.
+#[derive(Drop)]
+pub(crate) struct Found<'w> {
+    /// Its position in the file.
+    pub position: usize,
+    /// Its labels.
+    pub set: &'w LabelSet,
+    /// The receivers to which it goes, by their positions.
+    pub receivers: Vec<usize>,
+    /// The silences that hide it, by their positions.
+    pub silencers: Vec<usize>,
+    /// The rules and firing alerts that inhibit it, by their positions.
+    pub inhibitors: Vec<(usize, usize)>,
+}
+
+/// The alerts of a world that a question is true of, in their order. An `Err` only where memory was
+/// refused.
+pub(crate) fn find_asked<'w>(
+    alloc: Global,
+    world: &'w World,
+    question: &Question,
+) -> Result<Vec<Found<'w>>, AllocError>
+    ensures found { IfOk result (λ found.
+        map line_view found.items ≡ lines_of world.now (question_view question.now)) }
+{
+    let mut found = Vec::new(alloc);
+    for position in 0..world.alerts().len() {
+        let set = world.alerts().get(position);
+        let fate = fate_of(alloc, world, set)?;
+        if satisfies(alloc, world, question, set, &fate)? {
+            found.push(Found {
+                position,
+                set,
+                receivers: fate.receivers,
+                silencers: fate.silencers,
+                inhibitors: fate.inhibitors,
+            })?;
+        }
+    }
+    Ok(found)
+}

@@ -1,0 +1,28 @@
+//! What holds of the lines of alerts, by their definitions alone.
+
+ghost use Rattle.std.specs.Prelude.{◌≡◌, ◌↔◌, ℕ, List, Option, Some, map, slice_get, Contains};
+ghost use Rattle.std.specs.Prelude.{IsTrue};
+ghost use Rattle.std.specs.List.Sorted.{IsStrictlySortedBy};
+ghost use Rattle.std.specs.Ordering.{nat_cmp};
+ghost use Rattle.am_universe.specs.LabelSet.{LabelMap};
+ghost use Rattle.am_eval.specs.World.{World};
+ghost use Rattle.am_eval.specs.Files.{Files};
+ghost use Rattle.am_eval.specs.Question.{Question, satisfies};
+ghost use Rattle.am_alerts.specs.AlertLines.{asked_alerts};
+ghost use Rattle.am_alerts.specs.Alerts.{ReportsAlerts};
+
+/// The alerts that lines are written of are exactly those of the file that satisfy the question, in
+/// the order of the file, each once.
+pub fn asked_alerts_are_those_that_satisfy()
+    ensures exactly { (w : World) (q : Question) (i : ℕ) (s : LabelMap)
+        → (Contains (asked_alerts w q) (i, s)
+        ↔ ((slice_get w.alerts i ≡ Some s) × IsTrue (satisfies w q s))) }
+    ensures ascending { (w : World) (q : Question)
+        → IsStrictlySortedBy nat_cmp (map (λ alert. alert.0) (asked_alerts w q)) }
+{}
+
+/// What `alerts` writes is one text for the same inputs.
+pub fn the_lines_of_alerts_are_one_text()
+    ensures one { (files : Files) (asked : Option (List ℕ)) (text other : List ℕ)
+        → ReportsAlerts files asked text → ReportsAlerts files asked other → text ≡ other }
+{}

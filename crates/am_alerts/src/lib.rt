@@ -1,0 +1,27 @@
+//! The alerts of an export that a question is true of: the command `alerts`, as a function over
+//! bytes and a [`Sink`](am_labels::Sink).
+//!
+//! [`alerts`] writes a line for each of them, with the receivers to which it goes, the silences
+//! that hide it, by their identifiers, and the inhibition rules and firing alerts that inhibit it.
+#![tactic(auto)]
+
+// What becomes of an alert, and whether a question is true of it.
+mod fates;
+mod truth;
+
+// The alerts that a question is true of.
+mod finding;
+
+// The identifiers of silences, as their file has them.
+mod silence_ids;
+
+// The lines.
+mod line_text;
+
+// The command.
+mod report;
+
+pub use report::alerts;
+
+// What holds of the definitions by themselves.
+pub mod laws;

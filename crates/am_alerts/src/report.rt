@@ -1,0 +1,76 @@
+ghost use Rattle.std.specs.Prelude.{◌≡◌, [], option_copied, IfOk, IfErr};
+ghost use Rattle.am_universe.specs.declared.place.Place.TheVariants as places;
+ghost use Rattle.am_json.specs.Words.{IsRefusalAt};
+ghost use Rattle.am_eval.specs.Words.{IsKept, question_view};
+ghost use Rattle.am_files.specs.Words.{config_view};
+ghost use Rattle.am_questions.specs.Words.{ReadsQuestion, QuestionRefusedFor};
+ghost use Rattle.am_alerts.specs.Words.{asked_text, alerts_promise};
+
+use crate::finding::find_asked;
+use crate::line_text::write_lines;
+use crate::silence_ids::SilenceIds;
+use am_eval::{Files, Question, read_world};
+use am_files::Config;
+use am_labels::{Fault, Place, Sink, answer_of_write};
+use am_questions::parse_question;
+use std::alloc::Global;
+
+/// Writes the alerts of an export that a question is true of, in their order, and then `# end`: for
+/// each its position, its labels, the receivers to which it goes, the silences that hide it, and
+/// the inhibition rules and firing alerts that inhibit it. A silence is told by its identifier, as
+/// the file has it, or else by its position. Without a question all alerts are written.
+///
+/// `files` has the configuration file, the file of silences, the file of alerts and the instant
+/// that is asked about, as far as there are such. All input is read and all answers are found
+/// before the first byte is written.
+///
+/// The first fault is the one answered: those of the files and the instant, as `explain` has them;
+/// of the question, as `parse_question` has it, at `Question` and with no pointer; `Write`.
+/// `Memory` comes wherever memory ran out. After any but `Write` the sink is as it was.
+pub fn alerts<W: Sink>(
+    alloc: Global,
+    files: &Files<'_>,
+    question: Option<&str>,
+    out: &mut W,
+) -> Result<(), Fault>
+    // What is written is exactly the alerts that the question is true of, each with exactly its
+    // receivers, its silences, and the rules and alerts that inhibit it.
+    ensures kept { IsKept (alerts_promise files.now (option_copied question.entry))
+        W.taken W.failures out.old out.new result }
+{
+    let world = read_world(alloc, files)?;
+    let question = read_question(alloc, question, world.config())?;
+    let Ok(found) = find_asked(alloc, &world, &question) else {
+        return Err(Fault::memory(alloc));
+    };
+    let Ok(ids) = SilenceIds::read(alloc, files.silences) else {
+        return Err(Fault::memory(alloc));
+    };
+    let written = write_lines(world.config(), &ids, found.as_slice(), out);
+    answer_of_write(alloc, written)
+}
+
+/// The question that a text asks about a configuration, as `parse_question` reads it, and `any`
+/// where there is no text. Its faults stand at `Question`.
+fn read_question(alloc: Global, asked: Option<&str>, config: &Config) -> Result<Question, Fault>
+    ensures reads { IfOk result (λ question. ReadsQuestion (config_view config.now)
+        (asked_text (option_copied asked.entry)) (question_view question)) }
+    ensures refused { IfErr result (IsRefusalAt places.Question (λ r.
+        QuestionRefusedFor (config_view config.now) (asked_text (option_copied asked.entry)) r.kind
+        × (r.pointer ≡ []))) }
+{
+    match parse_question(alloc, asked_text(asked), config) {
+        Ok(question) => Ok(question),
+        Err(kind) => Err(Fault::at(alloc, kind, Place::Question)),
+    }
+}
+
+/// The text of a question.
+fn asked_text<'a>(asked: Option<&'a str>) -> &'a str
+    ensures { result.now ≡ asked_text (option_copied asked.entry) }
+{
+    match asked {
+        Some(text) => text,
+        None => "any",
+    }
+}

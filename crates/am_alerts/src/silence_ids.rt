@@ -1,0 +1,92 @@
+//! The identifiers of silences, as their file has them.
+
+ghost use Rattle.std.specs.Prelude.{◌≡◌, IfOk, option_copied, option_map};
+ghost use Rattle.serde_json.specs.View.{view};
+ghost use Rattle.am_json.specs.Words.{json_of};
+ghost use Rattle.am_alerts.specs.SilenceIds.{id_of, ids_of, ids_of_file, id_at};
+
+use am_json::field;
+use serde_json::Value;
+use std::alloc::{AllocError, Global};
+use std::marker::Model;
+
+/// The identifiers of the silences of a file.
+#[derive(Drop)]
+pub(crate) struct SilenceIds {
+    /// The value of the file, if there is one.
+    value: Option<Value>,
+}
+
+impl Model for SilenceIds {
+    ghost use Rattle.std.specs.Prelude.{ℕ, List, [], Option, option_map, unwrap_or};
+    ghost use Rattle.serde_json.specs.View as values;
+    ghost use Rattle.am_alerts.specs.SilenceIds.{ids_of};
+
+    ghost Value = { List (Option (List ℕ)) };
+
+    ghost view = { λ ids.
+        unwrap_or (option_map (λ value. ids_of (values.view value)) ids.value) [] };
+}
+
+impl SilenceIds {
+    /// The identifiers that the bytes of a file give; without a file there are none, nor where the
+    /// bytes have no JSON value. An `Err` only where memory was refused.
+    pub(crate) fn read(alloc: Global, file: Option<&[u8]>) -> Result<SilenceIds, AllocError>
+        ensures ids { IfOk result (λ ids. ids ≡ ids_of_file (option_copied file.entry)) }
+    {
+        match file {
+            Some(bytes) => Ok(SilenceIds {
+                value: value_of(alloc, bytes)?,
+            }),
+            None => Ok(SilenceIds { value: None }),
+        }
+    }
+
+    /// The identifier of the silence at a position, if it has one.
+    pub(crate) fn get(&self, silence: usize) -> Option<&str>
+        ensures id { option_map (λ id. id.now) result ≡ id_at self.now silence }
+    {
+        match &self.value {
+            Some(value) => id_at(value, silence),
+            None => None,
+        }
+    }
+}
+
+/// The JSON value of the bytes of a file, if they have one.
+fn value_of(alloc: Global, bytes: &[u8]) -> Result<Option<Value>, AllocError>
+    ensures { IfOk result (λ value. option_map view value ≡ json_of bytes.now) }
+{
+    match Value::from_slice(alloc, bytes) {
+        Ok(value) => Ok(Some(value)),
+        Err(error) => {
+            if error.is_memory() {
+                return Err(AllocError);
+            }
+            Ok(None)
+        }
+    }
+}
+
+/// The identifier that the item at a position of an array has, if it has one.
+fn id_at(value: &Value, position: usize) -> Option<&str>
+    ensures { option_map (λ id. id.now) result ≡ id_at (ids_of (view value.now)) position }
+{
+    let Some(items) = value.as_array() else {
+        return None;
+    };
+    match items.get(position) {
+        Some(item) => id_of(item),
+        None => None,
+    }
+}
+
+/// The text of the field `id`, if that is a text.
+fn id_of(item: &Value) -> Option<&str>
+    ensures { option_map (λ id. id.now) result ≡ id_of (view item.now) }
+{
+    match field(item, "id") {
+        Some(id) => id.as_str(),
+        None => None,
+    }
+}
