@@ -1,7 +1,7 @@
 use crate::help::{
-    ABOUT, ASK_ABOUT, ASK_HELP, COMPARE_ABOUT, COMPARE_HELP, DEAD_ABOUT, DEAD_HELP, EXAMPLE,
-    EXPLAIN_ABOUT, EXPLAIN_HELP, LINT_ABOUT, LINT_HELP, OUTCOMES_ABOUT, OUTCOMES_HELP,
-    RECEIVERS_ABOUT, RECEIVERS_HELP, UNIVERSE_ABOUT, UNIVERSE_HELP,
+    ABOUT, ALERTS_ABOUT, ALERTS_HELP, ASK_ABOUT, ASK_HELP, COMPARE_ABOUT, COMPARE_HELP, DEAD_ABOUT,
+    DEAD_HELP, EXAMPLE, EXPLAIN_ABOUT, EXPLAIN_HELP, LINT_ABOUT, LINT_HELP, OUTCOMES_ABOUT,
+    OUTCOMES_HELP, RECEIVERS_ABOUT, RECEIVERS_HELP, UNIVERSE_ABOUT, UNIVERSE_HELP,
 };
 use crate::steps::{MIN_STEPS, Steps};
 use clap::builder::ValueParser;
@@ -20,8 +20,8 @@ pub struct CommandLine<'a> {
 /// What is asked for.
 #[derive(Drop)]
 pub enum Request<'a> {
-    /// What is wrong with a configuration, for every alert: with what the universe file calls
-    /// impossible, if there is one; and for alerts of printable ASCII alone.
+    /// What is wrong with a configuration and with silences, for every alert: with what the
+    /// universe file calls impossible, if there is one; and for alerts of printable ASCII alone.
     Lint {
         universe: bool,
         ascii: bool,
@@ -51,6 +51,10 @@ pub enum Request<'a> {
     /// Why a label set goes where it goes: one word is its text, and each of several a matcher.
     Explain {
         set: Vec<&'a str>,
+    },
+    /// The alerts of an export that a question is true of, or all of them.
+    Alerts {
+        question: Option<&'a str>,
     },
     /// A universe that stands for every alert: beside the labels of the universe file; of the
     /// routes alone; for alerts of printable ASCII alone; and also where it cannot be proved of a
@@ -119,6 +123,7 @@ fn request_of<'a>(
         "dead" => Ok(Some(Request::Dead)),
         "receivers" => Ok(Some(Request::Receivers)),
         "explain" => explain_request(alloc, matches),
+        "alerts" => Ok(Some(alerts_request(matches))),
         "universe" => Ok(Some(universe_request(alloc, matches)?)),
         _ => Ok(None),
     }
@@ -170,6 +175,13 @@ fn explain_request<'a>(
             Ok(Some(Request::Explain { set }))
         }
         None => Ok(None),
+    }
+}
+
+/// What `alerts` asks for.
+fn alerts_request<'a>(matches: &ArgMatches<'a>) -> Request<'a> {
+    Request::Alerts {
+        question: matches.get_str("question"),
     }
 }
 
@@ -226,6 +238,7 @@ fn command<'a>(alloc: Global) -> Result<Command<'a>, AllocError> {
         .subcommand(coverage_command(alloc, "dead", DEAD_ABOUT, DEAD_HELP)?)?
         .subcommand(coverage_command(alloc, "receivers", RECEIVERS_ABOUT, RECEIVERS_HELP)?)?
         .subcommand(explain_command(alloc)?)?
+        .subcommand(alerts_command(alloc)?)?
         .subcommand(universe_command(alloc)?)
 }
 
@@ -234,6 +247,9 @@ fn lint_command<'a>(alloc: Global) -> Result<Command<'a>, AllocError> {
         .about(LINT_ABOUT)
         .after_help(LINT_HELP)
         .arg(config_arg(alloc).required(true))?
+        .arg(silences_arg(alloc))?
+        .arg(alerts_arg(alloc))?
+        .arg(at_arg(alloc))?
         .arg(impossible_arg(alloc))?
         .arg(ascii_arg(alloc))
 }
@@ -328,6 +344,20 @@ fn explain_command<'a>(alloc: Global) -> Result<Command<'a>, AllocError> {
         .arg(alerts_arg(alloc))?
         .arg(at_arg(alloc))?
         .arg(set)
+}
+
+fn alerts_command<'a>(alloc: Global) -> Result<Command<'a>, AllocError> {
+    let question = Arg::new(alloc, "question").value_name("QUESTION").help(
+        "The question, as receiver db-pager or silenced; any if there is none",
+    );
+    Command::new(alloc, "alerts")
+        .about(ALERTS_ABOUT)
+        .after_help(ALERTS_HELP)
+        .arg(config_arg(alloc).required(true))?
+        .arg(alerts_arg(alloc).required(true))?
+        .arg(silences_arg(alloc))?
+        .arg(at_arg(alloc))?
+        .arg(question)
 }
 
 fn universe_command<'a>(alloc: Global) -> Result<Command<'a>, AllocError> {

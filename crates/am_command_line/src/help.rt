@@ -10,6 +10,7 @@ Example:
   amcover compare --old old.json --new alertmanager.json
   amcover outcomes --config alertmanager.json
   amcover explain --config alertmanager.json 'team=db,severity=warning'
+  amcover alerts --config alertmanager.json --alerts alerts.json 'receiver db-pager'
   amcover universe --config alertmanager.json > u.json
   amcover ask --universe u.json --config alertmanager.json 'receiver db-pager'
   amcover dead --universe u.json --config alertmanager.json
@@ -17,7 +18,7 @@ Example:
 
 `amcover ask --help` and so on say what each command reads and writes.";
 
-pub(crate) const LINT_ABOUT: &str = "Write what is wrong with the routes and receivers, and why";
+pub(crate) const LINT_ABOUT: &str = "Write what is wrong with a configuration, and why";
 
 pub(crate) const LINT_HELP: &str = "\
 The configuration is JSON; an alertmanager.yml becomes JSON by
@@ -32,13 +33,14 @@ Example:
 
   amcover lint --config alertmanager.json
 
-writes a line for each finding and each note, those on routes before those on receivers,
-and last how many there are. The lines are for example
+writes a line for each finding and each note, on routes, receivers and inhibition rules in
+this order, and last how many there are. The lines are for example
 
   /2 hands on: \"db-mail\" {team=\"db\"}: taken by /2/0 {env=\"prod\"}, /2/1 {env!=\"prod\"}
   /3/2 dead: \"web-chat\" {env!=\"prod\"}: taken by /1 {env!=\"prod\"}
   receiver \"web-chat\" unmatched: /3/2 {env!=\"prod\"} dead
-  # 2 findings, 1 note
+  rule 1 idle: no alert matches source {severity=\"critical\",severity=\"high\"}
+  # 3 findings, 1 note
 
 / is the top-level route, /3 its fourth child, and /3/2 the third child of that. Behind the
 path of a route stands what is said of it, then its receiver, its matchers, and why:
@@ -65,6 +67,37 @@ A receiver is unmatched, a finding, where no alert goes to it; and unusual, a no
 some alert does, and no ordinary one. Behind that stand the routes that have the receiver,
 each with what is said of it, or that there is none.
 
+A rule, with its position in inhibit_rules from 0, is idle, a finding, where no alert, whatever
+fires, inhibits another by it. The reason is one of these; the matchers that it names are
+enough, and none of them can be left out:
+
+  no alert matches source MATCHERS, or target MATCHERS
+  source MATCHERS and target MATCHERS exclude each other through equal
+             no two alerts that have the same values for the labels in equal are such that
+             one matches the first and the other the second
+  each two alerts that match source and target match both sides
+             and such alerts do not inhibit each other
+
+The usual mistake is a source of critical alerts, a target of warnings, and equal with
+severity.
+
+With silences there are lines on those that are not over at the time of --at, by their
+position in the file, from 0; with alerts there are notes on what none of these has:
+
+  amcover lint --config alertmanager.json --silences silences.json \\
+    --at \"$(date -u +%FT%TZ)\" --alerts alerts.json
+
+  silence 3 idle: no alert matches {team=\"db\",team=\"web\"}
+             a finding: it hides no alert there can be
+  silence 4 all: every alert matches {team=~\"(?s).*\"}
+             a finding: it hides every alert there can be
+  silence 5 unused: no alert of the file matches {team=\"ops\"}
+             a note: it is active, and hides none of the alerts of the file
+  /2/0 unseen: no alert has severity=\"critcal\", some have \"critical\"
+             a note: a matcher of a route, a rule or a silence has = and a value that no
+             alert of the file has, though some alert has the label. The most similar
+             value that one has is shown where at most two characters are to be changed
+
 Every alert counts, whatever its labels are. What never occurs is said by a universe file,
 as never.json:
 
@@ -83,7 +116,8 @@ With --ascii ordinary alerts count alone, and a route that is unusual without it
 Patterns with \\b are read then too, for which a configuration is refused as unproved
 without it.
 
-Silences, inhibition and time intervals make no difference.
+Time intervals make no difference, and what is said of routes and receivers is the same
+whatever is silenced or inhibited.
 
 Exit status: 0 done without a finding, 1 refused input, 2 usage, 3 out of memory, 4 the
 output failed, 5 done with a finding.";
@@ -486,6 +520,62 @@ hides it, and by the second rule the fifth alert inhibits it: positions count fr
 There is a line for each such route, silence, and rule with an alert. Without a line
 silenced or inhibited no silence and no alert of these files hides it. A file that is left
 out hides nothing, and time intervals are not looked at.
+
+Exit status: 0 done, 1 refused input, 2 usage, 3 out of memory, 4 the output failed.";
+
+pub(crate) const ALERTS_ABOUT: &str = "Write the firing alerts of which a question is true";
+
+pub(crate) const ALERTS_HELP: &str = "\
+The configuration is JSON; an alertmanager.yml becomes JSON by
+
+  yq -o=json . alertmanager.yml > alertmanager.json
+
+or, with the yq that Debian has, by
+
+  yq . alertmanager.yml > alertmanager.json
+
+The alerts of --alerts and the silences of --silences are files that amtool writes:
+
+  amtool --alertmanager.url=http://localhost:9093 \\
+    alert query -a -s -i -u -o json > alerts.json
+  amtool --alertmanager.url=http://localhost:9093 \\
+    silence query -o json > silences.json
+
+Every alert of the file counts as firing. Without -a -s -i -u amtool leaves out those that
+are silenced or inhibited. Silences need --at, the time that is asked about, as
+2024-05-01T10:00:00Z. Now is
+
+  --at \"$(date -u +%FT%TZ)\"
+
+Without --silences no alert is silenced.
+
+The question is one of `amcover ask --help`, and `any`, which is true of every alert, if
+there is none.
+
+Examples:
+
+  amcover alerts --config alertmanager.json --alerts alerts.json \\
+    --silences silences.json --at \"$(date -u +%FT%TZ)\" 'enters /0'
+
+writes a line for each of these alerts of which the question is true, in the order of the
+file, and then `# end`. The lines are for example
+
+  0 {alertname=\"PostgresDown\",team=\"db\"} -> \"db-pager\",\"incident-log\" silenced \"5a41\"
+  3 {alertname=\"Slow\",team=\"db\"} -> \"db-mail\" inhibited 1/0
+  # end
+
+The first alert of the file goes to two receivers, in the order of the routes that handle
+it, and the silence with the identifier 5a41 hides it. The fourth one is inhibited, by the
+second rule, while the first alert fires: positions count from 0. A silence of which the
+file has no identifier is told by its position. Without silenced or inhibited in a line no
+silence and no alert of these files hides the alert.
+
+  amcover alerts --config alertmanager.json --alerts alerts.json \\
+    --silences silences.json --at \"$(date -u +%FT%TZ)\" \\
+    'receiver web-pager and not silenced and not inhibited'
+
+writes the alerts of which web-pager is told now. With the question `silenced` and a file
+with one silence alone it writes what that silence hides. Time intervals are not looked at.
 
 Exit status: 0 done, 1 refused input, 2 usage, 3 out of memory, 4 the output failed.";
 

@@ -30,8 +30,8 @@ use Rattle.am_lint.specs.Standing.{IsReasonFor, IsStanding}
 use Rattle.am_lint.specs.Findings.{Counts, IsOrdinary, IsRouteFinding, IsReceiverFinding}
 use Rattle.am_lint.specs.FoundView.{unentered, finding_by, finding_of, is_end, is_end_if_any}
 use Rattle.am_lint.specs.FoundView.{said_of, has_ordinary, has_other, receiver_finding}
-use Rattle.am_lint.specs.ReportText.{count_findings, report_text}
-use Rattle.am_lint.specs.Report.{IsSaid, IsLintReport}
+use Rattle.am_lint.specs.ReportText.{count_findings, count_notes, report_lines}
+use Rattle.am_lint.specs.Report.{IsSaid, SaysOfRoutes}
 
 -- ---- What was found.
 
@@ -348,12 +348,14 @@ module _ (ascii : Bool) (s : Space) (u v : List Label) (c : Configuration)
     finding_so ascii s v c route.0 u found is.ordinary is.further,
   )
 
-  pub report_so : (receivers : List (Option ReceiverFinding)) (findings : ℕ) (report : List ℕ)
+  pub lines_so : (receivers : List (Option ReceiverFinding)) (findings notes : ℕ)
+      (lines : List ℕ)
       → receivers ≡ map (receiver_finding routes) (range_with_len 0 (length c.receivers))
       → findings ≡ count_findings (map said_of routes) receivers
-      → report ≡ report_text v c (map said_of routes) receivers
-      → IsLintReport ascii s c findings report
-  report_so receivers findings report are counts text =
+      → notes ≡ count_notes (map said_of routes) receivers
+      → lines ≡ report_lines v c (map said_of routes) receivers
+      → SaysOfRoutes ascii s c findings notes lines
+  lines_so receivers findings notes lines are counts notes_are text =
       let all = range_with_len 0 (length c.receivers) in
       record {
         labels = v;
@@ -364,5 +366,6 @@ module _ (ascii : Bool) (s : Space) (u v : List Label) (c : Configuration)
         each_receiver = subst (λ found. AllZip (IsReceiverFinding ascii s c) all found) (sym are)
             (zip_own (IsReceiverFinding ascii s c) (receiver_finding routes) receiver_so all);
         counted = counts;
+        noted = notes_are;
         text = text;
       }

@@ -1,15 +1,15 @@
 -- The report's text, piece by piece.
-use Rattle.std.proofs.Common.{◌≡◌, ◌<◌, ◌≤◌, ◌+◌, ℕ, List, [], ◌∷◌, ◌++◌, length, take}
+use Rattle.std.proofs.Common.{◌≡◌, ◌<◌, ◌+◌, ℕ, List, [], ◌∷◌, ◌++◌, length, take}
 use Rattle.std.proofs.Common.{Some, option_map, codes, slice_get, get_or, map, cond, Bool, true}
-use Rattle.std.proofs.Common.{false, refl, sym, ap, ◌∙◌, append_assoc, arith}
-use Rattle.std.proofs.Common.{Result, Ok, Err}
+use Rattle.std.proofs.Common.{false, refl, ap, ◌∙◌, append_assoc, arith}
+use Rattle.std.proofs.Common.{Result}
 use Rattle.std.specs.Prelude.{◌==◌}
 use Rattle.std.specs.Result.{OnOk, is_ok}
-use Rattle.std.specs.List.{flat_map, enumerate_from}
-use Rattle.std.proofs.lemmas.List.{take_all, take_more, map-append, flat_map_more}
+use Rattle.std.specs.List.{enumerate_from}
+use Rattle.std.proofs.lemmas.List.{map-append}
 use Rattle.std.proofs.lemmas.List.FromFn.{get_or-enumerate_from}
 use Rattle.std.proofs.lemmas.List.Elements.{filter_more}
-use Rattle.std.proofs.lemmas.Option.{slice_get-map, slice_get-get_or}
+use Rattle.std.proofs.lemmas.Option.{slice_get-map}
 use Rattle.am_universe.proofs.CompletionLemmas.{filter_of_map}
 use Rattle.am_files.specs.ConfigFile.{Configuration}
 use Rattle.am_complete_texts.specs.UniverseText.{texts_behind}

@@ -7,7 +7,6 @@ pub mod Parts
 pub mod Standing
 pub mod Findings
 pub mod FoundView
-pub mod MatchersText
 pub mod ReportText
 pub mod Report
 pub mod Words

@@ -1,4 +1,4 @@
--- The report of `lint`. (This project's own.)
+-- What `lint` says of routes and receivers, and its last line. (This project's own.)
 use Rattle.std.specs.Prelude.{ℕ, ◌+◌, List, [], ◌∷◌, ◌++◌, Bool, Option, Some, None, codes, decimal}
 use Rattle.std.specs.Prelude.{slice_get, unwrap_or, ◌==◌, if◌then◌else◌, true, false, count_by}
 use Rattle.std.specs.List.{flat_map, filter, enumerate_from}
@@ -7,13 +7,14 @@ use Rattle.am_universe.specs.Text.{quoted_text}
 use Rattle.am_universe.specs.WrittenLabelSet.{set_text}
 use Rattle.am_files.specs.ConfigFile.{Configuration, RouteTree, matchers_of}
 use Rattle.am_files.specs.Path.{path_text, route_at}
+use Rattle.am_complete_texts.specs.Plural.{plural}
 use Rattle.am_complete_texts.specs.UniverseText.{texts_behind}
 use Rattle.am_lint.specs.declared.standing.Cause.{Cause}
 use Rattle.am_lint.specs.declared.standing.Cause.TheVariants as cause_is
 use Rattle.am_lint.specs.declared.found.ReceiverFinding.{ReceiverFinding}
 use Rattle.am_lint.specs.declared.found.ReceiverFinding.TheVariants as receiver_is
 use Rattle.am_lint.specs.Findings.{Finding, Dead, Unusual, HandsOn}
-use Rattle.am_lint.specs.MatchersText.{matchers_text}
+use Rattle.am_complete_texts.specs.MatchersText.{matchers_text}
 
 -- A route with what is said of it.
 pub record Said : Type 0 where
@@ -148,27 +149,22 @@ abbrev pub count_notes : List Said → List (Option ReceiverFinding) → ℕ
 count_notes routes receivers =
     count_by (λ said. is_note said.finding) routes + count_by is_unusual receivers
 
--- The last line.
+-- The last line of a report.
 -- Source: own choice.
 -- Example: `# 2 findings, 1 note`.
-abbrev pub plural : ℕ → List ℕ
-plural n = if n == 1 then codes "" else codes "s"
-
 abbrev pub count_text : ℕ → ℕ → List ℕ
 count_text findings notes =
     codes "# " ++ (decimal findings ++ (codes " finding" ++ (plural findings ++ (codes ", "
     ++ (decimal notes ++ (codes " note" ++ (plural notes ++ codes "\n")))))))
 
--- The report: the lines of routes, those of receivers, and the last line.
+-- The lines of routes, and behind them those of receivers.
 -- Source: own choice.
--- Example: of a configuration with the top-level route alone it is `# 0 findings, 0 notes`.
+-- Example: of a configuration with the top-level route alone there are none.
 abbrev pub receiver_lines : Configuration → List Said → List (ℕ × Option ReceiverFinding) → List ℕ
 receiver_lines c routes receivers =
     flat_map (λ found. receiver_line c routes found.0 found.1) receivers
 
-abbrev pub report_text :
+abbrev pub report_lines :
     List Label → Configuration → List Said → List (Option ReceiverFinding) → List ℕ
-report_text u c routes receivers =
-    flat_map (route_line u c) routes
-    ++ (receiver_lines c routes (enumerate_from 0 receivers)
-    ++ count_text (count_findings routes receivers) (count_notes routes receivers))
+report_lines u c routes receivers =
+    flat_map (route_line u c) routes ++ receiver_lines c routes (enumerate_from 0 receivers)

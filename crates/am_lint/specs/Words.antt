@@ -5,6 +5,6 @@ pub use Rattle.am_lint.specs.Standing.{IsStanding, IsReasonFor, IsShownBy}
 pub use Rattle.am_lint.specs.Findings.{Finding, IsRouteFinding, IsReceiverFinding, alphabet_of}
 pub use Rattle.am_lint.specs.Findings.{Counts}
 pub use Rattle.am_lint.specs.FoundView.{finding_of, IsFoundIn, IsLookedAt}
-pub use Rattle.am_lint.specs.MatchersText.{matcher_text, matchers_text}
-pub use Rattle.am_lint.specs.ReportText.{Said, report_text, count_findings, count_notes}
-pub use Rattle.am_lint.specs.Report.{IsSaid, IsLintReport}
+pub use Rattle.am_lint.specs.ReportText.{Said, report_lines, count_findings, count_notes}
+pub use Rattle.am_lint.specs.ReportText.{count_text}
+pub use Rattle.am_lint.specs.Report.{IsSaid, SaysOfRoutes}

@@ -2,7 +2,7 @@
 //!
 //! [`found_routes`] says how each route stands over a space: whether label sets end there or enter
 //! it, and which routes are to blame where none do. [`look_further`] looks at the same routes over
-//! another space. [`lint_text`] says of both in lines what is to be said. Where the spaces stand
+//! another space. [`lint_lines`] says of both in lines what is to be said. Where the spaces stand
 //! for all ordinary alerts, and for all alerts, so does what is found; [`laws`] say that.
 #![tactic(auto)]
 
@@ -23,10 +23,10 @@ mod found;
 pub use finding::{found_receivers, found_routes, look_further};
 pub use found::{FoundRoute, ReceiverFinding, RouteFinding};
 
-// The report.
+// What is to be said of both, in lines.
 mod report_text;
 
-pub use report_text::{count_findings, lint_text};
+pub use report_text::{count_findings, count_notes, lint_lines, push_count};
 
 // What holds of the definitions by themselves.
 pub mod laws;

@@ -1,32 +1,29 @@
-//! The report of what is found, as a text.
+//! What is found of routes and receivers, in lines, and the last line of a report.
 
 ghost use Rattle.std.specs.Prelude.{◌≡◌, ◌<◌, ◌++◌, length, map, codes, string_bytes, IfOk, OnOk};
 ghost use Rattle.std.specs.Prelude.{Some};
 ghost use Rattle.std.specs.List.{AllByRecursion};
 ghost use Rattle.am_labels.specs.Words.{sizes};
-ghost use Rattle.am_labels.specs.MatcherText.{operator_text};
-ghost use Rattle.am_files.specs.Words.{config_view, path_text, step_text};
+ghost use Rattle.am_files.specs.Words.{config_view};
 ghost use Rattle.am_lint.specs.FoundView.{finding_view, finding_of, said_of, IsShown};
 ghost use Rattle.am_lint.specs.FoundView.{IsShownFinding};
-ghost use Rattle.am_lint.specs.MatchersText.{matcher_text, matchers_text, gap_before_matcher};
-ghost use Rattle.am_lint.specs.ReportText.{report_text, route_line, receiver_line, count_text};
+ghost use Rattle.am_lint.specs.ReportText.{report_lines, route_line, receiver_line, count_text};
 ghost use Rattle.am_lint.specs.ReportText.{count_findings, count_notes, kind_text, why_text};
 ghost use Rattle.am_lint.specs.ReportText.{reason_text, cause_text, routes_text, route_text};
 ghost use Rattle.am_lint.specs.ReportText.{gap_before, receiver_kind, having, have_text, said_text};
-ghost use Rattle.am_lint.specs.ReportText.{matchers_at_path, kind_if_any, plural, is_dead, is_note};
+ghost use Rattle.am_lint.specs.ReportText.{matchers_at_path, kind_if_any, is_dead, is_note};
 ghost use Rattle.am_lint.specs.ReportText.{is_unmatched, is_unusual};
 
 use crate::found::{FoundRoute, ReceiverFinding, RouteFinding};
 use crate::standing::{Cause, Reason};
-use am_complete_texts::{push_label_set, push_quoted};
+use am_complete_texts::{plural, push_label_set, push_matchers, push_path, push_quoted};
 use am_files::{Config, Path};
-use am_labels::{Matcher, Matchers, Op, Universe};
+use am_labels::Universe;
 use std::alloc::{AllocError, Global};
 
-/// What is to be said of routes and receivers: a line for each of which something is, and then how
-/// many findings and notes there are. `universe` has the labels of the label sets that are shown.
-/// An `Err` only where memory was refused.
-pub fn lint_text(
+/// What is to be said of routes and receivers: a line for each of which something is. `universe`
+/// has the labels of the label sets that are shown. An `Err` only where memory was refused.
+pub fn lint_lines(
     alloc: Global,
     universe: &Universe,
     config: &Config,
@@ -36,7 +33,7 @@ pub fn lint_text(
     requires shown { AllByRecursion (IsShown (sizes universe.now) (config_view config.now))
         routes.now }
     requires each { length receivers.now ≡ length (config_view config.now).receivers }
-    ensures text { IfOk result (λ text. string_bytes text ≡ report_text universe.now
+    ensures text { IfOk result (λ text. string_bytes text ≡ report_lines universe.now
         (config_view config.now) (map said_of routes.now) receivers.now) }
 {
     let mut text = String::new(alloc);
@@ -46,16 +43,10 @@ pub fn lint_text(
     for (i, finding) in receivers.iter().enumerate() {
         push_receiver_line(alloc, &mut text, config, routes, i, *finding)?;
     }
-    push_count(
-        alloc,
-        &mut text,
-        count_findings(routes, receivers),
-        count_notes(routes, receivers),
-    )?;
     Ok(text)
 }
 
-/// How many findings there are.
+/// How many findings these lines tell.
 pub fn count_findings(routes: &[FoundRoute], receivers: &[Option<ReceiverFinding>]) -> usize
     ensures count { result ≡ count_findings (map said_of routes.now) receivers.now }
 {
@@ -67,9 +58,9 @@ pub fn count_findings(routes: &[FoundRoute], receivers: &[Option<ReceiverFinding
     dead + unmatched
 }
 
-/// How many notes there are.
-fn count_notes(routes: &[FoundRoute], receivers: &[Option<ReceiverFinding>]) -> usize
-    ensures { result ≡ count_notes (map said_of routes.now) receivers.now }
+/// How many notes these lines tell.
+pub fn count_notes(routes: &[FoundRoute], receivers: &[Option<ReceiverFinding>]) -> usize
+    ensures count { result ≡ count_notes (map said_of routes.now) receivers.now }
 {
     let noted = routes.iter().filter(|route| is_noted(route)).count();
     let unusual = receivers.iter().filter(|found| is_unusual(**found)).count();
@@ -323,13 +314,15 @@ fn push_said(
 
 // ---- The last line.
 
-fn push_count(
+/// Adds the last line of a report: how many findings and notes there are. An `Err` only where
+/// memory was refused.
+pub fn push_count(
     alloc: Global,
     text: &mut String,
-    findings: usize,
-    notes: usize,
+    findings: u128,
+    notes: u128,
 ) -> Result<(), AllocError>
-    ensures { OnOk result (string_bytes text.new
+    ensures count { OnOk result (string_bytes text.new
         ≡ string_bytes text.old ++ count_text findings notes) }
 {
     let (found, noted) = (plural(findings), plural(notes));
@@ -337,34 +330,7 @@ fn push_count(
     text.push_str(line.as_str())
 }
 
-/// What stands behind the word for so many things.
-fn plural(n: usize) -> &'static str
-    ensures { result.now ≡ plural n }
-{
-    if n == 1 { "" } else { "s" }
-}
-
-// ---- Paths and matchers.
-
-/// Adds the text of a path.
-fn push_path(alloc: Global, text: &mut String, path: &Path) -> Result<(), AllocError>
-    ensures { OnOk result (string_bytes text.new ≡ string_bytes text.old ++ path_text path.now) }
-{
-    if path.len() == 0 {
-        return text.push_str("/");
-    }
-    for position in path.steps() {
-        push_step(alloc, text, *position)?;
-    }
-    Ok(())
-}
-
-fn push_step(alloc: Global, text: &mut String, position: u16) -> Result<(), AllocError>
-    ensures { OnOk result (string_bytes text.new ≡ string_bytes text.old ++ step_text position) }
-{
-    let step = format!(in alloc; "/{position}")?;
-    text.push_str(step.as_str())
-}
+// ---- The matchers of a route.
 
 /// Adds the matchers of the route at a path, in braces.
 fn push_matchers_at(text: &mut String, config: &Config, path: &Path) -> Result<(), AllocError>
@@ -374,44 +340,5 @@ fn push_matchers_at(text: &mut String, config: &Config, path: &Path) -> Result<(
     match config.at(path) {
         Some(route) => push_matchers(text, route.matchers()),
         None => Ok(()),
-    }
-}
-
-/// Adds matchers in braces, as the text of a list that is read back as them.
-fn push_matchers(text: &mut String, matchers: &Matchers) -> Result<(), AllocError>
-    ensures { OnOk result (string_bytes text.new
-        ≡ string_bytes text.old ++ matchers_text matchers.now) }
-{
-    text.push_str("{")?;
-    for i in 0..matchers.len() {
-        text.push_str(gap_before_matcher(i))?;
-        push_matcher(text, matchers.get(i))?;
-    }
-    text.push_str("}")
-}
-
-fn push_matcher(text: &mut String, matcher: &Matcher) -> Result<(), AllocError>
-    ensures { OnOk result (string_bytes text.new
-        ≡ string_bytes text.old ++ matcher_text matcher.now) }
-{
-    text.push_str(matcher.name())?;
-    text.push_str(operator_text(matcher.op()))?;
-    push_quoted(text, matcher.value())
-}
-
-fn gap_before_matcher(i: usize) -> &'static str
-    ensures { result.now ≡ gap_before_matcher i }
-{
-    if i == 0 { "" } else { "," }
-}
-
-fn operator_text(op: Op) -> &'static str
-    ensures { result.now ≡ operator_text op }
-{
-    match op {
-        Op::Equal => "=",
-        Op::NotEqual => "!=",
-        Op::Matches => "=~",
-        Op::NotMatches => "!~",
     }
 }

@@ -7,7 +7,7 @@ use crate::Call;
 use crate::likeness::Likeness;
 use crate::matchers::add_set_matchers;
 use crate::notes::Notes;
-use crate::questions::{Asked, add_question, asks_of_routes};
+use crate::questions::{add_question, asks_of_routes};
 use crate::universes::add_incomplete;
 use am_command_line::Request;
 use am_files::{read_config, read_universe};
@@ -31,6 +31,7 @@ pub fn notes_of_answer(alloc: Global, call: &Call<'_>) -> Result<String, AllocEr
         Request::Dead | Request::Receivers => add_report(alloc, &mut notes, call)?,
         Request::Compare { .. } => add_compare(alloc, &mut notes, call)?,
         Request::Explain { set } => add_explain(alloc, &mut notes, set.as_slice())?,
+        Request::Alerts { question } => add_alerts(alloc, &mut notes, call, *question)?,
         _ => {}
     }
     notes.text(alloc)
@@ -75,12 +76,14 @@ fn add_ask(
     let Ok(question) = parse_question(alloc, text, &config) else {
         return Err(AllocError);
     };
-    let asked = Asked {
-        call,
+    add_question(
+        alloc,
+        notes,
+        &call.files,
         text,
-        universe: space.universe(),
-    };
-    add_question(alloc, notes, &asked, &question)?;
+        Some(space.universe()),
+        &question,
+    )?;
     if asks_of_routes(&question) {
         add_incomplete(alloc, notes, &space, &config)?;
     }
@@ -95,6 +98,24 @@ fn add_report(alloc: Global, notes: &mut Notes, call: &Call<'_>) -> Result<(), A
         return Err(AllocError);
     };
     add_incomplete(alloc, notes, &space, &config)
+}
+
+fn add_alerts(
+    alloc: Global,
+    notes: &mut Notes,
+    call: &Call<'_>,
+    question: Option<&str>,
+) -> Result<(), AllocError> {
+    let Some(text) = question else {
+        return Ok(());
+    };
+    let Ok(config) = read_config(alloc, call.files.config()) else {
+        return Err(AllocError);
+    };
+    let Ok(question) = parse_question(alloc, text, &config) else {
+        return Err(AllocError);
+    };
+    add_question(alloc, notes, &call.files, text, None, &question)
 }
 
 fn add_explain(alloc: Global, notes: &mut Notes, words: &[&str]) -> Result<(), AllocError> {

@@ -29,7 +29,7 @@ pub(crate) fn add_question_matchers(
     notes: &mut Notes,
     matchers: &Matchers,
     question: &str,
-    universe: &Universe,
+    universe: Option<&Universe>,
 ) -> Result<(), AllocError> {
     for i in 0..matchers.len() {
         if let Some(note) = question_note(alloc, matchers.get(i), question, universe)? {
@@ -40,17 +40,20 @@ pub(crate) fn add_question_matchers(
 }
 
 /// The note on a matcher of a question, if there is one: that there seem to be two matchers in it,
-/// or else that the universe does not declare what it asks for.
+/// or else that the universe, if there is one, does not declare what it asks for.
 fn question_note(
     alloc: Global,
     matcher: &Matcher,
     question: &str,
-    universe: &Universe,
+    universe: Option<&Universe>,
 ) -> Result<Option<String>, AllocError> {
     let (name, value) = (matcher.name(), matcher.value());
     if is_run_together(alloc, matcher, question)? {
         return Ok(Some(run_together(alloc, name, value)?));
     }
+    let Some(universe) = universe else {
+        return Ok(None);
+    };
     let Some(label) = universe.position(name) else {
         return Ok(Some(undeclared_label(alloc, name)?));
     };

@@ -1,9 +1,8 @@
 //! Notes on a question that is answered.
 
-use crate::Call;
 use crate::matchers::add_question_matchers;
 use crate::notes::Notes;
-use am_eval::Question;
+use am_eval::{Files, Question};
 use am_labels::Universe;
 use std::alloc::{AllocError, Global};
 
@@ -11,32 +10,24 @@ const NO_SILENCES: &str = "without --silences nothing is silenced";
 
 const NO_ALERTS: &str = "without --alerts nothing is inhibited";
 
-/// What the parts of a question are held against.
-#[derive(Clone, Copy)]
-pub(crate) struct Asked<'a> {
-    pub call: &'a Call<'a>,
-    pub text: &'a str,
-    pub universe: &'a Universe,
-}
-
-/// Adds the notes on each part of a question, from left to right.
+/// Adds the notes on each part of a question with this text, from left to right. Without a universe
+/// no label is undeclared.
 pub(crate) fn add_question(
     alloc: Global,
     notes: &mut Notes,
-    asked: &Asked<'_>,
+    files: &Files<'_>,
+    text: &str,
+    universe: Option<&Universe>,
     question: &Question,
 ) -> Result<(), AllocError> {
-    let call = asked.call;
     match question {
-        Question::Silenced => add_unless(alloc, notes, call.files.silences, NO_SILENCES),
-        Question::Inhibited => add_unless(alloc, notes, call.files.alerts, NO_ALERTS),
-        Question::Braces(list) => {
-            add_question_matchers(alloc, notes, list, asked.text, asked.universe)
-        }
-        Question::Not(question) => add_question(alloc, notes, asked, question),
+        Question::Silenced => add_unless(alloc, notes, files.silences, NO_SILENCES),
+        Question::Inhibited => add_unless(alloc, notes, files.alerts, NO_ALERTS),
+        Question::Braces(list) => add_question_matchers(alloc, notes, list, text, universe),
+        Question::Not(question) => add_question(alloc, notes, files, text, universe, question),
         Question::And(left, right) | Question::Or(left, right) => {
-            add_question(alloc, notes, asked, left)?;
-            add_question(alloc, notes, asked, right)
+            add_question(alloc, notes, files, text, universe, left)?;
+            add_question(alloc, notes, files, text, universe, right)
         }
         _ => Ok(()),
     }

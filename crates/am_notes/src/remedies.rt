@@ -122,9 +122,10 @@ fn bad_matcher_remedy(place: Place) -> Option<&'static str> {
 /// Whether a label name stands in quotes in the text that is at fault.
 fn has_quoted_name_at(alloc: Global, call: &Call<'_>, fault: &Fault) -> Result<bool, AllocError> {
     match call.request {
-        Request::Ask { question: text, .. } if fault.place == Place::Question => Ok(has_quoted_name(
-            text,
-        )),
+        Request::Ask { question: text, .. }
+        | Request::Alerts {
+            question: Some(text),
+        } if fault.place == Place::Question => Ok(has_quoted_name(text)),
         Request::Explain { set } if fault.place == Place::Set => {
             Ok(set.iter().any(|word| has_quoted_name(word)))
         }
@@ -191,7 +192,10 @@ fn remedy(call: &Call<'_>, kind: Kind, place: Place) -> Option<&'static str> {
 /// Where a question is not of the grammar.
 fn question_remedy(request: &Request<'_>) -> &'static str {
     match request {
-        Request::Ask { question: text, .. } if text.contains('=') && !text.contains('{') => {
+        Request::Ask { question: text, .. }
+        | Request::Alerts {
+            question: Some(text),
+        } if text.contains('=') && !text.contains('{') => {
             "matchers stand in braces, as in {team=\"db\"}"
         }
         _ => "amcover ask --help lists the forms; a name with a blank stands in quotes: \

@@ -15,6 +15,7 @@ use Rattle.am_eval.specs.Promise.{Promise}
 use Rattle.am_notes.specs.declared.call.Call.{Call}
 use Rattle.am_commands.specs.AskOutcome.{ask_promise}
 use Rattle.am_commands.specs.Reports.{dead_promise, receivers_promise}
+use Rattle.am_alerts.specs.Alerts.{alerts_promise}
 use Rattle.am_universe_command.specs.Universes.{universe_promise, check_promise}
 use Rattle.am_reports.specs.ReportInputs.{ReportInputs}
 use Rattle.am_reports.specs.Linting.{lint_promise}
@@ -45,7 +46,7 @@ alphabet_of ascii = if ascii then Ascii else Unicode
 abbrev pub kept_universe : Bool → List ℕ → Option (List ℕ)
 kept_universe from universe = if from then Some universe else None
 
--- What a report on every alert looks at: the universe that is kept, and the configuration.
+-- What `outcomes` looks at: the universe that is kept, and the configuration.
 abbrev pub report_inputs : Bool → Bool → Call → ReportInputs
 report_inputs from ascii call = record {
   universe = kept_universe from call.universe.now;
@@ -54,8 +55,7 @@ report_inputs from ascii call = record {
 }
 
 -- What is owed where the answer is whether something was found: by a command that looks for
--- nothing, and so finds nothing; and by one that answers how many findings there are, or how many
--- changes.
+-- nothing, and so finds nothing; and by one that answers how many changes there are.
 abbrev pub finds_nothing : {A : Type 0} → Promise A → Promise Bool
 finds_nothing {A = A} promise = record {
   stages = promise.stages;
@@ -72,13 +72,18 @@ finds promise = record {
 -- configuration; for `compare` what changes between two; for `outcomes` to which receivers alerts
 -- go; for `ask` the page of the answers to that question, from that token on and under that limit
 -- and that budget; for `dead` the report of routes; for `receivers` that of receivers; for
--- `explain` the explanation of that set; for `universe` a universe in that form, or how the one
--- that is to be checked stands.
+-- `explain` the explanation of that set; for `alerts` the alerts that the question is true of; for
+-- `universe` a universe in that form, or how the one that is to be checked stands.
 -- Source: own choice.
 -- Example: for `dead --universe u.json --config alertmanager.json` it is what `dead` owes for the
 -- bytes of these files.
 abbrev pub owed : Request → Call → Promise Bool
-owed (requests.Lint from ascii) call = finds (lint_promise (report_inputs from ascii call))
+owed (requests.Lint from ascii) call =
+    lint_promise (record {
+      universe = kept_universe from call.universe.now;
+      files = call.files;
+      ascii = ascii;
+    })
 owed (requests.Compare from ascii) call =
     finds (compare_promise (record {
       universe = kept_universe from call.universe.now;
@@ -101,6 +106,8 @@ owed requests.Receivers call =
     finds_nothing (receivers_promise call.universe.now (config_of call.files.config))
 owed (requests.Explain set) call =
     finds_nothing (explain_promise call.files (map (λ word. word.now) set.items))
+owed (requests.Alerts question) call =
+    finds_nothing (alerts_promise call.files (option_copied question))
 owed (requests.Universe from routes ascii open_form questions) call =
     finds_nothing (universe_promise (record {
       universe = kept_universe from call.universe.now;

@@ -9,13 +9,14 @@ ghost use Rattle.am_eval.specs.Words.{IsKept};
 ghost use Rattle.am_program.specs.Words.{bytes_if_any, bytes_or_none, files_of, promise_of};
 ghost use Rattle.am_program.specs.Requests.{alphabet_of, kept_universe, report_inputs};
 
+use am_alerts::alerts;
 use am_classes::Alphabet;
 use am_command_line::{InputFiles, Request, Steps};
 use am_commands::{ask, dead, explain_words, receivers};
 use am_eval::Files;
 use am_labels::{Fault, Sink};
 use am_notes::Call;
-use am_reports::{CompareInputs, ReportInputs, compare, lint, outcomes};
+use am_reports::{CompareInputs, LintInputs, ReportInputs, compare, lint, outcomes};
 use am_search::Page;
 use am_universe_command::{UniverseForm, UniverseInputs, check_universe, universe};
 use std::alloc::Global;
@@ -27,7 +28,12 @@ pub fn make_call<W: Sink>(alloc: Global, call: &Call<'_>, out: &mut W) -> Result
 {
     match call.request {
         Request::Lint { universe, ascii } => {
-            something_found(lint(alloc, &report_inputs(call, *universe, *ascii), out))
+            let inputs = LintInputs {
+                universe: kept_universe(*universe, call.universe),
+                files: &call.files,
+                ascii: *ascii,
+            };
+            lint(alloc, &inputs, out)
         }
         Request::Compare { universe, ascii } => {
             let inputs = CompareInputs {
@@ -60,6 +66,9 @@ pub fn make_call<W: Sink>(alloc: Global, call: &Call<'_>, out: &mut W) -> Result
         }
         Request::Explain { set } => {
             nothing_found(explain_words(alloc, &call.files, set.as_slice(), out))
+        }
+        Request::Alerts { question } => {
+            nothing_found(alerts(alloc, &call.files, *question, out))
         }
         Request::Universe {
             from,
@@ -95,7 +104,7 @@ pub fn make_call<W: Sink>(alloc: Global, call: &Call<'_>, out: &mut W) -> Result
     }
 }
 
-/// What a report on every alert looks at, with the universe file, if one is given.
+/// What `outcomes` looks at, with the universe file, if one is given.
 fn report_inputs<'a>(call: &Call<'a>, universe: bool, ascii: bool) -> ReportInputs<'a>
     ensures { result ≡ report_inputs universe ascii call.now }
 {
@@ -106,7 +115,7 @@ fn report_inputs<'a>(call: &Call<'a>, universe: bool, ascii: bool) -> ReportInpu
     }
 }
 
-/// The answer of a call that says how many findings there are, or how many changes.
+/// The answer of a call that says how many changes there are.
 fn something_found(count: Result<usize, Fault>) -> Result<bool, Fault>
     ensures { MatchResult count (λ n. result ≡ Ok (nat_lt 0 n)) (λ fault. result ≡ Err fault) }
 {

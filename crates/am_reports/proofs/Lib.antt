@@ -3,6 +3,7 @@ pub mod DeclaredStates
 pub mod Origins
 pub mod StageLemmas
 pub mod LintStages
+pub mod EachLine
 pub mod InputStages
 pub mod RoutesFound
 pub mod KeptItems

@@ -1,27 +1,38 @@
--- Where the first fault of `lint` behind its inputs stands.
-use Rattle.std.proofs.Common.{◌++◌}
+-- Where the first fault of `lint` stands, among its inputs and behind them.
+use Rattle.std.proofs.Common.{◌++◌, List, inl, inr, refl}
 use Rattle.am_universe.specs.declared.place.Place.{Place}
 use Rattle.am_labels.specs.Space.{Space}
 use Rattle.am_json.specs.Pointer.{Refusal}
-use Rattle.am_files.specs.ConfigFile.{Configuration}
-use Rattle.am_eval.specs.Faults.{IsFirstFaultOfCall}
-use Rattle.am_eval.proofs.FirstFaults.{first_of_more}
+use Rattle.am_eval.specs.World.{World}
+use Rattle.am_eval.specs.Faults.{Stage, IsFirstFaultOfCall}
+use Rattle.am_eval.proofs.FirstFaults.{first_of_more, first_behind_world}
 use Rattle.am_classes.specs.declared.alphabet.Alphabet.{Alphabet}
 use Rattle.am_classes.specs.declared.alphabet.Alphabet.TheVariants.{Ascii}
 use Rattle.am_lint.specs.Findings.{alphabet_of}
 use Rattle.am_reports.specs.Configurations.{Configurations, One}
-use Rattle.am_reports.specs.ReportInputs.{ReportInputs, AcceptsReportInputs, AcceptsReport}
 use Rattle.am_reports.specs.ReportInputs.{report_places}
+use Rattle.am_reports.specs.LintInputs.{LintInputs, AcceptsLintInputs, AcceptsLint}
+use Rattle.am_reports.specs.LintInputs.{lint_input_stages}
 use Rattle.am_reports.specs.LaterStages.{declared_stages, made_stages, AcceptsWhole}
-use Rattle.am_reports.specs.Linting.{later_stages}
-use Rattle.am_reports.specs.Made.{IsMadeRefusal, IsDeclaredRefusal, AreDeclaredWhole}
+use Rattle.am_reports.specs.LintSections.{IsRulesRefusal, IsSilencesRefusal}
+use Rattle.am_reports.specs.Linting.{later_stages, finding_stages}
+use Rattle.am_reports.specs.Made.{IsDeclaredRefusal, IsRoutesRefusal, AreDeclaredWhole}
+use Rattle.am_reports.specs.Made.{undeclared}
 use Rattle.am_reports.proofs.StageLemmas.{declared_first, made_first, first_behind_declared}
 use Rattle.am_reports.proofs.StageLemmas.{first_behind_made}
 
-module _ (inputs : ReportInputs) (s : Space) (c : Configuration) (place : Place) (r : Refusal)
-    (accepts : AcceptsReportInputs inputs s c) where
+module _ (inputs : LintInputs) (s : Space) (w : World) (place : Place) (r : Refusal)
+    (accepts : AcceptsLintInputs inputs s w) where
+  pub first_behind_lint_inputs : (later : List Stage) → IsFirstFaultOfCall later place r
+      → IsFirstFaultOfCall (lint_input_stages inputs ++ later) place r
+  first_behind_lint_inputs later behind =
+      inr (
+        (s, accepts.says_universe),
+        first_behind_world inputs.files w later place r accepts.accepts_world behind,
+      )
+
   abbrev says : Space → Configurations → Type 0
-  says = AcceptsReport inputs
+  says = AcceptsLint inputs
 
   abbrev a : Alphabet
   a = alphabet_of inputs.ascii
@@ -29,30 +40,80 @@ module _ (inputs : ReportInputs) (s : Space) (c : Configuration) (place : Place)
   abbrev whole_too : Space → Configurations → Type 0
   whole_too = AcceptsWhole a says
 
+  abbrev every : List Stage
+  every = made_stages whole_too report_places a
+
+  abbrev ordinary : List Stage
+  ordinary = made_stages whole_too report_places Ascii
+
+  abbrev findings : List Stage
+  findings = finding_stages inputs
+
+  abbrev behind_declared : List Stage
+  behind_declared = every ++ (ordinary ++ findings)
+
+  said : says s (One w.config)
+  said = (w, accepts, refl)
+
   -- what is declared is refused
-  pub declared_refused : IsDeclaredRefusal a s (One c) place r
+  pub declared_refused : IsDeclaredRefusal a s (One w.config) place r
       → IsFirstFaultOfCall (later_stages inputs) place r
   declared_refused refused =
-      first_of_more (declared_stages says report_places a)
-      (made_stages whole_too report_places a ++ made_stages whole_too report_places Ascii) place r
-      (declared_first says a s (One c) place r accepts refused)
+      first_of_more (declared_stages says report_places a) behind_declared place r
+      (declared_first says a s (One w.config) place r said refused)
 
-  -- none is made for every alert, or for ordinary ones
-  pub every_refused : AreDeclaredWhole a s (One c) s.labels → IsMadeRefusal a s (One c) place r
-      → IsFirstFaultOfCall (later_stages inputs) place r
-  every_refused whole refused =
-      let every = made_stages whole_too report_places a in
-      let ordinary = made_stages whole_too report_places Ascii in
-      first_behind_declared says report_places a (every ++ ordinary) place r
-      (first_of_more every ordinary place r
-      (made_first whole_too a s (One c) place r (accepts, whole) refused))
+  module _ (whole : AreDeclaredWhole a s (One w.config) s.labels) where
+    -- none is made for every alert, or for ordinary ones
+    pub routes_refused : IsRoutesRefusal inputs.ascii s w.config place r
+        → IsFirstFaultOfCall (later_stages inputs) place r
+    routes_refused (inl refused) =
+        first_behind_declared says report_places a behind_declared place r
+        (first_of_more every (ordinary ++ findings) place r
+        (made_first whole_too a s (One w.config) place r (said, whole) refused))
+    routes_refused (inr refused) =
+        first_behind_declared says report_places a behind_declared place r
+        (first_behind_made whole_too report_places a (ordinary ++ findings) place r
+        (first_of_more ordinary findings place r
+        (made_first whole_too Ascii s (One w.config) place r (said, whole) refused)))
 
-  pub ordinary_refused : AreDeclaredWhole a s (One c) s.labels
-      → IsMadeRefusal Ascii s (One c) place r
-      → IsFirstFaultOfCall (later_stages inputs) place r
-  ordinary_refused whole refused =
-      let ordinary = made_stages whole_too report_places Ascii in
-      first_behind_declared says report_places a
-      (made_stages whole_too report_places a ++ ordinary) place r
-      (first_behind_made whole_too report_places a ordinary place r
-      (made_first whole_too Ascii s (One c) place r (accepts, whole) refused))
+    behind_all : IsFirstFaultOfCall findings place r
+        → IsFirstFaultOfCall (later_stages inputs) place r
+    behind_all first =
+        first_behind_declared says report_places a behind_declared place r
+        (first_behind_made whole_too report_places a (ordinary ++ findings) place r
+        (first_behind_made whole_too report_places Ascii findings place r first))
+
+    -- a rule is refused
+    pub rules_refused : IsRulesRefusal a (undeclared s) w.config.rules place r
+        → IsFirstFaultOfCall (later_stages inputs) place r
+    rules_refused refused =
+        behind_all
+        (inl (
+          refused.2,
+          record {
+            space = s;
+            world = w;
+            accepts = accepts;
+            whole = whole;
+            refuses = (refused.0, refused.1, refl, refused.3);
+          },
+        ))
+
+    -- or a silence
+    pub silences_refused : IsSilencesRefusal a (undeclared s) w place r
+        → IsFirstFaultOfCall (later_stages inputs) place r
+    silences_refused refused =
+        behind_all
+        (inr (
+          tt,
+          inl (
+            refused.2,
+            record {
+              space = s;
+              world = w;
+              accepts = accepts;
+              whole = whole;
+              refuses = (refused.0, refused.1, refl, refused.3);
+            },
+          ),
+        ))

@@ -18,11 +18,13 @@ use Rattle.am_complete.proofs.AmongMatchers.{last_among, among_through}
 use Rattle.am_asked.specs.Asked.{route_conditions}
 use Rattle.am_universe_command.specs.Universes.{HaveRoomBut}
 use Rattle.am_every_alert.specs.Deciding.{coverage_conditions}
-use Rattle.am_lint.specs.Findings.{IsReceiverFinding}
-use Rattle.am_lint.specs.Report.{IsSaid, IsLintReport}
+use Rattle.am_classes.specs.declared.alphabet.Alphabet.TheVariants.{Ascii}
+use Rattle.am_lint.specs.Findings.{IsReceiverFinding, alphabet_of}
+use Rattle.am_lint.specs.Report.{IsSaid, SaysOfRoutes}
 use Rattle.am_reports.specs.Configurations.{Configurations, One, Pair, routing_conditions}
 use Rattle.am_reports.specs.Configurations.{labels_of_routes}
 use Rattle.am_reports.specs.Made.{undeclared, StandsForAll, UnprovedFor, IsMadeRefusal}
+use Rattle.am_reports.specs.Made.{IsRoutesRefusal}
 
 -- a space that declares no label is the same without labels
 pub undeclared_is : (s : Space) → s.labels ≡ [] → s ≡ undeclared s
@@ -75,6 +77,14 @@ refused_as a k s t place r same (inl full) =
     )
 refused_as a k s t place r same (inr found) = inr (unproved_as a k s t place r same found)
 
+pub routes_refused_as : (ascii : Bool) (c : Configuration) (s t : Space) (place : Place)
+    (r : Refusal) → s.impossible ≡ t.impossible → IsRoutesRefusal ascii s c place r
+    → IsRoutesRefusal ascii t c place r
+routes_refused_as ascii c s t place r same (inl refused) =
+    inl (refused_as (alphabet_of ascii) (One c) s t place r same refused)
+routes_refused_as ascii c s t place r same (inr refused) =
+    inr (refused_as Ascii (One c) s t place r same refused)
+
 -- a universe stands for every alert beside the one as beside the other
 pub stands_as : (a : Alphabet) (k : Configurations) (s t : Space) (u : List Label)
     → s.impossible ≡ t.impossible → StandsForAll a s k u → StandsForAll a t k u
@@ -89,11 +99,11 @@ stands_as a k s t u same stands = record {
       AddsNeeded a (of_lists lists) (routing_conditions made k) u) same stands.adds;
 }
 
--- and a report is one for the alerts of the one as of the other
-pub report_as : (ascii : Bool) (c : Configuration) (s t : Space) (findings : ℕ) (report : List ℕ)
-    → s.impossible ≡ t.impossible → IsLintReport ascii s c findings report
-    → IsLintReport ascii t c findings report
-report_as ascii c s t findings report same told = record {
+-- and what is said of routes is so of the alerts of the one as of the other
+pub said_as : (ascii : Bool) (c : Configuration) (s t : Space) (findings notes : ℕ)
+    (lines : List ℕ) → s.impossible ≡ t.impossible → SaysOfRoutes ascii s c findings notes lines
+    → SaysOfRoutes ascii t c findings notes lines
+said_as ascii c s t findings notes lines same told = record {
   labels = told.labels;
   routes = told.routes;
   each_route = subst (λ (lists : List (List Condition)).
@@ -104,5 +114,6 @@ report_as ascii c s t findings report same told = record {
       AllZip (IsReceiverFinding ascii (of_lists lists) c) (range_with_len 0 (length c.receivers))
       told.receivers) same told.each_receiver;
   counted = told.counted;
+  noted = told.noted;
   text = told.text;
 }

@@ -1,7 +1,7 @@
 -- Universes that are made in memory for the routes of one configuration or of two, and why none is
 -- made. (This project's own.)
 use Rattle.std.specs.Prelude.{◌≡◌, ◌⊎◌, ℕ, List, [], ◌++◌, Some, slice_get, take, codes, decimal}
-use Rattle.std.specs.Prelude.{Contains, ⊤}
+use Rattle.std.specs.Prelude.{Contains, Bool, ⊤}
 use Rattle.std.specs.List.{AllByRecursion}
 use Rattle.am_universe.specs.declared.kind.Kind.TheVariants as kinds
 use Rattle.am_universe.specs.declared.place.Place.{Place}
@@ -9,7 +9,9 @@ use Rattle.am_universe.specs.declared.place.Place.TheVariants as places
 use Rattle.am_universe.specs.Universe.{Label, IsUniverse}
 use Rattle.am_labels.specs.Space.{Space}
 use Rattle.am_json.specs.Pointer.{Refusal, refusal_here}
+use Rattle.am_files.specs.ConfigFile.{Configuration}
 use Rattle.am_classes.specs.declared.alphabet.Alphabet.{Alphabet}
+use Rattle.am_classes.specs.declared.alphabet.Alphabet.TheVariants.{Ascii}
 use Rattle.am_complete.specs.declared.origin.Origin.{Origin}
 use Rattle.am_complete.specs.declared.label_state.Completeness.{Completeness}
 use Rattle.am_complete.specs.declared.label_state.Completeness.TheVariants as state_is
@@ -20,7 +22,8 @@ use Rattle.am_complete.specs.Room.{HaveNoRoom, AreUnproved}
 use Rattle.am_classes.specs.Alike.{HasPattern}
 use Rattle.am_complete_texts.specs.CheckText.{origin_pointer}
 use Rattle.am_universe_command.specs.Universes.{HaveRoomBut}
-use Rattle.am_reports.specs.Configurations.{Configurations, routing_conditions}
+use Rattle.am_lint.specs.Findings.{alphabet_of}
+use Rattle.am_reports.specs.Configurations.{Configurations, One, routing_conditions}
 use Rattle.am_reports.specs.Configurations.{labels_of_routes, first_place}
 
 -- The same is impossible as of a space, and no label is declared.
@@ -117,6 +120,11 @@ IsMadeRefusal a s k place r =
 abbrev pub IsDeclaredRefusal : Alphabet → Space → Configurations → Place → Refusal → Type 0
 IsDeclaredRefusal a s k place r =
     ((place ≡ places.Universe) × IncompleteFor a s k r) ⊎ UndecidedFor a s k place r
+
+-- None is made for the alerts that count, or none for ordinary ones.
+abbrev pub IsRoutesRefusal : Bool → Space → Configuration → Place → Refusal → Type 0
+IsRoutesRefusal ascii s c place r =
+    IsMadeRefusal (alphabet_of ascii) s (One c) place r ⊎ IsMadeRefusal Ascii s (One c) place r
 
 -- A label lacks nothing, by its state; and the refusal of the label at a position, by the same.
 abbrev pub IsSettledState : Completeness → Type 0

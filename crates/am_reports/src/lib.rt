@@ -8,15 +8,22 @@
 
 // What is handed in.
 mod compare_inputs;
+mod lint_inputs;
 mod report_inputs;
 
 pub use compare_inputs::CompareInputs;
+pub use lint_inputs::LintInputs;
 pub use report_inputs::ReportInputs;
 
 // The universes that stand for the alerts, and what becomes of these.
 mod all_outcomes;
 mod configs;
 mod made;
+
+// The sections of the report of `lint`.
+mod finding_sections;
+mod route_section;
+mod section;
 
 // The commands.
 mod comparing;

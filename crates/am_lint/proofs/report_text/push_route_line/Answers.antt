@@ -16,7 +16,7 @@ returns c =
     route_line_put c.push_str-6.result (path_text path) (kind_text finding)
     (quoted_text c.receiver_name.result.now) (matchers_at_path config path)
     (why_text c.args.universe.now config finding) (string_bytes c.args.text.now) _ _ _ _ _ _ _ _ _
-    _ c.in_ok-push_path.ensures c.in_ok-push_str.ensures.bytes
+    _ c.in_ok-push_path.ensures.path c.in_ok-push_str.ensures.bytes
     (c.in_ok-push_str-2.ensures.bytes
     ∙ ap (λ t. string_bytes c.push_str.new.self ++ t) c.kind_text.ensures)
     c.in_ok-push_str-3.ensures.bytes c.in_ok-push_quoted.ensures c.in_ok-push_str-4.ensures.bytes

@@ -6,11 +6,13 @@ use Rattle.am_eval.specs.Explanation.{explain_promise}
 use Rattle.am_eval.specs.Files.{config_of}
 use Rattle.am_commands.specs.AskOutcome.{ask_promise}
 use Rattle.am_commands.specs.Reports.{dead_promise, receivers_promise}
+use Rattle.am_alerts.specs.Alerts.{alerts_promise}
 use Rattle.am_universe_command.specs.declared.universe_form.UniverseForm.{UniverseForm}
 use Rattle.am_universe_command.specs.UniverseInputs.{UniverseInputs}
 use Rattle.am_universe_command.specs.Universes.{universe_promise, check_promise}
 use Rattle.am_classes.specs.declared.alphabet.Alphabet.{Alphabet}
 use Rattle.am_reports.specs.ReportInputs.{ReportInputs}
+use Rattle.am_reports.specs.LintInputs.{LintInputs}
 use Rattle.am_reports.specs.CompareInputs.{CompareInputs}
 use Rattle.am_reports.specs.Linting.{lint_promise}
 use Rattle.am_reports.specs.Comparing.{compare_promise}
@@ -22,12 +24,25 @@ use Rattle.am_program.proofs.calling.make_call.Goals as goal
 pub returns-in-Lint : goal.returns-in-Lint
 returns-in-Lint g c =
     let call = c.args.call.now in
-    let given = c.report_inputs.result in
+    let asked = c.in-Lint in
+    let inputs : LintInputs = record {
+      universe = kept_universe asked.universe call.universe.now;
+      files = call.files;
+      ascii = asked.ascii;
+    } in
+    let given : LintInputs = record {
+      universe = option_copied c.kept_universe.result;
+      files = call.files;
+      ascii = asked.ascii;
+    } in
+    let same : given ≡ inputs = λ j. record {
+      universe = c.kept_universe.ensures j;
+      files = call.files;
+      ascii = asked.ascii;
+    } in
     record {
-      kept = owed_for call c.in-Lint.is
-          (owed_as (λ (i : ReportInputs). finds (lint_promise i)) c.report_inputs.ensures
-          (so_many_found (lint_promise given) c.lint.result c.something_found.result
-          c.something_found.ensures c.lint.ensures.kept));
+      kept = owed_for call asked.is
+          (owed_as lint_promise {x = given} {other = inputs} same c.lint.ensures.kept);
     }
 
 pub returns-in-Compare : goal.returns-in-Compare
@@ -41,13 +56,13 @@ returns-in-Compare g c =
       ascii = asked.ascii;
     } in
     let given : CompareInputs = record {
-      universe = option_copied c.kept_universe.result;
+      universe = option_copied c.kept_universe-in-Compare.result;
       old = call.old.now;
       new = call.new.now;
       ascii = asked.ascii;
     } in
     let same : given ≡ inputs = λ j. record {
-      universe = c.kept_universe.ensures j;
+      universe = c.kept_universe-in-Compare.ensures j;
       old = call.old.now;
       new = call.new.now;
       ascii = asked.ascii;
@@ -56,18 +71,18 @@ returns-in-Compare g c =
       kept = owed_for call asked.is
           (owed_as (λ (i : CompareInputs). finds (compare_promise i)) same
           (so_many_found (compare_promise given) c.compare.result
-          c.something_found-in-Compare.result c.something_found-in-Compare.ensures
+          c.something_found.result c.something_found.ensures
           c.compare.ensures.kept));
     }
 
 pub returns-in-Outcomes : goal.returns-in-Outcomes
 returns-in-Outcomes g c =
     let call = c.args.call.now in
-    let given = c.report_inputs-in-Outcomes.result in
+    let given = c.report_inputs.result in
     record {
       kept = owed_for call c.in-Outcomes.is
           (owed_as (λ (i : ReportInputs). finds_nothing (outcomes_promise i))
-          c.report_inputs-in-Outcomes.ensures
+          c.report_inputs.ensures
           (nothing_found (outcomes_promise given) c.outcomes.result
           c.nothing_found.result c.nothing_found.ensures c.outcomes.ensures.kept));
     }
@@ -123,6 +138,16 @@ returns-in-Explain g c =
           (explain_promise call.files (map (λ word. word.now) c.as_slice.result.now))
           c.explain_words.result c.nothing_found-in-Explain.result
           c.nothing_found-in-Explain.ensures c.explain_words.ensures.kept));
+    }
+
+pub returns-in-Alerts : goal.returns-in-Alerts
+returns-in-Alerts g c =
+    let call = c.args.call.now in
+    record {
+      kept = owed_for call c.in-Alerts.is
+          (nothing_found (alerts_promise call.files (option_copied c.in-Alerts.question))
+          c.alerts.result c.nothing_found-in-Alerts.result
+          c.nothing_found-in-Alerts.ensures c.alerts.ensures.kept);
     }
 
 pub returns-in-Universe : goal.returns-in-Universe

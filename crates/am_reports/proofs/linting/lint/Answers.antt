@@ -1,12 +1,12 @@
 -- The inputs come before what is made of them, and what is written is the report.
 use Rattle.std.proofs.Common.{Ok, Err, refl, string_bytes}
+use Rattle.std.specs.Prelude.{nat_lt}
 use Rattle.am_json.specs.Reading.{refusal_of}
-use Rattle.am_files.specs.ConfigView.{config_view}
 use Rattle.am_eval.proofs.FirstFaults.{first_of_more}
 use Rattle.am_eval.proofs.Promises.{refused, written}
-use Rattle.am_reports.specs.ReportInputs.{report_input_stages}
+use Rattle.am_reports.specs.LintInputs.{lint_input_stages}
 use Rattle.am_reports.specs.Linting.{lint_promise, later_stages}
-use Rattle.am_reports.proofs.InputStages.{first_behind_report_inputs}
+use Rattle.am_reports.proofs.LintStages.{first_behind_lint_inputs}
 use Rattle.am_reports.proofs.linting.lint.Goals as goal
 
 pub returns-in_err-read : goal.returns-in_err-read
@@ -16,7 +16,7 @@ returns-in_err-read g c =
     record {
       kept = refused (lint_promise inputs) fault c.from_residual.result refl
           c.from_residual.ensures.1
-          (λ remembered. first_of_more (report_input_stages inputs) (later_stages inputs)
+          (λ remembered. first_of_more (lint_input_stages inputs) (later_stages inputs)
           fault.place (refusal_of fault) (c.in_err-read.ensures.first remembered));
     }
 
@@ -29,8 +29,8 @@ returns-in_err-lint g c =
     record {
       kept = refused (lint_promise inputs) fault c.from_residual-in_err-lint.result refl
           c.from_residual-in_err-lint.ensures.1
-          (λ remembered. first_behind_report_inputs inputs read.space (config_view read.config)
-          (later_stages inputs) fault.place (refusal_of fault) accepts
+          (λ remembered. first_behind_lint_inputs inputs read.space read.world fault.place
+          (refusal_of fault) accepts (later_stages inputs)
           (c.in_err-lint.ensures.first accepts remembered));
     }
 
@@ -40,15 +40,17 @@ returns-in-Ok g c =
     let read = c.in_ok-read.read in
     let lint = c.in_ok-lint.lint in
     let accepts = c.in_ok-read.ensures.accepts in
+    let found = nat_lt 0 lint.findings in
     let writes = rw c.as_str.ensures.value at c.in-Ok.ensures.written in
     record {
-      kept = written (lint_promise inputs) lint.findings (string_bytes lint.text)
-          (Ok lint.findings) (Ok lint.findings)
+      kept = written (lint_promise inputs) found (string_bytes lint.text) (Ok found) (Ok found)
           (record {
             space = read.space;
-            configuration = config_view read.config;
+            world = read.world;
             accepts = accepts;
-            linted = c.in_ok-lint.ensures.linted accepts;
+            findings = lint.findings;
+            is_found = refl;
+            linted = c.in_ok-lint.ensures.reports accepts;
           })
           refl (record { ok = writes.ok; err = tt }) refl;
     }
@@ -59,15 +61,18 @@ returns g c =
     let read = c.in_ok-read.read in
     let lint = c.in_ok-lint.lint in
     let accepts = c.in_ok-read.ensures.accepts in
+    let found = nat_lt 0 lint.findings in
     let writes = rw c.as_str.ensures.value at c.in-Err.ensures.written in
     record {
-      kept = written (lint_promise inputs) lint.findings (string_bytes lint.text)
+      kept = written (lint_promise inputs) found (string_bytes lint.text)
           (Err c.in-Err.field-0) (Err c.write.result)
           (record {
             space = read.space;
-            configuration = config_view read.config;
+            world = read.world;
             accepts = accepts;
-            linted = c.in_ok-lint.ensures.linted accepts;
+            findings = lint.findings;
+            is_found = refl;
+            linted = c.in_ok-lint.ensures.reports accepts;
           })
           tt (record { ok = tt; err = writes.err }) c.write.ensures.kind;
     }

@@ -3,7 +3,7 @@ use Rattle.std.specs.List.{flat_map, enumerate_from}
 use Rattle.am_files.specs.Words.{config_view}
 use Rattle.am_lint.specs.FoundView.{said_of}
 use Rattle.am_lint.specs.ReportText.{route_line, receiver_lines}
-use Rattle.am_lint.proofs.report_text.lint_text.Given as goal
+use Rattle.am_lint.proofs.report_text.lint_lines.Given as goal
 
 -- the lines of the routes so far
 abbrev pub invariant-loop-route : goal.invariant-loop-route

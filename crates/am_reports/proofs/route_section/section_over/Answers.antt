@@ -1,4 +1,4 @@
--- What is found over the universes is so of the alerts that they stand for, and the report says it.
+-- What is found over the universes is so of the alerts that they stand for, and the lines say it.
 use Rattle.std.proofs.Common.{List, is_none, length, sym, ap, subst, ◌∙◌}
 use Rattle.std.specs.List.{AllByRecursion, AllZip}
 use Rattle.std.proofs.lemmas.List.FromFn.{length-map-range_with_len}
@@ -6,12 +6,12 @@ use Rattle.am_files.specs.ConfigView.{config_view}
 use Rattle.am_lint.specs.declared.found.FoundRoute.{FoundRoute}
 use Rattle.am_lint.specs.Table.{IsRoute}
 use Rattle.am_lint.specs.FoundView.{IsSameButEvery, receiver_finding}
-use Rattle.am_lint.proofs.FoundLemmas.{report_so}
+use Rattle.am_lint.proofs.FoundLemmas.{lines_so}
 use Rattle.am_lint.proofs.FoundOver.{found_there, found_shown}
 use Rattle.am_reports.proofs.RoutesFound.{AreFoundSo, IsSpaceWith, found_ordinary, found_every}
-use Rattle.am_reports.proofs.linting.lint_over.Goals as goal
-use Rattle.am_reports.proofs.linting.lint_over.Goals.{in-Some+in_ok-look_further, in_default}
-use Rattle.am_reports.proofs.linting.lint_over.Goals.{After-as_slice-2}
+use Rattle.am_reports.proofs.route_section.section_over.Goals as goal
+use Rattle.am_reports.proofs.route_section.section_over.Goals.{in-Some+in_ok-look_further, in_default}
+use Rattle.am_reports.proofs.route_section.section_over.Goals.{After-as_slice-2}
 
 pub look_further-requires : goal.look_further-requires
 look_further-requires c =
@@ -25,10 +25,10 @@ look_further-requires c =
 
 -- the routes are found so, whether every alert counts or not
 so : (c : After-as_slice-2)
-    → AreFoundSo (is_none c.args.every) c.args.space c.match-every-2.space.labels
+    → AreFoundSo (is_none c.args.every) c.args.space.now c.match-every-2.space.labels
     (config_view c.args.config.now) c.match-every-2.routes.items
 so c =
-    let s = c.args.space in
+    let s = c.args.space.now in
     let o = c.declare.new.self in
     let config = config_view c.args.config.now in
     let every = c.args.every in
@@ -52,37 +52,38 @@ so c =
           c.in_ok-routes.ensures.found c.in_ok-routes.ensures.once)
     ]
 
-pub lint_text-requires-clause-shown : goal.lint_text-requires-clause-shown
-lint_text-requires-clause-shown c =
-    let s = c.args.space in
+pub lint_lines-requires-clause-shown : goal.lint_lines-requires-clause-shown
+lint_lines-requires-clause-shown c =
+    let s = c.args.space.now in
     let config = config_view c.args.config.now in
     let every = c.args.every in
     let labels = c.match-every-2.space.labels in
     let routes = c.match-every-2.routes.items in
-    let found = so (goal.at.lint_text-requires-clause-shown c).After-as_slice-2 in
+    let found = so (goal.at.lint_lines-requires-clause-shown c).After-as_slice-2 in
     rw (c.universe.ensures.labels, c.as_slice-2.ensures.value)
     (found_shown (is_none every) s found.0 labels config routes c.args.config.now.sound found.1)
 
-pub lint_text-requires-clause-each : goal.lint_text-requires-clause-each
-lint_text-requires-clause-each c =
+pub lint_lines-requires-clause-each : goal.lint_lines-requires-clause-each
+lint_lines-requires-clause-each c =
     let config = config_view c.args.config.now in
     ap length (c.as_slice-3.ensures.value ∙ c.in_ok-receivers.ensures.found)
     ∙ length-map-range_with_len (receiver_finding c.as_slice.result.now) 0 (length config.receivers)
 
-pub returns : goal.returns
-returns c =
-    let s = c.args.space in
+pub returns-clause-says : goal.returns-clause-says
+returns-clause-says c =
+    let s = c.args.space.now in
     let config = config_view c.args.config.now in
     let every = c.args.every in
     let labels = c.match-every-2.space.labels in
     let routes = c.match-every-2.routes.items in
-    let found = so (goal.at.returns c).After-as_slice-2 in
+    let found = so (goal.at.returns-clause-says c).After-as_slice-2 in
     let are = rw (c.as_slice.ensures.value) at c.in_ok-receivers.ensures.found in
     let count = rw (c.as_slice-4.ensures.value, c.as_slice-5.ensures.value)
-    at c.count_findings-findings.ensures.count in
+    at c.count_findings.ensures.count in
+    let notes = rw (c.as_slice-6.ensures.value, c.as_slice-7.ensures.value)
+    at c.count_notes.ensures.count in
     let text = rw (c.universe.ensures.labels, c.as_slice-2.ensures.value, c.as_slice-3.ensures.value)
-    at c.in_ok-text.ensures.text in
-    record {
-      linted = report_so (is_none every) s found.0 labels config routes found.1
-          c.in_ok-receivers.receivers.items c.count_findings-findings.result _ are count text;
-    }
+    at c.in_ok-lines.ensures.text in
+    lines_so (is_none every) s found.0 labels config routes found.1
+    c.in_ok-receivers.receivers.items c.count_findings.result c.count_notes.result _ are count notes
+    text

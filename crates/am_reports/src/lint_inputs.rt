@@ -1,0 +1,78 @@
+//! What `lint` looks at.
+
+ghost use Rattle.std.specs.Prelude.{◌≡◌, is_some, IfOk, IfErr};
+ghost use Rattle.am_eval.specs.Words.{IsFirstFault};
+ghost use Rattle.am_reports.specs.LintInputs.{AcceptsLintInputs, lint_input_stages};
+
+use am_eval::{Files, World, read_world};
+use am_labels::{Fault, Space};
+use am_universe_command::read_universe_if_any;
+use std::alloc::Global;
+use std::marker::Model;
+
+/// What `lint` looks at.
+#[derive(Drop)]
+pub struct LintInputs<'a> {
+    /// The bytes of a universe file, whose impossible lists count.
+    pub universe: Option<&'a [u8]>,
+    /// The configuration file; the silences and the alerts, as far as there are such; and the
+    /// instant at which silences are looked at.
+    pub files: &'a Files<'a>,
+    /// Alerts whose values are printable ASCII count alone.
+    pub ascii: bool,
+}
+
+impl<'a> Model for LintInputs<'a> {
+    ghost use Rattle.std.specs.Prelude.{option_copied};
+    ghost use Rattle.am_reports.specs.LintInputs as spec;
+
+    ghost Value = { spec.LintInputs };
+
+    ghost view = { λ inputs. record {
+      universe = option_copied inputs.universe;
+      files = inputs.files.now;
+      ascii = inputs.ascii;
+    } };
+}
+
+impl<'a> LintInputs<'a> {
+    /// Whether there is a universe file.
+    pub(crate) fn has_universe(&self) -> bool
+        ensures { result ≡ is_some self.now.universe }
+    {
+        self.universe.is_some()
+    }
+
+    /// Whether there is a file of alerts.
+    pub(crate) fn has_alerts(&self) -> bool
+        ensures { result ≡ is_some self.now.files.alerts }
+    {
+        let files = self.files;
+        files.alerts.is_some()
+    }
+
+    /// Whether ordinary alerts count alone.
+    pub(crate) fn is_ascii(&self) -> bool
+        ensures { result ≡ self.now.ascii }
+    {
+        self.ascii
+    }
+}
+
+/// What the files say.
+#[derive(Drop)]
+pub(crate) struct ReadWorld {
+    pub space: Space,
+    pub world: World,
+}
+
+/// Reads the universe file, if there is one, and then what the world is made of. The first fault is
+/// the one answered.
+pub(crate) fn read_lint_inputs(alloc: Global, inputs: &LintInputs<'_>) -> Result<ReadWorld, Fault>
+    ensures accepts { IfOk result (λ read. AcceptsLintInputs inputs.now read.space read.world) }
+    ensures first { IfErr result (IsFirstFault (lint_input_stages inputs.now)) }
+{
+    let (space, _texts) = read_universe_if_any(alloc, inputs.universe)?;
+    let world = read_world(alloc, inputs.files)?;
+    Ok(ReadWorld { space, world })
+}

@@ -1,0 +1,106 @@
+//! What a report says of routes and receivers.
+
+ghost use Rattle.std.specs.Prelude.{◌≡◌, ◌≢◌, [], IfOk, IfErr, OnOk, IfSome, IfNone};
+ghost use Rattle.std.specs.Prelude.{false, true, is_none};
+ghost use Rattle.am_universe.specs.declared.kind.Kind.TheVariants as kinds;
+ghost use Rattle.am_classes.specs.declared.alphabet.Alphabet.TheVariants.{Unicode, Ascii};
+ghost use Rattle.am_json.specs.Reading.{refusal_of};
+ghost use Rattle.am_files.specs.Words.{config_view};
+ghost use Rattle.am_lint.specs.Words.{SaysOfRoutes, alphabet_of};
+ghost use Rattle.am_reports.specs.Configurations.{One};
+ghost use Rattle.am_reports.specs.Made.{StandsForAll, IsMadeRefusal, IsRoutesRefusal};
+
+use crate::configs::Configs;
+use crate::made::universe_for_routes;
+use crate::section::Section;
+use am_classes::Alphabet;
+use am_files::Config;
+use am_labels::{Fault, Space, Universe};
+use am_lint::{
+    count_findings, count_notes, found_receivers, found_routes, lint_lines, look_further,
+};
+use std::alloc::{AllocError, Global};
+
+/// What is to be said of the routes and receivers of a configuration, for every alert of a space
+/// that declares no label; with `ascii` for the ordinary ones alone.
+pub(crate) fn route_section(
+    alloc: Global,
+    ascii: bool,
+    space: &mut Space,
+    config: &Config,
+) -> Result<Section, Fault>
+    requires { space.old.labels ≡ [] }
+    ensures says { IfOk result (λ section. SaysOfRoutes ascii space.old (config_view config.now)
+        section.findings section.notes section.lines) }
+    ensures labels { OnOk result (space.new.labels ≡ []) }
+    ensures impossible { OnOk result (space.new.impossible ≡ space.old.impossible) }
+    ensures refused { IfErr result (λ fault. fault.kind ≢ kinds.Memory
+        → IsRoutesRefusal ascii space.old (config_view config.now) fault.place
+        (refusal_of fault)) }
+{
+    let every = every_universe(alloc, ascii, space, config)?;
+    let ordinary = universe_for_routes(alloc, Alphabet::Ascii, space, Configs::One(config))?;
+    let Ok(section) = section_over(alloc, space, config, ordinary, every) else {
+        return Err(Fault::memory(alloc));
+    };
+    space.declare(Universe::empty(alloc));
+    Ok(section)
+}
+
+/// A universe for every alert, unless printable ASCII counts alone.
+fn every_universe(
+    alloc: Global,
+    ascii: bool,
+    space: &Space,
+    config: &Config,
+) -> Result<Option<Universe>, Fault>
+    requires { space.now.labels ≡ [] }
+    ensures some { IfOk result (λ universe. IfSome universe (λ u. (ascii ≡ false)
+        × StandsForAll Unicode space.now (One (config_view config.now)) u)) }
+    ensures none { IfOk result (λ universe. IfNone universe (ascii ≡ true)) }
+    ensures refused { IfErr result (λ fault. fault.kind ≢ kinds.Memory
+        → IsMadeRefusal (alphabet_of ascii) space.now (One (config_view config.now)) fault.place
+        (refusal_of fault)) }
+{
+    if ascii {
+        return Ok(None);
+    }
+    let configs = Configs::One(config);
+    Ok(Some(universe_for_routes(alloc, Alphabet::Unicode, space, configs)?))
+}
+
+/// What is to be said of them over a universe for ordinary alerts, and one for every alert, if
+/// others count; beside what a space calls impossible.
+fn section_over(
+    alloc: Global,
+    space: &mut Space,
+    config: &Config,
+    ordinary: Universe,
+    every: Option<Universe>,
+) -> Result<Section, AllocError>
+    requires ordinary { StandsForAll Ascii space.old (One (config_view config.now)) ordinary }
+    requires every { IfSome every (StandsForAll Unicode space.old (One (config_view config.now))) }
+    ensures says { IfOk result (λ section. SaysOfRoutes (is_none every) space.old
+        (config_view config.now) section.findings section.notes section.lines) }
+    ensures impossible { space.new.impossible ≡ space.old.impossible }
+{
+    space.declare(ordinary);
+    let mut routes = found_routes(alloc, space, config)?;
+    if let Some(universe) = every {
+        space.declare(universe);
+        look_further(alloc, space, config, &mut routes)?;
+    }
+    let receivers = found_receivers(alloc, config, routes.as_slice())?;
+    let lines = lint_lines(
+        alloc,
+        space.universe(),
+        config,
+        routes.as_slice(),
+        receivers.as_slice(),
+    )?;
+    Ok(Section {
+        lines,
+        findings: count_findings(routes.as_slice(), receivers.as_slice()),
+        notes: count_notes(routes.as_slice(), receivers.as_slice()),
+    })
+}
