@@ -2,10 +2,12 @@
 
 use crate::coverage::{of_large, of_reports};
 use crate::fates::of_fates;
+use crate::linting::{Linted, Linting, write_lint};
 use crate::outcomes::of_outcomes;
 use crate::pages::{count_pages, write_page};
 use crate::reports::{Report, write_report};
 use crate::universes::{Universes, ascii, form, of_universes, open, write_universes};
+use am_alerts::alerts;
 use am_case_files::{Problem, Tally, Writer, value_named, without_digits};
 use am_case_runner::{Call, End, Over, Written, has_no_pages, writes_nothing};
 use am_case_texts::{
@@ -23,7 +25,9 @@ pub enum CommandCall {
     Universe,
     Ask,
     Report(Report),
+    Lint(Linting),
     Explain,
+    Alerts,
     Universes(Universes),
     Reports,
     Large,
@@ -43,9 +47,14 @@ impl CommandCall {
         match self {
             CommandCall::Ask => write_page(alloc, over, text, out),
             CommandCall::Report(report) => Ok(write_report(alloc, report, over, text, out)?),
+            CommandCall::Lint(asked) => write_lint(alloc, asked, over, text, out),
             CommandCall::Explain => {
                 let (set, at) = text_and_instant(alloc, text)?;
                 Ok(explain(alloc, &files_of(over, at), set, out)?)
+            }
+            CommandCall::Alerts => {
+                let (question, at) = text_and_instant(alloc, text)?;
+                Ok(alerts(alloc, &files_of(over, at), Some(question), out)?)
             }
             CommandCall::Universes(asked) => Ok(write_universes(alloc, asked, over, text, out)?),
             _ => Err(writes_nothing(alloc).into()),
@@ -70,7 +79,10 @@ impl CommandCall {
         match self {
             CommandCall::Universe => of_universe(alloc, text, brief),
             CommandCall::Ask => of_ask(alloc, over, text),
-            CommandCall::Report(_) | CommandCall::Explain => self.page(alloc, over, text),
+            CommandCall::Report(_)
+            | CommandCall::Lint(_)
+            | CommandCall::Explain
+            | CommandCall::Alerts => self.page(alloc, over, text),
             CommandCall::Universes(asked) => of_universes(alloc, asked, over, text),
             CommandCall::Reports => Ok(of_reports(alloc, text)?),
             CommandCall::Large => Ok(of_large(alloc, text)?),
@@ -107,11 +119,11 @@ impl Call for CommandCall {
             ("ask", CommandCall::Ask),
             ("dead", CommandCall::Report(Report::Routes)),
             ("receivers", CommandCall::Report(Report::Receivers)),
-            ("lint", CommandCall::Report(Report::Lint { ascii: false })),
-            (
-                "lint-ascii",
-                CommandCall::Report(Report::Lint { ascii: true }),
-            ),
+            ("lint", linted(Linted::Config, false)),
+            ("lint-ascii", linted(Linted::Config, true)),
+            ("lint-silences", linted(Linted::Silences, false)),
+            ("lint-silences-ascii", linted(Linted::Silences, true)),
+            ("lint-alerts", linted(Linted::Alerts, false)),
             (
                 "outcomes",
                 CommandCall::Report(Report::Outcomes { ascii: false }),
@@ -129,6 +141,7 @@ impl Call for CommandCall {
                 CommandCall::Report(Report::Compare { ascii: true }),
             ),
             ("explain", CommandCall::Explain),
+            ("asked-alerts", CommandCall::Alerts),
             ("made", made(form(false))),
             ("made-by-routes", made(form(true))),
             ("made-ascii", made(ascii(form(false)))),
@@ -184,6 +197,10 @@ impl Call for CommandCall {
             _ => Ok(tally.count(line, Err(has_no_pages(alloc)))?),
         }
     }
+}
+
+fn linted(text: Linted, ascii: bool) -> CommandCall {
+    CommandCall::Lint(Linting { text, ascii })
 }
 
 fn made(form: UniverseForm) -> CommandCall {

@@ -1,4 +1,5 @@
-//! What cases call of the commands: answers and their pages, reports, explanations, universes.
+//! What cases call of the commands: answers and their pages, reports, explanations, alerts,
+//! universes.
 //!
 //! [`CommandCall`] is a call that a table names, and what it gives is a text. Some calls look at
 //! worlds that no one typed: whether the reports tell of them what holds, whether the universes
@@ -7,6 +8,7 @@
 #![tactic(auto)]
 
 // What the commands write.
+mod linting;
 mod pages;
 mod reports;
 mod universes;

@@ -1,10 +1,10 @@
-//! Reports: what becomes of each route, or of each receiver, and what is wrong with them; to which
-//! receivers alerts go, and what changes there from one configuration to another.
+//! Reports: what becomes of each route, or of each receiver; to which receivers alerts go, and what
+//! changes there from one configuration to another.
 
 use am_case_runner::Over;
 use am_commands::{dead, receivers};
 use am_labels::{Fault, Sink};
-use am_reports::{CompareInputs, ReportInputs, compare, lint, outcomes};
+use am_reports::{CompareInputs, ReportInputs, compare, outcomes};
 use std::alloc::Global;
 
 /// What a report tells of.
@@ -12,8 +12,6 @@ use std::alloc::Global;
 pub enum Report {
     Routes,
     Receivers,
-    /// What is wrong with either, for every alert, or for those of printable ASCII alone.
-    Lint { ascii: bool },
     /// To which receivers alerts go, all of them or those of printable ASCII alone.
     Outcomes { ascii: bool },
     /// What changes there from the configuration that the line names.
@@ -37,9 +35,6 @@ pub fn write_report<W: Sink>(
     match report {
         Report::Routes => dead(alloc, universe, config, out),
         Report::Receivers => receivers(alloc, universe, config, out),
-        Report::Lint { ascii } => {
-            uncounted(lint(alloc, &report_inputs(universe, config, ascii), out))
-        }
         Report::Outcomes { ascii } => {
             outcomes(alloc, &report_inputs(universe, config, ascii), out)
         }
@@ -81,7 +76,7 @@ fn file_if_any(universe: &[u8]) -> Option<&[u8]> {
     }
 }
 
-/// The answer of a call that counts what it finds, without the number.
+/// The answer of a call that counts what changes, without the number.
 fn uncounted(found: Result<usize, Fault>) -> Result<(), Fault> {
     match found {
         Ok(_) => Ok(()),
