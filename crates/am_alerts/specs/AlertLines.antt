@@ -5,7 +5,7 @@ use Rattle.std.specs.List.{filter, flat_map, enumerate_from}
 use Rattle.am_universe.specs.LabelSet.{LabelMap}
 use Rattle.am_universe.specs.Text.{quoted_text}
 use Rattle.am_universe.specs.WrittenLabelSet.{map_text}
-use Rattle.am_files.specs.ConfigFile.{Configuration}
+use Rattle.am_config.specs.ConfigFile.{Configuration}
 use Rattle.am_eval.specs.World.{World}
 use Rattle.am_eval.specs.Routing.{receivers}
 use Rattle.am_eval.specs.Silencing.{silencers}

@@ -1,6 +1,6 @@
 -- What is kept of an alert, as the line that it stands for.
 use Rattle.std.specs.Prelude.{ℕ, List, Option}
-use Rattle.am_files.specs.ConfigFile.{Configuration}
+use Rattle.am_config.specs.ConfigFile.{Configuration}
 use Rattle.am_alerts.specs.declared.finding.Found.{Found}
 use Rattle.am_alerts.specs.AlertLines.{AlertLine, line_text}
 

@@ -3,4 +3,3 @@ pub mod Fates
 pub mod AlertLines
 pub mod FoundView
 pub mod Alerts
-pub mod Words

@@ -3,9 +3,9 @@
 ghost use Rattle.std.specs.Prelude.{IfOk};
 ghost use Rattle.am_alerts.specs.Fates.{IsFate};
 
+use am_config::Path;
 use am_eval::{World, ends, inhibited_by, receivers_of, silenced_by};
-use am_files::Path;
-use am_labels::LabelSet;
+use am_universe::LabelSet;
 use std::alloc::{AllocError, Global};
 
 /// What becomes of an alert.

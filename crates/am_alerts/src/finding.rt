@@ -1,14 +1,14 @@
 //! Finding the alerts that a question is true of.
 
 ghost use Rattle.std.specs.Prelude.{◌≡◌, ◌<◌, ◌++◌, [], map, length, IfOk, OnOk, slice_get};
-ghost use Rattle.am_eval.specs.Words.{question_view};
+ghost use Rattle.am_eval.specs.QuestionView.{question_view};
 ghost use Rattle.am_alerts.specs.FoundView.{line_view};
 ghost use Rattle.am_alerts.specs.AlertLines.{lines_of};
 
 use crate::fates::fate_of;
 use crate::truth::satisfies;
 use am_eval::{Question, World};
-use am_labels::LabelSet;
+use am_universe::LabelSet;
 use std::alloc::{AllocError, Global};
 
 /// An alert that a question is true of, and what becomes of it.

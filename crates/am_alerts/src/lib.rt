@@ -1,5 +1,5 @@
 //! The alerts of an export that a question is true of: the command `alerts`, as a function over
-//! bytes and a [`Sink`](am_labels::Sink).
+//! bytes and a [`Sink`](am_universe::Sink).
 //!
 //! [`alerts`] writes a line for each of them, with the receivers to which it goes, the silences
 //! that hide it, by their identifiers, and the inhibition rules and firing alerts that inhibit it.

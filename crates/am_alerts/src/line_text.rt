@@ -3,16 +3,16 @@
 ghost use Rattle.std.specs.Prelude.{◌≡◌, ◌++◌, ◌==◌, [], List, ℕ, codes, decimal, slice_get};
 ghost use Rattle.std.specs.Prelude.{unwrap_or, if◌then◌else◌};
 ghost use Rattle.std.specs.List.{flat_map};
-ghost use Rattle.am_labels.specs.Words.{Writes};
-ghost use Rattle.am_files.specs.Words.{config_view};
+ghost use Rattle.am_universe.specs.Sink.{Writes};
+ghost use Rattle.am_config.specs.ConfigView.{config_view};
 ghost use Rattle.am_alerts.specs.SilenceIds.{called};
 ghost use Rattle.am_alerts.specs.FoundView.{found_text};
 ghost use Rattle.am_alerts.specs.AlertLines.{listed, receiver_text, silence_text, inhibitor_text};
 
 use crate::finding::Found;
 use crate::silence_ids::SilenceIds;
-use am_files::Config;
-use am_labels::{Kind, Sink, put_all, put_str, write_map, write_text};
+use am_config::Config;
+use am_universe::{Kind, Sink, put_all, put_str, write_map, write_text};
 
 /// Writes the lines of alerts, and what closes them. The only `Err` is `Kind::Write`, after a part
 /// of that from its front. No memory is taken.

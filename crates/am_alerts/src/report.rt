@@ -1,18 +1,19 @@
 ghost use Rattle.std.specs.Prelude.{◌≡◌, [], option_copied, IfOk, IfErr};
 ghost use Rattle.am_universe.specs.declared.place.Place.TheVariants as places;
-ghost use Rattle.am_json.specs.Words.{IsRefusalAt};
-ghost use Rattle.am_eval.specs.Words.{IsKept, question_view};
-ghost use Rattle.am_files.specs.Words.{config_view};
-ghost use Rattle.am_questions.specs.Words.{ReadsQuestion, QuestionRefusedFor};
-ghost use Rattle.am_alerts.specs.Words.{asked_text, alerts_promise};
+ghost use Rattle.am_json.specs.Reading.{IsRefusalAt};
+ghost use Rattle.am_eval.specs.Promise.{IsKept};
+ghost use Rattle.am_eval.specs.QuestionView.{question_view};
+ghost use Rattle.am_config.specs.ConfigView.{config_view};
+ghost use Rattle.am_questions.specs.QuestionText.{ReadsQuestion, QuestionRefusedFor};
+ghost use Rattle.am_alerts.specs.Alerts.{asked_text, alerts_promise};
 
 use crate::finding::find_asked;
 use crate::line_text::write_lines;
 use crate::silence_ids::SilenceIds;
+use am_config::Config;
 use am_eval::{Files, Question, read_world};
-use am_files::Config;
-use am_labels::{Fault, Place, Sink, answer_of_write};
 use am_questions::parse_question;
+use am_universe::{Fault, Place, Sink, answer_of_write};
 use std::alloc::Global;
 
 /// Writes the alerts of an export that a question is true of, in their order, and then `# end`: for

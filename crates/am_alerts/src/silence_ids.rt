@@ -2,7 +2,7 @@
 
 ghost use Rattle.std.specs.Prelude.{◌≡◌, IfOk, option_copied, option_map};
 ghost use Rattle.serde_json.specs.View.{view};
-ghost use Rattle.am_json.specs.Words.{json_of};
+ghost use Rattle.am_json.specs.Json.{json_of};
 ghost use Rattle.am_alerts.specs.SilenceIds.{id_of, ids_of, ids_of_file, id_at};
 
 use am_json::field;

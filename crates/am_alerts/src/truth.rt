@@ -3,14 +3,15 @@
 ghost use Rattle.std.specs.Prelude.{◌≡◌, ◌==◌, IfOk};
 ghost use Rattle.std.specs.List.{list_any};
 ghost use Rattle.am_universe.specs.Text.{same_text};
-ghost use Rattle.am_files.specs.Path.{leads_through};
-ghost use Rattle.am_eval.specs.Words.{question_view, satisfies};
+ghost use Rattle.am_config.specs.Path.{leads_through};
+ghost use Rattle.am_eval.specs.QuestionView.{question_view};
+ghost use Rattle.am_eval.specs.Question.{satisfies};
 ghost use Rattle.am_alerts.specs.Fates.{IsFate};
 
 use crate::fates::Fate;
+use am_config::Path;
 use am_eval::{Question, World};
-use am_files::Path;
-use am_labels::LabelSet;
+use am_universe::LabelSet;
 use std::alloc::{AllocError, Global};
 
 /// Whether a question is true of an alert with these labels, of which this becomes in the world. An

@@ -13,7 +13,7 @@ use Rattle.am_universe.specs.LabelSet.{LabelMap, value_of}
 use Rattle.am_universe.proofs.ListLemmas.{IsIn}
 use Rattle.am_labels.specs.declared.op.Op.TheVariants.{Equal}
 use Rattle.am_labels.specs.Matcher.{Condition, all_hold}
-use Rattle.am_files.specs.ConfigFile.{Rule}
+use Rattle.am_config.specs.ConfigFile.{Rule}
 use Rattle.am_eval.specs.World.{World}
 use Rattle.am_eval.specs.Pairs.{pair_of, pairs_of_rule, pairs_of}
 use Rattle.am_universe.proofs.Members.{item_at}

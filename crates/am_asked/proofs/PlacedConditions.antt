@@ -8,10 +8,10 @@ use Rattle.std.proofs.lemmas.List.{map-append}
 use Rattle.std.proofs.lemmas.List.Elements.{filter-append}
 use Rattle.am_universe.specs.LabelSet.{LabelMap}
 use Rattle.am_labels.specs.Matcher.{Condition, all_hold}
-use Rattle.am_records.specs.SilencesFile.{Silence}
-use Rattle.am_files.specs.ConfigFile.{RouteTree, Routes, route, no_routes, next_route, Rule}
-use Rattle.am_files.specs.ConfigFile.{Configuration}
-use Rattle.am_files.specs.RoutePaths.{routes_at, routes_from}
+use Rattle.am_list_files.specs.SilencesFile.{Silence}
+use Rattle.am_config.specs.ConfigFile.{RouteTree, Routes, route, no_routes, next_route, Rule}
+use Rattle.am_config.specs.ConfigFile.{Configuration}
+use Rattle.am_config.specs.RoutePaths.{routes_at, routes_from}
 use Rattle.am_eval.specs.World.{World}
 use Rattle.am_eval.specs.Question.{Question}
 use Rattle.am_complete.specs.declared.origin.Origin.{Origin}

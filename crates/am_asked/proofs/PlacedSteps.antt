@@ -7,7 +7,7 @@ use Rattle.std.proofs.lemmas.List.{at_drop_more}
 use Rattle.std.proofs.lemmas.List.Sums.{fold-append}
 use Rattle.am_labels.specs.Matcher.{Condition}
 use Rattle.am_universe.proofs.Members.{left_at}
-use Rattle.am_files.specs.ConfigFile.{RouteTree}
+use Rattle.am_config.specs.ConfigFile.{RouteTree}
 use Rattle.am_complete.specs.declared.origin.Origin.{Origin}
 use Rattle.am_complete.specs.AskedLabel.{AskedLabel, with_asked}
 use Rattle.am_asked.specs.Placed.{placed_at, placed_by_route}

@@ -3,8 +3,8 @@ use Rattle.std.specs.Prelude.{ℕ, List, [], ◌++◌, map}
 use Rattle.std.specs.List.{flat_map, filter}
 use Rattle.am_universe.specs.LabelSet.{LabelMap}
 use Rattle.am_labels.specs.Matcher.{Condition, all_hold}
-use Rattle.am_records.specs.SilencesFile.{Silence}
-use Rattle.am_files.specs.ConfigFile.{RouteTree, Routes, route, no_routes, next_route, Rule}
+use Rattle.am_list_files.specs.SilencesFile.{Silence}
+use Rattle.am_config.specs.ConfigFile.{RouteTree, Routes, route, no_routes, next_route, Rule}
 use Rattle.am_eval.specs.World.{World}
 use Rattle.am_eval.specs.Conditions.{same_value}
 use Rattle.am_eval.specs.Tree.{Part, Not, And, Or}

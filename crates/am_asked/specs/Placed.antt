@@ -4,9 +4,9 @@ use Rattle.std.specs.Prelude.{Some, None, slice_get}
 use Rattle.std.specs.List.{flat_map, filter, enumerate_from}
 use Rattle.am_universe.specs.LabelSet.{LabelMap}
 use Rattle.am_labels.specs.Matcher.{Condition, all_hold}
-use Rattle.am_records.specs.SilencesFile.{Silence}
-use Rattle.am_files.specs.ConfigFile.{Configuration, RouteTree, Rule, matchers_of}
-use Rattle.am_files.specs.RoutePaths.{all_routes}
+use Rattle.am_list_files.specs.SilencesFile.{Silence}
+use Rattle.am_config.specs.ConfigFile.{Configuration, RouteTree, Rule, matchers_of}
+use Rattle.am_config.specs.RoutePaths.{all_routes}
 use Rattle.am_eval.specs.declared.pair.Pair.{Pair}
 use Rattle.am_eval.specs.World.{World}
 use Rattle.am_eval.specs.Question.{Question}

@@ -1,23 +1,23 @@
 //! Which labels decide what becomes of an alert, and by which matchers.
 
 ghost use Rattle.std.specs.Prelude.{◌≡◌, ◌++◌, fold, map, IfOk, OnOk};
-ghost use Rattle.am_files.specs.Words.{config_view};
-ghost use Rattle.am_eval.specs.Words.{question_view};
-ghost use Rattle.am_asked.specs.Words.{route_conditions, world_conditions};
-ghost use Rattle.am_asked.specs.Words.{question_conditions, questions_conditions};
-ghost use Rattle.am_complete.specs.Words.{impossible_conditions, IsAskedOf};
-ghost use Rattle.am_complete.specs.Words.{asked_labels, with_asked};
-ghost use Rattle.am_asked.specs.Words.{placed_at, placed_in_routes};
-ghost use Rattle.am_asked.specs.Words.{placed_in_rules, placed_in_equal};
-ghost use Rattle.am_asked.specs.Words.{placed_in_silences, placed_in_lists, placed_in_world};
-ghost use Rattle.am_asked.specs.Words.{placed_in_questions};
+ghost use Rattle.am_config.specs.ConfigView.{config_view};
+ghost use Rattle.am_eval.specs.QuestionView.{question_view};
+ghost use Rattle.am_asked.specs.Asked.{route_conditions, world_conditions, question_conditions};
+ghost use Rattle.am_asked.specs.Asked.{questions_conditions};
+ghost use Rattle.am_complete.specs.Complete.{impossible_conditions};
+ghost use Rattle.am_complete.specs.AskedLabel.{IsAskedOf, asked_labels, with_asked};
+ghost use Rattle.am_asked.specs.Placed.{placed_at, placed_in_routes, placed_in_rules};
+ghost use Rattle.am_asked.specs.Placed.{placed_in_equal, placed_in_silences, placed_in_lists};
+ghost use Rattle.am_asked.specs.Placed.{placed_in_world, placed_in_questions};
 ghost use Rattle.am_complete.specs.declared.origin.Origin.TheVariants as origin_is;
 
 use crate::EqualMatcher;
 use am_complete::{AskedLabel, Gathering, Origin};
+use am_config::{Config, Rule};
 use am_eval::{Question, World};
-use am_files::{Config, Rule, Silences};
 use am_labels::Matchers;
+use am_list_files::Silences;
 use std::alloc::{AllocError, Global};
 
 /// The labels that the routes of a configuration ask of, then those that questions ask of, and then

@@ -3,7 +3,7 @@
 // The module of words stands on this type, so its own words come from where they stand.
 ghost use Rattle.std.specs.Prelude.{◌≡◌, ◌≢◌, ◌++◌, ◌∷◌, [], Contains, IfOk, OnOk};
 ghost use Rattle.std.specs.List.{filter};
-ghost use Rattle.am_eval.specs.Words.{pairs_of};
+ghost use Rattle.am_eval.specs.Pairs.{pairs_of};
 ghost use Rattle.am_labels.specs.declared.op.Op.TheVariants.{Equal};
 ghost use Rattle.am_complete.specs.declared.origin.Origin.TheVariants as origin_is;
 ghost use Rattle.am_asked.specs.Placed.{placed_at, placed_in_equal, placed_by_pair, is_named};

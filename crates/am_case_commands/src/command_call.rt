@@ -14,8 +14,8 @@ use am_case_texts::{
     Refusal, fault_behind, files_of, on_one_line, text_and_instant, told, with_own_digits,
 };
 use am_commands::explain;
-use am_files::read_universe;
-use am_labels::{Fault, Kind, Out, Place, Sink, status};
+use am_list_files::read_universe;
+use am_universe::{Fault, Kind, Out, Place, Sink, status};
 use am_universe_command::UniverseForm;
 use std::alloc::Global;
 

@@ -7,10 +7,10 @@ use am_case_runner::Over;
 use am_case_texts::{ALL, files_of, first_choice, made_refused, set_of_text, told, written_text};
 use am_case_worlds::{large_world, of_seed, read_seeds, small_world, split_impossible};
 use am_commands::ask;
+use am_config::{Config, Path, read_config};
 use am_eval::ends;
-use am_files::{Config, Path, read_config};
-use am_labels::{Out, write_set};
 use am_questions::{AcceptedInputs, read_inputs};
+use am_universe::{Out, write_set};
 use std::alloc::{AllocError, Global};
 
 /// The most label sets that are looked at one by one.

@@ -8,7 +8,7 @@ use am_case_texts::{ALL, files_of, made_refused, set_behind, set_of_text, writte
 use am_case_worlds::{Dice, SmallWorld, of_seed, read_seeds, small_world, texts_of_seed};
 use am_commands::ask;
 use am_eval::{Files, World, explanation_of, read_world, write_explanation};
-use am_labels::{LabelSet, Out};
+use am_universe::{LabelSet, Out};
 use std::alloc::Global;
 
 /// How many alerts are tried in each world.

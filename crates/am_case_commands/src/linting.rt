@@ -3,8 +3,8 @@
 use am_case_files::{Problem, split_at_last, utf8};
 use am_case_runner::Over;
 use am_case_texts::{Refusal, files_of};
-use am_labels::Sink;
 use am_reports::{LintInputs, lint};
+use am_universe::Sink;
 use std::alloc::Global;
 
 /// What a table of `lint` asks for.

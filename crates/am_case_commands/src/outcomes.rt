@@ -5,10 +5,12 @@ use am_case_runner::Over;
 use am_case_texts::{ALL, files_of, made_refused, set_of_text};
 use am_case_worlds::{of_seed, read_seeds, small_world};
 use am_commands::ask;
+use am_config::{Config, read_config};
 use am_eval::receivers_of;
-use am_files::{Config, read_config, read_universe};
-use am_labels::{Out, Space};
+use am_labels::Space;
+use am_list_files::read_universe;
 use am_outcomes::{changes_text, find_outcomes, outcomes_text};
+use am_universe::Out;
 use std::alloc::{AllocError, Global};
 
 /// How many worlds were looked at, those of a seed and of the ones after it.

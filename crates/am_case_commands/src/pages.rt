@@ -6,10 +6,10 @@ use am_case_runner::Over;
 use am_case_texts::{Asked, Refusal, files_of, made_refused, token_of, with_own_digits};
 use am_command_line::Steps;
 use am_commands::ask;
-use am_files::read_universe;
-use am_labels::{Fault, Out, Sink};
+use am_list_files::read_universe;
 use am_questions::fingerprint;
 use am_search::{Start, Trailer, parse_token};
+use am_universe::{Fault, Out, Sink};
 use std::alloc::Global;
 use std::num::NonZeroU64;
 

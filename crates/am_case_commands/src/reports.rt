@@ -3,8 +3,8 @@
 
 use am_case_runner::Over;
 use am_commands::{dead, receivers};
-use am_labels::{Fault, Sink};
 use am_reports::{CompareInputs, ReportInputs, compare, outcomes};
+use am_universe::{Fault, Sink};
 use std::alloc::Global;
 
 /// What a report tells of.

@@ -5,7 +5,7 @@ use am_case_runner::Over;
 use am_case_texts::{Refusal, made_refused, told};
 use am_classes::Alphabet;
 use am_eval::Files;
-use am_labels::{Fault, Out, Sink};
+use am_universe::{Fault, Out, Sink};
 use am_universe_command::{UniverseForm, UniverseInputs, check_universe, universe};
 use std::alloc::Global;
 

@@ -1,7 +1,7 @@
 //! Two judges of one question, compared.
 
 ghost use Rattle.std.specs.Prelude.{◌≡◌};
-ghost use Rattle.am_universe.specs.Words.{sizes};
+ghost use Rattle.am_universe.specs.Universe.{sizes};
 
 use crate::completions::{completion, count_completions, verdict_of_count};
 use crate::cube::verdict_text;

@@ -1,7 +1,8 @@
 //! The positions of choices and prefixes, as a text.
 
 ghost use Rattle.std.specs.Prelude.{IfOk, IsTrue};
-ghost use Rattle.am_universe.specs.Words.{sizes, admits};
+ghost use Rattle.am_universe.specs.Universe.{sizes};
+ghost use Rattle.am_universe.specs.Choice.{admits};
 
 use am_case_files::Problem;
 use am_search::{Start, parse_token};

@@ -1,8 +1,8 @@
 //! All prefixes of a universe's choices, and the starts that they are.
 
 ghost use Rattle.std.specs.Prelude.{IfSome};
-ghost use Rattle.am_universe.specs.Words.{sizes};
-ghost use Rattle.am_search.specs.Words.{IsStart};
+ghost use Rattle.am_universe.specs.Universe.{sizes};
+ghost use Rattle.am_search.specs.Start.{IsStart};
 
 use am_case_files::Problem;
 use am_search::Start;

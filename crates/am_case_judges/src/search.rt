@@ -1,6 +1,6 @@
 //! What a search gives from a start on, and which prefixes it judges for that, as a text.
 
-ghost use Rattle.am_search.specs.Words.{IsStart};
+ghost use Rattle.am_search.specs.Start.{IsStart};
 ghost use Rattle.am_case_judges.specs.WrittenView.{written_sizes};
 
 use crate::judge_text::judge_of;

@@ -1,8 +1,9 @@
 //! A judge that is written in a case, and keeps which prefixes it was asked about.
 
 ghost use Rattle.std.specs.Prelude.{◌≡◌, IfOk, IfSome};
-ghost use Rattle.am_universe.specs.Words.{sizes};
-ghost use Rattle.am_search.specs.Words.{AreSizes, IsStart};
+ghost use Rattle.am_universe.specs.Universe.{sizes};
+ghost use Rattle.am_search.specs.Judge.{AreSizes};
+ghost use Rattle.am_search.specs.Start.{IsStart};
 ghost use Rattle.am_case_judges.specs.Fronts.{begins, begins_with_one, one_begins_with, is_closed};
 ghost use Rattle.std.proofs.Props.{props};
 

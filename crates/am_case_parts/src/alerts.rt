@@ -2,7 +2,7 @@
 
 use am_case_files::Problem;
 use am_case_texts::{fault_behind, set_behind, told};
-use am_files::{Alerts, read_alerts};
+use am_list_files::{Alerts, read_alerts};
 use std::alloc::Global;
 
 /// The alerts of an export, or its fault.

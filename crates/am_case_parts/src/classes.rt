@@ -5,7 +5,8 @@ use am_case_files::Problem;
 use am_case_texts::{Refusal, add_copy, told};
 use am_case_worlds::texts_of_seed;
 use am_classes::{Alphabet, classes};
-use am_labels::{LabelSet, Matcher, Matchers, PreparedMatchers, parse_matchers};
+use am_labels::{Matcher, Matchers, PreparedMatchers, parse_matchers};
+use am_universe::LabelSet;
 use std::alloc::Global;
 
 /// How many texts are held against the classes that no one typed.

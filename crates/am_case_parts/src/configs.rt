@@ -3,9 +3,10 @@
 use crate::matchers::write_matchers;
 use am_case_files::Problem;
 use am_case_texts::{Refusal, fault_behind, told, written_text};
+use am_config::{Config, Path, Route, Rule, read_config};
 use am_eval::{ends, receivers_of};
-use am_files::{Config, Path, Route, Rule, read_config};
-use am_labels::{Kind, Out, parse_set, put_str, write_text};
+use am_labels::parse_set;
+use am_universe::{Kind, Out, put_str, write_text};
 use std::alloc::Global;
 
 /// A configuration, or its fault.

@@ -1,12 +1,11 @@
 //! What a search over the plan of a question comes to, with each call of the plan counted.
 
 ghost use Rattle.std.specs.Prelude.{◌≡◌};
-ghost use Rattle.am_cubes.specs.Words.{plan_sizes, plan_truth, plan_verdict};
-ghost use Rattle.am_cubes.specs.PlanWords.{plan_is_judge};
+ghost use Rattle.am_plans.specs.PlanWords.{plan_sizes, plan_truth, plan_verdict, plan_is_judge};
 
-use am_cubes::Plan;
-use am_labels::Choice;
+use am_plans::Plan;
 use am_search::{Judge, Verdict};
+use am_universe::Choice;
 use std::cell::Cell;
 
 /// A plan that counts how often it is asked.

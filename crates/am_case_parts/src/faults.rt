@@ -2,7 +2,7 @@
 
 use am_case_files::{Problem, split_at_first, utf8, value_named};
 use am_case_texts::line_of;
-use am_labels::{Fault, Kind, Place, status};
+use am_universe::{Fault, Kind, Place, status};
 use std::alloc::Global;
 
 /// The line that is written for a fault, and its exit status.

@@ -1,8 +1,8 @@
 //! Judges: what the plan of a question says, beside the judge that looks at whole choices.
 
-ghost use Rattle.am_cubes.specs.Words.{plan_sizes};
-ghost use Rattle.am_search.specs.Words.{IsStart};
-ghost use Rattle.am_universe.specs.Words.{sizes};
+ghost use Rattle.am_plans.specs.PlanWords.{plan_sizes};
+ghost use Rattle.am_search.specs.Start.{IsStart};
+ghost use Rattle.am_universe.specs.Universe.{sizes};
 
 use crate::counted::CountedPlan;
 use am_case_files::{Problem, read_number, split_at_last, utf8};
@@ -15,12 +15,12 @@ use am_case_texts::{
     positions_behind, text_and_instant, told, with_own_digits,
 };
 use am_case_worlds::{SmallWorld, of_seed, read_seeds, small_world, split_impossible};
-use am_cubes::Plan;
+use am_config::Path;
 use am_eval::{Files, Question};
-use am_files::Path;
-use am_labels::Choice;
+use am_plans::Plan;
 use am_questions::{AcceptedInputs, read_inputs};
 use am_search::{Answers, Start, State, Verdict, first};
+use am_universe::Choice;
 use am_whole::Whole;
 use std::alloc::Global;
 

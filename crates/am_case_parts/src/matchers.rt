@@ -5,10 +5,9 @@ ghost use Rattle.am_universe.specs.Universe.{sizes};
 
 use am_case_files::{Problem, split_at_first, split_at_last, utf8};
 use am_case_texts::{Refusal, set_behind, told};
-use am_files::read_universe;
-use am_labels::{
-    Kind, Matcher, Matchers, Op, Out, Row, Universe, parse_matchers, parse_set, put_str, write_text,
-};
+use am_labels::{Matcher, Matchers, Op, Row, parse_matchers, parse_set};
+use am_list_files::read_universe;
+use am_universe::{Kind, Out, Universe, put_str, write_text};
 use std::alloc::Global;
 
 pub fn of_matchers(alloc: Global, text: &str) -> Result<Vec<u8>, Refusal> {

@@ -3,8 +3,8 @@
 use crate::matchers::write_matchers;
 use am_case_files::Problem;
 use am_case_texts::{Refusal, fault_behind, told, written_text};
-use am_files::{Silence, Silences, parse_instant, read_silences};
-use am_labels::{Kind, Out, put_str};
+use am_list_files::{Silence, Silences, parse_instant, read_silences};
+use am_universe::{Kind, Out, put_str};
 use std::alloc::Global;
 
 /// The silences of an export, or its fault.

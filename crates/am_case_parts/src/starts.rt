@@ -4,10 +4,11 @@ use am_case_files::{Problem, old_token, split_at_last, utf8, with_digits};
 use am_case_judges::{cube_text, search_text};
 use am_case_runner::Over;
 use am_case_texts::{Refusal, digits_of, files_of, positions_behind, token_of};
-use am_files::read_universe;
-use am_labels::{Fault, Place, parse_matchers};
+use am_labels::parse_matchers;
+use am_list_files::read_universe;
 use am_questions::fingerprint;
 use am_search::{Start, parse_token};
+use am_universe::{Fault, Place};
 use std::alloc::Global;
 
 /// The start that a token says, or the fault, where the universe alone is given and `any` is asked.

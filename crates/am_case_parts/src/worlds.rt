@@ -3,7 +3,8 @@
 use am_case_files::Problem;
 use am_case_texts::{Refusal, text_and_instant, told};
 use am_eval::{Files, Pair, World, inhibited_by, read_timeless_world, read_world, silenced_by};
-use am_labels::{LabelSet, parse_set};
+use am_labels::parse_set;
+use am_universe::LabelSet;
 use std::alloc::Global;
 
 /// Which silences of an export are active, and which of them hide a label set.

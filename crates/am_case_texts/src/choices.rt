@@ -3,8 +3,8 @@
 use crate::telling::{told, written_text};
 use am_case_files::Problem;
 use am_case_judges::add_positions;
-use am_labels::{Choice, Out};
 use am_search::{Start, write_token};
+use am_universe::{Choice, Out};
 use std::alloc::Global;
 
 /// The token of a start, under a fingerprint.

@@ -4,8 +4,9 @@
 use crate::telling::not_accepted;
 use am_case_files::Problem;
 use am_eval::Question;
-use am_labels::{Kind, Matcher, Matchers};
+use am_labels::{Matcher, Matchers};
 use am_questions::{AcceptedInputs, parse_question};
+use am_universe::Kind;
 use std::alloc::Global;
 
 /// The question that a text is, and that no impossible list of the universe matches.

@@ -2,7 +2,7 @@
 
 use crate::telling::{fault_behind, told};
 use am_case_files::Problem;
-use am_labels::{Fault, Kind};
+use am_universe::{Fault, Kind};
 use std::alloc::{AllocError, AllocFailed, Global};
 
 /// Why a case gives nothing of what it asks for.

@@ -1,7 +1,8 @@
 //! What cases give, as a text.
 
 use am_case_files::{Problem, utf8};
-use am_labels::{Fault, Kind, LabelSet, Out, parse_set, write_fault, write_map};
+use am_labels::parse_set;
+use am_universe::{Fault, Kind, LabelSet, Out, write_fault, write_map};
 use std::alloc::Global;
 
 /// These words.

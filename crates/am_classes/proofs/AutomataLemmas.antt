@@ -1,8 +1,9 @@
 -- Many patterns, with one more.
-use Rattle.std.proofs.Common.{◌≡◌, ℕ, ◌+◌, ◌∷◌, ◌<◌, Some, slice_get, List, [], ◌++◌, length, map, take, get_or, zero, suc, sym, ap, ◌∙◌, inl, inr, subst}
+use Rattle.std.proofs.Common.{◌≡◌, ℕ, ◌+◌, ◌∷◌, ◌<◌, Some, slice_get, List, [], ◌++◌, length, map}
+use Rattle.std.proofs.Common.{take, get_or, zero, suc, sym, ap, ◌∙◌, inl, inr, subst}
 use Rattle.std.proofs.lemmas.Option.{same_Some}
 use Rattle.am_scan.specs.declared.pattern_automaton.PatternAutomaton.{PatternAutomaton}
-use Rattle.am_scan.specs.Words.{number_of}
+use Rattle.am_scan.specs.Automaton.{number_of}
 use Rattle.am_scan.proofs.Places.{get_pushed, map_front, map_same}
 use Rattle.am_classes.specs.Automata.{numbers_of, MakeSame, AreClasses}
 

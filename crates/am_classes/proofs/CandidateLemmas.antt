@@ -3,7 +3,7 @@ use Rattle.std.proofs.Common.{◌≡◌, ℕ, refl, List, [], ◌∷◌, ◌++�
 use Rattle.std.proofs.lemmas.Option.{same_Some}
 use Rattle.am_classes.specs.declared.questions.Questions.{Questions}
 use Rattle.am_classes.specs.declared.label_state.LabelState.{LabelState}
-use Rattle.am_classes.specs.declared.listed.Listed.{Listed}
+use Rattle.am_classes.specs.declared.reached_state.ReachedState.{ReachedState}
 use Rattle.am_classes.specs.declared.candidate.Candidate.{Candidate}
 use Rattle.am_classes.specs.declared.tail.Tail.TheVariants.{Whole}
 use Rattle.am_classes.specs.Automata.{found_by}
@@ -46,9 +46,9 @@ apart_pushed q old x h own new = record {
 }
 
 -- Candidates for all states are candidates for all texts.
-pub candidates_of_all : (q : Questions) (listed : List Listed) (cs : List Candidate)
+pub candidates_of_all : (q : Questions) (listed : List ReachedState) (cs : List Candidate)
     → IsClosed q listed → AreApartCandidates q cs
-    → ((k : ℕ) (item : Listed) → slice_get listed k ≡ Some item → Represents q cs item.state)
+    → ((k : ℕ) (item : ReachedState) → slice_get listed k ≡ Some item → Represents q cs item.state)
     → AreCandidates q cs
 candidates_of_all q listed cs closed distinct represents = record {
   distinct = distinct;

@@ -1,5 +1,7 @@
 -- The named texts and those of the candidates stand for all classes, and no two for one.
-use Rattle.std.proofs.Common.{◌≡◌, ℕ, zero, suc, ◌+◌, Bool, true, false, not, List, [], ◌∷◌, ◌++◌, Some, slice_get, length, map, string_bytes, inl, inr, refl, subst, sym, ap, ◌∙◌, arith}
+use Rattle.std.proofs.Common.{◌≡◌, ℕ, zero, suc, ◌+◌, Bool, true, false, not, List, [], ◌∷◌, ◌++◌}
+use Rattle.std.proofs.Common.{Some, slice_get, length, map, string_bytes, inl, inr, refl, subst}
+use Rattle.std.proofs.Common.{sym, ap, ◌∙◌, arith}
 use Rattle.std.proofs.lemmas.Bool.{false_from_ne_true, cases_Bool}
 use Rattle.std.proofs.lemmas.Slice.Eq.{bytes_eq-Decides}
 use Rattle.std.proofs.lemmas.Option.{same_Some}
@@ -8,7 +10,7 @@ use Rattle.am_labels.specs.declared.op.Op.{Op}
 use Rattle.am_labels.specs.declared.op.Op.TheVariants.{Equal, NotEqual, Matches, NotMatches}
 use Rattle.am_labels.specs.Matcher.{Condition, holds, takes_pattern}
 use Rattle.am_labels.specs.Pattern.{finds}
-use Rattle.am_scan.specs.Words.{pattern_of}
+use Rattle.am_scan.specs.Automaton.{pattern_of}
 use Rattle.am_classes.specs.declared.questions.Questions.{Questions}
 use Rattle.am_classes.specs.declared.candidate.Candidate.{Candidate}
 use Rattle.am_classes.specs.declared.alphabet.Alphabet.{Alphabet}
@@ -21,7 +23,8 @@ use Rattle.am_classes.specs.Candidates.{AreApartCandidates, AreCandidates}
 use Rattle.am_classes.proofs.AskedLemmas.{among_cases}
 use Rattle.am_classes.proofs.AutomataLemmas.{get_under}
 use Rattle.am_classes.proofs.OverLemmas.{is_over_from, string_over}
-use Rattle.am_scan.proofs.Places.{get_append, get_kept, get_behind, contains_from_get, all_from_places, all_at_place, map_same}
+use Rattle.am_scan.proofs.Places.{get_append, get_kept, get_behind, contains_from_get}
+use Rattle.am_scan.proofs.Places.{all_from_places, all_at_place, map_same}
 
 -- The same answers to the questions of matchers.
 record SameAnswers (q : Questions) (x y : List ℕ) : Type 0 where

@@ -1,4 +1,4 @@
--- Listed states: with more listed, and each text that leads to one.
+-- States that are listed: with more listed, and each text that leads to one.
 use Rattle.std.specs.declared.alloc.Global.{Global}
 use Rattle.std.proofs.lemmas.Bool.{cases_lt}
 use Rattle.std.proofs.Common.{◌≡◌, ◌≢◌, ◌<◌, ◌+◌, Vec, vec_len, ℕ, zero, suc, ap, set, replicate, Bool, Option, None, Result, Ok, Err, IfOk, IfSome, IsTrue, ◌⊎◌, List, [], ◌∷◌, ◌++◌, Some, slice_get, length, refl, inl, inr, subst, sym, ◌∙◌, arith}
@@ -6,7 +6,7 @@ use Rattle.std.proofs.lemmas.Option.{option_and_then_some, same_Some, slice_get_
 use Rattle.am_classes.specs.declared.questions.Questions.{Questions}
 use Rattle.am_classes.specs.declared.label_state.LabelState.{LabelState}
 use Rattle.am_classes.specs.declared.led.Led.{Led}
-use Rattle.am_classes.specs.declared.listed.Listed.{Listed}
+use Rattle.am_classes.specs.declared.reached_state.ReachedState.{ReachedState}
 use Rattle.am_classes.specs.declared.tail.Tail.{Tail}
 use Rattle.am_classes.specs.Utf8.{text_step, tail_of}
 use Rattle.am_classes.specs.State.{FollowsLabel}
@@ -16,18 +16,18 @@ use Rattle.am_scan.proofs.Places.{get_pushed, get_kept, get_last, get_within}
 use Rattle.am_classes.proofs.TailLemmas.{step_byte}
 
 -- What leads to a listed state still does when more is listed.
-pub leads_kept : (q : Questions) (old new : List Listed) (state : LabelState) (byte : ℕ)
+pub leads_kept : (q : Questions) (old new : List ReachedState) (state : LabelState) (byte : ℕ)
     → Grows old new → LeadsOn q old state byte → LeadsOn q new state byte
 leads_kept q old new state byte grows leads = λ tail step.
     let to = leads tail step in (to.0, to.1, grows to.0 to.1 to.2, to.3)
 
 -- More is listed with one state more.
-pub grows_pushed : (old new : List Listed) (item : Listed) → new ≡ old ++ item ∷ [] → Grows old new
+pub grows_pushed : (old new : List ReachedState) (item : ReachedState) → new ≡ old ++ item ∷ [] → Grows old new
 grows_pushed old new item is = λ k x at.
     subst (λ xs. slice_get xs k ≡ Some x) (sym is) (get_kept old (item ∷ []) x k at)
 
 -- Each state is that of the text beside it, with one state more.
-pub listed_pushed : (q : Questions) (old new : List Listed) (item : Listed)
+pub listed_pushed : (q : Questions) (old new : List ReachedState) (item : ReachedState)
     → new ≡ old ++ item ∷ [] → AreListed q old → FollowsLabel q item.state item.text.items
     → AreListed q new
 listed_pushed q old new item is own follows = λ k x at.
@@ -37,7 +37,7 @@ listed_pushed q old new item is own follows = λ k x at.
     ]
 
 -- One state more is one that a byte may lead to.
-pub leads_pushed : (q : Questions) (old new : List Listed) (item : Listed) (state : LabelState)
+pub leads_pushed : (q : Questions) (old new : List ReachedState) (item : ReachedState) (state : LabelState)
     (byte place : ℕ) → place ≡ length old → new ≡ old ++ item ∷ []
     → ((text : List ℕ) → FollowsLabel q state text → FollowsLabel q item.state (byte ∷ text))
     → LeadsTo q new state byte place
@@ -46,23 +46,23 @@ leads_pushed q old new item state byte place here is follows = λ tail _.
     (item, subst (λ k. slice_get new k ≡ Some item) (sym here) last, follows)
 
 -- A place that was within is.
-pub grows_within : (old new : List Listed) (k : ℕ) → Grows old new → k < length old → k < length new
+pub grows_within : (old new : List ReachedState) (k : ℕ) → Grows old new → k < length old → k < length new
 grows_within old new k grows h =
     let there = get_within old k h in slice_get_within new k there.0 (grows k there.0 there.1)
 
-pub place_within : (old new : Vec Listed Global) (at : ℕ) → Grows old.items new.items → at < vec_len old
+pub place_within : (old new : Vec ReachedState Global) (at : ℕ) → Grows old.items new.items → at < vec_len old
     → at < vec_len new
 place_within old new at grows h =
     let place = grows_within old.items new.items at grows (omega (arith, old.ok.0)) in omega (arith, new.ok.0)
 
 -- What is at a place that was within was there.
-pub grown_back : (old new : List Listed) (k : ℕ) (item : Listed) → Grows old new → k < length old
+pub grown_back : (old new : List ReachedState) (k : ℕ) (item : ReachedState) → Grows old new → k < length old
     → slice_get new k ≡ Some item → slice_get old k ≡ Some item
 grown_back old new k item grows h at =
     let there = get_within old k h in there.1 ∙ sym (grows k there.0 there.1) ∙ at
 
 -- A byte that leads to the state at a place leads on.
-pub leads_on : (q : Questions) (listed : List Listed) (state : LabelState) (byte place : ℕ)
+pub leads_on : (q : Questions) (listed : List ReachedState) (state : LabelState) (byte place : ℕ)
     → LeadsTo q listed state byte place → LeadsOn q listed state byte
 leads_on q listed state byte place leads = λ tail step.
     let to = leads tail step in (place, to.0, to.1, to.2)
@@ -83,7 +83,7 @@ none_replicated (suc n) zero l e = cc
 none_replicated (suc n) (suc k) l e = none_replicated n k l e
 
 -- What led to a place still does when more is listed.
-pub led_kept : (q : Questions) (old new : List Listed) (at : ℕ) (led : List (Option Led))
+pub led_kept : (q : Questions) (old new : List ReachedState) (at : ℕ) (led : List (Option Led))
     → Grows old new → at < length old → AreLed q old at led → AreLed q new at led
 led_kept q old new at led grows within are = λ class l here.
     let before = are class l here in (
@@ -94,7 +94,7 @@ led_kept q old new at led grows within are = λ class l here.
     )
 
 -- One byte more has led somewhere.
-pub led_more : (q : Questions) (listed : List Listed) (at : ℕ) (led : List (Option Led))
+pub led_more : (q : Questions) (listed : List ReachedState) (at : ℕ) (led : List (Option Led))
     (class : ℕ) (one : Led) → AreLed q listed at led → MakeSame q.automata.items class one.byte
     → LeadsFrom q listed at one.byte one.place → AreLed q listed at (set led class (Some one))
 led_more q listed at led class one are make leads = λ c l here.
@@ -107,14 +107,14 @@ led_more q listed at led class one are make leads = λ c l here.
     ]
 
 -- No byte has led anywhere yet.
-pub led_none : (q : Questions) (listed : List Listed) (at n : ℕ) (led : List (Option Led))
+pub led_none : (q : Questions) (listed : List ReachedState) (at n : ℕ) (led : List (Option Led))
     → led ≡ replicate n None → AreLed q listed at led
 led_none q listed at n led is = λ class l here.
     absurd (none_replicated n class l (subst (λ xs. slice_get xs class ≡ Some (Some l)) is here))
 
 -- A byte leads where another led, if it does so for UTF-8, for what is kept of a text,
 -- and for the patterns.
-pub leads_again : (q : Questions) (listed : List Listed) (state : LabelState) (next : Listed)
+pub leads_again : (q : Questions) (listed : List ReachedState) (state : LabelState) (next : ReachedState)
     (one byte place : ℕ) → slice_get listed place ≡ Some next
     → text_step q.alphabet state.tail one ≡ text_step q.alphabet state.tail byte → MakeSame q.automata.items one byte
     → ((text : List ℕ) → FollowsLabel q state text → FollowsLabel q next.state (one ∷ text)
@@ -132,9 +132,9 @@ leads_again q listed state next one byte place at tails alike again leads = λ t
     )
 
 -- Each text leads to a listed state, if it is the end of one over the alphabet.
-pub some_follows : (q : Questions) (listed : List Listed) → IsClosed q listed → (text : List ℕ)
+pub some_follows : (q : Questions) (listed : List ReachedState) → IsClosed q listed → (text : List ℕ)
     (tail : Tail) → tail_of q.alphabet text ≡ Some tail
-    → (k : ℕ) × (item : Listed) × (slice_get listed k ≡ Some item) × FollowsLabel q item.state text
+    → (k : ℕ) × (item : ReachedState) × (slice_get listed k ≡ Some item) × FollowsLabel q item.state text
 some_follows q listed closed [] tail e = closed.first
 some_follows q listed closed (b ∷ text) tail e =
     option_and_then_some (λ last. text_step q.alphabet last b) (tail_of q.alphabet text) tail e
@@ -145,8 +145,8 @@ some_follows q listed closed (b ∷ text) tail e =
     (leads.0, leads.1, leads.2, leads.3 text here.3))
 
 -- What is listed is one state more, or the same.
-pub pushed_or_kept : {E : Type 0} (r : Result (Option ℕ) E) (n : ℕ) (old new : List Listed)
-    (item : Listed)
+pub pushed_or_kept : {E : Type 0} (r : Result (Option ℕ) E) (n : ℕ) (old new : List ReachedState)
+    (item : ReachedState)
     → IfOk r (λ found. IfSome found (λ place. (place ≡ n) × (new ≡ old ++ item ∷ [])))
     → (((place : ℕ) → r ≢ Ok (Some place)) → new ≡ old) → (new ≡ old ++ item ∷ []) ⊎ (new ≡ old)
 pushed_or_kept (Ok (Some place)) n old new item pushed kept = inl pushed.1
@@ -172,7 +172,7 @@ where_both (Ok done) h k f = λ yes'. f (h yes') (k yes')
 where_both (Err e) h k f = tt
 
 -- One byte more leads to what is listed.
-pub leads_more : (q : Questions) (old new : List Listed) (state : LabelState) (first byte : ℕ)
+pub leads_more : (q : Questions) (old new : List ReachedState) (state : LabelState) (first byte : ℕ)
     → Grows old new → LeadsWithin q old state first byte → LeadsOn q new state byte
     → LeadsWithin q new state first (byte + 1)
 leads_more q old new state first byte grows leads here = λ b low high.
@@ -181,13 +181,13 @@ leads_more q old new state first byte grows leads here = λ b low high.
       | inr above ↦ (let same : byte ≡ b = omega arith in subst (LeadsOn q new state) same here)
     ]
 
-pub leads_within_kept : (q : Questions) (old new : List Listed) (state : LabelState) (first last : ℕ)
+pub leads_within_kept : (q : Questions) (old new : List ReachedState) (state : LabelState) (first last : ℕ)
     → Grows old new → LeadsWithin q old state first last → LeadsWithin q new state first last
 leads_within_kept q old new state first last grows leads = λ b low high.
     leads_kept q old new state b grows (leads b low high)
 
 -- Two ranges in a row.
-pub leads_joined : (q : Questions) (listed : List Listed) (state : LabelState) (a b d : ℕ)
+pub leads_joined : (q : Questions) (listed : List ReachedState) (state : LabelState) (a b d : ℕ)
     → LeadsWithin q listed state a b → LeadsWithin q listed state b d → LeadsWithin q listed state a d
 leads_joined q listed state a b d low high = λ byte from below.
     elim (cases_lt byte b) [

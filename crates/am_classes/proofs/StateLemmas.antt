@@ -1,16 +1,16 @@
 -- What states say of texts.
-use Rattle.std.proofs.Common.{Result, Ok, Vec, Bool, IfOk, IfSome, subst}
+use Rattle.std.proofs.Common.{Result, Ok, Vec, Bool, IfOk, IfSome, subst, ◌≡◌, ℕ, true, false, List}
+use Rattle.std.proofs.Common.{[], ◌∷◌, Option, Some, None, slice_get, refl, ap, sym, ◌∙◌}
 use Rattle.std.specs.declared.alloc.Global.{Global}
 use Rattle.am_scan.specs.declared.pattern_automaton.PatternAutomaton.{PatternAutomaton}
 use Rattle.std.specs.List.{list_all}
 use Rattle.std.proofs.lemmas.Bool.{and_parts, not-true}
-use Rattle.am_scan.specs.Words.{is_ascii}
+use Rattle.am_scan.specs.Automaton.{is_ascii}
 use Rattle.am_classes.specs.declared.alphabet.Alphabet.{Alphabet}
 use Rattle.am_classes.specs.declared.alphabet.Alphabet.TheVariants.{Unicode, Ascii}
 use Rattle.am_classes.specs.declared.tail.Tail.{Tail}
 use Rattle.am_classes.specs.Utf8.{tail_of}
 use Rattle.am_classes.specs.Automata.{AreScanned, numbers_of, fits, found_by}
-use Rattle.std.proofs.Common.{◌≡◌, ℕ, true, false, List, [], ◌∷◌, Option, Some, None, slice_get, refl, ap, sym, ◌∙◌}
 use Rattle.am_classes.specs.declared.questions.Questions.{Questions}
 use Rattle.am_classes.specs.declared.label_state.LabelState.{LabelState}
 use Rattle.am_classes.specs.declared.rest.Rest.{Rest}

@@ -1,11 +1,11 @@
 -- What stands at the front of the end of a text: which bytes may, and where a character begins.
-use Rattle.std.proofs.Common.{◌≡◌, ℕ, ◌<◌, Bool, not, true, false, Some, List, [], ◌∷◌, refl, ap, ◌∙◌, inl, inr, arith}
-use Rattle.std.specs.Option.{option_map_or}
+use Rattle.std.proofs.Common.{◌≡◌, ℕ, ◌<◌, Bool, not, true, false, Some, List, [], ◌∷◌, refl, ap}
+use Rattle.std.proofs.Common.{◌∙◌, inl, inr, arith}
+use Rattle.std.specs.Option.{option_map_or, option_and_then}
 use Rattle.std.specs.Int.{is_in_range}
 use Rattle.std.specs.Prelude.{nat_lt}
 use Rattle.std.specs.List.{list_all}
-use Rattle.am_scan.specs.Words.{is_scanned, IsScanned}
-use Rattle.std.specs.Option.{option_and_then}
+use Rattle.am_scan.specs.Sight.{is_scanned, IsScanned}
 use Rattle.std.proofs.lemmas.Bool.{agree_below_at, cases_Bool, and_parts, and_from, lt-ltb}
 use Rattle.std.proofs.lemmas.Bool.Decides.{nat_tests}
 use Rattle.std.proofs.lemmas.Option.{option_and_then_some, same_Some}

@@ -1,8 +1,9 @@
 -- Many patterns at once.
 use Rattle.std.specs.Prelude.{◌≡◌, ◌∷◌, ℕ, List, map, Bool, true, not, Some, slice_get}
 use Rattle.std.specs.List.{AllByRecursion}
-use Rattle.am_labels.specs.Words.{finds}
-use Rattle.am_scan.specs.Words.{number_of, IsScanned, is_ascii, pattern_of}
+use Rattle.am_labels.specs.Pattern.{finds}
+use Rattle.am_scan.specs.Automaton.{number_of, is_ascii, pattern_of}
+use Rattle.am_scan.specs.Sight.{IsScanned}
 use Rattle.am_classes.specs.declared.alphabet.Alphabet.{Alphabet}
 use Rattle.am_classes.specs.declared.alphabet.Alphabet.TheVariants.{Unicode, Ascii}
 use Rattle.am_scan.specs.declared.pattern_automaton.PatternAutomaton.{PatternAutomaton}

@@ -1,6 +1,5 @@
 pub mod Alphabet
 pub mod Alike
-pub mod Words
 pub mod Utf8
 pub mod Automata
 pub mod Ends

@@ -1,7 +1,7 @@
 -- What the matchers of a label make of a text of which only the end has been read.
 use Rattle.std.specs.Prelude.{◌≡◌, ℕ, List, map, Some, slice_get, string_bytes}
 use Rattle.am_classes.specs.Rest.{RestFollows}
-use Rattle.am_scan.specs.Words.{pattern_of}
+use Rattle.am_scan.specs.Automaton.{pattern_of}
 use Rattle.am_classes.specs.declared.questions.Questions.{Questions}
 use Rattle.am_classes.specs.declared.label_state.LabelState.{LabelState}
 use Rattle.am_classes.specs.Utf8.{tail_of}

@@ -1,10 +1,10 @@
 //! Many patterns at once.
-ghost use Rattle.std.specs.Prelude.{◌≡◌, ℕ, ◌∷◌, [], List, map, ◌<◌, true};
-ghost use Rattle.std.specs.Prelude.{IfOk, IfSome, IfNone, IsTrue, length, string_bytes};
+ghost use Rattle.std.specs.Prelude.{◌≡◌, ℕ, ◌∷◌, [], List, map, ◌<◌, true, IfOk, IfSome, IfNone};
+ghost use Rattle.std.specs.Prelude.{IsTrue, length, string_bytes};
 ghost use Rattle.std.specs.List.{list_all};
-ghost use Rattle.am_scan.specs.Words.{pattern_of};
-ghost use Rattle.am_classes.specs.Automata.{numbers_of, AreScanned, found_by, fits};
-ghost use Rattle.am_classes.specs.Automata.{AreClasses, MakeSame};
+ghost use Rattle.am_scan.specs.Automaton.{pattern_of};
+ghost use Rattle.am_classes.specs.Automata.{numbers_of, AreScanned, found_by, fits, AreClasses};
+ghost use Rattle.am_classes.specs.Automata.{MakeSame};
 
 use crate::Alphabet;
 use am_scan::PatternAutomaton;

@@ -1,14 +1,14 @@
-ghost use Rattle.std.specs.Prelude.{◌≡◌, ◌<◌, [], false, IsTrue, IfOk, IfSome, IfNone};
-ghost use Rattle.std.specs.Prelude.{length, vec_len, string_bytes};
+ghost use Rattle.std.specs.Prelude.{◌≡◌, ◌<◌, [], false, IsTrue, IfOk, IfSome, IfNone, length};
+ghost use Rattle.std.specs.Prelude.{vec_len, string_bytes};
 ghost use Rattle.am_classes.specs.State.{FollowsLabel, IsNamed};
 ghost use Rattle.am_classes.specs.Candidates.{AreCandidates, AreApartCandidates, Represents};
 ghost use Rattle.am_classes.specs.Candidates.{GrowsCandidates, HasFound};
-ghost use Rattle.am_classes.specs.Words.{IsOrdinary};
+ghost use Rattle.am_classes.specs.Alphabet.{IsOrdinary};
 
 use crate::candidate::Candidate;
 use crate::exploration::explored;
-use crate::listed::Listed;
 use crate::questions::Questions;
+use crate::reached_state::ReachedState;
 use crate::samples::sampled;
 use std::alloc::{AllocError, Global};
 use std::str::from_utf8;
@@ -78,7 +78,7 @@ fn other_text(alloc: Global, questions: &Questions) -> Result<String, AllocError
 pub(crate) fn add(
     alloc: Global,
     questions: &Questions,
-    item: &Listed,
+    item: &ReachedState,
     candidates: &mut Vec<Candidate>,
 ) -> Result<bool, AllocError>
     requires follows { FollowsLabel questions.now item.now.state item.now.text.items }

@@ -1,7 +1,8 @@
 ghost use Rattle.std.specs.Prelude.{◌≡◌, ◌++◌, ◌<◌, false, map, IfOk, IfSome, IfNone, IsTrue};
 ghost use Rattle.std.specs.Prelude.{string_bytes, vec_len};
 ghost use Rattle.am_universe.specs.declared.limits.TheConstants.{MAX_VALUES};
-ghost use Rattle.am_classes.specs.Words.{Covers, AreApart, HasPattern, AreOver};
+ghost use Rattle.am_classes.specs.Alike.{Covers, AreApart, HasPattern};
+ghost use Rattle.am_classes.specs.Alphabet.{AreOver};
 
 use crate::Alphabet;
 use crate::candidate::Candidate;

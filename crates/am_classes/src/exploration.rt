@@ -1,7 +1,7 @@
 ghost use Rattle.std.specs.Prelude.{◌≡◌, ◌≢◌, ◌<◌, ◌+◌, ◌∷◌, ◌++◌, ℕ, List, [], Some, false};
 ghost use Rattle.std.specs.Prelude.{IfOk, IfSome, IsTrue, slice_get, vec_len};
 ghost use Rattle.am_classes.specs.declared.questions.Questions.{Questions};
-ghost use Rattle.am_classes.specs.declared.listed.Listed.{Listed};
+ghost use Rattle.am_classes.specs.declared.reached_state.ReachedState.{ReachedState};
 ghost use Rattle.am_classes.specs.State.{FollowsLabel};
 ghost use Rattle.am_classes.specs.Automata.{MakeSame};
 ghost use Rattle.am_classes.specs.Utf8.{text_step};
@@ -13,8 +13,8 @@ use crate::candidates::{CandidateTexts, add};
 use crate::label_state::LabelState;
 use crate::led::Led;
 use crate::limits::MAX_STATES;
-use crate::listed::Listed;
 use crate::questions::Questions;
+use crate::reached_state::ReachedState;
 use crate::tail::Tail;
 use std::alloc::{AllocError, Global};
 use std::collections::HashMap;
@@ -56,7 +56,7 @@ pub(crate) fn explored(
 /// The states of a label that have been listed so far.
 #[derive(Drop)]
 struct Exploration {
-    listed: Vec<Listed>,
+    listed: Vec<ReachedState>,
     // Where the state of a hash is listed, so that most states are looked up and not sought.
     places: HashMap<u64, usize>,
 }
@@ -65,14 +65,14 @@ impl Exploration {
     /// The state of the empty text alone.
     fn new(alloc: Global, questions: &Questions) -> Result<Exploration, AllocError>
         ensures own { IfOk result (λ e. AreListed questions.now e.listed.items) }
-        ensures first { IfOk result (λ e. (item : Listed)
+        ensures first { IfOk result (λ e. (item : ReachedState)
             → slice_get e.listed.items 0 ≡ Some item → FollowsLabel questions.now item.state []) }
         ensures some { IfOk result (λ e. vec_len e.listed ≡ 1) }
     {
         let state = questions.end(alloc)?;
         let text = Vec::new(alloc);
         Ok(Exploration {
-            listed: vec![in alloc; Listed { state, text }]?,
+            listed: vec![in alloc; ReachedState { state, text }]?,
             places: HashMap::new(alloc),
         })
     }
@@ -89,7 +89,7 @@ impl Exploration {
         requires own { AreListed questions.now self.old.listed.items }
         ensures own { AreListed questions.now self.new.listed.items }
         ensures grows { Grows self.old.listed.items self.new.listed.items }
-        ensures leads { IfOk result (λ done. IsTrue done → (item : Listed)
+        ensures leads { IfOk result (λ done. IsTrue done → (item : ReachedState)
             → slice_get self.old.listed.items at ≡ Some item
             → LeadsWithin questions.now self.new.listed.items item.state 0 256) }
     {
@@ -124,7 +124,7 @@ impl Exploration {
         ensures own { AreListed questions.now self.new.listed.items }
         ensures grows { Grows self.old.listed.items self.new.listed.items }
         ensures led { AreLed questions.now self.new.listed.items at led.new.items }
-        ensures leads { IfOk result (λ done. IsTrue done → (item : Listed)
+        ensures leads { IfOk result (λ done. IsTrue done → (item : ReachedState)
             → slice_get self.old.listed.items at ≡ Some item
             → LeadsWithin questions.now self.new.listed.items item.state first (last + 1)) }
     {
@@ -152,7 +152,7 @@ impl Exploration {
         ensures own { AreListed questions.now self.new.listed.items }
         ensures grows { Grows self.old.listed.items self.new.listed.items }
         ensures led { AreLed questions.now self.new.listed.items at led.new.items }
-        ensures leads { IfOk result (λ done. IsTrue done → (item : Listed)
+        ensures leads { IfOk result (λ done. IsTrue done → (item : ReachedState)
             → slice_get self.old.listed.items at ≡ Some item
             → LeadsOn questions.now self.new.listed.items item.state byte) }
     {
@@ -212,7 +212,7 @@ impl Exploration {
     ) -> Result<Option<usize>, AllocError>
         requires at { at < vec_len self.old.listed }
         requires own { AreListed questions.now self.old.listed.items }
-        requires tail { (item : Listed) → slice_get self.old.listed.items at ≡ Some item
+        requires tail { (item : ReachedState) → slice_get self.old.listed.items at ≡ Some item
             → text_step questions.now.alphabet item.state.tail byte ≡ Some tail }
         ensures own { AreListed questions.now self.new.listed.items }
         ensures grows { Grows self.old.listed.items self.new.listed.items }
@@ -228,12 +228,12 @@ impl Exploration {
         }
         let mut text = vec![in alloc; byte]?;
         text.extend_from_slice(item.text.as_slice())?;
-        self.list(Listed { state, text })
+        self.list(ReachedState { state, text })
     }
 
     /// The place of a listed state that serves for this one, where one is found.
     fn place_of(&self, state: &LabelState) -> Option<usize>
-        ensures { IfSome result (λ place. (item : Listed)
+        ensures { IfSome result (λ place. (item : ReachedState)
             × (slice_get self.now.listed.items place ≡ Some item)
             × ((questions : Questions) (text : List ℕ) → FollowsLabel questions state.now text
             → FollowsLabel questions item.state text)) }
@@ -249,7 +249,7 @@ impl Exploration {
 
     /// Lists a state, and answers its place. `None`, and nothing is listed, where there are too
     /// many.
-    fn list(&mut self, item: Listed) -> Result<Option<usize>, AllocError>
+    fn list(&mut self, item: ReachedState) -> Result<Option<usize>, AllocError>
         ensures listed { IfOk result (λ found. IfSome found (λ place.
             (place ≡ vec_len self.old.listed)
             × (self.new.listed.items ≡ self.old.listed.items ++ item ∷ []))) }

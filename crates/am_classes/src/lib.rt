@@ -26,7 +26,7 @@ mod tail;
 // The states that texts lead to.
 mod exploration;
 mod led;
-mod listed;
+mod reached_state;
 
 // The texts of which one stands for each class.
 mod candidate;

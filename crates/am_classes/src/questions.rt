@@ -1,11 +1,11 @@
 ghost use Rattle.std.specs.Prelude.{◌≡◌, ◌↔◌, ◌∷◌, [], ℕ, List, Some, false, true, IsTrue, map};
 ghost use Rattle.std.specs.Prelude.{IfOk, IfSome, IfNone, string_bytes, slice_get};
-ghost use Rattle.am_labels.specs.Words.{takes_pattern};
+ghost use Rattle.am_labels.specs.Matcher.{takes_pattern};
 ghost use Rattle.am_classes.specs.Utf8.{text_step};
 ghost use Rattle.am_classes.specs.Rest.{RestFollows};
 ghost use Rattle.am_classes.specs.Automata.{numbers_of, AreClasses, MakeSame, fits, found_by};
 ghost use Rattle.std.specs.List.{list_all};
-ghost use Rattle.am_classes.specs.Words.{HasPattern};
+ghost use Rattle.am_classes.specs.Alike.{HasPattern};
 ghost use Rattle.am_classes.specs.Values.{AreValues, counts};
 
 use crate::Alphabet;

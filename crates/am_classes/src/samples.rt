@@ -6,8 +6,8 @@ ghost use Rattle.am_classes.specs.Candidates.{AreApartCandidates};
 use crate::candidate::Candidate;
 use crate::candidates::add;
 use crate::limits::MAX_SAMPLE_NUMBERS;
-use crate::listed::Listed;
 use crate::questions::Questions;
+use crate::reached_state::ReachedState;
 use am_scan::PatternAutomaton;
 use std::alloc::{AllocError, Global};
 
@@ -48,11 +48,15 @@ fn add_text(
 }
 
 /// A text with its state. `None` where the alphabet has no such text.
-fn item_of(alloc: Global, questions: &Questions, text: &[u8]) -> Result<Option<Listed>, AllocError>
+fn item_of(
+    alloc: Global,
+    questions: &Questions,
+    text: &[u8],
+) -> Result<Option<ReachedState>, AllocError>
     ensures { IfOk result (λ found. IfSome found (λ item.
         FollowsLabel questions.now item.state item.text.items)) }
 {
-    let mut item = Listed {
+    let mut item = ReachedState {
         state: questions.end(alloc)?,
         text: Vec::new(alloc),
     };
@@ -69,9 +73,9 @@ fn item_of(alloc: Global, questions: &Questions, text: &[u8]) -> Result<Option<L
 fn longer_item(
     alloc: Global,
     questions: &Questions,
-    item: &Listed,
+    item: &ReachedState,
     byte: u8,
-) -> Result<Option<Listed>, AllocError>
+) -> Result<Option<ReachedState>, AllocError>
     requires { FollowsLabel questions.now item.now.state item.now.text.items }
     ensures { IfOk result (λ found. IfSome found (λ longer.
         FollowsLabel questions.now longer.state longer.text.items)) }
@@ -84,7 +88,7 @@ fn longer_item(
     };
     let mut text = vec![in alloc; byte]?;
     text.extend_from_slice(item.text.as_slice())?;
-    Ok(Some(Listed { state, text }))
+    Ok(Some(ReachedState { state, text }))
 }
 
 /// A number of an automaton, and a text that leads to it.

@@ -1,2 +1,1 @@
 pub mod StepsView
-pub mod Words

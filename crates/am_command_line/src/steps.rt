@@ -13,7 +13,7 @@ pub struct Steps {
 }
 
 impl Steps {
-    ghost use Rattle.am_command_line.specs.Words.{step_count};
+    ghost use Rattle.am_command_line.specs.StepsView.{step_count};
 
     /// So many steps; `None` where they are fewer than [`MIN_STEPS`].
     pub fn new(count: u64) -> Option<Steps>

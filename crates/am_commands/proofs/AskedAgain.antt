@@ -21,7 +21,7 @@ use Rattle.am_search.specs.PageText.{lines_text}
 use Rattle.am_search.proofs.TokenTexts.{sizes_of_universe}
 use Rattle.am_search.proofs.BudgetPages.{same_unstopped}
 use Rattle.am_search.proofs.SearchChains.{goes_on}
-use Rattle.am_cubes.specs.Verdicts.{verdict_of}
+use Rattle.am_plans.specs.Verdicts.{verdict_of}
 use Rattle.am_questions.specs.Inputs.{Inputs, inputs_fingerprint, after_token, AcceptsInputs}
 use Rattle.am_questions.proofs.OneInputs.{one_meaning_of_inputs}
 use Rattle.am_commands.specs.AskOutcome.{answer_page, searched_page, Asked}

@@ -26,8 +26,8 @@ use Rattle.am_search.proofs.Pages.{chain_joined}
 use Rattle.am_search.proofs.BudgetPages.{same_unstopped, same_next, same_end, stopped_before, rest_under}
 use Rattle.am_search.proofs.SearchChains.{search_chain_joined}
 use Rattle.am_search.proofs.SameVerdicts.{same_page}
-use Rattle.am_cubes.specs.Verdicts.{verdict_of}
-use Rattle.am_cubes.proofs.Soundness.{yes_says_all, no_says_none, never_open}
+use Rattle.am_plans.specs.Verdicts.{verdict_of}
+use Rattle.am_plans.proofs.Soundness.{yes_says_all, no_says_none, never_open}
 use Rattle.am_questions.specs.declared.inputs.AcceptedInputs.{AcceptedInputs}
 use Rattle.am_questions.specs.Inputs.{Inputs, inputs_fingerprint, AcceptsInputs}
 use Rattle.am_eval.specs.QuestionView.{question_view}

@@ -5,7 +5,7 @@ use Rattle.std.specs.Prelude.{option_map}
 use Rattle.am_universe.specs.Universe.{sizes}
 use Rattle.am_universe.specs.Choice.{choices}
 use Rattle.am_labels.specs.Space.{Space}
-use Rattle.am_records.specs.UniverseFile.{FileSaysUniverse}
+use Rattle.am_list_files.specs.UniverseFile.{FileSaysUniverse}
 use Rattle.am_eval.specs.World.{World}
 use Rattle.am_eval.specs.Question.{Question, is_answer}
 use Rattle.am_eval.proofs.AcceptedInputs.{one_space}
@@ -16,7 +16,7 @@ use Rattle.am_search.specs.BudgetPage.{BeginsLater}
 use Rattle.am_search.specs.Token.{token_text}
 use Rattle.am_search.proofs.TokenTexts.{sizes_of_universe}
 use Rattle.am_search.proofs.SearchChains.{goes_on, later_fewer, later_some, from_at_most, some_choice}
-use Rattle.am_cubes.specs.Verdicts.{verdict_of}
+use Rattle.am_plans.specs.Verdicts.{verdict_of}
 use Rattle.am_questions.specs.Inputs.{Inputs, inputs_fingerprint, after_token, AcceptsInputs}
 use Rattle.am_questions.proofs.OneInputs.{one_meaning_of_inputs}
 use Rattle.am_commands.specs.AskOutcome.{searched_page, Asked, IsAskedOf, AreAskedInARow}

@@ -1,7 +1,7 @@
 -- What a command writes is one text for the same inputs.
 use Rattle.std.proofs.Common.{◌≡◌, ℕ, List, Option, ap, sym, subst, ◌∙◌}
 use Rattle.am_labels.specs.Space.{Space}
-use Rattle.am_files.specs.ConfigFile.{Configuration}
+use Rattle.am_config.specs.ConfigFile.{Configuration}
 use Rattle.am_eval.proofs.AcceptedInputs.{one_space, one_configuration}
 use Rattle.am_search.specs.declared.trailer.Trailer.{Trailer}
 use Rattle.am_search.specs.PageText.{page_text}

@@ -18,7 +18,7 @@ use Rattle.am_search.specs.BudgetPage.{page_under}
 use Rattle.am_search.specs.PageText.{page_text}
 use Rattle.am_search.specs.Token.{token_text}
 use Rattle.am_search.specs.TrailerText.{trailer_text}
-use Rattle.am_cubes.specs.Verdicts.{verdict_of}
+use Rattle.am_plans.specs.Verdicts.{verdict_of}
 use Rattle.am_questions.specs.declared.inputs.AcceptedInputs.{AcceptedInputs}
 use Rattle.am_questions.specs.Inputs.{Inputs, inputs_fingerprint, after_token, AcceptsInputs}
 use Rattle.am_questions.specs.Inputs.{ask_stages}

@@ -1,16 +1,16 @@
 ghost use Rattle.std.specs.Prelude.{◌<◌, IfSome};
 ghost use Rattle.am_universe.specs.declared.limits.TheConstants.{MAX_LABELS};
-ghost use Rattle.am_labels.specs.Words.{sizes};
-ghost use Rattle.am_questions.specs.Words.{inputs_of};
-ghost use Rattle.am_eval.specs.Words.{IsKept};
-ghost use Rattle.am_search.specs.Words.{IsStart};
-ghost use Rattle.am_commands.specs.Words.{ask_promise, page_promise};
+ghost use Rattle.am_universe.specs.Universe.{sizes};
+ghost use Rattle.am_questions.specs.Inputs.{inputs_of};
+ghost use Rattle.am_eval.specs.Promise.{IsKept};
+ghost use Rattle.am_search.specs.Start.{IsStart};
+ghost use Rattle.am_commands.specs.AskOutcome.{ask_promise, page_promise};
 
-use am_cubes::Plan;
 use am_eval::Files;
-use am_labels::{Fault, LineTable, Sink, answer_of_write};
+use am_plans::Plan;
 use am_questions::{AcceptedInputs, read_inputs};
 use am_search::{Answers, Page, Trailer, write_page};
+use am_universe::{Fault, LineTable, Sink, answer_of_write};
 use std::alloc::Global;
 
 /// Writes the label sets of the universe that satisfy the question, each once and in declared

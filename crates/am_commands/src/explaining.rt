@@ -1,8 +1,9 @@
 ghost use Rattle.std.specs.Prelude.{[], ◌∷◌, map};
-ghost use Rattle.am_eval.specs.Words.{IsKept, explain_promise};
+ghost use Rattle.am_eval.specs.Promise.{IsKept};
+ghost use Rattle.am_eval.specs.Explanation.{explain_promise};
 
 use am_eval::{Files, explanation_of, read_set, read_world, write_explanation};
-use am_labels::{Fault, Sink, answer_of_write};
+use am_universe::{Fault, Sink, answer_of_write};
 use std::alloc::Global;
 
 /// Writes why a label set goes where it goes: the set; the routes that handle it, with their

@@ -1,30 +1,38 @@
 //! Facts about the definitions alone: each is the contract of a function with an empty body.
-ghost use Rattle.std.specs.Prelude.{◌≡◌, ◌≤◌, ◌<◌, ◌++◌, ℕ, List, [], Some, None, Option};
-ghost use Rattle.std.specs.Prelude.{IfSome, length};
+ghost use Rattle.std.specs.Prelude.{◌≡◌, ◌≤◌, ◌<◌, ◌++◌, ℕ, List, [], Some, None, Option, IfSome};
+ghost use Rattle.std.specs.Prelude.{length};
 ghost use Rattle.std.specs.List.{flat_map};
 ghost use Rattle.am_universe.specs.declared.kind.Kind.TheVariants as kinds;
 ghost use Rattle.am_universe.specs.declared.limits.TheConstants.{MAX_LABELS};
 ghost use Rattle.am_universe.specs.declared.place.Place.{Place};
-ghost use Rattle.am_labels.specs.Words.{Label, IsUniverse, sizes, choices, Space};
-ghost use Rattle.am_json.specs.Words.{Refusal};
-ghost use Rattle.am_records.specs.UniverseFile.{FileSaysUniverse};
-ghost use Rattle.am_files.specs.Words.{Configuration};
-ghost use Rattle.am_eval.specs.Words.{World, Question, is_answer, answers, IsFirstFaultOfCall};
+ghost use Rattle.am_universe.specs.Universe.{Label, IsUniverse, sizes};
+ghost use Rattle.am_universe.specs.Choice.{choices};
+ghost use Rattle.am_labels.specs.Space.{Space};
+ghost use Rattle.am_json.specs.Pointer.{Refusal};
+ghost use Rattle.am_list_files.specs.UniverseFile.{FileSaysUniverse};
+ghost use Rattle.am_config.specs.ConfigFile.{Configuration};
+ghost use Rattle.am_eval.specs.World.{World};
+ghost use Rattle.am_eval.specs.Question.{Question, is_answer, answers};
+ghost use Rattle.am_eval.specs.Faults.{IsFirstFaultOfCall};
 ghost use Rattle.am_search.specs.declared.start.Start.{Start};
 ghost use Rattle.am_search.specs.declared.start.Start.TheVariants.{At, After};
 ghost use Rattle.am_search.specs.declared.trailer.Trailer.{Trailer};
 ghost use Rattle.am_search.specs.declared.trailer.Trailer.TheVariants.{End, Next};
-ghost use Rattle.am_search.specs.Words.{answers_from, AnswerPage, page_from, IsPage, IsChain};
-ghost use Rattle.am_search.specs.Words.{token_text, rest_after, start_after, IsStart};
-ghost use Rattle.am_search.specs.Words.{IsSearchPage, IsSearchChain, BeginsLater, IsJudge};
-ghost use Rattle.am_cubes.specs.Words.{verdict_of};
-ghost use Rattle.am_questions.specs.Words.{Inputs, AcceptsInputs, AsksStart, after_token};
-ghost use Rattle.am_questions.specs.Words.{inputs_fingerprint};
-ghost use Rattle.am_search.specs.Words.{lines_text, trailer_text};
-ghost use Rattle.am_commands.specs.Words.{Asked, IsAskedOf, AreAskedInARow, AreAskedSoFar};
-ghost use Rattle.am_commands.specs.Words.{AnswersInputs, ReportsFiles};
-ghost use Rattle.am_coverage.specs.Words.{IsRoutesReport, IsReceiversReport};
-ghost use Rattle.am_commands.specs.Words.{AcceptsReport, report_stages};
+ghost use Rattle.am_search.specs.Start.{answers_from, IsStart};
+ghost use Rattle.am_search.specs.Page.{AnswerPage, page_from, IsPage, IsChain, rest_after};
+ghost use Rattle.am_search.specs.Page.{start_after};
+ghost use Rattle.am_search.specs.Token.{token_text};
+ghost use Rattle.am_search.specs.BudgetPage.{IsSearchPage, IsSearchChain, BeginsLater};
+ghost use Rattle.am_search.specs.Judge.{IsJudge};
+ghost use Rattle.am_plans.specs.Verdicts.{verdict_of};
+ghost use Rattle.am_questions.specs.Inputs.{Inputs, AcceptsInputs, after_token, inputs_fingerprint};
+ghost use Rattle.am_questions.specs.AskedStart.{AsksStart};
+ghost use Rattle.am_search.specs.PageText.{lines_text};
+ghost use Rattle.am_search.specs.TrailerText.{trailer_text};
+ghost use Rattle.am_commands.specs.AskOutcome.{Asked, IsAskedOf, AreAskedInARow, AreAskedSoFar};
+ghost use Rattle.am_commands.specs.AskOutcome.{AnswersInputs};
+ghost use Rattle.am_commands.specs.Reports.{ReportsFiles, AcceptsReport, report_stages};
+ghost use Rattle.am_coverage.specs.Report.{IsRoutesReport, IsReceiversReport};
 
 /// The answers from the first choice on are all answers to the question.
 pub fn answers_from_the_first_choice_on_are_all()

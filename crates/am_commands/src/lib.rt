@@ -1,5 +1,5 @@
 //! The commands `ask`, `dead`, `receivers` and `explain`, as functions over bytes and a
-//! [`Sink`](am_labels::Sink).
+//! [`Sink`](am_universe::Sink).
 //!
 //! [`ask`] writes the label sets of a universe that satisfy a question about a configuration,
 //! silences and firing alerts, all of them or one [`Page`] after another. [`dead`] writes which
@@ -10,9 +10,9 @@
 
 // The layers below: what goes in, how a page ends, and how a fault is written.
 pub use am_eval::Files;
-pub use am_labels::{status, write_fault};
 pub use am_questions::fingerprint;
 pub use am_search::{Page, Trailer};
+pub use am_universe::{status, write_fault};
 
 // The commands.
 mod asking;

@@ -1,12 +1,15 @@
 ghost use Rattle.std.specs.Prelude.{IfOk, IfErr};
-ghost use Rattle.am_files.specs.Words.{config_view};
-ghost use Rattle.am_eval.specs.Words.{IsFirstFault, IsKept};
-ghost use Rattle.am_commands.specs.Words.{AcceptsReport, report_stages};
-ghost use Rattle.am_commands.specs.Words.{dead_promise, receivers_promise};
+ghost use Rattle.am_config.specs.ConfigView.{config_view};
+ghost use Rattle.am_eval.specs.Faults.{IsFirstFault};
+ghost use Rattle.am_eval.specs.Promise.{IsKept};
+ghost use Rattle.am_commands.specs.Reports.{AcceptsReport, report_stages, dead_promise};
+ghost use Rattle.am_commands.specs.Reports.{receivers_promise};
 
+use am_config::{Config, read_config};
 use am_coverage::{receivers_covered, routes_covered, write_receivers, write_routes};
-use am_files::{Config, read_config, read_universe};
-use am_labels::{Fault, Sink, Space, answer_of_write};
+use am_labels::Space;
+use am_list_files::read_universe;
+use am_universe::{Fault, Sink, answer_of_write};
 use std::alloc::Global;
 
 /// Writes a line for each route of a configuration, in preorder, and then `# end`: its path, and

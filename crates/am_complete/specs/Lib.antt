@@ -8,4 +8,3 @@ pub mod Truths
 pub mod Missing
 pub mod LabelState
 pub mod FoundState
-pub mod Words

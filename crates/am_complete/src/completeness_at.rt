@@ -4,8 +4,9 @@ ghost use Rattle.std.specs.Prelude.{◌≡◌, ◌≢◌, ◌≤◌, [], IfOk, I
 ghost use Rattle.std.specs.Prelude.{false, length, map, string_bytes};
 ghost use Rattle.std.specs.List.{AllByRecursion};
 ghost use Rattle.am_universe.specs.declared.limits.TheConstants.{MAX_VALUES};
-ghost use Rattle.am_labels.specs.Words.{is_label_name, IsUniverse};
-ghost use Rattle.am_complete.specs.Words.{label_texts, HasAlikeIn, AreApart};
+ghost use Rattle.am_universe.specs.Universe.{is_label_name, IsUniverse};
+ghost use Rattle.am_complete.specs.Complete.{label_texts};
+ghost use Rattle.am_classes.specs.Alike.{HasAlikeIn, AreApart};
 ghost use Rattle.am_complete.specs.FoundState.{IsAskedFor, IsFoundAt};
 ghost use Rattle.am_complete.specs.Missing.{ArePossibleClasses};
 
@@ -15,8 +16,9 @@ use crate::missing_texts::missing_texts;
 use crate::possible_classes::possible_classes;
 use crate::{AskedLabel, Completeness};
 use am_classes::Alphabet;
-use am_files::Alerts;
-use am_labels::{Space, Universe};
+use am_labels::Space;
+use am_list_files::Alerts;
+use am_universe::Universe;
 use am_universe::limits::MAX_VALUES;
 use std::alloc::{AllocError, Global};
 

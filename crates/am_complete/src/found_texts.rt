@@ -3,15 +3,17 @@
 ghost use Rattle.std.specs.Prelude.{◌≡◌, IfOk, false, map, string_bytes};
 ghost use Rattle.std.specs.List.{AllByRecursion};
 ghost use Rattle.am_classes.specs.declared.alphabet.Alphabet.{Alphabet};
-ghost use Rattle.am_complete.specs.Words.{AreApart, AreClasses, AreOver};
+ghost use Rattle.am_classes.specs.Alike.{AreApart};
+ghost use Rattle.am_complete.specs.Covering.{AreClasses};
+ghost use Rattle.am_classes.specs.Alphabet.{AreOver};
 
 use crate::AskedLabel;
 use crate::representatives::put_in_order;
 use crate::truths::Truths;
 use crate::usual_texts::{push_new, texts_over, usual_texts};
 use am_classes::Alphabet;
-use am_files::Alerts;
 use am_labels::Op;
+use am_list_files::Alerts;
 use std::alloc::{AllocError, Global};
 
 /// Some texts of a label, no two of which are alike to its matchers: of those that matchers name,

@@ -1,12 +1,13 @@
 //! The texts that a label has in a universe, and those that stand for it in a space.
 
-ghost use Rattle.std.specs.Prelude.{◌≡◌, ◌<◌, ◌∷◌, [], IfOk, length, map, string_bytes};
-ghost use Rattle.std.specs.Prelude.{unwrap_or};
-ghost use Rattle.am_labels.specs.Words.{values_at};
-ghost use Rattle.am_complete.specs.Words.{label_texts, standing_texts};
+ghost use Rattle.std.specs.Prelude.{◌≡◌, ◌<◌, ◌∷◌, [], IfOk, length, map, string_bytes, unwrap_or};
+ghost use Rattle.am_universe.specs.Universe.{values_at};
+ghost use Rattle.am_complete.specs.Complete.{label_texts};
+ghost use Rattle.am_complete.specs.Covering.{standing_texts};
 
 use crate::possible_texts::possible_texts;
-use am_labels::{Space, Universe};
+use am_labels::Space;
+use am_universe::Universe;
 use std::alloc::{AllocError, Global};
 
 /// The texts that a label has in a universe, absence being the empty text: absence alone where it

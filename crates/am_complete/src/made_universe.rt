@@ -4,15 +4,15 @@ ghost use Rattle.std.specs.Prelude.{◌≡◌, ◌≢◌, ◌++◌, ◌<◌, [],
 ghost use Rattle.std.specs.Prelude.{IfOk, IfErr, OnOk, IsTrue, string_bytes, unwrap_or, option_map};
 ghost use Rattle.std.specs.List.{AllByRecursion, IsDistinct};
 ghost use Rattle.am_universe.specs.Text.{same_text};
-ghost use Rattle.am_universe.specs.Universe.{is_empty_text};
+ghost use Rattle.am_universe.specs.Universe.{is_empty_text, is_label_name, IsUniverse, names};
 ghost use Rattle.am_universe.specs.declared.kind.Kind.TheVariants as kinds;
-ghost use Rattle.am_labels.specs.Words.{is_label_name, IsUniverse, names};
-ghost use Rattle.am_labels.specs.Words.{texts_of, Condition};
-ghost use Rattle.am_complete.specs.Words.{AreAmong, impossible_conditions, IsAskedOf};
-ghost use Rattle.am_complete.specs.Words.{KeepsLabels, AddsNeeded, CoversEachBut, AreUnproved};
-ghost use Rattle.am_complete.specs.Words.{IsSpaceComplete, HasTextsOver, HaveNoRoom};
-ghost use Rattle.am_complete.specs.Words.{HaveTooManyValues};
+ghost use Rattle.am_universe.specs.UniverseView.{texts_of};
+ghost use Rattle.am_labels.specs.Matcher.{Condition};
+ghost use Rattle.am_complete.specs.Complete.{AreAmong, impossible_conditions, IsSpaceComplete};
+ghost use Rattle.am_complete.specs.AskedLabel.{IsAskedOf};
+ghost use Rattle.am_complete.specs.Covering.{KeepsLabels, AddsNeeded, CoversEachBut, HasTextsOver};
 ghost use Rattle.am_complete.specs.Covering.{IsWithLabel, IsFullFor, IsLimitOrMemory};
+ghost use Rattle.am_complete.specs.Room.{AreUnproved, HaveNoRoom, HaveTooManyValues};
 ghost use Rattle.am_complete.specs.Missing.{AreMissing, missing_for, whole_texts, IsWhole};
 ghost use Rattle.am_complete.specs.Missing.{is_to_declare, names_to_declare, CanBeDeclared};
 ghost use Rattle.am_complete.specs.Missing.{AreTooLarge, open_positions};
@@ -21,8 +21,9 @@ use crate::AskedLabel;
 use crate::label_texts::standing_texts;
 use crate::missing_texts::{Missing, missing_at};
 use am_classes::Alphabet;
-use am_files::Alerts;
-use am_labels::{Kind, Space, Universe};
+use am_labels::Space;
+use am_list_files::Alerts;
+use am_universe::{Kind, Universe};
 use std::alloc::{AllocError, Global};
 
 /// A universe that is made of what matchers ask.

@@ -1,4 +1,4 @@
-use am_files::Path;
+use am_config::Path;
 
 /// Where a matcher stands.
 #[derive(Clone, Copy, Debug)]

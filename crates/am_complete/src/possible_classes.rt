@@ -2,7 +2,8 @@
 
 ghost use Rattle.std.specs.Prelude.{◌≡◌, ◌≢◌, [], IfOk, IfSome, IfNone, map, string_bytes};
 ghost use Rattle.std.specs.List.{AllByRecursion};
-ghost use Rattle.am_complete.specs.Words.{AreClasses, HasPattern};
+ghost use Rattle.am_complete.specs.Covering.{AreClasses};
+ghost use Rattle.am_classes.specs.Alike.{HasPattern};
 ghost use Rattle.am_complete.specs.FoundState.{IsAskedFor};
 ghost use Rattle.am_complete.specs.Missing.{ArePossibleClasses};
 
@@ -11,8 +12,8 @@ use crate::made_universe::is_label_name;
 use crate::possible_texts::possible_texts;
 use crate::representatives::representatives;
 use am_classes::{Alphabet, ClassTexts, classes};
-use am_files::Alerts;
 use am_labels::Space;
+use am_list_files::Alerts;
 use std::alloc::{AllocError, Global};
 
 /// One text for each class of texts that a label may have in a space, or, where not all were

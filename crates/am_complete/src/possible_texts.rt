@@ -2,9 +2,10 @@
 
 ghost use Rattle.std.specs.Prelude.{◌≡◌, IfOk, map, string_bytes};
 ghost use Rattle.std.specs.List.{filter};
-ghost use Rattle.am_complete.specs.Words.{asks_only_of, may_have};
+ghost use Rattle.am_complete.specs.Complete.{asks_only_of, may_have};
 
-use am_labels::{LabelSet, Matchers};
+use am_labels::Matchers;
+use am_universe::LabelSet;
 use std::alloc::{AllocError, Global};
 
 /// Of some texts those that the label of this name may have, in their order.

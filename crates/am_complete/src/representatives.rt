@@ -3,16 +3,18 @@
 ghost use Rattle.std.specs.Prelude.{◌≡◌, ◌<◌, ℕ, List, Some, IfOk, length, map, Bool, true};
 ghost use Rattle.std.specs.Prelude.{slice_get, string_bytes};
 ghost use Rattle.std.specs.List.{AllByRecursion};
-ghost use Rattle.am_labels.specs.Words.{Condition};
+ghost use Rattle.am_labels.specs.Matcher.{Condition};
 ghost use Rattle.am_classes.specs.declared.alphabet.Alphabet.{Alphabet};
-ghost use Rattle.am_complete.specs.Words.{AreAlike, AreClasses, AreOver, IsOver};
+ghost use Rattle.am_classes.specs.Alike.{AreAlike};
+ghost use Rattle.am_complete.specs.Covering.{AreClasses};
+ghost use Rattle.am_classes.specs.Alphabet.{AreOver, IsOver};
 ghost use Rattle.am_complete.specs.Truths.{AreAlikeEach};
 
 use crate::AskedLabel;
 use crate::truths::Truths;
 use crate::usual_texts::{texts_over, usual_texts};
 use am_classes::Alphabet;
-use am_files::Alerts;
+use am_list_files::Alerts;
 use std::alloc::{AllocError, Global};
 
 /// Texts that stand for the classes of a label's texts, as `texts` do, but chosen and put in order

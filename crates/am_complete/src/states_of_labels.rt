@@ -4,18 +4,21 @@ ghost use Rattle.std.specs.Prelude.{◌≡◌, ◌≢◌, ◌++◌, [], List, If
 ghost use Rattle.std.specs.Prelude.{string_bytes, option_map, slice_get, Some, IfSome, IfNone};
 ghost use Rattle.std.specs.Prelude.{Contains};
 ghost use Rattle.std.specs.List.{AllByRecursion, filter, list_all, list_any};
-ghost use Rattle.am_labels.specs.Words.{Condition, names, IsUniverse};
-ghost use Rattle.am_complete.specs.Words.{IsAskedOf, asked_names, IsSoIfNamed, is_settled};
-ghost use Rattle.am_complete.specs.Words.{reported_names, is_declared, IsSpaceComplete, is_unseen};
-ghost use Rattle.am_complete.specs.Words.{AreAmong, impossible_conditions};
-ghost use Rattle.am_complete.specs.FoundState.{has_label, IsSoOfName, IsSoOfAsked};
+ghost use Rattle.am_labels.specs.Matcher.{Condition};
+ghost use Rattle.am_universe.specs.Universe.{names, IsUniverse};
+ghost use Rattle.am_complete.specs.AskedLabel.{IsAskedOf, asked_names};
+ghost use Rattle.am_complete.specs.LabelState.{IsSoIfNamed, is_settled, reported_names};
+ghost use Rattle.am_complete.specs.LabelState.{is_declared};
+ghost use Rattle.am_complete.specs.Complete.{IsSpaceComplete, AreAmong, impossible_conditions};
+ghost use Rattle.am_complete.specs.FoundState.{is_unseen, has_label, IsSoOfName, IsSoOfAsked};
 ghost use Rattle.am_complete.specs.FoundState.{IsAskedFor, IsWithState};
 
 use crate::completeness_at::completeness_at;
 use crate::{AskedLabel, Completeness, LabelState};
 use am_classes::Alphabet;
-use am_files::Alerts;
-use am_labels::{LabelSet, Space};
+use am_labels::Space;
+use am_list_files::Alerts;
+use am_universe::LabelSet;
 use std::alloc::{AllocError, Global};
 
 /// How a space stands, for alerts whose texts are over the alphabet, at each of its labels, in

@@ -1,17 +1,18 @@
 //! The truths of matchers on texts, by which texts are held against each other.
 
-ghost use Rattle.std.specs.Prelude.{◌≡◌, ◌≢◌, ◌<◌, ◌≤◌, ◌↔◌, ℕ, List, [], Some, length, map};
-ghost use Rattle.std.specs.Prelude.{false, slice_get};
-ghost use Rattle.std.specs.Prelude.{IfOk, IfSome, IfNone, IsTrue, string_bytes};
+ghost use Rattle.std.specs.Prelude.{◌≡◌, ◌≢◌, ◌<◌, ◌≤◌, ◌↔◌, ℕ, List, [], Some, length, map, false};
+ghost use Rattle.std.specs.Prelude.{slice_get, IfOk, IfSome, IfNone, IsTrue, string_bytes};
 ghost use Rattle.std.specs.List.{AllByRecursion, IsDistinct};
 ghost use Rattle.am_universe.specs.Text.{same_text};
 ghost use Rattle.am_universe.specs.declared.limits.TheConstants.{MAX_VALUES};
-ghost use Rattle.am_labels.specs.Words.{row_of, is_label_name};
-ghost use Rattle.am_complete.specs.Words.{AreAlike, HasAlikeIn};
+ghost use Rattle.am_labels.specs.Row.{row_of};
+ghost use Rattle.am_universe.specs.Universe.{is_label_name};
+ghost use Rattle.am_classes.specs.Alike.{AreAlike, HasAlikeIn};
 ghost use Rattle.am_complete.specs.Truths.{IsAlikeAt};
 
 use crate::made_universe::declare;
-use am_labels::{Kind, Matcher, Op, Row, Universe};
+use am_labels::{Matcher, Op, Row};
+use am_universe::{Kind, Universe};
 use std::alloc::{AllocError, Global};
 use std::marker::Model;
 

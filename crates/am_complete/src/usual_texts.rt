@@ -1,10 +1,10 @@
 //! The texts that alerts have for a label.
 
 ghost use Rattle.std.specs.Prelude.{IfOk, map, string_bytes};
-ghost use Rattle.am_complete.specs.Words.{AreOver};
+ghost use Rattle.am_classes.specs.Alphabet.{AreOver};
 
 use am_classes::Alphabet;
-use am_files::Alerts;
+use am_list_files::Alerts;
 use am_universe::limits::MAX_VALUES;
 use std::alloc::{AllocError, Global};
 use std::collections::HashMap;

@@ -17,9 +17,9 @@ use Rattle.am_json.specs.Json.{json_of, field, items_of, item_list, HasOnlyField
 use Rattle.am_json.specs.declared.limits.TheConstants.{MAX_FILE_BYTES}
 use Rattle.am_labels.specs.Matcher.{Condition}
 use Rattle.am_labels.specs.Space.{Space}
-use Rattle.am_records.specs.UniverseFile.{FileSaysUniverse, SaysUniverse, SaysLabel, SaysValue}
-use Rattle.am_records.specs.UniverseFile.{file_fields, AreTextsOfLists, HasImpossibleTexts}
-use Rattle.am_records.specs.UniverseFile.{FileHasImpossibleTexts}
+use Rattle.am_list_files.specs.UniverseFile.{FileSaysUniverse, SaysUniverse, SaysLabel, SaysValue}
+use Rattle.am_list_files.specs.UniverseFile.{file_fields, AreTextsOfLists, HasImpossibleTexts}
+use Rattle.am_list_files.specs.UniverseFile.{FileHasImpossibleTexts}
 use Rattle.am_complete_texts.specs.UniverseText.{universe_text}
 use Rattle.am_complete_texts.proofs.TextTokens.{value_tree, values_tree, label_tree, labels_tree}
 use Rattle.am_complete_texts.proofs.TextTokens.{as_values, universe_tree}

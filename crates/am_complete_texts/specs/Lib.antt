@@ -2,4 +2,3 @@ pub mod UniverseText
 pub mod CheckText
 pub mod MatchersText
 pub mod Plural
-pub mod Words

@@ -3,16 +3,17 @@
 ghost use Rattle.std.specs.Prelude.{◌≡◌, ◌≤◌, ◌^◌, ◌++◌, string_bytes, encode_utf8, decimal, codes};
 ghost use Rattle.std.specs.Prelude.{MatchOption, IfOk, OnOk};
 ghost use Rattle.std.specs.List.{flat_map, list_all};
-ghost use Rattle.am_labels.specs.Words.{sizes, quoted_text, label_value_escape};
-ghost use Rattle.am_complete.specs.Words.{is_settled};
-ghost use Rattle.am_complete_texts.specs.Words.{check_text, state_line, state_text, name_text};
-ghost use Rattle.am_complete_texts.specs.Words.{lacking_text, unseen_text, label_sets, count_text};
-ghost use Rattle.am_complete_texts.specs.Words.{label_sets_text, all_impossible_text};
-ghost use Rattle.am_complete_texts.specs.Words.{verdict_text};
+ghost use Rattle.am_universe.specs.Universe.{sizes};
+ghost use Rattle.am_universe.specs.Text.{quoted_text, label_value_escape};
+ghost use Rattle.am_complete.specs.LabelState.{is_settled};
+ghost use Rattle.am_complete_texts.specs.CheckText.{check_text, state_line, state_text, name_text};
+ghost use Rattle.am_complete_texts.specs.CheckText.{lacking_text, unseen_text, label_sets};
+ghost use Rattle.am_complete_texts.specs.CheckText.{count_text, label_sets_text};
+ghost use Rattle.am_complete_texts.specs.CheckText.{all_impossible_text, verdict_text};
 
 use crate::pointer_to;
 use am_complete::{Completeness, LabelState, is_label_name};
-use am_labels::Universe;
+use am_universe::Universe;
 use std::alloc::{AllocError, Global};
 
 /// How a universe stands, as a text: a line for each label, the number of its label sets and

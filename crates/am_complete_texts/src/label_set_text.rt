@@ -1,10 +1,12 @@
 //! The label set of a choice, as a part of a longer text.
 
 ghost use Rattle.std.specs.Prelude.{◌≡◌, ◌++◌, string_bytes, OnOk};
-ghost use Rattle.am_labels.specs.Words.{sizes, IsWhole, set_text, pair_text};
+ghost use Rattle.am_universe.specs.Universe.{sizes};
+ghost use Rattle.am_universe.specs.Choice.{IsWhole};
+ghost use Rattle.am_universe.specs.WrittenLabelSet.{set_text, pair_text};
 
 use crate::push_quoted;
-use am_labels::{Choice, Universe};
+use am_universe::{Choice, Universe};
 use std::alloc::AllocError;
 
 /// Adds the label set of a whole choice, as it stands in a page of answers. An `Err` only where

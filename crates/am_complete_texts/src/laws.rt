@@ -4,7 +4,8 @@ ghost use Rattle.std.specs.Str.{IsUtf8};
 ghost use Rattle.am_universe.specs.Universe.{Label, IsUniverse};
 ghost use Rattle.am_labels.specs.Matcher.{Condition};
 ghost use Rattle.am_json.specs.declared.limits.TheConstants.{MAX_FILE_BYTES};
-ghost use Rattle.am_records.specs.Words.{FileSaysUniverse, FileHasImpossibleTexts, AreTextsOfLists};
+ghost use Rattle.am_list_files.specs.UniverseFile.{FileSaysUniverse, FileHasImpossibleTexts};
+ghost use Rattle.am_list_files.specs.UniverseFile.{AreTextsOfLists};
 ghost use Rattle.am_complete_texts.specs.UniverseText.{universe_text};
 
 /// The text of a universe and of texts of lists is that of a file which says the universe and, as

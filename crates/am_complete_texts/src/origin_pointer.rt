@@ -2,10 +2,10 @@
 
 ghost use Rattle.std.specs.Prelude.{◌≡◌, ◌++◌, string_bytes, decimal, codes, IfOk, OnOk};
 ghost use Rattle.std.specs.List.{flat_map};
-ghost use Rattle.am_complete_texts.specs.Words.{origin_pointer, child_pointer};
+ghost use Rattle.am_complete_texts.specs.CheckText.{origin_pointer, child_pointer};
 
 use am_complete::Origin;
-use am_files::Path;
+use am_config::Path;
 use std::alloc::{AllocError, Global};
 
 /// The pointer to what a matcher stands in, as `/route/routes/0` or `/inhibit_rules/2`, in the file

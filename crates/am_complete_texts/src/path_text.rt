@@ -1,9 +1,9 @@
 //! The path of a route, as a part of a longer text.
 
 ghost use Rattle.std.specs.Prelude.{◌≡◌, ◌++◌, string_bytes, OnOk};
-ghost use Rattle.am_files.specs.Words.{path_text, step_text};
+ghost use Rattle.am_config.specs.Path.{path_text, step_text};
 
-use am_files::Path;
+use am_config::Path;
 use std::alloc::{AllocError, Global};
 
 /// Adds the text of a path. An `Err` only where memory was refused.

@@ -3,12 +3,12 @@
 ghost use Rattle.std.specs.Prelude.{◌≡◌, ◌<◌, ◌++◌, length, slice_get, slice_index, Some};
 ghost use Rattle.std.specs.Prelude.{string_bytes, map, option_map, IfOk, OnOk};
 ghost use Rattle.json.specs.Print.{quoted};
-ghost use Rattle.am_labels.specs.Words.{Label};
-ghost use Rattle.am_complete_texts.specs.Words.{universe_text, label_text, values_text, value_text};
-ghost use Rattle.am_complete_texts.specs.Words.{gap_before_line, gap_before_value};
-ghost use Rattle.am_complete_texts.specs.Words.{impossible_text};
+ghost use Rattle.am_universe.specs.Universe.{Label};
+ghost use Rattle.am_complete_texts.specs.UniverseText.{universe_text, label_text, values_text};
+ghost use Rattle.am_complete_texts.specs.UniverseText.{value_text, gap_before_line};
+ghost use Rattle.am_complete_texts.specs.UniverseText.{gap_before_value, impossible_text};
 
-use am_labels::Universe;
+use am_universe::Universe;
 use serde_json::Value;
 use std::alloc::{AllocError, Global};
 

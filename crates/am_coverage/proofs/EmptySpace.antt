@@ -3,7 +3,7 @@ use Rattle.std.proofs.Common.{◌≡◌, ℕ, List, [], Contains, subst}
 use Rattle.am_universe.proofs.ListLemmas.{IsIn-from_Contains}
 use Rattle.am_labels.specs.Space.{Space, IsChoiceOf}
 use Rattle.am_labels.proofs.SpaceLaws.{none_of_empty_list, space_choices}
-use Rattle.am_files.specs.ConfigFile.{Configuration}
+use Rattle.am_config.specs.ConfigFile.{Configuration}
 use Rattle.am_coverage.specs.declared.coverage.RouteCoverage.TheVariants as route_is
 use Rattle.am_coverage.specs.declared.coverage.ReceiverCoverage.TheVariants as receiver_is
 use Rattle.am_coverage.specs.Coverage.{route_coverage, receiver_coverage}

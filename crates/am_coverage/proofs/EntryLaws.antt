@@ -6,9 +6,9 @@ use Rattle.std.specs.List.{list_any}
 use Rattle.am_universe.specs.LabelSet.{label_set_of}
 use Rattle.am_universe.proofs.ListLemmas.{Contains-from_IsIn}
 use Rattle.am_labels.specs.Space.{Space}
-use Rattle.am_files.specs.ConfigFile.{Configuration}
-use Rattle.am_files.specs.Path.{leads_through}
-use Rattle.am_files.specs.RoutePaths.{paths_of}
+use Rattle.am_config.specs.ConfigFile.{Configuration}
+use Rattle.am_config.specs.Path.{leads_through}
+use Rattle.am_config.specs.RoutePaths.{paths_of}
 use Rattle.am_eval.proofs.EndLaws.{at_routes}
 use Rattle.am_eval.proofs.RoutePathLaws.{is_path}
 use Rattle.am_search.specs.Start.{comes_before}

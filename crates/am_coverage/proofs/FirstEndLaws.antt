@@ -7,9 +7,9 @@ use Rattle.am_universe.specs.Text.{same_text}
 use Rattle.am_labels.specs.Space.{Space, all_choices}
 use Rattle.am_labels.proofs.Passing.{any_in, in_any}
 use Rattle.am_labels.proofs.SpaceLaws.{space_choices_sorted}
-use Rattle.am_files.specs.ConfigFile.{Configuration}
-use Rattle.am_files.specs.Path.{leads_through}
-use Rattle.am_files.specs.RoutePaths.{paths_of}
+use Rattle.am_config.specs.ConfigFile.{Configuration}
+use Rattle.am_config.specs.Path.{leads_through}
+use Rattle.am_config.specs.RoutePaths.{paths_of}
 use Rattle.am_eval.specs.Conditions.{paths_to}
 use Rattle.am_eval.specs.Routing.{ends}
 use Rattle.am_eval.proofs.EndLaws.{at_routes}

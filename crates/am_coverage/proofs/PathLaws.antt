@@ -5,9 +5,9 @@ use Rattle.std.specs.Cmp.Lexicographic.{slice_cmp}
 use Rattle.std.specs.List.Sorted.{IsStrictlySortedBy}
 use Rattle.std.specs.declared.cmp.Ordering.TheVariants.{Less}
 use Rattle.am_universe.proofs.ListLemmas.{AllByRecursion-each}
-use Rattle.am_files.specs.ConfigFile.{RouteTree, Routes, route, no_routes, next_route}
-use Rattle.am_files.specs.RoutePaths.{paths_at}
-use Rattle.am_files.proofs.RouteLists.{paths_from, paths_next}
+use Rattle.am_config.specs.ConfigFile.{RouteTree, Routes, route, no_routes, next_route}
+use Rattle.am_config.specs.RoutePaths.{paths_at}
+use Rattle.am_config.proofs.RouteLists.{paths_from, paths_next}
 use Rattle.am_eval.proofs.FlatEnds.{below_ascend}
 use Rattle.am_eval.proofs.RoutePathLaws.{is_below}
 use Rattle.am_search.proofs.ChoiceOrder.{Ascends}

@@ -5,8 +5,8 @@ use Rattle.std.specs.Prelude.{IsTrue, ◌==◌}
 use Rattle.std.specs.List.{list_any}
 use Rattle.am_universe.specs.LabelSet.{label_set_of}
 use Rattle.am_labels.specs.Space.{Space, IsChoiceOf}
-use Rattle.am_files.specs.ConfigFile.{Configuration, RouteTree, receiver_of}
-use Rattle.am_files.specs.Path.{route_at}
+use Rattle.am_config.specs.ConfigFile.{Configuration, RouteTree, receiver_of}
+use Rattle.am_config.specs.Path.{route_at}
 use Rattle.am_eval.specs.Routing.{receivers}
 use Rattle.am_eval.proofs.SimpleParts.{receipt_from_test, test_from_receipt, end_of_receiver}
 use Rattle.am_eval.proofs.SimpleParts.{receiver_of_end}

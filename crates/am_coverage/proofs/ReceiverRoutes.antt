@@ -13,11 +13,11 @@ use Rattle.std.proofs.lemmas.Option.{slice_get_read}
 use Rattle.am_universe.specs.Universe.{sizes}
 use Rattle.am_universe.proofs.LabelPairLemmas.{at_place}
 use Rattle.am_labels.specs.Space.{Space}
-use Rattle.am_files.specs.ConfigFile.{Configuration, receiver_of}
-use Rattle.am_files.specs.ConfigView.{config_view}
-use Rattle.am_files.specs.Path.{route_at}
-use Rattle.am_files.specs.RoutePaths.{paths_of}
-use Rattle.am_files.specs.declared.config.Config.{Config}
+use Rattle.am_config.specs.ConfigFile.{Configuration, receiver_of}
+use Rattle.am_config.specs.ConfigView.{config_view}
+use Rattle.am_config.specs.Path.{route_at}
+use Rattle.am_config.specs.RoutePaths.{paths_of}
+use Rattle.am_config.specs.declared.config.Config.{Config}
 use Rattle.am_eval.proofs.AbsentParts.{receiver_below}
 use Rattle.am_eval.proofs.SimpleParts.{receiver_there}
 use Rattle.am_eval.specs.Conditions.{is_receiver}

@@ -10,9 +10,9 @@ use mathlib.Core.List.{append_cancel_left}
 use Rattle.am_universe.specs.Text.{quoted_text}
 use Rattle.am_universe.specs.WrittenLabelSet.{set_text}
 use Rattle.am_labels.specs.Space.{Space}
-use Rattle.am_files.specs.ConfigFile.{Configuration}
-use Rattle.am_files.specs.Path.{path_text}
-use Rattle.am_files.specs.RoutePaths.{paths_of}
+use Rattle.am_config.specs.ConfigFile.{Configuration}
+use Rattle.am_config.specs.Path.{path_text}
+use Rattle.am_config.specs.RoutePaths.{paths_of}
 use Rattle.am_coverage.specs.declared.coverage.RouteCoverage.{RouteCoverage}
 use Rattle.am_coverage.specs.declared.coverage.RouteCoverage.TheVariants as route_is
 use Rattle.am_coverage.specs.declared.coverage.ReceiverCoverage.{ReceiverCoverage}

@@ -8,8 +8,8 @@ use Rattle.std.proofs.Math.Seq.{take-length}
 use Rattle.am_universe.specs.LabelSet.{label_set_of}
 use Rattle.am_universe.specs.Text.{same_text}
 use Rattle.am_labels.specs.Space.{Space, IsChoiceOf}
-use Rattle.am_files.specs.ConfigFile.{Configuration}
-use Rattle.am_files.specs.Path.{leads_through}
+use Rattle.am_config.specs.ConfigFile.{Configuration}
+use Rattle.am_config.specs.Path.{leads_through}
 use Rattle.am_eval.specs.Routing.{ends}
 use Rattle.am_eval.proofs.ListTests.{some_passes, passes_among}
 use Rattle.am_eval.proofs.SimpleParts.{end_from_test, test_from_end}

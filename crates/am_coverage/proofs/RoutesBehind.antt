@@ -13,9 +13,9 @@ use Rattle.std.proofs.lemmas.Option.{same_Some}
 use Rattle.am_universe.specs.Universe.{sizes}
 use Rattle.am_universe.proofs.ListLemmas.{IsIn}
 use Rattle.am_labels.specs.Space.{Space}
-use Rattle.am_files.specs.ConfigFile.{Configuration}
-use Rattle.am_files.specs.Path.{leads_through}
-use Rattle.am_files.specs.RoutePaths.{paths_of}
+use Rattle.am_config.specs.ConfigFile.{Configuration}
+use Rattle.am_config.specs.Path.{leads_through}
+use Rattle.am_config.specs.RoutePaths.{paths_of}
 use Rattle.am_universe.proofs.Members.{in_at}
 use Rattle.am_search.specs.Start.{comes_before}
 use Rattle.am_search.proofs.ChoiceOrder.{Ascends, above_first, ascends_rest, not_back, filter_none}

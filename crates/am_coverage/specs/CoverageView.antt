@@ -3,7 +3,7 @@
 use Rattle.std.specs.Prelude.{ℕ, List, ⊤, Option, Bool, is_some}
 use Rattle.std.specs.List.{list_any, take_while}
 use Rattle.am_universe.specs.Choice.{IsWhole}
-use Rattle.am_files.specs.Path.{leads_through}
+use Rattle.am_config.specs.Path.{leads_through}
 use Rattle.am_coverage.specs.declared.coverage.RouteCoverage.{RouteCoverage}
 use Rattle.am_coverage.specs.declared.coverage.RouteCoverage.TheVariants as route_is
 use Rattle.am_coverage.specs.declared.coverage.ReceiverCoverage.{ReceiverCoverage}

@@ -1,4 +1,3 @@
-pub mod Words
 pub mod Coverage
 pub mod FirstEnds
 pub mod CoverageView

@@ -5,10 +5,10 @@ use Rattle.am_universe.specs.LabelSet.{label_set_of}
 use Rattle.am_universe.specs.Text.{quoted_text}
 use Rattle.am_universe.specs.WrittenLabelSet.{set_text}
 use Rattle.am_labels.specs.Space.{Space, IsChoiceOf}
-use Rattle.am_files.specs.ConfigFile.{Configuration}
-use Rattle.am_files.specs.Path.{path_text}
+use Rattle.am_config.specs.ConfigFile.{Configuration}
+use Rattle.am_config.specs.Path.{path_text}
 use Rattle.am_eval.specs.Routing.{ends, receivers}
-use Rattle.am_files.specs.RoutePaths.{paths_of}
+use Rattle.am_config.specs.RoutePaths.{paths_of}
 use Rattle.am_search.specs.Start.{comes_before}
 use Rattle.am_coverage.specs.Coverage.{IsDead, IsNeverEntered, IsUnmatched}
 

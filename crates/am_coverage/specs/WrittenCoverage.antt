@@ -4,7 +4,7 @@ use Rattle.std.specs.List.{flat_map}
 use Rattle.am_universe.specs.Universe.{Label}
 use Rattle.am_universe.specs.Text.{quoted_text}
 use Rattle.am_universe.specs.WrittenLabelSet.{set_text}
-use Rattle.am_files.specs.Path.{path_text}
+use Rattle.am_config.specs.Path.{path_text}
 use Rattle.am_coverage.specs.declared.coverage.RouteCoverage.{RouteCoverage}
 use Rattle.am_coverage.specs.declared.coverage.RouteCoverage.TheVariants as route_is
 use Rattle.am_coverage.specs.declared.coverage.ReceiverCoverage.{ReceiverCoverage}

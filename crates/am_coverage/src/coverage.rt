@@ -1,6 +1,6 @@
 //! What becomes of a route, and of a receiver.
 
-use am_labels::Choice;
+use am_universe::Choice;
 
 /// What becomes of a route in a universe.
 #[derive(Clone, Copy, Debug)]

@@ -3,14 +3,16 @@
 
 ghost use Rattle.std.specs.Prelude.{◌≡◌, map, Some, IfOk};
 ghost use Rattle.std.specs.List.{AllByRecursion};
-ghost use Rattle.am_files.specs.Words.{config_view, paths_of};
-ghost use Rattle.am_eval.specs.Words.{receiver_at};
+ghost use Rattle.am_config.specs.ConfigView.{config_view};
+ghost use Rattle.am_config.specs.RoutePaths.{paths_of};
+ghost use Rattle.am_eval.specs.Routing.{receiver_at};
 ghost use Rattle.am_coverage.specs.Coverage.{first_end};
 ghost use Rattle.am_coverage.specs.CoverageView.{end_view};
 
-use am_files::{Config, Path};
+use am_config::{Config, Path};
 use am_first_sets::RouteEnds;
-use am_labels::{Choice, Space};
+use am_labels::Space;
+use am_universe::Choice;
 use std::alloc::{AllocError, Global};
 
 /// A route, by its path, with its receiver, by its position, and the first choice of the space

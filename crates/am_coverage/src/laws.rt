@@ -1,27 +1,30 @@
 //! Facts about the definitions alone: each is the contract of a function with an empty body.
-ghost use Rattle.std.specs.Prelude.{◌≡◌, ◌≢◌, ◌↔◌, ℕ, List, [], ◌++◌, Some, None, Contains};
-ghost use Rattle.std.specs.Prelude.{false, codes, slice_get, map, IsTrue};
+ghost use Rattle.std.specs.Prelude.{◌≡◌, ◌≢◌, ◌↔◌, ℕ, List, [], ◌++◌, Some, None, Contains, false};
+ghost use Rattle.std.specs.Prelude.{codes, slice_get, map, IsTrue};
 ghost use Rattle.std.specs.Ordering.{nat_cmp};
 ghost use Rattle.std.specs.Cmp.Lexicographic.{slice_cmp};
 ghost use Rattle.std.specs.List.{filter};
 ghost use Rattle.std.specs.List.Sorted.{IsStrictlySortedBy};
-ghost use Rattle.am_labels.specs.Words.{Space, IsChoiceOf, label_set_of, quoted_text};
-ghost use Rattle.am_files.specs.Words.{Configuration, RouteTree, route_at, receiver_of, path_text};
-ghost use Rattle.am_files.specs.Words.{paths_of};
-ghost use Rattle.am_files.specs.Path.{leads_through};
+ghost use Rattle.am_labels.specs.Space.{Space, IsChoiceOf};
+ghost use Rattle.am_universe.specs.LabelSet.{label_set_of};
+ghost use Rattle.am_universe.specs.Text.{quoted_text};
+ghost use Rattle.am_config.specs.ConfigFile.{Configuration, RouteTree, receiver_of};
+ghost use Rattle.am_config.specs.Path.{route_at, path_text, leads_through};
+ghost use Rattle.am_config.specs.RoutePaths.{paths_of};
 ghost use Rattle.am_eval.specs.Conditions.{paths_to};
 ghost use Rattle.am_eval.specs.Tree.{Part};
-ghost use Rattle.am_eval.specs.Question.{Ends, Enters, Receiver};
-ghost use Rattle.am_eval.specs.Words.{ends, receivers, World, answers};
-ghost use Rattle.am_search.specs.Words.{comes_before};
+ghost use Rattle.am_eval.specs.Question.{Ends, Enters, Receiver, answers};
+ghost use Rattle.am_eval.specs.Routing.{ends, receivers};
+ghost use Rattle.am_eval.specs.World.{World};
+ghost use Rattle.am_search.specs.Start.{comes_before};
 ghost use Rattle.am_coverage.specs.declared.coverage.RouteCoverage.TheVariants as route_is;
 ghost use Rattle.am_coverage.specs.declared.coverage.ReceiverCoverage.TheVariants as receiver_is;
-ghost use Rattle.am_coverage.specs.Coverage.{first_end, first_entry, first_receipt};
+ghost use Rattle.am_coverage.specs.Coverage.{first_end, first_entry, first_receipt, IsDead};
+ghost use Rattle.am_coverage.specs.Coverage.{IsNeverEntered, IsUnmatched, route_coverage};
+ghost use Rattle.am_coverage.specs.Coverage.{receiver_coverage};
 ghost use Rattle.am_coverage.specs.FirstEnds.{earliest};
-ghost use Rattle.am_coverage.specs.Words.{IsDead, IsNeverEntered, IsUnmatched};
-ghost use Rattle.am_coverage.specs.Words.{route_coverage, receiver_coverage};
-ghost use Rattle.am_coverage.specs.Words.{IsRouteLine, IsReceiverLine};
-ghost use Rattle.am_coverage.specs.Words.{IsRoutesReport, IsReceiversReport};
+ghost use Rattle.am_coverage.specs.Report.{IsRouteLine, IsReceiverLine, IsRoutesReport};
+ghost use Rattle.am_coverage.specs.Report.{IsReceiversReport};
 
 /// A route is told as live exactly where some label set of the universe ends there: with the first
 /// choice whose label set does.

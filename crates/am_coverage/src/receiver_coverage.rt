@@ -2,17 +2,18 @@
 
 ghost use Rattle.std.specs.Prelude.{◌≡◌, ℕ, List, Option, length, map, IfOk};
 ghost use Rattle.std.specs.List.{AllByRecursion, range_with_len};
-ghost use Rattle.am_labels.specs.Words.{sizes};
-ghost use Rattle.am_files.specs.Words.{config_view};
-ghost use Rattle.am_search.specs.Words.{comes_before};
-ghost use Rattle.am_coverage.specs.Coverage.{live_or_unmatched};
+ghost use Rattle.am_universe.specs.Universe.{sizes};
+ghost use Rattle.am_config.specs.ConfigView.{config_view};
+ghost use Rattle.am_search.specs.Start.{comes_before};
+ghost use Rattle.am_coverage.specs.Coverage.{live_or_unmatched, receiver_coverage};
 ghost use Rattle.am_coverage.specs.FirstEnds.{earlier};
-ghost use Rattle.am_coverage.specs.Words.{receiver_coverage, IsShownReceiver};
+ghost use Rattle.am_coverage.specs.CoverageView.{IsShownReceiver};
 
 use crate::coverage::ReceiverCoverage;
 use crate::first_ends::first_ends;
-use am_files::Config;
-use am_labels::{Choice, Space};
+use am_config::Config;
+use am_labels::Space;
+use am_universe::Choice;
 use std::alloc::{AllocError, Global};
 
 /// What becomes of each receiver of a configuration, in declared order. An `Err` only where memory

@@ -2,16 +2,18 @@
 
 ghost use Rattle.std.specs.Prelude.{◌≡◌, ◌++◌, length, map, codes};
 ghost use Rattle.std.specs.List.{AllByRecursion};
-ghost use Rattle.am_labels.specs.Words.{sizes, IsWhole, Writes};
-ghost use Rattle.am_files.specs.Words.{config_view};
-ghost use Rattle.am_coverage.specs.Words.{found_view, IsShownRoute, IsShownReceiver};
-ghost use Rattle.am_coverage.specs.Words.{route_line, routes_text};
-ghost use Rattle.am_coverage.specs.Words.{receiver_line, receivers_text, live_text};
+ghost use Rattle.am_universe.specs.Universe.{sizes};
+ghost use Rattle.am_universe.specs.Choice.{IsWhole};
+ghost use Rattle.am_universe.specs.Sink.{Writes};
+ghost use Rattle.am_config.specs.ConfigView.{config_view};
+ghost use Rattle.am_coverage.specs.CoverageView.{found_view, IsShownRoute, IsShownReceiver};
+ghost use Rattle.am_coverage.specs.WrittenCoverage.{route_line, routes_text, receiver_line};
+ghost use Rattle.am_coverage.specs.WrittenCoverage.{receivers_text, live_text};
 
 use crate::coverage::{ReceiverCoverage, RouteCoverage};
 use crate::route_coverage::RouteFound;
-use am_files::Config;
-use am_labels::{Choice, Kind, Sink, Universe, put_all, write_set, write_text};
+use am_config::Config;
+use am_universe::{Choice, Kind, Sink, Universe, put_all, write_set, write_text};
 
 /// Writes the report of routes: a line for each, and then `# end`. The only `Err` is `Kind::Write`,
 /// after a part of that from its front. No memory is taken.

@@ -2,16 +2,16 @@
 
 ghost use Rattle.std.specs.Prelude.{◌≡◌, map, IfOk, if◌then◌else◌};
 ghost use Rattle.std.specs.List.{AllByRecursion};
-ghost use Rattle.am_labels.specs.Words.{sizes};
-ghost use Rattle.am_files.specs.Words.{config_view, paths_of};
+ghost use Rattle.am_universe.specs.Universe.{sizes};
+ghost use Rattle.am_config.specs.ConfigView.{config_view};
+ghost use Rattle.am_config.specs.RoutePaths.{paths_of};
 ghost use Rattle.am_coverage.specs.declared.coverage.RouteCoverage.TheVariants as route_is;
-ghost use Rattle.am_coverage.specs.Coverage.{live_or};
-ghost use Rattle.am_coverage.specs.CoverageView.{is_live_below};
-ghost use Rattle.am_coverage.specs.Words.{route_coverage, found_view, IsShownRoute};
+ghost use Rattle.am_coverage.specs.Coverage.{live_or, route_coverage};
+ghost use Rattle.am_coverage.specs.CoverageView.{is_live_below, found_view, IsShownRoute};
 
 use crate::coverage::RouteCoverage;
 use crate::first_ends::{FirstEnd, first_ends};
-use am_files::{Config, Path};
+use am_config::{Config, Path};
 use am_labels::Space;
 use std::alloc::{AllocError, Global};
 

@@ -1,32 +1,7 @@
-//! Plans: what a question is answered by while it is searched.
+//! The judges of prefixes, under one name: of a list of matchers, and of a question.
 //!
-//! A [`Plan`] is a judge of prefixes. It has a cube for each list of matchers that its question
-//! asks of: those of the question itself, and, where it asks of them, those of the routes, of the
-//! active silences, and of the pairs of an inhibition rule and a firing alert. It has one for each
-//! impossible list of its space too. Its verdict joins theirs in the logic of three values. Judging
-//! takes no memory.
+//! Everything here is defined elsewhere: [`Cube`] in `am_judged_lists`, [`Plan`] in `am_plans`.
 #![tactic(auto)]
 
-// What is looked for among routes.
-mod target;
-
-// The lists of a world.
-mod pair_lists;
-mod route_lists;
-mod world_lists;
-
-// The lists of a question, and the question with the lists of its world.
-mod judged_question;
-mod needs;
-mod question_lists;
-
-pub use judged_question::JudgedQuestion;
-
-// The judge.
-mod plan;
-
-pub use am_masks::{Cube, Group, JudgedList, Modality};
-pub use plan::Plan;
-
-// What holds of the definitions by themselves.
-pub mod laws;
+pub use am_judged_lists::Cube;
+pub use am_plans::Plan;

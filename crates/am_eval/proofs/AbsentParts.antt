@@ -5,10 +5,10 @@ use Rattle.std.specs.Prelude.{slice_get, IsFalse, nat_lt}
 use Rattle.std.proofs.lemmas.Bool.{and_parts, false_from_ne_true, ltb-true}
 use Rattle.std.proofs.lemmas.Option.{option_and_then_some, same_Some}
 use Rattle.am_universe.specs.LabelSet.{LabelMap}
-use Rattle.am_files.specs.ConfigFile.{RouteTree, Routes, route, no_routes, next_route, receiver_of}
-use Rattle.am_files.specs.ConfigFile.{IsConfig, children_of, has_receivers_below}
-use Rattle.am_files.specs.ConfigFile.{have_receivers_below}
-use Rattle.am_files.specs.Path.{list_of, route_at}
+use Rattle.am_config.specs.ConfigFile.{RouteTree, Routes, route, no_routes, next_route, receiver_of}
+use Rattle.am_config.specs.ConfigFile.{IsConfig, children_of, has_receivers_below}
+use Rattle.am_config.specs.ConfigFile.{have_receivers_below}
+use Rattle.am_config.specs.Path.{list_of, route_at}
 use Rattle.am_eval.specs.World.{World}
 use Rattle.am_eval.specs.Question.{Receiver, Ends, Enters, holds_of}
 use Rattle.am_eval.proofs.EndLaws.{at_routes, exactly}

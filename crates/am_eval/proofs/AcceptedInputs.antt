@@ -8,15 +8,15 @@ use Rattle.am_labels.specs.ParsedLabelSet.{WordsSpellSet}
 use Rattle.am_labels.specs.Space.{Space}
 use Rattle.am_json.specs.Pointer.{Refusal}
 use Rattle.am_json.proofs.FormLaws.{says_no_fault}
-use Rattle.am_records.specs.UniverseFile.{FileSaysUniverse}
-use Rattle.am_records.specs.UniverseFaults.{UniverseFileRefusedFor}
-use Rattle.am_records.specs.SilencesFile.{Silence}
-use Rattle.am_records.proofs.UniverseFaultLemmas.{universe_laws}
-use Rattle.am_records.proofs.SilencesFaultLemmas.{silences_laws}
-use Rattle.am_records.proofs.AlertsFaultLemmas.{alerts_laws}
-use Rattle.am_files.specs.ConfigFile.{Configuration, FileSaysConfig}
-use Rattle.am_files.specs.ConfigFaults.{ConfigFileRefusedFor}
-use Rattle.am_files.proofs.ConfigFaultLemmas.{config_laws}
+use Rattle.am_list_files.specs.UniverseFile.{FileSaysUniverse}
+use Rattle.am_list_files.specs.UniverseFaults.{UniverseFileRefusedFor}
+use Rattle.am_list_files.specs.SilencesFile.{Silence}
+use Rattle.am_list_files.proofs.UniverseFaultLemmas.{universe_laws}
+use Rattle.am_list_files.proofs.SilencesFaultLemmas.{silences_laws}
+use Rattle.am_list_files.proofs.AlertsFaultLemmas.{alerts_laws}
+use Rattle.am_config.specs.ConfigFile.{Configuration, FileSaysConfig}
+use Rattle.am_config.specs.ConfigFaults.{ConfigFileRefusedFor}
+use Rattle.am_config.proofs.ConfigFaultLemmas.{config_laws}
 use Rattle.am_eval.specs.World.{World}
 use Rattle.am_eval.specs.Pairs.{pairs_of}
 use Rattle.am_eval.specs.Files.{config_of, SaysSilencesIfAny, SaysAlertsIfAny}

@@ -4,8 +4,8 @@ use Rattle.std.proofs.Common.{append_assoc, true, false}
 use Rattle.std.proofs.lemmas.List.{append-nil, map-append}
 use Rattle.am_universe.specs.LabelSet.{LabelMap}
 use Rattle.am_labels.specs.Matcher.{all_hold}
-use Rattle.am_files.specs.ConfigFile.{RouteTree, routes_of, matchers_of, continues_of}
-use Rattle.am_files.proofs.RouteLists.{paths_below}
+use Rattle.am_config.specs.ConfigFile.{RouteTree, routes_of, matchers_of, continues_of}
+use Rattle.am_config.proofs.RouteLists.{paths_below}
 use Rattle.am_eval.specs.Routing.{ends_at, children_seen, ends_tried, is_last}
 
 -- the ends at the children from a position on

@@ -9,8 +9,8 @@ use Rattle.std.proofs.lemmas.List.{append-nil, nil_from_length, take-append-drop
 use Rattle.am_universe.specs.LabelSet.{LabelMap}
 use Rattle.am_universe.proofs.ListLemmas.{IsIn, Contains-from_IsIn}
 use Rattle.am_labels.specs.Matcher.{all_hold}
-use Rattle.am_files.specs.ConfigFile.{RouteTree, matchers_of, receiver_of, Configuration, IsConfig}
-use Rattle.am_files.specs.Path.{route_at, leads_through}
+use Rattle.am_config.specs.ConfigFile.{RouteTree, matchers_of, receiver_of, Configuration, IsConfig}
+use Rattle.am_config.specs.Path.{route_at, leads_through}
 use Rattle.am_eval.specs.World.{World}
 use Rattle.am_eval.specs.Routing.{ends, receiver_at, receivers, MatchesAt, EndsThere}
 use Rattle.am_eval.specs.Question.{Any, Ends, Enters, holds_of}

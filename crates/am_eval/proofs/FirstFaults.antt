@@ -6,8 +6,8 @@ use Rattle.am_universe.specs.declared.fault.Fault.{Fault}
 use Rattle.am_universe.specs.declared.place.Place.{Place}
 use Rattle.am_json.specs.Pointer.{Refusal}
 use Rattle.am_universe.specs.LabelSet.{LabelMap}
-use Rattle.am_records.specs.SilencesFile.{Silence}
-use Rattle.am_files.specs.ConfigFile.{Configuration, FileSaysConfig}
+use Rattle.am_list_files.specs.SilencesFile.{Silence}
+use Rattle.am_config.specs.ConfigFile.{Configuration, FileSaysConfig}
 use Rattle.am_eval.specs.World.{World}
 use Rattle.am_eval.specs.Faults.{Stage, IsFirstFaultOfCall, SaysFewPairs, instant_stage}
 use Rattle.am_eval.specs.Files.{Files, config_of, SaysSilencesIfAny, SaysAlertsIfAny}

@@ -16,10 +16,10 @@ use Rattle.am_universe.proofs.ListLemmas.{IsIn-split, IsIn-unmap, IsIn-map, IsIn
 use Rattle.am_universe.proofs.ListLemmas.{IsStrictlySortedBy-append, IsStrictlySortedBy-map}
 use Rattle.am_universe.proofs.ChoiceLemmas.{same_first, less_first}
 use Rattle.am_labels.specs.Matcher.{all_hold}
-use Rattle.am_files.specs.ConfigFile.{RouteTree, Routes, route, no_routes, next_route, matchers_of}
-use Rattle.am_files.specs.ConfigFile.{children_of}
-use Rattle.am_files.specs.Path.{list_of}
-use Rattle.am_eval.specs.Routing.{Child, tried, ends_tried, or_itself, ends_at, children_seen}
+use Rattle.am_config.specs.ConfigFile.{RouteTree, Routes, route, no_routes, next_route, matchers_of}
+use Rattle.am_config.specs.ConfigFile.{children_of}
+use Rattle.am_config.specs.Path.{list_of}
+use Rattle.am_eval.specs.Routing.{Child, tried, ends_tried, or_own_path, ends_at, children_seen}
 use Rattle.am_eval.specs.Routing.{is_last, EndsThere}
 use Rattle.am_eval.proofs.ChildEnds.{is_last-unmatched}
 
@@ -91,22 +91,22 @@ is_found s i (suc k) (next_route u ts) t rest e none h =
     (IsIn-right (map (λ below. i ∷ below) (ends_at s u))
     (flat_map (λ c. c.ends) (cond (is_last s u) [] later)) (((i + 1) + k) ∷ rest) kept)
 
-among_all : (all : List (List ℕ)) (path : List ℕ) → IsIn all path → IsIn (or_itself all) path
+among_all : (all : List (List ℕ)) (path : List ℕ) → IsIn all path → IsIn (or_own_path all) path
 among_all [] path h = absurd h
 among_all (x ∷ xs) path h = h
 
 where_matched : (b : Bool) (all : List (List ℕ)) (path : List ℕ)
-    → IsIn (cond b (or_itself all) []) path → (b ≡ true) × IsIn (or_itself all) path
+    → IsIn (cond b (or_own_path all) []) path → (b ≡ true) × IsIn (or_own_path all) path
 where_matched true all path h = (refl, h)
 where_matched false all path h = absurd h
 
-itself_or_below : (all : List (List ℕ)) (path : List ℕ) → IsIn (or_itself all) path
+itself_or_below : (all : List (List ℕ)) (path : List ℕ) → IsIn (or_own_path all) path
     → ([] ≡ path) ⊎ IsIn all path
 itself_or_below [] path (inl e) = inl e
 itself_or_below [] path (inr h) = absurd h
 itself_or_below (x ∷ xs) path h = inr h
 
-some_matched : (b : Bool) (all : List (List ℕ)) → b ≡ true → cond b (or_itself all) [] ≢ []
+some_matched : (b : Bool) (all : List (List ℕ)) → b ≡ true → cond b (or_own_path all) [] ≢ []
 some_matched true [] e h = cc
 some_matched true (x ∷ xs) e h = cc
 some_matched false all e h = cc
@@ -156,7 +156,7 @@ none_tried s i (next_route t ts) h =
     let first = ends_nowhere s t h.0 in
     rw (last, first) (none_tried s (i + 1) ts h.1)
 
-none_else : (all : List (List ℕ)) → IsIn (or_itself all) [] → (IsIn all [] → ⊥) → all ≡ []
+none_else : (all : List (List ℕ)) → IsIn (or_own_path all) [] → (IsIn all [] → ⊥) → all ≡ []
 none_else [] h below = refl
 none_else (x ∷ xs) h below = absurd (below h)
 
@@ -256,7 +256,7 @@ unfolding IsStrictlySortedBy
 where_tried true cs h = tt
 where_tried false cs h = h
 
-with_itself : (b : Bool) (all : List (List ℕ)) → Ascend all → Ascend (cond b (or_itself all) [])
+with_itself : (b : Bool) (all : List (List ℕ)) → Ascend all → Ascend (cond b (or_own_path all) [])
 unfolding IsStrictlySortedBy
 with_itself true [] h = (tt, tt)
 with_itself true (x ∷ xs) h = h

@@ -9,8 +9,8 @@ use Rattle.am_universe.specs.LabelSet.{LabelMap, value_of}
 use Rattle.am_universe.specs.Text.{same_text}
 use Rattle.am_universe.proofs.LabelMapLemmas.{flips}
 use Rattle.am_labels.specs.Matcher.{Condition, all_hold, condition_holds}
-use Rattle.am_files.specs.ConfigFile.{Rule}
-use Rattle.am_records.specs.SilencesFile.{Silence}
+use Rattle.am_config.specs.ConfigFile.{Rule}
+use Rattle.am_list_files.specs.SilencesFile.{Silence}
 use Rattle.am_eval.specs.World.{World}
 use Rattle.am_eval.specs.Silencing.{is_active, is_silenced}
 use Rattle.am_eval.specs.Inhibition.{have_equal, inhibits, is_inhibited}

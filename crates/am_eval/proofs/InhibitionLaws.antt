@@ -16,7 +16,7 @@ use Rattle.am_universe.proofs.ListLemmas.{IsIn, IsIn-from_Contains, Contains-fro
 use Rattle.am_universe.proofs.ListLemmas.{IsIn-unmap, IsStrictlySortedBy-map}
 use Rattle.am_universe.proofs.Members.{at_in, in_at}
 use Rattle.am_labels.specs.Matcher.{all_hold}
-use Rattle.am_files.specs.ConfigFile.{Rule}
+use Rattle.am_config.specs.ConfigFile.{Rule}
 use Rattle.am_eval.specs.declared.pair.Pair.{Pair}
 use Rattle.am_eval.specs.World.{World}
 use Rattle.am_eval.specs.Inhibition.{have_equal, is_two_sided, inhibits, is_inhibited, inhibitors}

@@ -16,7 +16,7 @@ use Rattle.am_universe.proofs.ListLemmas.{IsIn, IsIn-from_Contains, Contains-fro
 use Rattle.am_universe.proofs.ListLemmas.{IsIn-unmap, AllByRecursion-each, IsStrictlySortedBy-append}
 use Rattle.am_universe.proofs.ListLemmas.{IsStrictlySortedBy-map}
 use Rattle.am_labels.specs.Matcher.{all_hold}
-use Rattle.am_files.specs.ConfigFile.{Rule}
+use Rattle.am_config.specs.ConfigFile.{Rule}
 use Rattle.am_eval.specs.declared.pair.Pair.{Pair}
 use Rattle.am_eval.specs.Pairs.{pair_of, pairs_of_rule, pairs_of}
 use Rattle.am_labels.proofs.Passing.{passes_from_kept, kept_from_passes}

@@ -10,10 +10,10 @@ use Rattle.am_universe.specs.LabelSet.{LabelMap}
 use Rattle.am_universe.specs.Text.{same_text}
 use Rattle.am_universe.proofs.ListLemmas.{Contains-from_IsIn}
 use Rattle.am_labels.specs.Matcher.{all_hold}
-use Rattle.am_files.specs.ConfigFile.{RouteTree, matchers_of, continues_of, children_of}
-use Rattle.am_files.specs.ConfigFile.{Configuration, receiver_of}
-use Rattle.am_files.specs.Path.{list_of, route_at}
-use Rattle.am_files.specs.RoutePaths.{paths_of}
+use Rattle.am_config.specs.ConfigFile.{RouteTree, matchers_of, continues_of, children_of}
+use Rattle.am_config.specs.ConfigFile.{Configuration, receiver_of}
+use Rattle.am_config.specs.Path.{list_of, route_at}
+use Rattle.am_config.specs.RoutePaths.{paths_of}
 use Rattle.am_eval.specs.World.{World}
 use Rattle.am_eval.specs.Routing.{ends_at, ends, receivers, is_last, EndsThere}
 use Rattle.am_eval.specs.Question.{Ends, Enters, Receiver, holds_of}

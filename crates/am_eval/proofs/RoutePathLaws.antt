@@ -6,11 +6,11 @@ use Rattle.std.specs.Prelude.{slice_get}
 use Rattle.std.proofs.lemmas.Option.{option_and_then_some}
 use Rattle.am_universe.proofs.ListLemmas.{IsIn, IsIn-from_Contains, Contains-from_IsIn, IsIn-left}
 use Rattle.am_universe.proofs.ListLemmas.{IsIn-right, IsIn-split, IsIn-map, IsIn-unmap}
-use Rattle.am_files.specs.ConfigFile.{RouteTree, Routes, route, no_routes, next_route}
-use Rattle.am_files.specs.ConfigFile.{Configuration}
-use Rattle.am_files.specs.Path.{list_of, route_at}
-use Rattle.am_files.specs.RoutePaths.{routes_at, paths_at, paths_of}
-use Rattle.am_files.proofs.RouteLists.{paths_from, paths_next, each_at}
+use Rattle.am_config.specs.ConfigFile.{RouteTree, Routes, route, no_routes, next_route}
+use Rattle.am_config.specs.ConfigFile.{Configuration}
+use Rattle.am_config.specs.Path.{list_of, route_at}
+use Rattle.am_config.specs.RoutePaths.{routes_at, paths_at, paths_of}
+use Rattle.am_config.proofs.RouteLists.{paths_from, paths_next, each_at}
 
 -- ---- A path below the children from a position on goes down to one of them.
 

@@ -5,8 +5,8 @@ use Rattle.std.specs.Prelude.{slice_get, IsTrue, IsFalse, not, ◌&&◌}
 use Rattle.std.specs.List.{AllByRecursion}
 use Rattle.am_universe.specs.LabelSet.{LabelMap}
 use Rattle.am_labels.specs.Matcher.{all_hold}
-use Rattle.am_files.specs.ConfigFile.{RouteTree, matchers_of, children_of, continues_of}
-use Rattle.am_files.specs.Path.{list_of}
+use Rattle.am_config.specs.ConfigFile.{RouteTree, matchers_of, children_of, continues_of}
+use Rattle.am_config.specs.Path.{list_of}
 use Rattle.am_eval.specs.Routing.{ends_at, is_last}
 use Rattle.am_eval.proofs.FlatEnds.{ends_exactly}
 

@@ -17,8 +17,8 @@ use Rattle.am_universe.specs.Text.{same_text}
 use Rattle.am_labels.specs.Matcher.{condition_holds, all_hold}
 use Rattle.am_labels.specs.Space.{Space, all_choices}
 use Rattle.am_labels.proofs.Passing.{any_in, in_any, passes_from_kept, kept_from_passes}
-use Rattle.am_files.specs.Path.{leads_through}
-use Rattle.am_records.specs.SilencesFile.{Silence}
+use Rattle.am_config.specs.Path.{leads_through}
+use Rattle.am_list_files.specs.SilencesFile.{Silence}
 use Rattle.am_eval.specs.Conditions.{literal_holds, some_way_holds, matching}
 use Rattle.am_eval.specs.Routing.{ends, receivers}
 use Rattle.am_eval.specs.World.{World}

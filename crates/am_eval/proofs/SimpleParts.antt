@@ -11,8 +11,8 @@ use Rattle.am_universe.specs.LabelSet.{LabelMap}
 use Rattle.am_universe.specs.Text.{same_text}
 use Rattle.am_universe.proofs.ListLemmas.{IsIn, IsIn-from_Contains, Contains-from_IsIn}
 use Rattle.am_labels.specs.Matcher.{Condition, condition_holds}
-use Rattle.am_files.specs.ConfigFile.{Configuration, RouteTree, Rule, receiver_of}
-use Rattle.am_files.specs.Path.{route_at}
+use Rattle.am_config.specs.ConfigFile.{Configuration, RouteTree, Rule, receiver_of}
+use Rattle.am_config.specs.Path.{route_at}
 use Rattle.am_eval.specs.World.{World}
 use Rattle.am_eval.specs.Routing.{ends, receivers, receiver_at}
 use Rattle.am_eval.specs.Inhibition.{inhibits}

@@ -1,6 +1,6 @@
 -- When the files of a world are accepted, and the order of their faults. (This project's own.)
 use Rattle.std.specs.Prelude.{◌≡◌, ◌≤◌, List, [], ◌∷◌, ◌++◌, length, None}
-use Rattle.am_files.specs.ConfigFile.{FileSaysConfig}
+use Rattle.am_config.specs.ConfigFile.{FileSaysConfig}
 use Rattle.am_eval.specs.declared.limits.TheConstants.{MAX_PAIRS}
 use Rattle.am_eval.specs.World.{World}
 use Rattle.am_eval.specs.Pairs.{pairs_of}

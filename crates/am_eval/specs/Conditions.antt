@@ -6,11 +6,11 @@ use Rattle.std.specs.List.{filter, flat_map, list_all, list_any}
 use Rattle.am_universe.specs.LabelSet.{LabelMap, value_of}
 use Rattle.am_labels.specs.Matcher.{Condition, all_hold}
 use Rattle.am_labels.specs.declared.op.Op.TheVariants as ops
-use Rattle.am_files.specs.ConfigFile.{RouteTree, Configuration, Rule, matchers_of, continues_of}
-use Rattle.am_files.specs.ConfigFile.{receiver_of, children_of}
-use Rattle.am_files.specs.Path.{list_of, route_at}
-use Rattle.am_files.specs.RoutePaths.{paths_at}
-use Rattle.am_records.specs.SilencesFile.{Silence}
+use Rattle.am_config.specs.ConfigFile.{RouteTree, Configuration, Rule, matchers_of, continues_of}
+use Rattle.am_config.specs.ConfigFile.{receiver_of, children_of}
+use Rattle.am_config.specs.Path.{list_of, route_at}
+use Rattle.am_config.specs.RoutePaths.{paths_at}
+use Rattle.am_list_files.specs.SilencesFile.{Silence}
 use Rattle.am_eval.specs.declared.pair.Pair.{Pair}
 use Rattle.am_eval.specs.World.{World}
 use Rattle.am_eval.specs.Silencing.{is_active}

@@ -9,13 +9,13 @@ use Rattle.am_labels.specs.ParsedLabelSet.{WordsSpellSet, SetWordsRefusedFor}
 use Rattle.am_labels.specs.Space.{Space}
 use Rattle.am_json.specs.Pointer.{Refusal, refusal_here}
 use Rattle.am_json.specs.Reading.{refusal_of}
-use Rattle.am_records.specs.UniverseFile.{FileSaysUniverse}
-use Rattle.am_records.specs.UniverseFaults.{UniverseFileRefusedFor}
-use Rattle.am_files.specs.ConfigFile.{Configuration, FileSaysConfig}
-use Rattle.am_files.specs.ConfigFaults.{ConfigFileRefusedFor}
-use Rattle.am_records.specs.SilencesFile.{Silence}
-use Rattle.am_records.specs.SilencesFaults.{SilencesFileRefusedFor}
-use Rattle.am_records.specs.AlertsFaults.{IsFirstFaultOfAlertsFile}
+use Rattle.am_list_files.specs.UniverseFile.{FileSaysUniverse}
+use Rattle.am_list_files.specs.UniverseFaults.{UniverseFileRefusedFor}
+use Rattle.am_config.specs.ConfigFile.{Configuration, FileSaysConfig}
+use Rattle.am_config.specs.ConfigFaults.{ConfigFileRefusedFor}
+use Rattle.am_list_files.specs.SilencesFile.{Silence}
+use Rattle.am_list_files.specs.SilencesFaults.{SilencesFileRefusedFor}
+use Rattle.am_list_files.specs.AlertsFaults.{IsFirstFaultOfAlertsFile}
 use Rattle.am_eval.specs.declared.limits.TheConstants.{MAX_PAIRS}
 use Rattle.am_eval.specs.Pairs.{pairs_of}
 use Rattle.am_eval.specs.Files.{SaysSilencesIfAny, SaysAlertsIfAny}

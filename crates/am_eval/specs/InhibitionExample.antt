@@ -4,7 +4,7 @@ use Rattle.std.specs.FinMap.{from_entries}
 use Rattle.am_universe.specs.LabelSet.{LabelMap}
 use Rattle.am_labels.specs.Matcher.{Condition}
 use Rattle.am_labels.specs.declared.op.Op.TheVariants.{Equal, NotEqual}
-use Rattle.am_files.specs.ConfigFile.{Rule}
+use Rattle.am_config.specs.ConfigFile.{Rule}
 use Rattle.am_eval.specs.RoutingExamples.{worked, severity_critical}
 use Rattle.am_eval.specs.World.{World}
 

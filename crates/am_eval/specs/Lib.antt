@@ -17,4 +17,3 @@ pub mod Faults
 pub mod Promise
 pub mod AcceptedWorld
 pub mod Explanation
-pub mod Words

@@ -3,7 +3,7 @@ use Rattle.std.specs.Prelude.{ℕ, List, map}
 use Rattle.std.specs.List.{flat_map, filter, enumerate_from}
 use Rattle.am_universe.specs.LabelSet.{LabelMap}
 use Rattle.am_labels.specs.Matcher.{all_hold}
-use Rattle.am_files.specs.ConfigFile.{Rule}
+use Rattle.am_config.specs.ConfigFile.{Rule}
 use Rattle.am_eval.specs.declared.pair.Pair.{Pair}
 
 -- The pairs of rules and the firing alerts that they are about: each rule with each alert that its

@@ -6,7 +6,7 @@ use Rattle.am_universe.specs.LabelSet.{LabelMap, label_set_of}
 use Rattle.am_universe.specs.Text.{same_text}
 use Rattle.am_labels.specs.Matcher.{Condition, all_hold}
 use Rattle.am_labels.specs.Space.{Space, is_possible_choice, all_choices}
-use Rattle.am_files.specs.Path.{leads_through}
+use Rattle.am_config.specs.Path.{leads_through}
 use Rattle.am_eval.specs.World.{World}
 use Rattle.am_eval.specs.Routing.{ends, receivers}
 use Rattle.am_eval.specs.Silencing.{is_silenced}

@@ -4,10 +4,10 @@ use Rattle.std.specs.Prelude.{◌≡◌, Option, Some, option_map, IsTrue, IsFal
 use Rattle.std.specs.List.{AllByRecursion, flat_map, filter_map}
 use Rattle.am_universe.specs.LabelSet.{LabelMap}
 use Rattle.am_labels.specs.Matcher.{all_hold}
-use Rattle.am_files.specs.ConfigFile.{RouteTree, Routes, route, no_routes, next_route}
-use Rattle.am_files.specs.ConfigFile.{Configuration, matchers_of, continues_of, receiver_of}
-use Rattle.am_files.specs.ConfigFile.{children_of}
-use Rattle.am_files.specs.Path.{route_at, list_of}
+use Rattle.am_config.specs.ConfigFile.{RouteTree, Routes, route, no_routes, next_route}
+use Rattle.am_config.specs.ConfigFile.{Configuration, matchers_of, continues_of, receiver_of}
+use Rattle.am_config.specs.ConfigFile.{children_of}
+use Rattle.am_config.specs.Path.{route_at, list_of}
 
 -- The children that are tried: in order, up to and including the first that matches and lacks
 -- `continue`. Of each child routing sees whether it matches the alert, whether its siblings behind
@@ -34,9 +34,9 @@ tried (c ∷ cs) = c ∷ (if c.matches && not c.continues then [] else tried cs)
 abbrev pub ends_tried : List Child → List (List ℕ)
 ends_tried cs = flat_map (λ c. c.ends) (tried cs)
 
-abbrev pub or_itself : List (List ℕ) → List (List ℕ)
-or_itself [] = [] ∷ []
-or_itself (path ∷ paths) = path ∷ paths
+abbrev pub or_own_path : List (List ℕ) → List (List ℕ)
+or_own_path [] = [] ∷ []
+or_own_path (path ∷ paths) = path ∷ paths
 
 abbrev pub child_seen : LabelMap → ℕ → RouteTree → List (List ℕ) → Child
 child_seen s i t ends = record {
@@ -49,7 +49,7 @@ abbrev mutual
   pub ends_at : LabelMap → RouteTree → List (List ℕ)
   ends_at s (route settings children) =
       if all_hold s settings.matchers
-      then or_itself (ends_tried (children_seen s 0 children))
+      then or_own_path (ends_tried (children_seen s 0 children))
       else []
 
   -- the children from a position on

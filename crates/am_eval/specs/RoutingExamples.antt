@@ -4,7 +4,7 @@ use Rattle.std.specs.Prelude.{◌≡◌, ℕ, List, [], ◌∷◌, Bool, true, f
 use Rattle.am_universe.specs.LabelSet.{LabelMap, value_of}
 use Rattle.am_labels.specs.Matcher.{Condition}
 use Rattle.am_labels.specs.declared.op.Op.TheVariants.{Equal}
-use Rattle.am_files.specs.ConfigFile.{Configuration, RouteTree, route, routes_of}
+use Rattle.am_config.specs.ConfigFile.{Configuration, RouteTree, route, routes_of}
 
 -- A route, by its receiver, its matchers, whether it continues, and its children.
 abbrev pub node : ℕ → List Condition → Bool → List RouteTree → RouteTree

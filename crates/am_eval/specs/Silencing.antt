@@ -4,7 +4,7 @@ use Rattle.std.specs.Prelude.{if◌then◌else◌, Option, Some, None, IsFalse}
 use Rattle.std.specs.List.{list_any}
 use Rattle.am_universe.specs.LabelSet.{LabelMap}
 use Rattle.am_labels.specs.Matcher.{all_hold}
-use Rattle.am_records.specs.SilencesFile.{Silence}
+use Rattle.am_list_files.specs.SilencesFile.{Silence}
 use Rattle.am_eval.specs.World.{World}
 
 -- A silence is active at an instant: from the one at which it begins on, and up to, and not at, the

@@ -7,12 +7,12 @@ use base.Stored.{Gv, gnil, gnum, gcons}
 use Rattle.am_labels.specs.Matcher.{Condition}
 use Rattle.am_labels.specs.contracts.matchers.Matchers as matchers
 use Rattle.am_universe.specs.LabelSet.{LabelMap}
-use Rattle.am_records.specs.SilencesFile.{Silence}
-use Rattle.am_records.specs.contracts.alert.Alerts as alerts
-use Rattle.am_records.specs.contracts.silence.Silences as silences
-use Rattle.am_files.specs.ConfigFile.{RouteSettings, RouteTree, Routes, Rule, route, no_routes}
-use Rattle.am_files.specs.ConfigFile.{next_route}
-use Rattle.am_files.specs.contracts.rule.Rule as rule
+use Rattle.am_list_files.specs.SilencesFile.{Silence}
+use Rattle.am_list_files.specs.contracts.alert.Alerts as alerts
+use Rattle.am_list_files.specs.contracts.silence.Silences as silences
+use Rattle.am_config.specs.ConfigFile.{RouteSettings, RouteTree, Routes, Rule, route, no_routes}
+use Rattle.am_config.specs.ConfigFile.{next_route}
+use Rattle.am_config.specs.contracts.rule.Rule as rule
 use Rattle.am_eval.specs.World.{World}
 
 -- The parts of a code.

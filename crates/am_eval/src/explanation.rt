@@ -1,17 +1,19 @@
 ghost use Rattle.std.specs.Prelude.{◌≡◌, decimal, IfOk};
 ghost use Rattle.std.specs.List.{flat_map};
-ghost use Rattle.am_labels.specs.Words.{Writes};
-ghost use Rattle.am_files.specs.Words.{config_view};
-ghost use Rattle.am_eval.specs.Words.{ends, silencers, inhibitors};
-ghost use Rattle.am_eval.specs.Words.{receiver_name_at, end_line, silenced_line};
-ghost use Rattle.am_eval.specs.Words.{inhibited_line, explanation_text};
+ghost use Rattle.am_universe.specs.Sink.{Writes};
+ghost use Rattle.am_config.specs.ConfigView.{config_view};
+ghost use Rattle.am_eval.specs.Routing.{ends};
+ghost use Rattle.am_eval.specs.Silencing.{silencers};
+ghost use Rattle.am_eval.specs.Inhibition.{inhibitors};
+ghost use Rattle.am_eval.specs.Explanation.{receiver_name_at, end_line, silenced_line};
+ghost use Rattle.am_eval.specs.Explanation.{inhibited_line, explanation_text};
 
 use crate::inhibition::inhibited_by;
 use crate::routing::ends;
 use crate::silencing::silenced_by;
 use crate::world::World;
-use am_files::{Config, Path};
-use am_labels::{Kind, LabelSet, Sink, put_all, put_str, write_map, write_text};
+use am_config::{Config, Path};
+use am_universe::{Kind, LabelSet, Sink, put_all, put_str, write_map, write_text};
 use std::alloc::{AllocError, Global};
 
 /// Why a label set goes where it goes.

@@ -1,15 +1,15 @@
 //! Inhibition: which alerts are muted while others fire.
 
 ghost use Rattle.std.specs.Prelude.{◌≡◌, Contains, IfOk, IsTrue};
-ghost use Rattle.am_labels.specs.Words.{all_hold};
-ghost use Rattle.am_files.specs.Words.{names_of};
-ghost use Rattle.am_eval.specs.Words.{pairs_of, have_equal, inhibits, pair_inhibits};
-ghost use Rattle.am_eval.specs.Words.{inhibitors};
+ghost use Rattle.am_labels.specs.Matcher.{all_hold};
+ghost use Rattle.am_config.specs.RouteView.{names_of};
+ghost use Rattle.am_eval.specs.Pairs.{pairs_of};
+ghost use Rattle.am_eval.specs.Inhibition.{have_equal, inhibits, pair_inhibits, inhibitors};
 
 use crate::pair::Pair;
 use crate::world::World;
-use am_files::Rule;
-use am_labels::LabelSet;
+use am_config::Rule;
+use am_universe::LabelSet;
 use std::alloc::{AllocError, Global};
 
 /// What inhibits an alert with these labels: the rules and the firing alerts that do so by them, by

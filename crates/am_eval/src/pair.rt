@@ -1,16 +1,18 @@
 //! The firing alerts that inhibition rules are about.
 
 // The module of words stands on this type, so its own words come from where they stand.
-ghost use Rattle.std.specs.Prelude.{◌≡◌, ◌≢◌, ◌<◌, ◌≤◌, ◌++◌, ◌∷◌, [], length, is_some};
-ghost use Rattle.std.specs.Prelude.{IfOk, IfErr, IfSome, OnOk};
+ghost use Rattle.std.specs.Prelude.{◌≡◌, ◌≢◌, ◌<◌, ◌≤◌, ◌++◌, ◌∷◌, [], length, is_some, IfOk};
+ghost use Rattle.std.specs.Prelude.{IfErr, IfSome, OnOk};
 ghost use Rattle.am_universe.specs.declared.kind.Kind.TheVariants as kinds;
-ghost use Rattle.am_labels.specs.Words.{all_hold};
+ghost use Rattle.am_labels.specs.Matcher.{all_hold};
 ghost use Rattle.am_eval.specs.declared.limits.TheConstants.{MAX_PAIRS};
 ghost use Rattle.am_eval.specs.Pairs.{pairs_of, pairs_of_rule};
 
 use crate::limits::MAX_PAIRS;
-use am_files::{Alerts, Rule};
-use am_labels::{Kind, LabelSet, PreparedMatchers};
+use am_config::Rule;
+use am_labels::PreparedMatchers;
+use am_list_files::Alerts;
+use am_universe::{Kind, LabelSet};
 use std::alloc::{AllocError, Global};
 
 /// An inhibition rule and a firing alert that its source side matches, each by its position.

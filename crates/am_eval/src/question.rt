@@ -1,11 +1,11 @@
 //! Questions, as they are kept in memory.
 
 ghost use Rattle.std.specs.Prelude.{◌≡◌, ℕ};
-ghost use Rattle.am_eval.specs.Words.{question_view};
+ghost use Rattle.am_eval.specs.QuestionView.{question_view};
 ghost use Rattle.am_eval.specs.Tree.{Part};
 ghost use Rattle.am_eval.specs.Question as spec;
 
-use am_files::Path;
+use am_config::Path;
 use am_labels::Matchers;
 
 /// A question about a label set, as the labels of an alert.

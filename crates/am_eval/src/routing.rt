@@ -2,15 +2,17 @@
 
 ghost use Rattle.std.specs.Prelude.{◌≡◌, ◌<◌, ◌≤◌, ◌+◌, ◌++◌, length, map, IfOk, OnOk};
 ghost use Rattle.std.specs.List.{filter_map};
-ghost use Rattle.am_labels.specs.Words.{all_hold};
-ghost use Rattle.am_files.specs.declared.limits.TheConstants.{MAX_LEVELS, MAX_ROUTES};
-ghost use Rattle.am_files.specs.Words.{matchers_of, routes_of, route_levels, routes_levels};
-ghost use Rattle.am_files.specs.Words.{route_count, routes_count, config_view, route_view};
-ghost use Rattle.am_eval.specs.Words.{ends, ends_at, children_seen, ends_tried, receivers};
-ghost use Rattle.am_eval.specs.Words.{receiver_at};
+ghost use Rattle.am_labels.specs.Matcher.{all_hold};
+ghost use Rattle.am_config.specs.declared.limits.TheConstants.{MAX_LEVELS, MAX_ROUTES};
+ghost use Rattle.am_config.specs.ConfigFile.{matchers_of, routes_of, route_levels, routes_levels};
+ghost use Rattle.am_config.specs.ConfigFile.{route_count, routes_count};
+ghost use Rattle.am_config.specs.ConfigView.{config_view};
+ghost use Rattle.am_config.specs.RouteView.{route_view};
+ghost use Rattle.am_eval.specs.Routing.{ends, ends_at, children_seen, ends_tried, receivers};
+ghost use Rattle.am_eval.specs.Routing.{receiver_at};
 
-use am_files::{Config, Path, Route};
-use am_labels::LabelSet;
+use am_config::{Config, Path, Route};
+use am_universe::LabelSet;
 use std::alloc::{AllocError, Global};
 
 /// The routes that handle an alert with these labels, by their paths, in order.

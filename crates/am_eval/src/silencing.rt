@@ -1,11 +1,11 @@
 //! Silencing: which silences hide an alert.
 
 ghost use Rattle.std.specs.Prelude.{◌≡◌, IfOk};
-ghost use Rattle.am_eval.specs.Words.{hides, silencers};
+ghost use Rattle.am_eval.specs.Silencing.{hides, silencers};
 
 use crate::world::World;
-use am_files::Silence;
-use am_labels::LabelSet;
+use am_list_files::Silence;
+use am_universe::LabelSet;
 use std::alloc::{AllocError, Global};
 
 /// The silences that hide an alert with these labels, by their positions in the file, in order. An

@@ -1,20 +1,22 @@
 //! What questions are asked about: a configuration, silences, firing alerts and an instant.
 
 // The module of words stands on this type, so its own words come from where they stand.
-ghost use Rattle.std.specs.Prelude.{◌≡◌, ◌<◌, ◌≤◌, length, option_map, slice_get, Some};
-ghost use Rattle.std.specs.Prelude.{IfOk, IfErr};
+ghost use Rattle.std.specs.Prelude.{◌≡◌, ◌<◌, ◌≤◌, length, option_map, slice_get, Some, IfOk};
+ghost use Rattle.std.specs.Prelude.{IfErr};
 ghost use Rattle.am_universe.specs.declared.kind.Kind.TheVariants as kinds;
 ghost use Rattle.am_universe.specs.declared.place.Place.TheVariants as places;
-ghost use Rattle.am_json.specs.Words.{IsRefusalAt, refusal_here};
-ghost use Rattle.am_files.specs.Words.{config_view};
+ghost use Rattle.am_json.specs.Reading.{IsRefusalAt};
+ghost use Rattle.am_json.specs.Pointer.{refusal_here};
+ghost use Rattle.am_config.specs.ConfigView.{config_view};
 ghost use Rattle.am_eval.specs.declared.limits.TheConstants.{MAX_PAIRS};
 ghost use Rattle.am_eval.specs.Silencing.{is_active, is_over};
 ghost use Rattle.am_eval.specs.Pairs.{pairs_of};
 
 use crate::limits::MAX_PAIRS;
 use crate::pair::{Pair, pairs_of};
-use am_files::{Alerts, Config, Silence, Silences};
-use am_labels::{Fault, Kind, Place};
+use am_config::Config;
+use am_list_files::{Alerts, Silence, Silences};
+use am_universe::{Fault, Kind, Place};
 use jiff::Timestamp;
 use std::alloc::Global;
 use std::marker::Model;
@@ -32,7 +34,7 @@ pub struct World {
 
 impl Model for World {
     ghost use Rattle.std.specs.Prelude.{◌≡◌, ◌≤◌, length, option_map};
-    ghost use Rattle.am_files.specs.Words.{config_view};
+    ghost use Rattle.am_config.specs.ConfigView.{config_view};
     ghost use Rattle.am_eval.specs.declared.limits.TheConstants.{MAX_PAIRS};
     ghost use Rattle.am_eval.specs.Pairs.{pairs_of};
     ghost use Rattle.am_eval.specs.WorldCode.{coded_world};

@@ -1,19 +1,22 @@
 ghost use Rattle.std.specs.Prelude.{◌≡◌, None, map, option_map, option_copied, IfOk, IfErr};
 ghost use Rattle.am_universe.specs.declared.place.Place.TheVariants as places;
-ghost use Rattle.am_labels.specs.Words.{WordsSpellSet};
-ghost use Rattle.am_json.specs.Words.{IsRefusalAt};
-ghost use Rattle.am_files.specs.Words.{config_view};
-ghost use Rattle.am_files.specs.ConfigFile.{FileSaysConfig};
-ghost use Rattle.am_eval.specs.Words.{AcceptsFiles, AcceptsWorld, file_stages, timeless_stages};
-ghost use Rattle.am_eval.specs.Words.{world_stages, IsFirstFault, SaysSilencesIfAny, config_of};
-ghost use Rattle.am_eval.specs.Words.{SilencesRefusedFor, SaysAlertsIfAny, AlertsRefusedFor};
-ghost use Rattle.am_eval.specs.Words.{asked_instant, instant_fault, InstantRefusedFor};
-ghost use Rattle.am_eval.specs.Words.{SetStageRefusedFor};
+ghost use Rattle.am_labels.specs.ParsedLabelSet.{WordsSpellSet};
+ghost use Rattle.am_json.specs.Reading.{IsRefusalAt};
+ghost use Rattle.am_config.specs.ConfigView.{config_view};
+ghost use Rattle.am_config.specs.ConfigFile.{FileSaysConfig};
+ghost use Rattle.am_eval.specs.AcceptedWorld.{AcceptsFiles, AcceptsWorld, file_stages};
+ghost use Rattle.am_eval.specs.AcceptedWorld.{timeless_stages, world_stages};
+ghost use Rattle.am_eval.specs.Faults.{IsFirstFault, SilencesRefusedFor, AlertsRefusedFor};
+ghost use Rattle.am_eval.specs.Faults.{InstantRefusedFor, SetStageRefusedFor};
+ghost use Rattle.am_eval.specs.Files.{SaysSilencesIfAny, config_of, SaysAlertsIfAny};
+ghost use Rattle.am_eval.specs.AskedInstant.{asked_instant, instant_fault};
 
 use crate::files::Files;
 use crate::world::World;
-use am_files::{Alerts, Config, Silences, parse_instant, read_alerts, read_config, read_silences};
-use am_labels::{Fault, Kind, LabelSet, Place, parse_set_words};
+use am_config::{Config, read_config};
+use am_labels::parse_set_words;
+use am_list_files::{Alerts, Silences, parse_instant, read_alerts, read_silences};
+use am_universe::{Fault, Kind, LabelSet, Place};
 use jiff::Timestamp;
 use std::alloc::Global;
 

@@ -8,7 +8,7 @@ use Rattle.am_universe.proofs.ListLemmas.{IsIn, IsIn-from_Contains, AllByRecursi
 use Rattle.am_universe.proofs.ListLemmas.{AllByRecursion-each, Contains-from_IsIn}
 use Rattle.am_labels.specs.Matcher.{Condition}
 use Rattle.am_labels.specs.Space.{Space}
-use Rattle.am_files.specs.ConfigFile.{Configuration}
+use Rattle.am_config.specs.ConfigFile.{Configuration}
 use Rattle.am_eval.specs.Question.{Question}
 use Rattle.am_eval.specs.World.{World}
 use Rattle.am_classes.specs.declared.alphabet.Alphabet.{Alphabet}

@@ -19,7 +19,7 @@ use Rattle.serde_json.specs.Read.{number_of, of_json, of_items, of_members, max_
 use Rattle.am_universe.specs.Universe.{Label, Values}
 use Rattle.am_labels.specs.Space.{Space}
 use Rattle.am_json.specs.Json.{json_of, is_null, non_null, field, item_list, items_of}
-use Rattle.am_records.specs.UniverseFile.{SaysValue, SaysLabel, FileSaysUniverse}
+use Rattle.am_list_files.specs.UniverseFile.{SaysValue, SaysLabel, FileSaysUniverse}
 use Rattle.am_classes.specs.declared.alphabet.Alphabet.TheVariants.{Unicode}
 use Rattle.am_complete.specs.Covering.{HasTextsOver}
 use Rattle.am_every_alert.proofs.OptionParts.{mapped, then_some}

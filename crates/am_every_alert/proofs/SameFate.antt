@@ -8,17 +8,17 @@ use Rattle.am_universe.specs.LabelSet.{LabelMap}
 use Rattle.am_universe.proofs.ListLemmas.{AllByRecursion-each, AllByRecursion-at}
 use Rattle.am_labels.specs.Matcher.{Condition, condition_holds, all_hold}
 use Rattle.am_labels.specs.Space.{is_possible}
-use Rattle.am_files.specs.ConfigFile.{RouteTree, Routes, route, no_routes, next_route, matchers_of}
-use Rattle.am_files.specs.ConfigFile.{continues_of, Configuration, Rule}
+use Rattle.am_config.specs.ConfigFile.{RouteTree, Routes, route, no_routes, next_route, matchers_of}
+use Rattle.am_config.specs.ConfigFile.{continues_of, Configuration, Rule}
 use Rattle.am_eval.specs.Inhibition.{have_equal, inhibits, is_inhibited}
-use Rattle.am_eval.specs.Routing.{ends_tried, or_itself, ends_at, children_seen, ends, receivers}
+use Rattle.am_eval.specs.Routing.{ends_tried, or_own_path, ends_at, children_seen, ends, receivers}
 use Rattle.am_eval.specs.Routing.{receiver_at}
 use Rattle.am_eval.specs.Silencing.{is_active, hides, is_silenced}
 use Rattle.am_eval.specs.World.{World}
 use Rattle.am_eval.specs.Tree.{Part, Not, And, Or}
 use Rattle.am_eval.specs.Question.{Question, Simple, Any, Silenced, Inhibited, Receiver, Ends}
 use Rattle.am_eval.specs.Question.{Enters, Braces, holds_of, satisfies}
-use Rattle.am_files.specs.Path.{leads_through}
+use Rattle.am_config.specs.Path.{leads_through}
 use Rattle.am_universe.specs.Text.{same_text}
 use Rattle.am_asked.specs.Asked.{simple_conditions, question_conditions}
 use Rattle.am_eval.proofs.HidingConditions.{same_values}
@@ -67,7 +67,7 @@ module _ (s t : LabelMap) where
         let own = own_alike (route settings children) h in
         let below = children_alike children 0
         (rest_met settings.matchers (routes_conditions children) h) in
-        λ i. cond (own i) (or_itself (ends_tried (below i))) []
+        λ i. cond (own i) (or_own_path (ends_tried (below i))) []
 
     children_alike : (rs : Routes) (position : ℕ) → MeetsTheSame (routes_conditions rs) s t
         → children_seen s position rs ≡ children_seen t position rs

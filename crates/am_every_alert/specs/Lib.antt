@@ -1,4 +1,3 @@
 pub mod EveryAlert
 pub mod Deciding
 pub mod CompleteExample
-pub mod Words

@@ -1,41 +1,11 @@
-//! The configuration file of the program, read from its bytes.
+//! The input files: the readers of all four of them, and what they answer, under one name.
 //!
-//! [`read_config`] reads a configuration file, which is an Alertmanager configuration as JSON. It
-//! answers what the file says, or its first fault: why the file is refused and, by a JSON Pointer
-//! (RFC 6901), at which part. docs/FORMATS.md has the form of the file, and the order of its
-//! faults.
-//!
-//! The public names of the crate `am_records` that callers need are given again here: the readers
-//! of the other input files, and what they answer. So is [`Space`], what a universe file says.
+//! Everything here is defined elsewhere: universe files, silences, alerts and instants in
+//! `am_list_files`, configurations in `am_config`, and what a universe file says in `am_labels`.
 #![tactic(auto)]
 
-// How much there may be.
-pub mod limits;
-
-// The layers below: universe files and what they say, instants, silences and alerts.
+pub use am_config::{Config, Path, Route, RouteList, Rule, read_config};
 pub use am_labels::Space;
-pub use am_records::{
+pub use am_list_files::{
     Alerts, Silence, Silences, parse_instant, read_alerts, read_silences, read_universe,
 };
-
-// A configuration: its routes, the paths that lead to them, and its inhibition rules.
-mod config;
-mod path;
-mod route;
-mod routes;
-mod rule;
-
-pub use config::Config;
-pub use path::Path;
-pub use route::Route;
-pub use routes::RouteList;
-pub use rule::Rule;
-
-// The configuration file.
-mod config_file;
-mod route_matchers;
-
-pub use config_file::read_config;
-
-// What holds of the definitions by themselves.
-pub mod laws;

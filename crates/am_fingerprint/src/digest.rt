@@ -1,6 +1,6 @@
 ghost use Rattle.std.specs.Prelude.{◌≡◌, ◌++◌, ℕ, List, take, option_copied};
 ghost use Rattle.sha2.specs.Hashers.{Holds256};
-ghost use Rattle.am_fingerprint.specs.Words.{fingerprint_of, part_bytes, parts_of};
+ghost use Rattle.am_fingerprint.specs.Fingerprint.{fingerprint_of, part_bytes, parts_of};
 
 use crate::limits::FINGERPRINT_BYTES;
 use crate::parts::Parts;

@@ -1,8 +1,8 @@
 //! Facts about the definitions alone: each is the contract of a function with an empty body.
-ghost use Rattle.std.specs.Prelude.{slice_index, ◌<◌};
-ghost use Rattle.std.specs.Prelude.{◌≡◌, ℕ, List, [], ◌∷◌, ◌++◌, length, Option, Some, None, codes};
+ghost use Rattle.std.specs.Prelude.{slice_index, ◌<◌, ◌≡◌, ℕ, List, [], ◌∷◌, ◌++◌, length, Option};
+ghost use Rattle.std.specs.Prelude.{Some, None, codes};
 ghost use Rattle.am_fingerprint.specs.declared.limits.TheConstants.{FINGERPRINT_BYTES};
-ghost use Rattle.am_fingerprint.specs.Words.{AreParts, joined_parts, fingerprint_of};
+ghost use Rattle.am_fingerprint.specs.Fingerprint.{AreParts, joined_parts, fingerprint_of};
 
 /// How long a fingerprint is, and that it is one of bytes.
 pub fn fingerprints_have_a_length()

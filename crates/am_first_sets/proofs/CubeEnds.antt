@@ -1,32 +1,41 @@
 -- The cubes of routes, at a whole choice, and the way to a route, step by step.
-use Rattle.std.proofs.Common.{◌≡◌, ℕ, zero, suc, Bool, true, false, not, ◌&&◌, ◌||◌, cond, List, [], ◌∷◌}
-use Rattle.std.proofs.Common.{◌+◌, ◌<◌, drop, drop-cons, add-one, get_or}
-use Rattle.std.proofs.Common.{◌++◌, ◌≤◌, map, take, length, Bor, Option, Some, None, refl, sym, ap, ◌∙◌, subst, arith}
+use Rattle.std.proofs.Common.{◌≡◌, ℕ, zero, suc, Bool, true, false, not, ◌&&◌, ◌||◌, cond, List, []}
+use Rattle.std.proofs.Common.{◌∷◌, ◌+◌, ◌<◌, drop, drop-cons, add-one, get_or, ◌++◌, ◌≤◌, map, take}
+use Rattle.std.proofs.Common.{length, Bor, Option, Some, None, refl, sym, ap, ◌∙◌, subst, arith}
 use Rattle.std.specs.Prelude.{slice_get}
 use Rattle.std.specs.List.{list_all}
 use Rattle.std.proofs.lemmas.Bool.{and_right}
 use Rattle.std.proofs.lemmas.List.Folds.{list_all-append}
 use Rattle.std.proofs.lemmas.Option.{same_Some, slice_get_past}
-use Rattle.am_labels.specs.Words.{Label, Condition, sizes, IsWhole, label_set_of}
-use Rattle.am_files.specs.ConfigFile.{Configuration, RouteTree, Routes, route, no_routes, next_route, routes_of}
-use Rattle.am_files.specs.ConfigFile.{matchers_of, continues_of, children_of}
-use Rattle.am_files.specs.Path.{list_of}
-use Rattle.am_files.specs.RouteView.{route_view}
-use Rattle.am_files.specs.declared.route.Route.{Route}
+use Rattle.am_universe.specs.Universe.{Label, sizes}
+use Rattle.am_labels.specs.Matcher.{Condition}
+use Rattle.am_universe.specs.Choice.{IsWhole}
+use Rattle.am_universe.specs.LabelSet.{label_set_of}
+use Rattle.am_config.specs.ConfigFile.{Configuration, RouteTree, Routes, route, no_routes}
+use Rattle.am_config.specs.ConfigFile.{next_route, routes_of, matchers_of, continues_of}
+use Rattle.am_config.specs.ConfigFile.{children_of}
+use Rattle.am_config.specs.Path.{list_of}
+use Rattle.am_config.specs.RouteView.{route_view}
+use Rattle.am_config.specs.declared.route.Route.{Route}
 use Rattle.std.proofs.lemmas.List.{map_more}
 use Rattle.am_search.specs.declared.verdict.Verdict.TheVariants.{Yes, No}
-use Rattle.am_masks.specs.Words.{MaskedLabels, verdict_at, verdict_of_list, matches_at, is_yes, is_no}
-use Rattle.am_masks.proofs.VerdictLemmas.{list_says}
+use Rattle.am_judged_lists.specs.Cube.{MaskedLabels, verdict_at}
+use Rattle.am_judged_lists.specs.Verdicts.{verdict_of_list, matches_at}
+use Rattle.am_search.specs.Judge.{is_yes, is_no}
+use Rattle.am_judged_lists.proofs.VerdictLemmas.{list_says}
 use Rattle.am_eval.specs.Question as question
-use Rattle.am_eval.specs.Words.{World, Literal, literal_holds, some_way_holds, matching, not_matching}
-use Rattle.am_eval.specs.Conditions.{no_child_of, stopped_by_none, ways_into, ways_below, ways_to_end}
+use Rattle.am_eval.specs.World.{World}
+use Rattle.am_eval.specs.Conditions.{Literal, literal_holds, some_way_holds, matching, not_matching}
+use Rattle.am_eval.specs.Conditions.{no_child_of, stopped_by_none, ways_into, ways_below}
+use Rattle.am_eval.specs.Conditions.{ways_to_end}
 use Rattle.am_eval.proofs.ConditionLaws as conditions
 use Rattle.am_eval.proofs.SomeWay.{some_way-literal, some_way-front}
 use Rattle.am_first_sets.specs.declared.route_cubes.RouteCubes.{RouteCubes}
 use Rattle.am_first_sets.specs.declared.route_cubes.RouteCubes.TheViews.{out-RouteCubes}
 use Rattle.am_first_sets.specs.ChoiceEnds.{is_end_at}
 use Rattle.am_first_sets.specs.Reasons.{may_match, must_match}
-use Rattle.am_first_sets.specs.RouteCubes.{AreCubesOf, AreCubesOfEach, all_may_match, none_before, none_stops}
+use Rattle.am_first_sets.specs.RouteCubes.{AreCubesOf, AreCubesOfEach, all_may_match, none_before}
+use Rattle.am_first_sets.specs.RouteCubes.{none_stops}
 use Rattle.am_first_sets.proofs.ImpossibleCubes.{certain_where}
 
 -- ---- One route more.

@@ -1,10 +1,10 @@
 -- The first choice of a space, and the first that passes a test.
-use Rattle.std.proofs.Common.{◌≡◌, ◌↔◌, ℕ, List, [], ◌∷◌, Bool, true, false, ◌&&◌, Option, Some, None}
-use Rattle.std.proofs.Common.{IfSome, slice_get, refl, sym, ap, ◌∙◌, inl, inr}
+use Rattle.std.proofs.Common.{◌≡◌, ◌↔◌, ℕ, List, [], ◌∷◌, Bool, true, false, ◌&&◌, Option, Some}
+use Rattle.std.proofs.Common.{None, IfSome, slice_get, refl, sym, ap, ◌∙◌, inl, inr}
 use Rattle.std.specs.List.{find, filter}
 use Rattle.std.proofs.lemmas.Bool.{cases_Bool}
 use Rattle.am_universe.proofs.ListLemmas.{IsIn, Contains-from_IsIn}
-use Rattle.am_labels.specs.Words.{Space, all_choices, IsChoiceOf}
+use Rattle.am_labels.specs.Space.{Space, all_choices, IsChoiceOf}
 use Rattle.am_labels.proofs.SpaceLaws.{space_choices}
 
 -- what is found among those that a filter keeps is the first that passes both tests

@@ -4,11 +4,16 @@ use Rattle.std.proofs.Common.{◌≡◌, ℕ, Bool, true, false, not, cond, List
 use Rattle.std.specs.Prelude.{IsTrue}
 use Rattle.std.specs.List.{list_any}
 use Rattle.am_universe.proofs.UniverseLemmas.{list_any-map}
-use Rattle.am_labels.specs.Words.{Label, Space, sizes, admits, IsWhole, label_set_of, Condition}
-use Rattle.am_labels.specs.Words.{all_hold}
+use Rattle.am_universe.specs.Universe.{Label, sizes}
+use Rattle.am_labels.specs.Space.{Space}
+use Rattle.am_universe.specs.Choice.{admits, IsWhole}
+use Rattle.am_universe.specs.LabelSet.{label_set_of}
+use Rattle.am_labels.specs.Matcher.{Condition, all_hold}
 use Rattle.am_search.specs.declared.verdict.Verdict.TheVariants.{Yes, No}
-use Rattle.am_masks.specs.Words.{MaskedLabels, is_yes, verdict_at, verdict_of_list}
-use Rattle.am_masks.proofs.VerdictLemmas.{list_says}
+use Rattle.am_judged_lists.specs.Cube.{MaskedLabels, verdict_at}
+use Rattle.am_search.specs.Judge.{is_yes}
+use Rattle.am_judged_lists.specs.Verdicts.{verdict_of_list}
+use Rattle.am_judged_lists.proofs.VerdictLemmas.{list_says}
 use Rattle.am_first_sets.specs.ImpossibleCubes.{KnowsPossible}
 
 yes_of_truth : (b : Bool) → is_yes (cond b Yes No) ≡ b

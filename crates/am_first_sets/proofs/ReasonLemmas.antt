@@ -2,7 +2,7 @@
 use Rattle.std.proofs.Common.{◌≡◌, ℕ, Bool, true, false, List, Option, Some, None, IfSome, arith}
 use Rattle.am_universe.specs.Choice.{admits}
 use Rattle.am_search.specs.declared.labels.Labels.{Labels}
-use Rattle.am_search.specs.Words.{IsConflict}
+use Rattle.am_search.specs.Conflict.{IsConflict}
 use Rattle.am_search.proofs.Odometer.{admits_at_most}
 use Rattle.am_first_sets.specs.Reasons.{IsReasonAgainst}
 

@@ -1,9 +1,11 @@
 -- Where the label set of a choice ends.
 use Rattle.std.specs.Prelude.{ℕ, List, Bool}
 use Rattle.std.specs.List.{list_any}
-use Rattle.am_labels.specs.Words.{Label, label_set_of, same_text}
-use Rattle.am_files.specs.Words.{Configuration}
-use Rattle.am_eval.specs.Words.{ends}
+use Rattle.am_universe.specs.Universe.{Label}
+use Rattle.am_universe.specs.LabelSet.{label_set_of}
+use Rattle.am_universe.specs.Text.{same_text}
+use Rattle.am_config.specs.ConfigFile.{Configuration}
+use Rattle.am_eval.specs.Routing.{ends}
 
 -- The label set of a choice ends at the route at a path.
 -- Source: Alertmanager configuration reference 0.25, "<route>".

@@ -1,8 +1,10 @@
 -- The lists that no label set of a space matches, as cubes.
 use Rattle.std.specs.Prelude.{◌≡◌, ℕ, List, Bool, not}
 use Rattle.std.specs.List.{list_any}
-use Rattle.am_labels.specs.Words.{Space, sizes, IsWhole, is_possible_choice}
-use Rattle.am_masks.specs.Words.{MaskedLabels}
+use Rattle.am_labels.specs.Space.{Space, is_possible_choice}
+use Rattle.am_universe.specs.Universe.{sizes}
+use Rattle.am_universe.specs.Choice.{IsWhole}
+use Rattle.am_judged_lists.specs.Cube.{MaskedLabels}
 use Rattle.am_first_sets.specs.Reasons.{must_match}
 
 -- A choice is possible, by the cubes: none of them is certain there.

@@ -5,4 +5,3 @@ pub mod PossibleRefuter
 pub mod RouteCubes
 pub mod RouteRefuter
 pub mod RouteEnds
-pub mod Words

@@ -1,7 +1,8 @@
 -- The parts of what refutes prefixes for a space.
 use Rattle.std.specs.Prelude.{ℕ, List, Bool}
-use Rattle.am_labels.specs.Words.{Space, sizes}
-use Rattle.am_search.specs.Words.{AreSizes}
+use Rattle.am_labels.specs.Space.{Space}
+use Rattle.am_universe.specs.Universe.{sizes}
+use Rattle.am_search.specs.Judge.{AreSizes}
 use Rattle.am_first_sets.specs.declared.possible_choices.PossibleRefuter.{PossibleRefuter}
 use Rattle.am_first_sets.specs.ImpossibleCubes.{is_possible_by}
 

@@ -1,8 +1,10 @@
 -- What cubes say at a choice, and why tests fail.
 use Rattle.std.specs.Prelude.{◌≡◌, ℕ, ◌<◌, ◌≤◌, List, length, Bool, false, not, IsTrue}
 use Rattle.am_search.specs.declared.labels.Labels.{Labels}
-use Rattle.am_search.specs.Words.{has_label, AgreesAt, is_yes, is_no}
-use Rattle.am_masks.specs.Words.{MaskedLabels, verdict_at}
+use Rattle.am_search.specs.Labels.{has_label}
+use Rattle.am_search.specs.Conflict.{AgreesAt}
+use Rattle.am_search.specs.Judge.{is_yes, is_no}
+use Rattle.am_judged_lists.specs.Cube.{MaskedLabels, verdict_at}
 
 -- At a choice a cube is not excluded, and it is certain.
 abbrev pub may_match : List ℕ → MaskedLabels → Bool

@@ -1,13 +1,15 @@
 -- The routes of a configuration as a tree of cubes, and the way to end at one of them.
-use Rattle.std.specs.Prelude.{◌≡◌, ℕ, List, [], ◌∷◌, Bool, true, false, not, ◌&&◌, ◌||◌}
-use Rattle.std.specs.Prelude.{Option, Some, None, ⊤}
+use Rattle.std.specs.Prelude.{◌≡◌, ℕ, List, [], ◌∷◌, Bool, true, false, not, ◌&&◌, ◌||◌, Option}
+use Rattle.std.specs.Prelude.{Some, None, ⊤}
 use Rattle.std.specs.Borrow.{Bor}
 use Rattle.std.specs.List.{list_all}
 use Rattle.std.proofs.Props.{props}
-use Rattle.am_labels.specs.Words.{Label, sizes, IsWhole}
-use Rattle.am_files.specs.ConfigFile.{Configuration, RouteTree, Routes}
-use Rattle.am_files.specs.ConfigFile.{route, no_routes, next_route}
-use Rattle.am_masks.specs.Words.{MaskedLabels, verdict_at, verdict_of_list}
+use Rattle.am_universe.specs.Universe.{Label, sizes}
+use Rattle.am_universe.specs.Choice.{IsWhole}
+use Rattle.am_config.specs.ConfigFile.{Configuration, RouteTree, Routes, route, no_routes}
+use Rattle.am_config.specs.ConfigFile.{next_route}
+use Rattle.am_judged_lists.specs.Cube.{MaskedLabels, verdict_at}
+use Rattle.am_judged_lists.specs.Verdicts.{verdict_of_list}
 use Rattle.am_first_sets.specs.declared.route_cubes.RouteCubes.{RouteCubes}
 use Rattle.am_first_sets.specs.declared.route_cubes.RouteCubes.TheViews.{out-RouteCubes}
 use Rattle.am_first_sets.specs.declared.route_cubes.RouteWay.{RouteWay}

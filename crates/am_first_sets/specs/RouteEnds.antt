@@ -1,6 +1,7 @@
 -- The parts of `RouteEnds`, and what it is asked.
-use Rattle.am_labels.specs.Words.{Space}
-use Rattle.am_files.specs.Words.{Configuration, config_view}
+use Rattle.am_labels.specs.Space.{Space}
+use Rattle.am_config.specs.ConfigFile.{Configuration}
+use Rattle.am_config.specs.ConfigView.{config_view}
 use Rattle.am_first_sets.specs.declared.route_ends.RouteEnds.{RouteEnds}
 
 -- The space and the configuration.

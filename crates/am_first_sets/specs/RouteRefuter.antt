@@ -1,6 +1,6 @@
 -- The parts of what refutes prefixes for the cubes of a way.
 use Rattle.std.specs.Prelude.{ℕ, List, Bool, ◌&&◌}
-use Rattle.am_search.specs.Words.{AreSizes}
+use Rattle.am_search.specs.Judge.{AreSizes}
 use Rattle.am_first_sets.specs.declared.route_ends.RouteRefuter.{RouteRefuter}
 use Rattle.am_first_sets.specs.PossibleRefuter.{possible_sizes, possible_truth, possible_are_sizes}
 use Rattle.am_first_sets.specs.RouteCubes.{goes}

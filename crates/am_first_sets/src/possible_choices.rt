@@ -2,14 +2,16 @@
 
 ghost use Rattle.std.specs.Prelude.{◌≡◌, ◌↔◌, [], None, IfOk, IfSome, IfNone, slice_get, true};
 ghost use Rattle.std.proofs.Props.{props};
-ghost use Rattle.am_labels.specs.Words.{sizes, all_choices, IsChoiceOf};
-ghost use Rattle.am_search.specs.Words.{AreSizes};
+ghost use Rattle.am_universe.specs.Universe.{sizes};
+ghost use Rattle.am_labels.specs.Space.{all_choices, IsChoiceOf};
+ghost use Rattle.am_search.specs.Judge.{AreSizes};
 ghost use Rattle.am_first_sets.specs.ImpossibleCubes.{is_possible_by, KnowsPossible};
 ghost use Rattle.am_first_sets.specs.Reasons.{IsReasonAgainst};
 
-use am_labels::{Choice, Space};
-use am_masks::{Cube, impossible_cubes};
+use am_judged_lists::{Cube, impossible_cubes};
+use am_labels::Space;
 use am_search::{Labels, Refuter, first_by_jumps};
+use am_universe::Choice;
 use am_universe::limits::MAX_LABELS;
 use std::alloc::{AllocError, Global};
 

@@ -1,17 +1,18 @@
 //! The matchers of routes as cubes, in a tree of the same shape.
 
-ghost use Rattle.std.specs.Prelude.{◌≡◌, ℕ, List, map, IfOk, IfSome, IfNone, true};
-ghost use Rattle.std.specs.Prelude.{IsTrue};
-ghost use Rattle.am_labels.specs.Words.{sizes, admits};
-ghost use Rattle.am_files.specs.Words.{route_view, routes_of};
+ghost use Rattle.std.specs.Prelude.{◌≡◌, ℕ, List, map, IfOk, IfSome, IfNone, true, IsTrue};
+ghost use Rattle.am_universe.specs.Universe.{sizes};
+ghost use Rattle.am_universe.specs.Choice.{admits};
+ghost use Rattle.am_config.specs.RouteView.{route_view};
+ghost use Rattle.am_config.specs.ConfigFile.{routes_of};
 ghost use Rattle.am_first_sets.specs.Reasons.{IsReasonAgainst};
 ghost use Rattle.am_first_sets.specs.RouteCubes.{AreCubesOf, AreCubesOfEach, IsWayToEnd};
 ghost use Rattle.am_first_sets.specs.RouteCubes.{all_may_match, none_stops, nothing_stops};
 
-use am_files::{Path, Route};
-use am_labels::{Choice, Universe};
-use am_masks::Cube;
+use am_config::{Path, Route};
+use am_judged_lists::Cube;
 use am_search::Labels;
+use am_universe::{Choice, Universe};
 use std::alloc::{AllocError, Global};
 
 /// The matchers of a route as a cube, with its receiver and whether it has `continue`; and the same

@@ -3,16 +3,17 @@
 ghost use Rattle.std.specs.Prelude.{◌≡◌, IfOk, IfSome};
 ghost use Rattle.std.specs.List.{find};
 ghost use Rattle.std.proofs.Props.{props};
-ghost use Rattle.am_labels.specs.Words.{all_choices, IsChoiceOf};
-ghost use Rattle.am_files.specs.Words.{config_view};
+ghost use Rattle.am_labels.specs.Space.{all_choices, IsChoiceOf};
+ghost use Rattle.am_config.specs.ConfigView.{config_view};
 ghost use Rattle.am_first_sets.specs.ChoiceEnds.{is_end_at};
 ghost use Rattle.am_first_sets.specs.RouteCubes.{AreCubesOf-prop, KnowsRoutes};
 
 use crate::possible_choices::PossibleRefuter;
 use crate::route_cubes::{RouteCubes, RouteWay};
-use am_files::{Config, Path};
-use am_labels::{Choice, Space};
+use am_config::{Config, Path};
+use am_labels::Space;
 use am_search::{Labels, Refuter, first_by_jumps};
+use am_universe::Choice;
 use std::alloc::{AllocError, Global};
 
 /// The routes of a configuration, over a space: each may be asked for the first label set of the

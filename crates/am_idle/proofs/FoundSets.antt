@@ -1,17 +1,21 @@
 -- What is found, or that nothing is, says whether some label set of a space matches a list, or
 -- whether some does not.
-use Rattle.std.proofs.Common.{◌≡◌, ℕ, List, [], ◌∷◌, Bool, true, false, not, cond, Option, Some, None}
-use Rattle.std.proofs.Common.{refl, sym, ap, ◌∙◌, inl, inr, IfSome}
+use Rattle.std.proofs.Common.{◌≡◌, ℕ, List, [], ◌∷◌, Bool, true, false, not, cond, Option, Some}
+use Rattle.std.proofs.Common.{None, refl, sym, ap, ◌∙◌, inl, inr, IfSome}
 use Rattle.std.specs.Prelude.{◌||◌, is_some}
 use Rattle.std.specs.List.{find}
 use Rattle.std.proofs.lemmas.Bool.{cases_Bool, and_parts}
 use Rattle.am_universe.proofs.ListLemmas.{IsIn, IsIn-from_Contains}
-use Rattle.am_labels.specs.Words.{Space, sizes, IsWhole, label_set_of, LabelMap, all_hold}
-use Rattle.am_labels.specs.Words.{Condition, all_choices, IsChoiceOf}
+use Rattle.am_labels.specs.Space.{Space, all_choices, IsChoiceOf}
+use Rattle.am_universe.specs.Universe.{sizes}
+use Rattle.am_universe.specs.Choice.{IsWhole}
+use Rattle.am_universe.specs.LabelSet.{label_set_of, LabelMap}
+use Rattle.am_labels.specs.Matcher.{all_hold, Condition}
 use Rattle.am_labels.proofs.SpaceLaws.{space_choices}
 use Rattle.am_search.specs.declared.verdict.Verdict.TheVariants.{Yes, No}
-use Rattle.am_masks.specs.Words.{is_no, is_yes, IsCubeOf}
-use Rattle.am_masks.proofs.VerdictLemmas.{list_says}
+use Rattle.am_search.specs.Judge.{is_no, is_yes}
+use Rattle.am_judged_lists.specs.Cube.{IsCubeOf}
+use Rattle.am_judged_lists.proofs.VerdictLemmas.{list_says}
 use Rattle.am_first_sets.proofs.ImpossibleCubes.{certain_where}
 use Rattle.am_reasons.specs.declared.candidate.Candidate.{Candidate}
 use Rattle.am_reasons.specs.Meeting.{holds_at, meets}

@@ -22,7 +22,7 @@ use Rattle.am_labels.specs.Matcher.{Condition, holds, condition_holds, all_hold}
 use Rattle.am_labels.specs.Row.{is_reached, truth_among, truths_of}
 use Rattle.am_labels.specs.Space.{Space}
 use Rattle.am_labels.proofs.RowLawLemmas.{row_decides}
-use Rattle.am_files.specs.ConfigFile.{Rule}
+use Rattle.am_config.specs.ConfigFile.{Rule}
 use Rattle.am_search.proofs.ChoiceOrder.{got_at}
 use Rattle.am_eval.specs.Inhibition.{have_equal, is_two_sided, inhibits}
 use Rattle.am_reasons.specs.Pairs.{is_shared, are_same_at}

@@ -20,9 +20,9 @@ use Rattle.am_universe.proofs.ListLemmas.{IsIn, IsIn-from_Contains, Contains-fro
 use Rattle.am_universe.proofs.ListLemmas.{AllByRecursion-each, AllByRecursion-at}
 use Rattle.am_labels.specs.Matcher.{Condition, condition_holds, all_hold}
 use Rattle.am_labels.specs.Space.{Space}
-use Rattle.am_files.specs.ConfigFile.{Rule}
-use Rattle.am_files.specs.RouteView.{names_of}
-use Rattle.am_masks.specs.Words.{IsCubeOf, MaskedLabels}
+use Rattle.am_config.specs.ConfigFile.{Rule}
+use Rattle.am_config.specs.RouteView.{names_of}
+use Rattle.am_judged_lists.specs.Cube.{IsCubeOf, MaskedLabels}
 use Rattle.am_eval.specs.Silencing.{positions_where}
 use Rattle.am_eval.specs.Inhibition.{is_two_sided}
 use Rattle.am_reasons.specs.declared.candidate.Candidate.{Candidate}
@@ -30,8 +30,8 @@ use Rattle.am_reasons.specs.Meeting.{holds_at, meets}
 use Rattle.am_reasons.specs.Reason.{AreSameLiterals, without}
 use Rattle.am_reasons.specs.Pairs.{are_same_at, IsPair, ArePaired, AreUnpaired, IsPairReason}
 use Rattle.am_idle.specs.RuleChoices.{labels_named, AreMeeting, AreLiteralsOf, AreAllNamed}
-use Rattle.am_idle.specs.declared.rules.IdleReason.{IdleReason}
 use Rattle.am_idle.specs.RuleChoices.{AreCubesOfMatchers, AreWantedFor, IsFoundOf}
+use Rattle.am_idle.specs.declared.rules.IdleReason.{IdleReason}
 use Rattle.am_idle.specs.Rules.{SomeMeet, SomeInhibit, Matches, MeetsAt, MeetsAtBut, AreWithin}
 use Rattle.am_idle.specs.Rules.{Contradict, IsWhyNone}
 use Rattle.am_reasons.proofs.PairLemmas.{turned_round}

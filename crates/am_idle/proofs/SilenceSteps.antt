@@ -9,7 +9,7 @@ use Rattle.std.proofs.lemmas.Option.{same_Some}
 use Rattle.am_universe.specs.LabelSet.{LabelMap}
 use Rattle.am_labels.specs.Matcher.{Condition}
 use Rattle.am_labels.specs.Space.{Space}
-use Rattle.am_records.specs.SilencesFile.{Silence}
+use Rattle.am_list_files.specs.SilencesFile.{Silence}
 use Rattle.am_complete.proofs.Pushed.{one_longer}
 use Rattle.am_idle.specs.declared.extent.Extent.{Extent}
 use Rattle.am_idle.specs.Extent.{IsExtent}

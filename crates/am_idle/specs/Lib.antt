@@ -6,4 +6,3 @@ pub mod Rules
 pub mod RuleChoices
 pub mod RuleFindings
 pub mod RuleText
-pub mod Words

@@ -5,9 +5,9 @@ use Rattle.am_universe.specs.Universe.{Label, label_position}
 use Rattle.am_universe.specs.LabelSet.{LabelMap, label_set_of}
 use Rattle.am_labels.specs.Matcher.{Condition}
 use Rattle.am_labels.specs.Space.{Space, IsChoiceOf}
-use Rattle.am_files.specs.ConfigFile.{Rule}
-use Rattle.am_masks.specs.Words.{IsCubeOf, MaskedLabels}
-use Rattle.am_reasons.specs.Words.{are_same_at}
+use Rattle.am_config.specs.ConfigFile.{Rule}
+use Rattle.am_judged_lists.specs.Cube.{IsCubeOf, MaskedLabels}
+use Rattle.am_reasons.specs.Pairs.{are_same_at}
 use Rattle.am_reasons.specs.declared.candidate.Candidate.{Candidate}
 use Rattle.am_idle.specs.declared.rules.IdleReason.{IdleReason}
 use Rattle.am_idle.specs.Rules.{SomeInhibit, IsWhyNone}

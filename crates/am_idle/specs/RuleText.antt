@@ -2,7 +2,7 @@
 use Rattle.std.specs.Prelude.{ℕ, List, [], ◌∷◌, ◌++◌, Option, Some, None, codes, decimal, ⊤}
 use Rattle.std.specs.Prelude.{slice_get, ◌==◌, if◌then◌else◌}
 use Rattle.am_labels.specs.Matcher.{Condition}
-use Rattle.am_files.specs.ConfigFile.{Rule}
+use Rattle.am_config.specs.ConfigFile.{Rule}
 use Rattle.am_complete_texts.specs.UniverseText.{texts_behind}
 use Rattle.am_complete_texts.specs.MatchersText.{matcher_text}
 use Rattle.am_idle.specs.declared.rules.IdleReason.{IdleReason}

@@ -5,7 +5,7 @@ use Rattle.std.specs.List.{list_any, AllByRecursion}
 use Rattle.am_universe.specs.declared.kind.Kind.{Kind}
 use Rattle.am_universe.specs.Universe.{Label}
 use Rattle.am_labels.specs.Space.{Space}
-use Rattle.am_records.specs.SilencesFile.{Silence}
+use Rattle.am_list_files.specs.SilencesFile.{Silence}
 use Rattle.am_eval.specs.World.{World}
 use Rattle.am_eval.specs.Silencing.{is_active, is_over, hides}
 use Rattle.am_classes.specs.declared.alphabet.Alphabet.{Alphabet}

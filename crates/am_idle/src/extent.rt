@@ -2,19 +2,21 @@
 
 ghost use Rattle.std.specs.Prelude.{◌≡◌, ◌≢◌, [], ◌∷◌, List, false, IfOk, IfErr, OnOk, IsTrue};
 ghost use Rattle.am_universe.specs.declared.kind.Kind.TheVariants as kinds;
-ghost use Rattle.am_labels.specs.Words.{Condition, Label};
-ghost use Rattle.am_masks.specs.Words.{IsCubeOf};
-ghost use Rattle.am_first_sets.specs.Words.{possible_space};
-ghost use Rattle.am_every_alert.specs.Words.{IsAlertOf};
+ghost use Rattle.am_labels.specs.Matcher.{Condition};
+ghost use Rattle.am_universe.specs.Universe.{Label};
+ghost use Rattle.am_judged_lists.specs.Cube.{IsCubeOf};
+ghost use Rattle.am_first_sets.specs.PossibleRefuter.{possible_space};
+ghost use Rattle.am_every_alert.specs.EveryAlert.{IsAlertOf};
 ghost use Rattle.am_idle.specs.Lists.{StandsForLists, IsRefusalForLists};
 ghost use Rattle.am_idle.specs.Extent.{IsExtent, IsSetOf, HasSet};
 
 use crate::lists::universe_for_lists;
 use am_classes::Alphabet;
 use am_first_sets::PossibleRefuter;
-use am_labels::{Kind, Matchers, Space, Universe};
-use am_masks::Cube;
+use am_judged_lists::Cube;
+use am_labels::{Matchers, Space};
 use am_reasons::{Candidate, first_meeting};
+use am_universe::{Kind, Universe};
 use std::alloc::{AllocError, Global};
 
 /// How far a list of matchers reaches.

@@ -1,12 +1,15 @@
 //! Facts about the definitions alone: each is the contract of a function with an empty body.
 ghost use Rattle.std.specs.Prelude.{◌≡◌, ℕ, ℤ, List, [], ◌∷◌, Bool, Some, IsTrue, IsFalse};
-ghost use Rattle.am_labels.specs.Words.{Label, LabelMap, label_set_of, Condition};
-ghost use Rattle.am_labels.specs.Words.{Space, IsChoiceOf};
-ghost use Rattle.am_records.specs.SilencesFile.{Silence};
-ghost use Rattle.am_files.specs.ConfigFile.{Rule};
-ghost use Rattle.am_eval.specs.Words.{World, is_active, hides, at_instant};
+ghost use Rattle.am_universe.specs.Universe.{Label};
+ghost use Rattle.am_universe.specs.LabelSet.{LabelMap, label_set_of};
+ghost use Rattle.am_labels.specs.Matcher.{Condition};
+ghost use Rattle.am_labels.specs.Space.{Space, IsChoiceOf};
+ghost use Rattle.am_list_files.specs.SilencesFile.{Silence};
+ghost use Rattle.am_config.specs.ConfigFile.{Rule};
+ghost use Rattle.am_eval.specs.World.{World};
+ghost use Rattle.am_eval.specs.Silencing.{is_active, hides, at_instant};
 ghost use Rattle.am_classes.specs.declared.alphabet.Alphabet.{Alphabet};
-ghost use Rattle.am_every_alert.specs.Words.{IsAlertOf, MeetsTheSame};
+ghost use Rattle.am_every_alert.specs.EveryAlert.{IsAlertOf, MeetsTheSame};
 ghost use Rattle.am_idle.specs.declared.silences.SilenceFinding.TheVariants as finding_is;
 ghost use Rattle.am_idle.specs.Lists.{listed_conditions, made_space, StandsForLists};
 ghost use Rattle.am_idle.specs.Silences.{IsSilenceFinding};

@@ -2,14 +2,15 @@
 
 ghost use Rattle.std.specs.Prelude.{◌≡◌, ◌≢◌, [], map, IfOk, IfErr, OnOk, fold};
 ghost use Rattle.am_universe.specs.declared.kind.Kind.TheVariants as kinds;
-ghost use Rattle.am_complete.specs.Words.{IsAskedOf, with_asked};
-ghost use Rattle.am_asked.specs.Words.{placed_at, placed_in_lists};
+ghost use Rattle.am_complete.specs.AskedLabel.{IsAskedOf, with_asked};
+ghost use Rattle.am_asked.specs.Placed.{placed_at, placed_in_lists};
 ghost use Rattle.am_idle.specs.Lists.{deciding_conditions, placed_by_lists, labels_of_lists};
 ghost use Rattle.am_idle.specs.Lists.{StandsForLists, IsRefusalForLists};
 
 use am_classes::Alphabet;
 use am_complete::{AskedLabel, Gathering, Origin, universe_beside};
-use am_labels::{Kind, Matchers, Space, Universe};
+use am_labels::{Matchers, Space};
+use am_universe::{Kind, Universe};
 use std::alloc::{AllocError, Global};
 
 /// A universe that stands for every alert over an alphabet, for some lists of matchers and the

@@ -8,8 +8,9 @@ ghost use Rattle.am_idle.specs.RuleFindings.{IsFirstRefusedRule, count_idle_rule
 
 use crate::rules::{IdleReason, idle_reason};
 use am_classes::Alphabet;
-use am_files::Rule;
-use am_labels::{Kind, Space};
+use am_config::Rule;
+use am_labels::Space;
+use am_universe::Kind;
 use std::alloc::Global;
 
 /// Why it is not known what is to be said of rules.

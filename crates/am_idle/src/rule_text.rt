@@ -8,7 +8,7 @@ ghost use Rattle.am_idle.specs.RuleText.{HasPositionsIn, HasPositionsIfAny};
 
 use crate::rules::IdleReason;
 use am_complete_texts::push_matcher;
-use am_files::Rule;
+use am_config::Rule;
 use am_labels::Matchers;
 use std::alloc::{AllocError, Global};
 

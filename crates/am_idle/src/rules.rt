@@ -2,7 +2,7 @@
 
 ghost use Rattle.std.specs.Prelude.{◌≡◌, ◌≢◌, List, [], ◌∷◌, IfOk, IfErr, OnOk};
 ghost use Rattle.am_universe.specs.declared.kind.Kind.TheVariants as kinds;
-ghost use Rattle.am_labels.specs.Words.{Label};
+ghost use Rattle.am_universe.specs.Universe.{Label};
 ghost use Rattle.am_idle.specs.Lists.{StandsForLists, IsRefusalForLists};
 ghost use Rattle.am_idle.specs.RuleChoices.{AreMeeting, IsFoundOf};
 ghost use Rattle.am_idle.specs.Rules.{IsRuleFinding};
@@ -11,10 +11,11 @@ ghost use Rattle.am_idle.specs.RuleText.{HasPositionsIfAny};
 use crate::lists::universe_for_lists;
 use crate::sides::{has_inhibiting, labels_named, why_contradicting};
 use am_classes::Alphabet;
-use am_files::Rule;
+use am_config::Rule;
 use am_first_sets::PossibleRefuter;
-use am_labels::{Kind, Space, Universe};
-use am_masks::Cube;
+use am_judged_lists::Cube;
+use am_labels::Space;
+use am_universe::{Kind, Universe};
 use std::alloc::{AllocError, Global};
 
 /// Why by a rule no alert inhibits another.

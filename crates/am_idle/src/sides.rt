@@ -1,22 +1,23 @@
 //! The two sides of a rule, as literals over the labels of a space.
 
 ghost use Rattle.std.specs.Prelude.{◌≡◌, IfOk, IfSome, IfNone, IsTrue, false};
-ghost use Rattle.am_files.specs.Words.{names_of};
-ghost use Rattle.am_eval.specs.Words.{positions_where};
-ghost use Rattle.am_files.specs.ConfigFile.{Rule};
-ghost use Rattle.am_masks.specs.Words.{IsCubeOf};
-ghost use Rattle.am_first_sets.specs.Words.{possible_space};
-ghost use Rattle.am_reasons.specs.Words.{AreDeclaredIn, ArePaired};
+ghost use Rattle.am_config.specs.RouteView.{names_of};
+ghost use Rattle.am_eval.specs.Silencing.{positions_where};
+ghost use Rattle.am_config.specs.ConfigFile.{Rule};
+ghost use Rattle.am_judged_lists.specs.Cube.{IsCubeOf};
+ghost use Rattle.am_first_sets.specs.PossibleRefuter.{possible_space};
+ghost use Rattle.am_reasons.specs.Pairs.{AreDeclaredIn, ArePaired};
 ghost use Rattle.am_idle.specs.RuleChoices.{labels_named, AreMeeting, AreCubesOfMatchers};
 ghost use Rattle.am_idle.specs.RuleChoices.{AreWantedFor, AreLiteralsOf, AreAllNamed};
 ghost use Rattle.am_idle.specs.Rules.{SomeMeet, SomeInhibit, Matches, IsWhyNone};
 
 use crate::rules::IdleReason;
-use am_files::Rule;
+use am_config::Rule;
 use am_first_sets::PossibleRefuter;
-use am_labels::{Matchers, Universe};
-use am_masks::{Cube, JudgedList};
+use am_judged_lists::{Cube, JudgedList};
+use am_labels::Matchers;
 use am_reasons::{Candidate, find_pair_reason, first_pair};
+use am_universe::Universe;
 use std::alloc::{AllocError, Global};
 
 /// The positions of the labels of some names, those left out that the universe does not declare.

@@ -5,7 +5,7 @@ ghost use Rattle.am_idle.specs.SilenceText.{silence_line, silence_kind_text};
 
 use crate::silences::SilenceFinding;
 use am_complete_texts::push_matchers;
-use am_files::Silence;
+use am_list_files::Silence;
 use std::alloc::{AllocError, Global};
 
 /// Adds the line of the silence at a position; nothing where nothing is said of it. An `Err` only

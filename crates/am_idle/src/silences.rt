@@ -1,20 +1,21 @@
 //! What is to be said of silences: that one does nothing, or hides everything.
 
-ghost use Rattle.std.specs.Prelude.{◌≡◌, ◌≢◌, ◌<◌, [], ◌∷◌, ◌++◌, length, slice_get, Some};
-ghost use Rattle.std.specs.Prelude.{IfOk, IfErr, OnOk};
+ghost use Rattle.std.specs.Prelude.{◌≡◌, ◌≢◌, ◌<◌, [], ◌∷◌, ◌++◌, length, slice_get, Some, IfOk};
+ghost use Rattle.std.specs.Prelude.{IfErr, OnOk};
 ghost use Rattle.std.specs.List.{AllZip, list_any};
 ghost use Rattle.am_universe.specs.declared.kind.Kind.TheVariants as kinds;
-ghost use Rattle.am_labels.specs.Words.{all_hold};
+ghost use Rattle.am_labels.specs.Matcher.{all_hold};
 ghost use Rattle.am_idle.specs.Silences.{IsSilenceFinding, IsAccepted, IsSilenceRefused};
-ghost use Rattle.am_idle.specs.Silences.{IsFirstRefused, is_unused};
-ghost use Rattle.am_idle.specs.Silences.{is_silence_finding, is_silence_note};
-ghost use Rattle.am_idle.specs.Silences.{count_silence_findings, count_silence_notes};
+ghost use Rattle.am_idle.specs.Silences.{IsFirstRefused, is_unused, is_silence_finding};
+ghost use Rattle.am_idle.specs.Silences.{is_silence_note, count_silence_findings};
+ghost use Rattle.am_idle.specs.Silences.{count_silence_notes};
 
 use crate::extent::{Extent, extent_of};
 use am_classes::Alphabet;
 use am_eval::World;
-use am_files::Alerts;
-use am_labels::{Kind, Matchers, Space};
+use am_labels::{Matchers, Space};
+use am_list_files::Alerts;
+use am_universe::Kind;
 use std::alloc::{AllocError, Global};
 
 /// What is to be said of a silence.

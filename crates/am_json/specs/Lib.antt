@@ -1,4 +1,3 @@
-pub mod Words
 pub mod Json
 pub mod Pointer
 pub mod Places

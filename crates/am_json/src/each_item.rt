@@ -4,7 +4,8 @@ ghost use Rattle.std.specs.Prelude.{◌≤◌, [], ℕ, List, length, map, IfOk}
 ghost use Rattle.std.specs.Fn.{FnReturnsAt};
 ghost use Rattle.serde_json.specs.Data.{Data};
 ghost use Rattle.serde_json.specs.View.{members_view, view};
-ghost use Rattle.am_json.specs.Words.{Gives, Reading, member_list, read_each, read_items};
+ghost use Rattle.am_json.specs.Reading.{Gives, Reading, read_each, read_items};
+ghost use Rattle.am_json.specs.Json.{member_list};
 
 use crate::pointer::within_item;
 use crate::read_error::ReadError;

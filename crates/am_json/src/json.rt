@@ -3,11 +3,13 @@
 ghost use Rattle.std.specs.Prelude.{◌≡◌, ◌≢◌, ◌≤◌, Some, map, option_map, IfOk};
 ghost use Rattle.serde_json.specs.View.{view, members_view};
 ghost use Rattle.am_universe.specs.declared.kind.Kind.TheVariants as kinds;
-ghost use Rattle.am_json.specs.Words.{json_of, field, is_one_of, is_unknown, unknown_field};
-ghost use Rattle.am_json.specs.Words.{refusal_here, Gives, accept_some, refuse_for, check_count};
-ghost use Rattle.am_json.specs.Words.{as_object, as_text, as_items, check_only_fields};
-ghost use Rattle.am_json.specs.Words.{required_field, required_text, required_items};
-ghost use Rattle.am_json.specs.Words.{read_optional_items, boolean_or, read_boolean_or, read_json};
+ghost use Rattle.am_json.specs.Json.{json_of, field, is_one_of, is_unknown, unknown_field};
+ghost use Rattle.am_json.specs.Pointer.{refusal_here};
+ghost use Rattle.am_json.specs.Reading.{Gives, accept_some, refuse_for, check_count, as_object};
+ghost use Rattle.am_json.specs.Reading.{as_text, as_items, check_only_fields, required_field};
+ghost use Rattle.am_json.specs.Reading.{required_text, required_items, boolean_or, read_boolean_or};
+ghost use Rattle.am_json.specs.Reading.{read_json};
+ghost use Rattle.am_json.specs.OptionalItems.{read_optional_items};
 
 use crate::limits::MAX_FILE_BYTES;
 use crate::pointer::within_field;

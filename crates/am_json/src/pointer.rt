@@ -1,8 +1,8 @@
 //! JSON Pointers (RFC 6901) to the part of a file that is at fault.
 
 ghost use Rattle.std.specs.Prelude.{◌≡◌, ◌++◌, string_bytes, encode_utf8, flat_map, IfOk, OnOk};
-ghost use Rattle.am_json.specs.Words.{pointer_escape, to_field, to_item, refusal_within};
-ghost use Rattle.am_json.specs.Words.{IsRefusalOrMemory, IsReadingWithin};
+ghost use Rattle.am_json.specs.Pointer.{pointer_escape, to_field, to_item, refusal_within};
+ghost use Rattle.am_json.specs.Reading.{IsRefusalOrMemory, IsReadingWithin};
 
 use crate::read_error::{ReadError, Refusal};
 use std::alloc::{AllocError, Global};

@@ -3,7 +3,8 @@
 ghost use Rattle.std.specs.Prelude.{◌≡◌, ◌≢◌};
 ghost use Rattle.am_universe.specs.declared.kind.Kind.TheVariants as kinds;
 ghost use Rattle.am_json.specs.declared.read_error.ReadError.TheVariants.{Memory};
-ghost use Rattle.am_json.specs.Words.{refusal_here, IsRefusalOrMemory, IsFaultAt, IsFaultOf};
+ghost use Rattle.am_json.specs.Pointer.{refusal_here};
+ghost use Rattle.am_json.specs.Reading.{IsRefusalOrMemory, IsFaultAt, IsFaultOf};
 
 use am_universe::{Fault, Kind, Place};
 use std::alloc::{AllocError, AllocFailed, Global};

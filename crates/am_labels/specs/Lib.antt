@@ -1,4 +1,3 @@
-pub mod Words
 pub mod PatternProfile
 pub mod PatternCut
 pub mod Pattern

@@ -1,7 +1,7 @@
 //! Where the braces of a question end.
 
 ghost use Rattle.std.specs.Prelude.{◌≡◌, ◌<◌, length, IfSome};
-ghost use Rattle.am_labels.specs.Words.{first_closing, brace_len};
+ghost use Rattle.am_labels.specs.BraceToken.{first_closing, brace_len};
 
 use crate::quotes::QuoteState;
 

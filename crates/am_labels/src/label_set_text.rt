@@ -2,8 +2,9 @@
 
 ghost use Rattle.std.specs.Prelude.{◌≡◌, ◌≢◌, [], ◌∷◌, map, IfOk, IfErr};
 ghost use Rattle.std.specs.List.{list_any};
-ghost use Rattle.am_labels.specs.Words.{same_text, are_equalities, repeats_name, set_of_list};
-ghost use Rattle.am_labels.specs.Words.{WordsSpellSet, SetWordsRefusedFor};
+ghost use Rattle.am_universe.specs.Text.{same_text};
+ghost use Rattle.am_labels.specs.ParsedLabelSet.{are_equalities, repeats_name, set_of_list};
+ghost use Rattle.am_labels.specs.ParsedLabelSet.{WordsSpellSet, SetWordsRefusedFor};
 ghost use Rattle.am_universe.specs.declared.kind.Kind.TheVariants as kinds;
 
 use crate::Matcher;

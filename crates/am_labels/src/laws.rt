@@ -1,17 +1,20 @@
 //! Facts about the definitions alone: each is the contract of a function with an empty body.
-ghost use Rattle.std.specs.Prelude.{◌≡◌, ◌↔◌, ℕ, List, [], ◌∷◌, Some, map, false};
-ghost use Rattle.std.specs.Prelude.{IsTrue, Contains};
+ghost use Rattle.std.specs.Prelude.{◌≡◌, ◌↔◌, ℕ, List, [], ◌∷◌, Some, map, false, IsTrue, Contains};
 ghost use Rattle.std.specs.List.Sorted.{IsStrictlySortedBy};
 ghost use Rattle.std.specs.Ordering.{nat_cmp};
 ghost use Rattle.std.specs.Cmp.Lexicographic.{slice_cmp};
-ghost use Rattle.am_labels.specs.Words.{Label, IsUniverse, sizes, IsWhole, label_set_of, value_of};
-ghost use Rattle.am_labels.specs.Words.{choices, Space, all_choices, IsChoiceOf};
+ghost use Rattle.am_universe.specs.Universe.{Label, IsUniverse, sizes};
+ghost use Rattle.am_universe.specs.Choice.{IsWhole, choices};
+ghost use Rattle.am_universe.specs.LabelSet.{label_set_of, value_of};
+ghost use Rattle.am_labels.specs.Space.{Space, all_choices, IsChoiceOf};
 ghost use Rattle.am_labels.specs.declared.limits.TheConstants.{MAX_MATCHERS, MAX_IMPOSSIBLE};
-ghost use Rattle.am_labels.specs.Words.{Condition, condition_holds, all_hold};
-ghost use Rattle.am_labels.specs.Words.{Piece, IsJoinOf, IsInProfile, in_profile};
-ghost use Rattle.am_labels.specs.Words.{row_of, row_holds, rows_hold, Spells, read_list};
-ghost use Rattle.am_labels.specs.Words.{WordsSpell};
-ghost use Rattle.am_labels.specs.Words.{repeats_name, set_of_list};
+ghost use Rattle.am_labels.specs.Matcher.{Condition, condition_holds, all_hold};
+ghost use Rattle.am_labels.specs.PatternProfile.{Piece, IsJoinOf, IsInProfile};
+ghost use Rattle.am_labels.specs.PatternCut.{in_profile};
+ghost use Rattle.am_labels.specs.Row.{row_of, row_holds, rows_hold};
+ghost use Rattle.am_labels.specs.MatcherText.{Spells, WordsSpell};
+ghost use Rattle.am_labels.specs.MatcherReading.{read_list};
+ghost use Rattle.am_labels.specs.ParsedLabelSet.{repeats_name, set_of_list};
 
 pub use am_universe::laws::{
     a_label_is_added_exactly_to_a_universe, choices_are_the_whole_choices, choices_ascend,

@@ -6,7 +6,8 @@
 //! where the text of a list ends in a question. A [`Row`] is a matcher's truth on each value of its
 //! label in a [`Universe`]. A [`Space`] is a universe without its impossible label sets.
 //!
-//! The public names of the crate `am_universe` that callers need are given again here.
+//! Universes and their label sets, refusals and sinks are those of the crate `am_universe`. The
+//! names of it that callers of this crate need are given again here.
 #![tactic(auto)]
 
 // How much there may be.
@@ -14,9 +15,8 @@ pub mod limits;
 
 // The layer below: universes, label sets, sinks and refusals.
 pub use am_universe::{
-    Choice, Fault, History, Kind, LabelFault, LabelPart, LabelSet, LineTable, Out, Place, Position,
-    Sink, Universe, answer_of_write, put_all, put_str, report, set_of, status, write_fault,
-    write_map, write_set, write_text,
+    Choice, Fault, Kind, LabelFault, LabelPart, LabelSet, Out, Place, Sink, Universe, put_all,
+    set_of, write_map, write_set, write_text,
 };
 
 // Operators, and the patterns that two of them take: which are accepted, and what they match.

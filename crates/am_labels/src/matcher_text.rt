@@ -1,20 +1,20 @@
 //! Reading the text of a list of matchers.
 
-ghost use Rattle.std.specs.Prelude.{◌≡◌, ◌≢◌, ◌≤◌, List, [], length, map};
-ghost use Rattle.std.specs.Prelude.{IsTrue, IfOk, IfErr, IsOk};
-ghost use Rattle.std.specs.Prelude.{string_bytes};
+ghost use Rattle.std.specs.Prelude.{◌≡◌, ◌≢◌, ◌≤◌, List, [], length, map, IsTrue, IfOk, IfErr};
+ghost use Rattle.std.specs.Prelude.{IsOk, string_bytes};
 ghost use Rattle.std.specs.Str.{IsUtf8, IsAscii};
 ghost use Rattle.std.specs.List.{All, prefix_len};
 ghost use Rattle.am_universe.specs.declared.kind.Kind.TheVariants as kinds;
-ghost use Rattle.am_labels.specs.Words as spec;
-ghost use Rattle.am_labels.specs.Words.{have_valid_patterns, PatternsRefusedFor};
-ghost use Rattle.am_labels.specs.Words.{WordsRefusedFor, TextRefusedFor};
-ghost use Rattle.am_labels.specs.Words.{Spells, WordsSpell, ReturnsReading, is_blank, begins_name};
-ghost use Rattle.am_labels.specs.Words.{continues_name, unescaped_text, matcher_pieces};
-ghost use Rattle.am_labels.specs.Words.{without_opening, without_closing};
-ghost use Rattle.am_labels.specs.Words.{without_leading_blanks, without_trailing_blanks};
-ghost use Rattle.am_labels.specs.Words.{first_quote, read_body, read_operator, read_name};
-ghost use Rattle.am_labels.specs.Words.{read_piece, read_each_piece, read_list, read_words};
+ghost use Rattle.am_labels.specs.Matcher as spec;
+ghost use Rattle.am_labels.specs.MatcherRefusals.{have_valid_patterns, PatternsRefusedFor};
+ghost use Rattle.am_labels.specs.MatcherRefusals.{WordsRefusedFor, TextRefusedFor};
+ghost use Rattle.am_labels.specs.MatcherText.{Spells, WordsSpell, is_blank, begins_name};
+ghost use Rattle.am_labels.specs.MatcherText.{continues_name, unescaped_text, matcher_pieces};
+ghost use Rattle.am_labels.specs.MatcherText.{without_opening, without_closing};
+ghost use Rattle.am_labels.specs.MatcherReading.{ReturnsReading, without_leading_blanks};
+ghost use Rattle.am_labels.specs.MatcherReading.{without_trailing_blanks, first_quote, read_body};
+ghost use Rattle.am_labels.specs.MatcherReading.{read_operator, read_name, read_piece};
+ghost use Rattle.am_labels.specs.MatcherReading.{read_each_piece, read_list, read_words};
 
 use crate::limits::MAX_MATCHERS;
 use crate::quotes::QuoteState;

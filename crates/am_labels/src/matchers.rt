@@ -1,6 +1,6 @@
 ghost use Rattle.std.specs.Prelude.{◌≡◌, ◌≢◌, ◌<◌, ◌≤◌, ◌+◌, ◌==◌, [], ◌∷◌, ◌++◌, Some, length};
 ghost use Rattle.std.specs.Prelude.{IfOk, IfErr, OnOk, OnErr, slice_get};
-ghost use Rattle.am_labels.specs.Words.{all_hold};
+ghost use Rattle.am_labels.specs.Matcher.{all_hold};
 ghost use Rattle.am_universe.specs.declared.kind.Kind.TheVariants as kinds;
 
 use crate::Matcher;

@@ -1,5 +1,6 @@
 ghost use Rattle.std.specs.Prelude.{◌≡◌};
-ghost use Rattle.am_labels.specs.Words.{takes_pattern, negates, is_equality};
+ghost use Rattle.am_labels.specs.Matcher.{takes_pattern, negates};
+ghost use Rattle.am_labels.specs.ParsedLabelSet.{is_equality};
 
 /// The operator of a matcher.
 #[derive(Clone, Copy, Debug, PartialEq, Eq)]

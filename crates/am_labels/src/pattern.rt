@@ -1,5 +1,6 @@
 ghost use Rattle.std.specs.Prelude.{◌≡◌, ◌≢◌, true, false, IfOk, IfErr, OnOk, string_bytes};
-ghost use Rattle.am_labels.specs.Words.{anchored_pattern, finds, is_pattern, in_profile};
+ghost use Rattle.am_labels.specs.Pattern.{anchored_pattern, finds, is_pattern};
+ghost use Rattle.am_labels.specs.PatternCut.{in_profile};
 ghost use Rattle.am_universe.specs.declared.kind.Kind.TheVariants as kinds;
 
 use crate::pattern_profile::is_in_profile;

@@ -2,10 +2,12 @@ ghost use Rattle.std.specs.Prelude.{◌≡◌, ◌≤◌, ◌<◌, length, optio
 ghost use Rattle.std.specs.Prelude.{◌+◌, not};
 ghost use Rattle.std.specs.List.{list_any, find, starts_with, position};
 ghost use Rattle.am_labels.specs.declared.pattern_profile.ClassContext.TheVariants as contexts;
-ghost use Rattle.am_labels.specs.Words.{right_brace, is_refused_escape, is_refused_flag};
-ghost use Rattle.am_labels.specs.Words.{in_profile, first_step, unescaped_step, escape_len};
-ghost use Rattle.am_labels.specs.Words.{flag_run, flag_run_len, begins_count, digits_len};
-ghost use Rattle.am_labels.specs.Words.{class_start_len, named_class_at, up_to_brace, braces_len};
+ghost use Rattle.am_universe.specs.Bytes.{right_brace};
+ghost use Rattle.am_labels.specs.PatternProfile.{is_refused_escape, is_refused_flag};
+ghost use Rattle.am_labels.specs.PatternCut.{in_profile, first_step, unescaped_step, escape_len};
+ghost use Rattle.am_labels.specs.PatternCut.{flag_run, flag_run_len, begins_count, digits_len};
+ghost use Rattle.am_labels.specs.PatternCut.{class_start_len, named_class_at, up_to_brace};
+ghost use Rattle.am_labels.specs.PatternCut.{braces_len};
 
 /// Where a piece of a pattern stands: outside or inside a class, which is in brackets.
 #[derive(Clone, Copy)]

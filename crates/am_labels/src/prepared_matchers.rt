@@ -1,5 +1,5 @@
 ghost use Rattle.std.specs.Prelude.{◌≡◌, IfOk};
-ghost use Rattle.am_labels.specs.Words.{all_hold};
+ghost use Rattle.am_labels.specs.Matcher.{all_hold};
 
 use crate::matcher::PreparedMatcher;
 use crate::{Matcher, Matchers};

@@ -1,7 +1,8 @@
 //! Quoted parts and escapes of a matcher text.
 
 ghost use Rattle.std.specs.Prelude.{◌≡◌, ◌+◌, ◌<◌, ℕ, List, length, slice_index};
-ghost use Rattle.am_labels.specs.Words.{is_quote, is_quoted, IsStateAt};
+ghost use Rattle.am_labels.specs.MatcherText.{is_quote, is_quoted};
+ghost use Rattle.am_labels.specs.QuoteState.{IsStateAt};
 
 /// What the bytes before a place of a text say of it.
 #[derive(Clone, Copy)]

@@ -1,6 +1,6 @@
 ghost use Rattle.std.specs.Prelude.{◌≡◌, ◌<◌, [], ◌∷◌, length, map, Some, IfOk, IfSome, slice_get};
-ghost use Rattle.am_labels.specs.Words.{sizes, values_at, row_of, truth_at};
-ghost use Rattle.am_labels.specs.Words.{truth_on_value};
+ghost use Rattle.am_universe.specs.Universe.{sizes, values_at};
+ghost use Rattle.am_labels.specs.Row.{row_of, truth_at, truth_on_value};
 ghost use Rattle.am_labels.specs.declared.op.Op.TheVariants.{Equal};
 
 use crate::Matcher;

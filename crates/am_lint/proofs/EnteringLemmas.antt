@@ -13,9 +13,9 @@ use Rattle.am_universe.specs.LabelSet.{LabelMap}
 use Rattle.am_universe.proofs.ListLemmas.{AllByRecursion-at, Contains-from_IsIn}
 use Rattle.am_universe.proofs.Members.{in_at}
 use Rattle.am_labels.specs.Matcher.{all_hold}
-use Rattle.am_files.specs.ConfigFile.{Configuration, RouteTree, matchers_of, continues_of}
-use Rattle.am_files.specs.ConfigFile.{children_of}
-use Rattle.am_files.specs.Path.{list_of, route_at, leads_through}
+use Rattle.am_config.specs.ConfigFile.{Configuration, RouteTree, matchers_of, continues_of}
+use Rattle.am_config.specs.ConfigFile.{children_of}
+use Rattle.am_config.specs.Path.{list_of, route_at, leads_through}
 use Rattle.am_eval.specs.Routing.{EndsThere, MatchesAt, ends_at, is_last}
 use Rattle.am_eval.proofs.ChildEnds.{is_last-true}
 use Rattle.am_eval.proofs.FlatEnds.{ends_exactly as ends_flat, matched_ends}

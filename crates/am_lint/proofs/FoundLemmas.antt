@@ -10,10 +10,10 @@ use Rattle.am_universe.specs.LabelSet.{LabelMap, label_set_of}
 use Rattle.am_universe.proofs.ListLemmas.{IsIn, IsIn-unmap}
 use Rattle.am_labels.specs.Space.{Space}
 use Rattle.am_labels.proofs.Passing.{any_in, in_any}
-use Rattle.am_files.specs.ConfigFile.{Configuration, RouteTree, receiver_of}
-use Rattle.am_files.specs.Path.{route_at}
-use Rattle.am_files.specs.RoutePaths.{all_routes}
-use Rattle.am_files.proofs.RouteLists.{each_at}
+use Rattle.am_config.specs.ConfigFile.{Configuration, RouteTree, receiver_of}
+use Rattle.am_config.specs.Path.{route_at}
+use Rattle.am_config.specs.RoutePaths.{all_routes}
+use Rattle.am_config.proofs.RouteLists.{each_at}
 use Rattle.am_eval.proofs.RoutePathLaws.{is_path}
 use Rattle.am_eval.proofs.SimpleParts.{end_of_receiver, receiver_of_end}
 use Rattle.am_classes.specs.declared.alphabet.Alphabet.TheVariants.{Unicode}

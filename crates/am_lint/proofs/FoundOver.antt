@@ -5,8 +5,8 @@ use Rattle.std.specs.List.{AllByRecursion, AllZip}
 use Rattle.am_universe.specs.Universe.{Label, sizes}
 use Rattle.am_universe.proofs.ListLemmas.{IsIn}
 use Rattle.am_labels.specs.Space.{Space}
-use Rattle.am_files.specs.ConfigFile.{Configuration, RouteTree, IsConfig}
-use Rattle.am_files.specs.RoutePaths.{all_routes}
+use Rattle.am_config.specs.ConfigFile.{Configuration, RouteTree, IsConfig}
+use Rattle.am_config.specs.RoutePaths.{all_routes}
 use Rattle.am_eval.proofs.AbsentParts.{receiver_below}
 use Rattle.am_classes.specs.declared.alphabet.Alphabet.TheVariants.{Unicode, Ascii}
 use Rattle.am_every_alert.specs.EveryAlert.{IsAlertOf}

@@ -1,17 +1,20 @@
 -- When literals are true at a choice: where its label set does as they want.
-use Rattle.std.proofs.Common.{◌≡◌, ◌↔◌, ℕ, List, Bool, true, false, not, cond, Some}
-use Rattle.std.proofs.Common.{refl, sym, ap, ◌∙◌, subst, slice_get, Contains, IsTrue, inl, inr}
+use Rattle.std.proofs.Common.{◌≡◌, ◌↔◌, ℕ, List, Bool, true, false, not, cond, Some, refl, sym, ap}
+use Rattle.std.proofs.Common.{◌∙◌, subst, slice_get, Contains, IsTrue, inl, inr}
 use Rattle.std.proofs.lemmas.Bool.{cases_Bool}
 use Rattle.std.proofs.lemmas.Option.{same_Some}
 use Rattle.am_universe.proofs.ListLemmas.{IsIn, IsIn-from_Contains, AllByRecursion-at}
-use Rattle.am_labels.specs.Words.{Label, sizes, IsWhole, label_set_of, LabelMap, all_hold}
-use Rattle.am_labels.specs.Words.{Condition}
-use Rattle.am_files.specs.ConfigFile.{RouteTree, Configuration, continues_of, matchers_of}
-use Rattle.am_files.specs.Path.{route_at}
+use Rattle.am_universe.specs.Universe.{Label, sizes}
+use Rattle.am_universe.specs.Choice.{IsWhole}
+use Rattle.am_universe.specs.LabelSet.{label_set_of, LabelMap}
+use Rattle.am_labels.specs.Matcher.{all_hold, Condition}
+use Rattle.am_config.specs.ConfigFile.{RouteTree, Configuration, continues_of, matchers_of}
+use Rattle.am_config.specs.Path.{route_at}
 use Rattle.am_eval.specs.Routing.{MatchesAt}
 use Rattle.am_search.specs.declared.verdict.Verdict.TheVariants.{Yes, No}
-use Rattle.am_masks.specs.Words.{MaskedLabels, is_no, is_yes, IsCubeOf}
-use Rattle.am_masks.proofs.VerdictLemmas.{list_says}
+use Rattle.am_judged_lists.specs.Cube.{MaskedLabels, IsCubeOf}
+use Rattle.am_search.specs.Judge.{is_no, is_yes}
+use Rattle.am_judged_lists.proofs.VerdictLemmas.{list_says}
 use Rattle.am_first_sets.specs.Reasons.{may_match, must_match}
 use Rattle.am_first_sets.proofs.ImpossibleCubes.{certain_where}
 use Rattle.am_reasons.specs.declared.candidate.Candidate.{Candidate}

@@ -8,8 +8,8 @@ use Rattle.std.proofs.lemmas.Option.{option_and_then_some}
 use Rattle.am_universe.specs.LabelSet.{LabelMap}
 use Rattle.am_universe.proofs.ListLemmas.{IsIn, IsIn-from_Contains, Contains-from_IsIn}
 use Rattle.am_universe.proofs.ListLemmas.{AllByRecursion-at, AllByRecursion-each}
-use Rattle.am_files.specs.ConfigFile.{Configuration, RouteTree, continues_of, children_of}
-use Rattle.am_files.specs.Path.{route_at, leads_through, list_of}
+use Rattle.am_config.specs.ConfigFile.{Configuration, RouteTree, continues_of, children_of}
+use Rattle.am_config.specs.Path.{route_at, leads_through, list_of}
 use Rattle.am_eval.specs.Routing.{MatchesAt}
 use Rattle.am_lint.specs.declared.literals.Part.{Part}
 use Rattle.am_lint.specs.declared.literals.Part.TheVariants.{Way, Before, Children}

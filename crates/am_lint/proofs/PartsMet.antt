@@ -1,11 +1,11 @@
 -- Which choices meet the literals of parts, and that none does.
-use Rattle.std.proofs.Common.{◌≡◌, List, ℕ, sym, refl, subst, Option, Some, None, IsTrue}
-use Rattle.std.proofs.Common.{IfSome}
+use Rattle.std.proofs.Common.{◌≡◌, List, ℕ, sym, refl, subst, Option, Some, None, IsTrue, IfSome}
 use Rattle.std.specs.Prelude.{IfNone}
 use Rattle.std.specs.List.{find}
 use Rattle.am_universe.proofs.ListLemmas.{AllByRecursion-at}
-use Rattle.am_labels.specs.Words.{Space, label_set_of, LabelMap, IsChoiceOf, all_choices}
-use Rattle.am_files.specs.ConfigFile.{Configuration}
+use Rattle.am_labels.specs.Space.{Space, IsChoiceOf, all_choices}
+use Rattle.am_universe.specs.LabelSet.{label_set_of, LabelMap}
+use Rattle.am_config.specs.ConfigFile.{Configuration}
 use Rattle.am_reasons.specs.declared.candidate.Candidate.{Candidate}
 use Rattle.am_reasons.specs.Meeting.{meets, IsAnyMet}
 use Rattle.am_reasons.proofs.ReasonLemmas.{found_meets}

@@ -1,14 +1,14 @@
 -- The routes whose literals are named are a reason.
-use Rattle.std.proofs.Common.{◌≡◌, ◌<◌, ◌≤◌, ℕ, zero, suc, List, [], ◌∷◌, ◌++◌, length, drop}
-use Rattle.std.proofs.Common.{Some, refl, sym, ap, ◌∙◌, subst, slice_get, Contains, IsTrue, inl}
-use Rattle.std.proofs.Common.{inr}
+use Rattle.std.proofs.Common.{◌≡◌, ◌<◌, ◌≤◌, ℕ, zero, suc, List, [], ◌∷◌, ◌++◌, length, drop, Some}
+use Rattle.std.proofs.Common.{refl, sym, ap, ◌∙◌, subst, slice_get, Contains, IsTrue, inl, inr}
 use Rattle.std.proofs.Common.{arith, true}
 use Rattle.std.proofs.lemmas.Bool.{cases_lt}
 use Rattle.std.proofs.lemmas.Option.{same_Some}
 use Rattle.am_universe.proofs.ListLemmas.{IsIn, IsIn-from_Contains, AllByRecursion-at}
 use Rattle.am_universe.proofs.ListLemmas.{AllByRecursion-each, Contains-from_IsIn}
-use Rattle.am_labels.specs.Words.{Space, label_set_of, LabelMap, IsChoiceOf}
-use Rattle.am_files.specs.ConfigFile.{Configuration, continues_of}
+use Rattle.am_labels.specs.Space.{Space, IsChoiceOf}
+use Rattle.am_universe.specs.LabelSet.{label_set_of, LabelMap}
+use Rattle.am_config.specs.ConfigFile.{Configuration, continues_of}
 use Rattle.am_reasons.specs.declared.candidate.Candidate.{Candidate}
 use Rattle.am_reasons.specs.Meeting.{holds_at}
 use Rattle.am_reasons.specs.Reason.{AreSameLiterals, without, IsReason}

@@ -1,12 +1,11 @@
 -- Which routes are to blame: from the literals that are named to the paths of their routes.
-use Rattle.std.proofs.Common.{◌≡◌, ◌≤◌, ◌+◌, ◌-◌, ℕ, zero, suc, List, [], ◌∷◌}
-use Rattle.std.proofs.Common.{drop, Some, None, refl, sym, ap, ◌∙◌, subst, slice_get}
-use Rattle.std.proofs.Common.{Contains, IsTrue, Bool, true, false, not, ◌||◌, ◌&&◌, inl, inr, arith}
+use Rattle.std.proofs.Common.{◌≡◌, ◌≤◌, ◌+◌, ◌-◌, ℕ, zero, suc, List, [], ◌∷◌, drop, Some, None}
+use Rattle.std.proofs.Common.{refl, sym, ap, ◌∙◌, subst, slice_get, Contains, IsTrue, Bool, true}
+use Rattle.std.proofs.Common.{false, not, ◌||◌, ◌&&◌, inl, inr, arith}
 use Rattle.std.specs.List.{find}
 use Rattle.std.proofs.lemmas.Bool.{cases_Bool, and_parts}
 use Rattle.am_universe.proofs.ListLemmas.{IsIn, IsIn-from_Contains, Contains-from_IsIn}
-use Rattle.am_labels.specs.Words.{Space}
-use Rattle.am_labels.specs.Words.{all_choices, IsChoiceOf}
+use Rattle.am_labels.specs.Space.{Space, all_choices, IsChoiceOf}
 use Rattle.am_labels.proofs.SpaceLaws.{space_choices}
 use Rattle.am_reasons.specs.declared.candidate.Candidate.{Candidate}
 use Rattle.am_reasons.specs.Meeting.{holds_at, hold_all, meets, IsUnmet}

@@ -11,7 +11,7 @@ use Rattle.std.proofs.lemmas.List.FromFn.{get_or-enumerate_from}
 use Rattle.std.proofs.lemmas.List.Elements.{filter_more}
 use Rattle.std.proofs.lemmas.Option.{slice_get-map}
 use Rattle.am_universe.proofs.CompletionLemmas.{filter_of_map}
-use Rattle.am_files.specs.ConfigFile.{Configuration}
+use Rattle.am_config.specs.ConfigFile.{Configuration}
 use Rattle.am_complete_texts.specs.UniverseText.{texts_behind}
 use Rattle.am_complete_texts.proofs.PieceSteps.{last_put, item_here}
 use Rattle.am_lint.specs.declared.found.FoundRoute.{FoundRoute}

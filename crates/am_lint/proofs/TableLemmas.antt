@@ -1,18 +1,17 @@
 -- Routes of a table, and the routes of the configuration.
 use Rattle.std.proofs.Common.{◌≡◌, ℕ, zero, suc, List, [], ◌∷◌, ◌++◌, Some, refl, subst, sym, ap}
-use Rattle.std.proofs.Common.{◌∙◌}
-use Rattle.std.proofs.Common.{slice_get, inl, inr}
+use Rattle.std.proofs.Common.{◌∙◌, slice_get, inl, inr}
 use Rattle.std.specs.List.{AllZip}
 use Rattle.std.proofs.lemmas.Option.{same_Some}
 use Rattle.am_universe.proofs.ListLemmas.{IsIn, IsIn-unmap}
 use Rattle.am_universe.proofs.Members.{in_at}
-use Rattle.am_labels.specs.Words.{Label}
-use Rattle.am_files.specs.ConfigFile.{RouteTree, Configuration, continues_of, matchers_of}
-use Rattle.am_files.specs.Path.{route_at}
-use Rattle.am_files.specs.RoutePaths.{all_routes}
-use Rattle.am_files.proofs.RouteLists.{each_at}
+use Rattle.am_universe.specs.Universe.{Label}
+use Rattle.am_config.specs.ConfigFile.{RouteTree, Configuration, continues_of, matchers_of}
+use Rattle.am_config.specs.Path.{route_at}
+use Rattle.am_config.specs.RoutePaths.{all_routes}
+use Rattle.am_config.proofs.RouteLists.{each_at}
 use Rattle.am_eval.proofs.RoutePathLaws.{is_path}
-use Rattle.am_masks.specs.Words.{IsCubeOf}
+use Rattle.am_judged_lists.specs.Cube.{IsCubeOf}
 use Rattle.am_lint.specs.declared.table.TableRoute.{TableRoute}
 use Rattle.am_lint.specs.Table.{IsTabled, IsTableOf}
 

@@ -7,9 +7,9 @@ use Rattle.am_universe.specs.Universe.{Label, IsUniverse}
 use Rattle.am_universe.specs.LabelSet.{LabelMap, label_set_of}
 use Rattle.am_labels.specs.Matcher.{Condition, all_hold}
 use Rattle.am_labels.specs.Space.{Space, is_possible}
-use Rattle.am_files.specs.ConfigFile.{Configuration, RouteTree, Routes, route, no_routes}
-use Rattle.am_files.specs.ConfigFile.{next_route, matchers_of}
-use Rattle.am_files.specs.Path.{list_of, route_at}
+use Rattle.am_config.specs.ConfigFile.{Configuration, RouteTree, Routes, route, no_routes}
+use Rattle.am_config.specs.ConfigFile.{next_route, matchers_of}
+use Rattle.am_config.specs.Path.{list_of, route_at}
 use Rattle.am_eval.specs.Routing.{MatchesAt}
 use Rattle.am_classes.specs.declared.alphabet.Alphabet.{Alphabet}
 use Rattle.am_complete.specs.Complete.{IsSpaceComplete, impossible_conditions}

@@ -3,8 +3,8 @@ use Rattle.std.specs.Prelude.{◌≡◌, ◌<◌, ℕ, List, Option, Some, None,
 use Rattle.std.specs.Prelude.{◌&&◌, ◌==◌, if◌then◌else◌}
 use Rattle.std.specs.List.{list_any}
 use Rattle.am_universe.specs.Choice.{IsWhole}
-use Rattle.am_labels.specs.Words.{Space}
-use Rattle.am_files.specs.ConfigFile.{Configuration, RouteTree, receiver_of}
+use Rattle.am_labels.specs.Space.{Space}
+use Rattle.am_config.specs.ConfigFile.{Configuration, RouteTree, receiver_of}
 use Rattle.am_lint.specs.declared.standing.Standing.{Standing}
 use Rattle.am_lint.specs.declared.standing.Standing.TheVariants as standing_is
 use Rattle.am_lint.specs.declared.standing.Reason.{Reason}

@@ -9,4 +9,3 @@ pub mod Findings
 pub mod FoundView
 pub mod ReportText
 pub mod Report
-pub mod Words

@@ -3,8 +3,8 @@
 use Rattle.std.specs.Prelude.{◌≡◌, ◌≢◌, ℕ, List, Bool, true, false, Some, Contains, IsTrue}
 use Rattle.std.specs.List.{AllByRecursion}
 use Rattle.am_universe.specs.LabelSet.{LabelMap}
-use Rattle.am_files.specs.ConfigFile.{Configuration, RouteTree, continues_of}
-use Rattle.am_files.specs.Path.{route_at}
+use Rattle.am_config.specs.ConfigFile.{Configuration, RouteTree, continues_of}
+use Rattle.am_config.specs.Path.{route_at}
 use Rattle.am_eval.specs.Routing.{MatchesAt}
 use Rattle.am_lint.specs.declared.literals.Part.{Part}
 use Rattle.am_lint.specs.Literals.{is_wanted, stands_in}

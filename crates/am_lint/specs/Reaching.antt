@@ -3,8 +3,8 @@
 use Rattle.std.specs.Prelude.{◌≡◌, ℕ, List, Contains, IsTrue}
 use Rattle.am_universe.specs.LabelSet.{LabelMap, label_set_of}
 use Rattle.am_labels.specs.Space.{Space, IsChoiceOf}
-use Rattle.am_files.specs.ConfigFile.{Configuration}
-use Rattle.am_files.specs.Path.{leads_through}
+use Rattle.am_config.specs.ConfigFile.{Configuration}
+use Rattle.am_config.specs.Path.{leads_through}
 use Rattle.am_eval.specs.Routing.{ends, receivers}
 
 -- The label sets of the choices of a space.

@@ -3,8 +3,8 @@
 use Rattle.std.specs.Prelude.{◌≡◌, ◌≢◌, ℕ, List, [], Contains, IsTrue, false, Some}
 use Rattle.std.specs.List.{AllByRecursion}
 use Rattle.am_universe.specs.LabelSet.{LabelMap}
-use Rattle.am_files.specs.ConfigFile.{Configuration, RouteTree, continues_of}
-use Rattle.am_files.specs.Path.{leads_through, route_at}
+use Rattle.am_config.specs.ConfigFile.{Configuration, RouteTree, continues_of}
+use Rattle.am_config.specs.Path.{leads_through, route_at}
 use Rattle.am_eval.specs.Routing.{MatchesAt}
 use Rattle.am_lint.specs.Places.{stands_before, is_child_of}
 use Rattle.am_lint.specs.Reaching.{Enters, SomeIs, NoneIs}

@@ -3,8 +3,8 @@ use Rattle.std.specs.Prelude.{◌≡◌, ℕ, List, Bool, Option, length}
 use Rattle.std.specs.List.{AllZip, range_with_len}
 use Rattle.am_universe.specs.Universe.{Label}
 use Rattle.am_labels.specs.Space.{Space}
-use Rattle.am_files.specs.ConfigFile.{Configuration, RouteTree, receiver_of}
-use Rattle.am_files.specs.RoutePaths.{all_routes}
+use Rattle.am_config.specs.ConfigFile.{Configuration, RouteTree, receiver_of}
+use Rattle.am_config.specs.RoutePaths.{all_routes}
 use Rattle.am_lint.specs.declared.found.ReceiverFinding.{ReceiverFinding}
 use Rattle.am_lint.specs.Findings.{IsRouteFinding, IsReceiverFinding}
 use Rattle.am_lint.specs.ReportText.{Said, count_findings, count_notes, report_lines}

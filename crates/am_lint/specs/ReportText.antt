@@ -5,8 +5,8 @@ use Rattle.std.specs.List.{flat_map, filter, enumerate_from}
 use Rattle.am_universe.specs.Universe.{Label}
 use Rattle.am_universe.specs.Text.{quoted_text}
 use Rattle.am_universe.specs.WrittenLabelSet.{set_text}
-use Rattle.am_files.specs.ConfigFile.{Configuration, RouteTree, matchers_of}
-use Rattle.am_files.specs.Path.{path_text, route_at}
+use Rattle.am_config.specs.ConfigFile.{Configuration, RouteTree, matchers_of}
+use Rattle.am_config.specs.Path.{path_text, route_at}
 use Rattle.am_complete_texts.specs.Plural.{plural}
 use Rattle.am_complete_texts.specs.UniverseText.{texts_behind}
 use Rattle.am_lint.specs.declared.standing.Cause.{Cause}

@@ -4,7 +4,7 @@ use Rattle.am_universe.specs.Universe.{Label, sizes}
 use Rattle.am_universe.specs.Choice.{IsWhole}
 use Rattle.am_universe.specs.LabelSet.{LabelMap, label_set_of}
 use Rattle.am_labels.specs.Space.{Space, IsChoiceOf}
-use Rattle.am_files.specs.ConfigFile.{Configuration}
+use Rattle.am_config.specs.ConfigFile.{Configuration}
 use Rattle.am_lint.specs.declared.standing.Cause.{Cause}
 use Rattle.am_lint.specs.declared.standing.Cause.TheVariants as cause_is
 use Rattle.am_lint.specs.declared.standing.Standing.{Standing}

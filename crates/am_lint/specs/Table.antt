@@ -1,13 +1,14 @@
 -- The routes of a configuration over labels, as a table.
 use Rattle.std.specs.Prelude.{◌≡◌, ℕ, List, Some}
 use Rattle.std.specs.List.{AllZip}
-use Rattle.am_labels.specs.Words.{Label, Space}
-use Rattle.am_files.specs.ConfigFile.{Configuration, RouteTree, matchers_of, continues_of}
-use Rattle.am_files.specs.ConfigView.{config_view}
-use Rattle.am_files.specs.Path.{route_at}
-use Rattle.am_files.specs.RoutePaths.{all_routes}
-use Rattle.am_masks.specs.Words.{IsCubeOf}
-use Rattle.am_first_sets.specs.Words.{possible_space}
+use Rattle.am_universe.specs.Universe.{Label}
+use Rattle.am_labels.specs.Space.{Space}
+use Rattle.am_config.specs.ConfigFile.{Configuration, RouteTree, matchers_of, continues_of}
+use Rattle.am_config.specs.ConfigView.{config_view}
+use Rattle.am_config.specs.Path.{route_at}
+use Rattle.am_config.specs.RoutePaths.{all_routes}
+use Rattle.am_judged_lists.specs.Cube.{IsCubeOf}
+use Rattle.am_first_sets.specs.PossibleRefuter.{possible_space}
 use Rattle.am_lint.specs.declared.table.TableRoute.{TableRoute}
 use Rattle.am_lint.specs.declared.table.Table.{Table}
 

@@ -2,14 +2,15 @@
 
 ghost use Rattle.std.specs.Prelude.{◌≡◌, IfOk, OnOk, map, length, None};
 ghost use Rattle.std.specs.List.{AllByRecursion, AllZip, range_with_len};
-ghost use Rattle.am_files.specs.Words.{config_view, all_routes};
+ghost use Rattle.am_config.specs.ConfigView.{config_view};
+ghost use Rattle.am_config.specs.RoutePaths.{all_routes};
 ghost use Rattle.am_lint.specs.FoundView.{IsFoundIn, IsLookedAt, IsSameButEvery, receiver_finding};
 ghost use Rattle.am_lint.specs.Table.{KnowsRoutes, table_space, table_config, IsRoute};
 
 use crate::found::{FoundRoute, ReceiverFinding, receiver_finding};
 use crate::standing::standing_of;
 use crate::table::Table;
-use am_files::Config;
+use am_config::Config;
 use am_labels::Space;
 use std::alloc::{AllocError, Global};
 

@@ -5,8 +5,8 @@ ghost use Rattle.am_lint.specs.FoundView.{finding_of, finding_view, unentered, i
 ghost use Rattle.am_lint.specs.FoundView.{is_end_if_any, receiver_finding};
 
 use crate::standing::{Reason, Standing};
-use am_files::Path;
-use am_labels::Choice;
+use am_config::Path;
+use am_universe::Choice;
 
 /// A route with how it stands over ordinary alerts; and, where none of these ends there, over every
 /// alert, if others count.

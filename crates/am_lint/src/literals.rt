@@ -5,7 +5,7 @@ ghost use Rattle.am_lint.specs.Literals.{stands_in, is_wanted, AddsPart};
 
 use crate::places::{is_child_of, stands_before};
 use crate::table::{Table, TableRoute};
-use am_files::Path;
+use am_config::Path;
 use am_reasons::Candidate;
 use std::alloc::AllocError;
 

@@ -3,7 +3,7 @@
 ghost use Rattle.std.specs.Prelude.{◌≡◌};
 ghost use Rattle.am_lint.specs.Places.{stands_before, is_child_of};
 
-use am_files::Path;
+use am_config::Path;
 
 /// Whether the route at `other` is an earlier sibling of the route at `path`, or of one on the way
 /// to it.

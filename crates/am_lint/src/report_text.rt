@@ -3,8 +3,8 @@
 ghost use Rattle.std.specs.Prelude.{◌≡◌, ◌<◌, ◌++◌, length, map, codes, string_bytes, IfOk, OnOk};
 ghost use Rattle.std.specs.Prelude.{Some};
 ghost use Rattle.std.specs.List.{AllByRecursion};
-ghost use Rattle.am_labels.specs.Words.{sizes};
-ghost use Rattle.am_files.specs.Words.{config_view};
+ghost use Rattle.am_universe.specs.Universe.{sizes};
+ghost use Rattle.am_config.specs.ConfigView.{config_view};
 ghost use Rattle.am_lint.specs.FoundView.{finding_view, finding_of, said_of, IsShown};
 ghost use Rattle.am_lint.specs.FoundView.{IsShownFinding};
 ghost use Rattle.am_lint.specs.ReportText.{report_lines, route_line, receiver_line, count_text};
@@ -17,8 +17,8 @@ ghost use Rattle.am_lint.specs.ReportText.{is_unmatched, is_unusual};
 use crate::found::{FoundRoute, ReceiverFinding, RouteFinding};
 use crate::standing::{Cause, Reason};
 use am_complete_texts::{plural, push_label_set, push_matchers, push_path, push_quoted};
-use am_files::{Config, Path};
-use am_labels::Universe;
+use am_config::{Config, Path};
+use am_universe::Universe;
 use std::alloc::{AllocError, Global};
 
 /// What is to be said of routes and receivers: a line for each of which something is. `universe`

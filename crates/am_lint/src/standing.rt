@@ -3,7 +3,8 @@
 ghost use Rattle.std.specs.Prelude.{◌≡◌, ◌≤◌, ◌∷◌, ◌++◌, [], List, length, drop, IfOk, IfSome};
 ghost use Rattle.std.specs.Prelude.{IfNone};
 ghost use Rattle.am_reasons.specs.declared.candidate.Candidate.{Candidate};
-ghost use Rattle.am_reasons.specs.Words.{IsAnyMet, AreSameLiterals, IsReason};
+ghost use Rattle.am_reasons.specs.Meeting.{IsAnyMet};
+ghost use Rattle.am_reasons.specs.Reason.{AreSameLiterals, IsReason};
 ghost use Rattle.am_lint.specs.declared.literals.Part.{Part};
 ghost use Rattle.am_lint.specs.declared.literals.Part.TheVariants as parts;
 ghost use Rattle.am_lint.specs.Table.{KnowsRoutes, table_space, table_config, IsRoute};
@@ -15,9 +16,9 @@ ghost use Rattle.am_lint.specs.Standing.{IsStanding, IsReasonFor, IsShownBy};
 
 use crate::literals::{Part, add_part};
 use crate::table::Table;
-use am_files::Path;
-use am_labels::Choice;
+use am_config::Path;
 use am_reasons::{Candidate, find_reason, first_meeting};
+use am_universe::Choice;
 use std::alloc::{AllocError, Global};
 
 /// How routes keep label sets from entering another.

@@ -1,13 +1,13 @@
 //! The routes of a configuration over a space, each with the cube of its matchers.
 
 ghost use Rattle.std.specs.Prelude.{◌≡◌, IfOk};
-ghost use Rattle.am_files.specs.Words.{config_view};
+ghost use Rattle.am_config.specs.ConfigView.{config_view};
 ghost use Rattle.am_lint.specs.Table.{KnowsRoutes, table_space, table_config};
 
-use am_files::{Config, Path};
+use am_config::{Config, Path};
 use am_first_sets::PossibleRefuter;
+use am_judged_lists::Cube;
 use am_labels::Space;
-use am_masks::Cube;
 use std::alloc::{AllocError, Global};
 
 /// A route, by its path, with what a search asks of it.

@@ -1,7 +1,7 @@
 //! The notes of a call that is done.
 
 ghost use Rattle.std.specs.Prelude.{IfOk, string_bytes};
-ghost use Rattle.am_notes.specs.Words.{AreNoteLines};
+ghost use Rattle.am_notes.specs.NoteText.{AreNoteLines};
 
 use crate::Call;
 use crate::likeness::Likeness;
@@ -10,9 +10,10 @@ use crate::notes::Notes;
 use crate::questions::{add_question, asks_of_routes};
 use crate::universes::add_incomplete;
 use am_command_line::Request;
-use am_files::{read_config, read_universe};
+use am_config::read_config;
 use am_json::read_json;
 use am_labels::parse_matchers;
+use am_list_files::read_universe;
 use am_questions::parse_question;
 use std::alloc::{AllocError, Global};
 

@@ -1,6 +1,6 @@
 //! What a file looks like.
 
-use am_labels::Place;
+use am_universe::Place;
 use serde_json::Value;
 
 /// What a file looks like, by its outermost fields alone.

@@ -4,7 +4,8 @@ ghost use Rattle.std.specs.Prelude.{◌<◌, length};
 
 use crate::notes::Notes;
 use crate::sentences::{run_together, undeclared_label, undeclared_value};
-use am_labels::{Matcher, Matchers, Op, Universe};
+use am_labels::{Matcher, Matchers, Op};
+use am_universe::Universe;
 use std::alloc::{AllocError, Global};
 
 /// Adds the notes on the matchers of a label set, which was read from a text.

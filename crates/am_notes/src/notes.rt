@@ -2,7 +2,7 @@
 
 ghost use Rattle.std.specs.Prelude.{◌≡◌, ◌++◌, string_bytes, IfOk, OnOk};
 ghost use Rattle.std.specs.List.{flat_map};
-ghost use Rattle.am_notes.specs.Words.{note_text, AreNoteLines};
+ghost use Rattle.am_notes.specs.NoteText.{note_text, AreNoteLines};
 
 use std::alloc::{AllocError, Global};
 

@@ -3,7 +3,7 @@
 use crate::matchers::add_question_matchers;
 use crate::notes::Notes;
 use am_eval::{Files, Question};
-use am_labels::Universe;
+use am_universe::Universe;
 use std::alloc::{AllocError, Global};
 
 const NO_SILENCES: &str = "without --silences nothing is silenced";

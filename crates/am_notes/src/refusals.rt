@@ -1,12 +1,12 @@
 //! The notes of a call that was refused.
 
 ghost use Rattle.std.specs.Prelude.{IfOk, string_bytes};
-ghost use Rattle.am_notes.specs.Words.{AreNoteLines};
+ghost use Rattle.am_notes.specs.NoteText.{AreNoteLines};
 
 use crate::Call;
 use crate::notes::Notes;
 use crate::remedies::add_remedy;
-use am_labels::Fault;
+use am_universe::Fault;
 use std::alloc::{AllocError, Global};
 
 /// The notes behind a refusal, each a line, with its line feed: at most one, and there may be none.

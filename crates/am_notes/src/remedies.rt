@@ -7,7 +7,7 @@ use crate::sentences::looks_like;
 use am_command_line::Request;
 use am_json::limits::MAX_FILE_BYTES;
 use am_json::read_json;
-use am_labels::{Fault, Kind, Place};
+use am_universe::{Fault, Kind, Place};
 use std::alloc::{AllocError, Global};
 
 /// Adds the remedy for a fault, if one is known.

@@ -5,7 +5,7 @@ use crate::sentences::{left_out, undeclarable, unproved};
 use am_asked::asked_by_routes;
 use am_classes::Alphabet;
 use am_complete::{Completeness, LabelState, label_states};
-use am_files::Config;
+use am_config::Config;
 use am_labels::Space;
 use std::alloc::{AllocError, Global};
 

@@ -1,15 +1,19 @@
 -- Routes of which the same is seen, child by child.
-use Rattle.std.proofs.Common.{◌≡◌, ℕ, ◌+◌, ◌-◌, ◌<◌, ◌≤◌, Bool, true, false, not, cond, ◌&&◌, List, [], ◌∷◌, ◌++◌, length}
-use Rattle.std.proofs.Common.{take, get_or, refl, ap, sym, ◌∙◌, subst, arith, append-nil, append_assoc, length-append}
+use Rattle.std.proofs.Common.{◌≡◌, ℕ, ◌+◌, ◌-◌, ◌<◌, ◌≤◌, Bool, true, false, not, cond, ◌&&◌, List}
+use Rattle.std.proofs.Common.{[], ◌∷◌, ◌++◌, length, take, get_or, refl, ap, sym, ◌∙◌, subst, arith}
+use Rattle.std.proofs.Common.{append-nil, append_assoc, length-append}
 use Rattle.std.proofs.Math.Bool.{beq}
 use Rattle.std.proofs.Math.Seq.{drop-append_seam}
 use Rattle.std.specs.List.{AllZip, slice_range}
 use Rattle.std.proofs.lemmas.List.{take_more, take_all}
-use Rattle.am_labels.specs.Words.{Label, sizes, admits}
+use Rattle.am_universe.specs.Universe.{Label, sizes}
+use Rattle.am_universe.specs.Choice.{admits}
 use Rattle.am_labels.specs.Space.{Space}
-use Rattle.am_files.specs.ConfigFile.{Configuration, RouteTree, Routes, route, no_routes, next_route}
+use Rattle.am_config.specs.ConfigFile.{Configuration, RouteTree, Routes, route, no_routes}
+use Rattle.am_config.specs.ConfigFile.{next_route}
 use Rattle.am_search.specs.declared.verdict.Verdict.{Verdict}
-use Rattle.am_masks.specs.Words.{verdict_at, is_yes, is_no}
+use Rattle.am_judged_lists.specs.Cube.{verdict_at}
+use Rattle.am_search.specs.Judge.{is_yes, is_no}
 use Rattle.am_first_sets.specs.declared.route_cubes.RouteCubes.{RouteCubes}
 use Rattle.am_first_sets.specs.declared.route_cubes.RouteCubes.TheViews.{out-RouteCubes}
 use Rattle.am_first_sets.specs.RouteCubes.{AreCubesOf, AreCubesOfEach}

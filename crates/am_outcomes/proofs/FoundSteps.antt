@@ -1,17 +1,19 @@
 -- The outcomes of the choices of the last layer.
-use Rattle.std.proofs.Common.{◌≡◌, ℕ, ◌+◌, Bool, true, false, not, cond, ◌&&◌, ◌||◌, List, [], ◌∷◌, ◌++◌, map}
-use Rattle.std.proofs.Common.{fold, length, take, slice_get, Some, refl, ap, sym, ◌∙◌, nat_eq}
+use Rattle.std.proofs.Common.{◌≡◌, ℕ, ◌+◌, Bool, true, false, not, cond, ◌&&◌, ◌||◌, List, [], ◌∷◌}
+use Rattle.std.proofs.Common.{◌++◌, map, fold, length, take, slice_get, Some, refl, ap, sym, ◌∙◌}
+use Rattle.std.proofs.Common.{nat_eq}
 use Rattle.std.specs.Global.{Vec}
 use Rattle.std.specs.List.{list_any, AllByRecursion}
 use Rattle.std.specs.Cmp.Lexicographic.{pointwise}
 use Rattle.std.proofs.lemmas.List.{map-append, length-map, take_more}
 use Rattle.std.proofs.lemmas.List.Sums.{fold-append}
 use Rattle.std.proofs.lemmas.Option.{slice_get_within, get_or_from_slice_get}
-use Rattle.am_universe.specs.Universe.{Label}
+use Rattle.am_universe.specs.Universe.{Label, sizes}
 use Rattle.am_universe.specs.Text.{same_text}
-use Rattle.am_labels.specs.Words.{sizes, IsWhole, label_set_of}
+use Rattle.am_universe.specs.Choice.{IsWhole}
+use Rattle.am_universe.specs.LabelSet.{label_set_of}
 use Rattle.am_labels.specs.Space.{Space, is_possible_choice}
-use Rattle.am_files.specs.ConfigFile.{Configuration}
+use Rattle.am_config.specs.ConfigFile.{Configuration}
 use Rattle.am_search.specs.declared.verdict.Verdict.{Verdict}
 use Rattle.am_outcomes.specs.Outcomes.{same_fate, with_first, with_fate, fate}
 use Rattle.am_outcomes.specs.States.{HasState}

@@ -1,7 +1,7 @@
 -- What is found behind prefixes, and which of them may be left out.
-use Rattle.std.proofs.Common.{◌≡◌, ℕ, zero, suc, ◌+◌, ◌<◌, ◌≤◌, Bool, true, false, not, cond, ◌||◌, List, [], ◌∷◌}
-use Rattle.std.proofs.Common.{◌++◌, map, fold, length, slice_index, refl, ap, sym, ◌∙◌}
-use Rattle.std.proofs.Common.{subst, inl, inr, arith}
+use Rattle.std.proofs.Common.{◌≡◌, ℕ, zero, suc, ◌+◌, ◌<◌, ◌≤◌, Bool, true, false, not, cond, ◌||◌}
+use Rattle.std.proofs.Common.{List, [], ◌∷◌, ◌++◌, map, fold, length, slice_index, refl, ap, sym}
+use Rattle.std.proofs.Common.{◌∙◌, subst, inl, inr, arith}
 use Rattle.std.specs.List.{list_any, flat_map, filter, range_with_len, AllByRecursion}
 use Rattle.std.specs.Cmp.{IsEquivalence}
 use Rattle.std.specs.Cmp.Lexicographic.{lists_equiv, nat_list_eq_equiv}
@@ -15,14 +15,18 @@ use Rattle.am_universe.proofs.ListLemmas.{IsIn, IsIn-map, AllByRecursion-each, A
 use Rattle.am_universe.proofs.Members.{joined_in}
 use Rattle.am_universe.proofs.CompletionLemmas.{below, completions_are_below, below_by_next}
 use Rattle.am_universe.proofs.CompletionLemmas.{completions_of_whole, admits_next}
-use Rattle.am_labels.specs.Words.{sizes, admits, completions, IsWhole, label_set_of, Condition}
-use Rattle.am_labels.specs.Words.{all_hold, choices}
+use Rattle.am_universe.specs.Universe.{sizes}
+use Rattle.am_universe.specs.Choice.{admits, IsWhole, choices}
+use Rattle.am_universe.specs.Completions.{completions}
+use Rattle.am_universe.specs.LabelSet.{label_set_of}
+use Rattle.am_labels.specs.Matcher.{Condition, all_hold}
 use Rattle.am_labels.specs.Space.{Space, is_possible_choice}
-use Rattle.am_files.specs.ConfigFile.{Configuration}
+use Rattle.am_config.specs.ConfigFile.{Configuration}
 use Rattle.am_search.specs.declared.verdict.Verdict.{Verdict}
 use Rattle.am_search.specs.declared.verdict.Verdict.TheVariants.{Yes, No, Open}
-use Rattle.am_masks.specs.Words.{verdict_of_list, matches_at, is_yes}
-use Rattle.am_masks.proofs.VerdictLemmas.{yes_exactly}
+use Rattle.am_judged_lists.specs.Verdicts.{verdict_of_list, matches_at}
+use Rattle.am_search.specs.Judge.{is_yes}
+use Rattle.am_judged_lists.proofs.VerdictLemmas.{yes_exactly}
 use Rattle.am_outcomes.specs.Outcomes.{same_fate, with_first, with_fate, fate, outcomes_of}
 use Rattle.am_outcomes.specs.States.{lists_state}
 use Rattle.am_outcomes.specs.LayerView.{possible_completions, gathered, StandFor, longer_by}

@@ -1,19 +1,23 @@
 -- What is seen of lists and of configurations, one by one.
-use Rattle.std.proofs.Common.{◌≡◌, ℕ, zero, suc, ◌+◌, ◌<◌, ◌≤◌, true, false, cond, ◌||◌, List, [], ◌∷◌, ◌++◌}
-use Rattle.std.proofs.Common.{map, length, take, drop, get_or, drop-cons, add-one, append_assoc, append-nil, Bor}
-use Rattle.std.proofs.Common.{Some, None, refl, ap, sym, ◌∙◌, subst, arith}
+use Rattle.std.proofs.Common.{◌≡◌, ℕ, zero, suc, ◌+◌, ◌<◌, ◌≤◌, true, false, cond, ◌||◌, List, []}
+use Rattle.std.proofs.Common.{◌∷◌, ◌++◌, map, length, take, drop, get_or, drop-cons, add-one}
+use Rattle.std.proofs.Common.{append_assoc, append-nil, Bor, Some, None, refl, ap, sym, ◌∙◌, subst}
+use Rattle.std.proofs.Common.{arith}
 use Rattle.std.specs.Global.{Vec}
 use Rattle.std.specs.List.{list_any}
 use Rattle.std.proofs.lemmas.Bool.{or_right}
 use Rattle.std.proofs.lemmas.List.{drop_all, take_all, map-append, map_more}
 use Rattle.std.proofs.lemmas.List.Folds.{list_any-append}
-use Rattle.am_labels.specs.Words.{Label, LabelMap, sizes, admits}
+use Rattle.am_universe.specs.Universe.{Label, sizes}
+use Rattle.am_universe.specs.LabelSet.{LabelMap}
+use Rattle.am_universe.specs.Choice.{admits}
 use Rattle.am_labels.specs.Space.{Space}
-use Rattle.am_files.specs.ConfigFile.{Configuration}
-use Rattle.am_files.specs.ConfigView.{config_view}
-use Rattle.am_files.specs.declared.config.Config.{Config}
+use Rattle.am_config.specs.ConfigFile.{Configuration}
+use Rattle.am_config.specs.ConfigView.{config_view}
+use Rattle.am_config.specs.declared.config.Config.{Config}
 use Rattle.am_search.specs.declared.verdict.Verdict.{Verdict}
-use Rattle.am_masks.specs.Words.{MaskedLabels, verdict_at, is_yes}
+use Rattle.am_judged_lists.specs.Cube.{MaskedLabels, verdict_at}
+use Rattle.am_search.specs.Judge.{is_yes}
 use Rattle.am_first_sets.specs.declared.route_cubes.RouteCubes.{RouteCubes}
 use Rattle.am_eval.specs.Routing.{receivers}
 use Rattle.am_outcomes.specs.Outcomes.{fate}

@@ -1,7 +1,8 @@
 -- A layer, prefix by prefix.
-use Rattle.std.proofs.Common.{◌≡◌, ◌≢◌, ℕ, ◌+◌, ◌<◌, ◌≤◌, Bool, true, false, cond, ◌||◌, List}
-use Rattle.std.proofs.Common.{[], ◌∷◌, ◌++◌, map, length, take, slice_get, Some, None}
-use Rattle.std.proofs.Common.{append-nil, append_assoc, add-one, slice_index, refl, ap, sym, ◌∙◌, subst, inl, inr, arith}
+use Rattle.std.proofs.Common.{◌≡◌, ◌≢◌, ℕ, ◌+◌, ◌<◌, ◌≤◌, Bool, true, false, cond, ◌||◌, List, []}
+use Rattle.std.proofs.Common.{◌∷◌, ◌++◌, map, length, take, slice_get, Some, None, append-nil}
+use Rattle.std.proofs.Common.{append_assoc, add-one, slice_index, refl, ap, sym, ◌∙◌, subst, inl}
+use Rattle.std.proofs.Common.{inr, arith}
 use Rattle.std.specs.Global.{Vec}
 use Rattle.std.specs.List.{list_any, range_with_len, AllByRecursion}
 use Rattle.std.proofs.lemmas.Bool.{cases_Bool}
@@ -15,22 +16,23 @@ use Rattle.am_search.specs.contracts.verdict.Verdict.{the_type}
 use Rattle.am_universe.proofs.ListLemmas.{IsIn, AllByRecursion-at}
 use Rattle.am_universe.proofs.DistinctLists.{all_push}
 use Rattle.am_universe.proofs.CompletionLemmas.{range_more}
-use Rattle.am_labels.specs.Words.{sizes, admits}
+use Rattle.am_universe.specs.Universe.{sizes}
+use Rattle.am_universe.specs.Choice.{admits}
 use Rattle.am_labels.specs.Space.{Space}
-use Rattle.am_files.specs.ConfigFile.{Configuration}
+use Rattle.am_config.specs.ConfigFile.{Configuration}
 use Rattle.am_search.specs.declared.verdict.Verdict.{Verdict}
 use Rattle.am_search.specs.declared.verdict.Verdict.TheVariants.{Yes, No, Open}
-use Rattle.am_masks.specs.Words.{is_yes}
+use Rattle.am_search.specs.Judge.{is_yes}
 use Rattle.am_outcomes.specs.declared.judged.Judged.{Judged}
 use Rattle.am_outcomes.specs.declared.limits.TheConstants.{MAX_STATES}
 use Rattle.am_outcomes.specs.Outcomes.{with_first}
 use Rattle.am_outcomes.specs.JudgedView.{judged_space, judged_configs}
-use Rattle.am_outcomes.specs.States.{HasState, HaveDistinctStates, HaveManyStates, state_of, lists_state}
+use Rattle.am_outcomes.specs.States.{HasState, HaveDistinctStates, HaveManyStates, state_of}
+use Rattle.am_outcomes.specs.States.{lists_state}
 use Rattle.am_outcomes.specs.LayerView.{IsLayer, StandFor, prefixes_of, state_view, longer_by}
 use Rattle.am_outcomes.specs.LayerView.{gathered}
 use Rattle.am_outcomes.proofs.SameFates.{routes_state, alike_behind}
-use Rattle.am_outcomes.proofs.Gathered.{stand_for_both, without_impossible, without_known}
-use Rattle.am_outcomes.proofs.Gathered.{by_next}
+use Rattle.am_outcomes.proofs.Gathered.{stand_for_both, without_impossible, without_known, by_next}
 
 -- What is kept: states, as they stand in memory, each with its prefix.
 abbrev Entry : Type 0

@@ -5,9 +5,9 @@ use Rattle.std.specs.List.{list_all}
 use Rattle.std.proofs.lemmas.Bool.{cases_Bool, cases_lt, and_parts}
 use Rattle.std.proofs.lemmas.List.{get_or-append_right, get_or_append_left, length-append}
 use Rattle.am_search.specs.declared.verdict.Verdict.TheVariants.{Yes, No, Open}
-use Rattle.am_masks.specs.declared.cube.LabelMask.{LabelMask}
-use Rattle.am_masks.specs.Cube.{MaskedLabels, may_at, reaches_all, verdict_at}
-use Rattle.am_masks.proofs.CubeLemmas.{fits, fits_at, fits_from}
+use Rattle.am_judged_lists.specs.declared.cube.LabelMask.{LabelMask}
+use Rattle.am_judged_lists.specs.Cube.{MaskedLabels, may_at, reaches_all, verdict_at}
+use Rattle.am_judged_lists.proofs.CubeLemmas.{fits, fits_at, fits_from}
 
 module _ (p q : List ℕ) (long : length p ≡ length q) (r : List ℕ) where
   as_long : length (p ++ r) ≡ length (q ++ r)

@@ -5,12 +5,12 @@ use Rattle.std.proofs.Common.{add-one, refl, ap, ◌∙◌}
 use Rattle.std.specs.List.{AllZip, flat_map, filter_map}
 use Rattle.am_universe.specs.LabelSet.{LabelMap}
 use Rattle.am_labels.specs.Matcher.{all_hold}
-use Rattle.am_files.specs.ConfigFile.{Configuration, RouteSettings, RouteTree, Routes, route}
-use Rattle.am_files.specs.ConfigFile.{no_routes, next_route, matchers_of, continues_of, receiver_of}
-use Rattle.am_files.specs.Path.{route_at, list_of}
-use Rattle.am_eval.specs.Routing.{ends, ends_at, children_seen, ends_tried, or_itself}
+use Rattle.am_config.specs.ConfigFile.{Configuration, RouteSettings, RouteTree, Routes, route}
+use Rattle.am_config.specs.ConfigFile.{no_routes, next_route, matchers_of, continues_of, receiver_of}
+use Rattle.am_config.specs.Path.{route_at, list_of}
+use Rattle.am_eval.specs.Routing.{ends, ends_at, children_seen, ends_tried, or_own_path}
 use Rattle.am_eval.specs.Routing.{receiver_at, receivers, Child, tried}
-use Rattle.am_outcomes.specs.Receivers.{receivers_at, child_receivers, or_own}
+use Rattle.am_outcomes.specs.Receivers.{receivers_at, child_receivers, or_own_receiver}
 
 -- A path leads from a route to one with a receiver; and so it does from one of some children, at
 -- whose position it begins.
@@ -66,7 +66,7 @@ standing (y ∷ ys) (suc i) x rest e = standing ys i x rest e
 
 own_if_none : (settings : RouteSettings) (children : Routes) (xs : List (List ℕ)) (us : List ℕ)
     → AllZip (HasBelow (list_of children)) xs us
-    → AllZip (Has (route settings children)) (or_itself xs) (or_own settings.receiver us)
+    → AllZip (Has (route settings children)) (or_own_path xs) (or_own_receiver settings.receiver us)
 own_if_none settings children [] [] all = (refl, tt)
 own_if_none settings children [] (u ∷ us) all = absurd all
 own_if_none settings children (x ∷ xs) [] all = absurd all
@@ -95,8 +95,8 @@ module _ (s : LabelMap) where
     side_by_side : (t : RouteTree) → AllZip (Has t) (ends_at s t) (receivers_at s t)
     side_by_side (route settings children) =
         only_matched (all_hold s settings.matchers) (Has (route settings children))
-        (or_itself (ends_tried (children_seen s 0 children)))
-        (or_own settings.receiver (child_receivers s children))
+        (or_own_path (ends_tried (children_seen s 0 children)))
+        (or_own_receiver settings.receiver (child_receivers s children))
         (own_if_none settings children (ends_tried (children_seen s 0 children))
         (child_receivers s children)
         (children_side_by_side (list_of children) 0 children refl))

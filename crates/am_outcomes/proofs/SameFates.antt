@@ -1,21 +1,25 @@
 -- Prefixes with the same state have the same fates behind them.
-use Rattle.std.proofs.Common.{◌≡◌, ℕ, ◌+◌, Bool, true, false, not, cond, List, [], ◌∷◌}
-use Rattle.std.proofs.Common.{◌++◌, map, length, nat_eq, nat_lt, Some, None, append_assoc, refl}
-use Rattle.std.proofs.Common.{ap, sym, ◌∙◌, subst, inl, inr, arith}
+use Rattle.std.proofs.Common.{◌≡◌, ℕ, ◌+◌, Bool, true, false, not, cond, List, [], ◌∷◌, ◌++◌, map}
+use Rattle.std.proofs.Common.{length, nat_eq, nat_lt, Some, None, append_assoc, refl, ap, sym, ◌∙◌}
+use Rattle.std.proofs.Common.{subst, inl, inr, arith}
 use Rattle.std.specs.List.{list_any, flat_map, filter, starts_with}
 use Rattle.std.proofs.lemmas.Bool.{and_parts, and_from, eq-eqb, eqb-true}
 use Rattle.std.proofs.lemmas.List.{length-map, length-append}
 use Rattle.am_universe.proofs.ListLemmas.{IsIn}
 use Rattle.am_universe.proofs.UniverseLemmas.{list_any-map}
-use Rattle.am_labels.specs.Words.{LabelMap, Condition, IsUniverse, sizes, admits, IsWhole}
-use Rattle.am_labels.specs.Words.{label_set_of}
+use Rattle.am_universe.specs.LabelSet.{LabelMap, label_set_of}
+use Rattle.am_labels.specs.Matcher.{Condition}
+use Rattle.am_universe.specs.Universe.{IsUniverse, sizes}
+use Rattle.am_universe.specs.Choice.{admits, IsWhole}
 use Rattle.am_labels.specs.Space.{Space, is_possible_choice}
-use Rattle.am_files.specs.ConfigFile.{Configuration}
+use Rattle.am_config.specs.ConfigFile.{Configuration}
 use Rattle.am_search.specs.declared.verdict.Verdict.{Verdict}
 use Rattle.am_search.proofs.ChoiceOrder.{in_filter}
 use Rattle.am_search.proofs.VisitedPrefixes.{in_completions}
 use Rattle.am_search.proofs.Walks.{completion_whole}
-use Rattle.am_masks.specs.Words.{MaskedLabels, verdict_at, verdict_of_list, is_yes}
+use Rattle.am_judged_lists.specs.Cube.{MaskedLabels, verdict_at}
+use Rattle.am_judged_lists.specs.Verdicts.{verdict_of_list}
+use Rattle.am_search.specs.Judge.{is_yes}
 use Rattle.am_first_sets.specs.declared.route_cubes.RouteCubes.{RouteCubes}
 use Rattle.am_first_sets.proofs.ImpossibleCubes.{certain_where}
 use Rattle.am_outcomes.specs.Outcomes.{fate}

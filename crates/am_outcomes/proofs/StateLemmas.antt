@@ -1,24 +1,28 @@
 -- Prefixes with the same state: what stands behind them has the same fate.
-use Rattle.std.proofs.Common.{◌≡◌, ℕ, Bool, true, false, not, cond, ◌&&◌, List, [], ◌∷◌, ◌++◌, length}
-use Rattle.std.proofs.Common.{append_assoc, refl, ap, sym, ◌∙◌, inl, inr}
+use Rattle.std.proofs.Common.{◌≡◌, ℕ, Bool, true, false, not, cond, ◌&&◌, List, [], ◌∷◌, ◌++◌}
+use Rattle.std.proofs.Common.{length, append_assoc, refl, ap, sym, ◌∙◌, inl, inr}
 use Rattle.std.proofs.lemmas.Bool.{cases_Bool, and_parts}
-use Rattle.am_labels.specs.Words.{Label, LabelMap, Condition, IsUniverse, sizes, admits, IsWhole}
-use Rattle.am_labels.specs.Words.{label_set_of, completions}
-use Rattle.am_labels.specs.Words.{all_hold}
-use Rattle.am_files.specs.ConfigFile.{RouteSettings, RouteTree, Routes, route, no_routes, next_route}
-use Rattle.am_files.specs.ConfigFile.{matchers_of, continues_of}
+use Rattle.am_universe.specs.Universe.{Label, IsUniverse, sizes}
+use Rattle.am_universe.specs.LabelSet.{LabelMap, label_set_of}
+use Rattle.am_labels.specs.Matcher.{Condition, all_hold}
+use Rattle.am_universe.specs.Choice.{admits, IsWhole}
+use Rattle.am_universe.specs.Completions.{completions}
+use Rattle.am_config.specs.ConfigFile.{RouteSettings, RouteTree, Routes, route, no_routes}
+use Rattle.am_config.specs.ConfigFile.{next_route, matchers_of, continues_of}
 use Rattle.am_search.specs.declared.verdict.Verdict.{Verdict}
 use Rattle.am_search.specs.declared.verdict.Verdict.TheVariants.{Yes, No, Open}
-use Rattle.am_masks.specs.Words.{MaskedLabels, verdict_at, verdict_of_list, is_yes, is_no, matches_at}
-use Rattle.am_masks.proofs.Completed.{completion_of_front, each_completion}
-use Rattle.am_masks.proofs.VerdictLemmas.{yes_exactly, no_exactly}
-use Rattle.am_masks.proofs.CubeLemmas.{some_completion}
-use Rattle.am_masks.proofs.BuildLemmas.{have_values}
+use Rattle.am_judged_lists.specs.Cube.{MaskedLabels, verdict_at}
+use Rattle.am_judged_lists.specs.Verdicts.{verdict_of_list, matches_at}
+use Rattle.am_search.specs.Judge.{is_yes, is_no}
+use Rattle.am_judged_lists.proofs.Completed.{completion_of_front, each_completion}
+use Rattle.am_judged_lists.proofs.VerdictLemmas.{yes_exactly, no_exactly}
+use Rattle.am_judged_lists.proofs.CubeLemmas.{some_completion}
+use Rattle.am_judged_lists.proofs.BuildLemmas.{have_values}
 use Rattle.am_first_sets.proofs.ImpossibleCubes.{certain_where}
 use Rattle.am_first_sets.specs.declared.route_cubes.RouteCubes.{RouteCubes}
 use Rattle.am_first_sets.specs.declared.route_cubes.RouteCubes.TheViews.{out-RouteCubes}
 use Rattle.am_first_sets.specs.RouteCubes.{AreCubesOf, AreCubesOfEach}
-use Rattle.am_outcomes.specs.Receivers.{receivers_at, child_receivers, or_own}
+use Rattle.am_outcomes.specs.Receivers.{receivers_at, child_receivers, or_own_receiver}
 use Rattle.am_outcomes.specs.States.{route_state, children_state, is_certain}
 use Rattle.am_outcomes.proofs.OpenCubes.{same_behind, may_open}
 
@@ -157,10 +161,10 @@ module _ (u : List Label) (is : IsUniverse u) (p q r : List ℕ) (long : length 
                 same,
                 without_front (is_no (v ms p)) (is_no (v ms q)) (children_state u p children)
                     (children_state u q children) x y (ap is_no same) excluded rest,
-                ap (λ b. cond b (or_own settings.receiver
+                ap (λ b. cond b (or_own_receiver settings.receiver
                     (child_receivers (label_set_of u (p ++ r)) children)) [])
                     (unmatched_where_no p ms p-whole none)
-                    ∙ sym (ap (λ b. cond b (or_own settings.receiver
+                    ∙ sym (ap (λ b. cond b (or_own_receiver settings.receiver
                     (child_receivers (label_set_of u (q ++ r)) children)) [])
                     (unmatched_where_no q ms q-whole (sym same ∙ none))),
               )
@@ -171,7 +175,7 @@ module _ (u : List Label) (is : IsUniverse u) (p q r : List ℕ) (long : length 
               (children_state u q children) x y (ap is_no same) may rest) in (
                 same,
                 below.0,
-                λ i. cond (here i) (or_own settings.receiver (below.1 i)) [],
+                λ i. cond (here i) (or_own_receiver settings.receiver (below.1 i)) [],
               )
         ]
 

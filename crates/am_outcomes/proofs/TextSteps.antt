@@ -1,21 +1,21 @@
 -- What is written of outcomes.
-use Rattle.std.proofs.Common.{◌≡◌, ℕ, ◌+◌, ◌<◌, Bool, true, false, cond, List, [], ◌∷◌}
-use Rattle.std.proofs.Common.{◌++◌, map, length, take, get_or, slice_get, unwrap_or, Option, Some, None}
-use Rattle.std.proofs.Common.{option_map, drop, append-nil, refl, ap, sym, ◌∙◌, subst}
-use Rattle.std.proofs.Common.{arith}
+use Rattle.std.proofs.Common.{◌≡◌, ℕ, ◌+◌, ◌<◌, Bool, true, false, cond, List, [], ◌∷◌, ◌++◌, map}
+use Rattle.std.proofs.Common.{length, take, get_or, slice_get, unwrap_or, Option, Some, None}
+use Rattle.std.proofs.Common.{option_map, drop, append-nil, refl, ap, sym, ◌∙◌, subst, arith}
 use Rattle.std.specs.Global.{Vec}
 use Rattle.std.specs.List.{filter, flat_map, filter_map, AllByRecursion}
 use Rattle.std.proofs.lemmas.List.{length-map, length-append, flat_map_more}
 use Rattle.std.proofs.lemmas.List.Elements.{filter_more}
 use Rattle.std.proofs.lemmas.Option.{slice_get_within, get_or_from_slice_get, slice_get-map}
-use Rattle.am_universe.specs.Universe.{Label}
+use Rattle.am_universe.specs.Universe.{Label, sizes}
 use Rattle.am_universe.proofs.ListLemmas.{IsIn-unmap, AllByRecursion-at, AllByRecursion-each}
 use Rattle.am_universe.proofs.Members.{in_at}
 use Rattle.am_universe.proofs.ChoiceLemmas.{whole_from_in}
-use Rattle.am_labels.specs.Words.{LabelMap, sizes, IsWhole, label_set_of, choices}
+use Rattle.am_universe.specs.LabelSet.{LabelMap, label_set_of}
+use Rattle.am_universe.specs.Choice.{IsWhole, choices}
 use Rattle.am_labels.specs.Space.{Space, all_choices, is_possible_choice}
-use Rattle.am_files.specs.ConfigFile.{Configuration, IsConfig, RouteTree}
-use Rattle.am_files.specs.Path.{route_at}
+use Rattle.am_config.specs.ConfigFile.{Configuration, IsConfig, RouteTree}
+use Rattle.am_config.specs.Path.{route_at}
 use Rattle.am_search.proofs.ChoiceOrder.{in_filter}
 use Rattle.am_eval.specs.Routing.{receivers, receiver_at, ends}
 use Rattle.am_eval.proofs.AbsentParts.{receiver_below}
@@ -23,8 +23,8 @@ use Rattle.am_complete_texts.specs.UniverseText.{texts_behind}
 use Rattle.am_complete_texts.proofs.PieceSteps.{item_here}
 use Rattle.am_outcomes.specs.FatesView.{fates_view}
 use Rattle.am_outcomes.specs.Outcomes.{same_fate, with_fate, fate, outcomes_of}
-use Rattle.am_outcomes.specs.OutcomeText.{under, name_of, names_of, same_names, is_change, changes_of}
-use Rattle.am_outcomes.specs.OutcomeText.{change_line, AreDeclared}
+use Rattle.am_outcomes.specs.OutcomeText.{under, name_of, names_of, same_names, is_change}
+use Rattle.am_outcomes.specs.OutcomeText.{changes_of, change_line, AreDeclared}
 use Rattle.am_outcomes.proofs.FirstsLemmas.{first_is_one}
 
 -- ---- What is so of each outcome.

@@ -1,22 +1,27 @@
 -- A walk down the routes, child by child.
-use Rattle.std.proofs.Common.{◌≡◌, ◌≢◌, ℕ, suc, ◌+◌, ◌<◌, ◌≤◌, Bool, true, false, not, cond, ◌&&◌, List, [], ◌∷◌}
-use Rattle.std.proofs.Common.{◌++◌, length, drop, get_or, drop-cons, add-one, append_assoc, append-nil, refl, ap}
-use Rattle.std.proofs.Common.{sym, ◌∙◌, subst, arith}
+use Rattle.std.proofs.Common.{◌≡◌, ◌≢◌, ℕ, suc, ◌+◌, ◌<◌, ◌≤◌, Bool, true, false, not, cond, ◌&&◌}
+use Rattle.std.proofs.Common.{List, [], ◌∷◌, ◌++◌, length, drop, get_or, drop-cons, add-one}
+use Rattle.std.proofs.Common.{append_assoc, append-nil, refl, ap, sym, ◌∙◌, subst, arith}
 use Rattle.std.proofs.lemmas.List.{drop_all, length-append}
 use denote.Enum.Bare.{sameb}
-use Rattle.am_labels.specs.Words.{Label, LabelMap, sizes, IsWhole, label_set_of, all_hold}
-use Rattle.am_files.specs.ConfigFile.{RouteTree, Routes, route, no_routes, next_route}
-use Rattle.am_files.specs.ConfigFile.{matchers_of, continues_of, receiver_of, children_of}
+use Rattle.am_universe.specs.Universe.{Label, sizes}
+use Rattle.am_universe.specs.LabelSet.{LabelMap, label_set_of}
+use Rattle.am_universe.specs.Choice.{IsWhole}
+use Rattle.am_labels.specs.Matcher.{all_hold}
+use Rattle.am_config.specs.ConfigFile.{RouteTree, Routes, route, no_routes, next_route, matchers_of}
+use Rattle.am_config.specs.ConfigFile.{continues_of, receiver_of, children_of}
 use Rattle.am_search.specs.contracts.verdict.Verdict.{the_type}
 use Rattle.am_search.specs.declared.verdict.Verdict.{Verdict}
 use Rattle.am_search.specs.declared.verdict.Verdict.TheVariants.{Yes, No, Open}
-use Rattle.am_masks.specs.Words.{verdict_at, verdict_of_list, is_yes, is_no}
+use Rattle.am_judged_lists.specs.Cube.{verdict_at}
+use Rattle.am_judged_lists.specs.Verdicts.{verdict_of_list}
+use Rattle.am_search.specs.Judge.{is_yes, is_no}
 use Rattle.am_first_sets.specs.declared.route_cubes.RouteCubes.{RouteCubes}
 use Rattle.am_first_sets.specs.declared.route_cubes.RouteCubes.TheViews.{out-RouteCubes}
 use Rattle.am_first_sets.specs.RouteCubes.{AreCubesOf, AreCubesOfEach}
-use Rattle.am_masks.proofs.VerdictLemmas.{list_says}
+use Rattle.am_judged_lists.proofs.VerdictLemmas.{list_says}
 use Rattle.am_outcomes.specs.States.{route_state, children_state, is_certain}
-use Rattle.am_outcomes.specs.Receivers.{receivers_at, child_receivers, or_own}
+use Rattle.am_outcomes.specs.Receivers.{receivers_at, child_receivers, or_own_receiver}
 
 -- ---- Verdicts that were compared.
 
@@ -195,7 +200,7 @@ AreBeingFound u choice t rs i old now =
 pub none_found : (s : LabelMap) (t : RouteTree) → all_hold s (matchers_of t) ≡ false
     → receivers_at s t ≡ []
 none_found s (route settings children) unmatched =
-    ap (λ b. cond b (or_own settings.receiver (child_receivers s children)) []) unmatched
+    ap (λ b. cond b (or_own_receiver settings.receiver (child_receivers s children)) []) unmatched
 
 module _ (u : List Label) (choice : List ℕ) (t : RouteTree) (rs : List RouteCubes) (i : ℕ)
     (old now after : List ℕ) (child : RouteCubes) (matches : Bool)
@@ -250,9 +255,9 @@ search_closed u choice t rs i old now past found =
 
 -- the receivers of a route that is matched: those of its children, or its own
 pub its_receivers : (s : LabelMap) (t : RouteTree) → all_hold s (matchers_of t) ≡ true
-    → receivers_at s t ≡ or_own (receiver_of t) (child_receivers s (children_of t))
+    → receivers_at s t ≡ or_own_receiver (receiver_of t) (child_receivers s (children_of t))
 its_receivers s (route settings children) matched =
-    ap (λ b. cond b (or_own settings.receiver (child_receivers s children)) []) matched
+    ap (λ b. cond b (or_own_receiver settings.receiver (child_receivers s children)) []) matched
 
 pub its_own : (s : LabelMap) (t : RouteTree) (r : RouteCubes) (u : List Label) (choice : List ℕ)
     (old now after : List ℕ) → AreCubesOf u choice t r → all_hold s (matchers_of t) ≡ true
@@ -262,7 +267,7 @@ its_own s t r u choice old now after are matched found same adds =
     by (child_receivers s (children_of t)) found (its_receivers s t matched)
   where
     by : (below : List ℕ) → now ≡ old ++ below
-        → receivers_at s t ≡ or_own (receiver_of t) below → after ≡ old ++ receivers_at s t
+        → receivers_at s t ≡ or_own_receiver (receiver_of t) below → after ≡ old ++ receivers_at s t
     by [] f own =
         adds ∙ (λ i. (f ∙ append-nil old) i ++ own_receiver u choice t r are i ∷ [])
         ∙ ap (λ l. old ++ l) (sym own)
@@ -278,6 +283,6 @@ of_children s t old now matched found other =
     by (child_receivers s (children_of t)) found (its_receivers s t matched)
   where
     by : (below : List ℕ) → now ≡ old ++ below
-        → receivers_at s t ≡ or_own (receiver_of t) below → now ≡ old ++ receivers_at s t
+        → receivers_at s t ≡ or_own_receiver (receiver_of t) below → now ≡ old ++ receivers_at s t
     by [] f own = absurd (other (ap length (f ∙ append-nil old)))
     by (x ∷ below) f own = f ∙ ap (λ l. old ++ l) (sym own)

@@ -1,8 +1,8 @@
 -- Routes of two configurations of which the same is seen.
 use Rattle.std.specs.Prelude.{◌≡◌, ℕ, List}
-use Rattle.am_labels.specs.Words.{Label}
-use Rattle.am_files.specs.ConfigFile.{RouteTree, matchers_of, continues_of}
-use Rattle.am_masks.specs.Words.{verdict_of_list}
+use Rattle.am_universe.specs.Universe.{Label}
+use Rattle.am_config.specs.ConfigFile.{RouteTree, matchers_of, continues_of}
+use Rattle.am_judged_lists.specs.Verdicts.{verdict_of_list}
 use Rattle.am_first_sets.specs.RouteCubes.{AreCubesOf}
 use Rattle.am_first_sets.specs.declared.route_cubes.RouteCubes.{RouteCubes}
 use Rattle.am_outcomes.specs.States.{route_state}

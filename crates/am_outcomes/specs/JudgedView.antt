@@ -1,7 +1,7 @@
 -- The parts of what is judged.
 use Rattle.std.specs.Prelude.{List}
 use Rattle.am_labels.specs.Space.{Space}
-use Rattle.am_files.specs.ConfigFile.{Configuration}
+use Rattle.am_config.specs.ConfigFile.{Configuration}
 use Rattle.am_outcomes.specs.declared.judged.Judged.{Judged}
 use Rattle.am_outcomes.specs.Knows.{configs_view}
 

@@ -3,12 +3,14 @@ use Rattle.std.specs.Prelude.{◌≡◌, ℕ, List, [], ◌∷◌, map, length, 
 use Rattle.std.specs.List.{AllZip}
 use Rattle.std.proofs.Props.{props}
 use Rattle.std.specs.Borrow.{Bor}
-use Rattle.am_labels.specs.Words.{Label, sizes, admits}
+use Rattle.am_universe.specs.Universe.{Label, sizes}
+use Rattle.am_universe.specs.Choice.{admits}
 use Rattle.am_labels.specs.Space.{Space}
-use Rattle.am_files.specs.ConfigFile.{Configuration}
-use Rattle.am_files.specs.ConfigView.{config_view}
-use Rattle.am_files.specs.declared.config.Config.{Config}
-use Rattle.am_masks.specs.Words.{MaskedLabels, verdict_at, verdict_of_list}
+use Rattle.am_config.specs.ConfigFile.{Configuration}
+use Rattle.am_config.specs.ConfigView.{config_view}
+use Rattle.am_config.specs.declared.config.Config.{Config}
+use Rattle.am_judged_lists.specs.Cube.{MaskedLabels, verdict_at}
+use Rattle.am_judged_lists.specs.Verdicts.{verdict_of_list}
 use Rattle.am_first_sets.specs.RouteCubes.{AreCubesOf, AreCubesOf-prop}
 use Rattle.am_first_sets.specs.declared.route_cubes.RouteCubes.{RouteCubes}
 use Rattle.am_outcomes.specs.States.{route_state}

@@ -3,9 +3,10 @@ use Rattle.std.specs.Prelude.{◌≡◌, ℕ, List, [], ◌∷◌, ◌++◌, map
 use Rattle.std.specs.Global.{Vec}
 use Rattle.std.specs.List.{filter, flat_map, AllByRecursion}
 use Rattle.am_search.specs.declared.verdict.Verdict.{Verdict}
-use Rattle.am_labels.specs.Words.{sizes, completions}
+use Rattle.am_universe.specs.Universe.{sizes}
+use Rattle.am_universe.specs.Completions.{completions}
 use Rattle.am_labels.specs.Space.{Space, is_possible_choice}
-use Rattle.am_files.specs.ConfigFile.{Configuration}
+use Rattle.am_config.specs.ConfigFile.{Configuration}
 use Rattle.am_outcomes.specs.Outcomes.{same_fate, with_first, with_fate}
 use Rattle.am_outcomes.specs.States.{HasState, HaveDistinctStates}
 

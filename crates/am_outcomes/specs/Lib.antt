@@ -7,4 +7,3 @@ pub mod FatesView
 pub mod LayerView
 pub mod Receivers
 pub mod Alike
-pub mod Words

@@ -7,7 +7,7 @@ use lib.Pointwise.{pointwise}
 use Rattle.am_universe.specs.Universe.{Label}
 use Rattle.am_universe.specs.Text.{quoted_text, same_text}
 use Rattle.am_universe.specs.WrittenLabelSet.{set_text}
-use Rattle.am_files.specs.ConfigFile.{Configuration}
+use Rattle.am_config.specs.ConfigFile.{Configuration}
 use Rattle.am_complete_texts.specs.Plural.{plural}
 use Rattle.am_complete_texts.specs.UniverseText.{texts_behind}
 

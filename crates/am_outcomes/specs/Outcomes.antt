@@ -6,7 +6,7 @@ use lib.Pointwise.{pointwise}
 use Rattle.am_universe.specs.LabelSet.{LabelMap, label_set_of}
 use Rattle.am_universe.specs.Text.{same_text}
 use Rattle.am_labels.specs.Space.{Space, all_choices}
-use Rattle.am_files.specs.ConfigFile.{Configuration}
+use Rattle.am_config.specs.ConfigFile.{Configuration}
 use Rattle.am_eval.specs.Routing.{receivers}
 
 -- What becomes of an alert: its receivers under each of some configurations, by their positions.

@@ -3,19 +3,20 @@
 use Rattle.std.specs.Prelude.{ℕ, List, [], ◌∷◌, ◌++◌, not, ◌&&◌, if◌then◌else◌}
 use Rattle.am_universe.specs.LabelSet.{LabelMap}
 use Rattle.am_labels.specs.Matcher.{all_hold}
-use Rattle.am_files.specs.ConfigFile.{RouteTree, Routes, route, no_routes, next_route}
-use Rattle.am_files.specs.ConfigFile.{matchers_of, continues_of}
+use Rattle.am_config.specs.ConfigFile.{RouteTree, Routes, route, no_routes, next_route}
+use Rattle.am_config.specs.ConfigFile.{matchers_of, continues_of}
 
 -- The receivers of an alert at a route and below it: none where the alert does not match the route;
 -- where it does, those at the children that are tried, or the route's own where these have none.
-abbrev pub or_own : ℕ → List ℕ → List ℕ
-or_own receiver [] = receiver ∷ []
-or_own receiver (r ∷ rs) = r ∷ rs
+abbrev pub or_own_receiver : ℕ → List ℕ → List ℕ
+or_own_receiver receiver [] = receiver ∷ []
+or_own_receiver receiver (r ∷ rs) = r ∷ rs
 
 abbrev mutual
   pub receivers_at : LabelMap → RouteTree → List ℕ
   receivers_at s (route settings children) =
-      if all_hold s settings.matchers then or_own settings.receiver (child_receivers s children)
+      if all_hold s settings.matchers
+      then or_own_receiver settings.receiver (child_receivers s children)
       else []
 
   -- of children, in order

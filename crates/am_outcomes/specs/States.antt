@@ -3,11 +3,13 @@ use Rattle.std.specs.Prelude.{◌≡◌, ◌≢◌, ◌<◌, ℕ, List, [], ◌�
 use Rattle.std.specs.Prelude.{Option, Some, None, IsTrue, ⊤, if◌then◌else◌}
 use Rattle.std.specs.List.{list_any, flat_map, AllByRecursion}
 use Rattle.am_search.specs.declared.verdict.Verdict.{Verdict}
-use Rattle.am_labels.specs.Words.{Label, sizes, admits}
+use Rattle.am_universe.specs.Universe.{Label, sizes}
+use Rattle.am_universe.specs.Choice.{admits}
 use Rattle.am_labels.specs.Space.{Space}
-use Rattle.am_files.specs.ConfigFile.{Configuration, RouteTree, Routes, route, no_routes}
-use Rattle.am_files.specs.ConfigFile.{next_route, matchers_of, continues_of}
-use Rattle.am_masks.specs.Words.{verdict_of_list, is_yes, is_no}
+use Rattle.am_config.specs.ConfigFile.{Configuration, RouteTree, Routes, route, no_routes}
+use Rattle.am_config.specs.ConfigFile.{next_route, matchers_of, continues_of}
+use Rattle.am_judged_lists.specs.Verdicts.{verdict_of_list}
+use Rattle.am_search.specs.Judge.{is_yes, is_no}
 use Rattle.am_outcomes.specs.declared.limits.TheConstants.{MAX_STATES}
 
 -- The verdicts of a route and of those below it that matter at a prefix, in preorder. Below a route

@@ -4,7 +4,7 @@ ghost use Rattle.std.specs.Prelude.{◌≡◌, ◌<◌, [], Some, OnOk, slice_ge
 ghost use Rattle.std.specs.List.{list_any};
 ghost use Rattle.am_outcomes.specs.Outcomes.{with_first};
 
-use am_labels::Choice;
+use am_universe::Choice;
 use indexmap::IndexMap;
 use std::alloc::{AllocError, Global};
 use std::hash::Hash;

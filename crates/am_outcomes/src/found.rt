@@ -11,8 +11,9 @@ ghost use Rattle.am_outcomes.specs.LayerView.{IsLayer, gathered, prefixes_of};
 use crate::firsts::Firsts;
 use crate::judged::Judged;
 use crate::layers::{Layer, last_layer};
-use am_files::Config;
-use am_labels::{Choice, Space};
+use am_config::Config;
+use am_labels::Space;
+use am_universe::Choice;
 use std::alloc::{AllocError, Global};
 use std::marker::Model;
 

@@ -2,20 +2,23 @@
 
 ghost use Rattle.std.specs.Prelude.{◌≡◌, List, IfOk, IsTrue, option_map};
 ghost use Rattle.std.proofs.Props.{props};
-ghost use Rattle.am_labels.specs.Words.{Label, IsUniverse, sizes, admits, label_set_of, IsWhole};
+ghost use Rattle.am_universe.specs.Universe.{Label, IsUniverse, sizes};
+ghost use Rattle.am_universe.specs.Choice.{admits, IsWhole};
+ghost use Rattle.am_universe.specs.LabelSet.{label_set_of};
 ghost use Rattle.am_outcomes.specs.Outcomes.{fate};
-ghost use Rattle.am_files.specs.ConfigFile.{Configuration};
+ghost use Rattle.am_config.specs.ConfigFile.{Configuration};
 ghost use Rattle.am_outcomes.specs.States.{state_of};
 ghost use Rattle.am_outcomes.specs.FatesView.{fates_view};
 ghost use Rattle.am_outcomes.specs.Knows.{KnowsLists, KnowsConfigs, KnowsConfigs-prop};
 ghost use Rattle.am_outcomes.specs.Knows.{configs_view, AreTwoAlike};
 
 use crate::route_walk::{are_alike, push_receivers, push_state};
-use am_files::Config;
+use am_config::Config;
 use am_first_sets::RouteCubes;
-use am_labels::{Choice, Space};
-use am_masks::{Cube, impossible_cubes};
+use am_judged_lists::{Cube, impossible_cubes};
+use am_labels::Space;
 use am_search::Verdict;
+use am_universe::Choice;
 use am_universe::limits::MAX_LABELS;
 use std::alloc::{AllocError, Global};
 

@@ -4,7 +4,8 @@ ghost use Rattle.std.specs.Prelude.{◌≡◌, ◌<◌, ◌≤◌, ◌+◌, ◌+
 ghost use Rattle.std.specs.Prelude.{IfNone, IsTrue, false, slice_index};
 ghost use Rattle.std.specs.List.{range_with_len};
 ghost use Rattle.am_universe.specs.declared.limits.TheConstants.{MAX_VALUES};
-ghost use Rattle.am_labels.specs.Words.{sizes, admits};
+ghost use Rattle.am_universe.specs.Universe.{sizes};
+ghost use Rattle.am_universe.specs.Choice.{admits};
 ghost use Rattle.am_outcomes.specs.JudgedView.{judged_space, judged_configs};
 ghost use Rattle.am_outcomes.specs.States.{HaveManyStates};
 ghost use Rattle.am_outcomes.specs.LayerView.{IsLayer, StandFor, prefixes_of, longer_by};
@@ -12,9 +13,8 @@ ghost use Rattle.am_outcomes.specs.LayerView.{IsLayer, StandFor, prefixes_of, lo
 use crate::firsts::Firsts;
 use crate::judged::Judged;
 use crate::limits::MAX_STATES;
-use am_labels::Choice;
 use am_search::Verdict;
-use am_universe::Position;
+use am_universe::{Choice, Position};
 use std::alloc::{AllocError, Global};
 
 /// Of the whole choices that are possible, the first with each state. `None` where there are too

@@ -1,19 +1,19 @@
 //! What was found, as a text.
 
 ghost use Rattle.std.specs.Prelude.{◌≡◌, ◌++◌, [], ◌∷◌, length, string_bytes, IfOk, OnOk};
-ghost use Rattle.am_labels.specs.Words.{sizes, IsWhole};
+ghost use Rattle.am_universe.specs.Universe.{sizes};
+ghost use Rattle.am_universe.specs.Choice.{IsWhole};
 ghost use Rattle.am_labels.specs.Space.{Space};
-ghost use Rattle.am_files.specs.Words.{config_view};
+ghost use Rattle.am_config.specs.ConfigView.{config_view};
 ghost use Rattle.am_outcomes.specs.Outcomes.{outcomes_of};
 ghost use Rattle.am_outcomes.specs.OutcomeText.{outcomes_text, changes_text, changes_of};
 ghost use Rattle.am_outcomes.specs.OutcomeText.{names_text, names_of, gap_before_name, same_names};
-ghost use Rattle.am_outcomes.specs.OutcomeText.{change_text, first_text, count_text};
-ghost use Rattle.am_outcomes.specs.OutcomeText.{AreDeclared};
+ghost use Rattle.am_outcomes.specs.OutcomeText.{change_text, first_text, count_text, AreDeclared};
 
 use crate::found::Outcomes;
 use am_complete_texts::{plural, push_label_set, push_quoted};
-use am_files::Config;
-use am_labels::{Choice, Universe};
+use am_config::Config;
+use am_universe::{Choice, Universe};
 use std::alloc::{AllocError, Global};
 
 /// A line for each outcome under a configuration: the names of its receivers, and the label set of

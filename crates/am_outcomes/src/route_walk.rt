@@ -1,19 +1,21 @@
 //! Walks down the routes of a configuration at a prefix, and at a whole choice.
 
 ghost use Rattle.std.specs.Prelude.{◌≡◌, ◌++◌, List, IfOk, IsTrue};
-ghost use Rattle.am_labels.specs.Words.{Label, sizes, IsWhole, label_set_of, all_hold};
-ghost use Rattle.am_files.specs.ConfigFile.{RouteTree};
-ghost use Rattle.am_files.specs.Words.{matchers_of};
-ghost use Rattle.am_masks.specs.Words.{verdict_of_list};
+ghost use Rattle.am_universe.specs.Universe.{Label, sizes};
+ghost use Rattle.am_universe.specs.Choice.{IsWhole};
+ghost use Rattle.am_universe.specs.LabelSet.{label_set_of};
+ghost use Rattle.am_labels.specs.Matcher.{all_hold};
+ghost use Rattle.am_config.specs.ConfigFile.{RouteTree, matchers_of};
+ghost use Rattle.am_judged_lists.specs.Verdicts.{verdict_of_list};
 ghost use Rattle.am_first_sets.specs.RouteCubes.{AreCubesOf};
 ghost use Rattle.am_outcomes.specs.States.{route_state};
 ghost use Rattle.am_outcomes.specs.Receivers.{receivers_at};
 ghost use Rattle.am_outcomes.specs.Alike.{AreAlike};
 
 use am_first_sets::RouteCubes;
-use am_labels::Choice;
-use am_masks::JudgedList;
+use am_judged_lists::JudgedList;
 use am_search::Verdict;
+use am_universe::Choice;
 use std::alloc::AllocError;
 
 /// Adds the verdicts of a route and of those below it that matter at a prefix, and answers that of

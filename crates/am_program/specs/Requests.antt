@@ -5,7 +5,7 @@ use Rattle.std.specs.Global.{Vec}
 use Rattle.std.specs.Int.NonZero.{non_zero_u64_get}
 use Rattle.am_classes.specs.declared.alphabet.Alphabet.{Alphabet}
 use Rattle.am_classes.specs.declared.alphabet.Alphabet.TheVariants.{Unicode, Ascii}
-use Rattle.am_command_line.specs.Words.{step_count}
+use Rattle.am_command_line.specs.StepsView.{step_count}
 use Rattle.am_command_line.specs.declared.command_line.InputFiles.{InputFiles}
 use Rattle.am_command_line.specs.declared.command_line.Request.{Request}
 use Rattle.am_command_line.specs.declared.command_line.Request.TheVariants as requests

@@ -1,12 +1,12 @@
 //! The call that does what is asked for.
 
-ghost use Rattle.std.specs.Prelude.{◌≡◌, ◌<◌, IfSome, option_map, option_copied, MatchResult};
-ghost use Rattle.std.specs.Prelude.{Ok, Err, false, nat_lt};
+ghost use Rattle.std.specs.Prelude.{◌≡◌, ◌<◌, IfSome, option_map, option_copied, MatchResult, Ok};
+ghost use Rattle.std.specs.Prelude.{Err, false, nat_lt};
 ghost use Rattle.std.specs.Int.NonZero.{non_zero_u64_get};
 ghost use Rattle.am_universe.specs.declared.limits.TheConstants.{MAX_LABELS};
-ghost use Rattle.am_command_line.specs.Words.{step_count};
-ghost use Rattle.am_eval.specs.Words.{IsKept};
-ghost use Rattle.am_program.specs.Words.{bytes_if_any, bytes_or_none, files_of, promise_of};
+ghost use Rattle.am_command_line.specs.StepsView.{step_count};
+ghost use Rattle.am_eval.specs.Promise.{IsKept};
+ghost use Rattle.am_program.specs.Requests.{bytes_if_any, bytes_or_none, files_of, promise_of};
 ghost use Rattle.am_program.specs.Requests.{alphabet_of, kept_universe, report_inputs};
 
 use am_alerts::alerts;
@@ -14,10 +14,10 @@ use am_classes::Alphabet;
 use am_command_line::{InputFiles, Request, Steps};
 use am_commands::{ask, dead, explain_words, receivers};
 use am_eval::Files;
-use am_labels::{Fault, Sink};
 use am_notes::Call;
 use am_reports::{CompareInputs, LintInputs, ReportInputs, compare, lint, outcomes};
 use am_search::Page;
+use am_universe::{Fault, Sink};
 use am_universe_command::{UniverseForm, UniverseInputs, check_universe, universe};
 use std::alloc::Global;
 use std::num::NonZeroU64;

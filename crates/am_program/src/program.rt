@@ -1,8 +1,8 @@
 use crate::calling::{call_of, make_call};
 use crate::read_file::read_file;
 use am_command_line::{CommandLine, InputFiles, parse_command_line};
-use am_labels::{Fault, Out, Place, report};
 use am_notes::{Call, notes_of_answer, notes_of_refusal};
+use am_universe::{Fault, Out, Place, report};
 use clap::Error;
 use clap::error::ErrorKind;
 use std::alloc::{AllocError, Global};

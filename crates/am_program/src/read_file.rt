@@ -1,5 +1,5 @@
 use am_json::limits::MAX_FILE_BYTES;
-use am_labels::Kind;
+use am_universe::Kind;
 use std::io::{ErrorKind, Read};
 use std::rt::Files;
 use std::{fs, io};

@@ -2,8 +2,8 @@
 use Rattle.std.proofs.Common.{◌≡◌, ℕ, List, ap, ap₂, sym, ◌∙◌, subst}
 use Rattle.std.proofs.lemmas.Option.{same_Some}
 use Rattle.am_labels.proofs.MatcherTextWhole.{one_list}
-use Rattle.am_files.specs.ConfigFile.{Configuration}
-use Rattle.am_files.proofs.PathTexts.{path_text-injective}
+use Rattle.am_config.specs.ConfigFile.{Configuration}
+use Rattle.am_config.proofs.PathTexts.{path_text-injective}
 use Rattle.am_eval.specs.Tree.{Tree, Part, Not, And, Or}
 use Rattle.am_eval.specs.Question.{Question, Simple, Receiver, Ends, Enters, Braces}
 use Rattle.am_questions.specs.Grammar.{Written}

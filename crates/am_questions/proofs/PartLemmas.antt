@@ -4,7 +4,7 @@ use Rattle.std.proofs.Common.{◌≢◌, Result, Ok, Err, IfErr, List, [], ◌�
 use Rattle.std.specs.List.{AllByRecursion}
 use Rattle.am_universe.specs.declared.kind.Kind.{Kind}
 use Rattle.am_universe.specs.declared.kind.Kind.TheVariants as kinds
-use Rattle.am_files.specs.ConfigFile.{Configuration}
+use Rattle.am_config.specs.ConfigFile.{Configuration}
 use Rattle.am_eval.specs.Tree.{Tree, Part, Not, And, Or}
 use Rattle.am_eval.specs.Question.{Question}
 use Rattle.am_questions.specs.declared.limits.TheConstants.{MAX_TOKENS}

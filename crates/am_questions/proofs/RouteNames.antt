@@ -1,10 +1,10 @@
 -- Where a text is the path of no route.
 use Rattle.std.proofs.Common.{◌≡◌, ◌≢◌, ℕ, List, Option, Some, None, sym, ◌∙◌, refl, subst, ap}
 use Rattle.std.specs.Prelude.{IsTrue, is_some}
-use Rattle.am_files.specs.ConfigFile.{Configuration, IsConfig}
-use Rattle.am_files.specs.Path.{path_text, route_at, IsPath}
-use Rattle.am_files.proofs.PathTexts.{path_text-injective}
-use Rattle.am_files.proofs.Paths.{path_of_route}
+use Rattle.am_config.specs.ConfigFile.{Configuration, IsConfig}
+use Rattle.am_config.specs.Path.{path_text, route_at, IsPath}
+use Rattle.am_config.proofs.PathTexts.{path_text-injective}
+use Rattle.am_config.proofs.Paths.{path_of_route}
 use Rattle.am_questions.specs.QuestionText.{IsPathOfRoute}
 
 something : {X : Type 0} (o : Option X) → IsTrue (is_some o) → (x : X) × (o ≡ Some x)

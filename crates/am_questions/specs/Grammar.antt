@@ -1,7 +1,7 @@
 -- The grammar of questions: which tokens are which tree. (This project's own.)
 use Rattle.std.specs.Prelude.{◌≡◌, ◌⊎◌, ℕ, List, [], ◌∷◌, ◌++◌, ⊤, codes}
 use Rattle.std.specs.List.{AllByRecursion}
-use Rattle.am_files.specs.Path.{path_text}
+use Rattle.am_config.specs.Path.{path_text}
 use Rattle.am_eval.specs.Tree.{Tree, Part, Not, And, Or}
 use Rattle.am_questions.specs.Tokens.{Token, Open, Close, Word, Quoted, BraceList}
 

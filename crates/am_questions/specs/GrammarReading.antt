@@ -5,7 +5,7 @@ use Rattle.std.specs.Prelude.{Option, Some, None, codes}
 use Rattle.am_universe.specs.Text.{same_text}
 use Rattle.am_universe.specs.declared.kind.Kind.{Kind}
 use Rattle.am_universe.specs.declared.kind.Kind.TheVariants as kinds
-use Rattle.am_files.specs.Path.{path_text}
+use Rattle.am_config.specs.Path.{path_text}
 use Rattle.am_eval.specs.Tree.{Tree, Part, Not, And, Or}
 use Rattle.am_questions.specs.declared.grammar.Connective.{Connective}
 use Rattle.am_questions.specs.declared.grammar.Connective.TheVariants as by

@@ -2,7 +2,7 @@
 -- (This project's own.)
 use Rattle.std.specs.Prelude.{ℕ, List, [], ◌∷◌, ◌++◌, Option, Some, option_copied}
 use Rattle.am_labels.specs.Space.{Space}
-use Rattle.am_records.specs.UniverseFile.{FileSaysUniverse}
+use Rattle.am_list_files.specs.UniverseFile.{FileSaysUniverse}
 use Rattle.am_search.specs.declared.start.Start.{Start}
 use Rattle.am_search.specs.declared.page.Page.{Page}
 use Rattle.am_eval.specs.Files.{Files, config_of}

@@ -9,4 +9,3 @@ pub mod TreeView
 pub mod AskedStart
 pub mod QuestionStages
 pub mod Inputs
-pub mod Words

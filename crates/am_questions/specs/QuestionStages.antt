@@ -3,8 +3,8 @@ use Rattle.std.specs.Prelude.{◌≡◌, ℕ, List, [], Option}
 use Rattle.am_universe.specs.declared.place.Place.TheVariants as places
 use Rattle.am_labels.specs.Space.{Space}
 use Rattle.am_json.specs.Pointer.{Refusal}
-use Rattle.am_records.specs.UniverseFile.{FileSaysUniverse}
-use Rattle.am_files.specs.ConfigFile.{Configuration, FileSaysConfig}
+use Rattle.am_list_files.specs.UniverseFile.{FileSaysUniverse}
+use Rattle.am_config.specs.ConfigFile.{Configuration, FileSaysConfig}
 use Rattle.am_search.specs.declared.start.Start.{Start}
 use Rattle.am_eval.specs.Question.{Question}
 use Rattle.am_eval.specs.Faults.{Stage}

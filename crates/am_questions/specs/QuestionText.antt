@@ -10,8 +10,8 @@ use Rattle.am_labels.specs.declared.limits.TheConstants.{MAX_MATCHERS}
 use Rattle.am_labels.specs.Matcher.{Condition}
 use Rattle.am_labels.specs.MatcherText.{Spells}
 use Rattle.am_labels.specs.MatcherRefusals.{have_valid_patterns, TextRefusedFor}
-use Rattle.am_files.specs.ConfigFile.{Configuration}
-use Rattle.am_files.specs.Path.{path_text, route_at}
+use Rattle.am_config.specs.ConfigFile.{Configuration}
+use Rattle.am_config.specs.Path.{path_text, route_at}
 use Rattle.am_questions.specs.declared.limits.TheConstants.{MAX_TOKENS}
 use Rattle.am_eval.specs.Tree.{Tree, Part, Not, And, Or}
 use Rattle.am_eval.specs.Question.{Question}

@@ -1,5 +1,5 @@
 ghost use Rattle.std.specs.Prelude.{◌≡◌};
-ghost use Rattle.am_questions.specs.Words.{files_fingerprint};
+ghost use Rattle.am_questions.specs.Inputs.{files_fingerprint};
 
 use am_eval::Files;
 use am_fingerprint::Parts;

@@ -1,19 +1,20 @@
 //! The grammar of questions: from tokens to a tree.
 
-ghost use Rattle.std.specs.Prelude.{◌≡◌, ◌≢◌, ◌<◌, ◌≤◌, ◌↔◌, ◌∷◌, List, map, length};
-ghost use Rattle.std.specs.Prelude.{IfOk, IfErr, IfSome, IfNone, IsTrue, ℕ, option_map};
+ghost use Rattle.std.specs.Prelude.{◌≡◌, ◌≢◌, ◌<◌, ◌≤◌, ◌↔◌, ◌∷◌, List, map, length, IfOk, IfErr};
+ghost use Rattle.std.specs.Prelude.{IfSome, IfNone, IsTrue, ℕ, option_map};
 ghost use Rattle.am_universe.specs.declared.kind.Kind.TheVariants as kinds;
 ghost use Rattle.am_questions.specs.Grammar as spec;
 ghost use Rattle.am_questions.specs.Tokens.{Word};
 ghost use Rattle.am_eval.specs.Tree as trees;
-ghost use Rattle.am_questions.specs.Words.{behind, behind_open, behind_close, is_word, name_of};
-ghost use Rattle.am_questions.specs.Words.{IsPathText, Refuses, Takes, JoinedBy, Single};
-ghost use Rattle.am_questions.specs.Words.{operand_tier, word_of, TakesPart, token_view, tree_view};
-ghost use Rattle.am_questions.specs.Words.{written_view};
+ghost use Rattle.am_questions.specs.GrammarReading.{behind, behind_open, behind_close, is_word};
+ghost use Rattle.am_questions.specs.GrammarReading.{name_of, IsPathText, Refuses, Takes, JoinedBy};
+ghost use Rattle.am_questions.specs.GrammarReading.{Single, operand_tier, word_of, TakesPart};
+ghost use Rattle.am_questions.specs.TokenView.{token_view};
+ghost use Rattle.am_questions.specs.TreeView.{tree_view, written_view};
 
 use crate::tokens::Token;
-use am_files::Path;
-use am_labels::Kind;
+use am_config::Path;
+use am_universe::Kind;
 use std::alloc::Global;
 
 /// A question as it is written, before names, paths and matcher lists are looked at.

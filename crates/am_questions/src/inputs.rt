@@ -1,19 +1,21 @@
-ghost use Rattle.std.specs.Prelude.{◌≡◌, [], option_copied};
-ghost use Rattle.std.specs.Prelude.{IfOk, IfErr};
+ghost use Rattle.std.specs.Prelude.{◌≡◌, [], option_copied, IfOk, IfErr};
 ghost use Rattle.am_universe.specs.declared.place.Place.TheVariants as places;
-ghost use Rattle.am_json.specs.Words.{IsRefusalAt};
-ghost use Rattle.am_labels.specs.Words.{sizes};
-ghost use Rattle.am_search.specs.Words.{IsStart};
-ghost use Rattle.am_eval.specs.Words.{question_view, IsFirstFault};
-ghost use Rattle.am_questions.specs.Words.{inputs_of, AcceptsInputs, ask_stages, AsksStart};
-ghost use Rattle.am_questions.specs.Words.{StartRefusedFor, inputs_fingerprint};
+ghost use Rattle.am_json.specs.Reading.{IsRefusalAt};
+ghost use Rattle.am_universe.specs.Universe.{sizes};
+ghost use Rattle.am_search.specs.Start.{IsStart};
+ghost use Rattle.am_eval.specs.QuestionView.{question_view};
+ghost use Rattle.am_eval.specs.Faults.{IsFirstFault};
+ghost use Rattle.am_questions.specs.Inputs.{inputs_of, AcceptsInputs, ask_stages};
+ghost use Rattle.am_questions.specs.Inputs.{inputs_fingerprint};
+ghost use Rattle.am_questions.specs.AskedStart.{AsksStart, StartRefusedFor};
 
 use crate::fingerprints::fingerprint;
 use crate::names::parse_question;
 use am_eval::{Files, Question, World, read_world};
-use am_files::read_universe;
-use am_labels::{Choice, Fault, Place, Space};
+use am_labels::Space;
+use am_list_files::read_universe;
 use am_search::{Page, Start, parse_token};
+use am_universe::{Choice, Fault, Place};
 use std::alloc::Global;
 
 /// What the inputs of a question say, where they are accepted.

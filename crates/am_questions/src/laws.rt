@@ -1,21 +1,24 @@
 //! What holds of the definitions by themselves: each fact is the contract of a function with an
 //! empty body.
 ghost use Rattle.std.specs.Prelude.{◌≡◌, ◌≢◌, ◌∷◌, ℕ, List, []};
-ghost use Rattle.am_files.specs.Words.{Configuration};
+ghost use Rattle.am_config.specs.ConfigFile.{Configuration};
 ghost use Rattle.am_eval.specs.Tree.{Tree, Not, And, Or};
 ghost use Rattle.am_universe.specs.declared.kind.Kind.{Kind};
 ghost use Rattle.am_universe.specs.declared.kind.Kind.TheVariants as kinds;
 ghost use Rattle.am_universe.specs.declared.place.Place.{Place};
-ghost use Rattle.am_labels.specs.Words.{Space};
-ghost use Rattle.am_json.specs.Words.{Refusal};
+ghost use Rattle.am_labels.specs.Space.{Space};
+ghost use Rattle.am_json.specs.Pointer.{Refusal};
 ghost use Rattle.am_search.specs.declared.start.Start.{Start};
-ghost use Rattle.am_eval.specs.Words.{Question, World, IsFirstFaultOfCall};
+ghost use Rattle.am_eval.specs.Question.{Question};
+ghost use Rattle.am_eval.specs.World.{World};
+ghost use Rattle.am_eval.specs.Faults.{IsFirstFaultOfCall};
 ghost use Rattle.am_questions.specs.declared.limits.TheConstants.{MAX_TOKENS};
-ghost use Rattle.am_questions.specs.Words.{Token, SpellsTokens, Written, IsQuestion, parts_of};
-ghost use Rattle.am_questions.specs.Words.{StandInOrder};
-ghost use Rattle.am_questions.specs.Words.{ReadsQuestion, QuestionRefusedFor};
-ghost use Rattle.am_questions.specs.Words.{Inputs, AcceptsInputs, ask_stages};
-ghost use Rattle.am_questions.specs.Words.{any_word, not_word, and_word, or_word, any_tree};
+ghost use Rattle.am_questions.specs.Tokens.{Token, SpellsTokens};
+ghost use Rattle.am_questions.specs.Grammar.{Written, IsQuestion, StandInOrder};
+ghost use Rattle.am_questions.specs.QuestionText.{parts_of, ReadsQuestion, QuestionRefusedFor};
+ghost use Rattle.am_questions.specs.Inputs.{Inputs, AcceptsInputs, ask_stages};
+ghost use Rattle.am_questions.specs.GrammarExamples.{any_word, not_word, and_word, or_word};
+ghost use Rattle.am_questions.specs.GrammarExamples.{any_tree};
 
 /// A text has at most one list of tokens.
 #[tactic(auto, using(crate::proofs::TokenTexts::one_list))]

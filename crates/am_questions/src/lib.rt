@@ -12,7 +12,6 @@ mod grammar;
 mod names;
 mod tokens;
 
-pub use am_eval::Question;
 pub use names::parse_question;
 
 // The inputs of a call that asks a question.

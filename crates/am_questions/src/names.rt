@@ -2,19 +2,21 @@
 
 ghost use Rattle.std.specs.Prelude.{◌≡◌, ◌≢◌, ℕ, List, IfOk, IfErr};
 ghost use Rattle.am_universe.specs.declared.kind.Kind.TheVariants as kinds;
-ghost use Rattle.am_files.specs.Words.{config_view};
+ghost use Rattle.am_config.specs.ConfigView.{config_view};
 ghost use Rattle.am_eval.specs.Tree.{Part};
-ghost use Rattle.am_questions.specs.Words.{ReadsQuestion, QuestionRefusedFor, TreeMeans, parts_of};
-ghost use Rattle.am_questions.specs.Words.{PartsRefusedFor, PartRefusedFor, IsPathOfRoute};
-ghost use Rattle.am_questions.specs.Words.{tree_view, written_view};
-ghost use Rattle.am_eval.specs.Words.{question_view};
+ghost use Rattle.am_questions.specs.QuestionText.{ReadsQuestion, QuestionRefusedFor, TreeMeans};
+ghost use Rattle.am_questions.specs.QuestionText.{parts_of, PartsRefusedFor, PartRefusedFor};
+ghost use Rattle.am_questions.specs.QuestionText.{IsPathOfRoute};
+ghost use Rattle.am_questions.specs.TreeView.{tree_view, written_view};
+ghost use Rattle.am_eval.specs.QuestionView.{question_view};
 
 use crate::grammar::{Connective, Tree, Written, read_tree};
 use crate::limits::MAX_TOKENS;
 use crate::tokens::read_tokens;
+use am_config::{Config, Path};
 use am_eval::Question;
-use am_files::{Config, Path};
-use am_labels::{Kind, parse_matchers};
+use am_labels::parse_matchers;
+use am_universe::Kind;
 use std::alloc::Global;
 
 /// Reads a question about a configuration.

@@ -4,12 +4,14 @@ ghost use Rattle.std.specs.Prelude.{◌≡◌, ◌≢◌, ◌≤◌, List, lengt
 ghost use Rattle.std.specs.Prelude.{IfOk, IfErr, string_bytes};
 ghost use Rattle.std.specs.List.{prefix_len};
 ghost use Rattle.am_universe.specs.declared.kind.Kind.TheVariants as kinds;
-ghost use Rattle.am_labels.specs.Words.{has_escape, byte_of_escape};
+ghost use Rattle.am_labels.specs.MatcherText.{has_escape, byte_of_escape};
 ghost use Rattle.am_questions.specs.Tokens as spec;
-ghost use Rattle.am_questions.specs.Words.{SpellsTokens, is_word_character, token_view, is_plain};
-ghost use Rattle.am_questions.specs.Words.{read_quoted, read_token};
+ghost use Rattle.am_questions.specs.Tokens.{SpellsTokens, is_word_character};
+ghost use Rattle.am_questions.specs.TokenView.{token_view};
+ghost use Rattle.am_questions.specs.TokenReading.{is_plain, read_quoted, read_token};
 
-use am_labels::{Kind, brace_len};
+use am_labels::brace_len;
+use am_universe::Kind;
 use std::alloc::Global;
 
 /// A token of a question.

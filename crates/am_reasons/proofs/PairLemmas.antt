@@ -1,9 +1,8 @@
 -- Pairs of choices that have the same positions at some labels, and what is needed for them.
 use Rattle.std.proofs.Common.{◌≡◌, ◌<◌, ◌+◌, ◌==◌, ◌&&◌, ◌||◌, ◌⊎◌, ℕ, zero, suc, List, [], ◌∷◌}
-use Rattle.std.proofs.Common.{Bool, true, false, Option, Some, None, refl, sym, ap, ◌∙◌, subst}
-use Rattle.std.proofs.Common.{inl, inr, arith, length}
-use Rattle.std.specs.Prelude.{IsTrue, IfSome, IfNone, is_some, slice_get}
-use Rattle.std.specs.Prelude.{slice_index}
+use Rattle.std.proofs.Common.{Bool, true, false, Option, Some, None, refl, sym, ap, ◌∙◌, subst, inl}
+use Rattle.std.proofs.Common.{inr, arith, length}
+use Rattle.std.specs.Prelude.{IsTrue, IfSome, IfNone, is_some, slice_get, slice_index}
 use Rattle.std.specs.List.{find, AllByRecursion}
 use Rattle.std.proofs.lemmas.Bool.{cases_Bool, and_parts, and_from, and_right, or_right, eqb-true}
 use Rattle.std.proofs.lemmas.Bool.{eq-eqb, both_ways}
@@ -11,11 +10,12 @@ use Rattle.std.proofs.Math.Nat.{eq-or-lt_of_le}
 use Rattle.am_universe.proofs.ListLemmas.{IsIn, IsIn-from_Contains, Contains-from_IsIn}
 use Rattle.am_universe.proofs.ListLemmas.{AllByRecursion-at}
 use Rattle.am_search.proofs.ChoiceOrder.{got_at}
-use Rattle.am_labels.specs.Words.{Space, sizes, choices, all_choices, IsChoiceOf}
-use Rattle.am_labels.specs.Words.{is_possible_choice}
+use Rattle.am_labels.specs.Space.{Space, all_choices, IsChoiceOf, is_possible_choice}
+use Rattle.am_universe.specs.Universe.{sizes}
+use Rattle.am_universe.specs.Choice.{choices}
 use Rattle.am_labels.proofs.SpaceLaws.{space_choices}
 use Rattle.am_search.specs.declared.labels.Labels.{Labels}
-use Rattle.am_search.specs.Words.{has_label}
+use Rattle.am_search.specs.Labels.{has_label}
 use Rattle.am_search.proofs.FirstAlike.{find_alike, first_alike}
 use Rattle.am_first_sets.specs.declared.possible_choices.PossibleRefuter.{PossibleRefuter}
 use Rattle.am_first_sets.specs.PossibleRefuter.{possible_space, possible_sizes, possible_truth}

@@ -3,4 +3,3 @@ pub mod MeetingRefuter
 pub mod PairRefuter
 pub mod Pairs
 pub mod Reason
-pub mod Words

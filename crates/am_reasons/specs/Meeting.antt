@@ -2,7 +2,7 @@
 -- to match; here the list is a cube.
 use Rattle.std.specs.Prelude.{◌≡◌, ℕ, List, Bool, true, not, ◌||◌, if◌then◌else◌, None}
 use Rattle.std.specs.List.{list_all, find}
-use Rattle.am_labels.specs.Words.{Space, all_choices, IsChoiceOf}
+use Rattle.am_labels.specs.Space.{Space, all_choices, IsChoiceOf}
 use Rattle.am_first_sets.specs.Reasons.{may_match, must_match}
 use Rattle.am_reasons.specs.declared.candidate.Candidate.{Candidate}
 

@@ -1,6 +1,6 @@
 -- The parts of what refutes prefixes for literals that are named.
 use Rattle.std.specs.Prelude.{ℕ, List, Bool, ◌&&◌}
-use Rattle.am_search.specs.Words.{AreSizes}
+use Rattle.am_search.specs.Judge.{AreSizes}
 use Rattle.am_first_sets.specs.PossibleRefuter.{possible_sizes, possible_truth, possible_are_sizes}
 use Rattle.am_reasons.specs.declared.meeting.MeetingRefuter.{MeetingRefuter}
 use Rattle.am_reasons.specs.Meeting.{meets}

@@ -1,6 +1,6 @@
 -- The parts of what refutes prefixes in a search for pairs, and in that for partners.
 use Rattle.std.specs.Prelude.{ℕ, List, Bool, ◌&&◌}
-use Rattle.am_search.specs.Words.{AreSizes}
+use Rattle.am_search.specs.Judge.{AreSizes}
 use Rattle.am_first_sets.specs.PossibleRefuter.{possible_space, possible_sizes, possible_truth}
 use Rattle.am_first_sets.specs.PossibleRefuter.{possible_are_sizes}
 use Rattle.am_reasons.specs.declared.pair.PartnerRefuter.{PartnerRefuter}

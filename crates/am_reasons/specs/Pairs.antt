@@ -3,7 +3,8 @@
 use Rattle.std.specs.Prelude.{◌≡◌, ◌<◌, ℕ, List, Bool, true, ◌==◌, ◌&&◌, Some, is_some, length}
 use Rattle.std.specs.Prelude.{slice_get, slice_index, IsTrue}
 use Rattle.std.specs.List.{list_all, list_any, find, AllByRecursion}
-use Rattle.am_labels.specs.Words.{Space, sizes, all_choices, IsChoiceOf}
+use Rattle.am_labels.specs.Space.{Space, all_choices, IsChoiceOf}
+use Rattle.am_universe.specs.Universe.{sizes}
 use Rattle.am_reasons.specs.declared.candidate.Candidate.{Candidate}
 use Rattle.am_reasons.specs.Meeting.{meets}
 use Rattle.am_reasons.specs.Reason.{without}

@@ -2,9 +2,9 @@ ghost use Rattle.std.specs.Prelude.{◌≡◌, true, IfSome, IfNone};
 ghost use Rattle.am_first_sets.specs.Reasons.{IsReasonAgainst};
 ghost use Rattle.am_reasons.specs.Meeting.{holds_at};
 
-use am_labels::Choice;
-use am_masks::Cube;
+use am_judged_lists::Cube;
 use am_search::Labels;
+use am_universe::Choice;
 
 /// A literal: a list of matchers, as a cube, which a label set has to match or must not match. With
 /// it stand whether it is named as one of those that are to blame, and a number by which the caller

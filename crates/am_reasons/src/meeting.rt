@@ -2,15 +2,15 @@
 
 ghost use Rattle.std.specs.Prelude.{◌≡◌, true, IfSome, IfNone};
 ghost use Rattle.std.specs.List.{find};
-ghost use Rattle.am_labels.specs.Words.{all_choices, IsChoiceOf};
-ghost use Rattle.am_first_sets.specs.Words.{possible_space};
+ghost use Rattle.am_labels.specs.Space.{all_choices, IsChoiceOf};
+ghost use Rattle.am_first_sets.specs.PossibleRefuter.{possible_space};
 ghost use Rattle.am_first_sets.specs.Reasons.{IsReasonAgainst};
 ghost use Rattle.am_reasons.specs.Meeting.{meets};
 
 use crate::Candidate;
 use am_first_sets::PossibleRefuter;
-use am_labels::Choice;
 use am_search::{Labels, Refuter, first_by_jumps};
+use am_universe::Choice;
 
 /// The first choice of a space, in declared order, that meets the literals that are named, if there
 /// is one. No memory is taken.

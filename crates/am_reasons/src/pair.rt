@@ -3,11 +3,12 @@
 ghost use Rattle.std.specs.Prelude.{◌≡◌, ◌<◌, ◌≤◌, ℕ, true, false, length, IfSome, IfNone};
 ghost use Rattle.std.specs.List.{find, AllByRecursion};
 ghost use Rattle.std.proofs.Props.{props};
-ghost use Rattle.am_universe.specs.Words.{IsWhole};
+ghost use Rattle.am_universe.specs.Choice.{IsWhole};
 ghost use Rattle.am_universe.specs.declared.limits.TheConstants.{MAX_LABELS};
-ghost use Rattle.am_labels.specs.Words.{sizes, all_choices, IsChoiceOf};
-ghost use Rattle.am_search.specs.Words.{has_label};
-ghost use Rattle.am_first_sets.specs.Words.{possible_space};
+ghost use Rattle.am_universe.specs.Universe.{sizes};
+ghost use Rattle.am_labels.specs.Space.{all_choices, IsChoiceOf};
+ghost use Rattle.am_search.specs.Labels.{has_label};
+ghost use Rattle.am_first_sets.specs.PossibleRefuter.{possible_space};
 ghost use Rattle.am_first_sets.specs.Reasons.{IsReasonAgainst};
 ghost use Rattle.am_reasons.specs.Pairs.{AreDeclaredIn, are_same_at, IsPair, AreUnpaired};
 ghost use Rattle.am_reasons.specs.Pairs.{is_partner, has_partner, is_shared};
@@ -15,8 +16,8 @@ ghost use Rattle.am_reasons.specs.Pairs.{is_partner, has_partner, is_shared};
 use crate::Candidate;
 use crate::meeting::why_unmet;
 use am_first_sets::PossibleRefuter;
-use am_labels::Choice;
 use am_search::{Labels, Refuter, first_by_jumps};
+use am_universe::Choice;
 
 /// Two choices of a space that have the same positions at some labels, of which the first meets the
 /// literals of one side that are named, and the second those of the other; if there are such. No

@@ -1,7 +1,7 @@
 //! The search for literals that are to blame that there is no pair.
 
 ghost use Rattle.std.specs.Prelude.{◌≡◌, ◌⊎◌, ◌<◌, ℕ, List, true, length, slice_get, Some, IsTrue};
-ghost use Rattle.am_first_sets.specs.Words.{possible_space};
+ghost use Rattle.am_first_sets.specs.PossibleRefuter.{possible_space};
 ghost use Rattle.am_reasons.specs.declared.candidate.Candidate.{Candidate};
 ghost use Rattle.am_reasons.specs.Meeting.{meets};
 ghost use Rattle.am_reasons.specs.Pairs.{AreDeclaredIn, ArePaired, AreUnpaired, AreNeededBeside};

@@ -1,17 +1,17 @@
 //! The search for literals that are to blame.
 
-ghost use Rattle.std.specs.Prelude.{◌≡◌, ◌⊎◌, ◌<◌, ℕ, true, false, length, slice_get, Some};
-ghost use Rattle.std.specs.Prelude.{IsTrue, IfSome, IfNone};
-ghost use Rattle.am_first_sets.specs.Words.{possible_space};
+ghost use Rattle.std.specs.Prelude.{◌≡◌, ◌⊎◌, ◌<◌, ℕ, true, false, length, slice_get, Some, IsTrue};
+ghost use Rattle.std.specs.Prelude.{IfSome, IfNone};
+ghost use Rattle.am_first_sets.specs.PossibleRefuter.{possible_space};
 ghost use Rattle.am_reasons.specs.declared.candidate.Candidate.{Candidate};
-ghost use Rattle.am_reasons.specs.Words.{holds_at, hold_all, IsMet, IsUnmet, IsAnyMet};
-ghost use Rattle.am_reasons.specs.Words.{AreSameLiterals, AreNamedBefore, renamed, without};
-ghost use Rattle.am_reasons.specs.Words.{IsReason};
+ghost use Rattle.am_reasons.specs.Meeting.{holds_at, hold_all, IsMet, IsUnmet, IsAnyMet};
+ghost use Rattle.am_reasons.specs.Reason.{AreSameLiterals, AreNamedBefore, renamed, without};
+ghost use Rattle.am_reasons.specs.Reason.{IsReason};
 
 use crate::Candidate;
 use crate::meeting::first_meeting;
 use am_first_sets::PossibleRefuter;
-use am_labels::Choice;
+use am_universe::Choice;
 
 /// Names the literals that are to blame where no label set of a space meets all of them: enough, so
 /// that none meets those that are named; the first `fixed` of them all, and of the others only such

@@ -11,7 +11,7 @@ use Rattle.am_universe.proofs.ListLemmas.{Contains-from_IsIn, AllByRecursion-eac
 use Rattle.am_universe.proofs.ListLemmas.{AllByRecursion-at}
 use Rattle.am_labels.specs.Space.{Space}
 use Rattle.am_labels.proofs.Passing.{passes_from_kept, kept_from_passes}
-use Rattle.am_files.specs.ConfigFile.{Configuration}
+use Rattle.am_config.specs.ConfigFile.{Configuration}
 use Rattle.am_eval.specs.Routing.{receivers}
 use Rattle.am_lint.specs.Findings.{Counts}
 use Rattle.am_outcomes.specs.Outcomes.{fate, same_fate}

@@ -5,7 +5,7 @@ use Rattle.std.proofs.Common.{is_some, refl, sym, ap, subst, inr}
 use Rattle.am_universe.specs.declared.place.Place.{Place}
 use Rattle.am_labels.specs.Space.{Space}
 use Rattle.am_json.specs.Pointer.{Refusal}
-use Rattle.am_files.specs.ConfigFile.{Configuration}
+use Rattle.am_config.specs.ConfigFile.{Configuration}
 use Rattle.am_eval.specs.Faults.{Stage, IsFirstFaultOfCall}
 use Rattle.am_classes.specs.declared.alphabet.Alphabet.{Alphabet}
 use Rattle.am_universe_command.specs.UniverseInputs.{SaysUniverseIfAny}

@@ -9,8 +9,8 @@ use Rattle.am_universe.specs.Text.{same_text}
 use Rattle.am_universe.proofs.DistinctLists.{all_push}
 use Rattle.am_universe.proofs.ListLemmas.{AllByRecursion-at, IsIn, IsIn-from_Contains}
 use Rattle.am_labels.specs.Matcher.{Condition}
-use Rattle.am_files.specs.ConfigFile.{Configuration, RouteTree, matchers_of}
-use Rattle.am_files.specs.RoutePaths.{all_routes}
+use Rattle.am_config.specs.ConfigFile.{Configuration, RouteTree, matchers_of}
+use Rattle.am_config.specs.RoutePaths.{all_routes}
 use Rattle.am_complete.specs.declared.origin.Origin.{Origin}
 use Rattle.am_complete.specs.declared.origin.Origin.TheVariants as origin_is
 use Rattle.am_complete.specs.AskedLabel.{AskedLabel, asks_same, with_matcher, and_asked, label_of}

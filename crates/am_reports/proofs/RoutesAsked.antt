@@ -8,8 +8,8 @@ use Rattle.am_universe.specs.Universe.{Label}
 use Rattle.am_labels.specs.Matcher.{Condition}
 use Rattle.am_labels.specs.Space.{Space}
 use Rattle.am_json.specs.Pointer.{Refusal}
-use Rattle.am_files.specs.ConfigFile.{Configuration}
-use Rattle.am_files.specs.RoutePaths.{all_routes}
+use Rattle.am_config.specs.ConfigFile.{Configuration}
+use Rattle.am_config.specs.RoutePaths.{all_routes}
 use Rattle.am_classes.specs.declared.alphabet.Alphabet.{Alphabet}
 use Rattle.am_complete.specs.Covering.{AddsNeeded}
 use Rattle.am_complete.specs.Complete.{AreAmong, impossible_conditions, IsSpaceComplete}

@@ -10,8 +10,8 @@ use Rattle.std.proofs.lemmas.List.Elements.{length_all_zip}
 use Rattle.am_universe.specs.Universe.{Label}
 use Rattle.am_labels.specs.Matcher.{Condition}
 use Rattle.am_labels.specs.Space.{Space}
-use Rattle.am_files.specs.ConfigFile.{Configuration}
-use Rattle.am_files.specs.RoutePaths.{all_routes}
+use Rattle.am_config.specs.ConfigFile.{Configuration}
+use Rattle.am_config.specs.RoutePaths.{all_routes}
 use Rattle.am_classes.specs.declared.alphabet.Alphabet.{Alphabet}
 use Rattle.am_classes.specs.declared.alphabet.Alphabet.TheVariants.{Unicode, Ascii}
 use Rattle.am_lint.specs.declared.found.FoundRoute.{FoundRoute}

@@ -1,5 +1,5 @@
 -- The configurations that the code looks at.
-use Rattle.am_files.specs.ConfigView.{config_view}
+use Rattle.am_config.specs.ConfigView.{config_view}
 use Rattle.am_reports.specs.declared.configs.Configs.{Configs}
 use Rattle.am_reports.specs.declared.configs.Configs.TheVariants as configs_is
 use Rattle.am_reports.specs.Configurations.{Configurations, One, Pair}

@@ -11,4 +11,3 @@ pub mod Linting
 pub mod AllOutcomes
 pub mod OutcomesReport
 pub mod Comparing
-pub mod Words

@@ -1,24 +1,26 @@
 -- What the sections of a report say of the rules, of the silences and of the values of a world, for
 -- every alert. (This project's own.)
-use Rattle.std.specs.Prelude.{◌≡◌, ◌+◌, ℕ, List, [], ◌∷◌, ◌++◌, Bool, Option, length}
-use Rattle.std.specs.Prelude.{if◌then◌else◌}
+use Rattle.std.specs.Prelude.{◌≡◌, ◌+◌, ℕ, List, [], ◌∷◌, ◌++◌, Bool, Option, length, if◌then◌else◌}
 use Rattle.std.specs.List.{AllZip}
 use Rattle.am_universe.specs.declared.place.Place.{Place}
 use Rattle.am_universe.specs.declared.place.Place.TheVariants as places
 use Rattle.am_labels.specs.Space.{Space}
 use Rattle.am_json.specs.Pointer.{Refusal}
-use Rattle.am_files.specs.ConfigFile.{Rule}
+use Rattle.am_config.specs.ConfigFile.{Rule}
 use Rattle.am_eval.specs.World.{World}
 use Rattle.am_classes.specs.declared.alphabet.Alphabet.{Alphabet}
 use Rattle.am_complete.specs.declared.origin.Origin.TheVariants as origin_is
 use Rattle.am_complete_texts.specs.CheckText.{origin_pointer}
-use Rattle.am_idle.specs.Words.{IsRuleFinding, rule_line, IsFirstRefusedRule}
-use Rattle.am_idle.specs.Words.{count_idle_rules}
-use Rattle.am_idle.specs.Words.{IsSilenceFinding, silence_line, IsFirstRefused}
-use Rattle.am_idle.specs.Words.{count_silence_findings, count_silence_notes}
+use Rattle.am_idle.specs.Rules.{IsRuleFinding}
+use Rattle.am_idle.specs.RuleText.{rule_line}
+use Rattle.am_idle.specs.RuleFindings.{IsFirstRefusedRule, count_idle_rules}
+use Rattle.am_idle.specs.Silences.{IsSilenceFinding, IsFirstRefused, count_silence_findings}
+use Rattle.am_idle.specs.Silences.{count_silence_notes}
+use Rattle.am_idle.specs.SilenceText.{silence_line}
 use Rattle.am_idle.specs.declared.rules.IdleReason.{IdleReason}
 use Rattle.am_idle.specs.declared.silences.SilenceFinding.{SilenceFinding}
-use Rattle.am_unseen.specs.Words.{unseen_values, unseen_lines}
+use Rattle.am_unseen.specs.Unseen.{unseen_values}
+use Rattle.am_unseen.specs.UnseenText.{unseen_lines}
 use Rattle.am_reports.specs.Sections.{Section}
 
 -- What is said of each of some things, with its position, in lines.

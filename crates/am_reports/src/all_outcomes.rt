@@ -5,7 +5,8 @@ ghost use Rattle.am_universe.specs.declared.kind.Kind.TheVariants as kinds;
 ghost use Rattle.am_universe.specs.declared.place.Place.TheVariants as places;
 ghost use Rattle.am_json.specs.Pointer.{refusal_here};
 ghost use Rattle.am_json.specs.Reading.{refusal_of};
-ghost use Rattle.am_outcomes.specs.Words.{outcomes_of, HaveManyStates};
+ghost use Rattle.am_outcomes.specs.Outcomes.{outcomes_of};
+ghost use Rattle.am_outcomes.specs.States.{HaveManyStates};
 ghost use Rattle.am_reports.specs.Configurations.{each_of};
 ghost use Rattle.am_reports.specs.ConfigsView.{configurations_of};
 ghost use Rattle.am_reports.specs.Made.{StandsForAll, AreDeclaredWhole};
@@ -14,8 +15,9 @@ ghost use Rattle.am_reports.specs.LaterStages.{IsOutcomesRefusal};
 use crate::configs::Configs;
 use crate::made::{check_declared, universe_for_routes};
 use am_classes::Alphabet;
-use am_labels::{Fault, Kind, Place, Space, Universe};
+use am_labels::Space;
 use am_outcomes::{Outcomes, find_outcomes};
+use am_universe::{Fault, Kind, Place, Universe};
 use std::alloc::Global;
 
 /// Outcomes, and the space of whose choices they are.

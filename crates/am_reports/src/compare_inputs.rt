@@ -1,13 +1,16 @@
 //! What `compare` looks at.
 
 ghost use Rattle.std.specs.Prelude.{◌≡◌, IfOk, IfErr, option_copied};
-ghost use Rattle.am_json.specs.Words.{IsRefusalAt};
-ghost use Rattle.am_files.specs.Words.{config_view, FileSaysConfig, ConfigFileRefusedFor};
-ghost use Rattle.am_eval.specs.Words.{IsFirstFault};
+ghost use Rattle.am_json.specs.Reading.{IsRefusalAt};
+ghost use Rattle.am_config.specs.ConfigView.{config_view};
+ghost use Rattle.am_config.specs.ConfigFile.{FileSaysConfig};
+ghost use Rattle.am_config.specs.ConfigFaults.{ConfigFileRefusedFor};
+ghost use Rattle.am_eval.specs.Faults.{IsFirstFault};
 ghost use Rattle.am_reports.specs.CompareInputs.{AcceptsCompareInputs, compare_input_stages};
 
-use am_files::{Config, read_config};
-use am_labels::{Fault, Place, Space};
+use am_config::{Config, read_config};
+use am_labels::Space;
+use am_universe::{Fault, Place};
 use am_universe_command::read_universe_if_any;
 use std::alloc::Global;
 use std::marker::Model;
@@ -41,7 +44,7 @@ impl<'a> Model for CompareInputs<'a> {
 
 /// What the files say.
 #[derive(Drop)]
-pub(crate) struct ReadBoth {
+pub(crate) struct Compared {
     pub space: Space,
     pub old: Config,
     pub new: Config,
@@ -49,7 +52,7 @@ pub(crate) struct ReadBoth {
 
 /// Reads the universe file, if there is one, and then the old and the new configuration file. The
 /// first fault is the one answered.
-pub(crate) fn read_both(alloc: Global, inputs: &CompareInputs<'_>) -> Result<ReadBoth, Fault>
+pub(crate) fn read_compared(alloc: Global, inputs: &CompareInputs<'_>) -> Result<Compared, Fault>
     ensures accepts { IfOk result (λ read. AcceptsCompareInputs inputs.now read.space
         (config_view read.old) (config_view read.new)) }
     ensures first { IfErr result (IsFirstFault (compare_input_stages inputs.now)) }
@@ -57,7 +60,7 @@ pub(crate) fn read_both(alloc: Global, inputs: &CompareInputs<'_>) -> Result<Rea
     let (space, _texts) = read_universe_if_any(alloc, inputs.universe)?;
     let old = read_config_at(alloc, Place::Old, inputs.old)?;
     let new = read_config_at(alloc, Place::New, inputs.new)?;
-    Ok(ReadBoth { space, old, new })
+    Ok(Compared { space, old, new })
 }
 
 /// Reads a configuration file whose faults stand at a place of its own.

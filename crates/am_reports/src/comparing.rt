@@ -1,9 +1,10 @@
 //! Saying what changes between two configurations.
 
 ghost use Rattle.std.specs.Prelude.{◌≡◌, IfOk, IfErr, string_bytes};
-ghost use Rattle.am_files.specs.Words.{config_view};
-ghost use Rattle.am_eval.specs.Words.{IsFirstFault, IsKept};
-ghost use Rattle.am_lint.specs.Words.{alphabet_of};
+ghost use Rattle.am_config.specs.ConfigView.{config_view};
+ghost use Rattle.am_eval.specs.Faults.{IsFirstFault};
+ghost use Rattle.am_eval.specs.Promise.{IsKept};
+ghost use Rattle.am_lint.specs.Findings.{alphabet_of};
 ghost use Rattle.am_reports.specs.Configurations.{Pair};
 ghost use Rattle.am_reports.specs.CompareInputs.{AcceptsCompareInputs, AcceptsCompare};
 ghost use Rattle.am_reports.specs.CompareInputs.{compare_places};
@@ -13,11 +14,11 @@ ghost use Rattle.am_reports.specs.Comparing.{compare_promise, IsComparison};
 
 use crate::CompareInputs;
 use crate::all_outcomes::all_outcomes;
-use crate::compare_inputs::{ReadBoth, read_both};
+use crate::compare_inputs::{Compared, read_compared};
 use crate::configs::Configs;
 use crate::made::alphabet_of;
-use am_labels::{Fault, Sink, put_str};
 use am_outcomes::{Changes, changes_text};
+use am_universe::{Fault, Sink, put_str};
 use std::alloc::Global;
 
 /// Writes what changes between two configurations, for every alert that is possible: a line for
@@ -41,7 +42,7 @@ pub fn compare<W: Sink>(
     // line has an alert.
     ensures kept { IsKept (compare_promise inputs.now) W.taken W.failures out.old out.new result }
 {
-    let read = read_both(alloc, inputs)?;
+    let read = read_compared(alloc, inputs)?;
     let changes = changes_of_inputs(alloc, inputs, read)?;
     match put_str(out, changes.text.as_str()) {
         Ok(()) => Ok(changes.count),
@@ -53,7 +54,7 @@ pub fn compare<W: Sink>(
 fn changes_of_inputs(
     alloc: Global,
     inputs: &CompareInputs<'_>,
-    read: ReadBoth,
+    read: Compared,
 ) -> Result<Changes, Fault>
     ensures whole { IfOk result (λ changes. AcceptsCompareInputs inputs.now read.space
         (config_view read.old) (config_view read.new)

@@ -5,16 +5,17 @@ ghost use Rattle.std.specs.List.{list_any};
 ghost use Rattle.am_universe.specs.Text.{same_text};
 ghost use Rattle.am_universe.specs.declared.kind.Kind.TheVariants as kinds;
 ghost use Rattle.am_json.specs.Reading.{refusal_of};
-ghost use Rattle.am_files.specs.Words.{config_view};
-ghost use Rattle.am_complete.specs.Words.{IsAskedOf};
+ghost use Rattle.am_config.specs.ConfigView.{config_view};
+ghost use Rattle.am_complete.specs.AskedLabel.{IsAskedOf};
 ghost use Rattle.am_reports.specs.Configurations.{routing_conditions, labels_of_routes, asks_of};
 ghost use Rattle.am_reports.specs.ConfigsView.{configurations_of};
 ghost use Rattle.am_reports.specs.Made.{IsUnprovedAt};
 
 use am_asked::{asked_by_both, asked_by_routes};
 use am_complete::{AskedLabel, Origin};
-use am_files::Config;
-use am_labels::{Fault, Place, Space};
+use am_config::Config;
+use am_labels::Space;
+use am_universe::{Fault, Place};
 use am_universe_command::unproved_fault;
 use std::alloc::{AllocError, Global};
 

@@ -5,7 +5,8 @@ ghost use Rattle.std.specs.List.{AllZip};
 ghost use Rattle.am_universe.specs.declared.kind.Kind.TheVariants as kinds;
 ghost use Rattle.am_json.specs.Reading.{refusal_of};
 ghost use Rattle.am_complete_texts.specs.CheckText.{origin_pointer};
-ghost use Rattle.am_idle.specs.Words.{rule_line, HasPositionsIfAny, silence_line};
+ghost use Rattle.am_idle.specs.RuleText.{rule_line, HasPositionsIfAny};
+ghost use Rattle.am_idle.specs.SilenceText.{silence_line};
 ghost use Rattle.am_reports.specs.LintSections.{SaysOfRules, SaysOfSilences, values_section};
 ghost use Rattle.am_reports.specs.LintSections.{IsRulesRefusal, IsSilencesRefusal, each_line};
 
@@ -13,13 +14,15 @@ use crate::section::Section;
 use am_classes::Alphabet;
 use am_complete::Origin;
 use am_complete_texts::pointer_to;
+use am_config::Rule;
 use am_eval::World;
-use am_files::{Rule, Silences};
 use am_idle::{
     IdleReason, SilenceFinding, count_idle_rules, count_silence_findings, count_silence_notes,
     find_rules, find_silences, push_rule_line, push_silence_line,
 };
-use am_labels::{Fault, Kind, Place, Space};
+use am_labels::Space;
+use am_list_files::Silences;
+use am_universe::{Fault, Kind, Place};
 use am_unseen::{push_unseen, unseen_values};
 use std::alloc::{AllocError, Global};
 

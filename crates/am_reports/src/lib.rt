@@ -1,4 +1,5 @@
-//! The commands that speak of every alert, as functions over bytes and a [`Sink`](am_labels::Sink).
+//! The commands that speak of every alert, as functions over bytes and a
+//! [`Sink`](am_universe::Sink).
 //!
 //! [`lint`] says what is wrong with the routes and receivers of a configuration, and why.
 //! [`outcomes`] lists to which receivers alerts go, and [`compare`] what changes between two

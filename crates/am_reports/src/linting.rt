@@ -1,7 +1,8 @@
 //! Saying what is wrong with a configuration.
 
 ghost use Rattle.std.specs.Prelude.{IfOk, IfErr, string_bytes};
-ghost use Rattle.am_eval.specs.Words.{IsFirstFault, IsKept};
+ghost use Rattle.am_eval.specs.Faults.{IsFirstFault};
+ghost use Rattle.am_eval.specs.Promise.{IsKept};
 ghost use Rattle.am_reports.specs.LintInputs.{AcceptsLintInputs};
 ghost use Rattle.am_reports.specs.Linting.{lint_promise, IsLinted, later_stages};
 
@@ -12,7 +13,7 @@ use crate::lint_inputs::{ReadWorld, read_lint_inputs};
 use crate::made::{alphabet_of, check_declared};
 use crate::route_section::route_section;
 use crate::section::{LintReport, report_of};
-use am_labels::{Fault, Sink, Universe, put_str};
+use am_universe::{Fault, Sink, Universe, put_str};
 use std::alloc::Global;
 
 /// Writes what is wrong with a configuration, for every alert that is possible: a line for each

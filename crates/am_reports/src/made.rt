@@ -5,7 +5,7 @@ ghost use Rattle.std.specs.Prelude.{[], string_bytes};
 ghost use Rattle.am_universe.specs.declared.kind.Kind.TheVariants as kinds;
 ghost use Rattle.am_universe.specs.declared.place.Place.TheVariants as places;
 ghost use Rattle.am_json.specs.Reading.{refusal_of};
-ghost use Rattle.am_lint.specs.Words.{alphabet_of};
+ghost use Rattle.am_lint.specs.Findings.{alphabet_of};
 ghost use Rattle.am_reports.specs.ConfigsView.{configurations_of};
 ghost use Rattle.am_reports.specs.Made.{StandsForAll, AreDeclaredWhole, IsMadeRefusal};
 ghost use Rattle.am_reports.specs.Made.{IsDeclaredRefusal, IsStateRefusal, IsSettledState};
@@ -13,7 +13,8 @@ ghost use Rattle.am_reports.specs.Made.{IsDeclaredRefusal, IsStateRefusal, IsSet
 use crate::configs::{Configs, labels_asked, unproved_label};
 use am_classes::Alphabet;
 use am_complete::{Completeness, LabelState, label_states, universe_beside};
-use am_labels::{Fault, Kind, Place, Space, Universe};
+use am_labels::Space;
+use am_universe::{Fault, Kind, Place, Universe};
 use std::alloc::Global;
 
 /// Which texts the labels of alerts may have.

@@ -1,9 +1,10 @@
 //! Saying to which receivers alerts go.
 
 ghost use Rattle.std.specs.Prelude.{◌≡◌, IfOk, IfErr, string_bytes};
-ghost use Rattle.am_files.specs.Words.{config_view};
-ghost use Rattle.am_eval.specs.Words.{IsFirstFault, IsKept};
-ghost use Rattle.am_lint.specs.Words.{alphabet_of};
+ghost use Rattle.am_config.specs.ConfigView.{config_view};
+ghost use Rattle.am_eval.specs.Faults.{IsFirstFault};
+ghost use Rattle.am_eval.specs.Promise.{IsKept};
+ghost use Rattle.am_lint.specs.Findings.{alphabet_of};
 ghost use Rattle.am_reports.specs.Configurations.{One};
 ghost use Rattle.am_reports.specs.ReportInputs.{AcceptsReportInputs, AcceptsReport, report_places};
 ghost use Rattle.am_reports.specs.LaterStages.{outcome_stages};
@@ -15,8 +16,8 @@ use crate::all_outcomes::all_outcomes;
 use crate::configs::Configs;
 use crate::made::alphabet_of;
 use crate::report_inputs::{ReadInputs, read_inputs};
-use am_labels::{Fault, Sink, answer_of_write, put_str};
 use am_outcomes::outcomes_text;
+use am_universe::{Fault, Sink, answer_of_write, put_str};
 use std::alloc::Global;
 
 /// Writes to which receivers alerts go under a configuration, for every alert that is possible: a

@@ -1,12 +1,13 @@
 //! What a report on one configuration is made of.
 
 ghost use Rattle.std.specs.Prelude.{◌≡◌, IfOk, IfErr, option_copied};
-ghost use Rattle.am_files.specs.Words.{config_view};
-ghost use Rattle.am_eval.specs.Words.{IsFirstFault};
+ghost use Rattle.am_config.specs.ConfigView.{config_view};
+ghost use Rattle.am_eval.specs.Faults.{IsFirstFault};
 ghost use Rattle.am_reports.specs.ReportInputs.{AcceptsReportInputs, report_input_stages};
 
-use am_files::{Config, read_config};
-use am_labels::{Fault, Space};
+use am_config::{Config, read_config};
+use am_labels::Space;
+use am_universe::Fault;
 use am_universe_command::read_universe_if_any;
 use std::alloc::Global;
 use std::marker::Model;

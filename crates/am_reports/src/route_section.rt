@@ -1,12 +1,13 @@
 //! What a report says of routes and receivers.
 
-ghost use Rattle.std.specs.Prelude.{◌≡◌, ◌≢◌, [], IfOk, IfErr, OnOk, IfSome, IfNone};
-ghost use Rattle.std.specs.Prelude.{false, true, is_none};
+ghost use Rattle.std.specs.Prelude.{◌≡◌, ◌≢◌, [], IfOk, IfErr, OnOk, IfSome, IfNone, false, true};
+ghost use Rattle.std.specs.Prelude.{is_none};
 ghost use Rattle.am_universe.specs.declared.kind.Kind.TheVariants as kinds;
 ghost use Rattle.am_classes.specs.declared.alphabet.Alphabet.TheVariants.{Unicode, Ascii};
 ghost use Rattle.am_json.specs.Reading.{refusal_of};
-ghost use Rattle.am_files.specs.Words.{config_view};
-ghost use Rattle.am_lint.specs.Words.{SaysOfRoutes, alphabet_of};
+ghost use Rattle.am_config.specs.ConfigView.{config_view};
+ghost use Rattle.am_lint.specs.Report.{SaysOfRoutes};
+ghost use Rattle.am_lint.specs.Findings.{alphabet_of};
 ghost use Rattle.am_reports.specs.Configurations.{One};
 ghost use Rattle.am_reports.specs.Made.{StandsForAll, IsMadeRefusal, IsRoutesRefusal};
 
@@ -14,11 +15,12 @@ use crate::configs::Configs;
 use crate::made::universe_for_routes;
 use crate::section::Section;
 use am_classes::Alphabet;
-use am_files::Config;
-use am_labels::{Fault, Space, Universe};
+use am_config::Config;
+use am_labels::Space;
 use am_lint::{
     count_findings, count_notes, found_receivers, found_routes, lint_lines, look_further,
 };
+use am_universe::{Fault, Universe};
 use std::alloc::{AllocError, Global};
 
 /// What is to be said of the routes and receivers of a configuration, for every alert of a space

@@ -1,9 +1,11 @@
 -- The numbers of texts lead to the states of texts.
-use Rattle.std.proofs.Common.{◌≡◌, ℕ, ◌<◌, true, List, [], ◌∷◌, ◌++◌, length, inl, inr, Some, slice_get, slice_index, string_bytes, vec_len, sym, ap, ◌∙◌, subst, arith}
+use Rattle.std.proofs.Common.{◌≡◌, ℕ, ◌<◌, true, List, [], ◌∷◌, ◌++◌, length, inl, inr, Some}
+use Rattle.std.proofs.Common.{slice_get, slice_index, string_bytes, vec_len, sym, ap, ◌∙◌, subst}
+use Rattle.std.proofs.Common.{arith}
 use Rattle.std.specs.List.{list_all}
 use Rattle.std.proofs.lemmas.Bool.{and_parts}
 use Rattle.std.proofs.lemmas.Option.{slice_get-get_or, slice_get_within}
-use Rattle.am_labels.specs.Words.{finds}
+use Rattle.am_labels.specs.Pattern.{finds}
 use Rattle.am_scan.specs.declared.column.Column.{Column}
 use Rattle.am_scan.specs.declared.row.Row.{Row}
 use Rattle.am_scan.specs.declared.pattern_scan.PatternScan.{PatternScan}

@@ -1,5 +1,8 @@
 -- How the state of a text follows from that of the text behind its first byte.
-use Rattle.std.proofs.Common.{◌≡◌, ℕ, zero, suc, ◌+◌, ◌-◌, ◌<◌, Bool, true, false, ◌&&◌, ◌||◌, List, [], ◌∷◌, length, drop, vec_len, slice_index_or, slice_get, Option, Some, None, is_some, option_map, option_and_then, refl, sym, ap, ap₂, ◌∙◌, arith, drop-drop, All, ltb-true}
+use Rattle.std.proofs.Common.{◌≡◌, ℕ, zero, suc, ◌+◌, ◌-◌, ◌<◌, Bool, true, false, ◌&&◌, ◌||◌, List}
+use Rattle.std.proofs.Common.{[], ◌∷◌, length, drop, vec_len, slice_index_or, slice_get, Option}
+use Rattle.std.proofs.Common.{Some, None, is_some, option_map, option_and_then, refl, sym, ap, ap₂}
+use Rattle.std.proofs.Common.{◌∙◌, arith, drop-drop, All, ltb-true}
 use Rattle.std.proofs.lemmas.List.Elements.{All-weaker}
 use Rattle.std.proofs.lemmas.List.Sums.{AllPass-from_list_all}
 use Rattle.std.specs.Option.{option_or}
@@ -11,7 +14,7 @@ use Rattle.regex_nfa.specs.Run.{state_of, run}
 use Rattle.regex_nfa.specs.States.{next_on}
 use Rattle.regex_nfa.specs.declared.nfa.Nfa.{Nfa}
 use Rattle.regex_nfa.proofs.RunLemmas.{byte_below-length, next_on_within}
-use Rattle.am_labels.specs.Words.{finds}
+use Rattle.am_labels.specs.Pattern.{finds}
 use Rattle.am_scan.specs.declared.sight.Sight.{Sight}
 use Rattle.am_scan.specs.Sight.{kind_of, kind_beside, is_scanned, IsScanned}
 use Rattle.am_scan.specs.Closure.{start_at, IsSearchFor, leads, IsClosed, goes_on}

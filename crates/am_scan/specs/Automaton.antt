@@ -1,7 +1,7 @@
 -- The automaton of a pattern, and how it is made.
-use Rattle.std.specs.Prelude.{◌≡◌, ℕ, ◌<◌, Bool, true, List, [], ◌∷◌, length, Some}
-use Rattle.std.specs.Prelude.{slice_get, slice_index, string_bytes, vec_len}
-use Rattle.am_labels.specs.Words.{finds}
+use Rattle.std.specs.Prelude.{◌≡◌, ℕ, ◌<◌, Bool, true, List, [], ◌∷◌, length, Some, slice_get}
+use Rattle.std.specs.Prelude.{slice_index, string_bytes, vec_len}
+use Rattle.am_labels.specs.Pattern.{finds}
 use Rattle.am_scan.specs.declared.column.Column.{Column}
 use Rattle.am_scan.specs.declared.row.Row.{Row}
 use Rattle.am_scan.specs.declared.pattern_scan.PatternScan.{PatternScan}

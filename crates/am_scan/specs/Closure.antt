@@ -1,6 +1,6 @@
 -- Which states of a compiled pattern lead to a match from a position of a text.
-use Rattle.std.specs.Prelude.{◌≡◌, ℕ, ◌<◌, Bool, true, false, ◌&&◌, ◌||◌, List, length, All}
-use Rattle.std.specs.Prelude.{Option, None, is_some, vec_len, slice_index_or, if◌then◌else◌, ◌==◌}
+use Rattle.std.specs.Prelude.{◌≡◌, ℕ, ◌<◌, Bool, true, false, ◌&&◌, ◌||◌, List, length, All, Option}
+use Rattle.std.specs.Prelude.{None, is_some, vec_len, slice_index_or, if◌then◌else◌, ◌==◌}
 use Rattle.std.specs.List.{list_any}
 use Rattle.regex_hir.specs.Re.{Rest}
 use Rattle.regex_hir.specs.Find.{first_between}
@@ -10,9 +10,9 @@ use Rattle.regex_nfa.specs.Run.{run, state_of}
 use Rattle.regex_nfa.specs.States.{next_on, read}
 use Rattle.regex_nfa.specs.declared.nfa.Nfa.{Nfa}
 use Rattle.regex_nfa.specs.declared.state.State.{State}
-use Rattle.regex_nfa.specs.declared.state.State.TheVariants.{ByteRange, Sparse, Split}
-use Rattle.regex_nfa.specs.declared.state.State.TheVariants.{Save, Look, Match, Fail}
-use Rattle.am_labels.specs.Words.{finds}
+use Rattle.regex_nfa.specs.declared.state.State.TheVariants.{ByteRange, Sparse, Split, Save, Look}
+use Rattle.regex_nfa.specs.declared.state.State.TheVariants.{Match, Fail}
+use Rattle.am_labels.specs.Pattern.{finds}
 
 -- The first match from the start of the compiled pattern at a position where a character begins.
 -- Source: own choice.

@@ -1,4 +1,3 @@
-pub mod Words
 pub mod Sight
 pub mod Closure
 pub mod Column

@@ -1,6 +1,6 @@
 ghost use Rattle.std.specs.Prelude.{◌≡◌, IfOk, IfSome, map, option_map, string_bytes};
 ghost use Rattle.regex_syntax.specs.Verdict.{Reads, default_config};
-ghost use Rattle.am_labels.specs.Words.{anchored_pattern};
+ghost use Rattle.am_labels.specs.Pattern.{anchored_pattern};
 ghost use Rattle.am_scan.specs.Closure.{IsSearchFor};
 
 use crate::limits::MAX_TABLE_BYTES;

@@ -1,6 +1,6 @@
-ghost use Rattle.std.specs.Prelude.{◌≡◌, ℕ, ◌∷◌, [], List, true, IfOk, IfSome, IsTrue};
-ghost use Rattle.std.specs.Prelude.{slice_index, string_bytes};
-ghost use Rattle.am_labels.specs.Words.{finds};
+ghost use Rattle.std.specs.Prelude.{◌≡◌, ℕ, ◌∷◌, [], List, true, IfOk, IfSome, IsTrue, slice_index};
+ghost use Rattle.std.specs.Prelude.{string_bytes};
+ghost use Rattle.am_labels.specs.Pattern.{finds};
 ghost use Rattle.am_scan.specs.Sight.{IsScanned};
 ghost use Rattle.am_scan.specs.Numbers.{number_in, found_in};
 

@@ -1,9 +1,9 @@
 ghost use Rattle.std.specs.Prelude.{◌≡◌, ℕ, ◌<◌, ◌∷◌, ◌||◌, ◌&&◌, [], List, All, length, Bool};
-ghost use Rattle.std.specs.Prelude.{true, false, Some, None};
-ghost use Rattle.std.specs.Prelude.{IfOk, IfSome, slice_index_or, vec_len, string_bytes};
+ghost use Rattle.std.specs.Prelude.{true, false, Some, None, IfOk, IfSome, slice_index_or, vec_len};
+ghost use Rattle.std.specs.Prelude.{string_bytes};
 ghost use Rattle.std.specs.List.{list_all};
 ghost use Rattle.regex_nfa.specs.Run.{state_of};
-ghost use Rattle.am_labels.specs.Words.{finds};
+ghost use Rattle.am_labels.specs.Pattern.{finds};
 ghost use Rattle.am_scan.specs.Sight.{sees_state, IsScanned};
 ghost use Rattle.am_scan.specs.Closure.{IsSearchFor, IsClosed, AcceptsReads, accepts, contains};
 ghost use Rattle.am_scan.specs.Closure.{reads_byte};

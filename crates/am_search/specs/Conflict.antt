@@ -1,6 +1,6 @@
 -- Conflicts: why no completion of a prefix is true.
 use Rattle.std.specs.Prelude.{◌≡◌, ℕ, ◌<◌, List, length, slice_index, Bool, false, IsTrue}
-use Rattle.am_universe.specs.Words.{IsWhole}
+use Rattle.am_universe.specs.Choice.{IsWhole}
 use Rattle.am_search.specs.declared.labels.Labels.{Labels}
 use Rattle.am_search.specs.Labels.{has_label}
 

@@ -1,7 +1,8 @@
 -- Judges that leave nothing open that could be known.
 use Rattle.std.specs.Prelude.{◌≡◌, ℕ, List, Bool, not, IsTrue}
 use Rattle.std.specs.List.{list_any}
-use Rattle.am_universe.specs.Words.{admits, completions}
+use Rattle.am_universe.specs.Choice.{admits}
+use Rattle.am_universe.specs.Completions.{completions}
 use Rattle.am_search.specs.declared.verdict.Verdict.{Verdict}
 use Rattle.am_search.specs.declared.verdict.Verdict.TheVariants.{Open}
 use Rattle.am_search.specs.Judge.{IsJudge}

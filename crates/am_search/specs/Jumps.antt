@@ -1,7 +1,8 @@
 -- What a search that jumps knows below a prefix.
 use Rattle.std.specs.Prelude.{◌≡◌, ℕ, ◌<◌, List, length, slice_index, Bool, false, IsTrue, Some}
 use Rattle.std.specs.List.{find}
-use Rattle.am_universe.specs.Words.{IsWhole, completions}
+use Rattle.am_universe.specs.Choice.{IsWhole}
+use Rattle.am_universe.specs.Completions.{completions}
 use Rattle.am_search.specs.declared.labels.Labels.{Labels}
 use Rattle.am_search.specs.declared.jumps.Outcome.{Outcome}
 use Rattle.am_search.specs.declared.jumps.Outcome.TheVariants.{Found, Refuted}

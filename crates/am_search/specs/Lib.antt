@@ -1,4 +1,3 @@
-pub mod Words
 pub mod Judge
 pub mod ExactJudge
 pub mod Start

@@ -3,7 +3,8 @@ use Rattle.std.specs.Prelude.{ℕ, List, [], Bool, not, IsTrue, Option, Some, No
 use Rattle.std.specs.List.{filter, find}
 use Rattle.std.specs.Ordering.{nat_cmp, is_lt}
 use Rattle.std.specs.Cmp.Lexicographic.{slice_cmp}
-use Rattle.am_universe.specs.Words.{choices, admits, IsWhole, completions}
+use Rattle.am_universe.specs.Choice.{choices, admits, IsWhole}
+use Rattle.am_universe.specs.Completions.{completions}
 use Rattle.am_search.specs.declared.start.Start.{Start}
 use Rattle.am_search.specs.declared.start.Start.TheVariants.{At, After}
 

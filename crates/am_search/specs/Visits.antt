@@ -1,10 +1,10 @@
 -- Which prefixes a search judges from a start on, and which choices these give. The search goes on
 -- below a prefix where the verdict is `Open`; it leaves out what is below a `No`, and gives what is
 -- below a `Yes` without judging there.
-use Rattle.std.specs.Prelude.{◌≡◌, ℕ, ◌-◌, List, [], ◌∷◌, ◌++◌, length, map, take, nat_lt}
-use Rattle.std.specs.Prelude.{Bool, ◌&&◌, if◌then◌else◌, Option, Some, None, slice_get}
+use Rattle.std.specs.Prelude.{◌≡◌, ℕ, ◌-◌, List, [], ◌∷◌, ◌++◌, length, map, take, nat_lt, Bool}
+use Rattle.std.specs.Prelude.{◌&&◌, if◌then◌else◌, Option, Some, None, slice_get}
 use Rattle.std.specs.List.{filter, flat_map, list_all, range_with_len}
-use Rattle.am_universe.specs.Words.{completions}
+use Rattle.am_universe.specs.Completions.{completions}
 use Rattle.am_search.specs.declared.start.Start.{Start}
 use Rattle.am_search.specs.declared.verdict.Verdict.{Verdict}
 use Rattle.am_search.specs.Judge.{is_yes, is_open}

@@ -1,9 +1,9 @@
 -- Where a search stands, and what it has judged and given so far.
-use Rattle.std.specs.Prelude.{◌≡◌, ℕ, ◌<◌, ◌≤◌, ◌-◌, List, ◌++◌, length, take}
-use Rattle.std.specs.Prelude.{◌+◌, slice_get, slice_index, nat_eq, if◌then◌else◌}
-use Rattle.std.specs.Prelude.{Option, Some, None, option_map}
+use Rattle.std.specs.Prelude.{◌≡◌, ℕ, ◌<◌, ◌≤◌, ◌-◌, List, ◌++◌, length, take, ◌+◌, slice_get}
+use Rattle.std.specs.Prelude.{slice_index, nat_eq, if◌then◌else◌, Option, Some, None, option_map}
 use Rattle.std.specs.List.{starts_with}
-use Rattle.am_universe.specs.Words.{IsWhole, completions}
+use Rattle.am_universe.specs.Choice.{IsWhole}
+use Rattle.am_universe.specs.Completions.{completions}
 use Rattle.am_search.specs.declared.start.Start.{Start}
 use Rattle.am_search.specs.declared.stage.Stage.{Stage}
 use Rattle.am_search.specs.declared.stage.Stage.TheVariants.{Judging, Giving, Done}

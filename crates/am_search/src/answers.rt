@@ -1,9 +1,10 @@
 ghost use Rattle.std.specs.Prelude.{◌≡◌, ◌≢◌, ◌<◌, ◌≤◌, ◌+◌, ◌∷◌, [], ◌++◌, Some, None, ℕ, List};
-ghost use Rattle.std.specs.Prelude.{length, IsTrue, option_map};
-ghost use Rattle.std.specs.Prelude.{IfSome, IfNone, MatchOption, MatchBool, slice_get};
+ghost use Rattle.std.specs.Prelude.{length, IsTrue, option_map, IfSome, IfNone, MatchOption};
+ghost use Rattle.std.specs.Prelude.{MatchBool, slice_get};
 ghost use Rattle.std.specs.Iterator.{YieldsFirst};
 ghost use Rattle.std.specs.List.{find, starts_with};
-ghost use Rattle.am_universe.specs.Words.{admits, IsWhole, choices, completions};
+ghost use Rattle.am_universe.specs.Choice.{admits, IsWhole, choices};
+ghost use Rattle.am_universe.specs.Completions.{completions};
 ghost use Rattle.am_search.specs.declared.start.Start.TheVariants.{At, After};
 ghost use Rattle.am_search.specs.declared.stage.Stage.TheVariants.{Judging, Giving, Done};
 ghost use Rattle.am_search.specs.declared.answers.State.TheVariants.{Running, Ended, Stopped};

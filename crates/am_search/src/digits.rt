@@ -2,7 +2,7 @@
 
 ghost use Rattle.std.specs.Prelude.{◌≡◌, ◌≢◌, ℕ, List, MatchOption};
 ghost use Rattle.hex.specs.Hex.{encode_lower};
-ghost use Rattle.am_search.specs.Words.{IsFingerprint};
+ghost use Rattle.am_search.specs.Token.{IsFingerprint};
 
 use hex::FromHex;
 

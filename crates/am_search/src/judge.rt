@@ -1,5 +1,5 @@
 ghost use Rattle.std.specs.Prelude.{◌≡◌, ℕ, ◌<◌, List, Bool, length, slice_get, IsTrue, Some};
-ghost use Rattle.am_universe.specs.Words.{admits};
+ghost use Rattle.am_universe.specs.Choice.{admits};
 ghost use Rattle.am_search.specs.declared.verdict.Verdict.{Verdict};
 ghost use Rattle.am_search.specs.Judge.{IsJudge};
 

@@ -1,6 +1,6 @@
 ghost use Rattle.std.specs.Prelude.{◌≡◌, IfSome, IsTrue};
 ghost use Rattle.std.specs.List.{find};
-ghost use Rattle.am_universe.specs.Words.{admits, IsWhole, choices};
+ghost use Rattle.am_universe.specs.Choice.{admits, IsWhole, choices};
 ghost use Rattle.am_search.specs.Jumps.{IsOutcome};
 
 use crate::{Labels, Refuter};

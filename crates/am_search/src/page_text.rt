@@ -1,7 +1,9 @@
 ghost use Rattle.std.specs.Prelude.{◌≡◌, ◌<◌, ℕ, List, Option, IfOk, IfSome};
-ghost use Rattle.am_universe.specs.Words.{sizes, Writes};
-ghost use Rattle.am_search.specs.Words.{answers_judge, answers_page, lines_text, page_text};
-ghost use Rattle.am_search.specs.Words.{state_at, trailer_at};
+ghost use Rattle.am_universe.specs.Universe.{sizes};
+ghost use Rattle.am_universe.specs.Sink.{Writes};
+ghost use Rattle.am_search.specs.AnswersView.{answers_judge, answers_page, state_at};
+ghost use Rattle.am_search.specs.PageText.{lines_text, page_text};
+ghost use Rattle.am_search.specs.BudgetPage.{trailer_at};
 
 use crate::answers::{Answers, State};
 use crate::judge::Judge;

@@ -1,6 +1,6 @@
-ghost use Rattle.std.specs.Prelude.{◌≡◌, ℕ, ◌<◌, List, Bool, length, slice_get, IsTrue};
-ghost use Rattle.std.specs.Prelude.{Some, IfSome, IfNone};
-ghost use Rattle.am_universe.specs.Words.{admits, IsWhole};
+ghost use Rattle.std.specs.Prelude.{◌≡◌, ℕ, ◌<◌, List, Bool, length, slice_get, IsTrue, Some};
+ghost use Rattle.std.specs.Prelude.{IfSome, IfNone};
+ghost use Rattle.am_universe.specs.Choice.{admits, IsWhole};
 ghost use Rattle.am_search.specs.Judge.{AreSizes};
 ghost use Rattle.am_search.specs.Conflict.{IsConflict};
 

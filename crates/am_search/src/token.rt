@@ -1,12 +1,14 @@
-ghost use Rattle.std.specs.Prelude.{◌≡◌, ◌≢◌, ◌<◌, ◌^◌, ◌++◌, ℕ, List, Option};
-ghost use Rattle.std.specs.Prelude.{IfOk, IfErr, IfSome, MatchOption, IsTrue, codes};
+ghost use Rattle.std.specs.Prelude.{◌≡◌, ◌≢◌, ◌<◌, ◌^◌, ◌++◌, ℕ, List, Option, IfOk, IfErr, IfSome};
+ghost use Rattle.std.specs.Prelude.{MatchOption, IsTrue, codes};
 ghost use Rattle.std.specs.Fmt.{decimal};
 ghost use Rattle.hex.specs.Hex.{encode_lower};
-ghost use Rattle.am_universe.specs.Words.{Writes, sizes, admits, IsWhole};
+ghost use Rattle.am_universe.specs.Sink.{Writes};
+ghost use Rattle.am_universe.specs.Universe.{sizes};
+ghost use Rattle.am_universe.specs.Choice.{admits, IsWhole};
 ghost use Rattle.am_search.specs.declared.start.Start.{Start};
-ghost use Rattle.am_search.specs.Words.{IsStart, token_text};
-ghost use Rattle.am_search.specs.Words.{IsFingerprint, ReadsToken, IsNoToken, RefusesToken};
-ghost use Rattle.am_search.specs.Token.{positions_text};
+ghost use Rattle.am_search.specs.Start.{IsStart};
+ghost use Rattle.am_search.specs.Token.{token_text, IsFingerprint, ReadsToken, IsNoToken};
+ghost use Rattle.am_search.specs.Token.{RefusesToken, positions_text};
 ghost use Rattle.am_search.specs.TokenParts.{form_text, spelled_text};
 
 use crate::Start;

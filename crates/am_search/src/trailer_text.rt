@@ -1,5 +1,5 @@
-ghost use Rattle.am_universe.specs.Words.{Writes};
-ghost use Rattle.am_search.specs.Words.{trailer_text};
+ghost use Rattle.am_universe.specs.Sink.{Writes};
+ghost use Rattle.am_search.specs.TrailerText.{trailer_text};
 
 use crate::start::Start;
 use crate::token::write_token;

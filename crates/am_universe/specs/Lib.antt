@@ -1,4 +1,3 @@
-pub mod Words
 pub mod Bytes
 pub mod Kind
 pub mod Place

@@ -1,6 +1,7 @@
 ghost use Rattle.std.specs.Prelude.{◌≡◌, IfOk};
-ghost use Rattle.am_universe.specs.Words.{Writes, fault_text, has_no_place, place_part};
-ghost use Rattle.am_universe.specs.Words.{pointer_byte_text, pointer_part, status_of};
+ghost use Rattle.am_universe.specs.Sink.{Writes};
+ghost use Rattle.am_universe.specs.FaultText.{fault_text, has_no_place, place_part};
+ghost use Rattle.am_universe.specs.FaultText.{pointer_byte_text, pointer_part, status_of};
 
 use crate::memory_sink::MemorySink;
 use crate::{Fault, Kind, Out, Sink, put_all, put_str};

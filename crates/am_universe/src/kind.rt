@@ -1,5 +1,5 @@
 ghost use Rattle.std.specs.Prelude.{◌≡◌};
-ghost use Rattle.am_universe.specs.Words.{kind_number, kind_text};
+ghost use Rattle.am_universe.specs.Kind.{kind_number, kind_text};
 ghost use Rattle.am_universe.specs.declared.kind.Kind.TheVariants.{Memory};
 
 use std::alloc::{AllocError, AllocFailed};

@@ -2,8 +2,8 @@
 
 ghost use Rattle.std.specs.Prelude.{◌≡◌};
 ghost use Rattle.std.specs.List.{list_all};
-ghost use Rattle.am_universe.specs.Words.{begins_label_name, continues_label_name};
-ghost use Rattle.am_universe.specs.Words.{is_label_name};
+ghost use Rattle.am_universe.specs.Universe.{begins_label_name, continues_label_name};
+ghost use Rattle.am_universe.specs.Universe.{is_label_name};
 
 /// Whether the text is a label name, `[a-zA-Z_][a-zA-Z0-9_]*` (Prometheus data model).
 pub(crate) fn is_label_name(name: &[u8]) -> bool

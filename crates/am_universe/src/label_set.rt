@@ -1,7 +1,9 @@
 ghost use Rattle.std.specs.Prelude.{◌≡◌, ◌==◌, OnOk, OnErr, IfOk, string_bytes};
 ghost use Rattle.std.specs.FinMap as map;
-ghost use Rattle.am_universe.specs.Words.{sizes, IsWhole, label_map_of, value_of, with_value};
-ghost use Rattle.am_universe.specs.Words.{label_set_of, HasTextsAlone};
+ghost use Rattle.am_universe.specs.Universe.{sizes};
+ghost use Rattle.am_universe.specs.Choice.{IsWhole};
+ghost use Rattle.am_universe.specs.LabelSetView.{label_map_of};
+ghost use Rattle.am_universe.specs.LabelSet.{value_of, with_value, label_set_of, HasTextsAlone};
 
 use crate::{Choice, Universe};
 use std::alloc::{AllocError, Global};

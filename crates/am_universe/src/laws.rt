@@ -1,6 +1,6 @@
 //! Facts about the definitions alone: each is the contract of a function with an empty body.
-ghost use Rattle.std.specs.Prelude.{◌≡◌, ◌↔◌, ℕ, List, [], ◌∷◌, ◌++◌, IsTrue, Contains};
-ghost use Rattle.std.specs.Prelude.{None, Some, slice_get, unwrap_or, string_bytes};
+ghost use Rattle.std.specs.Prelude.{◌≡◌, ◌↔◌, ℕ, List, [], ◌∷◌, ◌++◌, IsTrue, Contains, None, Some};
+ghost use Rattle.std.specs.Prelude.{slice_get, unwrap_or, string_bytes};
 ghost use Rattle.std.specs.Ordering.{nat_cmp};
 ghost use Rattle.std.specs.Cmp.Lexicographic.{slice_cmp};
 ghost use Rattle.std.specs.List.Sorted.{IsStrictlySortedBy};
@@ -9,9 +9,11 @@ ghost use Rattle.am_universe.specs.declared.kind.Kind.TheVariants as kinds;
 ghost use Rattle.am_universe.specs.declared.limits.TheConstants.{MAX_LABELS, MAX_VALUES};
 ghost use Rattle.am_universe.specs.declared.limits.TheConstants.{MAX_POSITIONS};
 ghost use Rattle.am_universe.specs.declared.place.Place.TheVariants as places;
-ghost use Rattle.am_universe.specs.Words.{same_text};
-ghost use Rattle.am_universe.specs.Words.{Label, IsUniverse, names, sizes, label_fault};
-ghost use Rattle.am_universe.specs.Words.{choices, IsWhole, value_of, value_at, label_set_of, line};
+ghost use Rattle.am_universe.specs.Text.{same_text};
+ghost use Rattle.am_universe.specs.Universe.{Label, IsUniverse, names, sizes, label_fault};
+ghost use Rattle.am_universe.specs.Choice.{choices, IsWhole};
+ghost use Rattle.am_universe.specs.LabelSet.{value_of, value_at, label_set_of};
+ghost use Rattle.am_universe.specs.WrittenLabelSet.{line};
 
 /// How much there may be: labels of a universe, values of a label, positions of a choice.
 pub fn limits_of_universes()

@@ -2,7 +2,10 @@ ghost use Rattle.std.specs.Prelude.{◌≡◌, ◌<◌, ◌≤◌, ◌+◌, ◌�
 ghost use Rattle.std.specs.Prelude.{IfOk, Some, option_map, vec_len, vec_capacity};
 ghost use Rattle.std.specs.List.{AllByRecursion};
 ghost use Rattle.am_universe.specs.Bytes.{left_brace};
-ghost use Rattle.am_universe.specs.Words.{sizes, IsWhole, line, Writes};
+ghost use Rattle.am_universe.specs.Universe.{sizes};
+ghost use Rattle.am_universe.specs.Choice.{IsWhole};
+ghost use Rattle.am_universe.specs.WrittenLabelSet.{line};
+ghost use Rattle.am_universe.specs.Sink.{Writes};
 ghost use Rattle.am_universe.specs.LineTable.{piece_text, label_pieces, texts_of_pieces};
 
 use crate::memory_sink::MemorySink;

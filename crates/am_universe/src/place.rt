@@ -1,5 +1,5 @@
 ghost use Rattle.std.specs.Prelude.{◌≡◌};
-ghost use Rattle.am_universe.specs.Words.{place_text};
+ghost use Rattle.am_universe.specs.Place.{place_text};
 
 /// Where a fault stands.
 #[derive(Clone, Copy, Debug, PartialEq, Eq)]

@@ -2,10 +2,12 @@ ghost use Rattle.std.specs.Prelude.{◌≡◌, ◌<◌, ◌≤◌, ◌==◌, [],
 ghost use Rattle.std.specs.Prelude.{string_bytes, IfErr, IfSome, IfNone, OnOk, OnErr, Contains};
 ghost use Rattle.std.specs.Prelude.{slice_get, slice_index, option_map, option_and_then, unwrap_or};
 ghost use Rattle.std.specs.List.{list_any};
-ghost use Rattle.am_universe.specs.Words.{IsUniverse, names, sizes, label_position};
-ghost use Rattle.am_universe.specs.Words.{same_value, value_at, admits, label_of, texts_of};
-ghost use Rattle.am_universe.specs.Words.{name_fault, count_fault, value_fault};
-ghost use Rattle.am_universe.specs.Words.{label_values_fault, label_fault, memory_fault};
+ghost use Rattle.am_universe.specs.Universe.{IsUniverse, names, sizes, label_position, same_value};
+ghost use Rattle.am_universe.specs.Universe.{name_fault, count_fault, value_fault};
+ghost use Rattle.am_universe.specs.Universe.{label_values_fault, label_fault, memory_fault};
+ghost use Rattle.am_universe.specs.LabelSet.{value_at};
+ghost use Rattle.am_universe.specs.Choice.{admits};
+ghost use Rattle.am_universe.specs.UniverseView.{label_of, texts_of};
 ghost use Rattle.am_universe.specs.declared.kind.Kind.TheVariants as kinds;
 
 use crate::label_name::is_label_name;

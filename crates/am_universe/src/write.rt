@@ -1,8 +1,11 @@
 ghost use Rattle.std.specs.Prelude.{◌≡◌, [], ◌∷◌, ◌++◌, IfSome, IfNone};
 ghost use Rattle.std.specs.List.{flat_map};
-ghost use Rattle.am_universe.specs.Words.{sizes, IsWhole, quoted_text, label_value_escape};
-ghost use Rattle.am_universe.specs.Words.{pair_text, set_text, map_text, Writes};
-ghost use Rattle.am_universe.specs.Words.{IsAnswerOfWrite};
+ghost use Rattle.am_universe.specs.Universe.{sizes};
+ghost use Rattle.am_universe.specs.Choice.{IsWhole};
+ghost use Rattle.am_universe.specs.Text.{quoted_text, label_value_escape};
+ghost use Rattle.am_universe.specs.WrittenLabelSet.{pair_text, set_text, map_text};
+ghost use Rattle.am_universe.specs.Sink.{Writes};
+ghost use Rattle.am_universe.specs.WriteAnswer.{IsAnswerOfWrite};
 
 use crate::{Choice, Fault, Kind, LabelSet, Sink, Universe};
 use std::alloc::Global;

@@ -3,7 +3,7 @@ use Rattle.std.proofs.Common.{◌≡◌, ◌+◌, ◌<◌, ℕ, zero, suc, List,
 use Rattle.std.proofs.Common.{Some, refl, sym, subst, slice_get, get_or, codes, decimal, arith, Bor}
 use Rattle.std.specs.List.{AllByRecursion, AllZip}
 use Rattle.am_json.specs.Pointer.{Refusal}
-use Rattle.am_files.specs.ConfigFile.{Configuration}
+use Rattle.am_config.specs.ConfigFile.{Configuration}
 use Rattle.am_eval.specs.Question.{Question}
 use Rattle.am_questions.specs.QuestionText.{ReadsQuestion, QuestionRefusedFor}
 use Rattle.am_complete.proofs.Pushed.{one_longer}

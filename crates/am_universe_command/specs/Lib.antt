@@ -1,3 +1,2 @@
 pub mod UniverseInputs
 pub mod Universes
-pub mod Words

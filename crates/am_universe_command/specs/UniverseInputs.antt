@@ -6,9 +6,9 @@ use Rattle.std.specs.List.{AllByRecursion, AllZip}
 use Rattle.am_universe.specs.declared.place.Place.TheVariants as places
 use Rattle.am_labels.specs.Space.{Space}
 use Rattle.am_json.specs.Pointer.{Refusal}
-use Rattle.am_records.specs.UniverseFile.{FileSaysUniverse, FileHasImpossibleTexts}
-use Rattle.am_records.specs.UniverseFaults.{UniverseFileRefusedFor}
-use Rattle.am_files.specs.ConfigFile.{Configuration, FileSaysConfig}
+use Rattle.am_list_files.specs.UniverseFile.{FileSaysUniverse, FileHasImpossibleTexts}
+use Rattle.am_list_files.specs.UniverseFaults.{UniverseFileRefusedFor}
+use Rattle.am_config.specs.ConfigFile.{Configuration, FileSaysConfig}
 use Rattle.am_eval.specs.Files.{Files, config_of}
 use Rattle.am_eval.specs.World.{World}
 use Rattle.am_eval.specs.Question.{Question}

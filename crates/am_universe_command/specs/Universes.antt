@@ -12,8 +12,8 @@ use Rattle.am_labels.specs.Matcher.{Condition}
 use Rattle.am_labels.specs.Space.{Space, all_choices}
 use Rattle.am_json.specs.declared.limits.TheConstants.{MAX_FILE_BYTES}
 use Rattle.am_json.specs.Pointer.{Refusal, refusal_here}
-use Rattle.am_records.specs.UniverseFile.{FileSaysUniverse, AreTextsOfLists}
-use Rattle.am_records.specs.UniverseFile.{FileHasImpossibleTexts}
+use Rattle.am_list_files.specs.UniverseFile.{FileSaysUniverse, AreTextsOfLists}
+use Rattle.am_list_files.specs.UniverseFile.{FileHasImpossibleTexts}
 use Rattle.am_eval.specs.World.{World}
 use Rattle.am_eval.specs.Question.{Question}
 use Rattle.am_eval.specs.Faults.{Stage}

@@ -1,9 +1,9 @@
 //! Which labels are asked of.
 
 ghost use Rattle.std.specs.Prelude.{◌≡◌, map, IfOk};
-ghost use Rattle.am_eval.specs.Words.{question_view};
-ghost use Rattle.am_complete.specs.Words.{IsAskedOf};
-ghost use Rattle.am_asked.specs.Words.{placed_in_equal};
+ghost use Rattle.am_eval.specs.QuestionView.{question_view};
+ghost use Rattle.am_complete.specs.AskedLabel.{IsAskedOf};
+ghost use Rattle.am_asked.specs.Placed.{placed_in_equal};
 ghost use Rattle.am_universe_command.specs.Universes.{deciding_conditions, deciding_labels};
 
 use am_asked::{EqualMatcher, asked_by_routes, asked_in_world};

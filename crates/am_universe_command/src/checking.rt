@@ -1,7 +1,8 @@
 //! Saying what a universe lacks to stand for every alert.
 
 ghost use Rattle.std.specs.Prelude.{◌≡◌, map, option_map, string_bytes, IfOk};
-ghost use Rattle.am_eval.specs.Words.{question_view, IsKept};
+ghost use Rattle.am_eval.specs.QuestionView.{question_view};
+ghost use Rattle.am_eval.specs.Promise.{IsKept};
 ghost use Rattle.am_universe_command.specs.Universes.{IsCheckOf, alerts_if_any, check_promise};
 
 use crate::UniverseInputs;
@@ -12,9 +13,9 @@ use am_classes::Alphabet;
 use am_complete::label_states;
 use am_complete_texts::text_of_check;
 use am_eval::World;
-use am_files::Alerts;
 use am_first_sets::first_possible;
-use am_labels::{Fault, Sink, answer_of_write, put_str};
+use am_list_files::Alerts;
+use am_universe::{Fault, Sink, answer_of_write, put_str};
 use std::alloc::{AllocError, Global};
 
 /// Writes how a universe stands, as one that is to stand for every alert: a line for each of its

@@ -1,4 +1,4 @@
-//! The command `amcover universe`, as functions over bytes and a [`Sink`](am_labels::Sink).
+//! The command `amcover universe`, as functions over bytes and a [`Sink`](am_universe::Sink).
 //!
 //! [`universe`](universe()) makes a universe that stands for every alert, as a [`UniverseForm`] has
 //! it, and [`check_universe`] says what another one lacks.

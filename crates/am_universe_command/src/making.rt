@@ -1,13 +1,15 @@
 //! Making universes that stand for every alert.
 
-ghost use Rattle.std.specs.Prelude.{◌≡◌, ◌≢◌, ◌<◌, ℕ, List, Some, IfOk, IfErr, IfSome, IfNone};
-ghost use Rattle.std.specs.Prelude.{[], false, length, map, slice_get, string_bytes};
+ghost use Rattle.std.specs.Prelude.{◌≡◌, ◌≢◌, ◌<◌, ℕ, List, Some, IfOk, IfErr, IfSome, IfNone, []};
+ghost use Rattle.std.specs.Prelude.{false, length, map, slice_get, string_bytes};
 ghost use Rattle.std.specs.List.{AllByRecursion};
 ghost use Rattle.am_universe.specs.declared.kind.Kind.TheVariants as kinds;
-ghost use Rattle.am_json.specs.Words.{refusal_of};
-ghost use Rattle.am_records.specs.Words.{AreTextsOfLists};
-ghost use Rattle.am_eval.specs.Words.{question_view, IsFirstFault, IsKept};
-ghost use Rattle.am_complete_texts.specs.Words.{origin_pointer};
+ghost use Rattle.am_json.specs.Reading.{refusal_of};
+ghost use Rattle.am_list_files.specs.UniverseFile.{AreTextsOfLists};
+ghost use Rattle.am_eval.specs.QuestionView.{question_view};
+ghost use Rattle.am_eval.specs.Faults.{IsFirstFault};
+ghost use Rattle.am_eval.specs.Promise.{IsKept};
+ghost use Rattle.am_complete_texts.specs.CheckText.{origin_pointer};
 ghost use Rattle.am_universe_command.specs.UniverseInputs.{UniverseInputs, AcceptsUniverseInputs};
 ghost use Rattle.am_universe_command.specs.Universes.{IsMadeBeside, IsMadeUniverse, made_stages};
 ghost use Rattle.am_universe_command.specs.Universes.{deciding_conditions, origin_place};
@@ -20,7 +22,7 @@ use am_asked::equal_matchers_of;
 use am_complete::{AskedLabel, Origin, universe_beside};
 use am_complete_texts::{pointer_to, universe_text};
 use am_json::limits::MAX_FILE_BYTES;
-use am_labels::{Fault, Kind, Place, Sink, Universe, answer_of_write, put_str};
+use am_universe::{Fault, Kind, Place, Sink, Universe, answer_of_write, put_str};
 use std::alloc::Global;
 
 /// Writes the file of a universe that stands for every alert whose texts are over the form's

@@ -4,23 +4,25 @@ ghost use Rattle.std.specs.Prelude.{◌≡◌, ◌≢◌, ◌++◌, [], ◌∷�
 ghost use Rattle.std.specs.Prelude.{option_copied, IfOk, IfErr, OnOk};
 ghost use Rattle.am_universe.specs.declared.kind.Kind.TheVariants as kinds;
 ghost use Rattle.am_universe.specs.declared.place.Place.TheVariants as places;
-ghost use Rattle.am_json.specs.Words.{IsRefusalAt};
-ghost use Rattle.am_records.specs.Words.{AreTextsOfLists};
-ghost use Rattle.am_files.specs.Words.{config_view};
-ghost use Rattle.am_eval.specs.Words.{question_view, IsFirstFault};
-ghost use Rattle.am_questions.specs.Words.{ReadsQuestion, QuestionRefusedFor};
+ghost use Rattle.am_json.specs.Reading.{IsRefusalAt};
+ghost use Rattle.am_list_files.specs.UniverseFile.{AreTextsOfLists};
+ghost use Rattle.am_config.specs.ConfigView.{config_view};
+ghost use Rattle.am_eval.specs.QuestionView.{question_view};
+ghost use Rattle.am_eval.specs.Faults.{IsFirstFault};
+ghost use Rattle.am_questions.specs.QuestionText.{ReadsQuestion, QuestionRefusedFor};
 ghost use Rattle.am_universe_command.specs.UniverseInputs.{SaysUniverseIfAny, UniverseRefusedFor};
-ghost use Rattle.am_universe_command.specs.UniverseInputs.{HasListsIfAny};
-ghost use Rattle.am_universe_command.specs.UniverseInputs.{ReadsQuestions, QuestionsRefusedFor};
+ghost use Rattle.am_universe_command.specs.UniverseInputs.{HasListsIfAny, ReadsQuestions};
+ghost use Rattle.am_universe_command.specs.UniverseInputs.{QuestionsRefusedFor};
 ghost use Rattle.am_universe_command.specs.UniverseInputs.{AcceptsUniverseInputs};
 ghost use Rattle.am_universe_command.specs.UniverseInputs.{universe_input_stages};
 
 use crate::UniverseInputs;
+use am_config::Config;
 use am_eval::{Question, World, read_timeless_world};
-use am_files::Config;
-use am_labels::{Fault, Kind, Place, Space, Universe};
+use am_labels::Space;
+use am_list_files::read_universe_with_texts;
 use am_questions::parse_question;
-use am_records::read_universe_with_texts;
+use am_universe::{Fault, Kind, Place, Universe};
 use std::alloc::Global;
 
 /// What the inputs say.

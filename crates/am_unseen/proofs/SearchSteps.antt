@@ -10,8 +10,8 @@ use Rattle.std.proofs.lemmas.List.Sums.{fold-append}
 use Rattle.am_universe.specs.LabelSet.{LabelMap}
 use Rattle.am_universe.proofs.Members.{left_at}
 use Rattle.am_labels.specs.Matcher.{Condition}
-use Rattle.am_records.specs.SilencesFile.{Silence}
-use Rattle.am_files.specs.ConfigFile.{RouteTree}
+use Rattle.am_list_files.specs.SilencesFile.{Silence}
+use Rattle.am_config.specs.ConfigFile.{RouteTree}
 use Rattle.am_eval.specs.World.{World}
 use Rattle.am_eval.specs.Silencing.{is_over}
 use Rattle.am_complete.specs.declared.origin.Origin.{Origin}

@@ -2,4 +2,3 @@ pub mod Unseen
 pub mod Search
 pub mod SearchCode
 pub mod UnseenText
-pub mod Words

@@ -2,7 +2,7 @@
 use Rattle.std.proofs.Common.{ℕ, List, Option, refl}
 use Rattle.std.specs.Coded.{Coded, code_by, coded×, coded_ℕ, coded_list, coded_option}
 use Rattle.am_universe.specs.LabelSet.{LabelMap}
-use Rattle.am_records.specs.contracts.alert.Alerts as alerts
+use Rattle.am_list_files.specs.contracts.alert.Alerts as alerts
 use Rattle.am_complete.specs.declared.origin.Origin.{Origin}
 use Rattle.am_complete.specs.contracts.origin.Origin as origin
 use Rattle.am_unseen.specs.Unseen.{UnseenValue}

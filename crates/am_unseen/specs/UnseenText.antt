@@ -2,7 +2,7 @@
 use Rattle.std.specs.Prelude.{ℕ, List, ◌++◌, Option, Some, None, codes, decimal}
 use Rattle.std.specs.List.{flat_map}
 use Rattle.am_universe.specs.Text.{quoted_text}
-use Rattle.am_files.specs.Path.{path_text}
+use Rattle.am_config.specs.Path.{path_text}
 use Rattle.am_complete.specs.declared.origin.Origin.{Origin}
 use Rattle.am_complete.specs.declared.origin.Origin.TheVariants as origin_is
 use Rattle.am_unseen.specs.Unseen.{UnseenValue}

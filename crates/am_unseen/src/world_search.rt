@@ -1,16 +1,16 @@
 //! The unseen values of a world, in the order of its files.
 
 ghost use Rattle.std.specs.Prelude.{◌≡◌, fold, IfOk, OnOk};
-ghost use Rattle.am_files.specs.Words.{config_view};
-ghost use Rattle.am_asked.specs.Words.{placed_at, placed_in_routes, placed_in_rules};
+ghost use Rattle.am_config.specs.ConfigView.{config_view};
+ghost use Rattle.am_asked.specs.Placed.{placed_at, placed_in_routes, placed_in_rules};
 ghost use Rattle.am_unseen.specs.Unseen.{unseen_values, placed_in_silences_left};
 ghost use Rattle.am_unseen.specs.Search.{after_matcher};
 
 use crate::UnseenValue;
 use crate::search::Search;
 use am_complete::Origin;
+use am_config::{Config, Rule};
 use am_eval::World;
-use am_files::{Config, Rule};
 use am_labels::Matchers;
 use std::alloc::{AllocError, Global};
 

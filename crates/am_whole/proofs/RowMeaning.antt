@@ -14,8 +14,8 @@ use Rattle.am_labels.specs.Matcher.{Condition}
 use Rattle.am_labels.specs.Row.{TruthRow, truths_of, truth_among, truth_at, row_of, row_holds}
 use Rattle.am_labels.proofs.RowLawLemmas.{rows_decide}
 use Rattle.am_search.specs.declared.verdict.Verdict.TheVariants.{Yes, No}
-use Rattle.am_masks.specs.Verdicts.{verdict_of_list}
-use Rattle.am_masks.proofs.VerdictLemmas.{list_says}
+use Rattle.am_judged_lists.specs.Verdicts.{verdict_of_list}
+use Rattle.am_judged_lists.proofs.VerdictLemmas.{list_says}
 use Rattle.am_whole.specs.RowsView.{IsRow}
 
 -- ---- A row that is copied.

@@ -7,10 +7,10 @@ use Rattle.am_search.specs.Judge.{is_yes}
 use Rattle.am_eval.specs.World.{World}
 use Rattle.am_eval.specs.Question.{Question, satisfies_at}
 use Rattle.am_eval.proofs.ConditionLaws.{exactly}
-use Rattle.am_masks.specs.declared.modality.Modality.TheVariants.{Must}
-use Rattle.am_masks.specs.Modality.{passes}
-use Rattle.am_cubes.specs.Verdicts.{verdict_of_question}
-use Rattle.am_cubes.proofs.Soundness.{question_says}
+use Rattle.am_judged_lists.specs.declared.certainty.Certainty.TheVariants.{Must}
+use Rattle.am_judged_lists.specs.Certainty.{passes}
+use Rattle.am_plans.specs.Verdicts.{verdict_of_question}
+use Rattle.am_plans.proofs.Soundness.{question_says}
 
 yes_of : (b : Bool) → is_yes (cond b Yes No) ≡ b
 yes_of true = refl

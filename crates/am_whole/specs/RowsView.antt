@@ -1,7 +1,9 @@
 -- What the rows of a list of matchers say of a choice.
 use Rattle.std.specs.Prelude.{◌≡◌, ℕ, List, Bool, if◌then◌else◌}
 use Rattle.std.specs.List.{list_all}
-use Rattle.am_labels.specs.Words.{Label, Condition, TruthRow, row_of, row_holds}
+use Rattle.am_universe.specs.Universe.{Label}
+use Rattle.am_labels.specs.Matcher.{Condition}
+use Rattle.am_labels.specs.Row.{TruthRow, row_of, row_holds}
 use Rattle.am_search.specs.declared.verdict.Verdict.{Verdict}
 use Rattle.am_search.specs.declared.verdict.Verdict.TheVariants.{Yes, No}
 use Rattle.am_whole.specs.declared.rows.Rows.{Rows}

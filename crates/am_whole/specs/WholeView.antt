@@ -1,7 +1,7 @@
 -- What a clause reads of `Whole`: its universe, the sizes of its labels, which choices are true,
 -- and its verdicts.
-use Rattle.std.specs.Prelude.{◌≡◌, ℕ, ◌<◌, List, length, Bool, true, false, nat_lt}
-use Rattle.std.specs.Prelude.{if◌then◌else◌, IsTrue}
+use Rattle.std.specs.Prelude.{◌≡◌, ℕ, ◌<◌, List, length, Bool, true, false, nat_lt, if◌then◌else◌}
+use Rattle.std.specs.Prelude.{IsTrue}
 use Rattle.std.specs.List.{AllByRecursion}
 use Rattle.std.proofs.Common.{sym, ap, subst, refl, arith}
 use Rattle.std.proofs.lemmas.Bool.Decides.{nat_tests}
@@ -13,8 +13,8 @@ use Rattle.am_search.specs.Judge.{AreSizes, IsJudge}
 use Rattle.am_search.proofs.Odometer.{admits_at_most}
 use Rattle.am_search.specs.declared.verdict.Verdict.{Verdict}
 use Rattle.am_search.specs.declared.verdict.Verdict.TheVariants.{Yes, No, Open}
-use Rattle.am_masks.specs.declared.modality.Modality.TheVariants.{Must}
-use Rattle.am_cubes.specs.Words.{truth_by}
+use Rattle.am_judged_lists.specs.declared.certainty.Certainty.TheVariants.{Must}
+use Rattle.am_plans.specs.QuestionView.{truth_by}
 use Rattle.am_whole.specs.declared.whole.Whole.{Whole}
 use Rattle.am_whole.specs.RowsView.{rows_verdict}
 

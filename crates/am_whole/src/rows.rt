@@ -1,14 +1,15 @@
 //! The rows of a list of matchers.
 
 ghost use Rattle.std.specs.Prelude.{◌≡◌, ℕ, List, map, length, All, IfOk, IfErr};
-ghost use Rattle.am_labels.specs.Words.{row_holds};
-ghost use Rattle.am_masks.specs.Words.{verdict_at};
+ghost use Rattle.am_labels.specs.Row.{row_holds};
+ghost use Rattle.am_judged_lists.specs.Cube.{verdict_at};
 ghost use Rattle.am_whole.specs.RowsView.{IsRow, rows_hold_at, rows_verdict};
 
-use am_labels::{Choice, Row, Universe};
-use am_masks::{Cube, JudgedList};
+use am_judged_lists::{Cube, JudgedList};
+use am_labels::Row;
 use am_search::Verdict;
 use am_universe::limits::MAX_LABELS;
+use am_universe::{Choice, Universe};
 use std::alloc::{AllocError, Global};
 use std::marker::Model;
 
@@ -75,7 +76,7 @@ impl Rows {
 }
 
 impl JudgedList for Rows {
-    ghost use Rattle.am_labels.specs.Words.{IsWhole};
+    ghost use Rattle.am_universe.specs.Choice.{IsWhole};
 
     ghost verdict = { rows_verdict };
 

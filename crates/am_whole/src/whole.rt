@@ -1,17 +1,20 @@
 //! The judge that looks at whole choices.
 
 ghost use Rattle.std.specs.Prelude.{◌≡◌, ◌<◌, ℕ, List, length, IfOk};
-ghost use Rattle.am_labels.specs.Words.{sizes, IsWhole};
-ghost use Rattle.am_eval.specs.Words.{satisfies_at, question_view};
+ghost use Rattle.am_universe.specs.Universe.{sizes};
+ghost use Rattle.am_universe.specs.Choice.{IsWhole};
+ghost use Rattle.am_eval.specs.Question.{satisfies_at};
+ghost use Rattle.am_eval.specs.QuestionView.{question_view};
 ghost use Rattle.std.proofs.Props.{props};
-ghost use Rattle.am_search.specs.Words.{AreSizes};
+ghost use Rattle.am_search.specs.Judge.{AreSizes};
 
 use crate::rows::Rows;
-use am_cubes::{JudgedQuestion, Modality};
 use am_eval::{Question, World};
-use am_labels::{Choice, Universe};
+use am_judged_lists::Certainty;
+use am_plans::JudgedQuestion;
 use am_search::{Judge, Verdict};
 use am_universe::limits::MAX_LABELS;
+use am_universe::{Choice, Universe};
 use std::alloc::{AllocError, Global};
 
 /// A judge that is `Open` until a choice is whole, and then says whether its label set satisfies a
@@ -75,7 +78,7 @@ impl<'a> Judge for Whole<'a> {
         if prefix.len() < self.universe.len() {
             return Verdict::Open;
         }
-        if self.judged.holds(Modality::Must, prefix) {
+        if self.judged.holds(Certainty::Must, prefix) {
             Verdict::Yes
         } else {
             Verdict::No

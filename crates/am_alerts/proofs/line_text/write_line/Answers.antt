@@ -1,6 +1,6 @@
 use Rattle.std.proofs.Common.{[], codes, ap}
 use Rattle.am_universe.proofs.Writing.{◌⟩◌, fails, wrote_as, writes_as}
-use Rattle.am_files.specs.ConfigView.{config_view}
+use Rattle.am_config.specs.ConfigView.{config_view}
 use Rattle.am_alerts.specs.AlertLines.{listed, receiver_text, silence_text, inhibitor_text}
 use Rattle.am_alerts.proofs.line_text.write_line.Goals as goal
 

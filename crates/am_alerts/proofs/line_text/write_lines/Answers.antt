@@ -1,6 +1,6 @@
 use Rattle.std.proofs.Common.{[], ap, codes}
 use Rattle.am_universe.proofs.Writing.{◌⟩◌, fails, wrote_then, wrote_as, writes_as, pieces_through}
-use Rattle.am_files.specs.ConfigView.{config_view}
+use Rattle.am_config.specs.ConfigView.{config_view}
 use Rattle.am_eval.proofs.WrittenItems.{items_more, items_end}
 use Rattle.am_alerts.specs.FoundView.{found_text}
 use Rattle.am_alerts.proofs.line_text.write_lines.Goals as goal

@@ -1,7 +1,7 @@
 use Rattle.std.proofs.Common.{take}
 use Rattle.std.specs.List.{flat_map}
 use Rattle.am_universe.specs.Sink.{Wrote}
-use Rattle.am_files.specs.ConfigView.{config_view}
+use Rattle.am_config.specs.ConfigView.{config_view}
 use Rattle.am_alerts.specs.FoundView.{found_text}
 use Rattle.am_alerts.proofs.line_text.write_lines.Given as goal
 

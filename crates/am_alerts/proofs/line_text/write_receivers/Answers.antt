@@ -1,7 +1,7 @@
 use Rattle.std.proofs.Common.{[], ap}
 use Rattle.am_universe.proofs.Writing.{◌⟩◌, fails, wrote_then, wrote_as, writes_as, ends}
 use Rattle.am_universe.specs.Text.{quoted_text}
-use Rattle.am_files.specs.ConfigView.{config_view}
+use Rattle.am_config.specs.ConfigView.{config_view}
 use Rattle.am_alerts.specs.AlertLines.{receiver_text}
 use Rattle.am_alerts.proofs.ListedSteps.{listed_more, listed_through, listed_end}
 use Rattle.am_alerts.proofs.line_text.write_receivers.Goals as goal

@@ -1,6 +1,6 @@
 use Rattle.std.proofs.Common.{[], take}
 use Rattle.am_universe.specs.Sink.{Wrote}
-use Rattle.am_files.specs.ConfigView.{config_view}
+use Rattle.am_config.specs.ConfigView.{config_view}
 use Rattle.am_alerts.specs.AlertLines.{listed, receiver_text}
 use Rattle.am_alerts.proofs.line_text.write_receivers.Given as goal
 

@@ -3,8 +3,8 @@ use Rattle.std.proofs.Common.{◌≡◌, ℕ, List, [], ◌∷◌, ◌++◌, Opt
 use Rattle.std.specs.Prelude.{option_copied}
 use Rattle.std.specs.List.{flat_map}
 use Rattle.am_json.specs.Reading.{refusal_of}
-use Rattle.am_files.specs.ConfigFile.{Configuration}
-use Rattle.am_files.specs.ConfigView.{config_view}
+use Rattle.am_config.specs.ConfigFile.{Configuration}
+use Rattle.am_config.specs.ConfigView.{config_view}
 use Rattle.am_eval.specs.World.{World}
 use Rattle.am_eval.specs.Question.{Question}
 use Rattle.am_eval.specs.QuestionView.{question_view}

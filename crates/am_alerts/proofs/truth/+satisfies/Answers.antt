@@ -3,7 +3,7 @@ use Rattle.std.proofs.Common.{◌≡◌, not, length, ap, sym, ◌∙◌, arith,
 use Rattle.std.specs.Prelude.{◌==◌}
 use Rattle.std.specs.List.{list_any}
 use Rattle.am_universe.specs.Text.{same_text}
-use Rattle.am_files.specs.Path.{leads_through}
+use Rattle.am_config.specs.Path.{leads_through}
 use Rattle.am_eval.specs.Silencing.{is_silenced, silencers}
 use Rattle.am_eval.specs.Inhibition.{is_inhibited, inhibitors}
 use Rattle.am_eval.specs.Question.{satisfies}

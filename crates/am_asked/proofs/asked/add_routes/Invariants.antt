@@ -1,6 +1,7 @@
 use Rattle.std.proofs.Common.{drop}
 use Rattle.std.specs.List.{flat_map}
-use Rattle.am_files.specs.Words.{config_view, all_routes}
+use Rattle.am_config.specs.ConfigView.{config_view}
+use Rattle.am_config.specs.RoutePaths.{all_routes}
 use Rattle.am_asked.specs.Placed.{placed_by_route, placed_in_routes}
 use Rattle.am_asked.proofs.PlacedSteps.{IsOnTheWay}
 use Rattle.am_asked.proofs.asked.add_routes.Given as goal

@@ -1,6 +1,6 @@
 use Rattle.std.proofs.Common.{◌≡◌, [], ◌++◌, sym, subst, refl, List, fold}
 use Rattle.std.proofs.lemmas.List.Sums.{fold-append}
-use Rattle.am_files.specs.ConfigView.{config_view}
+use Rattle.am_config.specs.ConfigView.{config_view}
 use Rattle.am_asked.specs.Asked.{route_conditions}
 use Rattle.am_complete.specs.Complete.{impossible_conditions}
 use Rattle.am_complete.specs.AskedLabel.{AskedLabel, asked_labels, IsAskedOf, with_asked}

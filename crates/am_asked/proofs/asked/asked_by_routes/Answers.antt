@@ -1,6 +1,6 @@
 use Rattle.std.proofs.Common.{◌≡◌, [], ◌++◌, sym, subst, refl, List, map, fold}
 use Rattle.std.proofs.lemmas.List.Sums.{fold-append}
-use Rattle.am_files.specs.ConfigView.{config_view}
+use Rattle.am_config.specs.ConfigView.{config_view}
 use Rattle.am_eval.specs.QuestionView.{question_view}
 use Rattle.am_asked.specs.Asked.{route_conditions, questions_conditions}
 use Rattle.am_complete.specs.Complete.{impossible_conditions}

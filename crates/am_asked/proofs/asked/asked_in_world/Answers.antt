@@ -1,6 +1,6 @@
 use Rattle.std.proofs.Common.{◌≡◌, [], ◌++◌, ap, sym, ◌∙◌, subst, refl, fold, List, map}
 use Rattle.std.proofs.lemmas.List.Sums.{fold-append}
-use Rattle.am_files.specs.ConfigFile.{Configuration}
+use Rattle.am_config.specs.ConfigFile.{Configuration}
 use Rattle.am_eval.specs.QuestionView.{question_view}
 use Rattle.am_asked.specs.Asked.{world_conditions, questions_conditions}
 use Rattle.am_complete.specs.Complete.{impossible_conditions}

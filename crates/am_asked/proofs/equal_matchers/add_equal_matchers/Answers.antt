@@ -3,7 +3,7 @@ use Rattle.std.proofs.Common.{◌≡◌, List, [], ◌++◌, Some, drop, length,
 use Rattle.std.specs.Prelude.{slice_get}
 use Rattle.std.proofs.lemmas.List.{append-nil, drop_all}
 use Rattle.std.proofs.lemmas.Option.{slice_get_read}
-use Rattle.am_files.specs.ConfigFile.{Configuration, Rule}
+use Rattle.am_config.specs.ConfigFile.{Configuration, Rule}
 use Rattle.am_eval.proofs.Inhibitors.{rule_within, alert_within}
 use Rattle.am_complete.specs.declared.origin.Origin.TheVariants as origin_is
 use Rattle.am_asked.specs.Asked.{equal_to_alert}

@@ -1,5 +1,5 @@
 use Rattle.std.proofs.Common.{◌≡◌, ℕ, ◌∷◌, ◌<◌, Some, List, slice_get}
-use Rattle.am_scan.specs.Words.{number_of}
+use Rattle.am_scan.specs.Automaton.{number_of}
 use Rattle.am_scan.specs.declared.pattern_automaton.PatternAutomaton.{PatternAutomaton}
 use Rattle.am_classes.proofs.automata.are_alike.Given as goal
 

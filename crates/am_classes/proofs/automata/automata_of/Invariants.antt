@@ -1,6 +1,6 @@
 use Rattle.std.proofs.Common.{◌≡◌, true, map, take, string_bytes}
 use Rattle.std.specs.List.{list_all}
-use Rattle.am_scan.specs.Words.{pattern_of}
+use Rattle.am_scan.specs.Automaton.{pattern_of}
 use Rattle.am_classes.specs.Automata.{fits}
 use Rattle.am_classes.proofs.automata.automata_of.Given as goal
 

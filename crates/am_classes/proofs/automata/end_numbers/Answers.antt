@@ -1,5 +1,5 @@
 use Rattle.std.proofs.Common.{[]}
-use Rattle.am_scan.specs.Words.{number_of}
+use Rattle.am_scan.specs.Automaton.{number_of}
 use Rattle.am_classes.proofs.AutomataLemmas.{mapped_more}
 use Rattle.am_classes.proofs.automata.end_numbers.Goals as goal
 

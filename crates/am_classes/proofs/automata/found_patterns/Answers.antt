@@ -2,8 +2,9 @@ use Rattle.std.proofs.Common.{◌<◌, length, slice_index, refl, arith}
 use Rattle.std.proofs.lemmas.Option.{slice_get_read, slice_get-get_or}
 use Rattle.am_universe.proofs.ListLemmas.{AllByRecursion-at}
 use Rattle.am_universe.proofs.Members.{in_at}
-use Rattle.am_labels.specs.Words.{finds}
-use Rattle.am_scan.specs.Words.{IsScanned, is_ascii, pattern_of}
+use Rattle.am_labels.specs.Pattern.{finds}
+use Rattle.am_scan.specs.Sight.{IsScanned}
+use Rattle.am_scan.specs.Automaton.{is_ascii, pattern_of}
 use Rattle.am_classes.proofs.AutomataLemmas.{mapped_more, number_at}
 use Rattle.am_classes.proofs.automata.found_patterns.Goals as goal
 

@@ -1,6 +1,6 @@
 use Rattle.std.proofs.Common.{◌<◌, ◌∷◌, length, slice_index, refl, arith}
 use Rattle.std.proofs.lemmas.Option.{slice_get_read, slice_get-get_or}
-use Rattle.am_scan.specs.Words.{number_of}
+use Rattle.am_scan.specs.Automaton.{number_of}
 use Rattle.am_classes.proofs.AutomataLemmas.{mapped_more, number_at}
 use Rattle.am_classes.proofs.automata.next_numbers.Goals as goal
 

@@ -1,7 +1,8 @@
-use Rattle.std.proofs.Common.{◌≡◌, ◌+◌, ◌<◌, map, length, string_bytes, vec_len, sym, ap, ap₂, ◌∙◌, subst, List, ℕ, arith, length-append}
+use Rattle.std.proofs.Common.{◌≡◌, ◌+◌, ◌<◌, map, length, string_bytes, vec_len, sym, ap, ap₂, ◌∙◌}
+use Rattle.std.proofs.Common.{subst, List, ℕ, arith, length-append}
 use Rattle.am_universe.specs.declared.limits.TheConstants.{MAX_VALUES}
 use Rattle.std.proofs.lemmas.List.{length-map}
-use Rattle.am_scan.specs.Words.{pattern_of}
+use Rattle.am_scan.specs.Automaton.{pattern_of}
 use Rattle.am_labels.specs.Matcher.{Condition}
 use Rattle.am_classes.specs.declared.alphabet.Alphabet.{Alphabet}
 use Rattle.am_classes.specs.Alphabet.{AreOver}

@@ -1,7 +1,7 @@
 use Rattle.std.proofs.Common.{◌≡◌, ℕ, ◌<◌, Some, length, slice_get, inl, inr, refl, subst, sym, ◌∙◌, arith}
 use Rattle.std.proofs.lemmas.Bool.{cases_lt}
 use Rattle.std.proofs.lemmas.Option.{slice_get_within, slice_get_read, same_Some}
-use Rattle.am_classes.specs.declared.listed.Listed.{Listed}
+use Rattle.am_classes.specs.declared.reached_state.ReachedState.{ReachedState}
 use Rattle.am_classes.specs.Candidates.{Represents}
 use Rattle.am_classes.proofs.CandidateLemmas.{represents_kept, candidates_of_all, none_apart}
 use Rattle.am_scan.proofs.Places.{get_within}
@@ -31,7 +31,7 @@ pub returns-then-at-len-clause-all : goal.returns-then-at-len-clause-all
 returns-then-at-len-clause-all c = λ _.
     let q = c.args.questions.now in
     let listed = c.loop-at.exploration.listed in
-    let below : (k : ℕ) (item : Listed) → slice_get listed.items k ≡ Some item → k < c.loop-at.at =
+    let below : (k : ℕ) (item : ReachedState) → slice_get listed.items k ≡ Some item → k < c.loop-at.at =
     λ k item at. omega (arith, slice_get_within listed.items k item at, listed.ok.0, c.len.ensures, c.if-at-len.true) in
     candidates_of_all q listed.items c.loop-at.items.items
     (record {

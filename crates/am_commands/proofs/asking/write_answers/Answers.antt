@@ -7,7 +7,7 @@ use Rattle.am_eval.proofs.Promises.{written, told_as}
 use Rattle.am_search.specs.AnswersView.{answers_page}
 use Rattle.am_search.specs.PageText.{page_text}
 use Rattle.am_search.proofs.WalkBudgets.{page_is}
-use Rattle.am_cubes.specs.PlanWords.{plan_sizes, plan_verdict}
+use Rattle.am_plans.specs.PlanWords.{plan_sizes, plan_verdict}
 use Rattle.am_commands.specs.AskOutcome.{page_of_inputs, page_promise}
 use Rattle.am_commands.proofs.AskedPages.{page_of_plan}
 use Rattle.am_commands.proofs.asking.write_answers.Goals as goal

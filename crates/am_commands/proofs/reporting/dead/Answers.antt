@@ -1,6 +1,6 @@
 -- What is written is a report on what the files say.
 use Rattle.std.proofs.Common.{map, ap, ◌∙◌, refl}
-use Rattle.am_files.specs.ConfigView.{config_view}
+use Rattle.am_config.specs.ConfigView.{config_view}
 use Rattle.am_coverage.specs.CoverageView.{found_view}
 use Rattle.am_coverage.proofs.ReportFacts.{routes_reported}
 use Rattle.am_eval.proofs.Promises.{refused, written, nothing_told}

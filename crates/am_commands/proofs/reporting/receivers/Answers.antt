@@ -2,7 +2,7 @@
 -- files say.
 use Rattle.std.proofs.Common.{length, ap, ◌∙◌, refl}
 use Rattle.std.proofs.lemmas.List.FromFn.{length-map-range_with_len}
-use Rattle.am_files.specs.ConfigView.{config_view}
+use Rattle.am_config.specs.ConfigView.{config_view}
 use Rattle.am_coverage.specs.Coverage.{receiver_coverage}
 use Rattle.am_coverage.proofs.ReportFacts.{receivers_reported}
 use Rattle.am_eval.proofs.Promises.{refused, written, nothing_told}

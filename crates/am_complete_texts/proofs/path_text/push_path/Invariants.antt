@@ -1,6 +1,6 @@
 use Rattle.std.proofs.Common.{◌≡◌, ◌++◌, take, string_bytes}
 use Rattle.std.specs.List.{flat_map}
-use Rattle.am_files.specs.Path.{step_text}
+use Rattle.am_config.specs.Path.{step_text}
 use Rattle.am_complete_texts.proofs.path_text.push_path.Given as goal
 
 abbrev pub invariant-loop-position : goal.invariant-loop-position

@@ -2,12 +2,14 @@ use Rattle.std.proofs.Common.{◌≡◌, ◌<◌, [], length, Some, refl, ap, sy
 use Rattle.std.specs.Prelude.{option_map}
 use Rattle.std.specs.List.{AllByRecursion}
 use Rattle.am_universe.proofs.DistinctLists.{all_push}
-use Rattle.am_files.specs.ConfigFile.{receiver_of}
-use Rattle.am_files.specs.Words.{config_view, all_routes, route_view}
-use Rattle.am_files.proofs.RouteLists.{listed_at, each_at}
+use Rattle.am_config.specs.ConfigFile.{receiver_of}
+use Rattle.am_config.specs.ConfigView.{config_view}
+use Rattle.am_config.specs.RoutePaths.{all_routes}
+use Rattle.am_config.specs.RouteView.{route_view}
+use Rattle.am_config.proofs.RouteLists.{listed_at, each_at}
 use Rattle.am_eval.specs.Routing.{receiver_at}
 use Rattle.am_universe.proofs.Members.{in_at}
-use Rattle.am_first_sets.specs.Words.{ends_config}
+use Rattle.am_first_sets.specs.RouteEnds.{ends_config}
 use Rattle.am_coverage.specs.Coverage.{first_end}
 use Rattle.am_coverage.specs.CoverageView.{end_view}
 use Rattle.am_coverage.specs.declared.first_ends.FirstEnd.{FirstEnd}

@@ -1,6 +1,6 @@
 use Rattle.std.proofs.Common.{◌≡◌, Some, map, take}
 use Rattle.std.specs.List.{AllByRecursion}
-use Rattle.am_files.specs.ConfigView.{config_view}
+use Rattle.am_config.specs.ConfigView.{config_view}
 use Rattle.am_eval.specs.Routing.{receiver_at}
 use Rattle.am_coverage.specs.Coverage.{first_end}
 use Rattle.am_coverage.specs.CoverageView.{end_view}

@@ -4,8 +4,8 @@ use Rattle.std.specs.List.{AllByRecursion, range_with_len}
 use Rattle.std.proofs.lemmas.List.{take_all, take_more, length-replicate, get_or-replicate}
 use Rattle.std.proofs.lemmas.List.FromFn.{fill_by_all, length-map-range_with_len}
 use Rattle.am_universe.specs.Universe.{sizes}
-use Rattle.am_files.specs.ConfigView.{config_view}
-use Rattle.am_files.specs.RoutePaths.{paths_of}
+use Rattle.am_config.specs.ConfigView.{config_view}
+use Rattle.am_config.specs.RoutePaths.{paths_of}
 use Rattle.am_coverage.specs.Coverage.{live_or_unmatched}
 use Rattle.am_coverage.specs.declared.coverage.ReceiverCoverage.TheVariants.{Unmatched}
 use Rattle.am_coverage.specs.CoverageView.{IsShownReceiver}

@@ -1,7 +1,7 @@
 use Rattle.std.proofs.Common.{◌≡◌, map, length, take}
 use Rattle.std.specs.List.{range_with_len}
-use Rattle.am_files.specs.ConfigView.{config_view}
-use Rattle.am_files.specs.RoutePaths.{paths_of}
+use Rattle.am_config.specs.ConfigView.{config_view}
+use Rattle.am_config.specs.RoutePaths.{paths_of}
 use Rattle.am_coverage.proofs.ReceiverRoutes.{covered_by}
 use Rattle.am_coverage.proofs.receiver_coverage.receivers_covered.Given as goal
 

@@ -1,6 +1,6 @@
 use Rattle.std.proofs.Common.{codes}
 use Rattle.am_universe.proofs.Writing.{◌⟩◌, fails, wrote_then, wrote_as, writes_as}
-use Rattle.am_files.specs.ConfigView.{config_view}
+use Rattle.am_config.specs.ConfigView.{config_view}
 use Rattle.am_coverage.specs.WrittenCoverage.{receiver_line}
 use Rattle.am_coverage.proofs.ReportLines.{line_more, line_through, lines_end}
 use Rattle.am_coverage.proofs.report.write_receivers.Goals as goal

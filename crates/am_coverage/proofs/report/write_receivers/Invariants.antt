@@ -1,7 +1,7 @@
 use Rattle.std.proofs.Common.{take}
 use Rattle.std.specs.List.{flat_map, zip}
 use Rattle.am_universe.specs.Sink.{Wrote}
-use Rattle.am_files.specs.ConfigView.{config_view}
+use Rattle.am_config.specs.ConfigView.{config_view}
 use Rattle.am_coverage.specs.WrittenCoverage.{receiver_line}
 use Rattle.am_coverage.proofs.report.write_receivers.Given as goal
 

@@ -4,8 +4,8 @@ use Rattle.std.proofs.Math.Seq.{take-length}
 use Rattle.std.proofs.lemmas.List.{length-drop, take_all}
 use Rattle.am_universe.specs.Universe.{sizes}
 use Rattle.am_universe.proofs.DistinctLists.{all_push}
-use Rattle.am_files.specs.ConfigView.{config_view}
-use Rattle.am_files.specs.RoutePaths.{paths_of}
+use Rattle.am_config.specs.ConfigView.{config_view}
+use Rattle.am_config.specs.RoutePaths.{paths_of}
 use Rattle.am_coverage.specs.Coverage.{route_coverage, live_or}
 use Rattle.am_coverage.specs.CoverageView.{found_view, is_live_below, IsShownRoute}
 use Rattle.am_coverage.specs.declared.route_coverage.RouteFound.{RouteFound}

@@ -1,8 +1,8 @@
 use Rattle.std.proofs.Common.{◌≡◌, map, take}
 use Rattle.std.specs.List.{AllByRecursion}
 use Rattle.am_universe.specs.Universe.{sizes}
-use Rattle.am_files.specs.ConfigView.{config_view}
-use Rattle.am_files.specs.RoutePaths.{paths_of}
+use Rattle.am_config.specs.ConfigView.{config_view}
+use Rattle.am_config.specs.RoutePaths.{paths_of}
 use Rattle.am_coverage.specs.Coverage.{route_coverage}
 use Rattle.am_coverage.specs.CoverageView.{found_view, IsShownRoute}
 use Rattle.am_coverage.proofs.route_coverage.routes_covered.Given as goal

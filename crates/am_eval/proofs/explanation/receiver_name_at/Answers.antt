@@ -1,7 +1,7 @@
 -- The receiver of each route is declared.
 use Rattle.std.proofs.Common.{length}
-use Rattle.am_files.specs.RouteView.{route_view}
-use Rattle.am_files.specs.ConfigView.{config_view}
+use Rattle.am_config.specs.RouteView.{route_view}
+use Rattle.am_config.specs.ConfigView.{config_view}
 use Rattle.am_eval.proofs.AbsentParts.{receiver_below}
 use Rattle.am_eval.proofs.explanation.receiver_name_at.Goals as goal
 

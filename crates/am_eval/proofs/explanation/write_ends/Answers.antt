@@ -1,6 +1,6 @@
 use Rattle.std.proofs.Common.{ap}
 use Rattle.am_universe.proofs.Writing.{◌⟩◌, fails, wrote_then, wrote_as, writes_as, ends}
-use Rattle.am_files.specs.ConfigView.{config_view}
+use Rattle.am_config.specs.ConfigView.{config_view}
 use Rattle.am_eval.specs.Explanation.{end_line}
 use Rattle.am_eval.proofs.WrittenItems.{items_more, items_through, items_end}
 use Rattle.am_eval.proofs.explanation.write_ends.Goals as goal

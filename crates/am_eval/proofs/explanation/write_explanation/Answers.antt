@@ -1,7 +1,7 @@
 use Rattle.std.proofs.Common.{ap}
 use Rattle.std.specs.List.{flat_map}
 use Rattle.am_universe.proofs.Writing.{◌⟩◌, fails, wrote_as, writes_as}
-use Rattle.am_files.specs.ConfigView.{config_view}
+use Rattle.am_config.specs.ConfigView.{config_view}
 use Rattle.am_eval.specs.Explanation.{end_line, silenced_line, inhibited_line}
 use Rattle.am_eval.proofs.explanation.write_explanation.Goals as goal
 

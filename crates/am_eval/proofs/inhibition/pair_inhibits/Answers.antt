@@ -1,7 +1,7 @@
 -- A pair of the world's is a rule of its configuration and an alert that fires.
 use Rattle.std.proofs.Common.{◌≡◌, List, ap, ◌∙◌, arith}
 use Rattle.std.proofs.lemmas.Result.{IfOk-weaker}
-use Rattle.am_files.specs.ConfigFile.{Configuration, Rule}
+use Rattle.am_config.specs.ConfigFile.{Configuration, Rule}
 use Rattle.am_eval.proofs.Inhibitors.{rule_within, alert_within, read_pair}
 use Rattle.am_eval.proofs.inhibition.pair_inhibits.Goals as goal
 

@@ -1,7 +1,7 @@
 use Rattle.std.proofs.Common.{◌≡◌, ℕ, true, false, sym, ap, ◌∙◌}
 use Rattle.std.proofs.lemmas.Result.{err_from_is_err_and}
 use Rattle.am_labels.specs.Matcher.{all_hold}
-use Rattle.am_files.specs.ConfigFile.{Rule}
+use Rattle.am_config.specs.ConfigFile.{Rule}
 use Rattle.am_eval.specs.declared.limits.TheConstants.{MAX_PAIRS}
 use Rattle.am_eval.proofs.PairSteps.{no_pair, one_pair, one_too_many, pair_of_sides}
 use Rattle.am_eval.proofs.pair.add_pairs.Goals as goal

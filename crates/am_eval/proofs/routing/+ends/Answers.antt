@@ -2,11 +2,11 @@ use Rattle.std.proofs.Common.{◌≡◌, ◌+◌, ◌∷◌, [], length, map, dr
 use Rattle.std.proofs.Common.{◌∙◌}
 use Rattle.std.proofs.lemmas.List.{length-append}
 use Rattle.am_labels.specs.Matcher.{all_hold}
-use Rattle.am_files.specs.ConfigFile.{matchers_of, continues_of}
-use Rattle.am_files.specs.RouteView.{route_view}
+use Rattle.am_config.specs.ConfigFile.{matchers_of, continues_of}
+use Rattle.am_config.specs.RouteView.{route_view}
 use Rattle.am_json.proofs.Items.{left_is}
 use Rattle.am_eval.specs.Routing.{is_last}
-use Rattle.am_files.proofs.RouteLists.{child_within}
+use Rattle.am_config.proofs.RouteLists.{child_within}
 use Rattle.am_eval.proofs.ChildEnds.{is_last-true, is_last-goes_on, is_last-unmatched, one_more}
 use Rattle.am_eval.proofs.ChildEnds.{last_one}
 use Rattle.am_eval.proofs.routing.+ends.Goals as goal

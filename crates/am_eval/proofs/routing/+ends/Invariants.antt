@@ -1,6 +1,6 @@
 use Rattle.std.proofs.Common.{◌≡◌, ◌+◌, ◌*◌, ◌++◌, map, drop}
-use Rattle.am_files.specs.ConfigFile.{routes_of, route_count, routes_count}
-use Rattle.am_files.specs.RouteView.{route_view}
+use Rattle.am_config.specs.ConfigFile.{routes_of, route_count, routes_count}
+use Rattle.am_config.specs.RouteView.{route_view}
 use Rattle.am_eval.proofs.ChildEnds.{ends_from}
 use Rattle.am_eval.proofs.routing.+ends.Given as goal
 

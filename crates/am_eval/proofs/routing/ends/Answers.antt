@@ -1,6 +1,6 @@
 use Rattle.std.proofs.Common.{◌≡◌, map, refl, ◌∙◌}
 use Rattle.std.proofs.lemmas.List.{map-id}
-use Rattle.am_files.specs.ConfigView.{config_view}
+use Rattle.am_config.specs.ConfigView.{config_view}
 use Rattle.am_eval.specs.Routing.{ends}
 use Rattle.am_eval.proofs.routing.ends.Goals as goal
 

@@ -1,6 +1,6 @@
 use Rattle.std.proofs.Common.{◌≡◌, ◌++◌, drop}
 use Rattle.std.specs.List.{filter_map}
-use Rattle.am_files.specs.ConfigView.{config_view}
+use Rattle.am_config.specs.ConfigView.{config_view}
 use Rattle.am_eval.specs.Routing.{receiver_at}
 use Rattle.am_eval.proofs.routing.receivers_at.Given as goal
 

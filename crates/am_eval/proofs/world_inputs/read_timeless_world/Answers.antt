@@ -1,7 +1,7 @@
 -- Where reading stops is the first fault: what was read before is accepted.
 use Rattle.std.proofs.Common.{inl}
 use Rattle.am_json.specs.Reading.{refusal_of}
-use Rattle.am_files.specs.ConfigView.{config_view}
+use Rattle.am_config.specs.ConfigView.{config_view}
 use Rattle.am_eval.specs.Faults.{IsFirstFault}
 use Rattle.am_eval.specs.AcceptedWorld.{file_stages, pair_stages, timeless_stages}
 use Rattle.am_eval.proofs.FirstFaults.{first_of_more, behind_read, handed_on, if_failed}

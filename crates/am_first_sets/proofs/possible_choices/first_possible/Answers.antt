@@ -1,6 +1,8 @@
 -- What is first among those that are possible by the cubes.
 use Rattle.std.proofs.Common.{◌∙◌, ap, slice_get}
-use Rattle.am_labels.specs.Words.{sizes, choices, all_choices, is_possible_choice}
+use Rattle.am_universe.specs.Universe.{sizes}
+use Rattle.am_universe.specs.Choice.{choices}
+use Rattle.am_labels.specs.Space.{all_choices, is_possible_choice}
 use Rattle.am_search.proofs.FirstAlike.{first_alike}
 use Rattle.am_first_sets.specs.PossibleRefuter.{possible_truth}
 use Rattle.am_first_sets.proofs.FirstPossible.{find_first, first_of_space, no_first}

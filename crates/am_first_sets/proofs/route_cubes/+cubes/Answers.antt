@@ -1,5 +1,5 @@
 use Rattle.std.proofs.Common.{arith}
-use Rattle.am_files.proofs.RouteLists.{child_within}
+use Rattle.am_config.proofs.RouteLists.{child_within}
 use Rattle.am_first_sets.proofs.CubeEnds.{one_more}
 use Rattle.am_first_sets.proofs.route_cubes.+cubes.Goals as goal
 

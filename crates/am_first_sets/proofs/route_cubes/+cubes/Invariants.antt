@@ -1,8 +1,9 @@
 use Rattle.std.proofs.Common.{ℕ, List, ◌+◌, ◌*◌, map, take}
 use Rattle.std.specs.Prelude.{IsTrue}
-use Rattle.am_labels.specs.Words.{sizes, admits}
-use Rattle.am_files.specs.ConfigFile.{routes_of, route_count, routes_count}
-use Rattle.am_files.specs.RouteView.{route_view}
+use Rattle.am_universe.specs.Universe.{sizes}
+use Rattle.am_universe.specs.Choice.{admits}
+use Rattle.am_config.specs.ConfigFile.{routes_of, route_count, routes_count}
+use Rattle.am_config.specs.RouteView.{route_view}
 use Rattle.am_first_sets.specs.RouteCubes.{AreCubesOfEach}
 use Rattle.am_first_sets.proofs.route_cubes.+cubes.Given as goal
 

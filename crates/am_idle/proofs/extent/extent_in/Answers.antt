@@ -1,8 +1,8 @@
 -- By the two questions how far the list reaches is known.
 use Rattle.std.proofs.Common.{◌≡◌, true, false, sym, subst}
-use Rattle.am_labels.specs.Words.{Space}
-use Rattle.am_masks.specs.Words.{IsCubeOf}
-use Rattle.am_first_sets.specs.Words.{possible_space}
+use Rattle.am_labels.specs.Space.{Space}
+use Rattle.am_judged_lists.specs.Cube.{IsCubeOf}
+use Rattle.am_first_sets.specs.PossibleRefuter.{possible_space}
 use Rattle.am_idle.specs.Extent.{HasSet}
 use Rattle.am_idle.proofs.FoundSets.{one_matched, one_spared, each_matched}
 use Rattle.am_idle.proofs.extent.extent_in.Goals as goal

@@ -1,6 +1,6 @@
 -- What is found, or that nothing is, by the one literal.
 use Rattle.std.proofs.Common.{refl, sym, ◌∙◌, true}
-use Rattle.am_first_sets.specs.Words.{possible_space}
+use Rattle.am_first_sets.specs.PossibleRefuter.{possible_space}
 use Rattle.am_reasons.specs.declared.candidate.Candidate.{Candidate}
 use Rattle.am_idle.proofs.FoundSets.{has_if_found, none_if_unfound}
 use Rattle.am_idle.proofs.extent.has_set.Goals as goal

@@ -1,5 +1,5 @@
 use Rattle.std.proofs.Common.{refl, subst}
-use Rattle.am_labels.specs.Words.{label_set_of, LabelMap}
+use Rattle.am_universe.specs.LabelSet.{label_set_of, LabelMap}
 use Rattle.am_every_alert.specs.EveryAlert.{MeetsTheSame}
 use Rattle.am_idle.specs.Lists.{listed_conditions}
 use Rattle.am_idle.proofs.ListsStand.{alert_of_set, set_of_alert}

@@ -1,6 +1,6 @@
 use Rattle.std.proofs.Common.{Some}
 use Rattle.std.proofs.lemmas.Bool.{and_from}
-use Rattle.am_labels.specs.Words.{all_hold}
+use Rattle.am_labels.specs.Matcher.{all_hold}
 use Rattle.am_eval.specs.Silencing.{is_active}
 use Rattle.am_idle.proofs.SilenceSteps.{and_false}
 use Rattle.am_idle.proofs.laws.an_idle_silence_hides_no_alert.Goals as goal

@@ -2,7 +2,7 @@ use Rattle.std.proofs.Common.{◌≡◌, sym, ap, ◌∙◌, subst, List}
 use Rattle.am_universe.specs.Universe.{Label}
 use Rattle.am_labels.specs.Space.{Space}
 use Rattle.am_first_sets.specs.PossibleRefuter.{possible_space}
-use Rattle.am_masks.specs.Words.{IsCubeOf}
+use Rattle.am_judged_lists.specs.Cube.{IsCubeOf}
 use Rattle.am_reasons.specs.Pairs.{AreDeclaredIn}
 use Rattle.am_idle.specs.RuleChoices.{labels_named, AreMeeting, IsFoundOf}
 use Rattle.am_idle.specs.Rules.{SomeMeet, SomeInhibit, Matches}

@@ -1,7 +1,7 @@
 use Rattle.std.proofs.Common.{ap, [], ◌∷◌, ◌+◌, List, subst, sym, take}
 use Rattle.am_labels.specs.Matcher.{Condition}
 use Rattle.am_labels.specs.Row.{TruthRow}
-use Rattle.am_masks.specs.Words.{IsCubeOf, MaskedLabels}
+use Rattle.am_judged_lists.specs.Cube.{IsCubeOf, MaskedLabels}
 use Rattle.am_idle.specs.RuleChoices.{AreCubesOfMatchers}
 use Rattle.am_idle.proofs.RuleLiterals.{zip_more}
 use Rattle.am_idle.proofs.sides.cubes_of_matchers.Goals as goal

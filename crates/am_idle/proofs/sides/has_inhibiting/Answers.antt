@@ -1,6 +1,6 @@
 use Rattle.std.proofs.Common.{sym, ◌∙◌, subst, ◌∷◌, []}
 use Rattle.am_first_sets.specs.PossibleRefuter.{possible_space}
-use Rattle.am_masks.specs.Words.{IsCubeOf}
+use Rattle.am_judged_lists.specs.Cube.{IsCubeOf}
 use Rattle.am_reasons.proofs.PairLemmas.{paired_if, unpaired_if}
 use Rattle.am_idle.proofs.RuleLiterals.{first_spared, second_spared, none_spared}
 use Rattle.am_idle.proofs.sides.has_inhibiting.Goals as goal

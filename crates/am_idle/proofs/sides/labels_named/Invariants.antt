@@ -1,5 +1,5 @@
 use Rattle.std.proofs.Common.{◌≡◌, take}
-use Rattle.am_files.specs.RouteView.{names_of}
+use Rattle.am_config.specs.RouteView.{names_of}
 use Rattle.am_idle.specs.RuleChoices.{labels_named}
 use Rattle.am_idle.proofs.sides.labels_named.Given as goal
 

@@ -1,15 +1,16 @@
 -- One route more is found, and it stands at its path.
 use Rattle.std.proofs.Common.{◌≡◌, ◌<◌, ◌≤◌, ◌+◌, ◌++◌, ◌∷◌, [], List, ℕ, length, take, Some, None}
-use Rattle.std.proofs.Common.{refl}
-use Rattle.std.proofs.Common.{sym, ap, ◌∙◌, subst, arith, slice_get}
+use Rattle.std.proofs.Common.{refl, sym, ap, ◌∙◌, subst, arith, slice_get}
 use Rattle.std.specs.List.{AllByRecursion, AllZip}
 use Rattle.std.proofs.lemmas.List.{take_all, length-map}
 use Rattle.am_universe.proofs.DistinctLists.{all_push}
 use Rattle.am_universe.proofs.Members.{in_at}
-use Rattle.am_files.specs.ConfigFile.{RouteTree}
-use Rattle.am_files.specs.Path.{route_at}
-use Rattle.am_files.specs.Words.{config_view, all_routes, route_view}
-use Rattle.am_files.proofs.RouteLists.{listed_at, each_at}
+use Rattle.am_config.specs.ConfigFile.{RouteTree}
+use Rattle.am_config.specs.Path.{route_at}
+use Rattle.am_config.specs.ConfigView.{config_view}
+use Rattle.am_config.specs.RoutePaths.{all_routes}
+use Rattle.am_config.specs.RouteView.{route_view}
+use Rattle.am_config.proofs.RouteLists.{listed_at, each_at}
 use Rattle.am_complete.proofs.Pushed.{one_longer}
 use Rattle.am_lint.specs.declared.found.FoundRoute.{FoundRoute}
 use Rattle.am_lint.specs.FoundView.{IsFoundIn}

@@ -1,7 +1,7 @@
 use Rattle.std.proofs.Common.{◌≡◌, take, None}
 use Rattle.std.specs.List.{AllByRecursion, AllZip}
-use Rattle.am_files.specs.ConfigView.{config_view}
-use Rattle.am_files.specs.RoutePaths.{all_routes}
+use Rattle.am_config.specs.ConfigView.{config_view}
+use Rattle.am_config.specs.RoutePaths.{all_routes}
 use Rattle.am_lint.specs.FoundView.{IsFoundIn}
 use Rattle.am_lint.proofs.finding.found_routes.Given as goal
 

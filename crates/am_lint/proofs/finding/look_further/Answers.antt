@@ -4,7 +4,8 @@ use Rattle.std.proofs.Common.{ℕ, List}
 use Rattle.std.proofs.lemmas.Option.{slice_get_read}
 use Rattle.am_universe.proofs.ListLemmas.{AllByRecursion-at}
 use Rattle.am_universe.proofs.Members.{in_at}
-use Rattle.am_files.specs.Words.{Configuration, config_view}
+use Rattle.am_config.specs.ConfigFile.{Configuration}
+use Rattle.am_config.specs.ConfigView.{config_view}
 use Rattle.am_lint.specs.declared.found.FoundRoute.{FoundRoute}
 use Rattle.am_lint.specs.FoundView.{IsSameButEvery, IsLookedAt}
 use Rattle.am_lint.specs.Table.{IsRoute, table_config}

@@ -1,6 +1,6 @@
 use Rattle.std.proofs.Common.{take}
 use Rattle.std.specs.List.{AllByRecursion, AllZip}
-use Rattle.am_files.specs.ConfigView.{config_view}
+use Rattle.am_config.specs.ConfigView.{config_view}
 use Rattle.am_lint.specs.FoundView.{IsSameButEvery, IsLookedAt}
 use Rattle.am_lint.proofs.finding.look_further.Given as goal
 

@@ -1,8 +1,10 @@
-use Rattle.am_labels.specs.Words.{IsUniverse, Space}
-use Rattle.am_files.specs.Words.{Configuration}
+use Rattle.am_universe.specs.Universe.{IsUniverse}
+use Rattle.am_labels.specs.Space.{Space}
+use Rattle.am_config.specs.ConfigFile.{Configuration}
 use Rattle.am_classes.specs.declared.alphabet.Alphabet.{Alphabet}
-use Rattle.am_complete.specs.Words.{IsSpaceComplete, HasTextsOver}
-use Rattle.am_every_alert.specs.Words.{coverage_conditions}
+use Rattle.am_complete.specs.Complete.{IsSpaceComplete}
+use Rattle.am_complete.specs.Covering.{HasTextsOver}
+use Rattle.am_every_alert.specs.Deciding.{coverage_conditions}
 use Rattle.am_lint.proofs.Transfer.{StandsForAlerts, standing_over, reason_over, handed_over}
 use Rattle.am_lint.proofs.laws.a_route_stands_over_all_alerts_as_over_a_complete_space.Goals as goal
 

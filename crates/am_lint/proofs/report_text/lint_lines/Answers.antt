@@ -1,10 +1,10 @@
 -- A line for each route, and one for each receiver.
-use Rattle.std.proofs.Common.{◌≡◌, ℕ, List, [], None, get_or, string_bytes, map, sym, ◌∙◌}
-use Rattle.std.proofs.Common.{refl, arith}
+use Rattle.std.proofs.Common.{◌≡◌, ℕ, List, [], None, get_or, string_bytes, map, sym, ◌∙◌, refl}
+use Rattle.std.proofs.Common.{arith}
 use Rattle.std.specs.List.{flat_map, enumerate_from}
 use Rattle.std.proofs.lemmas.List.Folds.{flat_map-map}
 use Rattle.std.proofs.lemmas.List.FromFn.{length-enumerate_from}
-use Rattle.am_files.specs.Words.{config_view}
+use Rattle.am_config.specs.ConfigView.{config_view}
 use Rattle.am_lint.specs.FoundView.{said_of}
 use Rattle.am_lint.specs.ReportText.{Said, route_line, receiver_line}
 use Rattle.am_complete_texts.proofs.PieceSteps.{line_more, lines_closed}

@@ -2,7 +2,7 @@
 use Rattle.std.proofs.Common.{◌≤◌, ◌++◌, List, Bor, codes, map, length, string_bytes, sym, ap, ◌∙◌}
 use Rattle.std.proofs.Common.{arith}
 use Rattle.std.proofs.lemmas.List.{length-map}
-use Rattle.am_files.specs.Words.{config_view}
+use Rattle.am_config.specs.ConfigView.{config_view}
 use Rattle.am_lint.specs.declared.found.FoundRoute.{FoundRoute}
 use Rattle.am_lint.specs.FoundView.{said_of}
 use Rattle.am_lint.specs.ReportText.{Said, said_text}

@@ -1,7 +1,8 @@
 -- The line, piece by piece.
 use Rattle.std.proofs.Common.{◌++◌, string_bytes, ap, ◌∙◌}
 use Rattle.am_universe.specs.Text.{quoted_text}
-use Rattle.am_files.specs.Words.{config_view, path_text}
+use Rattle.am_config.specs.ConfigView.{config_view}
+use Rattle.am_config.specs.Path.{path_text}
 use Rattle.am_lint.specs.FoundView.{finding_view}
 use Rattle.am_lint.specs.ReportText.{kind_text, matchers_at_path, why_text}
 use Rattle.am_lint.proofs.ReportSteps.{route_line_put}

@@ -1,6 +1,6 @@
 -- The routes so far are those before the next.
 use Rattle.std.proofs.Common.{codes, string_bytes}
-use Rattle.am_files.specs.Words.{config_view}
+use Rattle.am_config.specs.ConfigView.{config_view}
 use Rattle.am_lint.specs.ReportText.{route_text}
 use Rattle.am_complete_texts.proofs.TextSteps.{one_pushed}
 use Rattle.am_complete_texts.proofs.PieceSteps.{row_closed, item_here}

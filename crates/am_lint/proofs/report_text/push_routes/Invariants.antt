@@ -1,5 +1,5 @@
 use Rattle.std.proofs.Common.{◌≡◌, ◌++◌, take, string_bytes}
-use Rattle.am_files.specs.Words.{config_view}
+use Rattle.am_config.specs.ConfigView.{config_view}
 use Rattle.am_lint.specs.ReportText.{routes_text}
 use Rattle.am_lint.proofs.report_text.push_routes.Given as goal
 

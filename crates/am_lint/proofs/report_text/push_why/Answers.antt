@@ -1,8 +1,8 @@
 -- The reason, and then the label set that does enter.
 use Rattle.std.proofs.Common.{ℕ, List, ◌++◌, codes, string_bytes, refl, append_assoc}
 use Rattle.std.proofs.lemmas.Result.{on_ok_weaker}
-use Rattle.am_labels.specs.Words.{set_text}
-use Rattle.am_files.specs.Words.{config_view}
+use Rattle.am_universe.specs.WrittenLabelSet.{set_text}
+use Rattle.am_config.specs.ConfigView.{config_view}
 use Rattle.am_lint.specs.ReportText.{reason_text}
 use Rattle.am_complete_texts.proofs.PieceSteps.{one_put}
 use Rattle.am_lint.proofs.report_text.push_why.Goals as goal

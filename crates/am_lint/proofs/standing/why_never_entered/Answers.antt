@@ -1,6 +1,6 @@
 -- Some label set matches the way: the one that was found.
 use Rattle.std.proofs.Common.{refl}
-use Rattle.am_labels.specs.Words.{label_set_of}
+use Rattle.am_universe.specs.LabelSet.{label_set_of}
 use Rattle.am_lint.specs.Table.{table_space}
 use Rattle.am_lint.proofs.standing.why_never_entered.Goals as goal
 

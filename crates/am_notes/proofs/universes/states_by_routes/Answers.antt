@@ -1,7 +1,7 @@
 use Rattle.std.proofs.Common.{◌≡◌, List, ◌++◌, subst, sym}
 use Rattle.am_labels.specs.Matcher.{Condition}
 use Rattle.am_labels.specs.Space.{Space}
-use Rattle.am_files.specs.Words.{config_view}
+use Rattle.am_config.specs.ConfigView.{config_view}
 use Rattle.am_asked.specs.Asked.{route_conditions}
 use Rattle.am_complete.specs.Complete.{impossible_conditions}
 use Rattle.am_complete.specs.AskedLabel.{AskedLabel, IsAskedOf}

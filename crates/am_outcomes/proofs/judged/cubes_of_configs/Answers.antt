@@ -1,7 +1,7 @@
 use Rattle.std.proofs.Common.{List, subst}
-use Rattle.am_labels.specs.Words.{Label}
-use Rattle.am_files.specs.ConfigFile.{RouteTree}
-use Rattle.am_files.specs.ConfigView.{config_view}
+use Rattle.am_universe.specs.Universe.{Label}
+use Rattle.am_config.specs.ConfigFile.{RouteTree}
+use Rattle.am_config.specs.ConfigView.{config_view}
 use Rattle.am_first_sets.specs.RouteCubes.{AreCubesOf}
 use Rattle.am_outcomes.specs.Knows.{KnowsConfig}
 use Rattle.am_outcomes.proofs.JudgedSteps.{knows_more}

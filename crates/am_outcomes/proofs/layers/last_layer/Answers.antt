@@ -1,7 +1,7 @@
 use Rattle.std.proofs.Common.{ℕ, List, [], ◌∷◌, ◌++◌, length, slice_index, ap, sym, ◌∙◌, subst}
 use Rattle.std.proofs.Common.{refl}
 use Rattle.std.proofs.lemmas.Option.{get_or_from_slice_get}
-use Rattle.am_labels.specs.Words.{sizes}
+use Rattle.am_universe.specs.Universe.{sizes}
 use Rattle.am_outcomes.specs.JudgedView.{judged_space, judged_configs}
 use Rattle.am_outcomes.specs.LayerView.{IsLayer, prefixes_of, gathered}
 use Rattle.am_outcomes.proofs.LayerSteps.{no_entry}

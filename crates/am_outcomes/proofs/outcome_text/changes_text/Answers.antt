@@ -3,12 +3,13 @@ use Rattle.std.proofs.Common.{append_assoc, string_bytes}
 use Rattle.std.specs.Prelude.{not}
 use Rattle.std.specs.List.{flat_map}
 use Rattle.std.proofs.lemmas.List.{take_all}
-use Rattle.am_universe.specs.Universe.{Label}
-use Rattle.am_labels.specs.Words.{sizes, IsWhole}
-use Rattle.am_files.specs.ConfigView.{config_view}
+use Rattle.am_universe.specs.Universe.{Label, sizes}
+use Rattle.am_universe.specs.Choice.{IsWhole}
+use Rattle.am_config.specs.ConfigView.{config_view}
 use Rattle.am_outcomes.specs.FatesView.{fates_view}
-use Rattle.am_outcomes.specs.OutcomeText.{change_line, change_text, changes_of, names_of, same_names}
-use Rattle.am_outcomes.specs.OutcomeText.{first_text, AreDeclared, under, count_text, is_change}
+use Rattle.am_outcomes.specs.OutcomeText.{change_line, change_text, changes_of, names_of}
+use Rattle.am_outcomes.specs.OutcomeText.{same_names, first_text, AreDeclared, under, count_text}
+use Rattle.am_outcomes.specs.OutcomeText.{is_change}
 use Rattle.am_outcomes.proofs.TextSteps.{IsOfChoice, outcome_at, as_many, under_declared, under_is}
 use Rattle.am_outcomes.proofs.TextSteps.{change_more, no_change_more}
 use Rattle.am_outcomes.proofs.outcome_text.changes_text.Goals as goal

@@ -1,6 +1,6 @@
 use Rattle.std.proofs.Common.{◌≡◌, ◌≤◌, length, take, string_bytes}
 use Rattle.std.specs.List.{flat_map}
-use Rattle.am_files.specs.ConfigView.{config_view}
+use Rattle.am_config.specs.ConfigView.{config_view}
 use Rattle.am_outcomes.specs.OutcomeText.{changes_of, change_line}
 use Rattle.am_outcomes.proofs.outcome_text.changes_text.Given as goal
 

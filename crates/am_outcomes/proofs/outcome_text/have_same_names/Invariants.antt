@@ -1,4 +1,4 @@
-use Rattle.am_files.specs.ConfigView.{config_view}
+use Rattle.am_config.specs.ConfigView.{config_view}
 use Rattle.am_outcomes.proofs.TextSteps.{SameFrom}
 use Rattle.am_outcomes.proofs.outcome_text.have_same_names.Given as goal
 

@@ -1,13 +1,13 @@
-use Rattle.std.proofs.Common.{◌≡◌, ◌++◌, ℕ, List, [], ◌∷◌, refl, ap, sym, ◌∙◌, subst, arith, append_assoc, codes}
-use Rattle.std.proofs.Common.{string_bytes}
+use Rattle.std.proofs.Common.{◌≡◌, ◌++◌, ℕ, List, [], ◌∷◌, refl, ap, sym, ◌∙◌, subst, arith}
+use Rattle.std.proofs.Common.{append_assoc, codes, string_bytes}
 use Rattle.std.proofs.lemmas.Option.{get_or_from_slice_get}
-use Rattle.am_universe.specs.Universe.{Label}
-use Rattle.am_labels.specs.Words.{sizes, IsWhole}
-use Rattle.am_files.specs.ConfigView.{config_view}
+use Rattle.am_universe.specs.Universe.{Label, sizes}
+use Rattle.am_universe.specs.Choice.{IsWhole}
+use Rattle.am_config.specs.ConfigView.{config_view}
 use Rattle.am_complete_texts.proofs.PieceSteps.{line_more, lines_closed}
 use Rattle.am_outcomes.specs.FatesView.{fates_view}
-use Rattle.am_outcomes.specs.OutcomeText.{outcome_line, names_text, names_of, first_text, AreDeclared}
-use Rattle.am_outcomes.specs.OutcomeText.{under}
+use Rattle.am_outcomes.specs.OutcomeText.{outcome_line, names_text, names_of, first_text}
+use Rattle.am_outcomes.specs.OutcomeText.{AreDeclared, under}
 use Rattle.am_outcomes.proofs.TextSteps.{IsOfChoice, outcome_at, as_many, under_declared, under_is}
 use Rattle.am_outcomes.proofs.outcome_text.outcomes_text.Goals as goal
 use Rattle.am_outcomes.proofs.outcome_text.outcomes_text.Goals.{After-get, After-as_slice}

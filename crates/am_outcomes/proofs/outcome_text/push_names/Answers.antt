@@ -1,6 +1,6 @@
 use Rattle.std.proofs.Common.{◌++◌, codes, string_bytes, ap, sym, ◌∙◌}
 use Rattle.am_universe.specs.Text.{quoted_text}
-use Rattle.am_files.specs.ConfigView.{config_view}
+use Rattle.am_config.specs.ConfigView.{config_view}
 use Rattle.am_complete_texts.proofs.TextSteps.{one_pushed}
 use Rattle.am_complete_texts.proofs.PieceSteps.{row_closed}
 use Rattle.std.proofs.lemmas.Option.{slice_get-get_or}

@@ -1,7 +1,9 @@
 use Rattle.std.proofs.Common.{◌≡◌, ◌++◌, ℕ, List, refl, sym, ap, ◌∙◌, arith, append-nil}
 use Rattle.std.specs.Prelude.{not, ◌&&◌}
-use Rattle.am_labels.specs.Words.{Label, sizes, IsWhole, label_set_of}
-use Rattle.am_files.specs.ConfigFile.{RouteTree, children_of}
+use Rattle.am_universe.specs.Universe.{Label, sizes}
+use Rattle.am_universe.specs.Choice.{IsWhole}
+use Rattle.am_universe.specs.LabelSet.{label_set_of}
+use Rattle.am_config.specs.ConfigFile.{RouteTree, children_of}
 use Rattle.am_first_sets.specs.declared.route_cubes.RouteCubes.TheViews.{out-RouteCubes}
 use Rattle.am_first_sets.specs.RouteCubes.{AreCubesOf}
 use Rattle.am_outcomes.specs.Receivers.{child_receivers}

@@ -1,6 +1,7 @@
 use Rattle.std.proofs.Common.{List}
-use Rattle.am_labels.specs.Words.{Label, sizes, IsWhole}
-use Rattle.am_files.specs.ConfigFile.{RouteTree}
+use Rattle.am_universe.specs.Universe.{Label, sizes}
+use Rattle.am_universe.specs.Choice.{IsWhole}
+use Rattle.am_config.specs.ConfigFile.{RouteTree}
 use Rattle.am_first_sets.specs.RouteCubes.{AreCubesOf}
 use Rattle.am_outcomes.proofs.WalkSteps.{AreBeingFound}
 use Rattle.am_outcomes.proofs.route_walk.+push_receivers.Given as goal

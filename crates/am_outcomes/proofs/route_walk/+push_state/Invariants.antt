@@ -1,6 +1,6 @@
 use Rattle.std.proofs.Common.{List}
-use Rattle.am_labels.specs.Words.{Label}
-use Rattle.am_files.specs.ConfigFile.{RouteTree}
+use Rattle.am_universe.specs.Universe.{Label}
+use Rattle.am_config.specs.ConfigFile.{RouteTree}
 use Rattle.am_first_sets.specs.RouteCubes.{AreCubesOf}
 use Rattle.am_outcomes.proofs.WalkSteps.{IsBeingSeen}
 use Rattle.am_outcomes.proofs.route_walk.+push_state.Given as goal

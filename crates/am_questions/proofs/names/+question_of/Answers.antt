@@ -1,6 +1,6 @@
 -- What a tree means, and the first of its parts that is refused.
 use Rattle.std.proofs.lemmas.Result.{err_from_is_err_and}
-use Rattle.am_files.specs.ConfigView.{config_view}
+use Rattle.am_config.specs.ConfigView.{config_view}
 use Rattle.am_questions.specs.QuestionText.{parts_of}
 use Rattle.am_eval.specs.QuestionView.{question_view}
 use Rattle.am_questions.specs.TreeView.{tree_view, written_view}

@@ -1,7 +1,7 @@
 -- The first fault of a question is that of its text, of its tokens, or of a simple part.
 use Rattle.std.proofs.Common.{◌≤◌, List, length, map, arith, subst}
 use Rattle.std.proofs.lemmas.List.{length-map}
-use Rattle.am_files.specs.ConfigView.{config_view}
+use Rattle.am_config.specs.ConfigView.{config_view}
 use Rattle.am_questions.specs.declared.limits.TheConstants.{MAX_TOKENS}
 use Rattle.am_questions.specs.declared.tokens.Token as kept
 use Rattle.am_questions.specs.TokenView.{token_view}

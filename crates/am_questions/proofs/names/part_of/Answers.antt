@@ -1,7 +1,7 @@
 -- Each simple part means what was found for it.
 use Rattle.std.proofs.Common.{◌≡◌, ◌∙◌, sym, subst, refl}
-use Rattle.am_files.specs.ConfigFile.{Configuration}
-use Rattle.am_files.specs.ConfigView.{config_view}
+use Rattle.am_config.specs.ConfigFile.{Configuration}
+use Rattle.am_config.specs.ConfigView.{config_view}
 use Rattle.am_questions.specs.declared.grammar.Written as kept
 use Rattle.am_eval.specs.Tree.{Part}
 use Rattle.am_eval.specs.Question.{Question, Simple}

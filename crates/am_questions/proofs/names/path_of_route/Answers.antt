@@ -1,6 +1,6 @@
 -- Where no route is at a path with the text, the text is the path of none.
 use Rattle.std.proofs.Common.{refl, inl, inr}
-use Rattle.am_files.specs.ConfigView.{config_view}
+use Rattle.am_config.specs.ConfigView.{config_view}
 use Rattle.am_questions.proofs.RouteNames.{not_spelled, beyond_routes, no_route_there}
 use Rattle.am_questions.proofs.names.path_of_route.Goals as goal
 

@@ -1,6 +1,8 @@
 use Rattle.std.proofs.Common.{ap, ◌∙◌, List, ℕ, Bool}
 use Rattle.std.specs.Prelude.{◌&&◌}
-use Rattle.am_labels.specs.Words.{sizes, choices, is_possible_choice}
+use Rattle.am_universe.specs.Universe.{sizes}
+use Rattle.am_universe.specs.Choice.{choices}
+use Rattle.am_labels.specs.Space.{is_possible_choice}
 use Rattle.am_search.proofs.FirstAlike.{first_alike}
 use Rattle.am_first_sets.specs.PossibleRefuter.{possible_space, possible_truth}
 use Rattle.am_first_sets.proofs.FirstPossible.{find_kept, found_of_space}

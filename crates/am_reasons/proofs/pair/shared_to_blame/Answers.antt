@@ -3,7 +3,7 @@ use Rattle.std.specs.Prelude.{slice_index}
 use Rattle.std.specs.List.{AllByRecursion}
 use Rattle.std.proofs.lemmas.Option.{slice_get-get_or}
 use Rattle.am_universe.specs.declared.limits.TheConstants.{MAX_LABELS}
-use Rattle.am_masks.proofs.ListLemmas.{each_map}
+use Rattle.am_judged_lists.proofs.ListLemmas.{each_map}
 use Rattle.am_first_sets.specs.PossibleRefuter.{possible_space, possible_sizes, possible_are_sizes}
 use Rattle.am_reasons.proofs.PairLemmas.{one_to_blame, all_to_blame}
 use Rattle.am_reasons.proofs.pair.shared_to_blame.Goals as goal

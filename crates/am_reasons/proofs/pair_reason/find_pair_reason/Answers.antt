@@ -1,4 +1,4 @@
-use Rattle.am_first_sets.specs.Words.{possible_space}
+use Rattle.am_first_sets.specs.PossibleRefuter.{possible_space}
 use Rattle.am_reasons.proofs.PairLemmas.{pair_turned, needed_less}
 use Rattle.am_reasons.proofs.pair_reason.find_pair_reason.Goals as goal
 

@@ -1,5 +1,5 @@
 use Rattle.std.proofs.Common.{arith}
-use Rattle.am_first_sets.specs.Words.{possible_space}
+use Rattle.am_first_sets.specs.PossibleRefuter.{possible_space}
 use Rattle.am_reasons.proofs.ReasonLemmas.{same_itself, same_either}
 use Rattle.am_reasons.proofs.PairLemmas.{fewer_either, needed_beside}
 use Rattle.am_reasons.proofs.pair_reason.leave_out_beside.Goals as goal

@@ -1,5 +1,5 @@
 use Rattle.std.proofs.Common.{◌≡◌, ℕ, List, true}
-use Rattle.am_first_sets.specs.Words.{possible_space}
+use Rattle.am_first_sets.specs.PossibleRefuter.{possible_space}
 use Rattle.am_reasons.specs.Meeting.{meets}
 use Rattle.am_reasons.specs.Pairs.{AreUnpaired}
 use Rattle.am_reasons.specs.Reason.{AreSameLiterals}

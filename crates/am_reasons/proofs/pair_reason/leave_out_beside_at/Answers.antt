@@ -1,6 +1,6 @@
 use Rattle.std.proofs.Common.{◌≡◌, List, sym, ap, ◌∙◌, subst, refl, inl, slice_get, true, Some}
 use Rattle.std.proofs.lemmas.Option.{slice_get_read}
-use Rattle.am_first_sets.specs.Words.{possible_space}
+use Rattle.am_first_sets.specs.PossibleRefuter.{possible_space}
 use Rattle.am_reasons.specs.declared.candidate.Candidate.{Candidate}
 use Rattle.am_reasons.specs.Pairs.{ArePaired, AreUnpaired}
 use Rattle.am_reasons.specs.Reason.{renamed, without}

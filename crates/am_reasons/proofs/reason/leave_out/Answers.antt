@@ -1,5 +1,5 @@
 use Rattle.std.proofs.Common.{arith}
-use Rattle.am_first_sets.specs.Words.{possible_space}
+use Rattle.am_first_sets.specs.PossibleRefuter.{possible_space}
 use Rattle.am_reasons.proofs.ReasonLemmas.{same_itself, same_either, named_either, needed_more}
 use Rattle.am_reasons.proofs.reason.leave_out.Goals as goal
 

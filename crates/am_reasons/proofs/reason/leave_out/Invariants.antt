@@ -1,4 +1,4 @@
-use Rattle.am_first_sets.specs.Words.{possible_space}
+use Rattle.am_first_sets.specs.PossibleRefuter.{possible_space}
 use Rattle.am_reasons.specs.Meeting.{IsUnmet}
 use Rattle.am_reasons.specs.Reason.{AreSameLiterals, AreNamedBefore}
 use Rattle.am_reasons.proofs.ReasonLemmas.{AreNeededBefore}

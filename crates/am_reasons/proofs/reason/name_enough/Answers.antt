@@ -1,7 +1,7 @@
 use Rattle.std.proofs.Common.{subst, sym, ◌<◌, List}
 use Rattle.am_reasons.specs.declared.candidate.Candidate.{Candidate}
 use Rattle.am_reasons.specs.Reason.{AreSameLiterals, AreNamedBefore}
-use Rattle.am_first_sets.specs.Words.{possible_space}
+use Rattle.am_first_sets.specs.PossibleRefuter.{possible_space}
 use Rattle.am_reasons.proofs.ReasonLemmas.{same_itself, same_renamed, named_more, one_more}
 use Rattle.am_reasons.proofs.ReasonLemmas.{count_unnamed, hold_alike}
 use Rattle.am_reasons.proofs.reason.name_enough.Goals as goal

@@ -1,7 +1,7 @@
 -- What is found is said of what was read, and what is refused is the first fault behind the inputs.
 use Rattle.std.proofs.Common.{◌≡◌, true, is_some, sym, ap, ◌∙◌, subst}
 use Rattle.am_json.specs.Reading.{refusal_of}
-use Rattle.am_files.specs.ConfigView.{config_view}
+use Rattle.am_config.specs.ConfigView.{config_view}
 use Rattle.am_eval.specs.Faults.{IsFirstFault}
 use Rattle.am_eval.proofs.FirstFaults.{handed_on}
 use Rattle.am_classes.specs.declared.alphabet.Alphabet.{Alphabet}

@@ -1,7 +1,7 @@
 -- The inputs come before what is made of them, and what is written is the comparison.
 use Rattle.std.proofs.Common.{Ok, Err, refl, string_bytes}
 use Rattle.am_json.specs.Reading.{refusal_of}
-use Rattle.am_files.specs.ConfigView.{config_view}
+use Rattle.am_config.specs.ConfigView.{config_view}
 use Rattle.am_eval.proofs.FirstFaults.{first_of_more}
 use Rattle.am_eval.proofs.Promises.{refused, written}
 use Rattle.am_lint.specs.Findings.{alphabet_of}

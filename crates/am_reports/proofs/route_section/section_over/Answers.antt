@@ -2,7 +2,7 @@
 use Rattle.std.proofs.Common.{List, is_none, length, sym, ap, subst, ◌∙◌}
 use Rattle.std.specs.List.{AllByRecursion, AllZip}
 use Rattle.std.proofs.lemmas.List.FromFn.{length-map-range_with_len}
-use Rattle.am_files.specs.ConfigView.{config_view}
+use Rattle.am_config.specs.ConfigView.{config_view}
 use Rattle.am_lint.specs.declared.found.FoundRoute.{FoundRoute}
 use Rattle.am_lint.specs.Table.{IsRoute}
 use Rattle.am_lint.specs.FoundView.{IsSameButEvery, receiver_finding}

@@ -2,7 +2,7 @@ use Rattle.std.proofs.Common.{◌≡◌, ◌++◌, ◌∷◌, lit<, sym, ap, ◌
 use Rattle.std.specs.Prelude.{codes}
 use Rattle.std.proofs.lemmas.Str.Pattern.{split_after, split_parts}
 use Rattle.hex.specs.Hex.{encode_lower}
-use Rattle.am_search.specs.Words.{IsFingerprint}
+use Rattle.am_search.specs.Token.{IsFingerprint}
 use Rattle.am_search.proofs.TokenTexts.{cut}
 use Rattle.am_search.proofs.TokenForms.{written_form, no_colon}
 use Rattle.am_search.proofs.token.parse_form.Goals as goal

@@ -4,7 +4,7 @@ use Rattle.std.proofs.Common.{ap, ◌∙◌}
 use Rattle.std.specs.Str.{IsUtf8}
 use Rattle.am_json.specs.declared.limits.TheConstants.{MAX_FILE_BYTES}
 use Rattle.am_json.specs.Reading.{refusal_of}
-use Rattle.am_records.specs.UniverseFile.{FileHasImpossibleTexts}
+use Rattle.am_list_files.specs.UniverseFile.{FileHasImpossibleTexts}
 use Rattle.am_eval.specs.QuestionView.{question_view}
 use Rattle.am_complete_texts.specs.UniverseText.{universe_text}
 use Rattle.am_complete_texts.proofs.SaidByText.{text_says, texts_kept}

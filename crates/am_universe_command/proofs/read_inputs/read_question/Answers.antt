@@ -1,7 +1,7 @@
 use Rattle.std.proofs.Common.{◌≢◌, arith, sym, subst, ◌∙◌}
 use Rattle.am_universe.specs.declared.kind.Kind.{Kind}
 use Rattle.am_universe.specs.declared.kind.Kind.TheVariants as kinds
-use Rattle.am_files.specs.ConfigView.{config_view}
+use Rattle.am_config.specs.ConfigView.{config_view}
 use Rattle.am_questions.specs.QuestionText.{QuestionRefusedFor}
 use Rattle.am_universe_command.proofs.read_inputs.read_question.Goals as goal
 

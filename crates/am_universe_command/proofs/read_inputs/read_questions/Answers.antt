@@ -2,7 +2,7 @@ use Rattle.std.proofs.Common.{[], ◌∷◌, map, ap, ◌∙◌}
 use Rattle.std.proofs.lemmas.List.{map-append}
 use Rattle.am_universe.specs.declared.place.Place.TheVariants as places
 use Rattle.am_json.specs.Reading.{refusal_of, IsRefusalAt}
-use Rattle.am_files.specs.ConfigView.{config_view}
+use Rattle.am_config.specs.ConfigView.{config_view}
 use Rattle.am_eval.specs.QuestionView.{question_view}
 use Rattle.am_eval.proofs.FirstFaults.{handed_on}
 use Rattle.am_universe_command.specs.UniverseInputs.{QuestionsRefusedFor}

@@ -1,5 +1,5 @@
 use Rattle.std.proofs.Common.{map, take}
-use Rattle.am_files.specs.ConfigView.{config_view}
+use Rattle.am_config.specs.ConfigView.{config_view}
 use Rattle.am_eval.specs.QuestionView.{question_view}
 use Rattle.am_universe_command.specs.UniverseInputs.{ReadsQuestions}
 use Rattle.am_universe_command.proofs.read_inputs.read_questions.Given as goal

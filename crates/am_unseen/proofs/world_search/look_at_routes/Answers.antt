@@ -1,6 +1,8 @@
 use Rattle.std.proofs.Common.{◌<◌, length, fold, ap, ◌∙◌, arith}
-use Rattle.am_files.specs.Words.{config_view, all_routes, route_view}
-use Rattle.am_files.proofs.RouteLists.{listed_at}
+use Rattle.am_config.specs.ConfigView.{config_view}
+use Rattle.am_config.specs.RoutePaths.{all_routes}
+use Rattle.am_config.specs.RouteView.{route_view}
+use Rattle.am_config.proofs.RouteLists.{listed_at}
 use Rattle.am_asked.specs.Placed.{placed_at}
 use Rattle.am_complete.specs.declared.origin.Origin.TheVariants as origin_is
 use Rattle.am_unseen.specs.Search.{after_matcher}

@@ -1,7 +1,7 @@
 -- The search over the routes, then over the rules, then over the silences, is that over all.
 use Rattle.std.proofs.Common.{◌≡◌, [], ◌++◌, sym, ap, ◌∙◌, fold, append_assoc}
 use Rattle.std.proofs.lemmas.List.Sums.{fold-append}
-use Rattle.am_files.specs.ConfigFile.{Configuration}
+use Rattle.am_config.specs.ConfigFile.{Configuration}
 use Rattle.am_asked.specs.Placed.{placed_in_routes, placed_in_rules}
 use Rattle.am_unseen.specs.Unseen.{placed_in_silences_left, placed_to_see}
 use Rattle.am_unseen.specs.Search.{Search, after_matcher}

@@ -1,5 +1,5 @@
 use Rattle.std.proofs.Common.{◌≡◌, ◌<◌, Some, slice_get, vec_len}
-use Rattle.am_classes.specs.declared.listed.Listed.{Listed}
+use Rattle.am_classes.specs.declared.reached_state.ReachedState.{ReachedState}
 use Rattle.am_classes.specs.Exploration.{AreListed, Grows, AreLed, LeadsWithin}
 use Rattle.am_classes.proofs.exploration.Exploration.explore_bytes.Given as goal
 
@@ -9,6 +9,6 @@ invariant-loop-byte l = record {
   own : AreListed l.questions l.self.listed.items;
   led : AreLed l.questions l.self.listed.items l.at l.led.items;
   grows : Grows l.fn.self.listed.items l.self.listed.items;
-  leads : (item : Listed) → slice_get l.fn.self.listed.items l.at ≡ Some item
+  leads : (item : ReachedState) → slice_get l.fn.self.listed.items l.at ≡ Some item
       → LeadsWithin l.questions l.self.listed.items item.state l.first l.byte;
 }

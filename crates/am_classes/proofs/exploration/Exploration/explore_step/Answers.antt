@@ -1,6 +1,6 @@
 use Rattle.std.proofs.Common.{◌≡◌, ◌∷◌, ◌++◌, Some, slice_get, vec_len, refl, sym, ap, ◌∙◌, inl, inr, subst, arith}
 use Rattle.std.proofs.lemmas.Option.{slice_get_read, same_Some}
-use Rattle.am_classes.specs.declared.listed.Listed.{Listed}
+use Rattle.am_classes.specs.declared.reached_state.ReachedState.{ReachedState}
 use Rattle.am_classes.specs.Utf8.{text_step}
 use Rattle.am_classes.specs.State.{FollowsLabel}
 use Rattle.am_classes.specs.Exploration.{AreListed, LeadsTo}
@@ -28,7 +28,7 @@ returns-clause-own c =
     let at = slice_get_read old _ c.args.at this refl (omega (arith, c.requires.at, c.args.self.now.listed.ok.0)) c.index-item.ensures in
     let stepped : text_step q.alphabet this.state.tail c.args.byte ≡ Some c.args.tail = c.requires.tail this at in
     let follows = rw c.in-Some.is at c.in_ok-state.ensures in
-    let item : Listed = record { state = c.in-Some.state; text = c.extend_from_slice.new.self } in
+    let item : ReachedState = record { state = c.in-Some.state; text = c.extend_from_slice.new.self } in
     let text : item.text.items ≡ c.args.byte ∷ this.text.items =
     c.in_ok-extend_from_slice.ensures.items ∙ ap (λ bytes. bytes ++ c.as_slice.result.now) c.in_ok-text.ensures.items ∙ ap (λ bytes. c.args.byte ∷ bytes) c.as_slice.ensures.value in
     let own : FollowsLabel q item.state item.text.items =
@@ -41,7 +41,7 @@ returns-clause-own c =
 pub returns-clause-grows : goal.returns-clause-grows
 returns-clause-grows c =
     let old = c.args.self.now.listed.items in
-    let item : Listed = record { state = c.in-Some.state; text = c.extend_from_slice.new.self } in
+    let item : ReachedState = record { state = c.in-Some.state; text = c.extend_from_slice.new.self } in
     elim (pushed_or_kept c.list.result (vec_len c.args.self.now.listed) old c.list.new.self.listed.items item c.list.ensures.listed c.list.ensures.kept) [
       | inl pushed ↦ grows_pushed old c.list.new.self.listed.items item pushed
       | inr kept ↦ λ k x place. subst (λ xs. slice_get xs k ≡ Some x) (sym kept) place
@@ -56,7 +56,7 @@ returns-clause-leads c =
     let at = slice_get_read old _ c.args.at this refl (omega (arith, c.requires.at, c.args.self.now.listed.ok.0)) c.index-item.ensures in
     let stepped : text_step q.alphabet this.state.tail c.args.byte ≡ Some c.args.tail = c.requires.tail this at in
     let follows = rw c.in-Some.is at c.in_ok-state.ensures in
-    let item : Listed = record { state = c.in-Some.state; text = c.extend_from_slice.new.self } in
+    let item : ReachedState = record { state = c.in-Some.state; text = c.extend_from_slice.new.self } in
     where_found c.list.result c.list.ensures.listed
     (λ place pushed x there.
     let kept = grows_pushed old new item pushed.1 c.args.at this at in

@@ -1,6 +1,6 @@
 use Rattle.std.proofs.Common.{List, subst}
-use Rattle.am_labels.specs.Words.{Label, sizes}
-use Rattle.am_search.specs.Words.{AreSizes}
+use Rattle.am_universe.specs.Universe.{Label, sizes}
+use Rattle.am_search.specs.Judge.{AreSizes}
 use Rattle.am_search.proofs.TokenTexts.{sizes_of_universe}
 use Rattle.am_first_sets.proofs.ImpossibleCubes.{knows_possible}
 use Rattle.am_first_sets.proofs.possible_choices.PossibleRefuter.of.Goals as goal

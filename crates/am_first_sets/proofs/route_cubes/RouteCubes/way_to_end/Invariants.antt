@@ -1,6 +1,7 @@
 use Rattle.std.proofs.Common.{ℕ, List, drop}
-use Rattle.am_labels.specs.Words.{Label, sizes, IsWhole}
-use Rattle.am_files.specs.ConfigFile.{Configuration}
+use Rattle.am_universe.specs.Universe.{Label, sizes}
+use Rattle.am_universe.specs.Choice.{IsWhole}
+use Rattle.am_config.specs.ConfigFile.{Configuration}
 use Rattle.am_first_sets.specs.ChoiceEnds.{is_end_at}
 use Rattle.am_first_sets.specs.RouteCubes.{KnowsRoutes}
 use Rattle.am_first_sets.proofs.CubeEnds.{IsOnWay}

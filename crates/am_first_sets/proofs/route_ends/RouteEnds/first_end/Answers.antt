@@ -1,6 +1,8 @@
 use Rattle.std.proofs.Common.{ap, subst, false, ◌∙◌}
 use Rattle.std.specs.Prelude.{◌&&◌}
-use Rattle.am_labels.specs.Words.{sizes, choices, is_possible_choice}
+use Rattle.am_universe.specs.Universe.{sizes}
+use Rattle.am_universe.specs.Choice.{choices}
+use Rattle.am_labels.specs.Space.{is_possible_choice}
 use Rattle.am_search.proofs.FirstAlike.{first_alike}
 use Rattle.am_first_sets.specs.RouteEnds.{ends_space, ends_config}
 use Rattle.am_first_sets.specs.ChoiceEnds.{is_end_at}

@@ -1,8 +1,8 @@
 use Rattle.std.proofs.Common.{List, ap, subst, sym, ◌∙◌}
-use Rattle.am_labels.specs.Words.{Label}
+use Rattle.am_universe.specs.Universe.{Label}
 use Rattle.am_labels.specs.Space.{Space}
-use Rattle.am_files.specs.ConfigFile.{RouteTree}
-use Rattle.am_files.specs.Words.{config_view}
+use Rattle.am_config.specs.ConfigFile.{RouteTree}
+use Rattle.am_config.specs.ConfigView.{config_view}
 use Rattle.am_first_sets.specs.RouteCubes.{AreCubesOf, KnowsRoutes}
 use Rattle.am_first_sets.proofs.route_ends.RouteEnds.of.Goals as goal
 

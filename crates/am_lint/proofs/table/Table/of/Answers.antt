@@ -1,12 +1,13 @@
 -- One route more stands in the table.
 use Rattle.std.proofs.Common.{◌≡◌, ◌<◌, ◌≤◌, ◌+◌, ◌++◌, ◌∷◌, [], List, ℕ, length, take, refl, ap}
-use Rattle.std.proofs.Common.{sym, subst}
-use Rattle.std.proofs.Common.{◌∙◌, arith}
+use Rattle.std.proofs.Common.{sym, subst, ◌∙◌, arith}
 use Rattle.std.specs.List.{AllZip}
 use Rattle.std.proofs.lemmas.List.{take_all, length-map}
-use Rattle.am_files.specs.ConfigFile.{RouteTree}
-use Rattle.am_files.specs.Words.{config_view, all_routes, route_view}
-use Rattle.am_files.proofs.RouteLists.{listed_at}
+use Rattle.am_config.specs.ConfigFile.{RouteTree}
+use Rattle.am_config.specs.ConfigView.{config_view}
+use Rattle.am_config.specs.RoutePaths.{all_routes}
+use Rattle.am_config.specs.RouteView.{route_view}
+use Rattle.am_config.proofs.RouteLists.{listed_at}
 use Rattle.am_complete.proofs.Pushed.{one_longer}
 use Rattle.am_lint.specs.declared.table.TableRoute.{TableRoute}
 use Rattle.am_lint.specs.Table.{IsTabled}

@@ -1,7 +1,7 @@
 use Rattle.std.proofs.Common.{take}
 use Rattle.std.specs.List.{AllZip}
-use Rattle.am_files.specs.ConfigView.{config_view}
-use Rattle.am_files.specs.RoutePaths.{all_routes}
+use Rattle.am_config.specs.ConfigView.{config_view}
+use Rattle.am_config.specs.RoutePaths.{all_routes}
 use Rattle.am_lint.specs.Table.{IsTabled}
 use Rattle.am_lint.proofs.table.Table.of.Given as goal
 

@@ -1,7 +1,7 @@
 use Rattle.std.proofs.Common.{◌∙◌, sym, map, string_bytes}
 use Rattle.std.proofs.lemmas.List.Folds.{flat_map-map}
 use Rattle.std.proofs.lemmas.Result.{IfOk-weaker}
-use Rattle.am_notes.specs.Words.{note_text}
+use Rattle.am_notes.specs.NoteText.{note_text}
 use Rattle.am_notes.proofs.notes.Notes.text.Goals as goal
 
 pub returns : goal.returns

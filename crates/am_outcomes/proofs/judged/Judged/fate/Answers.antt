@@ -1,5 +1,5 @@
 use Rattle.std.proofs.Common.{ap, sym, ◌∙◌, subst, arith, ◌++◌}
-use Rattle.am_labels.specs.Words.{label_set_of}
+use Rattle.am_universe.specs.LabelSet.{label_set_of}
 use Rattle.am_outcomes.specs.Knows.{KnowsConfigs}
 use Rattle.am_outcomes.specs.FatesView.{fates_view}
 use Rattle.am_outcomes.specs.JudgedView.{judged_space, judged_configs}

@@ -1,4 +1,4 @@
-use Rattle.am_labels.specs.Words.{label_set_of}
+use Rattle.am_universe.specs.LabelSet.{label_set_of}
 use Rattle.am_outcomes.specs.FatesView.{fates_view}
 use Rattle.am_outcomes.specs.JudgedView.{judged_space, judged_configs}
 use Rattle.am_outcomes.proofs.JudgedSteps.{IsFateSoFar}

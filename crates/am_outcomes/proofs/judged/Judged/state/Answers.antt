@@ -1,6 +1,6 @@
 use Rattle.std.proofs.Common.{length, ◌≡◌, [], ◌∷◌, ◌++◌, ap, sym, ◌∙◌, subst, arith}
 use Rattle.std.specs.List.{list_any, slice_range}
-use Rattle.am_masks.specs.Words.{is_yes}
+use Rattle.am_search.specs.Judge.{is_yes}
 use Rattle.am_outcomes.specs.Knows.{KnowsConfigs}
 use Rattle.am_outcomes.specs.JudgedView.{judged_space, judged_configs}
 use Rattle.am_outcomes.specs.States.{route_state}

@@ -1,6 +1,6 @@
 use Rattle.std.proofs.Common.{◌≡◌, take, false}
 use Rattle.std.specs.List.{list_any}
-use Rattle.am_masks.specs.Words.{is_yes}
+use Rattle.am_search.specs.Judge.{is_yes}
 use Rattle.am_outcomes.specs.JudgedView.{judged_space, judged_configs}
 use Rattle.am_outcomes.proofs.JudgedSteps.{verdicts_of, IsStateSoFar}
 use Rattle.am_outcomes.proofs.judged.Judged.state.Given as goal

@@ -1,8 +1,7 @@
 use Rattle.std.proofs.Common.{◌≡◌, ◌+◌, ◌++◌, [], ◌∷◌, length, ap, sym, ◌∙◌, subst, arith}
 use Rattle.std.proofs.lemmas.List.{length-append, length-map}
-use Rattle.am_universe.specs.Universe.{Label}
+use Rattle.am_universe.specs.Universe.{Label, sizes}
 use Rattle.am_universe.proofs.CompletionLemmas.{admits_next}
-use Rattle.am_labels.specs.Words.{sizes}
 use Rattle.am_outcomes.specs.JudgedView.{judged_space, judged_configs}
 use Rattle.am_outcomes.specs.LayerView.{IsLayer, StandFor, prefixes_of}
 use Rattle.am_outcomes.proofs.LayerSteps.{longer_more}

@@ -1,7 +1,6 @@
 use Rattle.std.proofs.Common.{◌+◌, length, slice_index, ap, sym, ◌∙◌, subst, arith}
 use Rattle.std.proofs.lemmas.List.{length-map, take_all}
-use Rattle.am_universe.specs.Universe.{Label}
-use Rattle.am_labels.specs.Words.{sizes}
+use Rattle.am_universe.specs.Universe.{Label, sizes}
 use Rattle.am_outcomes.specs.JudgedView.{judged_space, judged_configs}
 use Rattle.am_outcomes.specs.States.{HasState}
 use Rattle.am_outcomes.specs.LayerView.{IsLayer, StandFor, prefixes_of, state_view}

@@ -1,10 +1,11 @@
 use Rattle.std.proofs.Common.{rules, ◌≡◌, ◌++◌, ◌∷◌, [], ℕ, List, length, drop, ap, sym, subst, ◌∙◌}
-use Rattle.am_universe.specs.Words.{IsWhole}
+use Rattle.am_universe.specs.Choice.{IsWhole}
 use Rattle.am_search.specs.Visits.{given_under, BeginsWithLast}
 use Rattle.am_search.specs.AnswersView.{answers_left}
 use Rattle.am_search.proofs.Walks.{progress}
 use Rattle.am_search.specs.declared.stage.Stage.TheVariants.{Done}
-use Rattle.am_search.proofs.WalkBudgets.{given_front, left_one, part_of_search, whole_search, begins_with_last, nothing_left}
+use Rattle.am_search.proofs.WalkBudgets.{given_front, left_one, part_of_search, whole_search}
+use Rattle.am_search.proofs.WalkBudgets.{begins_with_last, nothing_left}
 use Rattle.am_search.proofs.answers.AnswersIterator.next.Goals as goal
 
 pub returns-in-Giving-clause-first : goal.returns-in-Giving-clause-first

@@ -2,7 +2,7 @@ use Rattle.std.proofs.Common.{◌∙◌}
 use Rattle.am_universe.specs.Universe.{sizes}
 use Rattle.am_search.proofs.TokenTexts.{sizes_of_universe}
 use Rattle.am_eval.specs.QuestionView.{question_view}
-use Rattle.am_masks.specs.declared.modality.Modality.TheVariants.{Must}
+use Rattle.am_judged_lists.specs.declared.certainty.Certainty.TheVariants.{Must}
 use Rattle.am_whole.specs.WholeView.{open_when_short}
 use Rattle.am_whole.proofs.WholeTruth.{must_at_whole}
 use Rattle.am_whole.proofs.whole.Whole.new.Goals as goal

@@ -1,8 +1,0 @@
-use crate::label_state::LabelState;
-
-/// A state of a label, and a text that leads to it.
-#[derive(Drop)]
-pub(crate) struct Listed {
-    pub(crate) state: LabelState,
-    pub(crate) text: Vec<u8>,
-}

@@ -1,2 +1,0 @@
--- The words of clauses: what the contracts of this crate, and of those above it, cite.
-pub use Rattle.am_command_line.specs.StepsView.{step_count}

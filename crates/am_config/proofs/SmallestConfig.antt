@@ -1,0 +1,62 @@
+-- What the smallest configuration file is read as.
+use Rattle.std.proofs.Common.{◌≡◌, ℕ, List, [], ◌∷◌, length, nat_lt, true, Ok, Some}
+use Rattle.std.proofs.Common.{refl, codes, arith}
+use Rattle.serde_json.specs.Data.{Data, string, array, object, no_items, item, no_members, member}
+use Rattle.std.specs.List.{list_all}
+use Rattle.std.specs.Str.{IsAscii}
+use Rattle.std.proofs.lemmas.Bool.{and_parts}
+use Rattle.std.proofs.lemmas.Bool.Decides.{nat_tests}
+use Rattle.std.proofs.lemmas.Str.{IsUtf8-from_ascii}
+use Rattle.std.proofs.lemmas.Str.Ascii.{IsAscii-cons, IsAscii-nil}
+use Rattle.serde_json.specs.Read.{read}
+use Rattle.serde_json.proofs.OnLiterals.{serde_json_on_literals}
+use Rattle.am_json.specs.Json.{json_of}
+use Rattle.am_json.specs.Reading.{required_items, required_text, read_each, read_next_item}
+use Rattle.am_json.specs.Reading.{check_only_fields, read_boolean_or}
+use Rattle.am_config.specs.ConfigFile.{FileSaysConfig}
+use Rattle.am_config.specs.ConfigReading.{read_config, read_receivers, read_receiver_names}
+use Rattle.am_config.specs.ConfigReading.{read_next_receiver, read_route, read_route_fields}
+use Rattle.am_config.specs.ConfigReading.{read_receiver, read_matchers}
+use Rattle.am_config.specs.SmallestConfig.{smallest_config_file, smallest_config}
+use Rattle.am_json.proofs.Values.{json_of_text}
+use Rattle.am_config.proofs.ConfigSays.{config_says}
+use Rattle.am_json.specs.OptionalItems.{read_counted, read_optional_array, read_optional_items}
+
+abbrev value : Data
+value = object (member (codes "receivers")
+    (array (item (object (member (codes "name") (string (codes "none")) no_members)) no_items))
+    (member (codes "route")
+    (object (member (codes "receiver") (string (codes "none")) no_members)) no_members))
+
+all_ascii : (bs : List ℕ) → list_all (λ b. nat_lt b 128) bs ≡ true → IsAscii bs
+all_ascii [] h = IsAscii-nil
+all_ascii (b ∷ bs) h =
+    let parts = and_parts (nat_lt b 128) (list_all (λ b. nat_lt b 128) bs) h in
+    let small : nat_lt b 128 ≡ true = parts.0 in
+    IsAscii-cons b bs (grind (arith, nat_tests)) (all_ascii bs parts.1)
+
+reads : read smallest_config_file ≡ Some value
+unfolding serde_json_on_literals
+reads = refl
+
+has_value : json_of smallest_config_file ≡ Some value
+has_value =
+    json_of_text smallest_config_file value
+    (IsUtf8-from_ascii smallest_config_file (all_ascii smallest_config_file refl)) reads
+
+says_smallest : (read_config value).result ≡ Ok smallest_config
+unfolding read_config read_receivers required_items read_receiver_names read_each read_next_item
+    read_next_receiver required_text read_route read_route_fields check_only_fields read_receiver
+    read_matchers read_boolean_or read_optional_items read_optional_array read_counted
+says_smallest = refl
+
+few_bytes : length smallest_config_file ≡ 59
+few_bytes = refl
+
+pub says : FileSaysConfig smallest_config_file smallest_config
+says = (
+  omega (arith, few_bytes),
+  value,
+  has_value,
+  config_says value smallest_config says_smallest,
+)

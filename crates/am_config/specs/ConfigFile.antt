@@ -1,0 +1,308 @@
+-- Configurations, and which JSON value says which. (Alertmanager configuration reference 0.25; the
+-- limits, and which fields are read, are this project's own.)
+use Rattle.std.specs.Prelude.{◌≡◌, ◌≢◌, ◌⊎◌, ◌≤◌, ◌+◌, ℕ, max, List, [], ◌∷◌, ◌++◌, length, Bool}
+use Rattle.std.specs.Prelude.{true, false, ◌&&◌, nat_lt, IsTrue, Option, Some, None}
+use Rattle.std.specs.Prelude.{option_and_then, position, codes, ⊤}
+use Rattle.std.specs.List.{IsDistinct, AllZip, flat_map}
+use Rattle.serde_json.specs.Data.{Data, string, object, Members}
+use Rattle.am_universe.specs.Text.{same_text}
+use Rattle.am_labels.specs.declared.limits.TheConstants.{MAX_MATCHERS}
+use Rattle.am_labels.specs.Matcher.{Condition}
+use Rattle.am_labels.specs.MatcherRefusals.{have_valid_patterns}
+use Rattle.am_labels.specs.declared.op.Op.{Op}
+use Rattle.am_labels.specs.declared.op.Op.TheVariants.{Equal, Matches}
+use Rattle.am_list_files.specs.NamedText.{SaysNamedText}
+use Rattle.am_list_files.specs.MatcherTexts.{SaysMatcherText}
+use Rattle.am_config.specs.declared.limits.TheConstants.{MAX_RECEIVERS, MAX_ROUTES, MAX_LEVELS}
+use Rattle.am_config.specs.declared.limits.TheConstants.{MAX_RULES, MAX_EQUAL_NAMES}
+use Rattle.am_json.specs.Json.{FileSays, field, items_of, member_list, SaysBooleanOr, HasOnlyFields}
+use Rattle.am_json.specs.OptionalItems.{HasItems}
+
+-- ---- Configurations.
+
+-- What a route says of itself: the position of its receiver, its matchers, and whether later
+-- siblings are tried after it. (Reference, "<route>".)
+pub record RouteSettings : Type 0 where
+  pub receiver : ℕ
+  pub matchers : List Condition
+  pub continues : Bool
+
+-- A tree of routes.
+mutual
+  -- a route: what it says of itself, and its children
+  pub data RouteTree : Type 0 where
+    route : RouteSettings → Routes → RouteTree
+
+  -- the children of a route, in order
+  pub data Routes : Type 0 where
+    no_routes : Routes
+    next_route : RouteTree → Routes → Routes
+
+-- An inhibition rule: the matchers of the alerts that inhibit, those of the alerts that are
+-- inhibited, and the names of the labels that have to have the same value in both. (Reference,
+-- "<inhibit_rule>".)
+pub record Rule : Type 0 where
+  pub source : List Condition
+  pub target : List Condition
+  pub equal : List (List ℕ)
+
+-- A configuration: the names of the receivers, the top-level route, and the inhibition rules.
+-- (Reference, "File layout and global settings".)
+pub record Configuration : Type 0 where
+  pub receivers : List (List ℕ)
+  pub root : RouteTree
+  pub rules : List Rule
+
+-- A list of routes as the children of one.
+abbrev pub routes_of : List RouteTree → Routes
+routes_of [] = no_routes
+routes_of (t ∷ ts) = next_route t (routes_of ts)
+
+-- The parts of a route: what it says of itself, which is its matchers, the position of its receiver
+-- and whether later siblings are tried after it; and its children.
+abbrev pub settings_of : RouteTree → RouteSettings
+settings_of (route settings children) = settings
+
+abbrev pub matchers_of : RouteTree → List Condition
+matchers_of t = (settings_of t).matchers
+
+abbrev pub receiver_of : RouteTree → ℕ
+receiver_of t = (settings_of t).receiver
+
+abbrev pub continues_of : RouteTree → Bool
+continues_of t = (settings_of t).continues
+
+abbrev pub children_of : RouteTree → Routes
+children_of (route settings children) = children
+
+-- How many routes there are.
+abbrev mutual
+  pub route_count : RouteTree → ℕ
+  route_count (route settings children) = 1 + routes_count children
+
+  pub routes_count : Routes → ℕ
+  routes_count no_routes = 0
+  routes_count (next_route t ts) = route_count t + routes_count ts
+
+-- In how many levels they lie, the route itself in the first.
+abbrev mutual
+  pub route_levels : RouteTree → ℕ
+  route_levels (route settings children) = 1 + routes_levels children
+
+  pub routes_levels : Routes → ℕ
+  routes_levels no_routes = 0
+  routes_levels (next_route t ts) = max (route_levels t) (routes_levels ts)
+
+-- Each receiver's position is below this number.
+abbrev mutual
+  pub has_receivers_below : ℕ → RouteTree → Bool
+  has_receivers_below count (route settings children) =
+      nat_lt settings.receiver count && have_receivers_below count children
+
+  pub have_receivers_below : ℕ → Routes → Bool
+  have_receivers_below count no_routes = true
+  have_receivers_below count (next_route t ts) =
+      has_receivers_below count t && have_receivers_below count ts
+
+-- What holds of every configuration that is read: each receiver is declared, the top-level route
+-- has no matchers, and there are at most `MAX_ROUTES` routes in at most `MAX_LEVELS` levels.
+-- Source: Alertmanager configuration reference 0.25, "<route>": the top-level route has no
+-- configured matchers. Own choice: the limits.
+-- Example: no configuration has 1,025 routes, or a route in a 33rd level, where the top-level route
+-- is the first.
+pub record IsConfig (c : Configuration) : Type 0 where
+  pub receivers_declared : IsTrue (has_receivers_below (length c.receivers) c.root)
+  pub root_unmatched : length (matchers_of c.root) ≡ 0
+  pub routes_within_limit : route_count c.root ≤ MAX_ROUTES
+  pub levels_within_limit : route_levels c.root ≤ MAX_LEVELS
+
+-- The fields that a route may have. How alerts are grouped, and when they are sent, is not read.
+abbrev pub route_fields : List (List ℕ)
+route_fields =
+    codes "receiver" ∷ codes "matchers" ∷ codes "match" ∷ codes "match_re" ∷ codes "continue"
+    ∷ codes "routes" ∷ codes "group_by" ∷ codes "group_wait" ∷ codes "group_interval"
+    ∷ codes "repeat_interval" ∷ codes "mute_time_intervals" ∷ codes "active_time_intervals" ∷ []
+
+-- The names of three fields with matchers: an array of texts, and two objects of names and texts,
+-- those of the first for `=` and those of the second for `=~`.
+pub record MatcherFields : Type 0 where
+  pub texts : List ℕ
+  pub equalities : List ℕ
+  pub patterns : List ℕ
+
+-- Those of a route. (Reference, "<route>", where the last two are deprecated.)
+abbrev pub route_matcher_fields : MatcherFields
+route_matcher_fields =
+    record { texts = codes "matchers"; equalities = codes "match"; patterns = codes "match_re" }
+
+-- The fields that an inhibition rule may have. Those with matchers are as the fields of a route:
+-- three of the source side, and three of the target side. (Reference, "<inhibit_rule>", where
+-- `source_match` and the like are deprecated. Own choice: `name`, which later versions have, may
+-- stand and is not read.)
+abbrev pub rule_fields : List (List ℕ)
+rule_fields =
+    codes "name" ∷ codes "source_matchers" ∷ codes "source_match" ∷ codes "source_match_re"
+    ∷ codes "target_matchers" ∷ codes "target_match" ∷ codes "target_match_re" ∷ codes "equal" ∷ []
+
+abbrev pub source_matcher_fields : MatcherFields
+source_matcher_fields = record {
+  texts = codes "source_matchers";
+  equalities = codes "source_match";
+  patterns = codes "source_match_re";
+}
+
+abbrev pub target_matcher_fields : MatcherFields
+target_matcher_fields = record {
+  texts = codes "target_matchers";
+  equalities = codes "target_match";
+  patterns = codes "target_match_re";
+}
+
+-- ---- Which value says which configuration.
+
+-- An object says its `name`, a text that is not empty. (Reference, "<receiver>".)
+abbrev pub SaysName : Data → List ℕ → Type 0
+SaysName d name =
+    (members : Members) × (d ≡ object members) × (field (codes "name") d ≡ Some (string name))
+    × (name ≢ [])
+
+-- The receiver of a route, by its position among the declared names: that of the name in
+-- `receiver`, or, where that is absent or the empty text, the one of the parent route.
+-- Source: Alertmanager configuration reference 0.25, "<route>": parameters are inherited from the
+-- parent if not set. Own choice: the empty text is as if it were not set.
+-- Example: below a route with the receiver `a`, `{}` and `{"receiver": ""}` have `a`, and
+-- `{"receiver": "b"}` has `b` if that is declared, and no receiver if it is not.
+pub record NamesReceiver (names : List (List ℕ)) (d : Data) (receiver : ℕ) : Type 0 where
+  pub name : List ℕ
+  pub named : field (codes "receiver") d ≡ Some (string name)
+  pub some : name ≢ []
+  pub declared : position (λ other. same_text other name) names ≡ Some receiver
+
+pub record InheritsReceiver (parent : Option ℕ) (d : Data) (receiver : ℕ) : Type 0 where
+  pub unnamed : (field (codes "receiver") d ≡ None)
+      ⊎ (field (codes "receiver") d ≡ Some (string []))
+  pub inherited : parent ≡ Some receiver
+
+abbrev pub SaysReceiver : List (List ℕ) → Option ℕ → Data → ℕ → Type 0
+SaysReceiver names parent d receiver =
+    NamesReceiver names d receiver ⊎ InheritsReceiver parent d receiver
+
+-- A member of an object says a matcher with this operator.
+abbrev pub SaysMatcherPair : Op → List ℕ × Data → Condition → Type 0
+SaysMatcherPair op pair m = SaysNamedText pair m.name m.value × (m.op ≡ op)
+
+-- A field has an object whose members say matchers; where the field is absent, there are none.
+abbrev pub SaysPairs : Op → List ℕ → Data → List Condition → Type 0
+SaysPairs op key d matchers =
+    ((field key d ≡ None) × (matchers ≡ []))
+    ⊎ ((members : Members) × (field key d ≡ Some (object members))
+    × AllZip (SaysMatcherPair op) (member_list members) matchers)
+
+-- The matchers of three fields, one behind the other: those of the texts, then the pairs for `=`,
+-- then those for `=~`, whose texts are patterns. They are at most 64, and each pattern is sound.
+-- Source: Alertmanager configuration reference 0.25, "<route>": `matchers`, `match` and `match_re`,
+-- and "<inhibit_rule>", where they are called `source_matchers`, `target_matchers` and so on. Own
+-- choice: their order, their number, and which patterns are sound.
+-- Example: `{"match_re": {"e": "f|g"}, "match": {"c": "d"}, "matchers": ["a!=b"]}` has the matchers
+-- `a!="b"`, `c="d"` and `e=~"f|g"`, in this order.
+pub record SaysMatchers (fields : MatcherFields) (d : Data) (matchers : List Condition)
+    : Type 0 where
+  pub items : List Data
+  pub is_array : HasItems fields.texts d items
+  pub lists : List (List Condition)
+  pub texts : AllZip SaysMatcherText items lists
+  pub from_match : List Condition
+  pub match : SaysPairs Equal fields.equalities d from_match
+  pub from_match_re : List Condition
+  pub match_re : SaysPairs Matches fields.patterns d from_match_re
+  pub all : matchers ≡ flat_map (λ ms. ms) lists ++ (from_match ++ from_match_re)
+  pub few : length matchers ≤ MAX_MATCHERS
+  pub valid_patterns : IsTrue (have_valid_patterns matchers)
+
+-- Whether later siblings of a route are tried after it: what `continue` says, and `false` where it
+-- is absent.
+-- Source: Alertmanager configuration reference 0.25, "<route>": `continue`, whose default is false.
+-- Example: `{"continue": true}` says `true`, `{}` says `false`, and `{"continue": "true"}` says
+-- neither.
+abbrev pub SaysContinue : Data → Bool → Type 0
+SaysContinue d continues = SaysBooleanOr false (codes "continue") d continues
+
+-- An object with the fields of a route alone says a route, field by field, and the items of its
+-- `routes` say its children. The receiver is handed down to them.
+-- Source: Alertmanager configuration reference 0.25, "<route>". Own choice: how alerts are grouped,
+-- and when they are sent, is not read.
+-- Example: where the receivers are `a` and `b`,
+-- `{"receiver": "a", "routes": [{"receiver": "b"}, {}]}` says a route with the receiver `a` and two
+-- children: the first has `b`, and the second has `a`.
+pub record SaysRouteFields (names : List (List ℕ)) (parent : Option ℕ) (d : Data)
+    (settings : RouteSettings) (SaysChildren : List Data → Type 0) : Type 0 where
+  pub only : HasOnlyFields route_fields d
+  pub receiver_is : SaysReceiver names parent d settings.receiver
+  pub matchers_are : SaysMatchers route_matcher_fields d settings.matchers
+  pub continues_is : SaysContinue d settings.continues
+  pub items : List Data
+  pub is_array : HasItems (codes "routes") d items
+  pub children : SaysChildren items
+
+abbrev mutual
+  pub SaysRoute : List (List ℕ) → Option ℕ → Data → RouteTree → Type 0
+  SaysRoute names parent d (route settings children) =
+      SaysRouteFields names parent d settings
+      (λ items. SaysRoutes names settings.receiver items children)
+
+  pub SaysRoutes : List (List ℕ) → ℕ → List Data → Routes → Type 0
+  SaysRoutes names receiver [] no_routes = ⊤
+  SaysRoutes names receiver (d ∷ ds) no_routes = ⊥
+  SaysRoutes names receiver [] (next_route t ts) = ⊥
+  SaysRoutes names receiver (d ∷ ds) (next_route t ts) =
+      SaysRoute names (Some receiver) d t × SaysRoutes names receiver ds ts
+
+-- A value in `equal` says the name of a label: a text that is not empty.
+-- Source: Alertmanager configuration reference 0.25, "<inhibit_rule>": `equal`. Own choice: any
+-- text but the empty one is a name, and a name may stand twice.
+-- Example: `"cluster"` says the name `cluster`, and `""` and `1` say none.
+abbrev pub SaysEqualName : Data → List ℕ → Type 0
+SaysEqualName d name = (d ≡ string name) × (name ≢ [])
+
+-- An object with the fields of an inhibition rule alone says a rule, field by field. A side without
+-- matchers matches every alert.
+-- Source: Alertmanager configuration reference 0.25, "<inhibit_rule>". Own choice: the limits; of
+-- the fields the name is not read, and any that the form does not list are refused.
+-- Example: `{"source_match": {"a": "b"}, "target_matchers": ["c=d"], "equal": ["e"]}` says a rule
+-- with the source matcher `a="b"`, the target matcher `c="d"` and the label `e`. `{}` says a rule
+-- without matchers and labels: both its sides match every alert, so by it none is inhibited.
+pub record SaysRule (d : Data) (rule : Rule) : Type 0 where
+  pub only : HasOnlyFields rule_fields d
+  pub source : SaysMatchers source_matcher_fields d rule.source
+  pub target : SaysMatchers target_matcher_fields d rule.target
+  pub items : List Data
+  pub is_array : HasItems (codes "equal") d items
+  pub few : length items ≤ MAX_EQUAL_NAMES
+  pub equal : AllZip SaysEqualName items rule.equal
+
+-- An object says a configuration: receivers of different names, a top-level route without matchers,
+-- and inhibition rules, of which there may be none. No other field of the object is read.
+-- Source: Alertmanager configuration reference 0.25, "File layout and global settings", "<route>",
+-- "<inhibit_rule>" and "<receiver>". Own choice: the limits.
+-- Example: `{"receivers": [{"name": "a"}], "route": {"receiver": "a"}}` says one receiver and one
+-- route, which has it. With `"matchers": ["x=y"]` in that route the object says no configuration.
+pub record SaysConfig (d : Data) (c : Configuration) : Type 0 where
+  pub items : List Data
+  pub is_array : option_and_then items_of (field (codes "receivers") d) ≡ Some items
+  pub names : AllZip SaysName items c.receivers
+  pub few : length c.receivers ≤ MAX_RECEIVERS
+  pub distinct : IsDistinct same_text c.receivers
+  pub root : Data
+  pub has_root : field (codes "route") d ≡ Some root
+  pub says_root : SaysRoute c.receivers None root c.root
+  pub unmatched : matchers_of c.root ≡ []
+  pub few_routes : route_count c.root ≤ MAX_ROUTES
+  pub few_levels : route_levels c.root ≤ MAX_LEVELS
+  pub rule_items : List Data
+  pub is_rule_array : HasItems (codes "inhibit_rules") d rule_items
+  pub few_rules : length rule_items ≤ MAX_RULES
+  pub rules : AllZip SaysRule rule_items c.rules
+
+-- The bytes of a file, at most `MAX_FILE_BYTES`, say the configuration that their JSON value says.
+abbrev pub FileSaysConfig : List ℕ → Configuration → Type 0
+FileSaysConfig bytes c = FileSays SaysConfig bytes c

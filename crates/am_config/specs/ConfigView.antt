@@ -1,0 +1,29 @@
+-- The configuration that a `Config` stands for, and what is read of a route before its children.
+use Rattle.std.specs.Prelude.{map}
+use Rattle.serde_json.specs.View.{view}
+use Rattle.am_config.specs.declared.config.Config.{Config}
+use Rattle.am_config.specs.declared.config_file as declared
+use Rattle.am_config.specs.declared.route_matchers as keys
+use Rattle.am_config.specs.ConfigFile.{Configuration, MatcherFields}
+use Rattle.am_config.specs.ConfigReading.{RouteFields}
+use Rattle.am_config.specs.RouteView.{route_view, names_of}
+
+-- The configuration that a `Config` stands for.
+abbrev pub config_view : Config → Configuration
+config_view c = record {
+  receivers = names_of c.receivers.items;
+  root = route_view c.root;
+  rules = c.rules.items;
+}
+
+-- What is read of a route before its children, with their JSON values.
+abbrev pub fields_view : declared.RouteFields.RouteFields → RouteFields
+fields_view f = record {
+  settings = record { receiver = f.receiver; matchers = f.matchers; continues = f.continues };
+  items = map view f.items.now;
+}
+
+-- The names of three fields with matchers.
+abbrev pub matcher_fields_view : keys.MatcherFields.MatcherFields → MatcherFields
+matcher_fields_view f =
+    record { texts = f.texts.now; equalities = f.equalities.now; patterns = f.patterns.now }

@@ -1,0 +1,10 @@
+pub mod ConfigFile
+pub mod SmallestConfig
+pub mod RuleExample
+pub mod ConfigReading
+pub mod RouteView
+pub mod ConfigView
+pub mod Path
+pub mod PathView
+pub mod RoutePaths
+pub mod ConfigFaults

@@ -1,0 +1,90 @@
+//! Configurations, as they are kept in memory.
+
+// The module of words stands on this type, so the field's own words come from where they stand.
+ghost use Rattle.std.specs.Prelude.{◌≡◌, position};
+ghost use Rattle.am_universe.specs.Text.{same_text};
+ghost use Rattle.am_config.specs.ConfigFile.{IsConfig};
+ghost use Rattle.am_config.specs.RouteView.{route_view, names_of};
+
+use crate::path::Path;
+use crate::route::Route;
+use crate::rule::Rule;
+
+/// A configuration: the receivers, the tree of routes, and the inhibition rules.
+#[derive(Drop)]
+pub struct Config {
+    pub(crate) receivers: Vec<String>,
+    pub(crate) root: Route,
+    pub(crate) rules: Vec<Rule>,
+    pub(crate) ghost sound: { IsConfig (record {
+      receivers = names_of receivers.items;
+      root = route_view root;
+      rules = rules.items;
+    }) },
+}
+
+impl Config {
+    ghost use Rattle.std.specs.Prelude.{◌<◌, Some, None, IfSome, IfNone, length, slice_get};
+    ghost use Rattle.am_config.specs.ConfigFile.{IsConfig};
+    ghost use Rattle.am_config.specs.ConfigView.{config_view};
+    ghost use Rattle.am_config.specs.RouteView.{route_view};
+    ghost use Rattle.am_config.specs.Path.{route_at};
+
+    /// How many receivers are declared.
+    pub fn receivers(&self) -> usize
+        ensures count { result ≡ length (config_view self.now).receivers }
+    {
+        self.receivers.len()
+    }
+
+    /// The name of the receiver at `i`, in declared order.
+    pub fn receiver_name(&self, i: usize) -> &str
+        requires receiver { i < length (config_view self.now).receivers }
+        ensures name { slice_get (config_view self.now).receivers i ≡ Some result.now }
+    {
+        self.receivers[i].as_str()
+    }
+
+    /// The top-level route. It has no matchers, and is the first of all routes and of all levels.
+    pub fn root(&self) -> &Route
+        ensures root { route_view result.now ≡ (config_view self.now).root }
+        ensures sound { IsConfig (config_view self.now) }
+    {
+        &self.root
+    }
+
+    /// The inhibition rules, in the order of the file.
+    pub fn rules(&self) -> &[Rule]
+        ensures rules { result.now ≡ (config_view self.now).rules }
+    {
+        &self.rules
+    }
+
+    /// The position of the receiver with this name, if it is declared.
+    pub fn receiver_position(&self, name: &str) -> Option<usize>
+        ensures position { result ≡ position (λ other. same_text other name.now)
+            (config_view self.now).receivers }
+    {
+        position(&self.receivers, name)
+    }
+
+    /// The route at a path, if there is one.
+    pub fn at(&self, path: &Path) -> Option<&Route>
+        ensures found { IfSome result (λ route.
+            route_at (config_view self.now).root path.now ≡ Some (route_view route.now)) }
+        ensures none { IfNone result (route_at (config_view self.now).root path.now ≡ None) }
+    {
+        let mut route = &self.root;
+        for i in 0..path.len() {
+            route = route.routes().get(usize::from(path.get(i)))?;
+        }
+        Some(route)
+    }
+}
+
+/// The position of a name.
+pub(crate) fn position(names: &[String], name: &str) -> Option<usize>
+    ensures { result ≡ position (λ other. same_text other name.now) (names_of names.now) }
+{
+    names.iter().position(|other| other.as_str() == name)
+}

@@ -1,0 +1,508 @@
+//! Reading the configuration file.
+
+ghost use Rattle.std.specs.Prelude.{◌≡◌, ◌≤◌, ◌+◌, ℕ, List, [], map, None, IfOk, IfErr};
+ghost use Rattle.std.specs.Prelude.{string_bytes, option_map, false};
+ghost use Rattle.serde_json.specs.Data.{Data};
+ghost use Rattle.serde_json.specs.View.{view};
+ghost use Rattle.am_universe.specs.declared.place.Place.TheVariants as places;
+ghost use Rattle.am_json.specs.Reading.{Gives, IsRefusalAt, Reading, check_only_fields, read_items};
+ghost use Rattle.am_json.specs.OptionalItems.{read_counted};
+ghost use Rattle.am_config.specs.ConfigFile.{FileSaysConfig, route_fields, route_matcher_fields};
+ghost use Rattle.am_config.specs.ConfigFile.{route_count, routes_count, routes_of};
+ghost use Rattle.am_config.specs.ConfigFile.{source_matcher_fields, target_matcher_fields};
+ghost use Rattle.am_config.specs.ConfigFile.{rule_fields};
+ghost use Rattle.am_config.specs.RouteView.{route_view, names_of};
+ghost use Rattle.am_config.specs.ConfigView.{config_view, fields_view};
+ghost use Rattle.am_config.specs.ConfigReading.{read_next_receiver, read_receiver_names};
+ghost use Rattle.am_config.specs.ConfigReading.{read_receivers, parent_receiver, receiver_position};
+ghost use Rattle.am_config.specs.ConfigReading.{effective_receiver, read_receiver, read_matchers};
+ghost use Rattle.am_config.specs.ConfigReading.{read_route_fields, read_route, read_equal_name};
+ghost use Rattle.am_config.specs.ConfigReading.{read_equal, read_rule, read_rules, read_next_child};
+ghost use Rattle.am_config.specs.ConfigReading.{read_config, read_config_file};
+ghost use Rattle.am_config.specs.ConfigFaults.{receiver_name_fault, ConfigFileRefusedFor};
+
+use crate::config::{Config, position};
+use crate::limits::{MAX_EQUAL_NAMES, MAX_LEVELS, MAX_RECEIVERS, MAX_ROUTES, MAX_RULES};
+use crate::route::Route;
+use crate::route_matchers::{MatcherFields, read_matchers};
+use crate::rule::Rule;
+use am_json::{
+    ReadError, as_object, as_text, check_count, check_only_fields, field, read_boolean_or,
+    read_each_item, read_json, read_optional_items, refuse_for, required_field, required_items,
+    required_text, within_field, within_item,
+};
+use am_labels::Matchers;
+use am_list_files::label_name_fault;
+use am_universe::{Fault, Kind, Place};
+use serde_json::Value;
+use std::alloc::Global;
+
+/// The fields of a route. How alerts are grouped, and when they are sent, is not read.
+const ROUTE_FIELDS: [&str; 12] = [
+    "receiver",
+    "matchers",
+    "match",
+    "match_re",
+    "continue",
+    "routes",
+    "group_by",
+    "group_wait",
+    "group_interval",
+    "repeat_interval",
+    "mute_time_intervals",
+    "active_time_intervals",
+];
+
+/// The configuration that the bytes of a configuration file say.
+///
+/// The first fault is the one answered, at the place `Config` and at the pointer of the part at
+/// fault. A field that is `null` counts as absent.
+/// - `Limit`: more than `MAX_FILE_BYTES` bytes, [`MAX_RECEIVERS`] receivers, [`MAX_ROUTES`]
+///   routes, [`MAX_LEVELS`] levels of routes, `MAX_MATCHERS` matchers of a route or of one side of
+///   a rule, [`MAX_RULES`] inhibition rules or [`MAX_EQUAL_NAMES`] names in `equal`;
+/// - `NotJson`: the bytes have no JSON value;
+/// - `Shape`: a value is not of its kind, or a required field is absent;
+/// - `UnknownField`: a route or an inhibition rule has a field that the form does not have;
+/// - `Empty`: the name of a receiver is the empty text, or one in `equal`, or in `match`,
+///   `match_re` and the like;
+/// - `Duplicate`: a receiver has the name of an earlier one;
+/// - `UndefinedReceiver`: a route names a receiver that is not declared;
+/// - `RootMatchers`: the top-level route has matchers;
+/// - `BadMatcher`: a text in `matchers` or the like spells no list of matchers;
+/// - `PatternProfile`: a pattern is outside the profile;
+/// - `Pattern`: the engine refuses a pattern of the profile, as it does where its grammar does not
+///   read it, and may do where it is too large. Such a refusal may come before the first fault that
+///   the file has by itself, and not after it.
+///
+/// `Memory`, at the place `Memory` and the empty pointer, comes wherever memory ran out.
+///
+/// The JSON value of the whole file is in memory until the configuration is answered. Each name of
+/// a receiver is compared with those before it, and each that a route has with those declared.
+pub fn read_config(alloc: Global, bytes: &[u8]) -> Result<Config, Fault>
+    ensures says { IfOk result (λ c. FileSaysConfig bytes.now (config_view c)) }
+    ensures first { IfErr result (IsRefusalAt places.Config (ConfigFileRefusedFor bytes.now)) }
+{
+    match read_config_file(alloc, bytes) {
+        Ok(config) => Ok(config),
+        Err(error) => Err(error.at(alloc, Place::Config)),
+    }
+}
+
+#[tactic(auto, using(am_json::proofs::Readings::steps), unfolding(crate::specs::ConfigReading::read_config_file))]
+fn read_config_file(alloc: Global, bytes: &[u8]) -> Result<Config, ReadError>
+    ensures { Gives config_view result (read_config_file bytes.now) }
+{
+    let value = read_json(alloc, bytes)?;
+    read_config_object(alloc, &value)
+}
+
+#[tactic(auto, using(am_json::proofs::Readings::steps), unfolding(crate::specs::ConfigReading::read_config))]
+fn read_config_object(alloc: Global, value: &Value) -> Result<Config, ReadError>
+    ensures { Gives config_view result (read_config (view value.now)) }
+{
+    as_object(alloc, value)?;
+    let receivers = read_receivers(alloc, value)?;
+    let root = required_field(alloc, value, "route")?;
+    let root = within_field(alloc, "route", read_root(alloc, &receivers, root))?;
+    let rules = read_rules(alloc, value)?;
+    Ok(Config {
+        receivers,
+        root,
+        rules,
+    })
+}
+
+// ---- The receivers.
+
+#[tactic(auto, using(am_json::proofs::Readings::steps), unfolding(crate::specs::ConfigReading::read_receivers))]
+fn read_receivers(alloc: Global, value: &Value) -> Result<Vec<String>, ReadError>
+    ensures { Gives (λ names. names_of names.items) result (read_receivers (view value.now)) }
+{
+    let items = required_items(alloc, value, "receivers")?;
+    within_field(alloc, "receivers", read_receiver_names(alloc, items))
+}
+
+#[tactic(auto, unfolding(crate::specs::ConfigReading::read_receiver_names))]
+fn read_receiver_names(alloc: Global, items: &[Value]) -> Result<Vec<String>, ReadError>
+    ensures { Gives (λ names. names_of names.items) result
+        (read_receiver_names (map view items.now)) }
+{
+    check_count(alloc, MAX_RECEIVERS, items.len())?;
+    read_each_receiver(alloc, items)
+}
+
+fn read_each_receiver(alloc: Global, items: &[Value]) -> Result<Vec<String>, ReadError>
+    ensures { Gives (λ names. names_of names.items) result
+        (read_items read_next_receiver [] (map view items.now)) }
+{
+    read_each_name(alloc, items, |before, item| {
+        read_next_receiver(alloc, before, item)
+    })
+}
+
+/// The names that `read` gives of the items, each behind those before it. The first refusal is the
+/// one answered, at its item.
+fn read_each_name<F: Fn(&[String], &Value) -> Result<String, ReadError>>(
+    alloc: Global,
+    items: &[Value],
+    read: F,
+) -> Result<Vec<String>, ReadError>
+    requires { F.IsAlwaysCallable read }
+    ensures reading { (reading : List (List ℕ) → Data → Reading (List ℕ))
+        → ((before : _) (value : _) (found : _) → F.post read before value found
+        → Gives string_bytes found (reading (names_of before.now) (view value.now)))
+        → Gives (λ names. names_of names.items) result
+        (read_items reading [] (map view items.now)) }
+{
+    let mut names = Vec::new(alloc);
+    for item in items {
+        let found = read(names.as_slice(), item);
+        let name = within_item(alloc, names.len(), found)?;
+        names.push(name)?;
+    }
+    Ok(names)
+}
+
+/// The name of a receiver behind others.
+#[tactic(auto, using(am_json::proofs::Readings::steps), unfolding(crate::specs::ConfigReading::read_next_receiver))]
+fn read_next_receiver(alloc: Global, before: &[String], value: &Value) -> Result<String, ReadError>
+    ensures { Gives string_bytes result
+        (read_next_receiver (names_of before.now) (view value.now)) }
+{
+    as_object(alloc, value)?;
+    let name = required_text(alloc, value, "name")?;
+    within_field(
+        alloc,
+        "name",
+        refuse_for(alloc, receiver_name_fault(before, name)),
+    )?;
+    Ok(String::from_str(alloc, name)?)
+}
+
+fn receiver_name_fault(before: &[String], name: &str) -> Option<Kind>
+    ensures { result ≡ receiver_name_fault (names_of before.now) name.now }
+{
+    if name.is_empty() {
+        return Some(Kind::Empty);
+    }
+    if position(before, name).is_some() {
+        return Some(Kind::Duplicate);
+    }
+    None
+}
+
+// ---- The routes.
+
+fn read_root(alloc: Global, names: &[String], value: &Value) -> Result<Route, ReadError>
+    ensures { Gives route_view result
+        (read_route (names_of names.now) MAX_LEVELS None 0 (view value.now)) }
+{
+    let (root, _) = read_route(alloc, names, MAX_LEVELS, None, 0, value)?;
+    Ok(root)
+}
+
+/// The names of the fields of a route that have its matchers.
+const MATCHER_FIELDS: MatcherFields<'static> = MatcherFields {
+    texts: "matchers",
+    equalities: "match",
+    patterns: "match_re",
+};
+
+/// What is read of a route before its children: what it says of itself, and their values.
+#[derive(Drop)]
+struct RouteFields<'v> {
+    receiver: usize,
+    matchers: Matchers,
+    continues: bool,
+    items: &'v [Value],
+}
+
+/// The fields of a route with so many others before it in preorder.
+#[tactic(auto, using(am_json::proofs::Readings::steps), unfolding(crate::specs::ConfigReading::read_route_fields))]
+fn read_route_fields<'v>(
+    alloc: Global,
+    names: &[String],
+    parent: Option<usize>,
+    before: usize,
+    value: &'v Value,
+) -> Result<RouteFields<'v>, ReadError>
+    requires { before ≤ MAX_ROUTES }
+    ensures { Gives fields_view result
+        (read_route_fields (names_of names.now) parent before (view value.now)) }
+{
+    check_count(alloc, MAX_ROUTES, before + 1)?;
+    check_route_fields(alloc, value)?;
+    let receiver = read_receiver(alloc, names, parent, value)?;
+    let matchers = read_route_matchers(alloc, parent.is_none(), value)?;
+    let continues = read_boolean_or(alloc, value, "continue", false)?;
+    let items = read_optional_items(alloc, value, "routes")?;
+    Ok(RouteFields {
+        receiver,
+        matchers,
+        continues,
+        items,
+    })
+}
+
+/// A route has no other fields than those of the form.
+fn check_route_fields(alloc: Global, value: &Value) -> Result<(), ReadError>
+    ensures { Gives (λ _. tt) result (check_only_fields route_fields (view value.now)) }
+{
+    check_only_fields(alloc, value, &ROUTE_FIELDS)
+}
+
+fn read_route_matchers(alloc: Global, is_root: bool, value: &Value) -> Result<Matchers, ReadError>
+    ensures { Gives (λ ms. ms) result
+        (read_matchers route_matcher_fields is_root (view value.now)) }
+{
+    read_matchers(alloc, MATCHER_FIELDS, is_root, value)
+}
+
+/// A route with the levels that are left, its own included, the receiver of its parent, if it has
+/// one, and the number of routes that stand before it in preorder. With it comes the number before
+/// the one that follows it.
+#[cycle(routes)]
+fn read_route(
+    alloc: Global,
+    names: &[String],
+    levels: usize,
+    parent: Option<usize>,
+    before: usize,
+    value: &Value,
+) -> Result<(Route, usize), ReadError>
+    requires { before ≤ MAX_ROUTES }
+    ensures reads { Gives (λ r. route_view r.0) result
+        (read_route (names_of names.now) levels parent before (view value.now)) }
+    ensures number { IfOk result (λ r.
+        (r.1 ≡ before + route_count (route_view r.0)) × (r.1 ≤ MAX_ROUTES)) }
+{
+    if levels == 0 {
+        return Err(ReadError::refused(alloc, Kind::Limit));
+    }
+    let fields = read_route_fields(alloc, names, parent, before, value)?;
+    let (routes, after) = within_field(
+        alloc,
+        "routes",
+        read_routes(
+            alloc,
+            names,
+            levels - 1,
+            fields.receiver,
+            before + 1,
+            fields.items,
+        ),
+    )?;
+    let route = Route {
+        receiver: fields.receiver,
+        matchers: fields.matchers,
+        continues: fields.continues,
+        routes,
+    };
+    Ok((route, after))
+}
+
+/// The children of a route with this receiver, and the number of routes before what follows them.
+#[cycle(routes)]
+fn read_routes(
+    alloc: Global,
+    names: &[String],
+    levels: usize,
+    receiver: usize,
+    before: usize,
+    items: &[Value],
+) -> Result<(Vec<Route>, usize), ReadError>
+    requires { before ≤ MAX_ROUTES }
+    ensures reads { Gives (λ rs. map route_view rs.0.items) result
+        (read_items (read_next_child (names_of names.now) levels receiver before) []
+        (map view items.now)) }
+    ensures number { IfOk result (λ rs.
+        (rs.1 ≡ before + routes_count (routes_of (map route_view rs.0.items)))
+        × (rs.1 ≤ MAX_ROUTES)) }
+{
+    let mut routes = Vec::new(alloc);
+    let mut after = before;
+    for item in items {
+        let found = read_route(alloc, names, levels, Some(receiver), after, item);
+        let (route, next) = within_item(alloc, routes.len(), found)?;
+        routes.push(route)?;
+        after = next;
+    }
+    Ok((routes, after))
+}
+
+/// The receiver of a route: its own, or that of its parent where it names none.
+#[tactic(auto, using(am_json::proofs::Readings::within_gives), unfolding(crate::specs::ConfigReading::read_receiver))]
+fn read_receiver(
+    alloc: Global,
+    names: &[String],
+    parent: Option<usize>,
+    value: &Value,
+) -> Result<usize, ReadError>
+    ensures { Gives (λ r. r) result (read_receiver (names_of names.now) parent (view value.now)) }
+{
+    within_field(
+        alloc,
+        "receiver",
+        effective_receiver(alloc, names, parent, field(value, "receiver")),
+    )
+}
+
+fn effective_receiver(
+    alloc: Global,
+    names: &[String],
+    parent: Option<usize>,
+    found: Option<&Value>,
+) -> Result<usize, ReadError>
+    ensures { Gives (λ r. r) result
+        (effective_receiver (names_of names.now) parent
+        (option_map (λ v. view v.now) found.entry)) }
+{
+    let Some(found) = found else {
+        return parent_receiver(alloc, parent);
+    };
+    let name = as_text(alloc, found)?;
+    if name.is_empty() {
+        return parent_receiver(alloc, parent);
+    }
+    receiver_position(alloc, names, name)
+}
+
+fn parent_receiver(alloc: Global, parent: Option<usize>) -> Result<usize, ReadError>
+    ensures { Gives (λ r. r) result (parent_receiver parent) }
+{
+    match parent {
+        Some(receiver) => Ok(receiver),
+        None => Err(ReadError::refused(alloc, Kind::Shape)),
+    }
+}
+
+fn receiver_position(alloc: Global, names: &[String], name: &str) -> Result<usize, ReadError>
+    ensures { Gives (λ r. r) result (receiver_position (names_of names.now) name.now) }
+{
+    match position(names, name) {
+        Some(receiver) => Ok(receiver),
+        None => Err(ReadError::refused(alloc, Kind::UndefinedReceiver)),
+    }
+}
+
+// ---- The inhibition rules.
+
+/// The fields of an inhibition rule. Its name is not read.
+const RULE_FIELDS: [&str; 8] = [
+    "name",
+    "source_matchers",
+    "source_match",
+    "source_match_re",
+    "target_matchers",
+    "target_match",
+    "target_match_re",
+    "equal",
+];
+
+/// The names of the fields of a rule that have the matchers of its source side.
+const SOURCE_FIELDS: MatcherFields<'static> = MatcherFields {
+    texts: "source_matchers",
+    equalities: "source_match",
+    patterns: "source_match_re",
+};
+
+/// The names of those that have the matchers of its target side.
+const TARGET_FIELDS: MatcherFields<'static> = MatcherFields {
+    texts: "target_matchers",
+    equalities: "target_match",
+    patterns: "target_match_re",
+};
+
+#[tactic(auto, using(am_json::proofs::Readings::steps), unfolding(am_json::specs::OptionalItems::read_optional_array))]
+fn read_rules(alloc: Global, value: &Value) -> Result<Vec<Rule>, ReadError>
+    ensures { Gives (λ rules. rules.items) result (read_rules (view value.now)) }
+{
+    let items = read_optional_items(alloc, value, "inhibit_rules")?;
+    within_field(alloc, "inhibit_rules", read_rule_items(alloc, items))
+}
+
+#[tactic(auto, unfolding(am_json::specs::OptionalItems::read_counted))]
+fn read_rule_items(alloc: Global, items: &[Value]) -> Result<Vec<Rule>, ReadError>
+    ensures { Gives (λ rules. rules.items) result
+        (read_counted MAX_RULES read_rule (map view items.now)) }
+{
+    check_count(alloc, MAX_RULES, items.len())?;
+    read_each_rule(alloc, items)
+}
+
+fn read_each_rule(alloc: Global, items: &[Value]) -> Result<Vec<Rule>, ReadError>
+    ensures { Gives (λ rules. rules.items) result
+        (read_items (λ _ d. read_rule d) [] (map view items.now)) }
+{
+    read_each_item(alloc, items, |item| read_rule(alloc, item))
+}
+
+#[tactic(auto, using(am_json::proofs::Readings::steps), unfolding(crate::specs::ConfigReading::read_rule))]
+fn read_rule(alloc: Global, value: &Value) -> Result<Rule, ReadError>
+    ensures { Gives (λ rule. rule) result (read_rule (view value.now)) }
+{
+    check_rule_fields(alloc, value)?;
+    let source = read_source(alloc, value)?;
+    let target = read_target(alloc, value)?;
+    let equal = read_equal(alloc, value)?;
+    Ok(Rule {
+        source,
+        target,
+        equal,
+    })
+}
+
+/// A rule has no other fields than those of the form.
+fn check_rule_fields(alloc: Global, value: &Value) -> Result<(), ReadError>
+    ensures { Gives (λ _. tt) result (check_only_fields rule_fields (view value.now)) }
+{
+    check_only_fields(alloc, value, &RULE_FIELDS)
+}
+
+fn read_source(alloc: Global, value: &Value) -> Result<Matchers, ReadError>
+    ensures { Gives (λ ms. ms) result
+        (read_matchers source_matcher_fields false (view value.now)) }
+{
+    read_matchers(alloc, SOURCE_FIELDS, false, value)
+}
+
+fn read_target(alloc: Global, value: &Value) -> Result<Matchers, ReadError>
+    ensures { Gives (λ ms. ms) result
+        (read_matchers target_matcher_fields false (view value.now)) }
+{
+    read_matchers(alloc, TARGET_FIELDS, false, value)
+}
+
+#[tactic(auto, using(am_json::proofs::Readings::steps), unfolding(am_json::specs::OptionalItems::read_optional_array))]
+fn read_equal(alloc: Global, value: &Value) -> Result<Vec<String>, ReadError>
+    ensures { Gives (λ names. names_of names.items) result (read_equal (view value.now)) }
+{
+    let items = read_optional_items(alloc, value, "equal")?;
+    within_field(alloc, "equal", read_equal_names(alloc, items))
+}
+
+#[tactic(auto, unfolding(am_json::specs::OptionalItems::read_counted))]
+fn read_equal_names(alloc: Global, items: &[Value]) -> Result<Vec<String>, ReadError>
+    ensures { Gives (λ names. names_of names.items) result
+        (read_counted MAX_EQUAL_NAMES read_equal_name (map view items.now)) }
+{
+    check_count(alloc, MAX_EQUAL_NAMES, items.len())?;
+    read_each_equal_name(alloc, items)
+}
+
+fn read_each_equal_name(alloc: Global, items: &[Value]) -> Result<Vec<String>, ReadError>
+    ensures { Gives (λ names. names_of names.items) result
+        (read_items (λ _ d. read_equal_name d) [] (map view items.now)) }
+{
+    read_each_name(alloc, items, |_, item| read_equal_name(alloc, item))
+}
+
+/// The name of a label, which is not empty.
+#[tactic(auto, using(am_json::proofs::Readings::steps), unfolding(crate::specs::ConfigReading::read_equal_name))]
+fn read_equal_name(alloc: Global, value: &Value) -> Result<String, ReadError>
+    ensures { Gives string_bytes result (read_equal_name (view value.now)) }
+{
+    let name = as_text(alloc, value)?;
+    refuse_for(alloc, label_name_fault(name))?;
+    Ok(String::from_str(alloc, name)?)
+}

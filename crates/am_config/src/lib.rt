@@ -1,0 +1,32 @@
+//! The configuration file of the program, read from its bytes.
+//!
+//! [`read_config`] reads a configuration file, which is an Alertmanager configuration as JSON. It
+//! answers what the file says, or its first fault: why the file is refused and, by a JSON Pointer
+//! (RFC 6901), at which part. docs/FORMATS.md has the form of the file, and the order of its
+//! faults.
+#![tactic(auto)]
+
+// How much there may be.
+pub mod limits;
+
+// A configuration: its routes, the paths that lead to them, and its inhibition rules.
+mod config;
+mod path;
+mod route;
+mod routes;
+mod rule;
+
+pub use config::Config;
+pub use path::Path;
+pub use route::Route;
+pub use routes::RouteList;
+pub use rule::Rule;
+
+// The configuration file.
+mod config_file;
+mod route_matchers;
+
+pub use config_file::read_config;
+
+// What holds of the definitions by themselves.
+pub mod laws;

@@ -1,0 +1,200 @@
+//! Paths: which route of a configuration is meant.
+
+ghost use Rattle.std.specs.Prelude.{◌≡◌, ◌≢◌, ◌<◌, ◌≤◌, ◌⊎◌, ℕ, List, [], ◌∷◌, ◌++◌, length};
+ghost use Rattle.std.specs.Prelude.{slice_index, IfOk, IfErr, MatchOption};
+ghost use Rattle.std.specs.Str.Parse.{digits_value};
+ghost use Rattle.am_universe.specs.declared.kind.Kind.TheVariants as kinds;
+ghost use Rattle.am_universe.specs.Text.{same_text};
+ghost use Rattle.am_universe.specs.Sink.{Writes};
+ghost use Rattle.am_config.specs.Path.{path_text, step_text, numeral, IsPath, leads_through};
+
+use crate::limits::{MAX_CHILD_POSITION, MAX_PATH_STEPS};
+use am_universe::{Kind, Sink, put_all, put_str};
+use std::marker::Model;
+
+/// The way from the top-level route down to a route: the positions of children, at most
+/// [`MAX_PATH_STEPS`]. Positions count from 0.
+#[derive(Clone, Copy, Debug)]
+pub struct Path {
+    steps: [u16; MAX_PATH_STEPS],
+    len: usize,
+}
+
+impl Model for Path {
+    ghost use Rattle.std.specs.Prelude.{List, ℕ};
+    ghost use Rattle.am_config.specs.PathView.{view_of, IsStored, stored_form};
+
+    ghost Value = { List ℕ };
+
+    ghost view = { view_of };
+
+    ghost invariant = { IsStored };
+
+    ghost inverse = { stored_form };
+
+    ghost inverse_ok = { λ a h. h.1 };
+}
+
+impl Path {
+    /// The path of the top-level route.
+    pub fn root() -> Path
+        ensures steps { result ≡ [] }
+    {
+        Path {
+            steps: [0; MAX_PATH_STEPS],
+            len: 0,
+        }
+    }
+
+    /// The path of a child of this route.
+    pub fn child(&self, position: u16) -> Path
+        requires room { length self.now < MAX_PATH_STEPS }
+        ensures steps { result ≡ self.now ++ position ∷ [] }
+    {
+        let mut child = *self;
+        child.steps[child.len] = position;
+        child.len += 1;
+        child
+    }
+
+    /// How many positions there are, at most [`MAX_PATH_STEPS`].
+    pub fn len(&self) -> usize
+        ensures len { result ≡ length self.now }
+        ensures at_most { result ≤ MAX_PATH_STEPS }
+    {
+        self.len
+    }
+
+    /// The position at `i`.
+    pub fn get(&self, i: usize) -> u16
+        requires within { i < length self.now }
+        ensures position { result ≡ slice_index self.now i }
+    {
+        self.steps[..self.len][i]
+    }
+
+    /// The positions in a row.
+    pub fn steps(&self) -> &[u16]
+        ensures steps { result.now ≡ self.now }
+    {
+        &self.steps[..self.len]
+    }
+
+    /// The path with this text: `/` for the top-level route, else `/` and a position for each step,
+    /// in decimal and with no zero in front.
+    ///
+    /// `QuestionSyntax` where no path has this text. `UnknownRoute` where one has it that is
+    /// longer, or has a larger position, than that of any route of a configuration.
+    pub fn parse(text: &str) -> Result<Path, Kind>
+        ensures ok { IfOk result (λ path. (path_text path ≡ text.now) × IsPath path) }
+        ensures refused { IfErr result (λ kind.
+            ((kind ≡ kinds.QuestionSyntax) × ((path : List ℕ) → path_text path ≢ text.now))
+            ⊎ ((kind ≡ kinds.UnknownRoute) × (path : List ℕ) × (path_text path ≡ text.now)
+            × (IsPath path → ⊥))) }
+    {
+        if text == "/" {
+            return Ok(Path::root());
+        }
+        let Some(steps) = text.strip_prefix('/') else {
+            return Err(Kind::QuestionSyntax);
+        };
+        if !steps.split('/').all(is_numeral) {
+            return Err(Kind::QuestionSyntax);
+        }
+        parse_steps(steps).ok_or(Kind::UnknownRoute)
+    }
+
+    /// Whether this is the other path, or goes on from it.
+    pub fn leads_through(&self, other: &Path) -> bool
+        ensures leads { result ≡ leads_through other.now self.now }
+    {
+        self.steps[..self.len].starts_with(&other.steps[..other.len])
+    }
+
+    /// Writes the text of the path. The only `Err` is `Kind::Write`, after a part of that from its
+    /// front. No memory is taken.
+    pub fn write<W: Sink>(&self, out: &mut W) -> Result<(), Kind>
+        ensures written { Writes W.taken W.failures out.old out.new (path_text self.now) result }
+    {
+        if self.len == 0 {
+            return put_all(out, b"/");
+        }
+        for i in 0..self.len() {
+            write_step(self.get(i), out)?;
+        }
+        Ok(())
+    }
+}
+
+/// Whether the text is a number in decimal, with no zero in front.
+fn is_numeral(text: &str) -> bool
+    ensures { result ≡ same_text (numeral (digits_value 10 text.now)) text.now }
+{
+    let digits = text.as_bytes();
+    if digits.is_empty() || (digits[0] == b'0' && digits.len() > 1) {
+        return false;
+    }
+    digits.iter().all(|byte| byte.is_ascii_digit())
+}
+
+/// The number that the text is in decimal, if it is the position of a child.
+fn child_position(text: &str) -> Option<u16>
+    ensures { (n : ℕ) → numeral n ≡ text.now → MatchOption result (MAX_CHILD_POSITION < n)
+        (λ position. (position ≡ n) × (n ≤ MAX_CHILD_POSITION)) }
+{
+    match text.parse::<u16>() {
+        Ok(position) => {
+            if usize::from(position) <= MAX_CHILD_POSITION {
+                Some(position)
+            } else {
+                None
+            }
+        }
+        Err(_) => None,
+    }
+}
+
+/// The path of these positions, with a `/` between two, if there is such a path.
+fn parse_steps(text: &str) -> Option<Path>
+    ensures { (path : List ℕ) → 0 < length path → path_text path ≡ 47 ∷ text.now
+        → MatchOption result (IsPath path → ⊥) (λ read. (read ≡ path) × IsPath path) }
+{
+    let mut path = Path::root();
+    for part in text.split('/') {
+        let position = child_position(part)?;
+        if path.len() == MAX_PATH_STEPS {
+            return None;
+        }
+        path = path.child(position);
+    }
+    Some(path)
+}
+
+/// Writes a position on the way.
+fn write_step<W: Sink>(position: u16, out: &mut W) -> Result<(), Kind>
+    ensures written { Writes W.taken W.failures out.old out.new (step_text position) result }
+{
+    put_all(out, b"/")?;
+    put_str(out, itoa::Buffer::new().format(position))
+}
+
+// Two paths are the same where their positions are, one by one.
+impl PartialEq for Path {
+    ghost use Rattle.std.specs.Cmp.{partial_equiv_from_equiv};
+    ghost use Rattle.std.specs.Cmp.Lexicographic.{nat_list_eq_equiv};
+    ghost use Rattle.am_universe.specs.Text.{same_text};
+
+    ghost eq = { same_text };
+
+    ghost laws = { partial_equiv_from_equiv nat_list_eq_equiv };
+
+    fn eq(&self, other: &Path) -> bool {
+        self.steps[..self.len] == other.steps[..other.len]
+    }
+}
+
+impl Eq for Path {
+    ghost use Rattle.std.specs.Cmp.Lexicographic.{nat_list_eq_equiv};
+
+    ghost laws = { nat_list_eq_equiv };
+}

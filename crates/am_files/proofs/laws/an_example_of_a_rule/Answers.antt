@@ -1,5 +1,0 @@
-use Rattle.am_files.proofs.RuleExample.{says}
-use Rattle.am_files.proofs.laws.an_example_of_a_rule.Goals as goal
-
-pub returns : goal.returns
-returns c = record { says = says }

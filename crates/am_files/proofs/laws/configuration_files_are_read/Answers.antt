@@ -1,5 +1,0 @@
-use Rattle.am_files.proofs.ConfigFaultLemmas.{config_file_read, config_file_refused}
-use Rattle.am_files.proofs.laws.configuration_files_are_read.Goals as goal
-
-pub returns : goal.returns
-returns c = record { read = config_file_read; refused = config_file_refused }

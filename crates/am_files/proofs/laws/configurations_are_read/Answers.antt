@@ -1,9 +1,0 @@
-use Rattle.am_files.proofs.ConfigFaultLemmas.{config_laws}
-use Rattle.am_files.proofs.laws.configurations_are_read.Goals as goal
-
-pub returns : goal.returns
-returns c = record {
-  read = config_laws.value;
-  sound = config_laws.sound;
-  refused = config_laws.refused;
-}

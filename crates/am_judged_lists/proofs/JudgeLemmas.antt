@@ -1,0 +1,119 @@
+-- The verdict of a cube, as the code comes to it.
+use Rattle.std.proofs.Common.{◌≡◌, ℕ, zero, suc, ◌+◌, ◌<◌, ◌≤◌, min, max, Bool, true, false, not, cond, ◌&&◌, List, [], ◌∷◌, ◌++◌, length, drop, get_or, nat_lt, refl, ap, sym, ◌∙◌, subst, inl, inr, arith}
+use Rattle.std.specs.List.{list_all, AllByRecursion}
+use Rattle.std.proofs.lemmas.Bool.{cases_lt, and_from, and_left, and_right, lt-ltb, le-ltb}
+use Rattle.std.proofs.lemmas.List.{drop_all}
+use Rattle.am_universe.proofs.ListLemmas.{AllByRecursion-each}
+use Rattle.am_search.specs.declared.verdict.Verdict.TheVariants.{Yes, No, Open}
+use Rattle.am_judged_lists.specs.declared.cube.LabelMask.{LabelMask}
+use Rattle.am_search.specs.Judge.{is_yes, is_no}
+use Rattle.am_judged_lists.specs.Cube.{MaskedLabels, reaches, may_at, reaches_all, verdict_at}
+use Rattle.am_judged_lists.specs.CubeView.{AscendByLabel, reach_of, IsKept}
+use Rattle.am_judged_lists.proofs.ListLemmas.{each_map, all_pass, each_pushed, and_true}
+use Rattle.am_judged_lists.proofs.CubeLemmas.{fits, fits_from}
+
+-- ---- The masks are looked at up to the end of the prefix.
+
+-- a mask of a label behind the prefix forbids nothing
+past_fits : (prefix : List ℕ) (m : LabelMask) → length prefix ≤ m.label → fits prefix m ≡ true
+past_fits prefix m h = fits_from prefix m (λ within. absurd (omega (arith, h, within)))
+
+pub all_from_here : (test : LabelMask → Bool) (masks : List LabelMask) (k : ℕ) (m : LabelMask) → k < length masks → m ≡ get_or masks k m → test m ≡ true
+    → list_all test (drop (suc k) masks) ≡ true → list_all test (drop k masks) ≡ true
+all_from_here test [] k m h at here e = absurd (omega (arith, h))
+all_from_here test (n ∷ masks) zero m h at here e = and_from (test n) (list_all test masks) (ap test (sym at) ∙ here) e
+all_from_here test (n ∷ masks) (suc k) m h at here e = all_from_here test masks k m (omega arith) at here e
+
+-- where labels are from `k` on, the mask at `n` is of a label from `k + n` on
+pub behind_fits : (prefix : List ℕ) (masks : List LabelMask) (k n : ℕ) → AscendByLabel masks → AllByRecursion (λ m. k ≤ m.label) masks → length prefix ≤ k + n
+    → list_all (fits prefix) (drop n masks) ≡ true
+behind_fits prefix [] k zero ascend from past = refl
+behind_fits prefix [] k (suc n) ascend from past = refl
+behind_fits prefix (m ∷ masks) k zero ascend from past =
+    all_pass (fits prefix) (m ∷ masks) (each_map (λ x. k ≤ x.label) (λ x. fits prefix x ≡ true) (m ∷ masks) (λ x h. past_fits prefix x (omega (arith, h, past))) from)
+behind_fits prefix (m ∷ masks) k (suc n) ascend from past =
+    behind_fits prefix masks (k + 1) n ascend.1 (each_map (λ x. m.label < x.label) (λ x. k + 1 ≤ x.label) masks (λ x h. omega (arith, h, from.0)) ascend.0) (omega (arith, past))
+
+pub from_within : (prefix : List ℕ) (masks : List LabelMask) (i n : ℕ) → AscendByLabel masks → i ≡ min (length masks) n → n ≡ length prefix → list_all (fits prefix) (drop i masks) ≡ true
+from_within prefix masks i n ascend is len = elim (cases_lt i (length masks)) [
+  | inl below ↦ behind_fits prefix masks 0 i ascend (AllByRecursion-each (λ m. 0 ≤ m.label) masks (λ m at. omega arith)) (omega (arith, is, len, below))
+  | inr past ↦ ap (list_all (fits prefix)) (drop_all i masks past)
+]
+
+-- ---- How far the masks reach.
+
+pub reached : (n : ℕ) (masks : List LabelMask) → reach_of masks ≤ n → list_all (λ m. nat_lt m.label n) masks ≡ true
+reached n [] h = refl
+reached n (m ∷ masks) h = and_from (nat_lt m.label n) (list_all (λ k. nat_lt k.label n) masks) (lt-ltb m.label n (omega arith)) (reached n masks (omega arith))
+
+pub not_reached : (n : ℕ) (masks : List LabelMask) → n < reach_of masks → list_all (λ m. nat_lt m.label n) masks ≡ false
+not_reached n [] h = absurd (omega arith)
+not_reached n (m ∷ masks) h = elim (cases_lt m.label n) [
+  | inl within ↦ and_right (nat_lt m.label n) (list_all (λ k. nat_lt k.label n) masks) (not_reached n masks (omega (arith, within)))
+  | inr past ↦ and_left (nat_lt m.label n) (list_all (λ k. nat_lt k.label n) masks) (le-ltb m.label n past)
+]
+
+-- ---- From two tests to a verdict.
+
+may_of : (may all : Bool) → not (is_no (cond (not may) No (cond all Yes Open))) ≡ may
+may_of true true = refl
+may_of true false = refl
+may_of false all = refl
+
+must_of : (may all : Bool) → is_yes (cond (not may) No (cond all Yes Open)) ≡ (may && all)
+must_of true true = refl
+must_of true false = refl
+must_of false all = refl
+
+pub may_is : (cube : MaskedLabels) (prefix : List ℕ) → not (is_no (verdict_at cube prefix)) ≡ may_at cube prefix
+may_is cube prefix = may_of (may_at cube prefix) (list_all (reaches prefix) cube.masks)
+
+pub must_is : (cube : MaskedLabels) (prefix : List ℕ) → is_yes (verdict_at cube prefix) ≡ (may_at cube prefix && reaches_all cube prefix)
+must_is cube prefix = must_of (may_at cube prefix) (list_all (reaches prefix) cube.masks)
+
+-- ---- One more mask, behind the others.
+
+pub ascend_pushed : (masks : List LabelMask) (m : LabelMask) → AscendByLabel masks → AllByRecursion (λ n. n.label < m.label) masks → AscendByLabel (masks ++ m ∷ [])
+ascend_pushed [] m ascend before = (tt, tt)
+ascend_pushed (n ∷ masks) m ascend before =
+    (each_pushed (λ k. n.label < k.label) masks m ascend.0 before.0, ascend_pushed masks m ascend.1 before.1)
+
+reach_pushed : (masks : List LabelMask) (m : LabelMask) → AllByRecursion (λ n. n.label < m.label) masks → reach_of (masks ++ m ∷ []) ≡ m.label + 1
+reach_pushed [] m before = omega arith
+reach_pushed (n ∷ masks) m before = ap (max (n.label + 1)) (reach_pushed masks m before.1) ∙ omega (arith, before.0)
+
+pub kept_pushed : (masks : List LabelMask) (m : LabelMask) (reach : ℕ) → IsKept masks reach → AllByRecursion (λ n. n.label < m.label) masks → IsKept (masks ++ m ∷ []) (m.label + 1)
+kept_pushed masks m reach kept before =
+    record { ascend = ascend_pushed masks m kept.ascend before; same = sym (reach_pushed masks m before) }
+
+-- ---- What the code answers.
+
+pub may_true : (cube : MaskedLabels) (prefix : List ℕ) → cube.empty ≡ false → list_all (fits prefix) cube.masks ≡ true → true ≡ not (is_no (verdict_at cube prefix))
+may_true cube prefix some fit = sym (may_is cube prefix ∙ and_from (not cube.empty) (list_all (fits prefix) cube.masks) (ap not some) fit)
+
+pub judge_yes : (cube : MaskedLabels) (prefix : List ℕ) → true ≡ not (is_no (verdict_at cube prefix)) → list_all (reaches prefix) cube.masks ≡ true → Yes ≡ verdict_at cube prefix
+judge_yes cube prefix may all =
+    let e : may_at cube prefix ≡ true = sym (may ∙ may_is cube prefix) in
+    sym (ap (λ b. cond (not b) No (cond (list_all (reaches prefix) cube.masks) Yes Open)) e ∙ ap (λ b. cond b Yes Open) all)
+
+pub judge_open : (cube : MaskedLabels) (prefix : List ℕ) → true ≡ not (is_no (verdict_at cube prefix)) → list_all (reaches prefix) cube.masks ≡ false → Open ≡ verdict_at cube prefix
+judge_open cube prefix may some =
+    let e : may_at cube prefix ≡ true = sym (may ∙ may_is cube prefix) in
+    sym (ap (λ b. cond (not b) No (cond (list_all (reaches prefix) cube.masks) Yes Open)) e ∙ ap (λ b. cond b Yes Open) some)
+
+pub must_reached : (cube : MaskedLabels) (prefix : List ℕ) → list_all (reaches prefix) cube.masks ≡ true → not (is_no (verdict_at cube prefix)) ≡ is_yes (verdict_at cube prefix)
+must_reached cube prefix all =
+    may_is cube prefix ∙ sym (and_true (may_at cube prefix)) ∙ sym (must_is cube prefix ∙ ap (λ b. may_at cube prefix && b) all)
+
+pub must_not_reached : (cube : MaskedLabels) (prefix : List ℕ) → list_all (reaches prefix) cube.masks ≡ false → false ≡ is_yes (verdict_at cube prefix)
+must_not_reached cube prefix some =
+    sym (must_is cube prefix ∙ and_right (may_at cube prefix) (list_all (reaches prefix) cube.masks) some)
+
+-- by the reach that is kept
+pub reach_within : (masks : List LabelMask) (reach n : ℕ) (cube : MaskedLabels) (prefix : List ℕ) → IsKept masks reach → masks ≡ cube.masks → n ≡ length prefix → reach ≤ n → list_all (reaches prefix) cube.masks ≡ true
+reach_within masks reach n cube prefix kept same e h =
+    subst (λ ms. list_all (reaches prefix) ms ≡ true) same (reached (length prefix) masks (omega (arith, kept.same, e, h)))
+
+pub reach_past : (masks : List LabelMask) (reach n : ℕ) (cube : MaskedLabels) (prefix : List ℕ) → IsKept masks reach → masks ≡ cube.masks → n ≡ length prefix → n < reach → list_all (reaches prefix) cube.masks ≡ false
+reach_past masks reach n cube prefix kept same e h =
+    subst (λ ms. list_all (reaches prefix) ms ≡ false) same (not_reached (length prefix) masks (omega (arith, kept.same, e, h)))

@@ -1,0 +1,99 @@
+-- The verdict of a test over some choices.
+use Rattle.std.proofs.Common.{◌≡◌, ◌≢◌, ◌↔◌, ℕ, Bool, true, false, not, ◌&&◌, ◌||◌, List, [], ◌∷◌}
+use Rattle.std.proofs.Common.{cond, refl, ap, sym, ◌∙◌, inl, inr}
+use Rattle.std.specs.List.{list_all, list_any, AllByRecursion}
+use Rattle.std.proofs.lemmas.Bool.{cases_Bool, false_from_ne_true}
+use Rattle.am_search.specs.declared.verdict.Verdict.{Verdict}
+use Rattle.am_search.specs.declared.verdict.Verdict.TheVariants.{Yes, No, Open}
+use Rattle.am_universe.proofs.CompletionLemmas.{completions_of_whole}
+use Rattle.am_universe.proofs.ListLemmas.{IsIn, AllByRecursion-at, AllByRecursion-each}
+use Rattle.am_universe.specs.Universe.{Label, sizes}
+use Rattle.am_universe.specs.Choice.{IsWhole}
+use Rattle.am_labels.specs.Matcher.{Condition}
+use Rattle.am_judged_lists.specs.Verdicts.{verdict_over, matches_at, verdict_of_list}
+use Rattle.am_judged_lists.proofs.ListLemmas.{each_passes, all_pass, none_passes, not_all}
+use Rattle.am_judged_lists.proofs.ListLemmas.{some_passes, same_all, same_any}
+
+pub verdict_yes : (test : List ℕ → Bool) (cs : List (List ℕ)) → list_all test cs ≡ true → verdict_over test cs ≡ Yes
+verdict_yes test cs all = rw all refl
+
+pub verdict_open : (test : List ℕ → Bool) (cs : List (List ℕ)) → list_all test cs ≡ false → list_any test cs ≡ true → verdict_over test cs ≡ Open
+verdict_open test cs all any = rw (all, any) refl
+
+pub verdict_no : (test : List ℕ → Bool) (cs : List (List ℕ)) → list_all test cs ≡ false → list_any test cs ≡ false → verdict_over test cs ≡ No
+verdict_no test cs all any = rw (all, any) refl
+
+-- two tests that agree on each choice
+pub same_verdict : (p q : List ℕ → Bool) (cs : List (List ℕ)) → AllByRecursion (λ c. p c ≡ q c) cs → verdict_over p cs ≡ verdict_over q cs
+same_verdict p q cs same =
+    ap (λ b. cond b Yes (cond (list_any p cs) Open No)) (same_all p q cs same)
+    ∙ ap (λ b. cond (list_all q cs) Yes (cond b Open No)) (same_any p q cs same)
+
+-- ---- What the verdicts mean.
+
+pub yes_exactly : (test : List ℕ → Bool) (cs : List (List ℕ)) → (verdict_over test cs ≡ Yes) ↔ AllByRecursion (λ c. test c ≡ true) cs
+yes_exactly test cs = (
+  λ yes. elim (cases_Bool (list_all test cs)) [
+    | inl all ↦ each_passes test cs all
+    | inr not_each ↦ elim (cases_Bool (list_any test cs)) [
+      | inl some ↦ let only_some : Open ≡ Yes = sym (verdict_open test cs not_each some) ∙ yes in cc
+      | inr none ↦ let no : No ≡ Yes = sym (verdict_no test cs not_each none) ∙ yes in cc
+    ]
+  ],
+  λ all. verdict_yes test cs (all_pass test cs all),
+)
+
+pub no_exactly : (test : List ℕ → Bool) (cs : List (List ℕ)) (c : List ℕ) → IsIn cs c → (verdict_over test cs ≡ No) ↔ AllByRecursion (λ c. test c ≡ false) cs
+no_exactly test cs c i = (
+  λ no. AllByRecursion-each (λ d. test d ≡ false) cs (λ d j. false_from_ne_true (test d) (λ passes.
+      let some = some_passes test cs d j passes in
+      elim (cases_Bool (list_all test cs)) [
+        | inl all ↦ let yes : Yes ≡ No = sym (verdict_yes test cs all) ∙ no in cc
+        | inr not_each ↦ let only_some : Open ≡ No = sym (verdict_open test cs not_each some) ∙ no in cc
+      ])),
+  λ none. verdict_no test cs (not_all test cs c i (AllByRecursion-at (λ d. test d ≡ false) cs c none i)) (none_passes test cs none),
+)
+
+-- some pass, and some do not
+not_each_then : (test : List ℕ → Bool) (cs : List (List ℕ)) → list_all test cs ≡ false → list_any (λ c. not (test c)) cs ≡ true
+not_each_then test [] e = cc
+not_each_then test (c ∷ cs) e = by (test c) e (not_each_then test cs)
+  where
+    by : (b : Bool) → (b && list_all test cs) ≡ false → (list_all test cs ≡ false → list_any (λ c. not (test c)) cs ≡ true) → (not b || list_any (λ c. not (test c)) cs) ≡ true
+    by true h rest = rest h
+    by false h rest = refl
+
+not_each_from : (test : List ℕ → Bool) (cs : List (List ℕ)) → list_any (λ c. not (test c)) cs ≡ true → list_all test cs ≡ false
+not_each_from test [] e = cc
+not_each_from test (c ∷ cs) e = by (test c) e (not_each_from test cs)
+  where
+    by : (b : Bool) → (not b || list_any (λ c. not (test c)) cs) ≡ true → (list_any (λ c. not (test c)) cs ≡ true → list_all test cs ≡ false) → (b && list_all test cs) ≡ false
+    by true h rest = rest h
+    by false h rest = refl
+
+pub open_exactly : (test : List ℕ → Bool) (cs : List (List ℕ)) → (verdict_over test cs ≡ Open) ↔ ((list_any test cs ≡ true) × (list_any (λ c. not (test c)) cs ≡ true))
+open_exactly test cs = (
+  λ e. elim (cases_Bool (list_all test cs)) [
+    | inl all ↦ let yes : Yes ≡ Open = sym (verdict_yes test cs all) ∙ e in cc
+    | inr not_each ↦ elim (cases_Bool (list_any test cs)) [
+      | inl some ↦ (some, not_each_then test cs not_each)
+      | inr none ↦ let no : No ≡ Open = sym (verdict_no test cs not_each none) ∙ e in cc
+    ]
+  ],
+  λ both. verdict_open test cs (not_each_from test cs both.1) both.0,
+)
+
+-- one choice alone is decided
+verdict_over_one : (test : List ℕ → Bool) (c : List ℕ) → verdict_over test (c ∷ []) ≡ cond (test c) Yes No
+verdict_over_one test c = elim (cases_Bool (test c)) [ inl e ↦ rw e refl | inr e ↦ rw e refl ]
+
+-- and so is that of a list at a whole choice
+pub list_says : (u : List Label) (ms : List Condition) (c : List ℕ) → IsWhole (sizes u) c
+    → verdict_of_list u ms c ≡ cond (matches_at u ms c) Yes No
+list_says u ms c whole =
+    ap (verdict_over (matches_at u ms)) (completions_of_whole (sizes u) c whole)
+    ∙ verdict_over_one (matches_at u ms) c
+
+pub decided : (b : Bool) (v : Verdict) → v ≡ cond b Yes No → v ≢ Open
+decided true v e only_some = let yes : Yes ≡ Open = sym e ∙ only_some in cc
+decided false v e only_some = let no : No ≡ Open = sym e ∙ only_some in cc

@@ -1,0 +1,53 @@
+-- The sets that a block keeps of its cubes. Each holds all cubes of which something is so, and it
+-- does no harm where it holds more: a cube that is found is asked itself.
+use Rattle.std.specs.Prelude.{◌≡◌, ℕ, List, Bool, false, not, ◌&&◌, ◌||◌, ◌==◌, nat_lt, IsTrue}
+use Rattle.std.specs.Prelude.{slice_get, slice_index_or, Some}
+use Rattle.std.specs.List.{list_all}
+use Rattle.am_judged_lists.specs.declared.block.Block.{Block}
+use Rattle.am_judged_lists.specs.declared.block.Feature.{Feature}
+use Rattle.am_judged_lists.specs.declared.block.Feature.TheVariants.{Matched, Within}
+use Rattle.am_judged_lists.specs.declared.block.LabelRows.{LabelRows}
+use Rattle.am_judged_lists.specs.declared.list_set.ListSet.{ListSet}
+use Rattle.am_judged_lists.specs.Cube.{MaskedLabels}
+use Rattle.am_judged_lists.specs.ListSetView.{has}
+
+-- The masks of a cube are all of labels below a number; and they permit a position of a label. Of a
+-- label without a mask each position is permitted.
+abbrev pub is_within : MaskedLabels → ℕ → Bool
+is_within cube len = list_all (λ m. nat_lt m.label len) cube.masks
+
+abbrev pub permits_position : MaskedLabels → ℕ → ℕ → Bool
+permits_position cube label position =
+    list_all (λ m. not (m.label == label) || slice_index_or m.mask position false) cube.masks
+
+-- What is asked of a cube is so.
+abbrev pub has_feature : Feature → MaskedLabels → Bool
+has_feature Matched cube = not cube.empty
+has_feature (Within len) cube = not cube.empty && is_within cube len
+
+-- The cube at a place is in the row of a position, where there is one.
+abbrev pub IsInRow : List ListSet → ℕ → ℕ → Type 0
+IsInRow rows position k =
+    (row : ListSet) → slice_get rows position ≡ Some row → IsTrue (has row k)
+
+-- It is in the row of each position that it permits.
+abbrev pub IsInRows : ℕ → MaskedLabels → LabelRows → Type 0
+IsInRows k cube rows =
+    (position : ℕ) → IsTrue (permits_position cube rows.label position)
+    → IsInRow rows.rows.items position k
+
+-- It is in the set of each number of labels that is not below all of its masks.
+abbrev pub AreWithin : ℕ → MaskedLabels → List ListSet → Type 0
+AreWithin k cube sets =
+    (len : ℕ) (set : ListSet) → slice_get sets len ≡ Some set
+    → IsTrue (not cube.empty && is_within cube len) → IsTrue (has set k)
+
+abbrev pub AreInRows : ℕ → MaskedLabels → List LabelRows → Type 0
+AreInRows k cube labels =
+    (i : ℕ) (rows : LabelRows) → slice_get labels i ≡ Some rows → IsInRows k cube rows
+
+-- A cube stands at a place of a block.
+pub record IsAt (k : ℕ) (cube : MaskedLabels) (block : Block) : Type 0 where
+  pub matched : IsTrue (not cube.empty) → IsTrue (has block.matched k)
+  pub within : AreWithin k cube block.within.items
+  pub rows : AreInRows k cube block.labels.items

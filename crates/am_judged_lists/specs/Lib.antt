@@ -1,0 +1,12 @@
+pub mod Verdicts
+pub mod Rows
+pub mod MaskView
+pub mod Cube
+pub mod CubeView
+pub mod Certainty
+pub mod ListSetView
+pub mod BlockView
+pub mod Places
+pub mod TableView
+pub mod GroupView
+pub mod Reasons

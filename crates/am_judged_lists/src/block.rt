@@ -1,0 +1,218 @@
+//! A few cubes side by side, of which it is asked at once which may pass.
+
+ghost use Rattle.std.specs.Prelude.{◌≡◌, ℕ, ◌<◌, ◌≤◌, length, slice_get, slice_index_or};
+ghost use Rattle.std.specs.Prelude.{Some, IfOk, IsTrue, false};
+ghost use Rattle.am_judged_lists.specs.ListSetView.{has};
+ghost use Rattle.am_judged_lists.specs.Certainty.{passes};
+ghost use Rattle.am_judged_lists.specs.Cube.{MaskedLabels, verdict_at, may_at};
+ghost use Rattle.am_judged_lists.specs.BlockView.{has_feature, IsAt, IsInRow, IsInRows, AreInRows};
+ghost use Rattle.am_judged_lists.specs.BlockView.{AreWithin};
+
+use crate::certainty::Certainty;
+use crate::cube::Cube;
+use crate::list_set::{ListSet, ROOM};
+use crate::mask::Mask;
+use am_universe::{Choice, Universe};
+use std::alloc::{AllocError, Global};
+
+/// What is asked of a cube, to make a set of those of which it is so.
+#[derive(Clone, Copy)]
+enum Feature {
+    /// Some choice is permitted.
+    Matched,
+    /// The labels that have a mask are among so many first ones.
+    Within(usize),
+}
+
+impl Feature {
+    /// Whether it is so of a cube.
+    fn is_of(self, cube: &Cube) -> bool
+        ensures { result ≡ has_feature self cube.now }
+    {
+        match self {
+            Feature::Matched => !cube.is_empty(),
+            Feature::Within(len) => !cube.is_empty() && cube.is_within(len),
+        }
+    }
+
+    /// The places of the cubes of which it is so.
+    fn places(self, cubes: &[Cube]) -> ListSet
+        requires { length cubes.now ≤ ROOM }
+        ensures { (k : ℕ) (cube : MaskedLabels) → slice_get cubes.now k ≡ Some cube
+            → IsTrue (has_feature self cube) → IsTrue (has result k) }
+    {
+        let mut places = ListSet::none();
+        for k in 0..cubes.len() {
+            if self.is_of(&cubes[k]) {
+                places.insert(k);
+            }
+        }
+        places
+    }
+}
+
+/// For each position of a label, which cubes permit it.
+#[derive(Drop)]
+struct LabelRows {
+    label: usize,
+    rows: Vec<ListSet>,
+}
+
+impl LabelRows {
+    /// The rows of a label of some size. An `Err` only where memory was refused.
+    ///
+    /// A cube without a mask of the label stays in each row, so only the masks are gone through.
+    fn of(alloc: Global, cubes: &[Cube], label: usize, size: usize) -> Result<LabelRows, AllocError>
+        requires { length cubes.now ≤ ROOM }
+        ensures { IfOk result (λ rows. (k : ℕ) (cube : MaskedLabels)
+            → slice_get cubes.now k ≡ Some cube → IsInRows k cube rows) }
+    {
+        let mut rows = rows_of_all(alloc, size)?;
+        for k in 0..cubes.len() {
+            if let Some(mask) = cubes[k].mask_of(label) {
+                take_out(&mut rows, k, mask);
+            }
+        }
+        Ok(LabelRows { label, rows })
+    }
+
+    /// Those of some cubes that permit what a prefix has of the label. A position behind the rows
+    /// takes none out.
+    fn narrow(&self, left: ListSet, prefix: &Choice) -> ListSet
+        ensures { (k : ℕ) (cube : MaskedLabels) → IsInRows k cube self.now
+            → IsTrue (may_at cube prefix.now) → IsTrue (has left k) → IsTrue (has result k) }
+    {
+        if self.label >= prefix.len() {
+            return left;
+        }
+        let position = usize::from(prefix.get(self.label));
+        if position >= self.rows.len() {
+            return left;
+        }
+        left.and(self.rows[position])
+    }
+}
+
+/// At most as many cubes as a set has room for.
+#[derive(Drop)]
+pub(crate) struct Block {
+    /// The cubes that permit some choice.
+    matched: ListSet,
+    /// Those of them whose masks are of labels among the first ones alone, by how many these are.
+    within: Vec<ListSet>,
+    /// The rows of the labels of which a cube has a mask, ascending.
+    labels: Vec<LabelRows>,
+}
+
+impl Block {
+    /// The block of some cubes. An `Err` only where memory was refused.
+    pub(crate) fn of(
+        alloc: Global,
+        universe: &Universe,
+        cubes: &[Cube],
+    ) -> Result<Block, AllocError>
+        requires { length cubes.now ≤ ROOM }
+        ensures { IfOk result (λ block. (k : ℕ) (cube : MaskedLabels)
+            → slice_get cubes.now k ≡ Some cube → IsAt k cube block) }
+    {
+        let within = sets_within(alloc, universe, cubes)?;
+        let labels = rows_of_labels(alloc, universe, cubes)?;
+        Ok(Block {
+            matched: Feature::Matched.places(cubes),
+            within,
+            labels,
+        })
+    }
+
+    /// The places of the cubes that may pass at a prefix: all that do are among them.
+    pub(crate) fn candidates(&self, certainty: Certainty, prefix: &Choice) -> ListSet
+        ensures { (k : ℕ) (cube : MaskedLabels) → IsAt k cube self.now
+            → IsTrue (passes certainty (verdict_at cube prefix.now)) → IsTrue (has result k) }
+    {
+        let mut left = self.start(certainty, prefix.len());
+        for rows in &self.labels {
+            if left.is_empty() || rows.label >= prefix.len() {
+                return left;
+            }
+            left = rows.narrow(left, prefix);
+        }
+        left
+    }
+
+    /// The places of the cubes that may pass at some prefix of a length.
+    fn start(&self, certainty: Certainty, len: usize) -> ListSet
+        ensures { (k : ℕ) (cube : MaskedLabels) (prefix : _) → IsAt k cube self.now
+            → len ≡ length prefix → IsTrue (passes certainty (verdict_at cube prefix))
+            → IsTrue (has result k) }
+    {
+        match certainty {
+            Certainty::May => self.matched,
+            Certainty::Must => match self.within.get(len) {
+                Some(within) => *within,
+                None => self.matched,
+            },
+        }
+    }
+}
+
+/// For each number of first labels, the places of the cubes that permit some choice and have masks
+/// of these labels alone. An `Err` only where memory was refused.
+fn sets_within(
+    alloc: Global,
+    universe: &Universe,
+    cubes: &[Cube],
+) -> Result<Vec<ListSet>, AllocError>
+    requires { length cubes.now ≤ ROOM }
+    ensures { IfOk result (λ sets. (k : ℕ) (cube : MaskedLabels)
+        → slice_get cubes.now k ≡ Some cube → AreWithin k cube sets.items) }
+{
+    let mut sets = Vec::with_capacity(alloc, universe.len())?;
+    for len in 0..universe.len() {
+        sets.push(Feature::Within(len).places(cubes))?;
+    }
+    Ok(sets)
+}
+
+/// The rows of the labels of which a cube has a mask. An `Err` only where memory was refused.
+fn rows_of_labels(
+    alloc: Global,
+    universe: &Universe,
+    cubes: &[Cube],
+) -> Result<Vec<LabelRows>, AllocError>
+    requires { length cubes.now ≤ ROOM }
+    ensures { IfOk result (λ labels. (k : ℕ) (cube : MaskedLabels)
+        → slice_get cubes.now k ≡ Some cube → AreInRows k cube labels.items) }
+{
+    let mut labels = Vec::new(alloc);
+    for label in 0..universe.len() {
+        if cubes.iter().any(|cube| cube.has_mask_of(label)) {
+            labels.push(LabelRows::of(alloc, cubes, label, universe.size(label))?)?;
+        }
+    }
+    Ok(labels)
+}
+
+/// So many rows, each of which has every cube.
+fn rows_of_all(alloc: Global, size: usize) -> Result<Vec<ListSet>, AllocError>
+    ensures { IfOk result (λ rows. (position k : ℕ) → k < ROOM → IsInRow rows.items position k) }
+{
+    let mut rows = Vec::with_capacity(alloc, size)?;
+    for _ in 0..size {
+        rows.push(ListSet::all())?;
+    }
+    Ok(rows)
+}
+
+/// Takes the cube at a place out of the rows of the positions that its mask does not permit.
+fn take_out(rows: &mut Vec<ListSet>, place: usize, mask: &Mask)
+    requires { place < ROOM }
+    ensures { (position k : ℕ) → k < ROOM
+        → (k ≡ place → IsTrue (slice_index_or mask.now position false))
+        → IsInRow rows.old.items position k → IsInRow rows.new.items position k }
+{
+    for position in 0..rows.len() {
+        if !mask.contains(position) {
+            rows[position].remove(place);
+        }
+    }
+}

@@ -1,0 +1,57 @@
+//! Two questions about a verdict.
+
+ghost use Rattle.std.specs.Prelude.{◌≡◌, not};
+ghost use Rattle.am_judged_lists.specs.Certainty.{passes, other};
+
+use crate::judged_list::JudgedList;
+use am_search::Verdict;
+use am_universe::Choice;
+
+/// What is asked of a verdict.
+#[derive(Clone, Copy)]
+pub enum Certainty {
+    /// Whether it is not excluded: it is not `No`.
+    May,
+    /// Whether it is certain: it is `Yes`.
+    Must,
+}
+
+impl Certainty {
+    /// The one that `not` makes of it: `not q` is not excluded where `q` is not certain.
+    pub fn other(self) -> Certainty
+        ensures other { result ≡ other self }
+    {
+        match self {
+            Certainty::May => Certainty::Must,
+            Certainty::Must => Certainty::May,
+        }
+    }
+
+    /// Whether a verdict passes.
+    pub fn allows(self, verdict: Verdict) -> bool
+        ensures passes { result ≡ passes self verdict }
+    {
+        match self {
+            Certainty::May => verdict != Verdict::No,
+            Certainty::Must => verdict == Verdict::Yes,
+        }
+    }
+
+    /// Whether the verdict of a list passes at a prefix.
+    #[inline(always)]
+    pub fn holds<L: JudgedList>(self, list: &L, prefix: &Choice) -> bool
+        ensures verdict { result ≡ passes self (L.verdict list.now prefix.now) }
+    {
+        match self {
+            Certainty::May => list.may(prefix),
+            Certainty::Must => list.must(prefix),
+        }
+    }
+
+    /// Whether `not` of the verdict of a list passes at a prefix.
+    pub fn fails<L: JudgedList>(self, list: &L, prefix: &Choice) -> bool
+        ensures verdict { result ≡ not (passes (other self) (L.verdict list.now prefix.now)) }
+    {
+        !self.other().holds(list, prefix)
+    }
+}

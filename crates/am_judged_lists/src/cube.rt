@@ -1,0 +1,317 @@
+ghost use Rattle.std.specs.Prelude.{◌≡◌, ◌<◌, ℕ, List, map, false, not, IfOk, IfErr, OnOk, OnErr};
+ghost use Rattle.std.specs.Prelude.{slice_index_or, IfSome, IfNone, IsTrue};
+ghost use Rattle.std.specs.List.{list_any, AllByRecursion};
+ghost use Rattle.am_judged_lists.specs.Rows.{is_never_true, is_any_of};
+ghost use Rattle.am_search.specs.declared.verdict.Verdict.TheVariants.{Yes, No};
+ghost use Rattle.am_judged_lists.specs.Cube.{IsCubeOf, verdict_at};
+ghost use Rattle.am_judged_lists.specs.Reasons.{IsReason};
+ghost use Rattle.am_search.specs.Judge.{is_yes, is_no};
+ghost use Rattle.am_judged_lists.specs.CubeView.{restricted};
+ghost use Rattle.am_judged_lists.specs.BlockView.{is_within, permits_position};
+
+use crate::JudgedList;
+use crate::mask::Mask;
+use crate::rows::rows_of;
+use am_labels::{Matchers, Row};
+use am_search::{Labels, Verdict};
+use am_universe::limits::MAX_LABELS;
+use am_universe::{Choice, Universe};
+use std::alloc::{AllocError, Global};
+use std::marker::Model;
+
+/// The permitted positions of one label.
+#[derive(Drop)]
+struct LabelMask {
+    label: usize,
+    mask: Mask,
+}
+
+impl LabelMask {
+    ghost use Rattle.std.specs.Prelude.{◌||◌};
+    ghost use Rattle.am_judged_lists.specs.Cube.{reaches, permits_at};
+
+    /// Whether a prefix has no position that the mask forbids.
+    fn fits(&self, prefix: &Choice) -> bool
+        ensures { result ≡ (not (reaches prefix.now self.now) || permits_at prefix.now self.now) }
+    {
+        self.label >= prefix.len() || self.mask.permits(prefix.get(self.label))
+    }
+
+    /// Whether two masks are of the same label and permit the same positions.
+    fn is_same(&self, other: &LabelMask) -> bool
+        ensures { IsTrue result → self.now ≡ other.now }
+    {
+        self.label == other.label && self.mask.is_same(&other.mask)
+    }
+}
+
+/// Which positions of each label a list of matchers permits. The label set of a whole choice
+/// matches the list where each of its positions is permitted.
+#[derive(Drop)]
+pub struct Cube {
+    /// No choice is permitted.
+    empty: bool,
+    /// The labels of which some positions are permitted and some are not, ascending. Of every other
+    /// label all are, unless no choice is permitted.
+    masks: Vec<LabelMask>,
+    /// One more than the last label that has a mask; 0 where none has.
+    reach: usize,
+}
+
+impl Model for Cube {
+    ghost use Rattle.am_judged_lists.specs.Cube.{MaskedLabels};
+    ghost use Rattle.am_judged_lists.specs.CubeView.{IsKept};
+
+    ghost Value = { MaskedLabels };
+
+    ghost view = { λ a. record { empty = a.empty; masks = a.masks.items } };
+
+    ghost invariant = { λ a. IsKept a.masks.items a.reach };
+}
+
+impl Cube {
+    /// The cube of a list of matchers. An `Err` only where memory was refused.
+    ///
+    /// A matcher of a label that the universe does not declare is the same at every choice: where
+    /// it is false no choice is permitted, and where it is true it says nothing.
+    pub fn of(alloc: Global, matchers: &Matchers, universe: &Universe) -> Result<Cube, AllocError>
+        ensures exact { IfOk result (λ cube. IsCubeOf universe.now matchers.now cube) }
+    {
+        let rows = rows_of(alloc, universe, matchers)?;
+        Cube::of_rows(alloc, universe, rows.as_slice(), &[])
+    }
+
+    /// Permits the positions of a mask alone, of a label behind those that have one. After an `Err`
+    /// nothing has changed.
+    fn restrict(&mut self, label: usize, mask: Mask, size: usize) -> Result<(), AllocError>
+        requires label { label < MAX_LABELS }
+        requires last { AllByRecursion (λ m. m.label < label) self.old.masks }
+        ensures restricted { OnOk result (self.new ≡ restricted self.old label mask size) }
+        ensures err { OnErr result (self.new ≡ self.old) }
+    {
+        if mask.is_full(size) {
+            return Ok(());
+        }
+        if mask.is_empty(size) {
+            self.empty = true;
+            return Ok(());
+        }
+        self.masks.push(LabelMask { label, mask })?;
+        self.reach = label + 1;
+        Ok(())
+    }
+
+    /// Whether two cubes permit the same positions of each label.
+    fn has_masks_of(&self, other: &Cube) -> bool
+        ensures { IsTrue result → self.now ≡ other.now }
+    {
+        if self.empty != other.empty || self.masks.len() != other.masks.len() {
+            return false;
+        }
+        for i in 0..self.masks.len() {
+            if !self.masks[i].is_same(&other.masks[i]) {
+                return false;
+            }
+        }
+        true
+    }
+
+    /// Whether no choice is permitted.
+    pub(crate) fn is_empty(&self) -> bool
+        ensures { result ≡ self.now.empty }
+    {
+        self.empty
+    }
+
+    /// Whether the masks are all of labels among so many first ones.
+    pub(crate) fn is_within(&self, len: usize) -> bool
+        ensures { result ≡ is_within self.now len }
+    {
+        self.reach <= len
+    }
+
+    /// The mask of a label, if it has one: where the cube permits a position, the mask does.
+    pub(crate) fn mask_of(&self, label: usize) -> Option<&Mask>
+        ensures { IfSome result (λ mask. (position : ℕ)
+            → IsTrue (permits_position self.now label position)
+            → IsTrue (slice_index_or mask.now position false)) }
+    {
+        for m in &self.masks {
+            if m.label == label {
+                return Some(&m.mask);
+            }
+        }
+        None
+    }
+
+    /// Whether a label has a mask.
+    pub(crate) fn has_mask_of(&self, label: usize) -> bool {
+        self.masks.iter().any(|m| m.label == label)
+    }
+
+    /// What the list says of the completions of a prefix: `Yes`, the label set of each matches it;
+    /// `No`, that of none does; `Open`, those of only some do. So it is at each prefix that the
+    /// universe admits. It takes no memory, and looks at no label behind the prefix.
+    pub fn judge(&self, prefix: &Choice) -> Verdict
+        ensures verdict { result ≡ verdict_at self.now prefix.now }
+    {
+        if !self.may(prefix) {
+            Verdict::No
+        } else if self.reach <= prefix.len() {
+            Verdict::Yes
+        } else {
+            Verdict::Open
+        }
+    }
+
+    /// Whether the verdict at a prefix is not `No`: the list matches some completion.
+    pub fn may(&self, prefix: &Choice) -> bool
+        ensures verdict { result ≡ not (is_no (verdict_at self.now prefix.now)) }
+    {
+        if self.empty {
+            return false;
+        }
+        // The mask at `i` is of the label `i` or of one behind it.
+        let within = self.masks.len().min(prefix.len());
+        for i in (0..within).rev() {
+            if !self.masks[i].fits(prefix) {
+                return false;
+            }
+        }
+        true
+    }
+
+    /// Whether the verdict at a prefix is `Yes`: the list matches every completion.
+    pub fn must(&self, prefix: &Choice) -> bool
+        ensures verdict { result ≡ is_yes (verdict_at self.now prefix.now) }
+    {
+        self.reach <= prefix.len() && self.may(prefix)
+    }
+
+    /// Why the verdict at a prefix is `No`, where it is: the first label whose position is
+    /// forbidden, or no label where no choice is permitted. Whatever has the prefix's position
+    /// there is forbidden too.
+    pub fn why_not(&self, prefix: &Choice) -> Option<Labels>
+        ensures some { IfSome result (λ labels. IsReason self.now No labels prefix.now) }
+        ensures none { IfNone result (is_no (verdict_at self.now prefix.now) ≡ false) }
+    {
+        if self.empty {
+            return Some(Labels::none());
+        }
+        // The mask at `i` is of the label `i` or of one behind it.
+        let within = self.masks.len().min(prefix.len());
+        for mask in &self.masks[..within] {
+            if !mask.fits(prefix) {
+                return Some(Labels::none().with(mask.label));
+            }
+        }
+        None
+    }
+
+    /// Why the verdict at a prefix is `Yes`, where it is: all labels that have a mask. Whatever has
+    /// the prefix's positions there is permitted too.
+    pub fn why(&self, prefix: &Choice) -> Option<Labels>
+        ensures some { IfSome result (λ labels. IsReason self.now Yes labels prefix.now) }
+        ensures none { IfNone result (is_yes (verdict_at self.now prefix.now) ≡ false) }
+    {
+        // What `len` promises tells the proof that a set has room for the labels of the prefix.
+        prove!(prefix.len() <= MAX_LABELS);
+        if !self.must(prefix) {
+            return None;
+        }
+        let mut labels = Labels::none();
+        for mask in &self.masks {
+            labels = labels.with(mask.label);
+        }
+        Some(labels)
+    }
+}
+
+impl JudgedList for Cube {
+    ghost use Rattle.std.specs.Prelude.{IsTrue};
+    ghost use Rattle.am_universe.specs.Choice.{admits};
+    ghost use Rattle.am_judged_lists.specs.Cube.{verdict_at};
+
+    ghost verdict = { verdict_at };
+
+    ghost Knows = { λ sizes prefix. IsTrue (admits sizes prefix) };
+
+    ghost knows_whole = { λ ns c whole. whole.0 };
+
+    fn of_rows(
+        alloc: Global,
+        universe: &Universe,
+        rows: &[Row],
+        more: &[Row],
+    ) -> Result<Cube, AllocError> {
+        // What `len` promises tells the proof that each label has some value.
+        prove!(universe.len() <= MAX_LABELS);
+        let mut cube = Cube {
+            empty: is_any_never_true(rows) || is_any_never_true(more),
+            masks: Vec::new(alloc),
+            reach: 0,
+        };
+        for label in 0..universe.len() {
+            // Of a label that no row is of, all positions are permitted.
+            if is_any_of(rows, label) || is_any_of(more, label) {
+                let size = universe.size(label);
+                let mask = Mask::of_rows(alloc, rows, more, label, size)?;
+                cube.restrict(label, mask, size)?;
+            }
+        }
+        Ok(cube)
+    }
+
+    fn judge(&self, prefix: &Choice) -> Verdict {
+        Cube::judge(self, prefix)
+    }
+
+    fn may(&self, prefix: &Choice) -> bool {
+        Cube::may(self, prefix)
+    }
+
+    fn must(&self, prefix: &Choice) -> bool {
+        Cube::must(self, prefix)
+    }
+
+    fn is_never(&self) -> bool {
+        self.empty
+    }
+
+    fn is_same(&self, other: &Cube) -> bool {
+        self.has_masks_of(other)
+    }
+
+    fn into_cubes(lists: Vec<Cube>) -> Result<Vec<Cube>, Vec<Cube>>
+        ensures cubes { IfOk result (λ cubes. (prefix : List ℕ)
+            → map (λ cube. verdict_at cube prefix) cubes.items
+            ≡ map (λ list. verdict_at list prefix) lists.items) }
+        ensures lists { IfErr result (λ same. same.items ≡ lists.items) }
+    {
+        Ok(lists)
+    }
+}
+
+/// Whether one of the rows is of the label at a position.
+fn is_any_of(rows: &[Row], label: usize) -> bool
+    ensures { result ≡ is_any_of rows.now label }
+{
+    rows.iter().any(|row| row.label() == Some(label))
+}
+
+/// Whether one of the rows is true at no choice.
+fn is_any_never_true(rows: &[Row]) -> bool
+    ensures { result ≡ list_any is_never_true rows.now }
+{
+    rows.iter().any(is_never_true)
+}
+
+/// Whether a row is true at no choice: it is of a label that is not declared, and false.
+fn is_never_true(row: &Row) -> bool
+    ensures { result ≡ is_never_true row.now }
+{
+    match row.label() {
+        Some(_) => false,
+        None => !row.holds(0),
+    }
+}

@@ -1,0 +1,72 @@
+ghost use Rattle.std.specs.Prelude.{◌≡◌, ◌++◌, ℕ, List, map, not, IfOk, IfErr, IsTrue};
+ghost use Rattle.am_labels.specs.Matcher.{Condition};
+ghost use Rattle.am_universe.specs.Choice.{IsWhole};
+ghost use Rattle.am_universe.specs.Universe.{sizes};
+ghost use Rattle.am_labels.specs.Row.{row_of};
+ghost use Rattle.am_search.specs.declared.verdict.Verdict.{Verdict};
+ghost use Rattle.am_search.specs.declared.verdict.Verdict.TheVariants.{No};
+ghost use Rattle.am_judged_lists.specs.Verdicts.{verdict_of_list};
+ghost use Rattle.am_judged_lists.specs.Cube.{verdict_at};
+ghost use Rattle.am_search.specs.Judge.{is_yes, is_no};
+
+use crate::cube::Cube;
+use am_labels::Row;
+use am_search::Verdict;
+use am_universe::{Choice, Universe};
+use std::alloc::{AllocError, Global};
+
+/// A list of matchers, as a judge looks at it: made once, of the rows of its matchers, and asked at
+/// prefixes of choices.
+pub trait JudgedList: Drop {
+    /// What is answered at a prefix.
+    ghost verdict: { Self → List ℕ → Verdict };
+
+    /// At which prefixes of choices, over labels of these sizes, that is the verdict of the list.
+    ghost Knows: { List ℕ → List ℕ → Type 0 };
+
+    /// The list of which these are the rows: those of `rows`, and behind them those of `more`. An
+    /// `Err` only where memory was refused.
+    fn of_rows(
+        alloc: Global,
+        universe: &Universe,
+        rows: &[Row],
+        more: &[Row],
+    ) -> Result<Self, AllocError>
+        requires rows { (ms : List Condition)
+            × (rows.now ++ more.now ≡ map (row_of universe.now) ms) }
+        ensures exact { IfOk result (λ list. (ms : List Condition)
+            → rows.now ++ more.now ≡ map (row_of universe.now) ms → (prefix : List ℕ)
+            → Knows (sizes universe.now) prefix
+            → verdict list prefix ≡ verdict_of_list universe.now ms prefix) };
+
+    /// What is known of the list at a prefix.
+    fn judge(&self, prefix: &Choice) -> Verdict
+        ensures verdict { result ≡ verdict self.now prefix.now };
+
+    /// Whether the verdict at a prefix is not `No`.
+    fn may(&self, prefix: &Choice) -> bool
+        ensures may { result ≡ not (is_no (verdict self.now prefix.now)) };
+
+    /// Whether the verdict at a prefix is `Yes`.
+    fn must(&self, prefix: &Choice) -> bool
+        ensures must { result ≡ is_yes (verdict self.now prefix.now) };
+
+    /// Whether the verdict is known to be `No` at every prefix.
+    fn is_never(&self) -> bool
+        ensures never { IsTrue result → (prefix : List ℕ) → verdict self.now prefix ≡ No };
+
+    /// Whether this list and another are known to have the same verdict at every prefix.
+    fn is_same(&self, other: &Self) -> bool
+        ensures same { IsTrue result → (prefix : List ℕ)
+            → verdict self.now prefix ≡ verdict other.now prefix };
+
+    /// The same lists as cubes, where they are cubes. Else they come back as an `Err`.
+    fn into_cubes(lists: Vec<Self>) -> Result<Vec<Cube>, Vec<Self>>
+        ensures cubes { IfOk result (λ cubes. (prefix : List ℕ)
+            → map (λ cube. verdict_at cube prefix) cubes.items
+            ≡ map (λ list. verdict list prefix) lists.items) }
+        ensures lists { IfErr result (λ same. same.items ≡ lists.items) };
+
+    /// The list is known at each whole choice.
+    ghost knows_whole: { (ns c : List ℕ) → IsWhole ns c → Knows ns c };
+}

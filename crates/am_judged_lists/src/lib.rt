@@ -1,0 +1,43 @@
+//! Masks and cubes: what a list of matchers says of the completions of a prefix of a choice.
+//!
+//! A [`Cube`] is made of a list of matchers, for the labels of a universe. At a prefix of a choice
+//! it answers a `Verdict`: whether all, none or some of the label sets of the prefix's completions
+//! match the list. It looks at no completion, and takes no memory. A judge asks a [`JudgedList`],
+//! of which a cube is one: it is made of rows, which [`rows_of`] makes. Many lists stand in a
+//! [`Group`], in which cubes are asked at once by a [`Table`].
+#![tactic(auto)]
+
+// The rows of matchers.
+mod rows;
+
+// What a judge asks of a list of matchers.
+mod judged_list;
+
+// Which positions of one label are permitted.
+mod mask;
+
+// Which positions of each label are permitted.
+mod cube;
+
+// The impossible lists of a space.
+mod impossible;
+
+// What is asked of a verdict.
+mod certainty;
+
+// Many lists at once.
+mod block;
+mod group;
+mod list_set;
+mod table;
+
+pub use certainty::Certainty;
+pub use cube::Cube;
+pub use group::Group;
+pub use impossible::impossible_cubes;
+pub use judged_list::JudgedList;
+pub use rows::rows_of;
+pub use table::Table;
+
+// What holds of the definitions by themselves.
+pub mod laws;

@@ -1,0 +1,178 @@
+ghost use Rattle.std.specs.Prelude.{◌≡◌, ◌≢◌, ℕ, ◌+◌, ◌-◌, ◌*◌, ◌^◌, ◌<◌, ◌≤◌, ◌++◌, ◌∷◌, ◌&&◌};
+ghost use Rattle.std.specs.Prelude.{false, length, min, slice_index, slice_index_or, nat_lt, Some};
+ghost use Rattle.std.specs.Prelude.{IfOk, IfSome, IsTrue, All};
+ghost use Rattle.am_labels.specs.Row.{truth_at};
+ghost use Rattle.am_judged_lists.specs.Rows.{all_allow};
+ghost use Rattle.am_judged_lists.specs.CubeView.{permits_none, permits_all};
+
+use am_labels::Row;
+use am_universe::Position;
+use std::alloc::{AllocError, Global};
+use std::marker::Model;
+
+/// How many positions a word has room for.
+const WORD: usize = 64;
+
+/// Which positions of a label are permitted. How they are kept is known in this file alone.
+#[derive(Drop)]
+pub(crate) struct Mask {
+    /// The bits of the first positions. They stand in the mask itself, since most labels have no
+    /// more: such a mask takes no memory, and is read at once.
+    first: u64,
+    /// The words behind the first, as many as the label's size needs.
+    more: Vec<u64>,
+}
+
+impl Model for Mask {
+    ghost use Rattle.std.specs.Prelude.{List, ◌∷◌, Bool};
+    ghost use Rattle.am_judged_lists.specs.MaskView.{permitted_of};
+
+    ghost Value = { List Bool };
+
+    ghost view = { λ m. permitted_of (m.first ∷ m.more.items) };
+}
+
+impl Mask {
+    /// The positions of a label of this size at which each row of that label is true, of `rows` and
+    /// of `more`. Rows of other labels say nothing. An `Err` only where memory was refused.
+    pub(crate) fn of_rows(
+        alloc: Global,
+        rows: &[Row],
+        more: &[Row],
+        label: usize,
+        size: usize,
+    ) -> Result<Mask, AllocError>
+        requires rows { All (λ row. row.label ≡ Some label → length row.truths ≡ size) rows.now }
+        requires more { All (λ row. row.label ≡ Some label → length row.truths ≡ size) more.now }
+        ensures permitted { IfOk result (λ mask. (j : ℕ) → j < size
+            → slice_index_or mask j false ≡ all_allow (rows.now ++ more.now) label j) }
+    {
+        let mut mask = Mask::full(alloc, size)?;
+        mask.narrow_by_rows(rows, label, size);
+        mask.narrow_by_rows(more, label, size);
+        Ok(mask)
+    }
+
+    /// All positions of a label of this size. An `Err` only where memory was refused.
+    fn full(alloc: Global, size: usize) -> Result<Mask, AllocError>
+        ensures { IfOk result (λ mask. (j : ℕ) → slice_index_or mask j false ≡ nat_lt j size) }
+    {
+        Ok(Mask {
+            first: ones(size),
+            more: words_behind_first(alloc, size)?,
+        })
+    }
+
+    /// Takes out the positions of a label of this size at which some row of that label is false.
+    fn narrow_by_rows(&mut self, rows: &[Row], label: usize, size: usize)
+        requires rows { All (λ row. row.label ≡ Some label → length row.truths ≡ size) rows.now }
+        ensures permitted { (j : ℕ) → j < size → slice_index_or self.new j false
+            ≡ (slice_index_or self.old j false && all_allow rows.now label j) }
+    {
+        for row in rows {
+            if row.label() == Some(label) {
+                self.narrow(row, size);
+            }
+        }
+    }
+
+    /// Takes out the positions below a size at which a row is false.
+    fn narrow(&mut self, row: &Row, size: usize)
+        requires row { IfSome row.now.label (λ _. size ≤ length row.now.truths) }
+        ensures permitted { (j : ℕ) → j < size → slice_index_or self.new j false
+            ≡ (slice_index_or self.old j false && truth_at row.now j) }
+    {
+        for j in 0..size {
+            if !row.holds(j) {
+                self.take_out(j);
+            }
+        }
+    }
+
+    /// Takes out a position.
+    fn take_out(&mut self, j: usize)
+        ensures gone { slice_index_or self.new j false ≡ false }
+        ensures others { (k : ℕ) → k ≢ j
+            → slice_index_or self.new k false ≡ slice_index_or self.old k false }
+    {
+        let others = !(1u64 << (j % WORD));
+        let i = j / WORD;
+        if i == 0 {
+            self.first &= others;
+        } else if i <= self.more.len() {
+            self.more[i - 1] &= others;
+        }
+    }
+
+    /// Whether a position is permitted.
+    pub(crate) fn permits(&self, position: Position) -> bool
+        ensures permitted { result ≡ slice_index_or self.now position false }
+    {
+        self.contains(usize::from(position))
+    }
+
+    /// Whether two masks permit the same positions.
+    pub(crate) fn is_same(&self, other: &Mask) -> bool
+        ensures same { IsTrue result → self.now ≡ other.now }
+    {
+        self.first == other.first && self.more == other.more
+    }
+
+    /// Whether no position of a label of this size is permitted.
+    pub(crate) fn is_empty(&self, size: usize) -> bool
+        ensures none { result ≡ permits_none size self.now }
+    {
+        (0..size).all(|j| !self.contains(j))
+    }
+
+    /// Whether all positions of a label of this size are permitted.
+    pub(crate) fn is_full(&self, size: usize) -> bool
+        ensures all { result ≡ permits_all size self.now }
+    {
+        (0..size).all(|j| self.contains(j))
+    }
+
+    /// Whether the position `j` is permitted. One for which there is no word is not.
+    pub(crate) fn contains(&self, j: usize) -> bool
+        ensures { result ≡ slice_index_or self.now j false }
+    {
+        (word_at(self.first, self.more.as_slice(), j / WORD) >> (j % WORD)) & 1 == 1
+    }
+}
+
+/// The word at `i`, of a first one and of those behind it; past the last a word without bits.
+fn word_at(first: u64, more: &[u64], i: usize) -> u64
+    ensures { result ≡ slice_index (first ∷ more.now) i }
+{
+    if i == 0 {
+        return first;
+    }
+    match more.get(i - 1) {
+        Some(word) => *word,
+        None => 0,
+    }
+}
+
+/// The words behind the first of all positions of a label of this size.
+fn words_behind_first(alloc: Global, size: usize) -> Result<Vec<u64>, AllocError>
+    ensures { IfOk result (λ words. (i : ℕ)
+        → slice_index words.items i ≡ 2 ^ min (size - WORD * (i + 1)) WORD - 1) }
+{
+    let count = size.saturating_sub(1) / WORD;
+    let mut words = Vec::with_capacity(alloc, count)?;
+    for i in 0..count {
+        words.push(ones(size - WORD * (i + 1)))?;
+    }
+    Ok(words)
+}
+
+/// A word with so many bits at its front, or with all that it has room for.
+fn ones(count: usize) -> u64
+    ensures { result ≡ 2 ^ min count WORD - 1 }
+{
+    if count < WORD {
+        (1u64 << count) - 1
+    } else {
+        u64::MAX
+    }
+}

@@ -1,0 +1,115 @@
+//! Cubes that are asked together.
+
+ghost use Rattle.std.specs.Prelude.{◌≡◌, ℕ, ◌<◌, ◌≤◌, ◌*◌, ◌+◌, length, IfOk, IfSome, IfNone};
+ghost use Rattle.am_judged_lists.specs.Cube.{verdict_at};
+ghost use Rattle.am_judged_lists.specs.Certainty.{passes};
+ghost use Rattle.am_judged_lists.specs.Places.{IsNext, NoneBetween};
+ghost use Rattle.am_judged_lists.specs.TableView.{IsBlockFrom, AreBlocksOf};
+
+use crate::block::Block;
+use crate::certainty::Certainty;
+use crate::cube::Cube;
+use crate::list_set::ROOM;
+use am_universe::{Choice, Universe};
+use std::alloc::{AllocError, Global};
+use std::marker::Model;
+
+/// Cubes, and sets of bits by which they are asked many at a time.
+#[derive(Drop)]
+pub struct Table {
+    cubes: Vec<Cube>,
+    /// The cubes in their order, as many in each block as a set has room for.
+    blocks: Vec<Block>,
+}
+
+impl Model for Table {
+    ghost use Rattle.std.specs.Prelude.{List};
+    ghost use Rattle.am_judged_lists.specs.Cube.{MaskedLabels};
+    ghost use Rattle.am_judged_lists.specs.TableView.{AreBlocksOf};
+
+    ghost Value = { List MaskedLabels };
+
+    ghost view = { λ a. a.cubes.items };
+
+    ghost invariant = { λ a. AreBlocksOf a.cubes.items a.blocks.items };
+}
+
+impl Table {
+    /// The table of some cubes over a universe. An `Err` only where memory was refused.
+    pub fn of(alloc: Global, universe: &Universe, cubes: Vec<Cube>) -> Result<Table, AllocError>
+        ensures cubes { IfOk result (λ table. table ≡ cubes.items) }
+    {
+        let blocks = blocks_of(alloc, universe, cubes.as_slice())?;
+        Ok(Table { cubes, blocks })
+    }
+
+    /// The first cube from a place on whose verdict at a prefix passes. Judging takes no memory.
+    pub fn next(&self, certainty: Certainty, prefix: &Choice, from: usize) -> Option<usize>
+        ensures some { IfSome result (λ i.
+            IsNext (λ cube. passes certainty (verdict_at cube prefix.now)) self.now from i) }
+        ensures none { IfNone result (NoneBetween
+            (λ cube. passes certainty (verdict_at cube prefix.now)) self.now from
+            (length self.now)) }
+    {
+        for block in from / ROOM..self.blocks.len() {
+            let first = block * ROOM;
+            let from = from.max(first);
+            let next = next_in(
+                &self.cubes,
+                &self.blocks[block],
+                first,
+                certainty,
+                prefix,
+                from,
+            );
+            if next.is_some() {
+                return next;
+            }
+        }
+        None
+    }
+}
+
+/// The same among the cubes of a block, the first of which stands at `first`.
+fn next_in(
+    cubes: &[Cube],
+    block: &Block,
+    first: usize,
+    certainty: Certainty,
+    prefix: &Choice,
+    from: usize,
+) -> Option<usize>
+    requires block { IsBlockFrom cubes.now first block.now }
+    requires first { first < length cubes.now }
+    requires from { (first ≤ from) × (from < first + ROOM) }
+    ensures some { IfSome result (λ i.
+        IsNext (λ cube. passes certainty (verdict_at cube prefix.now)) cubes.now from i) }
+    ensures none { IfNone result (NoneBetween
+        (λ cube. passes certainty (verdict_at cube prefix.now)) cubes.now from (first + ROOM)) }
+{
+    let candidates = block.candidates(certainty, prefix);
+    let Some(place) = candidates.first_from(from - first) else {
+        return None;
+    };
+    let end = cubes.len().min(first + ROOM);
+    for i in first + place..end {
+        if certainty.holds(&cubes[i], prefix) {
+            return Some(i);
+        }
+    }
+    None
+}
+
+/// The blocks of some cubes, in their order. An `Err` only where memory was refused.
+fn blocks_of(alloc: Global, universe: &Universe, cubes: &[Cube]) -> Result<Vec<Block>, AllocError>
+    ensures blocks { IfOk result (λ blocks. AreBlocksOf cubes.now blocks.items) }
+{
+    let mut blocks = Vec::new(alloc);
+    let count = cubes.len().div_ceil(ROOM);
+    for block in 0..count {
+        let first = block * ROOM;
+        let end = cubes.len().min(first + ROOM);
+        blocks.push(Block::of(alloc, universe, &cubes[first..end])?)?;
+    }
+    Ok(blocks)
+}

@@ -1,0 +1,155 @@
+-- Matcher texts that are read, and those that are refused.
+use Rattle.std.proofs.Common.{◌≡◌, ◌≢◌, ℕ, ◌≤◌, List, [], length, Bool, true, false, cond, Option, Some}
+use Rattle.std.proofs.Common.{None, Result, Ok, Err, IsTrue, inl, inr, refl, sym, subst}
+use Rattle.std.specs.Prelude.{IsErrAnd}
+use Rattle.am_universe.specs.declared.kind.Kind.{Kind}
+use Rattle.am_universe.specs.declared.kind.Kind.TheVariants as kinds
+use Rattle.am_labels.specs.declared.limits.TheConstants.{MAX_MATCHERS}
+use Rattle.am_labels.specs.Matcher.{Condition}
+use Rattle.am_labels.specs.PatternCut.{in_profile}
+use Rattle.am_labels.specs.MatcherText.{Spells}
+use Rattle.am_labels.specs.MatcherReading.{read_list}
+use Rattle.am_labels.specs.MatcherRefusals.{have_valid_patterns, pattern_refusal, TextRefusedFor}
+use Rattle.am_labels.proofs.MatcherTextWhole.{list_is_read, list_is_spelled}
+use Rattle.am_json.specs.declared.read_error.ReadError.{ReadError}
+use Rattle.am_json.specs.declared.read_error.ReadError.TheVariants as errors
+use Rattle.am_json.specs.Pointer.{Refusal, refusal_here, refusal_within}
+use Rattle.am_json.specs.Reading.{Reading, ◌>>=◌, accept, accept_some, reading_within, check_count}
+use Rattle.am_json.specs.Reading.{MayRefuse, IsRefusalOrMemory, Fails, Gives}
+use Rattle.am_list_files.specs.MatcherFaults.{check_patterns, pattern_fault}
+use Rattle.am_list_files.specs.MatcherTexts.{read_matcher_text, text_refusal}
+use Rattle.am_json.proofs.Readings.{refuses_first, refuses_later, refuses_within, check_count_fits}
+use Rattle.am_json.proofs.Readings.{check_count_over, check_count_ok, here_fails, bind_ok, within_ok}
+use Rattle.am_json.proofs.Readings.{ok_or_some, refuse_for_ok, same_read}
+use Rattle.am_list_files.proofs.Matching.{sound_passes, passes_sound, patterns_refused}
+
+abbrev err_of : ReadError → Result (List Condition) ReadError
+err_of e = Err e
+
+refused_is_no_memory : (found : Refusal) → err_of (errors.Refused found) ≡ err_of errors.Memory → ⊥
+refused_is_no_memory found h = cc
+
+pub text_gives : (part limit : List ℕ) (text : List ℕ) (ms : List Condition) → Spells text ms
+    → length ms ≤ MAX_MATCHERS → IsTrue (have_valid_patterns ms)
+    → (read_matcher_text part limit text).result ≡ Ok ms
+unfolding read_matcher_text
+text_gives part limit text ms spells le sound =
+    rw (
+      list_is_read text ms spells,
+      check_count_fits MAX_MATCHERS (length ms) le,
+      sound_passes ms sound,
+    ) refl
+
+none_read : (text : List ℕ) (found : Option (List Condition)) → read_list text ≡ found
+    → ((ms : List Condition) → Spells text ms → ⊥) → read_list text ≡ None
+none_read text None is none = is
+none_read text (Some ms) is none = absurd (none ms (list_is_spelled text ms is))
+
+text_patterns : (part limit : List ℕ) (text : List ℕ) (ms : List Condition) (r : Refusal)
+    → Spells text ms → length ms ≤ MAX_MATCHERS → MayRefuse (check_patterns ms) r
+    → MayRefuse (read_matcher_text part limit text) (refusal_within part r)
+unfolding read_matcher_text
+text_patterns part limit text ms r spells le h =
+    let read : (accept_some (read_list text) (refusal_here kinds.BadMatcher)).result ≡ Ok ms =
+    rw (list_is_read text ms spells) refl in
+    let first : (reading_within part
+    (accept_some (read_list text) (refusal_here kinds.BadMatcher))).result ≡ Ok ms = rw read
+    refl in
+    let second : (reading_within limit (check_count MAX_MATCHERS (length ms))).result ≡ Ok tt =
+    rw (check_count_fits MAX_MATCHERS (length ms) le) refl in
+    let patterns : List Condition → Reading (List Condition) =
+    λ ns. reading_within part (check_patterns ns) >>= λ _. accept ns in
+    let few : List Condition → Reading (List Condition) =
+    λ ns. reading_within limit (check_count MAX_MATCHERS (length ns)) >>= λ _. patterns ns in
+    let third =
+    refuses_first (reading_within part (check_patterns ms)) (λ _. accept ms)
+    (refusal_within part r) (refuses_within part (check_patterns ms) r h) in
+    let behind =
+    refuses_later (reading_within limit (check_count MAX_MATCHERS (length ms)))
+    (λ _. patterns ms) tt (refusal_within part r) second third in
+    refuses_later (reading_within part
+    (accept_some (read_list text) (refusal_here kinds.BadMatcher))) few ms
+    (refusal_within part r) first behind
+
+pattern_text_refusal : (part limit : List ℕ) (profile : Bool)
+    → text_refusal part limit (cond profile kinds.Pattern kinds.PatternProfile) ≡ refusal_within
+    part (refusal_here (cond profile kinds.Pattern kinds.PatternProfile))
+pattern_text_refusal part limit true = refl
+pattern_text_refusal part limit false = refl
+
+text_refused : (part limit : List ℕ) (text : List ℕ) (kind : Kind) → TextRefusedFor text kind
+    → MayRefuse (read_matcher_text part limit text) (text_refusal part limit kind)
+unfolding read_matcher_text
+text_refused part limit text kind (inl bad) =
+    rw bad.0 (inl (rw (none_read text (read_list text) refl bad.1) refl))
+text_refused part limit text kind (inr s) =
+    elim s.refused [
+      | inl long ↦ rw long.1
+          (inl (rw (
+            list_is_read text s.list s.spelled,
+            check_count_over MAX_MATCHERS (length s.list) long.0,
+          ) refl))
+      | inr short ↦
+          let is : kind ≡ pattern_refusal short.1.refused.value = short.1.value.kind_is in
+          let at =
+          text_patterns part limit text s.list (refusal_here kind) s.spelled short.0
+          (patterns_refused s.list kind short.1) in
+          let same : text_refusal part limit kind ≡ refusal_within part (refusal_here kind) =
+          rw is (pattern_text_refusal part limit (in_profile short.1.refused.value)) in
+          subst (λ (r : Refusal). MayRefuse (read_matcher_text part limit text) r) (sym same) at
+    ]
+
+pub text_fails : (part limit : List ℕ) (text : List ℕ) (kind : Kind)
+    (result : Result (List Condition) ReadError) → (kind ≢ kinds.Memory → TextRefusedFor text kind)
+    → IsErrAnd result (λ e. IsRefusalOrMemory e (text_refusal part limit kind))
+    → (kind ≡ kinds.Memory → result ≡ Err errors.Memory)
+    → Gives (λ ms. ms) result (read_matcher_text part limit text)
+text_fails part limit text kind (Ok ms) refused is memory = absurd is
+text_fails part limit text kind (Err errors.Memory) refused is memory = tt
+text_fails part limit text kind (Err (errors.Refused found)) refused is memory =
+    rw is (text_refused part limit text kind (refused (λ e. refused_is_no_memory found (memory e))))
+
+refused_here : (kind : Kind) → text_refusal [] [] kind ≡ refusal_here kind
+refused_here kinds.Limit = refl
+refused_here kind = refl
+
+-- where all that is wrong with a text stands at what is looked at
+pub text_fails_here : (text : List ℕ) (kind : Kind) (e : ReadError)
+    → (kind ≢ kinds.Memory → TextRefusedFor text kind)
+    → IsRefusalOrMemory e (refusal_here kind) → (kind ≡ kinds.Memory → e ≡ errors.Memory)
+    → Fails e (read_matcher_text [] [] text)
+text_fails_here text kind e refused is memory =
+    here_fails kind e (read_matcher_text [] [] text) is memory
+    (λ other. subst (λ (r : Refusal). MayRefuse (read_matcher_text [] [] text) r)
+    (refused_here kind) (text_refused [] [] text kind (refused other)))
+
+-- ---- What a text says that is read.
+
+pub text_says : (part limit : List ℕ) (text : List ℕ) (all : List Condition)
+    → (read_matcher_text part limit text).result ≡ Ok all
+    → Spells text all × (length all ≤ MAX_MATCHERS) × IsTrue (have_valid_patterns all)
+unfolding read_matcher_text
+text_says part limit text all h =
+    let ms =
+    bind_ok ((reading_within part
+    (accept_some (read_list text) (refusal_here kinds.BadMatcher))).result) _ all h in
+    let few =
+    bind_ok ((reading_within limit (check_count MAX_MATCHERS (length ms.0))).result) _ all
+    ms.2 in
+    let sound = bind_ok ((reading_within part (check_patterns ms.0)).result) _ all few.2 in
+    let is : ms.0 ≡ all = same_read ms.0 all sound.2 in
+    let spells =
+    list_is_spelled text ms.0
+    (ok_or_some (read_list text) (refusal_here kinds.BadMatcher) ms.0
+    (within_ok part ((accept_some (read_list text) (refusal_here kinds.BadMatcher)).result)
+    ms.0 ms.1)) in
+    let count =
+    check_count_ok MAX_MATCHERS (length ms.0) few.0
+    (within_ok limit ((check_count MAX_MATCHERS (length ms.0)).result) few.0 few.1) in
+    let fine =
+    passes_sound ms.0 (refuse_for_ok (pattern_fault ms.0) sound.0
+    (within_ok part ((check_patterns ms.0).result) sound.0 sound.1)) in (
+      subst (λ (ns : List Condition). Spells text ns) is spells,
+      subst (λ (ns : List Condition). length ns ≤ MAX_MATCHERS) is count,
+      subst (λ (ns : List Condition). IsTrue (have_valid_patterns ns)) is fine,
+    )

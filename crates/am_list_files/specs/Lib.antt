@@ -1,0 +1,14 @@
+pub mod UniverseFile
+pub mod UniverseFaults
+pub mod MatcherFaults
+pub mod MatcherTexts
+pub mod NamedText
+pub mod Instant
+pub mod SilencesFile
+pub mod SilencesFaults
+pub mod SilencesReading
+pub mod SilencesExample
+pub mod AlertsFile
+pub mod AlertsFaults
+pub mod AlertsReading
+pub mod AlertsExample

@@ -1,0 +1,142 @@
+//! Reading an export of alerts.
+
+ghost use Rattle.std.specs.Prelude.{◌≤◌, [], length, map, IfOk, IfErr};
+ghost use Rattle.std.specs.FinMap as finite;
+ghost use Rattle.serde_json.specs.View.{view, members_view};
+ghost use Rattle.am_universe.specs.declared.place.Place.TheVariants as places;
+ghost use Rattle.am_universe.specs.LabelSet.{with_value};
+ghost use Rattle.am_json.specs.Json.{member_list};
+ghost use Rattle.am_json.specs.Reading.{Gives, IsRefusalAt, accept, read_each, read_items};
+ghost use Rattle.am_json.specs.Reading.{read_item_array};
+ghost use Rattle.am_list_files.specs.AlertsFile.{FileSaysAlerts};
+ghost use Rattle.am_list_files.specs.AlertsFaults.{IsFirstFaultOfAlertsFile};
+ghost use Rattle.am_list_files.specs.AlertsReading.{read_next_alert_label, read_alert_labels};
+ghost use Rattle.am_list_files.specs.AlertsReading.{read_alert, read_alerts, read_alerts_file};
+
+use crate::alert::Alerts;
+use crate::limits::{MAX_ALERT_LABELS, MAX_ALERTS};
+use crate::matcher::read_named_text;
+use am_json::{
+    ReadError, as_items, as_object, check_count, read_each_item, read_each_member, read_json,
+    required_field, within_field,
+};
+use am_universe::{Fault, LabelSet, Place};
+use serde_json::{Map, Value};
+use std::alloc::Global;
+
+/// The alerts that the bytes of an export say, as `amtool alert query -o json` writes it. The value
+/// `null` says that there are none.
+///
+/// The first fault is the one answered, at the place `Alerts` and at the pointer of the part at
+/// fault. A field that is `null` counts as absent, and fields that the form does not name are not
+/// read, the status among them. A label with the empty value counts as missing.
+/// - `Limit`: more than `MAX_FILE_BYTES` bytes, [`MAX_ALERTS`] alerts or [`MAX_ALERT_LABELS`]
+///   labels of an alert;
+/// - `NotJson`: the bytes have no JSON value;
+/// - `Shape`: a value is not of its kind, or a required field is absent;
+/// - `Empty`: a label's name is the empty text.
+///
+/// `Memory`, at the place `Memory` and the empty pointer, comes wherever memory ran out.
+pub fn read_alerts(alloc: Global, bytes: &[u8]) -> Result<Alerts, Fault>
+    ensures says { IfOk result (λ alerts. FileSaysAlerts bytes.now alerts) }
+    ensures first { IfErr result (IsRefusalAt places.Alerts (IsFirstFaultOfAlertsFile bytes.now)) }
+{
+    match read_alerts_file(alloc, bytes) {
+        Ok(alerts) => Ok(alerts),
+        Err(error) => Err(error.at(alloc, Place::Alerts)),
+    }
+}
+
+#[tactic(auto, using(am_json::proofs::Readings::steps), unfolding(crate::specs::AlertsReading::read_alerts_file))]
+fn read_alerts_file(alloc: Global, bytes: &[u8]) -> Result<Alerts, ReadError>
+    ensures { Gives (λ alerts. alerts) result (read_alerts_file bytes.now) }
+{
+    let value = read_json(alloc, bytes)?;
+    read_alerts_value(alloc, &value)
+}
+
+fn read_alerts_value(alloc: Global, value: &Value) -> Result<Alerts, ReadError>
+    ensures { Gives (λ alerts. alerts) result (read_alerts (view value.now)) }
+{
+    if value.is_null() {
+        return Ok(Alerts::none(alloc));
+    }
+    read_alert_array(alloc, value)
+}
+
+#[tactic(auto, using(am_json::proofs::Readings::steps), unfolding(am_json::specs::Reading::read_item_array))]
+fn read_alert_array(alloc: Global, value: &Value) -> Result<Alerts, ReadError>
+    ensures { Gives (λ alerts. alerts) result
+        (read_item_array MAX_ALERTS read_alert (view value.now)) }
+{
+    let items = as_items(alloc, value)?;
+    check_count(alloc, MAX_ALERTS, items.len())?;
+    let alerts = read_each_alert(alloc, items)?;
+    Ok(Alerts { alerts })
+}
+
+fn read_each_alert(alloc: Global, items: &[Value]) -> Result<Vec<LabelSet>, ReadError>
+    ensures reading { Gives (λ alerts. alerts.items) result
+        (read_items (λ _ d. read_alert d) [] (map view items.now)) }
+    ensures few { IfOk result (λ alerts. length alerts.items ≤ length items.now) }
+{
+    read_each_item(alloc, items, |item| read_alert(alloc, item))
+}
+
+#[tactic(auto, using(am_json::proofs::Readings::steps), unfolding(crate::specs::AlertsReading::read_alert))]
+fn read_alert(alloc: Global, value: &Value) -> Result<LabelSet, ReadError>
+    ensures { Gives (λ s. s) result (read_alert (view value.now)) }
+{
+    as_object(alloc, value)?;
+    let labels = required_field(alloc, value, "labels")?;
+    within_field(alloc, "labels", read_alert_labels(alloc, labels))
+}
+
+#[tactic(auto, using(am_json::proofs::Readings::steps, am_json::proofs::Values::members_long), unfolding(crate::specs::AlertsReading::read_alert_labels))]
+fn read_alert_labels(alloc: Global, value: &Value) -> Result<LabelSet, ReadError>
+    ensures { Gives (λ s. s) result (read_alert_labels (view value.now)) }
+{
+    let members = as_object(alloc, value)?;
+    check_count(alloc, MAX_ALERT_LABELS, members.len())?;
+    read_each_alert_label(alloc, members)
+}
+
+fn read_each_alert_label(alloc: Global, members: &Map<String, Value>) -> Result<LabelSet, ReadError>
+    ensures { Gives (λ s. s) result (read_each read_next_alert_label finite.empty
+        (member_list (members_view members.now.entries))) }
+{
+    let none = LabelSet::empty(alloc);
+    read_each_member(none, members, |before, name, value| {
+        read_next_alert_label(alloc, before, name, value)
+    })
+}
+
+/// The labels with that of a name and a text behind others.
+#[tactic(auto, using(am_json::proofs::Readings::steps), unfolding(crate::specs::AlertsReading::read_next_alert_label))]
+fn read_next_alert_label(
+    alloc: Global,
+    before: LabelSet,
+    name: &str,
+    value: &Value,
+) -> Result<LabelSet, ReadError>
+    ensures { Gives (λ s. s) result (read_next_alert_label before (name.now, view value.now)) }
+{
+    let text = within_field(alloc, name, read_named_text(alloc, name, value))?;
+    with_label(alloc, before, name, text)
+}
+
+/// The labels with this one put in. It fails only where memory ran out.
+fn with_label(
+    alloc: Global,
+    before: LabelSet,
+    name: &str,
+    text: &str,
+) -> Result<LabelSet, ReadError>
+    ensures { Gives (λ s. s) result (accept (with_value before name.now text.now)) }
+{
+    let name = String::from_str(alloc, name)?;
+    let text = String::from_str(alloc, text)?;
+    let mut labels = before;
+    labels.put(name, text)?;
+    Ok(labels)
+}

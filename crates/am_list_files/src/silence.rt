@@ -1,0 +1,106 @@
+//! Silences, as they are kept in memory.
+
+// The module of words stands on these types, so their own words come from where they stand.
+ghost use Rattle.std.specs.Prelude.{◌≡◌, ◌<◌, ◌≤◌, ◌==◌, [], Some, length, slice_get};
+
+use crate::limits::MAX_SILENCES;
+use am_labels::Matchers;
+use jiff::Timestamp;
+use std::alloc::Global;
+use std::marker::Model;
+
+/// A silence: it hides the alerts that all its matchers match, from one instant on and up to
+/// another.
+#[derive(Drop)]
+pub struct Silence {
+    pub(crate) matchers: Matchers,
+    pub(crate) starts: Timestamp,
+    pub(crate) ends: Timestamp,
+}
+
+impl Model for Silence {
+    ghost use Rattle.am_list_files.specs.SilencesFile as spec;
+
+    ghost Value = { spec.Silence };
+
+    ghost view = { λ s. record {
+      matchers = s.matchers;
+      starts = s.starts.nanosecond;
+      ends = s.ends.nanosecond;
+    } };
+}
+
+impl Silence {
+    /// The matchers, all of which an alert has to match to be hidden.
+    pub fn matchers(&self) -> &Matchers
+        ensures matchers { result.now ≡ self.now.matchers }
+    {
+        &self.matchers
+    }
+
+    /// The instant from which on it is active.
+    pub fn starts(&self) -> Timestamp
+        ensures starts { result.nanosecond ≡ self.now.starts }
+    {
+        self.starts
+    }
+
+    /// The instant from which on it is active no longer.
+    pub fn ends(&self) -> Timestamp
+        ensures ends { result.nanosecond ≡ self.now.ends }
+    {
+        self.ends
+    }
+}
+
+/// At most [`MAX_SILENCES`] silences, in the order of their file.
+#[derive(Drop)]
+pub struct Silences {
+    pub(crate) silences: Vec<Silence>,
+}
+
+impl Model for Silences {
+    ghost use Rattle.std.specs.Prelude.{List, ◌≤◌, length};
+    ghost use Rattle.am_list_files.specs.SilencesFile as spec;
+    ghost use Rattle.am_list_files.specs.declared.limits.TheConstants.{MAX_SILENCES};
+
+    ghost Value = { List spec.Silence };
+
+    ghost view = { λ s. s.silences.items };
+
+    ghost invariant = { λ s. length s.silences.items ≤ MAX_SILENCES };
+}
+
+impl Silences {
+    /// No silences. It keeps the allocator.
+    pub fn none(alloc: Global) -> Silences
+        ensures no_silence { result ≡ [] }
+    {
+        Silences {
+            silences: Vec::new(alloc),
+        }
+    }
+
+    /// How many there are, at most [`MAX_SILENCES`].
+    pub fn len(&self) -> usize
+        ensures count { result ≡ length self.now }
+        ensures at_most { result ≤ MAX_SILENCES }
+    {
+        self.silences.len()
+    }
+
+    /// Whether there is none.
+    pub fn is_empty(&self) -> bool
+        ensures empty { result ≡ (length self.now == 0) }
+    {
+        self.silences.is_empty()
+    }
+
+    /// The silence at `i`, in the order of the file.
+    pub fn get(&self, i: usize) -> &Silence
+        requires silence { i < length self.now }
+        ensures silence { slice_get self.now i ≡ Some result.now }
+    {
+        &self.silences[i]
+    }
+}

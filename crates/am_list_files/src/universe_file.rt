@@ -1,0 +1,350 @@
+//! Reading the universe file.
+
+ghost use Rattle.std.specs.Prelude.{◌≡◌, ◌<◌, ◌≤◌, [], ◌∷◌, ◌++◌, length, map, None, Ok, Err, IfOk};
+ghost use Rattle.std.specs.Prelude.{IfErr, OnOk, string_bytes, option_map, codes};
+ghost use Rattle.std.specs.List.{filter_map};
+ghost use Rattle.serde_json.specs.Find.{as_str};
+ghost use Rattle.serde_json.specs.View.{view};
+ghost use Rattle.am_universe.specs.declared.place.Place.TheVariants as places;
+ghost use Rattle.am_json.specs.declared.read_error.ReadError.TheVariants as errors;
+ghost use Rattle.am_universe.specs.Universe.{label_fault};
+ghost use Rattle.am_universe.specs.UniverseView.{label_of, texts_of};
+ghost use Rattle.am_json.specs.Pointer.{to_item};
+ghost use Rattle.am_json.specs.Reading.{Gives, IsRefusalAt, reading_within, read_items};
+ghost use Rattle.am_json.specs.OptionalItems.{read_counted};
+ghost use Rattle.am_json.specs.Json.{field};
+ghost use Rattle.am_json.specs.Places.{items_in_field};
+ghost use Rattle.am_list_files.specs.UniverseFile.{FileSaysUniverse, read_value, read_next_value};
+ghost use Rattle.am_list_files.specs.UniverseFile.{read_values, read_next_label, read_labels};
+ghost use Rattle.am_list_files.specs.UniverseFile.{read_all_labels, read_impossible};
+ghost use Rattle.am_list_files.specs.UniverseFile.{read_all_lists, read_universe};
+ghost use Rattle.am_list_files.specs.UniverseFile.{read_universe_file, AreTextsOfLists};
+ghost use Rattle.am_list_files.specs.UniverseFile.{FileHasImpossibleTexts};
+ghost use Rattle.am_list_files.specs.MatcherTexts.{read_matcher_text};
+ghost use Rattle.am_list_files.specs.UniverseFaults.{UniverseFileRefusedFor};
+
+use am_json::{
+    ReadError, as_text, check_count, check_only_fields, field, read_json, read_optional_items,
+    refuse_for, required_items, required_text, within_field, within_item,
+};
+use am_labels::limits::MAX_IMPOSSIBLE;
+use am_labels::{Matchers, Space, parse_matchers};
+use am_universe::limits::MAX_LABELS;
+use am_universe::{Fault, Kind, Place, Universe};
+use serde_json::Value;
+use std::alloc::{AllocError, Global};
+
+/// The space that the bytes of a universe file say: its labels and values, and the lists of
+/// matchers that are impossible, each in their order.
+///
+/// The first fault is the one answered, at the place `Universe` and at the pointer of the part at
+/// fault. A field that is `null` counts as absent.
+/// - `Limit`: more than `MAX_FILE_BYTES` bytes, [`MAX_LABELS`] labels, `MAX_VALUES` values of a
+///   label, [`MAX_IMPOSSIBLE`] lists or `MAX_MATCHERS` matchers of a list;
+/// - `NotJson`: the bytes have no JSON value;
+/// - `Shape`: a value is not of its kind, a required field is absent, or a name is no label name;
+/// - `UnknownField`: there is a field that the form does not have;
+/// - `Empty`: a name or a value is the empty text, or a label has no value;
+/// - `Duplicate`: a name is that of an earlier label, or a value an earlier one of its label;
+/// - `BadMatcher`: a text spells no list of matchers;
+/// - `PatternProfile`: a pattern is outside the profile;
+/// - `Pattern`: the engine refuses a pattern of the profile, as it does where its grammar does not
+///   read it, and may do where it is too large. Such a refusal may come before the first fault that
+///   the file has by itself, and not after it.
+///
+/// `Memory`, at the place `Memory` and the empty pointer, comes wherever memory ran out.
+///
+/// The JSON value of the whole file is in memory until the space is answered.
+pub fn read_universe(alloc: Global, bytes: &[u8]) -> Result<Space, Fault>
+    ensures says { IfOk result (λ s. FileSaysUniverse bytes.now s) }
+    ensures first { IfErr result (IsRefusalAt places.Universe (UniverseFileRefusedFor bytes.now)) }
+{
+    let (space, _texts) = read_universe_with_texts(alloc, bytes)?;
+    Ok(space)
+}
+
+/// The space that the bytes of a universe file say, as [`read_universe`] has it and with the same
+/// faults, and the texts of its impossible lists, in their order, as they stand in the file.
+pub fn read_universe_with_texts(alloc: Global, bytes: &[u8]) -> Result<(Space, Vec<String>), Fault>
+    ensures says { IfOk result (λ s. FileSaysUniverse bytes.now s.0) }
+    ensures texts { IfOk result (λ s.
+        AreTextsOfLists (map string_bytes s.1.items) s.0.impossible) }
+    ensures word_for_word { IfOk result (λ s.
+        FileHasImpossibleTexts bytes.now (map string_bytes s.1.items)) }
+    ensures first { IfErr result (IsRefusalAt places.Universe (UniverseFileRefusedFor bytes.now)) }
+{
+    match read_universe_file(alloc, bytes) {
+        Ok(found) => Ok(found),
+        Err(error) => Err(error.at(alloc, Place::Universe)),
+    }
+}
+
+#[tactic(auto, using(am_json::proofs::Readings::steps), unfolding(crate::specs::UniverseFile::read_universe_file))]
+fn read_universe_file(alloc: Global, bytes: &[u8]) -> Result<(Space, Vec<String>), ReadError>
+    ensures space { Gives (λ s. s.0) result (read_universe_file bytes.now) }
+    ensures texts { IfOk result (λ s.
+        FileHasImpossibleTexts bytes.now (map string_bytes s.1.items)) }
+{
+    let value = read_json(alloc, bytes)?;
+    let space = read_universe_object(alloc, &value)?;
+    let texts = texts_of_lists(alloc, &value)?;
+    Ok((space, texts))
+}
+
+#[tactic(auto, using(am_json::proofs::Readings::steps), unfolding(crate::specs::UniverseFile::read_universe))]
+fn read_universe_object(alloc: Global, value: &Value) -> Result<Space, ReadError>
+    ensures { Gives (λ s. s) result (read_universe (view value.now)) }
+{
+    check_only_fields(alloc, value, &["labels", "impossible"])?;
+    let universe = read_all_labels(alloc, value)?;
+    read_all_lists(alloc, universe, value)
+}
+
+// ---- The labels.
+
+#[tactic(auto, using(am_json::proofs::Readings::steps), unfolding(crate::specs::UniverseFile::read_all_labels))]
+fn read_all_labels(alloc: Global, value: &Value) -> Result<Universe, ReadError>
+    ensures { Gives (λ u. u) result (read_all_labels (view value.now)) }
+{
+    let items = required_items(alloc, value, "labels")?;
+    within_field(alloc, "labels", read_labels(alloc, items))
+}
+
+#[tactic(auto, unfolding(crate::specs::UniverseFile::read_labels))]
+fn read_labels(alloc: Global, items: &[Value]) -> Result<Universe, ReadError>
+    ensures { Gives (λ u. u) result (read_labels (map view items.now)) }
+{
+    check_count(alloc, MAX_LABELS, items.len())?;
+    read_each_label(alloc, items)
+}
+
+fn read_each_label(alloc: Global, items: &[Value]) -> Result<Universe, ReadError>
+    requires { length items.now ≤ MAX_LABELS }
+    ensures { Gives (λ u. u) result (read_items read_next_label [] (map view items.now)) }
+{
+    let mut universe = Universe::empty(alloc);
+    for item in items {
+        let label = read_label_item(alloc, &universe, item)?;
+        add(&mut universe, label)?;
+    }
+    Ok(universe)
+}
+
+/// Adds a label that has no fault. It fails only where memory ran out.
+fn add(universe: &mut Universe, label: (String, Vec<Option<String>>)) -> Result<(), ReadError>
+    requires { label_fault universe.old (label_of label.0 label.1) ≡ None }
+    ensures ok { OnOk result (universe.new ≡ universe.old ++ label_of label.0 label.1 ∷ []) }
+    ensures memory { IfErr result (λ e. e ≡ errors.Memory) }
+{
+    let (name, values) = label;
+    match universe.add(name, values) {
+        Ok(()) => Ok(()),
+        Err(fault) => {
+            prove!(fault.kind == Kind::Memory);
+            Err(ReadError::Memory)
+        }
+    }
+}
+
+/// The item whose position is the number of labels so far.
+#[tactic(auto, using(am_json::proofs::Readings::steps))]
+fn read_label_item(
+    alloc: Global,
+    universe: &Universe,
+    item: &Value,
+) -> Result<(String, Vec<Option<String>>), ReadError>
+    ensures { Gives (λ label. label_of label.0 label.1) result
+        (reading_within (to_item (length universe.now))
+        (read_next_label universe.now (view item.now))) }
+{
+    within_item(
+        alloc,
+        universe.len(),
+        read_next_label(alloc, universe, item),
+    )
+}
+
+/// A label behind those of the universe: its name and its values.
+#[tactic(auto, using(am_json::proofs::Readings::steps), unfolding(crate::specs::UniverseFile::read_next_label))]
+fn read_next_label(
+    alloc: Global,
+    universe: &Universe,
+    value: &Value,
+) -> Result<(String, Vec<Option<String>>), ReadError>
+    ensures { Gives (λ label. label_of label.0 label.1) result
+        (read_next_label universe.now (view value.now)) }
+{
+    check_only_fields(alloc, value, &["name", "values"])?;
+    let name = required_text(alloc, value, "name")?;
+    within_field(alloc, "name", refuse_for(alloc, universe.name_fault(name)))?;
+    let items = required_items(alloc, value, "values")?;
+    let values = within_field(alloc, "values", read_values(alloc, items))?;
+    Ok((String::from_str(alloc, name)?, values))
+}
+
+#[tactic(auto, unfolding(crate::specs::UniverseFile::read_values))]
+fn read_values(alloc: Global, items: &[Value]) -> Result<Vec<Option<String>>, ReadError>
+    ensures { Gives (λ values. texts_of values.items) result (read_values (map view items.now)) }
+{
+    refuse_for(alloc, Universe::count_fault(items.len()))?;
+    read_each_value(alloc, items)
+}
+
+fn read_each_value(alloc: Global, items: &[Value]) -> Result<Vec<Option<String>>, ReadError>
+    ensures { Gives (λ values. texts_of values.items) result
+        (read_items read_next_value [] (map view items.now)) }
+{
+    let mut values = Vec::new(alloc);
+    for item in items {
+        let value = read_value_item(alloc, values.as_slice(), item)?;
+        values.push(value)?;
+    }
+    Ok(values)
+}
+
+/// The item whose position is the number of values so far.
+fn read_value_item(
+    alloc: Global,
+    before: &[Option<String>],
+    item: &Value,
+) -> Result<Option<String>, ReadError>
+    ensures { Gives (option_map string_bytes) result
+        (reading_within (to_item (length (texts_of before.now)))
+        (read_next_value (texts_of before.now) (view item.now))) }
+{
+    within_item(alloc, before.len(), read_next_value(alloc, before, item))
+}
+
+/// A value behind those before it.
+#[tactic(auto, unfolding(crate::specs::UniverseFile::read_next_value))]
+fn read_next_value(
+    alloc: Global,
+    before: &[Option<String>],
+    value: &Value,
+) -> Result<Option<String>, ReadError>
+    ensures { Gives (option_map string_bytes) result
+        (read_next_value (texts_of before.now) (view value.now)) }
+{
+    let value = read_value(alloc, value)?;
+    refuse_for(alloc, Universe::value_fault(before, value))?;
+    Ok(owned(alloc, value)?)
+}
+
+/// A text, or `None` for `null`.
+fn read_value(alloc: Global, value: &Value) -> Result<Option<&str>, ReadError>
+    ensures { Gives (option_map (λ text. text.now)) result (read_value (view value.now)) }
+{
+    if value.is_null() {
+        return Ok(None);
+    }
+    let text = as_text(alloc, value)?;
+    Ok(Some(text))
+}
+
+fn owned(alloc: Global, value: Option<&str>) -> Result<Option<String>, AllocError>
+    ensures { IfOk result (λ o.
+        option_map string_bytes o ≡ option_map (λ text. text.now) value.entry) }
+{
+    match value {
+        Some(text) => Ok(Some(String::from_str(alloc, text)?)),
+        None => Ok(None),
+    }
+}
+
+// ---- The lists that are impossible.
+
+/// The space of these labels, without the lists of the file.
+#[tactic(auto, using(am_json::proofs::Readings::steps), unfolding(am_json::specs::OptionalItems::read_optional_array))]
+fn read_all_lists(alloc: Global, universe: Universe, value: &Value) -> Result<Space, ReadError>
+    ensures lists { Gives (λ s. s.impossible) result (read_all_lists (view value.now)) }
+    ensures labels { IfOk result (λ s. s.labels ≡ universe) }
+{
+    let items = read_optional_items(alloc, value, "impossible")?;
+    within_field(alloc, "impossible", read_lists(alloc, universe, items))
+}
+
+#[tactic(auto, unfolding(am_json::specs::OptionalItems::read_counted))]
+fn read_lists(alloc: Global, universe: Universe, items: &[Value]) -> Result<Space, ReadError>
+    ensures lists { Gives (λ s. s.impossible) result
+        (read_counted MAX_IMPOSSIBLE read_impossible (map view items.now)) }
+    ensures labels { IfOk result (λ s. s.labels ≡ universe) }
+{
+    check_count(alloc, MAX_IMPOSSIBLE, items.len())?;
+    read_each_list(alloc, universe, items)
+}
+
+fn read_each_list(alloc: Global, universe: Universe, items: &[Value]) -> Result<Space, ReadError>
+    requires { length items.now ≤ MAX_IMPOSSIBLE }
+    ensures lists { Gives (λ s. s.impossible) result
+        (read_items (λ _ d. read_impossible d) [] (map view items.now)) }
+    ensures labels { IfOk result (λ s. s.labels ≡ universe) }
+{
+    let mut space = Space::of(alloc, universe);
+    for item in items {
+        let found = read_impossible(alloc, item);
+        let list = within_item(alloc, space.impossible().len(), found)?;
+        forbid(&mut space, list)?;
+    }
+    Ok(space)
+}
+
+/// Leaves a list out where there is room for it. It fails only where memory ran out.
+fn forbid(space: &mut Space, list: Matchers) -> Result<(), ReadError>
+    requires { length space.old.impossible < MAX_IMPOSSIBLE }
+    ensures ok { OnOk result (space.new.impossible ≡ space.old.impossible ++ list ∷ []) }
+    ensures labels { space.new.labels ≡ space.old.labels }
+    ensures memory { IfErr result (λ e. e ≡ errors.Memory) }
+{
+    match space.forbid(list) {
+        Ok(()) => Ok(()),
+        Err(kind) => {
+            prove!(kind == Kind::Memory);
+            Err(ReadError::Memory)
+        }
+    }
+}
+
+#[tactic(auto, unfolding(crate::specs::UniverseFile::read_impossible))]
+fn read_impossible(alloc: Global, value: &Value) -> Result<Matchers, ReadError>
+    ensures { Gives (λ ms. ms) result (read_impossible (view value.now)) }
+{
+    let text = as_text(alloc, value)?;
+    read_matcher_text(alloc, text)
+}
+
+/// The list of matchers that a text spells. All that is wrong with it stands at the text.
+fn read_matcher_text(alloc: Global, text: &str) -> Result<Matchers, ReadError>
+    ensures { Gives (λ ms. ms) result (read_matcher_text [] [] text.now) }
+{
+    match parse_matchers(alloc, text) {
+        Ok(list) => Ok(list),
+        Err(kind) => Err(ReadError::refused(alloc, kind)),
+    }
+}
+
+/// The texts among the items of `impossible`. In a value that says a space each item is a text.
+fn texts_of_lists(alloc: Global, value: &Value) -> Result<Vec<String>, AllocError>
+    ensures { IfOk result (λ texts. map string_bytes texts.items
+        ≡ filter_map as_str (items_in_field (field (codes "impossible") (view value.now)))) }
+{
+    let Some(found) = field(value, "impossible") else {
+        return Ok(Vec::new(alloc));
+    };
+    match found.as_array() {
+        Some(items) => texts_among(alloc, items.as_slice()),
+        None => Ok(Vec::new(alloc)),
+    }
+}
+
+fn texts_among(alloc: Global, items: &[Value]) -> Result<Vec<String>, AllocError>
+    ensures { IfOk result (λ texts.
+        map string_bytes texts.items ≡ filter_map as_str (map view items.now)) }
+{
+    let mut texts = Vec::new(alloc);
+    for item in items {
+        if let Some(text) = item.as_str() {
+            texts.push(String::from_str(alloc, text)?)?;
+        }
+    }
+    Ok(texts)
+}

@@ -1,6 +1,0 @@
-use Rattle.std.proofs.Common.{◌++◌}
-use Rattle.am_masks.proofs.BuildLemmas.{IsBuilt}
-use Rattle.am_masks.proofs.cube.CubeJudgedList.of_rows.Given as goal
-
-abbrev pub invariant-loop-label : goal.invariant-loop-label
-invariant-loop-label l = IsBuilt l.universe (l.rows ++ l.more) l.cube l.label

@@ -1,6 +1,0 @@
-use Rattle.std.proofs.Common.{◌≡◌, take, map}
-use Rattle.am_labels.specs.Row.{row_of}
-use Rattle.am_masks.proofs.rows.rows_of.Given as goal
-
-abbrev pub invariant-loop-i : goal.invariant-loop-i
-invariant-loop-i l = l.rows.items ≡ map (row_of l.universe) (take l.i l.matchers)

@@ -1,0 +1,113 @@
+-- The logic of three values seen by its two truths: each of them is that of two values.
+use Rattle.std.proofs.Common.{◌≡◌, ℕ, true, not, ◌&&◌, ◌||◌, List, [], ◌∷◌, map, cond, refl, ap}
+use Rattle.std.proofs.Common.{sym, ◌∙◌}
+use Rattle.std.specs.List.{list_all, list_any}
+use Rattle.am_universe.specs.Universe.{Label}
+use Rattle.am_search.specs.declared.verdict.Verdict.{Verdict}
+use Rattle.am_search.specs.declared.verdict.Verdict.TheVariants.{Yes, No, Open}
+use Rattle.am_eval.specs.Question.{Simple}
+use Rattle.am_eval.specs.World.{World}
+use Rattle.am_eval.specs.Conditions.{Literal, some_way_holds, conditions_of}
+use Rattle.am_judged_lists.specs.declared.certainty.Certainty.{Certainty}
+use Rattle.am_judged_lists.specs.declared.certainty.Certainty.TheVariants.{May, Must}
+use Rattle.am_judged_lists.specs.Certainty.{passes, other}
+use Rattle.am_plans.specs.Verdicts.{kleene_not, kleene_and, kleene_or, all_of, any_of}
+use Rattle.am_plans.specs.Verdicts.{verdict_of_literal, verdict_of_simple}
+
+-- ---- The joins of two values.
+
+pub passes_not : (m : Certainty) (v : Verdict)
+    → passes m (kleene_not v) ≡ not (passes (other m) v)
+passes_not May Yes = refl
+passes_not May No = refl
+passes_not May Open = refl
+passes_not Must Yes = refl
+passes_not Must No = refl
+passes_not Must Open = refl
+
+pub passes_and : (m : Certainty) (v w : Verdict)
+    → passes m (kleene_and v w) ≡ (passes m v && passes m w)
+passes_and May Yes w = refl
+passes_and May No w = refl
+passes_and May Open Yes = refl
+passes_and May Open No = refl
+passes_and May Open Open = refl
+passes_and Must Yes w = refl
+passes_and Must No w = refl
+passes_and Must Open Yes = refl
+passes_and Must Open No = refl
+passes_and Must Open Open = refl
+
+pub passes_or : (m : Certainty) (v w : Verdict)
+    → passes m (kleene_or v w) ≡ (passes m v || passes m w)
+passes_or May Yes w = refl
+passes_or May No w = refl
+passes_or May Open Yes = refl
+passes_or May Open No = refl
+passes_or May Open Open = refl
+passes_or Must Yes w = refl
+passes_or Must No w = refl
+passes_or Must Open Yes = refl
+passes_or Must Open No = refl
+passes_or Must Open Open = refl
+
+-- ---- The joins of lists.
+
+pub passes_all : (m : Certainty) (vs : List Verdict) → passes m (all_of vs) ≡ list_all (passes m) vs
+passes_all May [] = refl
+passes_all Must [] = refl
+passes_all m (v ∷ vs) =
+    passes_and m v (all_of vs) ∙ ap (λ b. passes m v && b) (passes_all m vs)
+
+pub passes_any : (m : Certainty) (vs : List Verdict) → passes m (any_of vs) ≡ list_any (passes m) vs
+passes_any May [] = refl
+passes_any Must [] = refl
+passes_any m (v ∷ vs) =
+    passes_or m v (any_of vs) ∙ ap (λ b. passes m v || b) (passes_any m vs)
+
+-- and of the verdicts of some things
+pub passes_each : {X : Type 0} (m : Certainty) (verdict : X → Verdict) (xs : List X)
+    → passes m (all_of (map verdict xs)) ≡ list_all (λ x. passes m (verdict x)) xs
+passes_each May verdict [] = refl
+passes_each Must verdict [] = refl
+passes_each m verdict (x ∷ xs) =
+    passes_and m (verdict x) (all_of (map verdict xs))
+    ∙ ap (λ b. passes m (verdict x) && b) (passes_each m verdict xs)
+
+pub passes_some_way : (m : Certainty) (verdict : Literal → Verdict) (ands : List (List Literal))
+    → passes m (any_of (map (λ way. all_of (map verdict way)) ands))
+    ≡ some_way_holds (λ l. passes m (verdict l)) ands
+passes_some_way May verdict [] = refl
+passes_some_way Must verdict [] = refl
+passes_some_way m verdict (way ∷ ways) =
+    let rest = any_of (map (λ way. all_of (map verdict way)) ways) in
+    passes_or m (all_of (map verdict way)) rest
+    ∙ ap (λ b. b || passes m rest) (passes_each m verdict way)
+    ∙ ap (λ b. list_all (λ l. passes m (verdict l)) way || b) (passes_some_way m verdict ways)
+
+-- a simple part may be true, or must be, where its condition says so of the literals
+pub passes_simple : (m : Certainty) (u : List Label) (w : World) (simple : Simple) (prefix : List ℕ)
+    → passes m (verdict_of_simple u w simple prefix)
+    ≡ some_way_holds (λ l. passes m (verdict_of_literal u prefix l)) (conditions_of w simple)
+passes_simple m u w simple prefix =
+    passes_some_way m (verdict_of_literal u prefix) (conditions_of w simple)
+
+-- ---- The two truths are all that a verdict is.
+
+pub from_passes : (v : Verdict)
+    → v ≡ cond (not (passes May v)) No (cond (passes Must v) Yes Open)
+from_passes Yes = refl
+from_passes No = refl
+from_passes Open = refl
+
+pub same_by_passes : (v w : Verdict) → passes May v ≡ passes May w → passes Must v ≡ passes Must w
+    → v ≡ w
+same_by_passes v w may must =
+    from_passes v ∙ ap (λ b. cond (not b) No (cond (passes Must v) Yes Open)) may
+    ∙ ap (λ b. cond (not (passes May w)) No (cond b Yes Open)) must ∙ sym (from_passes w)
+
+-- what must be true may be true
+pub must_is_may : (v : Verdict) → passes Must v ≡ true → passes May v ≡ true
+must_is_may Yes e = refl
+must_is_may No e = e
+must_is_may Open e = refl

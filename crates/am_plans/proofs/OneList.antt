@@ -1,0 +1,115 @@
+-- The judge of a question that is one list of matchers is exact, where nothing is impossible.
+use Rattle.std.proofs.Common.{◌≡◌, ◌≤◌, ℕ, ◌+◌, ◌*◌, Bool, List, [], length, map, not, ◌&&◌, ap}
+use Rattle.std.proofs.Common.{sym, ◌∙◌, refl}
+use Rattle.std.specs.Prelude.{IsTrue}
+use Rattle.std.specs.List.{sum, list_any}
+use Rattle.am_labels.specs.Space.{Space, is_possible}
+use Rattle.am_universe.specs.Universe.{sizes}
+use Rattle.am_universe.specs.Choice.{admits}
+use Rattle.am_universe.specs.Completions.{completions}
+use Rattle.am_labels.specs.Matcher.{Condition}
+use Rattle.am_universe.specs.LabelSet.{label_set_of}
+use Rattle.am_search.specs.declared.start.Start.{Start}
+use Rattle.am_search.specs.declared.start.Start.TheVariants.{At}
+use Rattle.am_search.specs.declared.verdict.Verdict.{Verdict}
+use Rattle.am_search.specs.declared.verdict.Verdict.TheVariants.{Yes, No, Open}
+use Rattle.am_search.specs.Judge.{AreSizes}
+use Rattle.am_search.specs.ExactJudge.{IsExactJudge}
+use Rattle.am_search.specs.Visits.{visited}
+use Rattle.am_search.specs.Start.{answers_from}
+use Rattle.am_search.proofs.VisitsBound.{visited_at_most, visited_from_first}
+use Rattle.am_judged_lists.specs.Verdicts.{matches_at, verdict_of_list}
+use Rattle.am_judged_lists.proofs.VerdictLemmas.{open_exactly}
+use Rattle.am_eval.specs.Tree.{Part}
+use Rattle.am_eval.specs.Question.{Braces, Question, is_answer}
+use Rattle.am_eval.specs.World.{World}
+use Rattle.am_eval.specs.Conditions.{not_matching}
+use Rattle.am_eval.proofs.ConditionLaws as conditions
+use Rattle.am_plans.specs.declared.plan.Plan.{Plan}
+use Rattle.am_plans.specs.PlanWords.{plan_space, plan_sizes, plan_verdict, plan_is_judge}
+use Rattle.am_plans.specs.Verdicts.{kleene_and, kleene_or, all_of, verdict_of_literal}
+use Rattle.am_plans.specs.Verdicts.{verdict_of_question, verdict_of}
+use Rattle.am_plans.proofs.ListSteps.{and_true}
+use Rattle.am_plans.proofs.Soundness.{yes_says_all, no_says_none, never_open}
+
+-- the or of one way, which is the and of one literal; and that it is possible
+one_way : (v : Verdict) → kleene_and (kleene_or (kleene_and v Yes) No) Yes ≡ v
+one_way Yes = refl
+one_way No = refl
+one_way Open = refl
+
+-- with verdicts that are those of the question at each prefix that the space admits
+module _ (s : Space) (w : World) (ms : List Condition) (none : s.impossible ≡ [])
+    (verdict : List ℕ → Verdict)
+    (same : (prefix : List ℕ) → IsTrue (admits (sizes s.labels) prefix)
+    → verdict prefix ≡ verdict_of s w (Part (Braces ms)) prefix) where
+  verdict_of_its_list : (prefix : List ℕ) → IsTrue (admits (sizes s.labels) prefix)
+      → verdict prefix ≡ verdict_of_list s.labels ms prefix
+  verdict_of_its_list prefix a =
+      same prefix a
+      ∙ ap (λ lists. kleene_and (verdict_of_question s.labels w (Part (Braces ms)) prefix)
+      (all_of (map (λ ms. verdict_of_literal s.labels prefix (not_matching ms)) lists))) none
+      ∙ one_way (verdict_of_list s.labels ms prefix)
+
+  answers_match : (c : List ℕ)
+      → matches_at s.labels ms c ≡ is_answer s w (Part (Braces ms)) c
+  answers_match c =
+      sym (ap (λ lists. matches_at s.labels ms c && is_possible lists (label_set_of s.labels c)) none
+      ∙ and_true (matches_at s.labels ms c))
+
+  some_match_and_some_do_not : (prefix : List ℕ) → IsTrue (admits (sizes s.labels) prefix)
+      → verdict prefix ≡ Open
+      → IsTrue (list_any (is_answer s w (Part (Braces ms))) (completions (sizes s.labels) prefix))
+      × IsTrue (list_any (λ c. not (is_answer s w (Part (Braces ms)) c))
+      (completions (sizes s.labels) prefix))
+  some_match_and_some_do_not prefix a e =
+      let cs = completions (sizes s.labels) prefix in
+      let matches = matches_at s.labels ms in
+      let both = (open_exactly matches cs).0 (sym (verdict_of_its_list prefix a) ∙ e) in (
+        sym (λ i. list_any (λ c. answers_match c i) cs) ∙ both.0,
+        sym (λ i. list_any (λ c. not (answers_match c i)) cs) ∙ both.1,
+      )
+
+  pub is_exact_judge : AreSizes (sizes s.labels)
+      → IsExactJudge (sizes s.labels) (is_answer s w (Part (Braces ms))) verdict
+  is_exact_judge are =
+      let question : Question = Part (Braces ms) in
+      record {
+        judge = record {
+          limits = are;
+          yes = λ prefix a e.
+              yes_says_all conditions.exactly s w question prefix (sym (same prefix a) ∙ e);
+          no = λ prefix a e.
+              no_says_none conditions.exactly s w question prefix (sym (same prefix a) ∙ e);
+          whole = λ c whole e.
+              never_open conditions.exactly s w question c whole (sym (same c whole.0) ∙ e);
+        };
+        some = λ prefix a e. (some_match_and_some_do_not prefix a e).0;
+        not_all = λ prefix a e. (some_match_and_some_do_not prefix a e).1;
+      }
+
+-- ---- What a plan judges.
+
+module _ (plan : Plan) (w : World) (ms : List Condition) (none : (plan_space plan).impossible ≡ [])
+    (same : (prefix : List ℕ) → IsTrue (admits (plan_sizes plan) prefix)
+    → plan_verdict plan prefix
+    ≡ verdict_of (plan_space plan) w (Part (Braces ms)) prefix) where
+  abbrev is_its_answer : List ℕ → Bool
+  is_its_answer = is_answer (plan_space plan) w (Part (Braces ms))
+
+  is_exact : IsExactJudge (plan_sizes plan) is_its_answer (plan_verdict plan)
+  is_exact =
+      is_exact_judge (plan_space plan) w ms none (plan_verdict plan) same
+      (plan_is_judge plan).limits
+
+  pub at_most : (start : Start) → length (visited (plan_sizes plan) (plan_verdict plan) start)
+      ≤ 1 + (length (answers_from (plan_sizes plan) is_its_answer start) + 1)
+      * sum (plan_sizes plan)
+  at_most start =
+      visited_at_most (plan_sizes plan) is_its_answer (plan_verdict plan) start is_exact
+
+  pub from_the_first : length (visited (plan_sizes plan) (plan_verdict plan) (At []))
+      ≤ 1 + length (answers_from (plan_sizes plan) is_its_answer (At []))
+      * sum (plan_sizes plan)
+  from_the_first =
+      visited_from_first (plan_sizes plan) is_its_answer (plan_verdict plan) is_exact

@@ -1,0 +1,289 @@
+-- The lists of a pair of a rule and a firing alert say what its condition says.
+use Rattle.std.proofs.Common.{◌≡◌, ℕ, Bool, true, false, not, ◌&&◌, List, [], ◌∷◌, ◌++◌, map, cond}
+use Rattle.std.proofs.Common.{Option, Some, None, option_map, length, get_or, Contains, ◌<◌, ◌≤◌}
+use Rattle.std.proofs.Common.{◌⊎◌, ◌||◌, zero, suc, inl, inr, refl, sym, ap, ◌∙◌, arith}
+use Rattle.std.specs.Prelude.{slice_get, IsTrue}
+use Rattle.std.specs.List.{list_all, list_any}
+use Rattle.std.proofs.lemmas.Bool.{cases_lt, and_right, or_right}
+use Rattle.std.specs.declared.alloc.Global.{Global}
+use Rattle.std.specs.declared.vec.Vec.{Vec}
+use Rattle.std.proofs.lemmas.List.{length-map, map-append}
+use Rattle.std.proofs.lemmas.Option.{slice_get-map, same_Some, slice_get_read, slice_get_within}
+use Rattle.std.proofs.lemmas.Simd.{map-map}
+use Rattle.am_universe.specs.LabelSet.{LabelMap, value_of}
+use Rattle.am_universe.proofs.UniverseLemmas.{list_any-map}
+use Rattle.am_labels.specs.declared.op.Op.TheVariants.{Equal}
+use Rattle.am_universe.specs.Universe.{Label}
+use Rattle.am_labels.specs.Row.{TruthRow, row_of}
+use Rattle.am_labels.specs.Matcher.{all_hold}
+use Rattle.am_config.specs.ConfigFile.{Rule}
+use Rattle.am_search.specs.declared.verdict.Verdict.{Verdict}
+use Rattle.am_search.specs.declared.verdict.Verdict.TheVariants.{No}
+use Rattle.am_judged_lists.specs.Verdicts.{verdict_of_list}
+use Rattle.am_eval.specs.declared.pair.Pair.{Pair}
+use Rattle.am_eval.specs.Question.{Inhibited}
+use Rattle.am_eval.specs.World.{World}
+use Rattle.am_eval.specs.Conditions.{Literal, some_way_holds, inhibiting_way, not_matching}
+use Rattle.am_eval.specs.Conditions.{same_value, pair_way}
+use Rattle.am_eval.specs.Pairs.{pairs_of}
+use Rattle.am_eval.proofs.Inhibitors.{rule_within}
+use Rattle.am_labels.proofs.Passing.{in_any}
+use Rattle.am_universe.proofs.Members.{in_at}
+use Rattle.am_judged_lists.specs.declared.certainty.Certainty.{Certainty}
+use Rattle.am_judged_lists.specs.declared.certainty.Certainty.TheVariants.{May, Must}
+use Rattle.am_plans.specs.declared.pair_lists.PairList.{PairList}
+use Rattle.am_plans.specs.declared.pair_lists.PairLists.{PairLists}
+use Rattle.am_plans.specs.declared.pair_lists.PairSide.{PairSide}
+use Rattle.am_judged_lists.specs.GroupView.{verdicts_in}
+use Rattle.am_judged_lists.specs.Places.{NoneBetween}
+use Rattle.am_judged_lists.specs.Certainty.{passes, other}
+use Rattle.am_plans.specs.Verdicts.{kleene_not, verdict_of_literal, verdict_of_simple}
+use Rattle.am_plans.specs.PairsByLists.{source_fails, source_among, pair_by, inhibited_by}
+use Rattle.am_plans.specs.PairsByLists.{AreSources, AreTargets, way_of_pair, side_fails, some_pair}
+use Rattle.am_plans.proofs.Kleene.{passes_not, passes_simple}
+use Rattle.am_plans.proofs.ListSteps.{and_true}
+use Rattle.am_eval.proofs.PairConditions.{ways_of_pairs}
+
+-- ---- What stands at a position of two lists of which the same is made.
+
+same_at : {X Y Z : Type 0} (f : X → Z) (g : Y → Z) (xs : List X) (ys : List Y) (i : ℕ) (y : Y)
+    → map f xs ≡ map g ys → slice_get ys i ≡ Some y → option_map f (slice_get xs i) ≡ Some (g y)
+same_at f g xs ys i y same here =
+    sym (slice_get-map f xs i) ∙ ap (λ zs. slice_get zs i) same ∙ slice_get-map g ys i
+    ∙ ap (option_map g) here
+
+pub rule_at : (w : World) (rules : List Rule) (pair : Pair) (rule : Rule)
+    → Contains (pairs_of w.config.rules w.alerts) pair → rules ≡ w.config.rules
+    → rule ≡ get_or rules pair.rule rule → slice_get w.config.rules pair.rule ≡ Some rule
+rule_at w rules pair rule h e is =
+    ap (λ rs. slice_get rs pair.rule) (sym e)
+    ∙ slice_get_read rules (length rules) pair.rule rule refl (rule_within w rules pair h e) is
+
+-- ---- The rows of a pair.
+
+pub targets_within : (u : List Label) (targets : List (Vec TruthRow Global)) (rules : List Rule)
+    (i : ℕ) → AreTargets u targets rules → i < length rules → i < length targets
+targets_within u targets rules i same within =
+    omega (
+      arith,
+      ap length same,
+      within,
+      length-map targets (λ (rows : Vec TruthRow Global). rows.items),
+      length-map rules (λ (rule : Rule). map (row_of u) rule.target),
+    )
+
+pub target_at : (u : List Label) (targets : List (Vec TruthRow Global)) (rules : List Rule)
+    (i : ℕ) (rows : Vec TruthRow Global) (rule : Rule) → AreTargets u targets rules
+    → slice_get targets i ≡ Some rows → slice_get rules i ≡ Some rule
+    → rows.items ≡ map (row_of u) rule.target
+target_at u targets rules i rows rule same at_rows at_rule =
+    let items : Vec TruthRow Global → List TruthRow = λ rows. rows.items in
+    same_Some (items rows) (map (row_of u) rule.target)
+    (sym (ap (option_map items) at_rows)
+    ∙ same_at items (λ (rule : Rule). map (row_of u) rule.target) targets rules i rule same at_rule)
+
+-- and with the rows of the alert's values
+pub rows_of_pair : (u : List Label) (targets : List (Vec TruthRow Global)) (rules : List Rule)
+    (i : ℕ) (rows : Vec TruthRow Global) (rule : Rule) (firing : LabelMap)
+    (front values : List TruthRow) (names : List (List ℕ)) → AreTargets u targets rules
+    → rows ≡ get_or targets i rows → slice_get rules i ≡ Some rule → front ≡ rows.items
+    → values ≡ map (λ name. row_of u (same_value firing name)) names → names ≡ rule.equal
+    → front ++ values ≡ map (row_of u) (rule.target ++ map (same_value firing) rule.equal)
+rows_of_pair u targets rules i rows rule firing front values names same is at_rule e f h =
+    let within = targets_within u targets rules i same (slice_get_within rules i rule at_rule) in
+    let at_rows = slice_get_read targets (length targets) i rows refl within is in
+    let ms = map (same_value firing) rule.equal in
+    let of_values : values ≡ map (row_of u) ms =
+    f ∙ ap (map (λ name. row_of u (same_value firing name))) h
+    ∙ sym (map-map (row_of u) (same_value firing) rule.equal) in
+    ap (λ rs. rs ++ values) (e ∙ target_at u targets rules i rows rule same at_rows at_rule)
+    ∙ ap (λ rs. map (row_of u) rule.target ++ rs) of_values
+    ∙ sym (map-append (row_of u) rule.target ms)
+
+-- ---- The verdict of a pair.
+
+source_at : {L : Type 0} (verdict : L → List ℕ → Verdict) (prefix : List ℕ) (m : Certainty)
+    (source : Option L) (v : Verdict) → option_map (λ source. verdict source prefix) source ≡ Some v
+    → source_fails verdict prefix m source ≡ not (passes (other m) v)
+source_at verdict prefix m None v e = absurd (cc)
+source_at verdict prefix m (Some source) v e =
+    ap (λ v. not (passes (other m) v)) (same_Some (verdict source prefix) v e)
+
+pub source_by_both : {L : Type 0} (u : List Label) (rules : List Rule)
+    (verdict : L → List ℕ → Verdict) (prefix : List ℕ) (m : Certainty) (sources : List L) (i : ℕ)
+    (rule : Rule) → AreSources u verdict prefix sources rules → slice_get rules i ≡ Some rule
+    → (both : Bool)
+    → source_fails verdict prefix m (source_among sources both i)
+    ≡ list_all (λ l. passes m (verdict_of_literal u prefix l))
+    (cond both (not_matching rule.source ∷ []) [])
+source_by_both u rules verdict prefix m sources i rule are at_rule true =
+    let v = verdict_of_list u rule.source prefix in
+    source_at verdict prefix m (slice_get sources i) v
+    (same_at (λ source. verdict source prefix) (λ (rule : Rule). verdict_of_list u rule.source prefix)
+    sources rules i rule are at_rule)
+    ∙ sym (passes_not m v) ∙ sym (and_true (passes m (kleene_not v)))
+source_by_both u rules verdict prefix m sources i rule are at_rule false = refl
+
+pub pair_truth : {L : Type 0} (u : List Label) (w : World) (verdict : L → List ℕ → Verdict)
+    (prefix : List ℕ) (m : Certainty) (sources : List L) (list : L) (pair : Pair)
+    (rule : Rule) (firing : LabelMap) → AreSources u verdict prefix sources w.config.rules
+    → slice_get w.config.rules pair.rule ≡ Some rule → slice_get w.alerts pair.alert ≡ Some firing
+    → pair.both ≡ all_hold firing rule.target
+    → verdict list prefix
+    ≡ verdict_of_list u (rule.target ++ map (same_value firing) rule.equal) prefix
+    → pair_by verdict prefix m sources
+    (record { list = list; side = record { rule = pair.rule; both = pair.both } })
+    ≡ way_of_pair u w prefix m pair
+pair_truth u w verdict prefix m sources list pair rule firing are at_rule at_alert which exact =
+    let holds : Literal → Bool = λ l. passes m (verdict_of_literal u prefix l) in
+    let v = verdict_of_list u (rule.target ++ map (same_value firing) rule.equal) prefix in
+    let way : pair_way w.config.rules w.alerts pair ≡ inhibiting_way rule firing =
+    rw (at_rule, at_alert) refl in
+    ap (λ v. passes m v && source_fails verdict prefix m (source_among sources pair.both pair.rule))
+    exact
+    ∙ ap (λ b. passes m v && source_fails verdict prefix m (source_among sources b pair.rule)) which
+    ∙ ap (λ b. passes m v && b)
+    (source_by_both u w.config.rules verdict prefix m sources pair.rule rule are at_rule
+    (all_hold firing rule.target))
+    ∙ sym (ap (list_all holds) way)
+
+-- ---- All pairs.
+
+-- by the lists of pairs and by what they ask of their source sides
+pub some_of_pairs : {L : Type 0} (verdict : L → List ℕ → Verdict) (prefix : List ℕ) (m : Certainty)
+    (sources : List L) (pairs : List (PairList L))
+    → some_pair (passes m) (side_fails verdict prefix m sources)
+    (map (λ list. verdict list prefix) (map (λ (pair : PairList L). pair.list) pairs))
+    (map (λ (pair : PairList L). pair.side) pairs)
+    ≡ list_any (pair_by verdict prefix m sources) pairs
+some_of_pairs verdict prefix m sources [] = refl
+some_of_pairs verdict prefix m sources (pair ∷ pairs) =
+    ap (λ b. pair_by verdict prefix m sources pair || b)
+    (some_of_pairs verdict prefix m sources pairs)
+
+pub pairs_truth : {L : Type 0} (u : List Label) (w : World) (verdict : L → List ℕ → Verdict)
+    (prefix : List ℕ) (m : Certainty) (lists : PairLists L) (pairs : List (PairList L))
+    → verdicts_in verdict prefix lists.lists
+    ≡ map (λ list. verdict list prefix) (map (λ (pair : PairList L). pair.list) pairs)
+    → lists.sides.items ≡ map (λ (pair : PairList L). pair.side) pairs
+    → list_any (pair_by verdict prefix m lists.sources.items) pairs
+    ≡ list_any (way_of_pair u w prefix m) (pairs_of w.config.rules w.alerts)
+    → inhibited_by verdict prefix lists m ≡ passes m (verdict_of_simple u w Inhibited prefix)
+pairs_truth u w verdict prefix m lists pairs of_lists of_sides same =
+    let holds : Literal → Bool = λ l. passes m (verdict_of_literal u prefix l) in
+    let fails = side_fails verdict prefix m lists.sources.items in
+    ap (λ vs. some_pair (passes m) fails vs lists.sides.items) of_lists
+    ∙ ap (λ sides. some_pair (passes m) fails (map (λ list. verdict list prefix)
+    (map (λ (pair : PairList _). pair.list) pairs)) sides) of_sides
+    ∙ some_of_pairs verdict prefix m lists.sources.items pairs
+    ∙ same
+    ∙ sym (list_any-map (list_all holds) (pair_way w.config.rules w.alerts)
+    (pairs_of w.config.rules w.alerts))
+    ∙ ap (some_way_holds holds) (ways_of_pairs w)
+    ∙ sym (passes_simple m u w Inhibited prefix)
+
+-- ---- One pair after the other.
+
+-- no pair inhibits; one does
+pub no_pair : (test : Verdict → Bool) (fails : PairSide → Bool) (vs : List Verdict)
+    (sides : List PairSide)
+    → ((j : ℕ) (v : Verdict) (side : PairSide) → slice_get vs j ≡ Some v
+    → slice_get sides j ≡ Some side → (test v && fails side) ≡ false)
+    → some_pair test fails vs sides ≡ false
+no_pair test fails [] sides none = refl
+no_pair test fails (v ∷ vs) [] none = refl
+no_pair test fails (v ∷ vs) (side ∷ sides) none =
+    rw (none 0 v side refl refl)
+    (no_pair test fails vs sides (λ j w other at with. none (suc j) w other at with))
+
+pub this_pair : (test : Verdict → Bool) (fails : PairSide → Bool) (vs : List Verdict)
+    (sides : List PairSide) (i : ℕ) (side : PairSide) → i < length vs
+    → ((v : Verdict) → slice_get vs i ≡ Some v → test v ≡ true) → slice_get sides i ≡ Some side
+    → fails side ≡ true → some_pair test fails vs sides ≡ true
+this_pair test fails [] sides i side h found at e = absurd (omega (arith, h))
+this_pair test fails (v ∷ vs) [] zero side h found at e = absurd (cc)
+this_pair test fails (v ∷ vs) [] (suc i) side h found at e = absurd (cc)
+this_pair test fails (v ∷ vs) (other ∷ sides) zero side h found at e =
+    rw (found v refl, ap fails (same_Some other side at) ∙ e) refl
+this_pair test fails (v ∷ vs) (other ∷ sides) (suc i) side h found at e =
+    or_right (test v && fails other) (some_pair test fails vs sides)
+    (this_pair test fails vs sides i side (omega arith) found at e)
+
+-- none of the pairs before a place inhibits
+abbrev pub NoPairBefore : (Verdict → Bool) → (PairSide → Bool) → List Verdict → List PairSide → ℕ
+    → Type 0
+NoPairBefore test fails vs sides i =
+    (j : ℕ) (v : Verdict) (side : PairSide) → j < i → slice_get vs j ≡ Some v
+    → slice_get sides j ≡ Some side → (test v && fails side) ≡ false
+
+-- none from a place on: there the verdicts pass nowhere, or the pairs end
+pub no_pair_to_end : (test : Verdict → Bool) (fails : PairSide → Bool) (vs : List Verdict)
+    (sides : List PairSide) (from to : ℕ) → NoPairBefore test fails vs sides from
+    → NoneBetween test vs from to → (length vs ≤ to) ⊎ (length sides ≤ to)
+    → some_pair test fails vs sides ≡ false
+no_pair_to_end test fails vs sides from to before none end =
+    no_pair test fails vs sides (λ j v side here with. elim (cases_lt j from) [
+      | inl past ↦ before j v side past here with
+      | inr behind ↦
+          let low : j < to = elim end [
+            | inl all ↦ omega (arith, all, slice_get_within vs j v here)
+            | inr out ↦ omega (arith, out, slice_get_within sides j side with)
+          ] in
+          ap (λ b. b && fails side) (none j v behind low here)
+    ])
+
+pub no_pair_more : (test : Verdict → Bool) (fails : PairSide → Bool) (vs : List Verdict)
+    (sides : List PairSide) (from i next : ℕ) (side : PairSide)
+    → NoPairBefore test fails vs sides from → NoneBetween test vs from i
+    → slice_get sides i ≡ Some side → fails side ≡ false
+    → ((j : ℕ) (x y : PairSide) → i ≤ j → j < next → slice_get sides i ≡ Some x
+    → slice_get sides j ≡ Some y → y ≡ x)
+    → NoPairBefore test fails vs sides next
+no_pair_more test fails vs sides from i next side before none at spared same j v other low here with =
+    elim (cases_lt j i) [
+      | inl first ↦ elim (cases_lt j from) [
+        | inl past ↦ before j v other past here with
+        | inr behind ↦ ap (λ b. b && fails other) (none j v behind first here)
+      ]
+      | inr last ↦
+          and_right (test v) (fails other) (ap fails (same j side other last low at with) ∙ spared)
+    ]
+
+-- ---- What adds nothing.
+
+-- a pair that says the same as one of some
+pub said_before : {L : Type 0} (verdict : L → List ℕ → Verdict) (prefix : List ℕ) (m : Certainty)
+    (sources : List L) (lists : List (PairList L)) (i : ℕ) (other pair : PairList L)
+    → slice_get lists i ≡ Some other → other.side.rule ≡ pair.side.rule → other.side.both ≡ pair.side.both
+    → verdict other.list prefix ≡ verdict pair.list prefix
+    → IsTrue (pair_by verdict prefix m sources pair)
+    → IsTrue (list_any (pair_by verdict prefix m sources) lists)
+said_before verdict prefix m sources lists i other pair at same_rule same_both same_list e =
+    let same : pair_by verdict prefix m sources other ≡ pair_by verdict prefix m sources pair =
+    ap (λ v. passes m v && source_fails verdict prefix m (source_among sources other.side.both other.side.rule))
+    same_list
+    ∙ ap (λ b. passes m (verdict pair.list prefix)
+    && source_fails verdict prefix m (source_among sources b other.side.rule)) same_both
+    ∙ ap (λ r. passes m (verdict pair.list prefix)
+    && source_fails verdict prefix m (source_among sources pair.side.both r)) same_rule in
+    in_any (pair_by verdict prefix m sources) lists other (in_at lists i other at) (same ∙ e)
+
+-- a list that is never matched
+pub passes_no : (m : Certainty) (v : Verdict) → v ≡ No → passes m v ≡ false
+passes_no May v e = rw e refl
+passes_no Must v e = rw e refl
+
+pub never_inhibits : {L : Type 0} (verdict : L → List ℕ → Verdict) (prefix : List ℕ)
+    (m : Certainty) (sources : List L) (pair : PairList L) → verdict pair.list prefix ≡ No
+    → pair_by verdict prefix m sources pair ≡ false
+never_inhibits verdict prefix m sources pair e =
+    let rest = source_fails verdict prefix m (source_among sources pair.side.both pair.side.rule) in
+    ap (λ b. b && rest) (passes_no m (verdict pair.list prefix) e)
+
+-- the row of an alert's value
+pub row_of_value : (u : List Label) (alert : LabelMap) (row : TruthRow) (name read value : List ℕ)
+    → row ≡ row_of u (record { name = read; op = Equal; value = value }) → read ≡ name
+    → value ≡ value_of alert name → row ≡ row_of u (same_value alert name)
+row_of_value u alert row name read value e f g =
+    e ∙ ap (λ n. row_of u (record { name = n; op = Equal; value = value })) f
+    ∙ ap (λ v. row_of u (record { name = name; op = Equal; value = v })) g

@@ -1,0 +1,12 @@
+pub mod Verdicts
+pub mod Target
+pub mod TargetView
+pub mod RouteSeen
+pub mod RoutesByLists
+pub mod PairsByLists
+pub mod WorldByLists
+pub mod QuestionByLists
+pub mod QuestionView
+pub mod SpaceExample
+pub mod PlanView
+pub mod PlanWords

@@ -1,0 +1,53 @@
+//! A question, ready to be judged.
+
+ghost use Rattle.std.specs.Prelude.{◌≡◌, ℕ, List, IfOk};
+ghost use Rattle.am_universe.specs.Universe.{sizes};
+ghost use Rattle.am_eval.specs.QuestionView.{question_view};
+ghost use Rattle.am_judged_lists.specs.declared.certainty.Certainty.{Certainty};
+ghost use Rattle.am_judged_lists.specs.Certainty.{passes};
+ghost use Rattle.am_plans.specs.Verdicts.{verdict_of_question};
+ghost use Rattle.am_plans.specs.QuestionView.{truth_by};
+
+use crate::question_lists::QuestionLists;
+use crate::world_lists::WorldLists;
+use am_eval::{Question, World};
+use am_judged_lists::{Certainty, JudgedList};
+use am_universe::{Choice, Universe};
+use std::alloc::{AllocError, Global};
+
+/// A question about a world, with a list for each list of matchers that it asks of: its own, and,
+/// where it asks of them, those of the routes, the active silences, and the pairs of an inhibition
+/// rule and a firing alert.
+#[derive(Drop)]
+pub struct JudgedQuestion<'a, L> {
+    world: WorldLists<L>,
+    question: QuestionLists<'a, L>,
+}
+
+impl<'a, L: JudgedList> JudgedQuestion<'a, L> {
+    /// A question about a world, over a universe. An `Err` only where memory was refused.
+    pub fn of(
+        alloc: Global,
+        universe: &Universe,
+        world: &World,
+        question: &'a Question,
+    ) -> Result<JudgedQuestion<'a, L>, AllocError>
+        ensures exact { IfOk result (λ judged. (prefix : List ℕ) (m : Certainty)
+            → L.Knows (sizes universe.now) prefix → truth_by L.verdict prefix judged m
+            ≡ passes m (verdict_of_question universe.now world.now (question_view question.now)
+            prefix)) }
+    {
+        Ok(JudgedQuestion {
+            world: WorldLists::of(alloc, universe, world, question)?,
+            question: QuestionLists::of(alloc, universe, question)?,
+        })
+    }
+
+    /// Whether the question is true of a label set: whether at a prefix that is not excluded, or
+    /// certain. No memory is taken.
+    pub fn holds(&self, certainty: Certainty, prefix: &Choice) -> bool
+        ensures truth { result ≡ truth_by L.verdict prefix.now self.now certainty }
+    {
+        self.question.holds(&self.world, certainty, prefix)
+    }
+}

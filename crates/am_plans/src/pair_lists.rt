@@ -1,0 +1,295 @@
+//! The pairs of an inhibition rule and a firing alert, with their lists.
+
+ghost use Rattle.std.specs.Prelude.{◌≡◌, ◌||◌, ℕ, List, map, Contains, IfOk, OnOk, IsTrue};
+ghost use Rattle.std.specs.Prelude.{string_bytes, ◌<◌, ◌≤◌, length, slice_get, Some};
+ghost use Rattle.std.specs.List.{list_any};
+ghost use Rattle.am_universe.specs.Universe.{sizes};
+ghost use Rattle.am_labels.specs.Row.{row_of};
+ghost use Rattle.am_judged_lists.specs.Verdicts.{verdict_of_list};
+ghost use Rattle.am_eval.specs.Question.{Inhibited};
+ghost use Rattle.am_eval.specs.Pairs.{pairs_of};
+ghost use Rattle.am_eval.specs.Conditions.{same_value};
+ghost use Rattle.am_judged_lists.specs.declared.certainty.Certainty.{Certainty};
+ghost use Rattle.am_judged_lists.specs.Certainty.{passes};
+ghost use Rattle.am_plans.specs.Verdicts.{verdict_of_simple};
+ghost use Rattle.am_plans.specs.declared.pair_lists.PairSide.{PairSide};
+ghost use Rattle.am_plans.specs.PairsByLists.{inhibited_by, side_fails, pair_by, AreSources};
+ghost use Rattle.am_plans.specs.PairsByLists.{AreTargets, way_of_pair};
+
+use am_config::Rule;
+use am_eval::{Pair, World};
+use am_judged_lists::{Certainty, Group, JudgedList, rows_of};
+use am_labels::Row;
+use am_universe::{Choice, LabelSet, Universe};
+use std::alloc::{AllocError, Global};
+
+/// What a pair of a rule and a firing alert asks of the rule's source side.
+#[derive(Clone, Copy, Drop)]
+struct PairSide {
+    /// The rule, by its position.
+    rule: usize,
+    /// Whether the rule's target side matches the alert too: then its source side must not match.
+    both: bool,
+}
+
+/// A pair of a rule and a firing alert that its source side matches.
+#[derive(Drop)]
+struct PairList<L> {
+    /// The target side, with the alert's values for the labels in `equal`.
+    list: L,
+    side: PairSide,
+}
+
+/// The pairs of a world, with their lists.
+#[derive(Drop)]
+pub(crate) struct PairLists<L> {
+    /// The target side of each pair, with the alert's values for the labels in `equal`.
+    lists: Group<L>,
+    /// What each pair asks of its source side.
+    sides: Vec<PairSide>,
+    /// The source side of each rule.
+    sources: Vec<L>,
+}
+
+impl<L: JudgedList> PairLists<L> {
+    /// Those of a world. An `Err` only where memory was refused.
+    pub(crate) fn of(
+        alloc: Global,
+        universe: &Universe,
+        world: &World,
+    ) -> Result<PairLists<L>, AllocError>
+        ensures inhibited { IfOk result (λ lists. (prefix : List ℕ) (m : Certainty)
+            → L.Knows (sizes universe.now) prefix → inhibited_by L.verdict prefix lists m
+            ≡ passes m (verdict_of_simple universe.now world.now Inhibited prefix)) }
+    {
+        let rules = world.config().rules();
+        let sources = lists_of_sources(alloc, universe, rules)?;
+        let targets = rows_of_targets(alloc, universe, rules)?;
+        let pairs = lists_of_pairs(alloc, universe, world, targets.as_slice())?;
+        let (lists, sides) = parts_of_pairs(alloc, pairs)?;
+        Ok(PairLists {
+            lists: Group::of(alloc, universe, lists)?,
+            sides,
+            sources,
+        })
+    }
+
+    /// Whether a firing alert inhibits a label set: whether at a prefix that is not excluded, or
+    /// certain.
+    pub(crate) fn inhibit(&self, certainty: Certainty, prefix: &Choice) -> bool
+        ensures inhibited { result ≡ inhibited_by L.verdict prefix.now self.now certainty }
+    {
+        let mut from = 0;
+        while let Some(i) = self.lists.next(certainty, prefix, from) {
+            if i >= self.sides.len() {
+                return false;
+            }
+            if side_fails(&self.sources, self.sides[i], certainty, prefix) {
+                return true;
+            }
+            // The next pairs ask the same of the same source side.
+            from = behind_same(&self.sides, i);
+        }
+        false
+    }
+}
+
+/// Whether the source side of a pair does not match, where the pair asks of it.
+fn side_fails<L: JudgedList>(
+    sources: &[L],
+    side: PairSide,
+    certainty: Certainty,
+    prefix: &Choice,
+) -> bool
+    ensures { result ≡ side_fails L.verdict prefix.now certainty sources.now side }
+{
+    if !side.both {
+        return true;
+    }
+    match sources.get(side.rule) {
+        Some(source) => certainty.fails(source, prefix),
+        None => true,
+    }
+}
+
+/// The first place behind one at which another source side is asked of, or nothing.
+fn behind_same(sides: &[PairSide], place: usize) -> usize
+    requires { place < length sides.now }
+    ensures behind { place < result }
+    ensures same { (j : ℕ) (x y : PairSide) → place ≤ j → j < result
+        → slice_get sides.now place ≡ Some x → slice_get sides.now j ≡ Some y → y ≡ x }
+{
+    let side = sides[place];
+    for i in place + 1..sides.len() {
+        if sides[i].rule != side.rule || sides[i].both != side.both {
+            return i;
+        }
+    }
+    sides.len()
+}
+
+/// The lists of some pairs, and what they ask of their source sides.
+fn parts_of_pairs<L: JudgedList>(
+    alloc: Global,
+    pairs: Vec<PairList<L>>,
+) -> Result<(Vec<L>, Vec<PairSide>), AllocError>
+    ensures lists { IfOk result (λ parts. parts.0.items ≡ map (λ pair. pair.list) pairs.items) }
+    ensures sides { IfOk result (λ parts. parts.1.items ≡ map (λ pair. pair.side) pairs.items) }
+{
+    let mut lists = Vec::with_capacity(alloc, pairs.len())?;
+    let mut sides = Vec::with_capacity(alloc, pairs.len())?;
+    for pair in pairs {
+        let PairList { list, side } = pair;
+        lists.push(list)?;
+        sides.push(side)?;
+    }
+    Ok((lists, sides))
+}
+
+/// The list of the source side of each rule.
+fn lists_of_sources<L: JudgedList>(
+    alloc: Global,
+    universe: &Universe,
+    rules: &[Rule],
+) -> Result<Vec<L>, AllocError>
+    ensures sources { IfOk result (λ lists. (prefix : List ℕ)
+        → L.Knows (sizes universe.now) prefix
+        → AreSources universe.now L.verdict prefix lists.items rules.now) }
+{
+    let mut lists = Vec::with_capacity(alloc, rules.len())?;
+    for rule in rules {
+        let rows = rows_of(alloc, universe, rule.source())?;
+        lists.push(L::of_rows(alloc, universe, rows.as_slice(), &[])?)?;
+    }
+    Ok(lists)
+}
+
+/// The rows of the target side of each rule.
+fn rows_of_targets(
+    alloc: Global,
+    universe: &Universe,
+    rules: &[Rule],
+) -> Result<Vec<Vec<Row>>, AllocError>
+    ensures targets { IfOk result (λ targets. AreTargets universe.now targets.items rules.now) }
+{
+    let mut targets = Vec::with_capacity(alloc, rules.len())?;
+    for rule in rules {
+        targets.push(rows_of(alloc, universe, rule.target())?)?;
+    }
+    Ok(targets)
+}
+
+/// The lists of the pairs of a world. A pair whose list is never matched is left out, and so is one
+/// that says the same as another of its rule: an or does not change by them.
+fn lists_of_pairs<L: JudgedList>(
+    alloc: Global,
+    universe: &Universe,
+    world: &World,
+    targets: &[Vec<Row>],
+) -> Result<Vec<PairList<L>>, AllocError>
+    requires { AreTargets universe.now targets.now world.now.config.rules }
+    ensures pairs { IfOk result (λ lists. (prefix : List ℕ) (m : Certainty) (sources : List L)
+        → L.Knows (sizes universe.now) prefix
+        → AreSources universe.now L.verdict prefix sources world.now.config.rules
+        → list_any (pair_by L.verdict prefix m sources) lists.items
+        ≡ list_any (way_of_pair universe.now world.now prefix m)
+        (pairs_of world.now.config.rules world.now.alerts)) }
+{
+    let mut lists = Vec::new(alloc);
+    for pair in world.pairs() {
+        let list = list_of_pair(alloc, universe, world, targets, *pair)?;
+        add_pair(&mut lists, list)?;
+    }
+    Ok(lists)
+}
+
+/// Adds a pair, unless it adds nothing.
+fn add_pair<L: JudgedList>(
+    lists: &mut Vec<PairList<L>>,
+    pair: PairList<L>,
+) -> Result<(), AllocError>
+    ensures { OnOk result ((prefix : List ℕ) (m : Certainty) (sources : List L)
+        → list_any (pair_by L.verdict prefix m sources) lists.new.items
+        ≡ (list_any (pair_by L.verdict prefix m sources) lists.old.items
+        || pair_by L.verdict prefix m sources pair)) }
+{
+    if !is_idle(lists.as_slice(), &pair) {
+        lists.push(pair)?;
+    }
+    Ok(())
+}
+
+/// Whether a pair adds nothing to some pairs: its list is never matched, or one of the last of
+/// them, which are of the same rule, says the same.
+fn is_idle<L: JudgedList>(lists: &[PairList<L>], pair: &PairList<L>) -> bool
+    ensures { IsTrue result → (prefix : List ℕ) (m : Certainty) (sources : List L)
+        → IsTrue (pair_by L.verdict prefix m sources pair.now)
+        → IsTrue (list_any (pair_by L.verdict prefix m sources) lists.now) }
+{
+    if pair.list.is_never() {
+        return true;
+    }
+    for i in (0..lists.len()).rev() {
+        let other = &lists[i];
+        if other.side.rule != pair.side.rule {
+            return false;
+        }
+        if other.side.both == pair.side.both && other.list.is_same(&pair.list) {
+            return true;
+        }
+    }
+    false
+}
+
+/// The list of a pair: of the target side, and of the alert's values for the labels in `equal`.
+fn list_of_pair<L: JudgedList>(
+    alloc: Global,
+    universe: &Universe,
+    world: &World,
+    targets: &[Vec<Row>],
+    pair: Pair,
+) -> Result<PairList<L>, AllocError>
+    requires targets { AreTargets universe.now targets.now world.now.config.rules }
+    requires pair { Contains (pairs_of world.now.config.rules world.now.alerts) pair }
+    ensures pair { IfOk result (λ list. (prefix : List ℕ) (m : Certainty) (sources : List L)
+        → L.Knows (sizes universe.now) prefix
+        → AreSources universe.now L.verdict prefix sources world.now.config.rules
+        → pair_by L.verdict prefix m sources list
+        ≡ way_of_pair universe.now world.now prefix m pair) }
+{
+    let rule = &world.config().rules()[pair.rule];
+    let alert = world.alerts().get(pair.alert);
+    let values = rows_of_values(alloc, universe, rule.equal(), alert)?;
+    let list = L::of_rows(
+        alloc,
+        universe,
+        targets[pair.rule].as_slice(),
+        values.as_slice(),
+    )?;
+    Ok(PairList {
+        list,
+        side: PairSide {
+            rule: pair.rule,
+            both: pair.both,
+        },
+    })
+}
+
+/// The rows of the matchers that want an alert's values of these labels, in the order of their
+/// names. An `Err` only where memory was refused.
+fn rows_of_values(
+    alloc: Global,
+    universe: &Universe,
+    names: &[String],
+    alert: &LabelSet,
+) -> Result<Vec<Row>, AllocError>
+    ensures rows { IfOk result (λ rows. rows.items
+        ≡ map (λ name. row_of universe.now (same_value alert.now name))
+        (map string_bytes names.now)) }
+{
+    let mut rows = Vec::with_capacity(alloc, names.len())?;
+    for name in names {
+        rows.push(Row::of_value(alloc, universe, name.as_str(), alert.get(name))?)?;
+    }
+    Ok(rows)
+}

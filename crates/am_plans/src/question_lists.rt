@@ -1,0 +1,104 @@
+//! Questions, with lists in place of their matchers.
+
+ghost use Rattle.std.specs.Prelude.{◌≡◌, ℕ, List, IfOk};
+ghost use Rattle.am_universe.specs.Universe.{sizes};
+ghost use Rattle.am_eval.specs.World.{World};
+ghost use Rattle.am_eval.specs.QuestionView.{question_view};
+ghost use Rattle.am_judged_lists.specs.declared.certainty.Certainty.{Certainty};
+ghost use Rattle.am_judged_lists.specs.Certainty.{passes};
+ghost use Rattle.am_plans.specs.Verdicts.{verdict_of_question};
+ghost use Rattle.am_plans.specs.WorldByLists.{WorldSeen, world_seen, Serves};
+ghost use Rattle.am_plans.specs.QuestionByLists.{question_by};
+
+use crate::target::Target;
+use crate::world_lists::WorldLists;
+use am_eval::Question;
+use am_judged_lists::{Certainty, JudgedList, rows_of};
+use am_universe::{Choice, Universe};
+use std::alloc::{AllocError, Global};
+
+/// A question, with the lists of its matchers.
+#[derive(Drop)]
+pub(crate) enum QuestionLists<'q, L> {
+    /// True of every label set.
+    Any,
+    /// Some silence hides the label set.
+    Silenced,
+    /// Some firing alert inhibits it.
+    Inhibited,
+    /// It comes to a target among the routes.
+    Comes(Target<'q>),
+    /// It matches the list.
+    Braces(L),
+    /// The question is false.
+    Not(Box<QuestionLists<'q, L>>),
+    /// Both are true.
+    And(Box<QuestionLists<'q, L>>, Box<QuestionLists<'q, L>>),
+    /// One of them is true, or both.
+    Or(Box<QuestionLists<'q, L>>, Box<QuestionLists<'q, L>>),
+}
+
+impl<'q, L: JudgedList> QuestionLists<'q, L> {
+    /// A question with the lists of its matchers. An `Err` only where memory was refused.
+    pub(crate) fn of(
+        alloc: Global,
+        universe: &Universe,
+        question: &'q Question,
+    ) -> Result<QuestionLists<'q, L>, AllocError>
+        ensures exact { IfOk result (λ lists.
+            (w : World) (prefix : List ℕ) (seen : WorldSeen) (m : Certainty)
+            → L.Knows (sizes universe.now) prefix
+            → Serves universe.now w prefix seen (question_view question.now)
+            → question_by L.verdict prefix seen lists m
+            ≡ passes m (verdict_of_question universe.now w (question_view question.now) prefix)) }
+    {
+        match question {
+            Question::Any => Ok(QuestionLists::Any),
+            Question::Silenced => Ok(QuestionLists::Silenced),
+            Question::Inhibited => Ok(QuestionLists::Inhibited),
+            Question::Receiver(receiver) => Ok(QuestionLists::Comes(Target::Receiver(*receiver))),
+            Question::Ends(path) => Ok(QuestionLists::Comes(Target::Ends(path.steps()))),
+            Question::Enters(path) => Ok(QuestionLists::Comes(Target::Enters(path.steps()))),
+            Question::Braces(matchers) => {
+                let rows = rows_of(alloc, universe, matchers)?;
+                Ok(QuestionLists::Braces(L::of_rows(alloc, universe, rows.as_slice(), &[])?))
+            }
+            Question::Not(question) => {
+                let lists = QuestionLists::of(alloc, universe, question)?;
+                Ok(QuestionLists::Not(Box::new(alloc, lists)?))
+            }
+            Question::And(left, right) => {
+                let left = QuestionLists::of(alloc, universe, left)?;
+                let right = QuestionLists::of(alloc, universe, right)?;
+                Ok(QuestionLists::And(Box::new(alloc, left)?, Box::new(alloc, right)?))
+            }
+            Question::Or(left, right) => {
+                let left = QuestionLists::of(alloc, universe, left)?;
+                let right = QuestionLists::of(alloc, universe, right)?;
+                Ok(QuestionLists::Or(Box::new(alloc, left)?, Box::new(alloc, right)?))
+            }
+        }
+    }
+
+    /// Whether the question is true of a label set: whether at a prefix that is not excluded, or
+    /// certain.
+    pub(crate) fn holds(&self, world: &WorldLists<L>, certainty: Certainty, prefix: &Choice) -> bool
+        ensures truth { result ≡ question_by L.verdict prefix.now
+            (world_seen L.verdict prefix.now world.now) self.now certainty }
+    {
+        match self {
+            QuestionLists::Any => true,
+            QuestionLists::Silenced => world.silenced(certainty, prefix),
+            QuestionLists::Inhibited => world.inhibited(certainty, prefix),
+            QuestionLists::Comes(target) => world.comes(certainty, *target, prefix),
+            QuestionLists::Braces(list) => certainty.holds(list, prefix),
+            QuestionLists::Not(question) => !question.holds(world, certainty.other(), prefix),
+            QuestionLists::And(left, right) => {
+                left.holds(world, certainty, prefix) && right.holds(world, certainty, prefix)
+            }
+            QuestionLists::Or(left, right) => {
+                left.holds(world, certainty, prefix) || right.holds(world, certainty, prefix)
+            }
+        }
+    }
+}

@@ -1,0 +1,82 @@
+//! Which routes are looked for.
+
+ghost use Rattle.std.specs.Prelude.{◌≡◌, ℕ, List, ◌∷◌, ◌≢◌, IfSome, IfNone};
+ghost use Rattle.am_plans.specs.TargetView.{target_view};
+ghost use Rattle.am_plans.specs.Target.{target_below, is_end_here, is_entered, is_nothing};
+
+/// Which routes are looked for, seen from a route: those to which a way leads from there, or those
+/// that have a receiver.
+#[derive(Clone, Copy)]
+pub(crate) enum Target<'q> {
+    /// No route.
+    Nothing,
+    /// The ends whose receiver is at this position.
+    Receiver(usize),
+    /// The end at this path.
+    Ends(&'q [u16]),
+    /// The route at this path, whatever end below it.
+    Enters(&'q [u16]),
+}
+
+impl<'q> Target<'q> {
+    /// The same, seen from the child at a position.
+    pub(crate) fn below(self, position: usize) -> Target<'q>
+        ensures below { target_view result ≡ target_below (target_view self.entry) position }
+    {
+        match self {
+            Target::Nothing => Target::Nothing,
+            Target::Receiver(receiver) => Target::Receiver(receiver),
+            Target::Ends(path) => match path_below(path, position) {
+                Some(path) => Target::Ends(path),
+                None => Target::Nothing,
+            },
+            Target::Enters(path) => match path_below(path, position) {
+                Some(path) => Target::Enters(path),
+                None => Target::Nothing,
+            },
+        }
+    }
+
+    /// Whether the route from which this is seen is an end that is looked for, where it has this
+    /// receiver.
+    pub(crate) fn is_end_here(self, receiver: usize) -> bool
+        ensures here { result ≡ is_end_here (target_view self.entry) receiver }
+    {
+        match self {
+            Target::Nothing | Target::Enters(_) => false,
+            Target::Receiver(other) => receiver == other,
+            Target::Ends(path) => path.is_empty(),
+        }
+    }
+
+    /// Whether the route from which this is seen is to be entered.
+    pub(crate) fn is_entered(self) -> bool
+        ensures entered { result ≡ is_entered (target_view self.entry) }
+    {
+        match self {
+            Target::Enters(path) => path.is_empty(),
+            _ => false,
+        }
+    }
+
+    /// Whether nothing is looked for.
+    pub(crate) fn is_nothing(self) -> bool
+        ensures nothing { result ≡ is_nothing (target_view self.entry) }
+    {
+        match self {
+            Target::Nothing => true,
+            _ => false,
+        }
+    }
+}
+
+/// What is left of a path behind its first position, if it begins with this one.
+fn path_below(path: &[u16], position: usize) -> Option<&[u16]>
+    ensures below { IfSome result (λ rest. path.now ≡ position ∷ rest.now) }
+    ensures elsewhere { IfNone result ((rest : List ℕ) → path.now ≢ position ∷ rest) }
+{
+    if path.is_empty() || usize::from(path[0]) != position {
+        return None;
+    }
+    Some(&path[1..])
+}

@@ -1,0 +1,175 @@
+//! The lists of a world.
+
+ghost use Rattle.std.specs.Prelude.{◌≡◌, ◌||◌, ℕ, List, IfOk, OnOk, IsTrue};
+ghost use Rattle.std.specs.List.{list_any};
+ghost use Rattle.am_universe.specs.Universe.{sizes};
+ghost use Rattle.am_eval.specs.Question.{Silenced, Inhibited};
+ghost use Rattle.am_eval.specs.QuestionView.{question_view};
+ghost use Rattle.am_judged_lists.specs.declared.certainty.Certainty.{Certainty};
+ghost use Rattle.am_judged_lists.specs.Certainty.{passes};
+ghost use Rattle.am_plans.specs.TargetView.{target_view};
+ghost use Rattle.am_plans.specs.Verdicts.{verdict_of_simple};
+ghost use Rattle.am_plans.specs.WorldByLists.{world_seen, AreRoutes, Serves, comes_by_lists};
+ghost use Rattle.am_plans.specs.WorldByLists.{silenced_by_lists, inhibited_by_lists};
+
+use crate::needs::{Need, needs};
+use crate::pair_lists::PairLists;
+use crate::route_lists::RouteLists;
+use crate::target::Target;
+use am_eval::{Question, World};
+use am_judged_lists::{Certainty, Group, JudgedList, rows_of};
+use am_universe::{Choice, Universe};
+use std::alloc::{AllocError, Global};
+
+/// The lists of the routes, the active silences, and the pairs of a world, as far as a question
+/// asks of them.
+#[derive(Drop)]
+pub(crate) struct WorldLists<L> {
+    routes: Option<RouteLists<L>>,
+    silences: Option<Group<L>>,
+    pairs: Option<PairLists<L>>,
+}
+
+impl<L: JudgedList> WorldLists<L> {
+    /// The lists of a world that a question asks of. An `Err` only where memory was refused.
+    pub(crate) fn of(
+        alloc: Global,
+        universe: &Universe,
+        world: &World,
+        question: &Question,
+    ) -> Result<WorldLists<L>, AllocError>
+        ensures serves { IfOk result (λ lists. (prefix : List ℕ)
+            → L.Knows (sizes universe.now) prefix → Serves universe.now world.now prefix
+            (world_seen L.verdict prefix lists) (question_view question.now)) }
+    {
+        Ok(WorldLists {
+            routes: routes_if(alloc, universe, world, needs(question, Need::Routes))?,
+            silences: silences_if(alloc, universe, world, needs(question, Need::Silences))?,
+            pairs: pairs_if(alloc, universe, world, needs(question, Need::Pairs))?,
+        })
+    }
+
+    /// Whether a label set comes to a target: whether at a prefix that is not excluded, or certain.
+    pub(crate) fn comes(&self, certainty: Certainty, target: Target<'_>, prefix: &Choice) -> bool
+        ensures comes { result ≡ (world_seen L.verdict prefix.now self.now).comes certainty
+            (target_view target.entry) }
+    {
+        match &self.routes {
+            Some(routes) => routes.comes(certainty, target, prefix),
+            None => false,
+        }
+    }
+
+    /// Whether a silence hides a label set, in the same way.
+    pub(crate) fn silenced(&self, certainty: Certainty, prefix: &Choice) -> bool
+        ensures silenced { result ≡ (world_seen L.verdict prefix.now self.now).silenced certainty }
+    {
+        match &self.silences {
+            Some(silences) => silences.any(certainty, prefix),
+            None => false,
+        }
+    }
+
+    /// Whether a firing alert inhibits a label set, in the same way.
+    pub(crate) fn inhibited(&self, certainty: Certainty, prefix: &Choice) -> bool
+        ensures inhibited { result
+            ≡ (world_seen L.verdict prefix.now self.now).inhibited certainty }
+    {
+        match &self.pairs {
+            Some(pairs) => pairs.inhibit(certainty, prefix),
+            None => false,
+        }
+    }
+}
+
+/// The lists of the routes of a world, if they are needed.
+fn routes_if<L: JudgedList>(
+    alloc: Global,
+    universe: &Universe,
+    world: &World,
+    needed: bool,
+) -> Result<Option<RouteLists<L>>, AllocError>
+    ensures routes { IfOk result (λ found. IsTrue needed → (prefix : List ℕ)
+        → L.Knows (sizes universe.now) prefix
+        → AreRoutes universe.now world.now prefix (comes_by_lists L.verdict prefix found)) }
+{
+    if !needed {
+        return Ok(None);
+    }
+    Ok(Some(RouteLists::of(alloc, universe, world.config().root())?))
+}
+
+/// The lists of the active silences of a world, if they are needed.
+fn silences_if<L: JudgedList>(
+    alloc: Global,
+    universe: &Universe,
+    world: &World,
+    needed: bool,
+) -> Result<Option<Group<L>>, AllocError>
+    ensures silences { IfOk result (λ found. IsTrue needed → (prefix : List ℕ)
+        → L.Knows (sizes universe.now) prefix → (m : Certainty)
+        → silenced_by_lists L.verdict prefix found m
+        ≡ passes m (verdict_of_simple universe.now world.now Silenced prefix)) }
+{
+    if !needed {
+        return Ok(None);
+    }
+    let lists = lists_of_silences(alloc, universe, world)?;
+    Ok(Some(Group::of(alloc, universe, lists)?))
+}
+
+/// The lists of the pairs of a world, if they are needed.
+fn pairs_if<L: JudgedList>(
+    alloc: Global,
+    universe: &Universe,
+    world: &World,
+    needed: bool,
+) -> Result<Option<PairLists<L>>, AllocError>
+    ensures pairs { IfOk result (λ found. IsTrue needed → (prefix : List ℕ)
+        → L.Knows (sizes universe.now) prefix → (m : Certainty)
+        → inhibited_by_lists L.verdict prefix found m
+        ≡ passes m (verdict_of_simple universe.now world.now Inhibited prefix)) }
+{
+    if !needed {
+        return Ok(None);
+    }
+    Ok(Some(PairLists::of(alloc, universe, world)?))
+}
+
+/// The list of each active silence. One that is never matched is left out: an or does not change by
+/// it.
+fn lists_of_silences<L: JudgedList>(
+    alloc: Global,
+    universe: &Universe,
+    world: &World,
+) -> Result<Vec<L>, AllocError>
+    ensures silenced { IfOk result (λ lists. (prefix : List ℕ) (m : Certainty)
+        → L.Knows (sizes universe.now) prefix
+        → list_any (λ list. passes m (L.verdict list prefix)) lists.items
+        ≡ passes m (verdict_of_simple universe.now world.now Silenced prefix)) }
+{
+    let mut lists = Vec::new(alloc);
+    for i in 0..world.silences().len() {
+        if world.active(i) {
+            let rows = rows_of(alloc, universe, world.silences().get(i).matchers())?;
+            add_list(
+                &mut lists,
+                L::of_rows(alloc, universe, rows.as_slice(), &[])?,
+            )?;
+        }
+    }
+    Ok(lists)
+}
+
+/// Adds a list, unless it is never matched.
+fn add_list<L: JudgedList>(lists: &mut Vec<L>, list: L) -> Result<(), AllocError>
+    ensures { OnOk result ((prefix : List ℕ) (m : Certainty)
+        → list_any (λ list. passes m (L.verdict list prefix)) lists.new.items
+        ≡ (list_any (λ list. passes m (L.verdict list prefix)) lists.old.items
+        || passes m (L.verdict list prefix))) }
+{
+    if !list.is_never() {
+        lists.push(list)?;
+    }
+    Ok(())
+}

@@ -1,5 +1,0 @@
-use Rattle.am_records.proofs.AlertsFaultLemmas.{alerts_file_read}
-use Rattle.am_records.proofs.laws.alert_files_are_read.Goals as goal
-
-pub returns : goal.returns
-returns c = record { read = alerts_file_read }

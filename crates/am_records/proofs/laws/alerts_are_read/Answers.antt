@@ -1,5 +1,0 @@
-use Rattle.am_records.proofs.AlertsFaultLemmas.{alerts_laws}
-use Rattle.am_records.proofs.laws.alerts_are_read.Goals as goal
-
-pub returns : goal.returns
-returns c = record { read = alerts_laws.value; sound = alerts_laws.sound }

@@ -1,5 +1,0 @@
-use Rattle.am_records.proofs.SilencesFaultLemmas.{silences_file_read, silences_file_refused}
-use Rattle.am_records.proofs.laws.silence_files_are_read.Goals as goal
-
-pub returns : goal.returns
-returns c = record { read = silences_file_read; refused = silences_file_refused }

@@ -1,9 +1,0 @@
-use Rattle.am_records.proofs.SilencesFaultLemmas.{silences_laws}
-use Rattle.am_records.proofs.laws.silences_are_read.Goals as goal
-
-pub returns : goal.returns
-returns c = record {
-  read = silences_laws.value;
-  sound = silences_laws.sound;
-  refused = silences_laws.refused;
-}

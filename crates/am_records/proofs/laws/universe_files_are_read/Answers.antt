@@ -1,5 +1,0 @@
-use Rattle.am_records.proofs.UniverseFaultLemmas.{universe_file_read, universe_file_refused}
-use Rattle.am_records.proofs.laws.universe_files_are_read.Goals as goal
-
-pub returns : goal.returns
-returns c = record { read = universe_file_read; refused = universe_file_refused }
