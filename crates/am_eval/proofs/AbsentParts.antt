@@ -10,7 +10,8 @@ use Rattle.am_config.specs.ConfigFile.{IsConfig, children_of, has_receivers_belo
 use Rattle.am_config.specs.ConfigFile.{have_receivers_below}
 use Rattle.am_config.specs.Path.{list_of, route_at}
 use Rattle.am_eval.specs.World.{World}
-use Rattle.am_eval.specs.Question.{Receiver, Ends, Enters, holds_of}
+use Rattle.am_eval.specs.declared.reach.Reach.TheVariants.{Ends, Enters}
+use Rattle.am_eval.specs.Question.{Receiver, Route, holds_of}
 use Rattle.am_eval.proofs.EndLaws.{at_routes, exactly}
 use Rattle.am_eval.proofs.SimpleParts.{ends_there, goes_there}
 
@@ -26,15 +27,15 @@ on_the_way (p ∷ path) below t u e =
     (r.0, rw is r.1))
 
 pub no_end_there : (w : World) (s : LabelMap) (path : List ℕ) → route_at w.config.root path ≡ None
-    → IsFalse (holds_of w (Ends path) s)
-no_end_there w s path none = false_from_ne_true (holds_of w (Ends path) s) (λ h.
+    → IsFalse (holds_of w (Route Ends path) s)
+no_end_there w s path none = false_from_ne_true (holds_of w (Route Ends path) s) (λ h.
     let m = at_routes w.config s path ((ends_there w s path).0 h) in
     let e : None ≡ Some m.0 = sym none ∙ m.1 in
     cc)
 
 pub no_end_below : (w : World) (s : LabelMap) (path : List ℕ) → route_at w.config.root path ≡ None
-    → IsFalse (holds_of w (Enters path) s)
-no_end_below w s path none = false_from_ne_true (holds_of w (Enters path) s) (λ h.
+    → IsFalse (holds_of w (Route Enters path) s)
+no_end_below w s path none = false_from_ne_true (holds_of w (Route Enters path) s) (λ h.
     let b = (exactly w s path).0 h in
     let m = at_routes w.config s (path ++ b.0) ((ends_there w s (path ++ b.0)).0 b.1) in
     let r = on_the_way path b.0 w.config.root m.0 m.1 in

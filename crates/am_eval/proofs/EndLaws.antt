@@ -13,7 +13,9 @@ use Rattle.am_config.specs.ConfigFile.{RouteTree, matchers_of, receiver_of, Conf
 use Rattle.am_config.specs.Path.{route_at, leads_through}
 use Rattle.am_eval.specs.World.{World}
 use Rattle.am_eval.specs.Routing.{ends, receiver_at, receivers, MatchesAt, EndsThere}
-use Rattle.am_eval.specs.Question.{Any, Ends, Enters, holds_of}
+use Rattle.am_eval.specs.declared.property.Property.TheVariants.{Any}
+use Rattle.am_eval.specs.declared.reach.Reach.TheVariants.{Ends, Enters}
+use Rattle.am_eval.specs.Question.{Is, Route, holds_of}
 use Rattle.am_eval.proofs.FlatEnds.{ends_exactly, matched_ends}
 use Rattle.am_eval.proofs.ListTests.{some_passes, passes_among, one_of}
 use Rattle.am_eval.proofs.SimpleParts.{end_from_test, test_from_end}
@@ -65,8 +67,8 @@ one_receiver_an_end c s =
     (receiver_of at.0, rw at.1 refl))
 
 pub exactly : (w : World) (s : LabelMap) (path : List ℕ)
-    → (IsTrue (holds_of w (Enters path) s)
-    ↔ ((below : List ℕ) × IsTrue (holds_of w (Ends (path ++ below)) s)))
+    → (IsTrue (holds_of w (Route Enters path) s)
+    ↔ ((below : List ℕ) × IsTrue (holds_of w (Route Ends (path ++ below)) s)))
 exactly w s path =
     let all = ends s w.config in (
       λ h.
@@ -82,11 +84,11 @@ exactly w s path =
     )
 
 pub itself : (w : World) (s : LabelMap) (path : List ℕ)
-    → IsTrue (holds_of w (Ends path) s) → IsTrue (holds_of w (Enters path) s)
+    → IsTrue (holds_of w (Route Ends path) s) → IsTrue (holds_of w (Route Enters path) s)
 itself w s path h = (exactly w s path).1 ([], rw (append-nil path) h)
 
 pub same : (w : World) (s : LabelMap) → IsConfig w.config
-    → (IsTrue (holds_of w Any s) ↔ ((path : List ℕ) × IsTrue (holds_of w (Ends path) s)))
+    → (IsTrue (holds_of w (Is Any) s) ↔ ((path : List ℕ) × IsTrue (holds_of w (Route Ends path) s)))
 same w s sound = (
   λ h.
       let all = ends s w.config in

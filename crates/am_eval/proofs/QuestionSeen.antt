@@ -1,28 +1,19 @@
 -- What each simple question is seen as.
 use Rattle.std.proofs.Common.{◌≡◌, ℕ, List, ap, sym, ◌∙◌}
 use Rattle.am_labels.specs.Matcher.{Condition}
+use Rattle.am_eval.specs.declared.property.Property.{Property}
+use Rattle.am_eval.specs.declared.reach.Reach.{Reach}
 use Rattle.am_eval.specs.declared.question.Question.{fold-roll-Question}
 use Rattle.am_eval.specs.declared.question.Question.TheOpen.{Question-F}
 use Rattle.am_eval.specs.declared.question.Question.TheVariants as variants
 use Rattle.am_eval.specs.Tree.{Part}
-use Rattle.am_eval.specs.Question.{Question, Any, Silenced, Inhibited, Receiver, Ends, Enters}
-use Rattle.am_eval.specs.Question.{Braces}
+use Rattle.am_eval.specs.Question.{Question, Is, Receiver, Route, Braces}
 use Rattle.am_eval.specs.QuestionView.{view_step, question_view}
 
-pub any_seen : question_view variants.Any ≡ Part Any
-any_seen =
-    ap question_view (sym variants.rolls-Any)
-    ∙ fold-roll-Question Question view_step Question-F.Any
-
-pub silenced_seen : question_view variants.Silenced ≡ Part Silenced
-silenced_seen =
-    ap question_view (sym variants.rolls-Silenced)
-    ∙ fold-roll-Question Question view_step Question-F.Silenced
-
-pub inhibited_seen : question_view variants.Inhibited ≡ Part Inhibited
-inhibited_seen =
-    ap question_view (sym variants.rolls-Inhibited)
-    ∙ fold-roll-Question Question view_step Question-F.Inhibited
+pub is_seen : (property : Property) → question_view (variants.Is property) ≡ Part (Is property)
+is_seen property =
+    ap question_view (sym (variants.rolls-Is property))
+    ∙ fold-roll-Question Question view_step (Question-F.Is property)
 
 pub receiver_seen : (receiver : ℕ)
     → question_view (variants.Receiver receiver) ≡ Part (Receiver receiver)
@@ -30,15 +21,11 @@ receiver_seen receiver =
     ap question_view (sym (variants.rolls-Receiver receiver))
     ∙ fold-roll-Question Question view_step (Question-F.Receiver receiver)
 
-pub ends_seen : (path : List ℕ) → question_view (variants.Ends path) ≡ Part (Ends path)
-ends_seen path =
-    ap question_view (sym (variants.rolls-Ends path))
-    ∙ fold-roll-Question Question view_step (Question-F.Ends path)
-
-pub enters_seen : (path : List ℕ) → question_view (variants.Enters path) ≡ Part (Enters path)
-enters_seen path =
-    ap question_view (sym (variants.rolls-Enters path))
-    ∙ fold-roll-Question Question view_step (Question-F.Enters path)
+pub route_seen : (reach : Reach) (path : List ℕ)
+    → question_view (variants.Route reach path) ≡ Part (Route reach path)
+route_seen reach path =
+    ap question_view (sym (variants.rolls-Route reach path))
+    ∙ fold-roll-Question Question view_step (Question-F.Route reach path)
 
 pub braces_seen : (matchers : List Condition)
     → question_view (variants.Braces matchers) ≡ Part (Braces matchers)

@@ -1,6 +1,6 @@
 -- An alert ends at a route, enters it, or goes to a receiver, exactly where the ways there say so.
 use Rattle.std.proofs.Common.{◌≡◌, ◌↔◌, ℕ, List, [], ◌∷◌, ◌++◌, map, take, Bool, true, false}
-use Rattle.std.proofs.Common.{◌&&◌, ◌||◌, not, cond, Option, Some, None, Contains, refl, sym, ap}
+use Rattle.std.proofs.Common.{◌&&◌, ◌||◌, not, cond, Option, Some, None, refl, sym, ap}
 use Rattle.std.proofs.Common.{◌∙◌}
 use Rattle.std.specs.Prelude.{slice_get, IsTrue, IsFalse, ◌==◌}
 use Rattle.std.specs.List.{AllByRecursion, filter, list_all, list_any}
@@ -16,10 +16,12 @@ use Rattle.am_config.specs.Path.{list_of, route_at}
 use Rattle.am_config.specs.RoutePaths.{paths_of}
 use Rattle.am_eval.specs.World.{World}
 use Rattle.am_eval.specs.Routing.{ends_at, ends, receivers, is_last, EndsThere}
-use Rattle.am_eval.specs.Question.{Ends, Enters, Receiver, holds_of}
+use Rattle.am_eval.specs.declared.reach.Reach.{Reach}
+use Rattle.am_eval.specs.declared.reach.Reach.TheVariants.{Ends, Enters}
+use Rattle.am_eval.specs.Question.{Receiver, Route, holds_of}
 use Rattle.am_eval.specs.Conditions.{Literal, literal_holds, some_way_holds, matching, not_matching}
-use Rattle.am_eval.specs.Conditions.{stopped_by_none, no_child_of, ways_into, ways_below, ways_to_end}
-use Rattle.am_eval.specs.Conditions.{ways_to_enter, is_receiver, paths_to, ways_to_receiver}
+use Rattle.am_eval.specs.Conditions.{stopped_by_none, no_child_of, asked_at, ways_into, ways_below}
+use Rattle.am_eval.specs.Conditions.{ways_to_reach, is_receiver, paths_to, ways_to_receiver}
 use Rattle.am_labels.proofs.Passing.{any_in, in_any, passes_from_kept, kept_from_passes}
 use Rattle.am_eval.proofs.EndLaws.{exactly}
 use Rattle.am_eval.proofs.FlatEnds.{ends_exactly, matched_ends}
@@ -80,25 +82,25 @@ no_child s t =
 
 -- ---- Down by a path.
 
-abbrev GoesDown : LabelMap → (RouteTree → List Literal) → RouteTree → List ℕ → Type 0
-GoesDown s last t path =
-    IsTrue (some_way_holds (literal_holds s) (ways_into (λ u. ways_below last u path) (Some t)))
+abbrev GoesDown : LabelMap → Reach → RouteTree → List ℕ → Type 0
+GoesDown s reach t path =
+    IsTrue (some_way_holds (literal_holds s) (ways_into (λ u. ways_below reach u path) (Some t)))
 
 -- no further: what is asked of the last route
 or_nothing : (b : Bool) → (b || false) ≡ b
 or_nothing true = refl
 or_nothing false = refl
 
-there : (s : LabelMap) (last : RouteTree → List Literal) (t : RouteTree)
-    → GoesDown s last t []
-    ↔ (IsTrue (all_hold s (matchers_of t)) × IsTrue (list_all (literal_holds s) (last t)))
-there s last t =
+there : (s : LabelMap) (reach : Reach) (t : RouteTree)
+    → GoesDown s reach t []
+    ↔ (IsTrue (all_hold s (matchers_of t)) × IsTrue (list_all (literal_holds s) (asked_at reach t)))
+there s reach t =
     let holds = literal_holds s in
     let matched = all_hold s (matchers_of t) in
-    let all = some_way-literal holds (matching (matchers_of t)) (last t ∷ [])
-    ∙ ap (λ b. matched && b) (or_nothing (list_all holds (last t))) in (
-      λ h. and_parts matched (list_all holds (last t)) (sym all ∙ h),
-      λ h. all ∙ and_from matched (list_all holds (last t)) h.0 h.1,
+    let all = some_way-literal holds (matching (matchers_of t)) (asked_at reach t ∷ [])
+    ∙ ap (λ b. matched && b) (or_nothing (list_all holds (asked_at reach t))) in (
+      λ h. and_parts matched (list_all holds (asked_at reach t)) (sym all ∙ h),
+      λ h. all ∙ and_from matched (list_all holds (asked_at reach t)) h.0 h.1,
     )
 
 -- and a step further
@@ -109,23 +111,23 @@ some_route : (s : LabelMap) (further : RouteTree → List (List Literal)) (o : O
 some_route s further None h = absurd (cc)
 some_route s further (Some t) h = (t, refl, h)
 
-abbrev GoesOn : LabelMap → (RouteTree → List Literal) → RouteTree → ℕ → List ℕ → Type 0
-GoesOn s last t p path =
+abbrev GoesOn : LabelMap → Reach → RouteTree → ℕ → List ℕ → Type 0
+GoesOn s reach t p path =
     IsTrue (all_hold s (matchers_of t))
     × (child : RouteTree) × (slice_get (list_of (children_of t)) p ≡ Some child)
     × AllByRecursion (λ earlier. IsFalse (is_last s earlier)) (take p (list_of (children_of t)))
-    × GoesDown s last child path
+    × GoesDown s reach child path
 
-further : (s : LabelMap) (last : RouteTree → List Literal) (t : RouteTree) (p : ℕ) (path : List ℕ)
-    → GoesDown s last t (p ∷ path) ↔ GoesOn s last t p path
-further s last t p path =
+further : (s : LabelMap) (reach : Reach) (t : RouteTree) (p : ℕ) (path : List ℕ)
+    → GoesDown s reach t (p ∷ path) ↔ GoesOn s reach t p path
+further s reach t p path =
     let holds = literal_holds s in
     let matched = all_hold s (matchers_of t) in
     let children = list_of (children_of t) in
     let before = stopped_by_none (take p children) in
-    let below = λ (child : RouteTree). ways_below last child path in
+    let below = λ (child : RouteTree). ways_below reach child path in
     let rest = some_way_holds holds (ways_into below (slice_get children p)) in
-    let all = some_way-literal holds (matching (matchers_of t)) (ways_below last t (p ∷ path))
+    let all = some_way-literal holds (matching (matchers_of t)) (ways_below reach t (p ∷ path))
     ∙ ap (λ b. matched && b)
     (some_way-front holds before (ways_into below (slice_get children p))) in (
       λ h.
@@ -143,24 +145,24 @@ further s last t p path =
 -- ---- To the end.
 
 ends_by : (s : LabelMap) (t : RouteTree) (path : List ℕ)
-    → EndsThere s t path ↔ GoesDown s no_child_of t path
+    → EndsThere s t path ↔ GoesDown s Ends t path
 ends_by s t [] =
     let none = no_child s t in
-    let at = there s no_child_of t in
+    let at = there s Ends t in
     (λ h. at.1 (h.0, none.0 h.1), λ h. let parts = at.0 h in (parts.0, none.1 parts.1))
 ends_by s t (p ∷ path) =
-    let goes = further s no_child_of t p path in (
+    let goes = further s Ends t p path in (
       λ h. goes.1 (h.0, h.1, h.2, h.3, (ends_by s h.1 path).0 h.4),
       λ h. let on = goes.0 h in (on.0, on.1, on.2, on.3, (ends_by s on.1 path).1 on.4),
     )
 
 pub end_condition : (w : World) (s : LabelMap) (path : List ℕ)
-    → holds_of w (Ends path) s
-    ≡ some_way_holds (literal_holds s) (ways_to_end w.config path)
+    → holds_of w (Route Ends path) s
+    ≡ some_way_holds (literal_holds s) (ways_to_reach w.config Ends path)
 end_condition w s path =
     let root = w.config.root in
-    same_test (holds_of w (Ends path) s)
-    (some_way_holds (literal_holds s) (ways_to_end w.config path))
+    same_test (holds_of w (Route Ends path) s)
+    (some_way_holds (literal_holds s) (ways_to_reach w.config Ends path))
     (through (ends_there w s path) (ends_exactly s root path))
     (let by = ends_by s root path in (λ h. by.1 h, λ h. by.0 h))
 
@@ -177,18 +179,15 @@ matched_at_end : (s : LabelMap) (t : RouteTree) (path : List ℕ) → EndsThere 
 matched_at_end s t [] h = h.0
 matched_at_end s t (p ∷ path) h = h.0
 
-abbrev nothing : RouteTree → List Literal
-nothing t = []
-
 enters_by : (s : LabelMap) (t : RouteTree) (path : List ℕ)
-    → ((below : List ℕ) × EndsThere s t (path ++ below)) ↔ GoesDown s nothing t path
+    → ((below : List ℕ) × EndsThere s t (path ++ below)) ↔ GoesDown s Enters t path
 enters_by s t [] =
-    let at = there s nothing t in (
+    let at = there s Enters t in (
       λ h. at.1 (matched_at_end s t h.0 h.1, refl),
       λ h. end_of_matched s t (at.0 h).0,
     )
 enters_by s t (p ∷ path) =
-    let goes = further s nothing t p path in (
+    let goes = further s Enters t p path in (
       λ h.
           let on = h.1 in
           goes.1 (on.0, on.1, on.2, on.3, (enters_by s on.1 path).0 (h.0, on.4)),
@@ -199,15 +198,15 @@ enters_by s t (p ∷ path) =
     )
 
 pub entry_condition : (w : World) (s : LabelMap) (path : List ℕ)
-    → holds_of w (Enters path) s
-    ≡ some_way_holds (literal_holds s) (ways_to_enter w.config path)
+    → holds_of w (Route Enters path) s
+    ≡ some_way_holds (literal_holds s) (ways_to_reach w.config Enters path)
 entry_condition w s path =
     let root = w.config.root in
     let by = enters_by s root path in
     let end = λ (below : List ℕ).
     through (ends_there w s (path ++ below)) (ends_exactly s root (path ++ below)) in
-    same_test (holds_of w (Enters path) s)
-    (some_way_holds (literal_holds s) (ways_to_enter w.config path))
+    same_test (holds_of w (Route Enters path) s)
+    (some_way_holds (literal_holds s) (ways_to_reach w.config Enters path))
     (through (exactly w s path)
     (λ h. (h.0, (end h.0).0 h.1), λ h. (h.0, (end h.0).1 h.1)))
     (λ h. by.1 h, λ h. by.0 h)
@@ -245,4 +244,4 @@ pub receiver_condition : (w : World) (s : LabelMap) (receiver : ℕ)
 receiver_condition w s receiver =
     let paths = paths_to receiver w.config.root in
     goes_by_ends s w.config receiver ∙ (λ i. list_any (λ path. end_condition w s path i) paths)
-    ∙ sym (some_way-joined (literal_holds s) (ways_to_end w.config) paths)
+    ∙ sym (some_way-joined (literal_holds s) (ways_to_reach w.config Ends) paths)

@@ -13,11 +13,9 @@ use Rattle.am_universe.specs.LabelSet.{LabelMap, label_set_of}
 use Rattle.am_universe.proofs.ListLemmas.{IsIn, IsIn-from_Contains, Contains-from_IsIn, IsIn-map}
 use Rattle.am_universe.proofs.ListLemmas.{IsIn-unmap, IsStrictlySortedBy-map}
 use Rattle.am_universe.proofs.Members.{at_in, in_at, item_at, numbered_at}
-use Rattle.am_universe.specs.Text.{same_text}
 use Rattle.am_labels.specs.Matcher.{condition_holds, all_hold}
 use Rattle.am_labels.specs.Space.{Space, all_choices}
 use Rattle.am_labels.proofs.Passing.{any_in, in_any, passes_from_kept, kept_from_passes}
-use Rattle.am_config.specs.Path.{leads_through}
 use Rattle.am_list_files.specs.SilencesFile.{Silence}
 use Rattle.am_eval.specs.Conditions.{literal_holds, some_way_holds, matching}
 use Rattle.am_eval.specs.Routing.{ends, receivers}
@@ -26,8 +24,9 @@ use Rattle.am_eval.specs.Silencing.{is_active, hides, is_silenced, positions_whe
 use Rattle.am_eval.specs.Silencing.{at_instant, IsSteady}
 use Rattle.am_eval.specs.Tree.{Part, Not, And, Or}
 use Rattle.am_eval.specs.Inhibition.{inhibits}
-use Rattle.am_eval.specs.Question.{Question, Simple, Any, Silenced, Inhibited, Receiver, Ends}
-use Rattle.am_eval.specs.Question.{Enters, Braces, holds_of, satisfies, answers}
+use Rattle.am_eval.specs.declared.property.Property.TheVariants.{Any, Silenced, Inhibited}
+use Rattle.am_eval.specs.Question.{Question, Simple, Is, Receiver, Route, Braces, holds_of}
+use Rattle.am_eval.specs.Question.{reaches, satisfies, answers}
 use Rattle.am_eval.proofs.HidingConditions.{silenced_condition}
 use Rattle.am_eval.proofs.ListTests.{some_passes, passes_among, one_of}
 use Rattle.am_eval.proofs.PairLemmas.{Numbers, numbers_ascend}
@@ -133,18 +132,17 @@ AreSame w v =
 
 same_part : (w v : World) (s : LabelMap) (simple : Simple) → AreSame w v
     → holds_of w simple s ≡ holds_of v simple s
-same_part w v s Any same = refl
-same_part w v s Silenced same =
+same_part w v s (Is Any) same = refl
+same_part w v s (Is Silenced) same =
     silenced_condition w s
     ∙ ap (λ active. some_way_holds (literal_holds s)
     (map (λ (silence : Silence). matching silence.matchers ∷ []) active)) same.2
     ∙ sym (silenced_condition v s)
-same_part w v s Inhibited same =
+same_part w v s (Is Inhibited) same =
     λ i. list_any (λ rule. list_any (λ a. inhibits rule a s) (same.1 i)) (same.0 i).rules
 same_part w v s (Receiver receiver) same =
     ap (λ c. list_any (λ other. other == receiver) (receivers s c)) same.0
-same_part w v s (Ends path) same = ap (λ c. list_any (λ end. same_text end path) (ends s c)) same.0
-same_part w v s (Enters path) same = ap (λ c. list_any (leads_through path) (ends s c)) same.0
+same_part w v s (Route reach path) same = ap (λ c. list_any (reaches reach path) (ends s c)) same.0
 same_part w v s (Braces matchers) same = refl
 
 same_truth : (w v : World) (s : LabelMap) (question : Question) → AreSame w v
@@ -206,7 +204,7 @@ at_active given silence instant h =
     let left : int_lt instant silence.ends ≡ true = grind (arith, ints, h.2) in
     rw (h.0, begun, left) refl
 
-pub while_one_matches : (w : World) (s : LabelMap) → (IsTrue (holds_of w Silenced s)
+pub while_one_matches : (w : World) (s : LabelMap) → (IsTrue (holds_of w (Is Silenced) s)
     ↔ ((instant : ℤ) × (silence : Silence) × (w.instant ≡ Some instant)
     × Contains w.silences silence
     × (silence.starts ≤ℤ instant) × (instant <ℤ silence.ends)

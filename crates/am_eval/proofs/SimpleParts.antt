@@ -17,7 +17,9 @@ use Rattle.am_eval.specs.World.{World}
 use Rattle.am_eval.specs.Routing.{ends, receivers, receiver_at}
 use Rattle.am_eval.specs.Inhibition.{inhibits}
 use Rattle.am_eval.specs.Tree.{Not, And, Or}
-use Rattle.am_eval.specs.Question.{Question, Inhibited, Ends, Braces, holds_of, satisfies}
+use Rattle.am_eval.specs.declared.property.Property.TheVariants.{Inhibited}
+use Rattle.am_eval.specs.declared.reach.Reach.TheVariants.{Ends}
+use Rattle.am_eval.specs.Question.{Question, Is, Route, Braces, holds_of, satisfies}
 use Rattle.am_eval.proofs.ListTests.{all_exactly, some_passes, passes_among}
 
 -- ---- The tests are what they stand for.
@@ -134,12 +136,12 @@ goes_there s c receiver = (
 )
 
 pub ends_there : (w : World) (s : LabelMap) (path : List ℕ)
-    → IsTrue (holds_of w (Ends path) s) ↔ Contains (ends s w.config) path
+    → IsTrue (holds_of w (Route Ends path) s) ↔ Contains (ends s w.config) path
 ends_there w s path =
     (end_from_test path (ends s w.config), test_from_end path (ends s w.config))
 
 pub some_inhibits : (w : World) (s : LabelMap)
-    → IsTrue (holds_of w Inhibited s)
+    → IsTrue (holds_of w (Is Inhibited) s)
     ↔ ((rule : Rule) × (firing : LabelMap) × Contains w.config.rules rule
     × Contains w.alerts firing × IsTrue (inhibits rule firing s))
 some_inhibits w s =

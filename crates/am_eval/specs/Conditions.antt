@@ -14,7 +14,11 @@ use Rattle.am_list_files.specs.SilencesFile.{Silence}
 use Rattle.am_eval.specs.declared.pair.Pair.{Pair}
 use Rattle.am_eval.specs.World.{World}
 use Rattle.am_eval.specs.Silencing.{is_active}
-use Rattle.am_eval.specs.Question.{Simple, Any, Silenced, Inhibited, Receiver, Ends, Enters, Braces}
+use Rattle.am_eval.specs.declared.property.Property.{Property}
+use Rattle.am_eval.specs.declared.property.Property.TheVariants.{Any, Silenced, Inhibited}
+use Rattle.am_eval.specs.declared.reach.Reach.{Reach}
+use Rattle.am_eval.specs.declared.reach.Reach.TheVariants.{Ends, Enters}
+use Rattle.am_eval.specs.Question.{Simple, Is, Receiver, Route, Braces}
 
 -- A literal: a list of matchers, and whether an alert has to match it or must not match it.
 -- Source: propositional logic, where a literal is a statement or its negation.
@@ -55,10 +59,15 @@ stopped_by_none siblings =
 abbrev pub no_child_of : RouteTree → List Literal
 no_child_of t = map (λ child. not_matching (matchers_of child)) (list_of (children_of t))
 
+-- What is asked at a route that is to be reached: to end there, an alert matches no child of it.
+abbrev pub asked_at : Reach → RouteTree → List Literal
+asked_at Ends t = no_child_of t
+asked_at Enters t = []
+
 -- How an alert that matches a route gets down from it to the route at a path. At each step it is
--- stopped by none of the siblings before the next route, and matches that route; `last` gives what
--- else is asked at the route at the path. There is one way, or none if no route is there. And how
--- it matches a route, if there is one, and goes on as `further` says.
+-- stopped by none of the siblings before the next route, and matches that route. There is one way,
+-- or none if no route is there. And how it matches a route, if there is one, and goes on as
+-- `further` says.
 -- Source: Alertmanager configuration reference 0.25, "<route>".
 -- Example: below the top-level route, whose first child lacks `continue`, the way to `/1` is: do
 -- not match `/0`, match `/1`.
@@ -66,23 +75,19 @@ abbrev pub ways_into : (RouteTree → List (List Literal)) → Option RouteTree 
 ways_into further None = []
 ways_into further (Some t) = map (λ way. matching (matchers_of t) ∷ way) (further t)
 
-abbrev pub ways_below : (RouteTree → List Literal) → RouteTree → List ℕ → List (List Literal)
-ways_below last t [] = last t ∷ []
-ways_below last t (p ∷ path) =
+abbrev pub ways_below : Reach → RouteTree → List ℕ → List (List Literal)
+ways_below reach t [] = asked_at reach t ∷ []
+ways_below reach t (p ∷ path) =
     map (λ way. stopped_by_none (take p (list_of (children_of t))) ++ way)
-    (ways_into (λ child. ways_below last child path) (slice_get (list_of (children_of t)) p))
+    (ways_into (λ child. ways_below reach child path) (slice_get (list_of (children_of t)) p))
 
--- An alert enters the route at a path where it matches the top-level route and gets down from there
--- by that path. It ends there where, beside that, it matches no child of the route. It goes to a
--- receiver where it ends at a route that has it.
+-- An alert reaches the route at a path where it matches the top-level route and gets down from
+-- there by that path. It goes to a receiver where it ends at a route that has it.
 -- Source: Alertmanager configuration reference 0.25, "<route>".
 -- Example: there is one way to end at `/`: match the top-level route, which has no matchers, and
 -- none of its children.
-abbrev pub ways_to_enter : Configuration → List ℕ → List (List Literal)
-ways_to_enter c path = ways_into (λ t. ways_below (λ _. []) t path) (Some c.root)
-
-abbrev pub ways_to_end : Configuration → List ℕ → List (List Literal)
-ways_to_end c path = ways_into (λ t. ways_below no_child_of t path) (Some c.root)
+abbrev pub ways_to_reach : Configuration → Reach → List ℕ → List (List Literal)
+ways_to_reach c reach path = ways_into (λ t. ways_below reach t path) (Some c.root)
 
 abbrev pub is_receiver : ℕ → Option RouteTree → Bool
 is_receiver receiver None = false
@@ -92,7 +97,7 @@ abbrev pub paths_to : ℕ → RouteTree → List (List ℕ)
 paths_to receiver t = filter (λ path. is_receiver receiver (route_at t path)) (paths_at t)
 
 abbrev pub ways_to_receiver : Configuration → ℕ → List (List Literal)
-ways_to_receiver c receiver = flat_map (ways_to_end c) (paths_to receiver c.root)
+ways_to_receiver c receiver = flat_map (ways_to_reach c Ends) (paths_to receiver c.root)
 
 -- ---- Silences and inhibition rules.
 
@@ -148,15 +153,18 @@ pair_way rules alerts pair =
 
 -- ---- Questions.
 
--- The condition of a simple part. The law `a_simple_part_is_true_where_its_condition_holds` says
--- that the part is true of an alert exactly where its condition is.
+-- The condition of a property, and that of a simple part. The law
+-- `a_simple_part_is_true_where_its_condition_holds` says that the part is true of an alert exactly
+-- where its condition is.
 -- Source: own choice.
 -- Example: `any` has one way, without literals. `{team="db"}` has one way, with one literal.
+abbrev pub ways_to_have : World → Property → List (List Literal)
+ways_to_have w Any = [] ∷ []
+ways_to_have w Silenced = silencing_ways w
+ways_to_have w Inhibited = inhibiting_ways w
+
 abbrev pub conditions_of : World → Simple → List (List Literal)
-conditions_of w Any = [] ∷ []
-conditions_of w Silenced = silencing_ways w
-conditions_of w Inhibited = inhibiting_ways w
+conditions_of w (Is property) = ways_to_have w property
 conditions_of w (Receiver receiver) = ways_to_receiver w.config receiver
-conditions_of w (Ends path) = ways_to_end w.config path
-conditions_of w (Enters path) = ways_to_enter w.config path
+conditions_of w (Route reach path) = ways_to_reach w.config reach path
 conditions_of w (Braces matchers) = (matching matchers ∷ []) ∷ []

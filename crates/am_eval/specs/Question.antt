@@ -7,27 +7,39 @@ use Rattle.am_universe.specs.Text.{same_text}
 use Rattle.am_labels.specs.Matcher.{Condition, all_hold}
 use Rattle.am_labels.specs.Space.{Space, is_possible_choice, all_choices}
 use Rattle.am_config.specs.Path.{leads_through}
+use Rattle.am_eval.specs.declared.property.Property.{Property}
+use Rattle.am_eval.specs.declared.property.Property.TheVariants.{Any, Silenced, Inhibited}
+use Rattle.am_eval.specs.declared.reach.Reach.{Reach}
+use Rattle.am_eval.specs.declared.reach.Reach.TheVariants.{Ends, Enters}
 use Rattle.am_eval.specs.World.{World}
 use Rattle.am_eval.specs.Routing.{ends, receivers}
 use Rattle.am_eval.specs.Silencing.{is_silenced}
 use Rattle.am_eval.specs.Inhibition.{is_inhibited}
 use Rattle.am_eval.specs.Tree.{Tree, Part, Not, And, Or}
 
--- A simple part: anything; that a silence hides the alert; that a firing alert inhibits it; a
--- receiver, by its position; the routes that handle the alert; those and the routes above them; a
--- list of matchers.
+-- A simple part: a property of the alert; a receiver, by its position; a route, by its path, and
+-- how it is reached; a list of matchers.
 pub data Simple : Type 0 where
-  Any : Simple
-  Silenced : Simple
-  Inhibited : Simple
+  Is : Property → Simple
   Receiver : ℕ → Simple
-  Ends : List ℕ → Simple
-  Enters : List ℕ → Simple
+  Route : Reach → List ℕ → Simple
   Braces : List Condition → Simple
 
 -- A question about a world.
 abbrev pub Question : Type 0
 Question = Tree Simple
+
+-- The truth of a property on a label set: any has the first; a silence hides the alert; a firing
+-- alert inhibits it. And whether an alert that ends at one path reaches the route at another: the
+-- same, or also one above.
+abbrev pub has_property : World → Property → LabelMap → Bool
+has_property w Any s = true
+has_property w Silenced s = is_silenced w s
+has_property w Inhibited s = is_inhibited w s
+
+abbrev pub reaches : Reach → List ℕ → List ℕ → Bool
+reaches Ends path end = same_text end path
+reaches Enters path end = leads_through path end
 
 -- The truth of a simple part on a label set. A receiver or a route that the configuration does not
 -- have makes it false.
@@ -35,12 +47,9 @@ Question = Tree Simple
 -- Example: where an alert ends at `/0/1` alone, `ends /0/1`, `enters /0/1` and `enters /0` are
 -- true, and `ends /0` is not.
 abbrev pub holds_of : World → Simple → LabelMap → Bool
-holds_of w Any s = true
-holds_of w Silenced s = is_silenced w s
-holds_of w Inhibited s = is_inhibited w s
+holds_of w (Is property) s = has_property w property s
 holds_of w (Receiver receiver) s = list_any (λ other. other == receiver) (receivers s w.config)
-holds_of w (Ends path) s = list_any (λ end. same_text end path) (ends s w.config)
-holds_of w (Enters path) s = list_any (leads_through path) (ends s w.config)
+holds_of w (Route reach path) s = list_any (reaches reach path) (ends s w.config)
 holds_of w (Braces matchers) s = all_hold s matchers
 
 -- The truth of a question on a label set.

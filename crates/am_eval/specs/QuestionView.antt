@@ -3,17 +3,13 @@ use Rattle.am_eval.specs.declared.question.Question as kept
 use Rattle.am_eval.specs.declared.question.Question.{fold-Question}
 use Rattle.am_eval.specs.declared.question.Question.TheOpen.{Question-F}
 use Rattle.am_eval.specs.Tree.{Part, Not, And, Or}
-use Rattle.am_eval.specs.Question.{Question, Any, Silenced, Inhibited, Receiver, Ends, Enters}
-use Rattle.am_eval.specs.Question.{Braces}
+use Rattle.am_eval.specs.Question.{Question, Is, Receiver, Route, Braces}
 
 -- One part, with each question in it already seen.
 abbrev pub view_step : Question-F Question → Question
-view_step Question-F.Any = Part Any
-view_step Question-F.Silenced = Part Silenced
-view_step Question-F.Inhibited = Part Inhibited
+view_step (Question-F.Is property) = Part (Is property)
 view_step (Question-F.Receiver receiver) = Part (Receiver receiver)
-view_step (Question-F.Ends path) = Part (Ends path)
-view_step (Question-F.Enters path) = Part (Enters path)
+view_step (Question-F.Route reach path) = Part (Route reach path)
 view_step (Question-F.Braces matchers) = Part (Braces matchers)
 view_step (Question-F.Not q) = Not q.value
 view_step (Question-F.And q r) = And q.value r.value

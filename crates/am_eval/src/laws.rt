@@ -22,9 +22,11 @@ ghost use Rattle.am_config.specs.ConfigFile.{children_of, continues_of, receiver
 ghost use Rattle.am_config.specs.Path.{route_at, list_of};
 ghost use Rattle.am_eval.specs.declared.limits.TheConstants.{MAX_PAIRS};
 ghost use Rattle.am_eval.specs.declared.pair.Pair.{Pair};
-ghost use Rattle.am_eval.specs.Tree.{Not, And, Or, Tree};
-ghost use Rattle.am_eval.specs.Question.{Any, Silenced, Inhibited, Receiver, Ends, Enters, Braces};
-ghost use Rattle.am_eval.specs.Question.{Simple, Question, holds_of, satisfies, answers, is_answer};
+ghost use Rattle.am_eval.specs.Tree.{Not, And, Or};
+ghost use Rattle.am_eval.specs.declared.property.Property.TheVariants.{Any, Silenced, Inhibited};
+ghost use Rattle.am_eval.specs.declared.reach.Reach.TheVariants.{Ends, Enters};
+ghost use Rattle.am_eval.specs.Question.{Simple, Is, Receiver, Route, Braces, holds_of};
+ghost use Rattle.am_eval.specs.Question.{Question, satisfies, answers, is_answer};
 ghost use Rattle.am_eval.specs.Routing.{ends, receivers, ends_at, MatchesAt, EndsThere};
 ghost use Rattle.am_eval.specs.RoutingExamples.{worked, Has, severity_critical};
 ghost use Rattle.am_list_files.specs.SilencesFile.{Silence};
@@ -119,8 +121,8 @@ pub fn a_simple_part_is_true_as_it_says()
         ↔ ((path : List ℕ) × (t : RouteTree) × Contains (ends s w.config) path
         × (route_at w.config.root path ≡ Some t) × (receiver_of t ≡ receiver)) }
     ensures ends { (w : World) (s : LabelMap) (path : List ℕ)
-        → IsTrue (holds_of w (Ends path) s) ↔ Contains (ends s w.config) path }
-    ensures inhibited { (w : World) (s : LabelMap) → IsTrue (holds_of w Inhibited s)
+        → IsTrue (holds_of w (Route Ends path) s) ↔ Contains (ends s w.config) path }
+    ensures inhibited { (w : World) (s : LabelMap) → IsTrue (holds_of w (Is Inhibited) s)
         ↔ ((rule : Rule) × (firing : LabelMap) × Contains w.config.rules rule
         × Contains w.alerts firing × IsTrue (inhibits rule firing s)) }
     ensures braces { (w : World) (s : LabelMap) (matchers : List Condition)
@@ -131,11 +133,11 @@ pub fn a_simple_part_is_true_as_it_says()
 /// An example: an alert that ends below `/0` enters it, and does not end there.
 pub fn an_example_of_ends_and_enters()
     ensures entered { (w : World) (s : LabelMap) → w.config ≡ worked
-        → Has s (codes "db") (codes "critical") → IsTrue (holds_of w (Enters (0 ∷ [])) s) }
+        → Has s (codes "db") (codes "critical") → IsTrue (holds_of w (Route Enters (0 ∷ [])) s) }
     ensures not_ended { (w : World) (s : LabelMap) → w.config ≡ worked
-        → Has s (codes "db") (codes "critical") → IsFalse (holds_of w (Ends (0 ∷ [])) s) }
+        → Has s (codes "db") (codes "critical") → IsFalse (holds_of w (Route Ends (0 ∷ [])) s) }
     ensures below { (w : World) (s : LabelMap) → w.config ≡ worked
-        → Has s (codes "db") (codes "critical") → IsTrue (holds_of w (Ends (0 ∷ 0 ∷ [])) s) }
+        → Has s (codes "db") (codes "critical") → IsTrue (holds_of w (Route Ends (0 ∷ 0 ∷ [])) s) }
 {}
 
 /// A receiver or a route that the configuration does not have makes its part of a question false.
@@ -143,25 +145,25 @@ pub fn what_is_not_there_is_false()
     ensures receiver { (w : World) (s : LabelMap) (receiver : ℕ) → IsConfig w.config
         → length w.config.receivers ≤ receiver → IsFalse (holds_of w (Receiver receiver) s) }
     ensures ends { (w : World) (s : LabelMap) (path : List ℕ)
-        → route_at w.config.root path ≡ None → IsFalse (holds_of w (Ends path) s) }
+        → route_at w.config.root path ≡ None → IsFalse (holds_of w (Route Ends path) s) }
     ensures enters { (w : World) (s : LabelMap) (path : List ℕ)
-        → route_at w.config.root path ≡ None → IsFalse (holds_of w (Enters path) s) }
+        → route_at w.config.root path ≡ None → IsFalse (holds_of w (Route Enters path) s) }
 {}
 
 /// `enters` is true of a path exactly where a route is an end that the path leads to or through.
 pub fn ends_are_entered()
     ensures itself { (w : World) (s : LabelMap) (path : List ℕ)
-        → IsTrue (holds_of w (Ends path) s) → IsTrue (holds_of w (Enters path) s) }
+        → IsTrue (holds_of w (Route Ends path) s) → IsTrue (holds_of w (Route Enters path) s) }
     ensures exactly { (w : World) (s : LabelMap) (path : List ℕ)
-        → (IsTrue (holds_of w (Enters path) s)
-        ↔ ((below : List ℕ) × IsTrue (holds_of w (Ends (path ++ below)) s))) }
+        → (IsTrue (holds_of w (Route Enters path) s)
+        ↔ ((below : List ℕ) × IsTrue (holds_of w (Route Ends (path ++ below)) s))) }
 {}
 
 /// `any` is true of the same label sets as all `ends` together.
 pub fn any_is_every_end()
     ensures same { (w : World) (s : LabelMap) → IsConfig w.config
-        → (IsTrue (holds_of w Any s)
-        ↔ ((path : List ℕ) × IsTrue (holds_of w (Ends path) s))) }
+        → (IsTrue (holds_of w (Is Any) s)
+        ↔ ((path : List ℕ) × IsTrue (holds_of w (Route Ends path) s))) }
 {}
 
 /// An alert is silenced exactly where some silence hides it, and so where it has a silencer.
@@ -177,7 +179,7 @@ pub fn an_alert_is_silenced_by_its_silencers()
 /// An alert is silenced exactly where an instant is asked about, and some silence has begun by then
 /// and has not ended, each of whose matchers matches the alert.
 pub fn an_alert_is_silenced_while_a_silence_matches_it()
-    ensures exactly { (w : World) (s : LabelMap) → (IsTrue (holds_of w Silenced s)
+    ensures exactly { (w : World) (s : LabelMap) → (IsTrue (holds_of w (Is Silenced) s)
         ↔ ((instant : ℤ) × (silence : Silence) × (w.instant ≡ Some instant)
         × Contains w.silences silence
         × (silence.starts ≤ℤ instant) × (instant <ℤ silence.ends)

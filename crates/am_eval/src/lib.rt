@@ -38,9 +38,13 @@ mod explanation;
 pub use explanation::{Explanation, explanation_of, write_explanation};
 
 // Questions.
+mod property;
 mod question;
+mod reach;
 
+pub use property::Property;
 pub use question::Question;
+pub use reach::Reach;
 
 // What holds of the definitions by themselves.
 pub mod laws;

@@ -1,28 +1,25 @@
 //! Questions, as they are kept in memory.
 
-ghost use Rattle.std.specs.Prelude.{◌≡◌, ℕ};
+ghost use Rattle.std.specs.Prelude.{◌≡◌};
 ghost use Rattle.am_eval.specs.QuestionView.{question_view};
 ghost use Rattle.am_eval.specs.Tree.{Part};
 ghost use Rattle.am_eval.specs.Question as spec;
+ghost use Rattle.am_eval.specs.declared.reach.Reach.TheVariants.{Ends, Enters};
 
+use crate::property::Property;
+use crate::reach::Reach;
 use am_config::Path;
 use am_labels::Matchers;
 
 /// A question about a label set, as the labels of an alert.
 #[derive(Drop)]
 pub enum Question {
-    /// True of every label set.
-    Any,
-    /// Some silence hides the alert.
-    Silenced,
-    /// Some firing alert inhibits the alert, by a rule.
-    Inhibited,
+    /// The alert has this property.
+    Is(Property),
     /// Some end has the receiver at this position.
     Receiver(usize),
-    /// The route at this path is an end.
-    Ends(Path),
-    /// The route at this path, or one below it, is an end.
-    Enters(Path),
+    /// The alert reaches the route at this path so.
+    Route(Reach, Path),
     /// Every matcher matches.
     Braces(Matchers),
     /// The question is false.
@@ -37,17 +34,17 @@ impl Question {
     /// Whether the route at a path is an end. Where the configuration has no such route, it is
     /// none.
     pub fn ends(path: Path) -> Question
-        ensures ends { question_view result ≡ Part (spec.Ends path) }
+        ensures ends { question_view result ≡ Part (spec.Route Ends path) }
     {
-        Question::Ends(path)
+        Question::Route(Reach::Ends, path)
     }
 
     /// Whether the route at a path, or one below it, is an end. Where the configuration has no such
     /// route, it is none.
     pub fn enters(path: Path) -> Question
-        ensures enters { question_view result ≡ Part (spec.Enters path) }
+        ensures enters { question_view result ≡ Part (spec.Route Enters path) }
     {
-        Question::Enters(path)
+        Question::Route(Reach::Enters, path)
     }
 
     /// Whether some end has the receiver at a position. Where the configuration declares no such

@@ -1,0 +1,10 @@
+/// What may be asked of an alert in a world, in one word.
+#[derive(Clone, Copy)]
+pub enum Property {
+    /// True of every alert.
+    Any,
+    /// Some silence hides the alert.
+    Silenced,
+    /// Some firing alert inhibits the alert, by a rule.
+    Inhibited,
+}
