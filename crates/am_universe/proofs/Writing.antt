@@ -2,7 +2,7 @@
 use Rattle.std.proofs.Common.{◌≡◌, ℕ, ◌+◌, ◌-◌, ◌<◌, ◌≤◌, List, [], ◌∷◌, ◌++◌, length, get_or, take, drop, Result, Ok, Err, IsErr, refl, subst, sym, ap, ◌∙◌, append_assoc, append-nil, length-append, length-drop, arith}
 use Rattle.std.proofs.Math.Seq.{take-add, take-append-add}
 use Rattle.std.proofs.lemmas.List.{take-append-le, take_all, take-append-drop, take_more}
-use Rattle.std.proofs.lemmas.Grind.{flat_map-append}
+use Rattle.std.proofs.lemmas.Grind.{flat_map-append, take_at_read}
 use Rattle.std.specs.List.{flat_map}
 use Rattle.std.specs.Result.{IsErrAnd}
 use Rattle.am_universe.specs.declared.kind.Kind.{Kind}
@@ -44,19 +44,44 @@ more_taken start now later text i n before more =
 
 -- ---- A proper prefix of a text, where the text goes on or has been begun.
 
-grows_on : {old new a : List ℕ} (b : List ℕ) → GrowsByProperPrefix old new a → GrowsByProperPrefix old new (a ++ b)
-grows_on {old} {new} {a} b g = record {
-  count = g.count;
-  proper = omega (arith, length-append a b, g.proper);
-  grows = g.grows ∙ ap (λ t. old ++ t) (sym (take-append-le g.count a b (omega (arith, g.proper))));
-}
+grows_on : (old new a b : List ℕ) → GrowsByProperPrefix old new a → GrowsByProperPrefix old new (a ++ b)
+unfolding GrowsByProperPrefix
+grows_on old new a b (count, proper, grows) =
+    (count, omega (arith, length-append a b), grows ∙ ap (λ t. old ++ t) (sym (take-append-le count a b (omega arith))))
 
-grows_behind : {old mid new : List ℕ} (a b : List ℕ) → mid ≡ old ++ a → GrowsByProperPrefix mid new b → GrowsByProperPrefix old new (a ++ b)
-grows_behind {old} a b e g = record {
-  count = length a + g.count;
-  proper = omega (arith, length-append a b, g.proper);
-  grows = g.grows ∙ ap (λ t. t ++ take g.count b) e ∙ append_assoc old a (take g.count b) ∙ ap (λ t. old ++ t) (sym (take-append-add a b g.count));
-}
+grows_behind : (old new a b : List ℕ) → GrowsByProperPrefix (old ++ a) new b → GrowsByProperPrefix old new (a ++ b)
+unfolding GrowsByProperPrefix
+grows_behind old new a b (count, proper, grows) = (
+  length a + count,
+  omega (arith, length-append a b),
+  grows ∙ append_assoc old a (take count b) ∙ ap (λ t. old ++ t) (sym (take-append-add a b count)),
+)
+
+pub taken_in_part : (old text : List ℕ) (count : ℕ) → count < length text → GrowsByProperPrefix old (old ++ take count text) text
+unfolding GrowsByProperPrefix
+taken_in_part old text count proper = (count, proper, refl)
+
+-- A text whose last piece was cut off, however it goes on.
+unfoldable pub IsCut : List ℕ → List ℕ → (List ℕ → List ℕ) → Type 0
+IsCut old new text = (rest : List ℕ) → GrowsByProperPrefix old new (text rest)
+
+pub cut_first : (old new a : List ℕ) → GrowsByProperPrefix old new a → GrowsByProperPrefix old new a × IsCut old new (λ rest. a ++ rest)
+unfolding IsCut
+cut_first old new a p = (p, λ rest. grows_on old new a rest p)
+
+pub cut_behind : (old new a : List ℕ) (text : List ℕ → List ℕ) → IsCut (old ++ a) new text → IsCut (old ++ a) new text × IsCut old new (λ rest. a ++ text rest)
+unfolding IsCut
+cut_behind old new a text p = (p, λ rest. grows_behind old new a (text rest) (p rest))
+
+pub cut_in_all : (old new : List ℕ) (text : List ℕ → List ℕ) → IsCut old new text → IsCut old new text × (GrowsByProperPrefix old new (text []) × ((rest : List ℕ) → GrowsByProperPrefix old new (text rest)))
+unfolding IsCut
+cut_in_all old new text p = (p, (p [], p))
+
+-- a list around the item that a loop reads
+pub around_read : {X : Type 0} (xs : List X) (i : ℕ) (d : X) → i < length xs → (get_or xs i d ≡ get_or xs i d) × (xs ≡ take i xs ++ (get_or xs i d ∷ drop (i + 1) xs))
+around_read xs i d h = (refl, sym (take-append-drop (i + 1) xs) ∙ ap (λ t. t ++ drop (i + 1) xs) (take_more xs i d h) ∙ append_assoc (take i xs) (get_or xs i d ∷ []) (drop (i + 1) xs))
+
+pub ruleset steps = (append_assoc, append-nil, flat_map-append, take_all, take_at_read, around_read, more_taken, taken_in_part, cut_first, cut_behind, cut_in_all)
 
 -- ---- One write behind another. A definition that ends `a ++ (b ++ c)` is met by calls that write a, b and c in turn:
 -- `first ⟩ second ⟩ third`, and where the second failed, `first ⟩ fails _ answer second`.
@@ -79,13 +104,13 @@ module _ {S : Type 0} {taken : S → List ℕ} {failures : S → ℕ} where
   -- a write that failed behind one that did not
   pub stopped_then : {s m e : S} {a b : List ℕ} → Wrote taken failures s m a → WroteInPart taken failures m e b → WroteInPart taken failures s e (a ++ b)
   stopped_then {s} {m} {e} {a} {b} v w = record {
-    part = grows_behind a b v.all w.part;
+    part = grows_behind _ _ a b (rw v.all at w.part);
     one_failed = w.one_failed ∙ ap (λ n. n + 1) v.none_failed;
   }
 
   -- a failed write of a text is one of any text that goes on from it
   pub stopped_on : {s e : S} {a : List ℕ} (b : List ℕ) → WroteInPart taken failures s e a → WroteInPart taken failures s e (a ++ b)
-  stopped_on b w = record { part = grows_on b w.part; one_failed = w.one_failed }
+  stopped_on b w = record { part = grows_on _ _ _ b w.part; one_failed = w.one_failed }
 
   -- a write behind one that did not fail
   pub ◌⟩◌ : {T : Type 0} {s m e : S} {a b : List ℕ} {r : Result T Kind} → Wrote taken failures s m a → Writes taken failures m e b r → Writes taken failures s e (a ++ b) r

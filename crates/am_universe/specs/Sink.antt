@@ -5,10 +5,9 @@ use Rattle.am_universe.specs.declared.kind.Kind.{Kind}
 use Rattle.am_universe.specs.declared.kind.Kind.TheVariants as kinds
 
 -- The new bytes are the old ones and a part of the text from its front, but not all of it.
-pub record GrowsByProperPrefix (old new text : List ℕ) : Type 0 where
-  pub count : ℕ
-  pub proper : count < length text
-  pub grows : new ≡ old ++ take count text
+unfoldable pub GrowsByProperPrefix : List ℕ → List ℕ → List ℕ → Type 0
+GrowsByProperPrefix old new text =
+    (count : ℕ) × (count < length text) × (new ≡ old ++ take count text)
 
 -- Between two states of a sink the whole text was taken, and no take failed.
 pub record Wrote {S : Type 0} (taken : S → List ℕ) (failures : S → ℕ) (before after : S)

@@ -1,3 +1,5 @@
+#![tactic(auto, using(crate::proofs::Writing::steps))]
+
 ghost use Rattle.std.specs.Prelude.{◌≡◌, IfOk};
 ghost use Rattle.am_universe.specs.Sink.{Writes};
 ghost use Rattle.am_universe.specs.FaultText.{fault_text, has_no_place, place_part};

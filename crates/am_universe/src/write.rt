@@ -1,3 +1,5 @@
+#![tactic(auto, using(crate::proofs::Writing::steps))]
+
 ghost use Rattle.std.specs.Prelude.{◌≡◌, [], ◌∷◌, ◌++◌, IfSome, IfNone};
 ghost use Rattle.std.specs.List.{flat_map};
 ghost use Rattle.am_universe.specs.Universe.{sizes};
@@ -12,7 +14,6 @@ use std::alloc::Global;
 
 /// Writes the bytes, all of them, unless a take fails: then the answer is `Kind::Write`, the bytes
 /// before it have gone out, and it is not tried again.
-#[tactic(auto, using(crate::proofs::Writing::more_taken))]
 pub fn put_all<W: Sink>(out: &mut W, bytes: &[u8]) -> Result<(), Kind>
     ensures written { Writes W.taken W.failures out.old out.new bytes.now result }
 {
