@@ -17,7 +17,6 @@ pub mod RouteSteps
 pub mod RouteFaultLemmas
 pub mod ConfigRanks
 pub mod ConfigFaultLemmas
-pub mod StoredPath
 pub mod Paths
 pub mod RouteLists
 pub mod Numerals

@@ -5,6 +5,5 @@ pub mod ConfigReading
 pub mod RouteView
 pub mod ConfigView
 pub mod Path
-pub mod PathView
 pub mod RoutePaths
 pub mod ConfigFaults

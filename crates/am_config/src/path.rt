@@ -9,30 +9,27 @@ ghost use Rattle.am_universe.specs.Sink.{Writes};
 ghost use Rattle.am_config.specs.Path.{path_text, step_text, numeral, IsPath, leads_through};
 
 use crate::limits::{MAX_CHILD_POSITION, MAX_PATH_STEPS};
-use am_universe::{Kind, Sink, put_all, put_str};
+use am_universe::{Kind, Positions, Sink, put_all, put_str};
 use std::marker::Model;
 
 /// The way from the top-level route down to a route: the positions of children, at most
 /// [`MAX_PATH_STEPS`]. Positions count from 0.
-#[derive(Clone, Copy, Debug)]
+#[derive(Clone, Copy, PartialEq, Eq, Debug)]
 pub struct Path {
-    steps: [u16; MAX_PATH_STEPS],
-    len: usize,
+    steps: Positions,
 }
 
 impl Model for Path {
-    ghost use Rattle.std.specs.Prelude.{List, ℕ};
-    ghost use Rattle.am_config.specs.PathView.{view_of, IsStored, stored_form};
+    ghost use Rattle.std.specs.Prelude.{◌≤◌, List, ℕ, length};
+    ghost use Rattle.am_config.specs.declared.limits.TheConstants.{MAX_PATH_STEPS};
 
     ghost Value = { List ℕ };
 
-    ghost view = { view_of };
+    ghost view = { λ a. a.steps };
 
-    ghost invariant = { IsStored };
+    ghost invariant = { λ a. length a.steps ≤ MAX_PATH_STEPS };
 
-    ghost inverse = { stored_form };
-
-    ghost inverse_ok = { λ a h. h.1 };
+    ghost inverse = { λ steps. record { steps = steps } };
 }
 
 impl Path {
@@ -41,8 +38,7 @@ impl Path {
         ensures steps { result ≡ [] }
     {
         Path {
-            steps: [0; MAX_PATH_STEPS],
-            len: 0,
+            steps: Positions::empty(),
         }
     }
 
@@ -52,8 +48,7 @@ impl Path {
         ensures steps { result ≡ self.now ++ position ∷ [] }
     {
         let mut child = *self;
-        child.steps[child.len] = position;
-        child.len += 1;
+        child.steps.push(position);
         child
     }
 
@@ -62,7 +57,7 @@ impl Path {
         ensures len { result ≡ length self.now }
         ensures at_most { result ≤ MAX_PATH_STEPS }
     {
-        self.len
+        self.steps.len()
     }
 
     /// The position at `i`.
@@ -70,14 +65,14 @@ impl Path {
         requires within { i < length self.now }
         ensures position { result ≡ slice_index self.now i }
     {
-        self.steps[..self.len][i]
+        self.steps.get(i)
     }
 
     /// The positions in a row.
     pub fn steps(&self) -> &[u16]
         ensures steps { result.now ≡ self.now }
     {
-        &self.steps[..self.len]
+        self.steps.as_slice()
     }
 
     /// The path with this text: `/` for the top-level route, else `/` and a position for each step,
@@ -108,7 +103,7 @@ impl Path {
     pub fn leads_through(&self, other: &Path) -> bool
         ensures leads { result ≡ leads_through other.now self.now }
     {
-        self.steps[..self.len].starts_with(&other.steps[..other.len])
+        self.steps().starts_with(other.steps())
     }
 
     /// Writes the text of the path. The only `Err` is `Kind::Write`, after a part of that from its
@@ -116,7 +111,7 @@ impl Path {
     pub fn write<W: Sink>(&self, out: &mut W) -> Result<(), Kind>
         ensures written { Writes W.taken W.failures out.old out.new (path_text self.now) result }
     {
-        if self.len == 0 {
+        if self.len() == 0 {
             return put_all(out, b"/");
         }
         for i in 0..self.len() {
@@ -176,25 +171,4 @@ fn write_step<W: Sink>(position: u16, out: &mut W) -> Result<(), Kind>
 {
     put_all(out, b"/")?;
     put_str(out, itoa::Buffer::new().format(position))
-}
-
-// Two paths are the same where their positions are, one by one.
-impl PartialEq for Path {
-    ghost use Rattle.std.specs.Cmp.{partial_equiv_from_equiv};
-    ghost use Rattle.std.specs.Cmp.Lexicographic.{nat_list_eq_equiv};
-    ghost use Rattle.am_universe.specs.Text.{same_text};
-
-    ghost eq = { same_text };
-
-    ghost laws = { partial_equiv_from_equiv nat_list_eq_equiv };
-
-    fn eq(&self, other: &Path) -> bool {
-        self.steps[..self.len] == other.steps[..other.len]
-    }
-}
-
-impl Eq for Path {
-    ghost use Rattle.std.specs.Cmp.Lexicographic.{nat_list_eq_equiv};
-
-    ghost laws = { nat_list_eq_equiv };
 }

@@ -1,7 +1,5 @@
 pub mod Writing
 pub mod QuotedTextLemmas
-pub mod PaddedCells
-pub mod ChoiceViewLemmas
 pub mod LabelMapLemmas
 pub mod WholeChoiceLemmas
 pub mod ListLemmas

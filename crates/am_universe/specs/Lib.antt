@@ -7,7 +7,7 @@ pub mod Text
 pub mod Universe
 pub mod UniverseView
 pub mod Choice
-pub mod ChoiceView
+pub mod PositionsView
 pub mod Completions
 pub mod LabelSet
 pub mod LabelSetView

@@ -31,12 +31,12 @@ pub use out::Out;
 pub use sink::Sink;
 
 // Label names, choices, and the universes that admit them.
-mod choice;
 mod label_name;
+mod positions;
 mod universe;
 
-pub use choice::{Choice, Position};
 pub use label_name::{begins_label_name, continues_label_name};
+pub use positions::{Choice, Position, Positions};
 pub use universe::Universe;
 
 // Label sets.

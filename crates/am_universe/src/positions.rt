@@ -7,17 +7,16 @@ use std::marker::Model;
 /// A position among the values of a label. Positions count from 0.
 pub type Position = u16;
 
-/// A list of at most [`MAX_POSITIONS`] positions, one for each label of a universe: a whole choice,
-/// or a prefix of one.
+/// A list of at most [`MAX_POSITIONS`] positions.
 #[derive(Clone, Copy, Debug)]
-pub struct Choice {
+pub struct Positions {
     positions: [Position; MAX_POSITIONS],
     len: usize,
 }
 
-impl Model for Choice {
+impl Model for Positions {
     ghost use Rattle.std.specs.Prelude.{List, ℕ};
-    ghost use Rattle.am_universe.specs.ChoiceView.{view_of, IsStored, stored_form};
+    ghost use Rattle.am_universe.specs.PositionsView.{view_of, IsStored, stored_form, stored_again};
 
     ghost Value = { List ℕ };
 
@@ -27,15 +26,15 @@ impl Model for Choice {
 
     ghost inverse = { stored_form };
 
-    ghost inverse_ok = { λ a h. h.1 };
+    ghost inverse_ok = { stored_again };
 }
 
-impl Choice {
-    /// The choice with no position.
-    pub fn empty() -> Choice
+impl Positions {
+    /// The list with no position.
+    pub fn empty() -> Positions
         ensures no_position { result ≡ [] }
     {
-        Choice {
+        Positions {
             positions: [0; MAX_POSITIONS],
             len: 0,
         }
@@ -66,6 +65,13 @@ impl Choice {
         self.positions[i]
     }
 
+    /// The positions in a row.
+    pub fn as_slice(&self) -> &[Position]
+        ensures positions { result.now ≡ self.now }
+    {
+        &self.positions[..self.len]
+    }
+
     /// Adds a position at the end.
     pub fn push(&mut self, position: Position)
         requires { length self.old < MAX_POSITIONS }
@@ -90,8 +96,8 @@ impl Choice {
     }
 }
 
-// Two choices are the same where their positions are, one by one.
-impl PartialEq for Choice {
+// Two lists are the same where their positions are, one by one.
+impl PartialEq for Positions {
     ghost use Rattle.std.specs.Cmp.{partial_equiv_from_equiv};
     ghost use Rattle.std.specs.Cmp.Lexicographic.{nat_list_eq_equiv};
     ghost use Rattle.am_universe.specs.Text.{same_text};
@@ -100,13 +106,16 @@ impl PartialEq for Choice {
 
     ghost laws = { partial_equiv_from_equiv nat_list_eq_equiv };
 
-    fn eq(&self, other: &Choice) -> bool {
-        self.positions[..self.len] == other.positions[..other.len]
+    fn eq(&self, other: &Positions) -> bool {
+        self.as_slice() == other.as_slice()
     }
 }
 
-impl Eq for Choice {
+impl Eq for Positions {
     ghost use Rattle.std.specs.Cmp.Lexicographic.{nat_list_eq_equiv};
 
     ghost laws = { nat_list_eq_equiv };
 }
+
+/// One position for each label of a universe, a whole choice, or a prefix of one.
+pub type Choice = Positions;
