@@ -11,7 +11,6 @@ use borrow.Author.Tests.{lt-ltb, le-ltb, eqb-true}
 use Rattle.am_search.specs.declared.trailer.Trailer.{Trailer}
 use Rattle.am_search.specs.declared.trailer.Trailer.TheVariants.{Next}
 use Rattle.am_search.specs.Page.{AnswerPage, page_ending}
-use Rattle.am_search.specs.TrailerText.{trailer_text}
 
 -- ---- Which page it is.
 
@@ -144,7 +143,3 @@ lines_more f done c = ap (λ t. flat_map f done ++ t) (sym (append-nil (f c))) �
 
 pub lines_through : (f : List ℕ → List ℕ) (done : List (List ℕ)) (c : List ℕ) (more : List (List ℕ)) → flat_map f done ++ (f c ++ flat_map f more) ≡ flat_map f (done ++ c ∷ more)
 lines_through f done c more = sym (flat_map-append f done (c ∷ more))
-
-pub trailer_as : (fingerprint head : List ℕ) {a b : Trailer} → a ≡ b
-    → head ++ trailer_text fingerprint a ≡ head ++ trailer_text fingerprint b
-trailer_as fingerprint head e = ap (λ t. head ++ trailer_text fingerprint t) e

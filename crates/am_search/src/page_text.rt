@@ -1,3 +1,5 @@
+#![tactic(auto, using(am_universe::proofs::Writing::steps))]
+
 ghost use Rattle.std.specs.Prelude.{◌≡◌, ◌<◌, ℕ, List, Option, IfOk, IfSome};
 ghost use Rattle.am_universe.specs.Universe.{sizes};
 ghost use Rattle.am_universe.specs.Sink.{Writes};

@@ -1,3 +1,5 @@
+#![tactic(auto, using(am_universe::proofs::Writing::steps))]
+
 ghost use Rattle.std.specs.Prelude.{◌≡◌, ◌≢◌, ◌<◌, ◌^◌, ◌++◌, ℕ, List, Option, IfOk, IfErr, IfSome};
 ghost use Rattle.std.specs.Prelude.{MatchOption, IsTrue, codes};
 ghost use Rattle.std.specs.Fmt.{decimal};

@@ -1,3 +1,5 @@
+#![tactic(auto, using(am_universe::proofs::Writing::steps))]
+
 ghost use Rattle.am_universe.specs.Sink.{Writes};
 ghost use Rattle.am_search.specs.TrailerText.{trailer_text};
 

@@ -1,7 +1,7 @@
 -- What is written step by step.
 use Rattle.std.proofs.Common.{◌≡◌, ℕ, ◌+◌, ◌-◌, ◌<◌, ◌≤◌, List, [], ◌∷◌, ◌++◌, length, get_or, take, drop, Result, Ok, Err, IsErr, refl, subst, sym, ap, ◌∙◌, append_assoc, append-nil, length-append, length-drop, arith}
-use Rattle.std.proofs.Math.Seq.{take-add, take-append-add}
-use Rattle.std.proofs.lemmas.List.{take-append-le, take_all, take-append-drop, take_more}
+use Rattle.std.proofs.Math.Seq.{drop-append_seam, drop-length, take-add, take-append-add}
+use Rattle.std.proofs.lemmas.List.{drop-drop, take-append-le, take_all, take-append-drop, take_more}
 use Rattle.std.proofs.lemmas.Grind.{flat_map-append, take_at_read}
 use Rattle.std.specs.List.{flat_map}
 use Rattle.std.specs.Result.{IsErrAnd}
@@ -44,6 +44,9 @@ more_taken start now later text i n before more =
 
 -- ---- A proper prefix of a text, where the text goes on or has been begun.
 
+pub dropped_pieces : (a b text : List ℕ) → drop (length (a ++ b)) text ≡ drop (length b) (drop (length a) text)
+dropped_pieces a b text = simp (length-append, drop-drop)
+
 grows_on : (old new a b : List ℕ) → GrowsByProperPrefix old new a → GrowsByProperPrefix old new (a ++ b)
 unfolding GrowsByProperPrefix
 grows_on old new a b (count, proper, grows) =
@@ -61,27 +64,32 @@ pub taken_in_part : (old text : List ℕ) (count : ℕ) → count < length text 
 unfolding GrowsByProperPrefix
 taken_in_part old text count proper = (count, proper, refl)
 
--- A text whose last piece was cut off, however it goes on.
+-- Each text is cut off that `again` puts together again: `again` takes the pieces that are known off its front, and puts them back.
 unfoldable pub IsCut : List ℕ → List ℕ → (List ℕ → List ℕ) → Type 0
-IsCut old new text = (rest : List ℕ) → GrowsByProperPrefix old new (text rest)
+IsCut old new again = (text : List ℕ) → again text ≡ text → GrowsByProperPrefix old new text
 
-pub cut_first : (old new a : List ℕ) → GrowsByProperPrefix old new a → GrowsByProperPrefix old new a × IsCut old new (λ rest. a ++ rest)
-unfolding IsCut
-cut_first old new a p = (p, λ rest. grows_on old new a rest p)
+-- `grind` matches the first part of each conclusion with what is known of the piece that was cut off, and of the pieces before it.
+module _ (old new : List ℕ) where
+  pub cut_piece : (a : List ℕ) → GrowsByProperPrefix old new a → GrowsByProperPrefix old new a × IsCut old new (λ text. a ++ drop (length a) text)
+  unfolding IsCut
+  cut_piece a p = (p, λ text is. subst (GrowsByProperPrefix old new) is (grows_on old new a _ p))
 
-pub cut_behind : (old new a : List ℕ) (text : List ℕ → List ℕ) → IsCut (old ++ a) new text → IsCut (old ++ a) new text × IsCut old new (λ rest. a ++ text rest)
-unfolding IsCut
-cut_behind old new a text p = (p, λ rest. grows_behind old new a (text rest) (p rest))
+  pub cut_behind : (a : List ℕ) (again : List ℕ → List ℕ) → IsCut (old ++ a) new again → IsCut (old ++ a) new again × IsCut old new (λ text. a ++ again (drop (length a) text))
+  unfolding IsCut
+  cut_behind a again p = (p, λ text is.
+    let rest : List ℕ = again (drop (length a) text) in
+    let same : drop (length a) text ≡ rest = ap (drop (length a)) (sym is) ∙ drop-append_seam a rest in
+    subst (GrowsByProperPrefix old new) is (grows_behind old new a rest (p rest (sym (ap again same)))))
 
-pub cut_in_all : (old new : List ℕ) (text : List ℕ → List ℕ) → IsCut old new text → IsCut old new text × (GrowsByProperPrefix old new (text []) × ((rest : List ℕ) → GrowsByProperPrefix old new (text rest)))
-unfolding IsCut
-cut_in_all old new text p = (p, (p [], p))
+  pub cut_off : (again : List ℕ → List ℕ) → IsCut old new again → IsCut old new again × ((text : List ℕ) → again text ≡ text → GrowsByProperPrefix old new text)
+  unfolding IsCut
+  cut_off again p = (p, p)
 
 -- a list around the item that a loop reads
 pub around_read : {X : Type 0} (xs : List X) (i : ℕ) (d : X) → i < length xs → (get_or xs i d ≡ get_or xs i d) × (xs ≡ take i xs ++ (get_or xs i d ∷ drop (i + 1) xs))
 around_read xs i d h = (refl, sym (take-append-drop (i + 1) xs) ∙ ap (λ t. t ++ drop (i + 1) xs) (take_more xs i d h) ∙ append_assoc (take i xs) (get_or xs i d ∷ []) (drop (i + 1) xs))
 
-pub ruleset steps = (append_assoc, append-nil, flat_map-append, take_all, take_at_read, around_read, more_taken, taken_in_part, cut_first, cut_behind, cut_in_all)
+pub ruleset steps = (append_assoc, append-nil, flat_map-append, take_all, take_at_read, around_read, more_taken, taken_in_part, drop-append_seam, drop-length, dropped_pieces, cut_piece, cut_behind, cut_off)
 
 -- ---- One write behind another. A definition that ends `a ++ (b ++ c)` is met by calls that write a, b and c in turn:
 -- `first ⟩ second ⟩ third`, and where the second failed, `first ⟩ fails _ answer second`.

@@ -1,39 +1,13 @@
 use Rattle.std.proofs.Common.{ap, sym}
-use Rattle.am_universe.proofs.Writing.{◌⟩◌, fails, writes_as}
+use Rattle.am_universe.proofs.Writing.{◌⟩◌, writes_as}
 use Rattle.am_search.specs.TrailerText.{trailer_text}
 use Rattle.am_search.proofs.trailer_text.write_trailer.Goals as goal
-
-pub returns-in_err-put_all-in-Next : goal.returns-in_err-put_all-in-Next
-returns-in_err-put_all-in-Next g c = record {
-  written =
-      writes_as (ap (trailer_text c.args.fingerprint.now) (sym c.in-Next.is)) (fails _ c.from_residual.ensures c.in_err-put_all-in-Next.ensures.written);
-}
-
-pub returns-in_err-write_token-in-Next : goal.returns-in_err-write_token-in-Next
-returns-in_err-write_token-in-Next g c = record {
-  written =
-      writes_as (ap (trailer_text c.args.fingerprint.now) (sym c.in-Next.is))
-      (c.in_ok-put_all-in-Next.ensures.written.ok ⟩ fails _ c.from_residual-in_err-write_token-in-Next.ensures c.in_err-write_token-in-Next.ensures.written);
-}
 
 pub returns-in_ok-write_token-in-Next : goal.returns-in_ok-write_token-in-Next
 returns-in_ok-write_token-in-Next g c = record {
   written =
       writes_as (ap (trailer_text c.args.fingerprint.now) (sym c.in-Next.is))
       (c.in_ok-put_all-in-Next.ensures.written.ok ⟩ c.in_ok-write_token-in-Next.ensures.written.ok ⟩ c.put_all-in-Next-2.ensures.written);
-}
-
-pub returns-in_err-put_all-in-Stopped : goal.returns-in_err-put_all-in-Stopped
-returns-in_err-put_all-in-Stopped g c = record {
-  written =
-      writes_as (ap (trailer_text c.args.fingerprint.now) (sym c.in-Stopped.is)) (fails _ c.from_residual-in_err-put_all-in-Stopped.ensures c.in_err-put_all-in-Stopped.ensures.written);
-}
-
-pub returns-in_err-write_token-in-Stopped : goal.returns-in_err-write_token-in-Stopped
-returns-in_err-write_token-in-Stopped g c = record {
-  written =
-      writes_as (ap (trailer_text c.args.fingerprint.now) (sym c.in-Stopped.is))
-      (c.in_ok-put_all-in-Stopped.ensures.written.ok ⟩ fails _ c.from_residual-in_err-write_token-in-Stopped.ensures c.in_err-write_token-in-Stopped.ensures.written);
 }
 
 pub returns-in_ok-write_token-in-Stopped : goal.returns-in_ok-write_token-in-Stopped
