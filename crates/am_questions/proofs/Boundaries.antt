@@ -10,9 +10,9 @@ use Rattle.std.proofs.lemmas.Bool.{and_parts, eqb-true}
 use Rattle.std.proofs.lemmas.Bool.Decides.{nat_tests}
 use Rattle.am_labels.specs.MatcherText.{is_quoted}
 use Rattle.am_labels.specs.BraceToken.{brace_len}
-use Rattle.am_questions.specs.Tokens.{is_word_character}
-use Rattle.am_questions.specs.TokenReading.{is_plain}
-use Rattle.am_questions.proofs.BraceTokens.{has_length}
+use Rattle.am_questions.specs.Lexemes.{is_word_character}
+use Rattle.am_questions.specs.LexemeReading.{is_plain}
+use Rattle.am_questions.proofs.BraceLists.{has_length}
 
 plain_stops : (c : ℕ) → is_plain c ≡ false → c < 128
 plain_stops c h = grind (arith, nat_tests)

@@ -1,9 +1,8 @@
 pub mod QuotedTexts
-pub mod BraceTokens
-pub mod TokenTexts
+pub mod BraceLists
+pub mod LexemeTexts
 pub mod Boundaries
-pub mod Takes
-pub mod TakesSteps
+pub mod Fronts
 pub mod PartLemmas
 pub mod RouteNames
 pub mod TreeSeen

@@ -7,8 +7,8 @@ use Rattle.am_universe.specs.declared.kind.Kind.TheVariants as kinds
 use Rattle.am_config.specs.ConfigFile.{Configuration}
 use Rattle.am_eval.specs.Tree.{Tree, Part, Not, And, Or}
 use Rattle.am_eval.specs.Question.{Question}
-use Rattle.am_questions.specs.declared.limits.TheConstants.{MAX_TOKENS}
-use Rattle.am_questions.specs.Tokens.{Token, SpellsTokens}
+use Rattle.am_questions.specs.declared.limits.TheConstants.{MAX_LEXEMES}
+use Rattle.am_questions.specs.Lexemes.{Lexeme, SpellsLexemes}
 use Rattle.am_questions.specs.Grammar.{Written, IsQuestion}
 use Rattle.am_questions.specs.QuestionText.{TreeMeans, IsMeant, parts_of, PartRefusedFor}
 use Rattle.am_questions.specs.QuestionText.{PartsRefusedFor, QuestionRefusedFor}
@@ -63,11 +63,11 @@ right_refused c xs ys kind meant h = record {
 }
 
 -- what the parts of a tree are refused for, its text is refused for
-pub text_if_parts_refused : {A : Type 0} (c : Configuration) (text : List ℕ) (tokens : List Token)
-    (tree : Tree Written) (result : Result A Kind) → SpellsTokens text tokens
-    → length tokens ≤ MAX_TOKENS → IsQuestion tokens tree
+pub text_if_parts_refused : {A : Type 0} (c : Configuration) (text : List ℕ) (lexemes : List Lexeme)
+    (tree : Tree Written) (result : Result A Kind) → SpellsLexemes text lexemes
+    → length lexemes ≤ MAX_LEXEMES → IsQuestion lexemes tree
     → IfErr result (λ kind. kind ≢ kinds.Memory → PartsRefusedFor c (parts_of tree) kind)
     → IfErr result (λ kind. kind ≢ kinds.Memory → QuestionRefusedFor c text kind)
-text_if_parts_refused c text tokens tree (Ok x) spelled few is_tree h = tt
-text_if_parts_refused c text tokens tree (Err kind) spelled few is_tree h = λ other.
-    inr (tokens, spelled, inr (inr (few, tree, is_tree, h other)))
+text_if_parts_refused c text lexemes tree (Ok x) spelled few is_tree h = tt
+text_if_parts_refused c text lexemes tree (Err kind) spelled few is_tree h = λ other.
+    inr (lexemes, spelled, inr (inr (few, tree, is_tree, h other)))

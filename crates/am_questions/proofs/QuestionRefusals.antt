@@ -9,16 +9,15 @@ use Rattle.am_config.specs.ConfigFile.{Configuration}
 use Rattle.am_eval.specs.Tree.{Tree}
 use Rattle.am_eval.specs.Question.{Question}
 use Rattle.am_eval.proofs.SetRefusals.{words_accepted, words_kind}
-use Rattle.am_questions.specs.declared.limits.TheConstants.{MAX_TOKENS}
-use Rattle.am_questions.specs.Tokens.{Token}
-use Rattle.am_questions.specs.Grammar.{Written}
-use Rattle.am_questions.specs.Grammar.{WrittenReceiver, WrittenEnds, WrittenEnters, WrittenBraces}
-use Rattle.am_questions.specs.Grammar.{IsQuestion}
+use Rattle.am_questions.specs.declared.limits.TheConstants.{MAX_LEXEMES}
+use Rattle.am_questions.specs.Lexemes.{Lexeme}
+use Rattle.am_questions.specs.Grammar.{Written, WrittenIs, WrittenReceiver, WrittenRoute}
+use Rattle.am_questions.specs.Grammar.{WrittenBraces, IsQuestion}
 use Rattle.am_questions.specs.QuestionText.{TreeMeans, ReadsQuestion, parts_of}
 use Rattle.am_questions.specs.QuestionText.{PartRefusedFor, IsMeant, PartsRefusedFor}
-use Rattle.am_questions.specs.QuestionText.{TokensRefusedFor, QuestionRefusedFor}
-use Rattle.am_questions.proofs.TokenTexts.{one_list}
-use Rattle.am_questions.proofs.Takes.{one_tree}
+use Rattle.am_questions.specs.QuestionText.{LexemesRefusedFor, QuestionRefusedFor}
+use Rattle.am_questions.proofs.LexemeTexts.{one_list}
+use Rattle.am_questions.proofs.Fronts.{one_tree}
 use Rattle.am_questions.proofs.PartLemmas.{parts_meant}
 
 -- ---- Parts.
@@ -29,20 +28,19 @@ part_meant : (c : Configuration) (w : Written) (kind : Kind) → IsMeant c w →
 part_meant c (WrittenReceiver name) kind meant refused =
     let there = meant.1.1 in
     let both : Some meant.1.0 ≡ None = sym there ∙ refused.1 in absurd (cc)
-part_meant c (WrittenEnds text) kind meant refused = absurd (refused.1 meant.1.0 meant.1.1)
-part_meant c (WrittenEnters text) kind meant refused = absurd (refused.1 meant.1.0 meant.1.1)
+part_meant c (WrittenRoute reach text) kind meant refused =
+    absurd (refused.1 meant.1.0 meant.1.1)
 part_meant c (WrittenBraces text) kind meant refused =
     words_accepted (text ∷ []) meant.1.0 kind meant.1.1 meant.1.2 meant.1.3 refused
-part_meant c _ kind meant refused = absurd refused
+part_meant c (WrittenIs property) kind meant refused = absurd refused
 
 part_kind : (c : Configuration) (w : Written) (kind other : Kind) → PartRefusedFor c w kind
     → PartRefusedFor c w other → kind ≢ kinds.Pattern → other ≢ kinds.Pattern → kind ≡ other
 part_kind c (WrittenReceiver name) kind other refused again h k = refused.0 ∙ sym again.0
-part_kind c (WrittenEnds text) kind other refused again h k = refused.0 ∙ sym again.0
-part_kind c (WrittenEnters text) kind other refused again h k = refused.0 ∙ sym again.0
+part_kind c (WrittenRoute reach text) kind other refused again h k = refused.0 ∙ sym again.0
 part_kind c (WrittenBraces text) kind other refused again h k =
     words_kind (text ∷ []) kind other refused again h k
-part_kind c _ kind other refused again h k = absurd refused
+part_kind c (WrittenIs property) kind other refused again h k = absurd refused
 
 -- ---- Lists of parts.
 
@@ -85,50 +83,50 @@ parts_kind c parts kind other refused again h k =
       | inr (inr meant) ↦ absurd (k (part_meant c again.part other meant again.refused))
     ]
 
--- ---- Tokens, and texts.
+-- ---- Lexemes, and texts.
 
-tokens_accepted : (c : Configuration) (tokens : List Token) (tree : Tree Written) (q : Question)
-    (kind : Kind) → length tokens ≤ MAX_TOKENS → IsQuestion tokens tree → TreeMeans c tree q
-    → TokensRefusedFor c tokens kind → kind ≡ kinds.Pattern
-tokens_accepted c tokens tree q kind few is_tree meant (inl many) =
+lexemes_accepted : (c : Configuration) (lexemes : List Lexeme) (tree : Tree Written) (q : Question)
+    (kind : Kind) → length lexemes ≤ MAX_LEXEMES → IsQuestion lexemes tree → TreeMeans c tree q
+    → LexemesRefusedFor c lexemes kind → kind ≡ kinds.Pattern
+lexemes_accepted c lexemes tree q kind few is_tree meant (inl many) =
     absurd (omega (arith, few, many.1))
-tokens_accepted c tokens tree q kind few is_tree meant (inr (inl none)) =
+lexemes_accepted c lexemes tree q kind few is_tree meant (inr (inl none)) =
     absurd (none.2 tree is_tree)
-tokens_accepted c tokens tree q kind few is_tree meant (inr (inr parts)) =
+lexemes_accepted c lexemes tree q kind few is_tree meant (inr (inr parts)) =
     parts_accepted c (parts_of tree) kind (parts_meant c tree q meant)
     (subst (λ (t : Tree Written). PartsRefusedFor c (parts_of t) kind)
-    (one_tree tokens parts.1 tree parts.2 is_tree) parts.3)
+    (one_tree lexemes parts.1 tree parts.2 is_tree) parts.3)
 
 -- a text that is read is refused at most for a pattern
 pub question_accepted : (c : Configuration) (text : List ℕ) (q : Question) (kind : Kind)
     → ReadsQuestion c text q → QuestionRefusedFor c text kind → kind ≡ kinds.Pattern
-question_accepted c text q kind read (inl none) = absurd (none.1 read.tokens read.spelled)
+question_accepted c text q kind read (inl none) = absurd (none.1 read.lexemes read.spelled)
 question_accepted c text q kind read (inr refused) =
-    tokens_accepted c read.tokens read.tree q kind read.within_limit read.is_tree read.meant
-    (subst (λ (ts : List Token). TokensRefusedFor c ts kind)
-    (one_list text refused.0 read.tokens refused.1 read.spelled) refused.2)
+    lexemes_accepted c read.lexemes read.tree q kind read.within_limit read.is_tree read.meant
+    (subst (λ (ts : List Lexeme). LexemesRefusedFor c ts kind)
+    (one_list text refused.0 read.lexemes refused.1 read.spelled) refused.2)
 
-tokens_kind : (c : Configuration) (tokens : List Token) (kind other : Kind)
-    → TokensRefusedFor c tokens kind → TokensRefusedFor c tokens other → kind ≢ kinds.Pattern
+lexemes_kind : (c : Configuration) (lexemes : List Lexeme) (kind other : Kind)
+    → LexemesRefusedFor c lexemes kind → LexemesRefusedFor c lexemes other → kind ≢ kinds.Pattern
     → other ≢ kinds.Pattern → kind ≡ other
-tokens_kind c tokens kind other (inl many) (inl more) h k = many.0 ∙ sym more.0
-tokens_kind c tokens kind other (inl many) (inr (inl none)) h k =
+lexemes_kind c lexemes kind other (inl many) (inl more) h k = many.0 ∙ sym more.0
+lexemes_kind c lexemes kind other (inl many) (inr (inl none)) h k =
     absurd (omega (arith, many.1, none.1))
-tokens_kind c tokens kind other (inl many) (inr (inr parts)) h k =
+lexemes_kind c lexemes kind other (inl many) (inr (inr parts)) h k =
     absurd (omega (arith, many.1, parts.0))
-tokens_kind c tokens kind other (inr (inl none)) (inl many) h k =
+lexemes_kind c lexemes kind other (inr (inl none)) (inl many) h k =
     absurd (omega (arith, many.1, none.1))
-tokens_kind c tokens kind other (inr (inl none)) (inr (inl nothing)) h k = none.0 ∙ sym nothing.0
-tokens_kind c tokens kind other (inr (inl none)) (inr (inr parts)) h k =
+lexemes_kind c lexemes kind other (inr (inl none)) (inr (inl nothing)) h k = none.0 ∙ sym nothing.0
+lexemes_kind c lexemes kind other (inr (inl none)) (inr (inr parts)) h k =
     absurd (none.2 parts.1 parts.2)
-tokens_kind c tokens kind other (inr (inr parts)) (inl many) h k =
+lexemes_kind c lexemes kind other (inr (inr parts)) (inl many) h k =
     absurd (omega (arith, many.1, parts.0))
-tokens_kind c tokens kind other (inr (inr parts)) (inr (inl none)) h k =
+lexemes_kind c lexemes kind other (inr (inr parts)) (inr (inl none)) h k =
     absurd (none.2 parts.1 parts.2)
-tokens_kind c tokens kind other (inr (inr parts)) (inr (inr again)) h k =
+lexemes_kind c lexemes kind other (inr (inr parts)) (inr (inr again)) h k =
     parts_kind c (parts_of again.1) kind other
     (subst (λ (t : Tree Written). PartsRefusedFor c (parts_of t) kind)
-    (one_tree tokens parts.1 again.1 parts.2 again.2) parts.3)
+    (one_tree lexemes parts.1 again.1 parts.2 again.2) parts.3)
     again.3 h k
 
 -- and is refused with one kind
@@ -139,7 +137,7 @@ question_kind c text kind other (inl none) (inl nothing) h k = none.0 ∙ sym no
 question_kind c text kind other (inl none) (inr refused) h k = absurd (none.1 refused.0 refused.1)
 question_kind c text kind other (inr refused) (inl none) h k = absurd (none.1 refused.0 refused.1)
 question_kind c text kind other (inr refused) (inr again) h k =
-    tokens_kind c again.0 kind other
-    (subst (λ (ts : List Token). TokensRefusedFor c ts kind)
+    lexemes_kind c again.0 kind other
+    (subst (λ (ts : List Lexeme). LexemesRefusedFor c ts kind)
     (one_list text refused.0 again.0 refused.1 again.1) refused.2)
     again.2 h k

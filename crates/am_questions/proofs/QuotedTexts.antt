@@ -12,8 +12,8 @@ use Rattle.std.proofs.lemmas.Bool.Decides.{nat_tests}
 use Rattle.am_labels.specs.MatcherText.{has_escape, byte_of_escape}
 use Rattle.am_labels.proofs.MatcherTextLists.{all_of_prefix}
 use Rattle.am_labels.proofs.MatcherTextWhole.{said_again}
-use Rattle.am_questions.specs.Tokens.{SpellsCharacter, SpellsQuoted}
-use Rattle.am_questions.specs.TokenReading.{is_plain, begun_with, read_quoted}
+use Rattle.am_questions.specs.Lexemes.{SpellsCharacter, SpellsQuoted}
+use Rattle.am_questions.specs.LexemeReading.{is_plain, begun_with, read_quoted}
 
 -- the text behind an opening quote stands for a value, and then the closing quote and the rest
 -- follow

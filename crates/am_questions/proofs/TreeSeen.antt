@@ -10,8 +10,7 @@ use Rattle.am_questions.specs.declared.grammar.Tree.TheVariants as variants
 use Rattle.am_eval.specs.Tree.{Tree, Part, Not}
 use Rattle.am_questions.specs.declared.grammar.Connective.{Connective}
 use Rattle.am_questions.specs.declared.grammar.Connective.TheVariants as by
-use Rattle.am_questions.specs.Grammar.{Written}
-use Rattle.am_questions.specs.GrammarReading.{joined}
+use Rattle.am_questions.specs.Grammar.{Written, joined}
 use Rattle.am_questions.specs.QuestionText.{parts_of}
 use Rattle.am_questions.specs.TreeView.{view_step, tree_view, written_view}
 
@@ -40,14 +39,14 @@ pub part_seen : (tree : kept.Tree) (w : kept_parts.Written) → tree ≡ variant
     → tree_view tree ≡ Part (written_view w)
 part_seen tree w is = ap tree_view is ∙ view_part w
 
+pub parts_of_joined : (c : Connective) (t u : Tree Written)
+    → parts_of (joined c t u) ≡ parts_of t ++ parts_of u
+parts_of_joined by.And t u = refl
+parts_of_joined by.Or t u = refl
+
 pub joined_parts : (tree : kept.Tree) (c : Connective) (l r : Box kept.Tree)
     → tree ≡ variants.Joined c l r
     → parts_of (tree_view tree) ≡ parts_of (tree_view l.value) ++ parts_of (tree_view r.value)
 joined_parts tree c l r is =
     ap (λ x. parts_of (tree_view x)) is ∙ (ap parts_of (view_joined c l.value r.value l r refl refl)
-    ∙ of_joined c (tree_view l.value) (tree_view r.value))
-  where
-    of_joined : (c : Connective) (t u : Tree Written)
-        → parts_of (joined c t u) ≡ parts_of t ++ parts_of u
-    of_joined by.And t u = refl
-    of_joined by.Or t u = refl
+    ∙ parts_of_joined c (tree_view l.value) (tree_view r.value))

@@ -1,80 +1,111 @@
--- The grammar of questions: which tokens are which tree. (This project's own.)
+-- The grammar of questions: which lexemes are which tree. (This project's own.)
 use Rattle.std.specs.Prelude.{◌≡◌, ◌⊎◌, ℕ, List, [], ◌∷◌, ◌++◌, ⊤, codes}
 use Rattle.std.specs.List.{AllByRecursion}
 use Rattle.am_config.specs.Path.{path_text}
+use Rattle.am_eval.specs.declared.property.Property.{Property}
+use Rattle.am_eval.specs.declared.property.Property.TheVariants.{Any, Silenced, Inhibited}
+use Rattle.am_eval.specs.declared.reach.Reach.{Reach}
+use Rattle.am_eval.specs.declared.reach.Reach.TheVariants.{Ends, Enters}
 use Rattle.am_eval.specs.Tree.{Tree, Part, Not, And, Or}
-use Rattle.am_questions.specs.Tokens.{Token, Open, Close, Word, Quoted, BraceList}
+use Rattle.am_questions.specs.declared.grammar.Connective.{Connective}
+use Rattle.am_questions.specs.declared.grammar.Connective.TheVariants as by
+use Rattle.am_questions.specs.Lexemes.{Lexeme, Open, Close, Word, Quoted, BraceList}
 
--- A simple part as it is written: a receiver by its name, a route by the text of its path, a list
--- of matchers by its text.
+-- A simple part as it is written: a property, a receiver by its name, a route by the text of its
+-- path, a list of matchers by its text.
 pub data Written : Type 0 where
-  WrittenAny : Written
-  WrittenSilenced : Written
-  WrittenInhibited : Written
+  WrittenIs : Property → Written
   WrittenReceiver : List ℕ → Written
-  WrittenEnds : List ℕ → Written
-  WrittenEnters : List ℕ → Written
+  WrittenRoute : Reach → List ℕ → Written
   WrittenBraces : List ℕ → Written
 
--- NAME: any word, a keyword too, or a text in quotes.
-pub data IsName : Token → List ℕ → Type 0 where
+-- The keywords, and the word of each. A name may be one of these words too.
+pub data Keyword : Type 0 where
+  NotWord : Keyword
+  JoinWord : Connective → Keyword
+  PropertyWord : Property → Keyword
+  ReceiverWord : Keyword
+  ReachWord : Reach → Keyword
+
+abbrev pub word_of : Keyword → List ℕ
+word_of NotWord = codes "not"
+word_of (JoinWord by.And) = codes "and"
+word_of (JoinWord by.Or) = codes "or"
+word_of (PropertyWord Any) = codes "any"
+word_of (PropertyWord Silenced) = codes "silenced"
+word_of (PropertyWord Inhibited) = codes "inhibited"
+word_of ReceiverWord = codes "receiver"
+word_of (ReachWord Ends) = codes "ends"
+word_of (ReachWord Enters) = codes "enters"
+
+abbrev pub keyword : Keyword → Lexeme
+keyword k = Word (word_of k)
+
+-- NAME: any word, a keyword too, or a text in quotes. PATH: a word that is the text of a path.
+pub data IsName : Lexeme → List ℕ → Type 0 where
   plain_name : (name : List ℕ) → IsName (Word name) name
   quoted_name : (name : List ℕ) → IsName (Quoted name) name
 
--- The grammar: `or` joins to the left and binds weakest, then `and`, which joins to the left too,
--- then `not`.
+pub data IsPathWord : Lexeme → List ℕ → Type 0 where
+  path_word : (path : List ℕ) → IsPathWord (Word (path_text path)) (path_text path)
+
+-- part := PROPERTY | "receiver" NAME | REACH PATH | BRACES
+pub data IsPart : List Lexeme → Written → Type 0 where
+  property : (p : Property) → IsPart (keyword (PropertyWord p) ∷ []) (WrittenIs p)
+  receiver : {lexeme : Lexeme} {name : List ℕ} → IsName lexeme name
+      → IsPart (keyword ReceiverWord ∷ lexeme ∷ []) (WrittenReceiver name)
+  route : (reach : Reach) {lexeme : Lexeme} {text : List ℕ} → IsPathWord lexeme text
+      → IsPart (keyword (ReachWord reach) ∷ lexeme ∷ []) (WrittenRoute reach text)
+  braces : (list : List ℕ) → IsPart (BraceList list ∷ []) (WrittenBraces list)
+
+-- A tier of the grammar: questions that a connective joins, or one that none joins.
+pub data Tier : Type 0 where
+  JoinedBy : Connective → Tier
+  Single : Tier
+
+-- The tier of what a connective joins: `and` binds more tightly than `or`. And the tree of two
+-- questions that a connective joins.
+abbrev pub operand : Connective → Tier
+operand by.And = Single
+operand by.Or = JoinedBy by.And
+
+abbrev pub joined : Connective → Tree Written → Tree Written → Tree Written
+joined by.And = And
+joined by.Or = Or
+
+-- The grammar: both connectives join to the left, `or` binds weakest, then `and`, then `not`.
 -- Source: own choice.
 -- Example: `any or not any and any` is the tree of `any or ((not any) and any)`.
-mutual
-  -- question := both { "or" both }
-  pub data IsQuestion : List Token → Tree Written → Type 0 where
-    both : (ts : List Token) (q : Tree Written) → IsBoth ts q → IsQuestion ts q
-    joined_by_or : (ts us : List Token) (q r : Tree Written) → IsQuestion ts q → IsBoth us r
-        → IsQuestion (ts ++ (Word (codes "or") ∷ us)) (Or q r)
+pub data IsOf : Tier → List Lexeme → Tree Written → Type 0 where
+  -- question := conjunction { "or" conjunction }, conjunction := single { "and" single }
+  alone : {c : Connective} {ts : List Lexeme} {q : Tree Written} → IsOf (operand c) ts q
+      → IsOf (JoinedBy c) ts q
+  joined_on : {c : Connective} {ts us : List Lexeme} {q r : Tree Written} → IsOf (JoinedBy c) ts q
+      → IsOf (operand c) us r → IsOf (JoinedBy c) (ts ++ (keyword (JoinWord c) ∷ us)) (joined c q r)
+  -- single := "not" single | "(" question ")" | part
+  negated : {ts : List Lexeme} {q : Tree Written} → IsOf Single ts q
+      → IsOf Single (keyword NotWord ∷ ts) (Not q)
+  in_parentheses : {ts : List Lexeme} {q : Tree Written} → IsOf (JoinedBy by.Or) ts q
+      → IsOf Single (Open ∷ (ts ++ (Close ∷ []))) q
+  part : {ts : List Lexeme} {w : Written} → IsPart ts w → IsOf Single ts (Part w)
 
-  -- both := one { "and" one }
-  pub data IsBoth : List Token → Tree Written → Type 0 where
-    one : (ts : List Token) (q : Tree Written) → IsOne ts q → IsBoth ts q
-    joined_by_and : (ts us : List Token) (q r : Tree Written) → IsBoth ts q → IsOne us r
-        → IsBoth (ts ++ (Word (codes "and") ∷ us)) (And q r)
-
-  -- one := "not" one | simple
-  pub data IsOne : List Token → Tree Written → Type 0 where
-    negated : (ts : List Token) (q : Tree Written) → IsOne ts q
-        → IsOne (Word (codes "not") ∷ ts) (Not q)
-    simple : (ts : List Token) (q : Tree Written) → IsSimple ts q → IsOne ts q
-
-  -- simple := "(" question ")" | "receiver" NAME | "ends" PATH | "enters" PATH | "silenced"
-  -- | "inhibited" | "any" | BRACES
-  pub data IsSimple : List Token → Tree Written → Type 0 where
-    in_parentheses : (ts : List Token) (q : Tree Written) → IsQuestion ts q
-        → IsSimple (Open ∷ (ts ++ (Close ∷ []))) q
-    receiver : (token : Token) (name : List ℕ) → IsName token name
-        → IsSimple (Word (codes "receiver") ∷ token ∷ []) (Part (WrittenReceiver name))
-    ends : (path : List ℕ)
-        → IsSimple (Word (codes "ends") ∷ Word (path_text path) ∷ [])
-        (Part (WrittenEnds (path_text path)))
-    enters : (path : List ℕ)
-        → IsSimple (Word (codes "enters") ∷ Word (path_text path) ∷ [])
-        (Part (WrittenEnters (path_text path)))
-    silenced : IsSimple (Word (codes "silenced") ∷ []) (Part WrittenSilenced)
-    inhibited : IsSimple (Word (codes "inhibited") ∷ []) (Part WrittenInhibited)
-    any : IsSimple (Word (codes "any") ∷ []) (Part WrittenAny)
-    braces : (list : List ℕ) → IsSimple (BraceList list ∷ []) (Part (WrittenBraces list))
+abbrev pub IsQuestion : List Lexeme → Tree Written → Type 0
+IsQuestion = IsOf (JoinedBy by.Or)
 
 -- A word or a parenthesis that joins the parts of a question.
-abbrev pub IsJoint : Token → Type 0
+abbrev pub IsJoint : Lexeme → Type 0
 IsJoint Open = ⊤
 IsJoint Close = ⊤
-IsJoint (Word word) = (word ≡ codes "not") ⊎ (word ≡ codes "and") ⊎ (word ≡ codes "or")
+IsJoint (Word word) =
+    (word ≡ word_of NotWord) ⊎ ((c : Connective) × (word ≡ word_of (JoinWord c)))
 IsJoint (Quoted name) = ⊥
 IsJoint (BraceList list) = ⊥
 
--- The tokens are those of these simple parts, in this order, and what joins them.
+-- The lexemes are those of these simple parts, in this order, and what joins them.
 -- Source: own choice.
--- Example: `not (receiver ops or any)` has the tokens of `receiver ops` and then those of `any`.
-pub data StandInOrder : List Written → List Token → Type 0 where
-  no_part : (joints : List Token) → AllByRecursion IsJoint joints → StandInOrder [] joints
-  part_before : (joints tokens after : List Token) (part : Written) (parts : List Written)
-      → AllByRecursion IsJoint joints → IsSimple tokens (Part part) → StandInOrder parts after
-      → StandInOrder (part ∷ parts) (joints ++ (tokens ++ after))
+-- Example: `not (receiver ops or any)` has the lexemes of `receiver ops` and then those of `any`.
+pub data StandInOrder : List Written → List Lexeme → Type 0 where
+  no_part : (joints : List Lexeme) → AllByRecursion IsJoint joints → StandInOrder [] joints
+  part_before : (joints lexemes after : List Lexeme) (part : Written) (parts : List Written)
+      → AllByRecursion IsJoint joints → IsPart lexemes part → StandInOrder parts after
+      → StandInOrder (part ∷ parts) (joints ++ (lexemes ++ after))

@@ -1,10 +1,10 @@
-pub mod Tokens
-pub mod TokenReading
+pub mod Lexemes
+pub mod LexemeReading
 pub mod Grammar
 pub mod GrammarExamples
 pub mod GrammarReading
 pub mod QuestionText
-pub mod TokenView
+pub mod LexemeView
 pub mod TreeView
 pub mod AskedStart
 pub mod QuestionStages

@@ -12,15 +12,12 @@ use Rattle.am_labels.specs.MatcherText.{Spells}
 use Rattle.am_labels.specs.MatcherRefusals.{have_valid_patterns, TextRefusedFor}
 use Rattle.am_config.specs.ConfigFile.{Configuration}
 use Rattle.am_config.specs.Path.{path_text, route_at}
-use Rattle.am_questions.specs.declared.limits.TheConstants.{MAX_TOKENS}
+use Rattle.am_questions.specs.declared.limits.TheConstants.{MAX_LEXEMES}
 use Rattle.am_eval.specs.Tree.{Tree, Part, Not, And, Or}
-use Rattle.am_eval.specs.Question.{Question}
-use Rattle.am_eval.specs.Question.{Simple, Any, Silenced, Inhibited, Receiver, Ends, Enters}
-use Rattle.am_eval.specs.Question.{Braces}
-use Rattle.am_questions.specs.Tokens.{Token, SpellsTokens}
-use Rattle.am_questions.specs.Grammar.{Written, WrittenAny, WrittenSilenced, WrittenInhibited}
-use Rattle.am_questions.specs.Grammar.{WrittenReceiver, WrittenEnds, WrittenEnters, WrittenBraces}
-use Rattle.am_questions.specs.Grammar.{IsQuestion}
+use Rattle.am_eval.specs.Question.{Question, Simple, Is, Receiver, Route, Braces}
+use Rattle.am_questions.specs.Lexemes.{Lexeme, SpellsLexemes}
+use Rattle.am_questions.specs.Grammar.{Written, WrittenIs, WrittenReceiver, WrittenRoute}
+use Rattle.am_questions.specs.Grammar.{WrittenBraces, IsQuestion}
 
 -- ---- What is meant.
 
@@ -34,15 +31,11 @@ IsPathOfRoute c text path = (text ≡ path_text path) × IsTrue (is_some (route_
 
 -- A simple part as it is written means one of the configuration.
 abbrev pub Means : Configuration → Written → Simple → Type 0
-Means c WrittenAny simple = simple ≡ Any
-Means c WrittenSilenced simple = simple ≡ Silenced
-Means c WrittenInhibited simple = simple ≡ Inhibited
+Means c (WrittenIs property) simple = simple ≡ Is property
 Means c (WrittenReceiver name) simple =
     (receiver : ℕ) × (receiver_named c name ≡ Some receiver) × (simple ≡ Receiver receiver)
-Means c (WrittenEnds text) simple =
-    (path : List ℕ) × IsPathOfRoute c text path × (simple ≡ Ends path)
-Means c (WrittenEnters text) simple =
-    (path : List ℕ) × IsPathOfRoute c text path × (simple ≡ Enters path)
+Means c (WrittenRoute reach text) simple =
+    (path : List ℕ) × IsPathOfRoute c text path × (simple ≡ Route reach path)
 Means c (WrittenBraces text) simple =
     (matchers : List Condition) × Spells text matchers × (length matchers ≤ MAX_MATCHERS)
     × IsTrue (have_valid_patterns matchers) × (simple ≡ Braces matchers)
@@ -57,16 +50,16 @@ TreeMeans c (And t u) question =
 TreeMeans c (Or t u) question =
     (q : Question) × (r : Question) × TreeMeans c t q × TreeMeans c u r × (question ≡ Or q r)
 
--- The text is the question: its tokens, of which there are not too many, are a tree that means it.
+-- The text is the question: its lexemes, of which there are not too many, are a tree that means it.
 -- Source: own choice.
 -- Example: where `ops` is the second receiver, `not receiver ops` is the question whether none of
 -- the receivers is that at position 1.
 pub record ReadsQuestion (c : Configuration) (text : List ℕ) (question : Question) : Type 0 where
-  pub tokens : List Token
-  pub spelled : SpellsTokens text tokens
-  pub within_limit : length tokens ≤ MAX_TOKENS
+  pub lexemes : List Lexeme
+  pub spelled : SpellsLexemes text lexemes
+  pub within_limit : length lexemes ≤ MAX_LEXEMES
   pub tree : Tree Written
-  pub is_tree : IsQuestion tokens tree
+  pub is_tree : IsQuestion lexemes tree
   pub meant : TreeMeans c tree question
 
 -- ---- Why a text is refused.
@@ -81,14 +74,10 @@ parts_of (Or t u) = parts_of t ++ parts_of u
 -- Why a simple part is refused: no receiver of the name is declared, no route is at the path, or as
 -- the text of a matcher list is.
 abbrev pub PartRefusedFor : Configuration → Written → Kind → Type 0
-PartRefusedFor c WrittenAny kind = ⊥
-PartRefusedFor c WrittenSilenced kind = ⊥
-PartRefusedFor c WrittenInhibited kind = ⊥
+PartRefusedFor c (WrittenIs property) kind = ⊥
 PartRefusedFor c (WrittenReceiver name) kind =
     (kind ≡ kinds.UnknownReceiver) × (receiver_named c name ≡ None)
-PartRefusedFor c (WrittenEnds text) kind =
-    (kind ≡ kinds.UnknownRoute) × ((path : List ℕ) → IsPathOfRoute c text path → ⊥)
-PartRefusedFor c (WrittenEnters text) kind =
+PartRefusedFor c (WrittenRoute reach text) kind =
     (kind ≡ kinds.UnknownRoute) × ((path : List ℕ) → IsPathOfRoute c text path → ⊥)
 PartRefusedFor c (WrittenBraces text) kind = TextRefusedFor text kind
 
@@ -106,21 +95,21 @@ pub record PartsRefusedFor (c : Configuration) (parts : List Written) (kind : Ki
   pub meant : AllByRecursion (IsMeant c) before
   pub refused : PartRefusedFor c part kind
 
--- Why tokens are refused: there are too many; or they are no tree; or else for a simple part.
-abbrev pub TokensRefusedFor : Configuration → List Token → Kind → Type 0
-TokensRefusedFor c tokens kind =
-    ((kind ≡ kinds.Limit) × (MAX_TOKENS < length tokens))
-    ⊎ ((kind ≡ kinds.QuestionSyntax) × (length tokens ≤ MAX_TOKENS)
-    × ((tree : Tree Written) → IsQuestion tokens tree → ⊥))
-    ⊎ ((length tokens ≤ MAX_TOKENS) × (tree : Tree Written) × IsQuestion tokens tree
+-- Why lexemes are refused: there are too many; or they are no tree; or else for a simple part.
+abbrev pub LexemesRefusedFor : Configuration → List Lexeme → Kind → Type 0
+LexemesRefusedFor c lexemes kind =
+    ((kind ≡ kinds.Limit) × (MAX_LEXEMES < length lexemes))
+    ⊎ ((kind ≡ kinds.QuestionSyntax) × (length lexemes ≤ MAX_LEXEMES)
+    × ((tree : Tree Written) → IsQuestion lexemes tree → ⊥))
+    ⊎ ((length lexemes ≤ MAX_LEXEMES) × (tree : Tree Written) × IsQuestion lexemes tree
     × PartsRefusedFor c (parts_of tree) kind)
 
--- Why a text is refused: it cannot be cut into tokens; or else for its tokens.
+-- Why a text is refused: it cannot be cut into lexemes; or else for its lexemes.
 -- Source: own choice.
 -- Example: `receiver nobody and ends` is refused as `question-syntax`, whatever receivers there
 -- are, and `receiver nobody and ends /9` as `unknown-receiver`, where there is no `nobody`.
 abbrev pub QuestionRefusedFor : Configuration → List ℕ → Kind → Type 0
 QuestionRefusedFor c text kind =
     ((kind ≡ kinds.QuestionSyntax)
-    × ((tokens : List Token) → SpellsTokens text tokens → ⊥))
-    ⊎ ((tokens : List Token) × SpellsTokens text tokens × TokensRefusedFor c tokens kind)
+    × ((lexemes : List Lexeme) → SpellsLexemes text lexemes → ⊥))
+    ⊎ ((lexemes : List Lexeme) × SpellsLexemes text lexemes × LexemesRefusedFor c lexemes kind)

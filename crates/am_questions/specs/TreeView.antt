@@ -6,18 +6,14 @@ use Rattle.am_questions.specs.declared.grammar.Tree as kept
 use Rattle.am_questions.specs.declared.grammar.Tree.{fold-Tree}
 use Rattle.am_questions.specs.declared.grammar.Tree.TheOpen.{Tree-F}
 use Rattle.am_eval.specs.Tree.{Tree, Part, Not}
-use Rattle.am_questions.specs.Grammar.{Written, WrittenAny, WrittenSilenced, WrittenInhibited}
-use Rattle.am_questions.specs.Grammar.{WrittenReceiver, WrittenEnds, WrittenEnters, WrittenBraces}
-use Rattle.am_questions.specs.GrammarReading.{joined}
+use Rattle.am_questions.specs.Grammar.{Written, WrittenIs, WrittenReceiver, WrittenRoute}
+use Rattle.am_questions.specs.Grammar.{WrittenBraces, joined}
 
 -- A simple part without where its text lies in memory.
 abbrev pub written_view : kept_parts.Written → Written
-written_view parts.Any = WrittenAny
-written_view parts.Silenced = WrittenSilenced
-written_view parts.Inhibited = WrittenInhibited
+written_view (parts.Is property) = WrittenIs property
 written_view (parts.Receiver name) = WrittenReceiver name.now
-written_view (parts.Ends path) = WrittenEnds path.now
-written_view (parts.Enters path) = WrittenEnters path.now
+written_view (parts.Route reach path) = WrittenRoute reach path.now
 written_view (parts.Braces list) = WrittenBraces list.now
 
 -- One level, with each tree in it already seen.

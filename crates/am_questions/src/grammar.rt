@@ -1,24 +1,28 @@
-//! The grammar of questions: from tokens to a tree.
+//! The grammar of questions: from lexemes to a tree.
 
-ghost use Rattle.std.specs.Prelude.{◌≡◌, ◌≢◌, ◌<◌, ◌≤◌, ◌↔◌, ◌∷◌, List, map, length, IfOk, IfErr};
-ghost use Rattle.std.specs.Prelude.{IfSome, IfNone, IsTrue, ℕ, option_map};
+ghost use Rattle.std.specs.Prelude.{◌≡◌, ◌≢◌, ◌<◌, ◌≤◌, ◌↔◌, ◌∷◌, ℕ, List, map, length, IsTrue};
+ghost use Rattle.std.specs.Prelude.{IfOk, IfErr, IfSome, IfNone};
 ghost use Rattle.am_universe.specs.declared.kind.Kind.TheVariants as kinds;
-ghost use Rattle.am_questions.specs.Grammar as spec;
-ghost use Rattle.am_questions.specs.Tokens.{Word};
+ghost use Rattle.am_config.specs.Path.{path_text};
+ghost use Rattle.am_eval.specs.declared.property.Property.{Property};
+ghost use Rattle.am_eval.specs.declared.reach.Reach.{Reach};
 ghost use Rattle.am_eval.specs.Tree as trees;
-ghost use Rattle.am_questions.specs.GrammarReading.{behind, behind_open, behind_close, is_word};
-ghost use Rattle.am_questions.specs.GrammarReading.{name_of, IsPathText, Refuses, Takes, JoinedBy};
-ghost use Rattle.am_questions.specs.GrammarReading.{Single, operand_tier, word_of, TakesPart};
-ghost use Rattle.am_questions.specs.TokenView.{token_view};
+ghost use Rattle.am_questions.specs.Lexemes as lexeme;
+ghost use Rattle.am_questions.specs.Grammar as spec;
+ghost use Rattle.am_questions.specs.Grammar.{JoinedBy, Single, operand, word_of, JoinWord};
+ghost use Rattle.am_questions.specs.Grammar.{PropertyWord, ReachWord, IsName, IsPathWord};
+ghost use Rattle.am_questions.specs.GrammarReading.{Reads, ReadsPart, Refuses};
+ghost use Rattle.am_questions.specs.LexemeView.{lexeme_view};
 ghost use Rattle.am_questions.specs.TreeView.{tree_view, written_view};
 
-use crate::tokens::Token;
+use crate::lexemes::Lexeme;
 use am_config::Path;
+use am_eval::{Property, Reach};
 use am_universe::Kind;
 use std::alloc::Global;
 
 /// A question as it is written, before names, paths and matcher lists are looked at.
-#[derive(Debug, Drop)]
+#[derive(Drop)]
 pub(crate) enum Tree<'a> {
     Part(Written<'a>),
     Not(Box<Tree<'a>>),
@@ -26,38 +30,34 @@ pub(crate) enum Tree<'a> {
 }
 
 /// A word that joins two questions. Both words join to the left.
-#[derive(Clone, Copy, Debug)]
+#[derive(Clone, Copy)]
 pub(crate) enum Connective {
     And,
     Or,
 }
 
 /// A simple part as it is written.
-#[derive(Clone, Copy, Debug)]
+#[derive(Clone, Copy)]
 pub(crate) enum Written<'a> {
-    Any,
-    Silenced,
-    Inhibited,
+    Is(Property),
     /// The name of a receiver.
     Receiver(&'a str),
     /// The text of a path.
-    Ends(&'a str),
-    /// The text of a path.
-    Enters(&'a str),
+    Route(Reach, &'a str),
     /// A list of matchers with its braces.
     Braces(&'a str),
 }
 
-/// The tree that the tokens are. `QuestionSyntax` where they are none; `Memory` only where memory
+/// The tree that the lexemes are. `QuestionSyntax` where they are none; `Memory` only where memory
 /// was refused.
-pub(crate) fn read_tree<'a>(alloc: Global, tokens: &'a [Token<'a>]) -> Result<Tree<'a>, Kind>
+pub(crate) fn read_tree<'a>(alloc: Global, lexemes: &'a [Lexeme<'a>]) -> Result<Tree<'a>, Kind>
     ensures read { IfOk result (λ tree.
-        spec.IsQuestion (map token_view tokens.now) (tree_view tree)) }
+        spec.IsQuestion (map lexeme_view lexemes.now) (tree_view tree)) }
     ensures refused { IfErr result (λ kind. kind ≢ kinds.Memory → (kind ≡ kinds.QuestionSyntax)
-        × ((tree : trees.Tree spec.Written) → spec.IsQuestion (map token_view tokens.now) tree
+        × ((tree : trees.Tree spec.Written) → spec.IsQuestion (map lexeme_view lexemes.now) tree
         → ⊥)) }
 {
-    let (tree, rest) = read_joined(alloc, Connective::Or, tokens)?;
+    let (tree, rest) = read_joined(alloc, Connective::Or, lexemes)?;
     if rest.is_empty() {
         Ok(tree)
     } else {
@@ -65,20 +65,20 @@ pub(crate) fn read_tree<'a>(alloc: Global, tokens: &'a [Token<'a>]) -> Result<Tr
     }
 }
 
-/// The questions that a connective joins, to the left, or one alone, and the tokens behind them.
+/// The questions that a connective joins, to the left, or one alone, and the lexemes behind them.
 #[cycle(questions)]
 fn read_joined<'a>(
     alloc: Global,
     connective: Connective,
-    tokens: &'a [Token<'a>],
-) -> Result<(Tree<'a>, &'a [Token<'a>]), Kind>
-    ensures taken { IfOk result (λ r. Takes (JoinedBy connective) (map token_view tokens.now)
-        (tree_view r.0) (map token_view r.1.now)) }
-    ensures shorter { IfOk result (λ r. length r.1.now < length tokens.now) }
+    lexemes: &'a [Lexeme<'a>],
+) -> Result<(Tree<'a>, &'a [Lexeme<'a>]), Kind>
+    ensures taken { IfOk result (λ r. Reads (JoinedBy connective) (map lexeme_view lexemes.now)
+        (tree_view r.0) (map lexeme_view r.1.now)) }
+    ensures shorter { IfOk result (λ r. length r.1.now < length lexemes.now) }
     ensures refused { IfErr result (λ kind.
-        Refuses kind (Takes (JoinedBy connective) (map token_view tokens.now))) }
+        Refuses kind (Reads (JoinedBy connective) (map lexeme_view lexemes.now))) }
 {
-    let (mut tree, mut rest) = read_operand(alloc, connective, tokens)?;
+    let (mut tree, mut rest) = read_operand(alloc, connective, lexemes)?;
     while let Some(behind) = behind_word(rest, connective_word(connective)) {
         let (right, behind) = read_operand(alloc, connective, behind)?;
         tree = Tree::Joined(connective, Box::new(alloc, tree)?, Box::new(alloc, right)?);
@@ -87,43 +87,43 @@ fn read_joined<'a>(
     Ok((tree, rest))
 }
 
-/// A question that a connective joins, and the tokens behind it. `and` binds more tightly than
+/// A question that a connective joins, and the lexemes behind it. `and` binds more tightly than
 /// `or`.
 #[cycle(questions)]
 fn read_operand<'a>(
     alloc: Global,
     connective: Connective,
-    tokens: &'a [Token<'a>],
-) -> Result<(Tree<'a>, &'a [Token<'a>]), Kind>
-    ensures taken { IfOk result (λ r. Takes (operand_tier connective) (map token_view tokens.now)
-        (tree_view r.0) (map token_view r.1.now)) }
-    ensures shorter { IfOk result (λ r. length r.1.now < length tokens.now) }
+    lexemes: &'a [Lexeme<'a>],
+) -> Result<(Tree<'a>, &'a [Lexeme<'a>]), Kind>
+    ensures taken { IfOk result (λ r. Reads (operand connective) (map lexeme_view lexemes.now)
+        (tree_view r.0) (map lexeme_view r.1.now)) }
+    ensures shorter { IfOk result (λ r. length r.1.now < length lexemes.now) }
     ensures refused { IfErr result (λ kind.
-        Refuses kind (Takes (operand_tier connective) (map token_view tokens.now))) }
+        Refuses kind (Reads (operand connective) (map lexeme_view lexemes.now))) }
 {
     match connective {
-        Connective::And => read_single(alloc, tokens),
-        Connective::Or => read_joined(alloc, Connective::And, tokens),
+        Connective::And => read_single(alloc, lexemes),
+        Connective::Or => read_joined(alloc, Connective::And, lexemes),
     }
 }
 
-/// A question that no connective joins, and the tokens behind it.
+/// A question that no connective joins, and the lexemes behind it.
 #[cycle(questions)]
 fn read_single<'a>(
     alloc: Global,
-    tokens: &'a [Token<'a>],
-) -> Result<(Tree<'a>, &'a [Token<'a>]), Kind>
-    ensures taken { IfOk result (λ r. Takes Single (map token_view tokens.now) (tree_view r.0)
-        (map token_view r.1.now)) }
-    ensures shorter { IfOk result (λ r. length r.1.now < length tokens.now) }
+    lexemes: &'a [Lexeme<'a>],
+) -> Result<(Tree<'a>, &'a [Lexeme<'a>]), Kind>
+    ensures taken { IfOk result (λ r. Reads Single (map lexeme_view lexemes.now) (tree_view r.0)
+        (map lexeme_view r.1.now)) }
+    ensures shorter { IfOk result (λ r. length r.1.now < length lexemes.now) }
     ensures refused { IfErr result (λ kind.
-        Refuses kind (Takes Single (map token_view tokens.now))) }
+        Refuses kind (Reads Single (map lexeme_view lexemes.now))) }
 {
-    if let Some(behind) = behind_word(tokens, "not") {
+    if let Some(behind) = behind_word(lexemes, "not") {
         let (tree, rest) = read_single(alloc, behind)?;
         return Ok((Tree::Not(Box::new(alloc, tree)?), rest));
     }
-    match behind_open(tokens) {
+    match behind_open(lexemes) {
         Some(behind) => {
             let (tree, rest) = read_joined(alloc, Connective::Or, behind)?;
             match behind_close(rest) {
@@ -131,7 +131,7 @@ fn read_single<'a>(
                 None => Err(Kind::QuestionSyntax),
             }
         }
-        None => match read_part(tokens) {
+        None => match read_part(lexemes) {
             Some((part, rest)) => Ok((Tree::Part(part), rest)),
             None => Err(Kind::QuestionSyntax),
         },
@@ -140,7 +140,7 @@ fn read_single<'a>(
 
 /// The word of a connective.
 fn connective_word(connective: Connective) -> &'static str
-    ensures { result.now ≡ word_of connective }
+    ensures { result.now ≡ word_of (JoinWord connective) }
 {
     match connective {
         Connective::And => "and",
@@ -148,126 +148,155 @@ fn connective_word(connective: Connective) -> &'static str
     }
 }
 
-/// A simple part without parentheses, and the tokens behind it.
-fn read_part<'a>(tokens: &'a [Token<'a>]) -> Option<(Written<'a>, &'a [Token<'a>])>
-    ensures taken { IfSome result (λ r. TakesPart (map token_view tokens.now) (written_view r.0)
-        (map token_view r.1.now)) }
-    ensures shorter { IfSome result (λ r. length r.1.now < length tokens.now) }
-    ensures refused { IfNone result ((written : spec.Written) (rest : List _)
-        → TakesPart (map token_view tokens.now) written rest → ⊥) }
+/// The property with this word.
+fn property_of(word: &str) -> Option<Property>
+    ensures found { IfSome result (λ property. word.now ≡ word_of (PropertyWord property)) }
+    ensures none { IfNone result ((property : Property)
+        → word.now ≢ word_of (PropertyWord property)) }
 {
-    let [first, rest @ ..] = tokens else {
+    match word {
+        "any" => Some(Property::Any),
+        "silenced" => Some(Property::Silenced),
+        "inhibited" => Some(Property::Inhibited),
+        _ => None,
+    }
+}
+
+/// How a route is reached, by its word.
+fn reach_of(word: &str) -> Option<Reach>
+    ensures found { IfSome result (λ reach. word.now ≡ word_of (ReachWord reach)) }
+    ensures none { IfNone result ((reach : Reach) → word.now ≢ word_of (ReachWord reach)) }
+{
+    match word {
+        "ends" => Some(Reach::Ends),
+        "enters" => Some(Reach::Enters),
+        _ => None,
+    }
+}
+
+/// A simple part, and the lexemes behind it.
+fn read_part<'a>(lexemes: &'a [Lexeme<'a>]) -> Option<(Written<'a>, &'a [Lexeme<'a>])>
+    ensures taken { IfSome result (λ r. ReadsPart (map lexeme_view lexemes.now) (written_view r.0)
+        (map lexeme_view r.1.now)) }
+    ensures shorter { IfSome result (λ r. length r.1.now < length lexemes.now) }
+    ensures refused { IfNone result ((written : spec.Written) (rest : List lexeme.Lexeme)
+        → ReadsPart (map lexeme_view lexemes.now) written rest → ⊥) }
+{
+    let [first, rest @ ..] = lexemes else {
         return None;
     };
     match first {
-        Token::Braces(list) => Some((Written::Braces(list), rest)),
-        Token::Word(word) => read_word_part(word, rest),
+        Lexeme::Braces(list) => Some((Written::Braces(list), rest)),
+        Lexeme::Word(word) => read_word_part(word, rest),
         _ => None,
     }
 }
 
-/// The simple part that begins with a word, and the tokens behind it.
-fn read_word_part<'a>(word: &str, tokens: &'a [Token<'a>]) -> Option<(Written<'a>, &'a [Token<'a>])>
-    ensures taken { IfSome result (λ r. TakesPart (Word word.now ∷ map token_view tokens.now)
-        (written_view r.0) (map token_view r.1.now)) }
-    ensures shorter { IfSome result (λ r. length r.1.now ≤ length tokens.now) }
-    ensures refused { IfNone result ((written : spec.Written) (rest : List _)
-        → TakesPart (Word word.now ∷ map token_view tokens.now) written rest → ⊥) }
+/// The simple part that begins with a word, and the lexemes behind it.
+fn read_word_part<'a>(
+    word: &str,
+    lexemes: &'a [Lexeme<'a>],
+) -> Option<(Written<'a>, &'a [Lexeme<'a>])>
+    ensures taken { IfSome result (λ r. ReadsPart
+        (lexeme.Word word.now ∷ map lexeme_view lexemes.now) (written_view r.0)
+        (map lexeme_view r.1.now)) }
+    ensures shorter { IfSome result (λ r. length r.1.now ≤ length lexemes.now) }
+    ensures refused { IfNone result ((written : spec.Written) (rest : List lexeme.Lexeme)
+        → ReadsPart (lexeme.Word word.now ∷ map lexeme_view lexemes.now) written rest → ⊥) }
 {
-    if word == "any" {
-        return Some((Written::Any, tokens));
+    if let Some(property) = property_of(word) {
+        return Some((Written::Is(property), lexemes));
     }
-    if word == "silenced" {
-        return Some((Written::Silenced, tokens));
-    }
-    if word == "inhibited" {
-        return Some((Written::Inhibited, tokens));
-    }
-    let [first, rest @ ..] = tokens else {
+    let [first, rest @ ..] = lexemes else {
         return None;
     };
-    let part = match word {
-        "receiver" => Written::Receiver(name_of(first)?),
-        "ends" => Written::Ends(path_of(first)?),
-        "enters" => Written::Enters(path_of(first)?),
-        _ => return None,
-    };
-    Some((part, rest))
+    match reach_of(word) {
+        Some(reach) => Some((Written::Route(reach, path_of(first)?), rest)),
+        None if word == "receiver" => Some((Written::Receiver(name_of(first)?), rest)),
+        None => None,
+    }
 }
 
-/// The name that a token is.
-fn name_of<'a>(token: &'a Token<'a>) -> Option<&'a str>
-    ensures { option_map (λ name. name.now) result ≡ name_of (token_view token.now) }
+/// The name that a lexeme is.
+fn name_of<'a>(lexeme: &'a Lexeme<'a>) -> Option<&'a str>
+    ensures taken { IfSome result (λ name. IsName (lexeme_view lexeme.now) name.now) }
+    ensures refused { IfNone result ((name : List ℕ) → IsName (lexeme_view lexeme.now) name
+        → ⊥) }
 {
-    match token {
-        Token::Word(name) => Some(name),
-        Token::Quoted(name) => Some(name.as_str()),
+    match lexeme {
+        Lexeme::Word(name) => Some(name),
+        Lexeme::Quoted(name) => Some(name.as_str()),
         _ => None,
     }
 }
 
-/// The text of a path that a token is.
-fn path_of<'a>(token: &'a Token<'a>) -> Option<&'a str>
-    ensures taken { IfSome result (λ text. (token_view token.now ≡ Word text.now)
-        × IsPathText text.now) }
-    ensures refused { IfNone result ((text : List ℕ) → token_view token.now ≡ Word text
-        → IsPathText text → ⊥) }
+/// The text of a path that a lexeme is.
+fn path_of<'a>(lexeme: &'a Lexeme<'a>) -> Option<&'a str>
+    ensures taken { IfSome result (λ text. IsPathWord (lexeme_view lexeme.now) text.now) }
+    ensures refused { IfNone result ((text : List ℕ) → IsPathWord (lexeme_view lexeme.now) text
+        → ⊥) }
 {
-    match token {
-        Token::Word(text) if is_path(text) => Some(text),
+    match lexeme {
+        Lexeme::Word(text) if is_path(text) => Some(text),
         _ => None,
     }
 }
 
 /// Whether a word is the text of a path, be there such a route or not.
 fn is_path(word: &str) -> bool
-    ensures { IsTrue result ↔ IsPathText word.now }
+    ensures { IsTrue result ↔ ((path : List ℕ) × (path_text path ≡ word.now)) }
 {
     !matches!(Path::parse(word), Err(Kind::QuestionSyntax))
 }
 
-/// The tokens behind a word, where it is the first token.
-fn behind_word<'a>(tokens: &'a [Token<'a>], word: &str) -> Option<&'a [Token<'a>]>
-    ensures behind { option_map (λ rest. map token_view rest.now) result
-        ≡ behind word.now (map token_view tokens.now) }
-    ensures shorter { IfSome result (λ rest. length rest.now < length tokens.now) }
+/// The lexemes behind a word, where it is the first lexeme.
+fn behind_word<'a>(lexemes: &'a [Lexeme<'a>], word: &str) -> Option<&'a [Lexeme<'a>]>
+    ensures behind { IfSome result (λ rest. map lexeme_view lexemes.now
+        ≡ lexeme.Word word.now ∷ map lexeme_view rest.now) }
+    ensures shorter { IfSome result (λ rest. length rest.now < length lexemes.now) }
+    ensures other { IfNone result ((rest : List lexeme.Lexeme)
+        → map lexeme_view lexemes.now ≢ lexeme.Word word.now ∷ rest) }
 {
-    match tokens {
+    match lexemes {
         [first, rest @ ..] if is_word(first, word) => Some(rest),
         _ => None,
     }
 }
 
-/// The tokens behind an opening parenthesis, where it is the first token.
-fn behind_open<'a>(tokens: &'a [Token<'a>]) -> Option<&'a [Token<'a>]>
-    ensures behind { option_map (λ rest. map token_view rest.now) result
-        ≡ behind_open (map token_view tokens.now) }
-    ensures shorter { IfSome result (λ rest. length rest.now < length tokens.now) }
+/// Whether a lexeme is this word.
+fn is_word(first: &Lexeme<'_>, word: &str) -> bool
+    ensures { IsTrue result ↔ (lexeme_view first.now ≡ lexeme.Word word.now) }
 {
-    match tokens {
-        [Token::Open, rest @ ..] => Some(rest),
-        _ => None,
-    }
-}
-
-/// The tokens behind a closing parenthesis, where it is the first token.
-fn behind_close<'a>(tokens: &'a [Token<'a>]) -> Option<&'a [Token<'a>]>
-    ensures behind { option_map (λ rest. map token_view rest.now) result
-        ≡ behind_close (map token_view tokens.now) }
-    ensures shorter { IfSome result (λ rest. length rest.now < length tokens.now) }
-{
-    match tokens {
-        [Token::Close, rest @ ..] => Some(rest),
-        _ => None,
-    }
-}
-
-/// Whether a token is this word.
-fn is_word(token: &Token<'_>, word: &str) -> bool
-    ensures { result ≡ is_word word.now (token_view token.now) }
-{
-    match token {
-        Token::Word(text) => *text == word,
+    match first {
+        Lexeme::Word(text) => *text == word,
         _ => false,
+    }
+}
+
+/// The lexemes behind an opening parenthesis, where it is the first lexeme.
+fn behind_open<'a>(lexemes: &'a [Lexeme<'a>]) -> Option<&'a [Lexeme<'a>]>
+    ensures behind { IfSome result (λ rest. map lexeme_view lexemes.now
+        ≡ lexeme.Open ∷ map lexeme_view rest.now) }
+    ensures shorter { IfSome result (λ rest. length rest.now < length lexemes.now) }
+    ensures other { IfNone result ((rest : List lexeme.Lexeme)
+        → map lexeme_view lexemes.now ≢ lexeme.Open ∷ rest) }
+{
+    match lexemes {
+        [Lexeme::Open, rest @ ..] => Some(rest),
+        _ => None,
+    }
+}
+
+/// The lexemes behind a closing parenthesis, where it is the first lexeme.
+fn behind_close<'a>(lexemes: &'a [Lexeme<'a>]) -> Option<&'a [Lexeme<'a>]>
+    ensures behind { IfSome result (λ rest. map lexeme_view lexemes.now
+        ≡ lexeme.Close ∷ map lexeme_view rest.now) }
+    ensures shorter { IfSome result (λ rest. length rest.now < length lexemes.now) }
+    ensures other { IfNone result ((rest : List lexeme.Lexeme)
+        → map lexeme_view lexemes.now ≢ lexeme.Close ∷ rest) }
+{
+    match lexemes {
+        [Lexeme::Close, rest @ ..] => Some(rest),
+        _ => None,
     }
 }

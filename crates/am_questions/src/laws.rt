@@ -12,35 +12,35 @@ ghost use Rattle.am_search.specs.declared.start.Start.{Start};
 ghost use Rattle.am_eval.specs.Question.{Question};
 ghost use Rattle.am_eval.specs.World.{World};
 ghost use Rattle.am_eval.specs.Faults.{IsFirstFaultOfCall};
-ghost use Rattle.am_questions.specs.declared.limits.TheConstants.{MAX_TOKENS};
-ghost use Rattle.am_questions.specs.Tokens.{Token, SpellsTokens};
+ghost use Rattle.am_questions.specs.declared.limits.TheConstants.{MAX_LEXEMES};
+ghost use Rattle.am_questions.specs.Lexemes.{Lexeme, SpellsLexemes};
 ghost use Rattle.am_questions.specs.Grammar.{Written, IsQuestion, StandInOrder};
 ghost use Rattle.am_questions.specs.QuestionText.{parts_of, ReadsQuestion, QuestionRefusedFor};
 ghost use Rattle.am_questions.specs.Inputs.{Inputs, AcceptsInputs, ask_stages};
 ghost use Rattle.am_questions.specs.GrammarExamples.{any_word, not_word, and_word, or_word};
 ghost use Rattle.am_questions.specs.GrammarExamples.{any_tree};
 
-/// A text has at most one list of tokens.
-#[tactic(auto, using(crate::proofs::TokenTexts::one_list))]
-pub fn one_list_of_tokens_a_text()
-    ensures one { (text : List ℕ) (ts us : List Token) → SpellsTokens text ts
-        → SpellsTokens text us → ts ≡ us }
+/// A text has at most one list of lexemes.
+#[tactic(auto, using(crate::proofs::LexemeTexts::one_list))]
+pub fn one_list_of_lexemes_a_text()
+    ensures one { (text : List ℕ) (ts us : List Lexeme) → SpellsLexemes text ts
+        → SpellsLexemes text us → ts ≡ us }
 {}
 
-/// A list of tokens is at most one tree.
-#[tactic(auto, using(crate::proofs::Takes::one_tree))]
-pub fn one_tree_a_list_of_tokens()
-    ensures one { (tokens : List Token) (tree other : Tree Written) → IsQuestion tokens tree
-        → IsQuestion tokens other → tree ≡ other }
+/// A list of lexemes is at most one tree.
+#[tactic(auto, using(crate::proofs::Fronts::one_tree))]
+pub fn one_tree_a_list_of_lexemes()
+    ensures one { (lexemes : List Lexeme) (tree other : Tree Written) → IsQuestion lexemes tree
+        → IsQuestion lexemes other → tree ≡ other }
 {}
 
 /// The simple parts of a question, from left to right, which is the order in which they are looked
-/// at, stand in its tokens in that order, and between them stand the words and parentheses that
+/// at, stand in its lexemes in that order, and between them stand the words and parentheses that
 /// join them, and nothing else.
 #[tactic(auto, using(crate::proofs::PartsInOrder::parts_in_order))]
-pub fn parts_stand_in_the_order_of_their_tokens()
-    ensures order { (tokens : List Token) (tree : Tree Written) → IsQuestion tokens tree
-        → StandInOrder (parts_of tree) tokens }
+pub fn parts_stand_in_the_order_of_their_lexemes()
+    ensures order { (lexemes : List Lexeme) (tree : Tree Written) → IsQuestion lexemes tree
+        → StandInOrder (parts_of tree) lexemes }
 {}
 
 /// Four questions made of `any`: `or` and `and` join to the left, `and` binds more tightly than
@@ -92,5 +92,5 @@ pub fn accepted_inputs_have_no_fault()
 
 /// The limit of questions.
 pub fn questions_have_a_limit()
-    ensures tokens { MAX_TOKENS ≡ 256 }
+    ensures lexemes { MAX_LEXEMES ≡ 256 }
 {}

@@ -7,10 +7,10 @@
 // How much there may be.
 pub mod limits;
 
-// The text of a question: its tokens, the tree that they are, and what its parts mean.
+// The text of a question: its lexemes, the tree that they are, and what its parts mean.
 mod grammar;
+mod lexemes;
 mod names;
-mod tokens;
 
 pub use names::parse_question;
 

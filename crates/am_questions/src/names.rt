@@ -11,8 +11,8 @@ ghost use Rattle.am_questions.specs.TreeView.{tree_view, written_view};
 ghost use Rattle.am_eval.specs.QuestionView.{question_view};
 
 use crate::grammar::{Connective, Tree, Written, read_tree};
-use crate::limits::MAX_TOKENS;
-use crate::tokens::read_tokens;
+use crate::lexemes::read_lexemes;
+use crate::limits::MAX_LEXEMES;
 use am_config::{Config, Path};
 use am_eval::Question;
 use am_labels::parse_matchers;
@@ -21,9 +21,9 @@ use std::alloc::Global;
 
 /// Reads a question about a configuration.
 ///
-/// The first of: `QuestionSyntax` where the text has no tokens; `Limit` for more than
-/// [`MAX_TOKENS`]; `QuestionSyntax` where the tokens are no question; then, part by part from left
-/// to right, `UnknownReceiver`, `UnknownRoute`, or what `parse_matchers` answers. `Memory`
+/// The first of: `QuestionSyntax` where the text has no lexemes; `Limit` for more than
+/// [`MAX_LEXEMES`]; `QuestionSyntax` where the lexemes are no question; then, part by part from
+/// left to right, `UnknownReceiver`, `UnknownRoute`, or what `parse_matchers` answers. `Memory`
 /// only where memory ran out.
 pub fn parse_question(alloc: Global, text: &str, config: &Config) -> Result<Question, Kind>
     ensures read { IfOk result (λ question.
@@ -31,11 +31,11 @@ pub fn parse_question(alloc: Global, text: &str, config: &Config) -> Result<Ques
     ensures refused { IfErr result (λ kind. kind ≢ kinds.Memory
         → QuestionRefusedFor (config_view config.now) text.now kind) }
 {
-    let tokens = read_tokens(alloc, text)?;
-    if tokens.len() > MAX_TOKENS {
+    let lexemes = read_lexemes(alloc, text)?;
+    if lexemes.len() > MAX_LEXEMES {
         return Err(Kind::Limit);
     }
-    let tree = read_tree(alloc, tokens.as_slice())?;
+    let tree = read_tree(alloc, lexemes.as_slice())?;
     question_of(alloc, config, &tree)
 }
 
@@ -72,15 +72,12 @@ fn part_of(alloc: Global, config: &Config, written: &Written<'_>) -> Result<Ques
         → PartRefusedFor (config_view config.now) (written_view written.now) kind) }
 {
     match written {
-        Written::Any => Ok(Question::Any),
-        Written::Silenced => Ok(Question::Silenced),
-        Written::Inhibited => Ok(Question::Inhibited),
+        Written::Is(property) => Ok(Question::Is(*property)),
         Written::Receiver(name) => match config.receiver_position(name) {
             Some(receiver) => Ok(Question::Receiver(receiver)),
             None => Err(Kind::UnknownReceiver),
         },
-        Written::Ends(text) => Ok(Question::Ends(path_of_route(config, text)?)),
-        Written::Enters(text) => Ok(Question::Enters(path_of_route(config, text)?)),
+        Written::Route(reach, text) => Ok(Question::Route(*reach, path_of_route(config, text)?)),
         Written::Braces(text) => Ok(Question::Braces(parse_matchers(alloc, text)?)),
     }
 }

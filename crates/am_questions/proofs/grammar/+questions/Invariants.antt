@@ -1,32 +1,30 @@
 use Rattle.std.proofs.Common.{◌<◌, ◌*◌, ◌+◌, ℕ, length, map}
-use Rattle.am_questions.specs.GrammarReading.{Takes, Joins, JoinedBy}
 use Rattle.am_questions.specs.declared.grammar.Connective.{Connective}
 use Rattle.am_questions.specs.declared.grammar.Connective.TheVariants as by
-use Rattle.am_questions.specs.TokenView.{token_view}
+use Rattle.am_questions.specs.LexemeView.{lexeme_view}
 use Rattle.am_questions.specs.TreeView.{tree_view}
-use Rattle.am_questions.proofs.TakesSteps.{ReadsSame}
+use Rattle.am_questions.proofs.Fronts.{SoFar}
 use Rattle.am_questions.proofs.grammar.+questions.Given as goal
 
--- A call goes down one tier of the grammar, or some token was read before it.
+-- A call goes down one tier of the grammar, or some lexeme was read before it.
 abbrev pub tiers_down : Connective → ℕ
 tiers_down by.And = 0
 tiers_down by.Or = 2
 
 abbrev pub decreases-read_joined : goal.decreases-read_joined
-decreases-read_joined l = 5 * length l.tokens.now + tiers_down l.connective + 2
+decreases-read_joined l = 5 * length l.lexemes.now + tiers_down l.connective + 2
 
 abbrev pub decreases-read_operand : goal.decreases-read_operand
-decreases-read_operand l = 5 * length l.tokens.now + tiers_down l.connective + 1
+decreases-read_operand l = 5 * length l.lexemes.now + tiers_down l.connective + 1
 
 abbrev pub decreases-read_single : goal.decreases-read_single
-decreases-read_single l = 5 * length l.tokens.now
+decreases-read_single l = 5 * length l.lexemes.now
 
--- What is read from here on is what is read from the start.
 abbrev pub invariant-read_joined-loop-behind : goal.invariant-read_joined-loop-behind
 invariant-read_joined-loop-behind l = record {
-  shorter : length l.rest < length l.fn.tokens;
-  same : ReadsSame (Joins l.fn.connective (tree_view l.tree) (map token_view l.rest))
-      (Takes (JoinedBy l.fn.connective) (map token_view l.fn.tokens));
+  shorter : length l.rest < length l.fn.lexemes;
+  so_far : SoFar l.fn.connective (map lexeme_view l.fn.lexemes) (tree_view l.tree)
+      (map lexeme_view l.rest);
 }
 
 abbrev pub decreases-read_joined-loop-behind : goal.decreases-read_joined-loop-behind

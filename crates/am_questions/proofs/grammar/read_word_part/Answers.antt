@@ -1,51 +1,30 @@
-use Rattle.std.proofs.Common.{sym, refl, ◌∙◌, map}
-use Rattle.am_questions.specs.GrammarReading.{take_any, take_silenced, take_inhibited}
-use Rattle.am_questions.specs.GrammarReading.{take_receiver, take_ends, take_enters}
-use Rattle.am_questions.specs.TokenView.{token_view}
-use Rattle.am_questions.proofs.TakesSteps.{first_and_rest, word_first, two_first}
-use Rattle.am_questions.proofs.TakesSteps.{ends_refused, enters_refused}
+use Rattle.std.proofs.Common.{refl, sym, ◌∙◌, [], ◌∷◌}
+use Rattle.std.proofs.lemmas.Slice.Eq.{bytes_eq-Decides}
+use Rattle.am_questions.specs.Grammar.{property, receiver, route}
+use Rattle.am_questions.specs.Grammar.{PropertyWord, ReceiverWord, ReachWord}
+use Rattle.am_questions.specs.LexemeView.{lexeme_view}
+use Rattle.am_questions.proofs.Fronts.{word_part, first_and_rest}
 use Rattle.am_questions.proofs.grammar.read_word_part.Goals as goal
-use Rattle.am_questions.proofs.grammar.read_word_part.Goals.{in-receiver+in_ok-name_of-in-receiver}
-use Rattle.am_questions.proofs.grammar.read_word_part.Goals.{in-ends+in_ok-path_of-in-ends}
-use Rattle.am_questions.proofs.grammar.read_word_part.Goals.{in-enters+in_ok-path_of-in-enters}
 
-pub returns-then-eq-clause-taken : goal.returns-then-eq-clause-taken
-returns-then-eq-clause-taken c = take_any _ _ (word_first _ c.args.word.now (map token_view c.args.tokens.now) (sym c.eq.ensures ∙ c.if-eq.true))
+pub returns-in-Some-clause-taken : goal.returns-in-Some-clause-taken
+returns-in-Some-clause-taken c =
+    let p = c.in-Some.property in
+    word_part (PropertyWord p) [] c.in-Some.ensures.found refl (property p)
 
-pub returns-then-eq-2-clause-taken : goal.returns-then-eq-2-clause-taken
-returns-then-eq-2-clause-taken c = take_silenced _ _ (word_first _ c.args.word.now (map token_view c.args.tokens.now) (sym c.eq-2.ensures ∙ c.if-eq-2.true))
-
-pub returns-then-eq-3-clause-taken : goal.returns-then-eq-3-clause-taken
-returns-then-eq-3-clause-taken c = take_inhibited _ _ (word_first _ c.args.word.now (map token_view c.args.tokens.now) (sym c.eq-3.ensures ∙ c.if-eq-3.true))
-
-pub returns-in_err-path_of-in-ends-clause-refused :
-    goal.returns-in_err-path_of-in-ends-clause-refused
-returns-in_err-path_of-in-ends-clause-refused c =
-    let split = first_and_rest c.args.tokens.now c.first-item.result c.in-len1-up.len_at_least
+pub returns-in_ok-path_of-in-Some-reach_of-clause-taken :
+    goal.returns-in_ok-path_of-in-Some-reach_of-clause-taken
+returns-in_ok-path_of-in-Some-reach_of-clause-taken c =
+    let split = first_and_rest c.args.lexemes.now c.first-item.result c.in-len1-up.len_at_least
     c.first-item.is in
-    rw c.from_residual-in_err-path_of-in-ends.ensures (λ w left taken.
-    ends_refused _ _ c.in_err-path_of-in-ends.ensures.refused (rw (c.in-ends.is, split) at taken))
+    let reach = c.in-Some-reach_of.reach in
+    word_part (ReachWord reach) (lexeme_view c.first-item.result ∷ [])
+    c.in-Some-reach_of.ensures.found split
+    (route reach c.in_ok-path_of-in-Some-reach_of.ensures.taken)
 
-pub returns-in_err-path_of-in-enters-clause-refused :
-    goal.returns-in_err-path_of-in-enters-clause-refused
-returns-in_err-path_of-in-enters-clause-refused c =
-    let split = first_and_rest c.args.tokens.now c.first-item.result c.in-len1-up.len_at_least
+pub returns-in_ok-name_of-in-None-clause-taken : goal.returns-in_ok-name_of-in-None-clause-taken
+returns-in_ok-name_of-in-None-clause-taken c =
+    let split = first_and_rest c.args.lexemes.now c.first-item.result c.in-len1-up.len_at_least
     c.first-item.is in
-    rw c.from_residual-in_err-path_of-in-enters.ensures (λ w left taken.
-    enters_refused _ _ c.in_err-path_of-in-enters.ensures.refused (rw (c.in-enters.is, split) at taken))
-
-pub returns-clause-taken : goal.returns-clause-taken
-returns-clause-taken c =
-    let split = first_and_rest c.args.tokens.now c.first-item.result c.in-len1-up.len_at_least
-    c.first-item.is in
-    elim c.match-word.branch [
-      | in-receiver+in_ok-name_of-in-receiver w ↦
-          rw w.part-is (take_receiver _ _ _ _ (two_first _ w.in-receiver.is split refl)
-          (sym w.in_ok-name_of-in-receiver.ensures))
-      | in-ends+in_ok-path_of-in-ends w ↦
-          let path = w.in_ok-path_of-in-ends.ensures.taken in
-          rw w.part-is (take_ends _ _ _ (two_first _ w.in-ends.is split path.0) path.1)
-      | in-enters+in_ok-path_of-in-enters w ↦
-          let path = w.in_ok-path_of-in-enters.ensures.taken in
-          rw w.part-is (take_enters _ _ _ (two_first _ w.in-enters.is split path.0) path.1)
-    ]
+    let word = (bytes_eq-Decides _ _).0 (sym c.eq.ensures ∙ c.if-eq.true) in
+    word_part ReceiverWord (lexeme_view c.first-item.result ∷ []) word split
+    (receiver c.in_ok-name_of-in-None.ensures.taken)

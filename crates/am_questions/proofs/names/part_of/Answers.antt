@@ -7,8 +7,7 @@ use Rattle.am_eval.specs.Tree.{Part}
 use Rattle.am_eval.specs.Question.{Question, Simple}
 use Rattle.am_questions.specs.QuestionText.{Means, TreeMeans}
 use Rattle.am_questions.specs.TreeView.{written_view}
-use Rattle.am_eval.proofs.QuestionSeen.{any_seen, silenced_seen, inhibited_seen, receiver_seen}
-use Rattle.am_eval.proofs.QuestionSeen.{ends_seen, enters_seen, braces_seen}
+use Rattle.am_eval.proofs.QuestionSeen.{is_seen, receiver_seen, route_seen, braces_seen}
 use Rattle.am_questions.proofs.names.part_of.Goals as goal
 
 meant_by : (config : Configuration) {w v : kept.Written} {question : Question} {simple : Simple}
@@ -17,16 +16,9 @@ meant_by : (config : Configuration) {w v : kept.Written} {question : Question} {
 meant_by config {simple = simple} is means seen =
     (simple, subst (λ (w : kept.Written). Means config (written_view w) simple) (sym is) means, seen)
 
-pub returns-in-Any-clause-meant : goal.returns-in-Any-clause-meant
-returns-in-Any-clause-meant c = meant_by (config_view c.args.config.now) c.in-Any.is refl any_seen
-
-pub returns-in-Silenced-clause-meant : goal.returns-in-Silenced-clause-meant
-returns-in-Silenced-clause-meant c =
-    meant_by (config_view c.args.config.now) c.in-Silenced.is refl silenced_seen
-
-pub returns-in-Inhibited-clause-meant : goal.returns-in-Inhibited-clause-meant
-returns-in-Inhibited-clause-meant c =
-    meant_by (config_view c.args.config.now) c.in-Inhibited.is refl inhibited_seen
+pub returns-in-Is-clause-meant : goal.returns-in-Is-clause-meant
+returns-in-Is-clause-meant c =
+    meant_by (config_view c.args.config.now) c.in-Is.is refl (is_seen c.in-Is.property)
 
 pub returns-in-Some-clause-meant : goal.returns-in-Some-clause-meant
 returns-in-Some-clause-meant c =
@@ -34,19 +26,12 @@ returns-in-Some-clause-meant c =
     (c.in-Some.receiver, sym c.receiver_position.ensures.position ∙ c.in-Some.is, refl)
     (receiver_seen c.in-Some.receiver)
 
-pub returns-in_ok-path_of_route-in-Ends-clause-meant :
-    goal.returns-in_ok-path_of_route-in-Ends-clause-meant
-returns-in_ok-path_of_route-in-Ends-clause-meant c =
-    meant_by (config_view c.args.config.now) c.in-Ends.is
-    (_, c.in_ok-path_of_route-in-Ends.ensures.found, refl)
-    (ends_seen c.in_ok-path_of_route-in-Ends.field-0)
-
-pub returns-in_ok-path_of_route-in-Enters-clause-meant :
-    goal.returns-in_ok-path_of_route-in-Enters-clause-meant
-returns-in_ok-path_of_route-in-Enters-clause-meant c =
-    meant_by (config_view c.args.config.now) c.in-Enters.is
-    (_, c.in_ok-path_of_route-in-Enters.ensures.found, refl)
-    (enters_seen c.in_ok-path_of_route-in-Enters.field-0)
+pub returns-in_ok-path_of_route-in-Route-clause-meant :
+    goal.returns-in_ok-path_of_route-in-Route-clause-meant
+returns-in_ok-path_of_route-in-Route-clause-meant c =
+    meant_by (config_view c.args.config.now) c.in-Route.is
+    (_, c.in_ok-path_of_route-in-Route.ensures.found, refl)
+    (route_seen c.in-Route.reach c.in_ok-path_of_route-in-Route.field-0)
 
 pub returns-in_ok-parse_matchers-in-Braces-clause-meant :
     goal.returns-in_ok-parse_matchers-in-Braces-clause-meant

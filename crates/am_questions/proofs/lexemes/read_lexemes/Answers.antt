@@ -3,24 +3,24 @@ use Rattle.std.proofs.lemmas.Grind.{common_steps}
 use Rattle.std.proofs.lemmas.List.{map-append}
 use Rattle.std.proofs.lemmas.Str.Ascii.{trim_ascii_start_is}
 use Rattle.std.proofs.lemmas.Result.{err_from_is_err_and}
-use Rattle.am_questions.specs.TokenView.{token_view}
-use Rattle.am_questions.proofs.TokenTexts.{at_first, one_more, at_end, none_here, shorter}
-use Rattle.am_questions.proofs.tokens.read_tokens.Goals as goal
+use Rattle.am_questions.specs.LexemeView.{lexeme_view}
+use Rattle.am_questions.proofs.LexemeTexts.{at_first, one_more, at_end, none_here, shorter}
+use Rattle.am_questions.proofs.lexemes.read_lexemes.Goals as goal
 
 pub loop-rest-init : goal.loop-rest-init
 loop-rest-init c =
     let is = trim_ascii_start_is c.args.text.now c.trim_ascii_start-rest.result.now
     c.trim_ascii_start-rest.ensures.value in
-    (c.trim_ascii_start-rest.utf8, rw (c.new-tokens.ensures.items, is) (at_first c.args.text.now))
+    (c.trim_ascii_start-rest.utf8, rw (c.new-lexemes.ensures.items, is) (at_first c.args.text.now))
 
-pub returns-in_err-token-clause-refused : goal.returns-in_err-token-clause-refused
-returns-in_err-token-clause-refused c =
+pub returns-in_err-lexeme-clause-refused : goal.returns-in_err-lexeme-clause-refused
+returns-in_err-lexeme-clause-refused c =
     let p = err_from_is_err_and c.from_residual.result c.from_residual.ensures.1 in
     let some : 0 < length c.loop-rest.rest.now = grind (arith, common_steps) in
     rw (p.1, p.2) (λ other.
-    let refused = c.in_err-token.ensures.refused other in (
+    let refused = c.in_err-lexeme.ensures.refused other in (
       refused.0,
-      none_here c.args.text.now (map token_view c.loop-rest.tokens.items)
+      none_here c.args.text.now (map lexeme_view c.loop-rest.lexemes.items)
           c.loop-rest.rest.now some c.loop-rest.invariant.1 refused.1,
     ))
 
@@ -28,12 +28,12 @@ pub loop-rest-smaller : goal.loop-rest-smaller
 loop-rest-smaller c =
     let some : 0 < length c.loop-rest.rest.now = grind (arith, common_steps) in
     let is = ap length
-    (trim_ascii_start_is c.in_ok-token.behind.now
+    (trim_ascii_start_is c.in_ok-lexeme.behind.now
     c.trim_ascii_start-rest-in-loop-rest.result.now
     c.trim_ascii_start-rest-in-loop-rest.ensures.value) in
     let less =
-    shorter c.loop-rest.rest.now (token_view c.in_ok-token.token) c.in_ok-token.behind.now some
-    c.loop-rest.invariant.1.trimmed c.in_ok-token.ensures.read in
+    shorter c.loop-rest.rest.now (lexeme_view c.in_ok-lexeme.lexeme) c.in_ok-lexeme.behind.now some
+    c.loop-rest.invariant.1.trimmed c.in_ok-lexeme.ensures.read in
     omega arith
 
 pub loop-rest-preserved : goal.loop-rest-preserved
@@ -41,15 +41,15 @@ loop-rest-preserved c =
     let some : 0 < length c.loop-rest.rest.now = grind (arith, common_steps) in
     let trimmed = c.trim_ascii_start-rest-in-loop-rest in
     let is =
-    trim_ascii_start_is c.in_ok-token.behind.now trimmed.result.now trimmed.ensures.value in
+    trim_ascii_start_is c.in_ok-lexeme.behind.now trimmed.result.now trimmed.ensures.value in
     let more =
-    one_more c.args.text.now (map token_view c.loop-rest.tokens.items) c.loop-rest.rest.now
-    (token_view c.in_ok-token.token) c.in_ok-token.behind.now some c.loop-rest.invariant.1
-    c.in_ok-token.ensures.read in
+    one_more c.args.text.now (map lexeme_view c.loop-rest.lexemes.items) c.loop-rest.rest.now
+    (lexeme_view c.in_ok-lexeme.lexeme) c.in_ok-lexeme.behind.now some c.loop-rest.invariant.1
+    c.in_ok-lexeme.ensures.read in
     (trimmed.utf8, rw (is, c.in_ok-push.ensures.items, map-append) more)
 
 pub returns-clause-read : goal.returns-clause-read
 returns-clause-read c =
     let none : length c.loop-rest.rest.now ≡ 0 = grind (arith, common_steps) in
-    at_end c.args.text.now (map token_view c.loop-rest.tokens.items) c.loop-rest.rest.now none
+    at_end c.args.text.now (map lexeme_view c.loop-rest.lexemes.items) c.loop-rest.rest.now none
     c.loop-rest.invariant.1

@@ -1,22 +1,22 @@
-//! The tokens of a question's text.
+//! The lexemes of a question's text.
 
 ghost use Rattle.std.specs.Prelude.{◌≡◌, ◌≢◌, ◌≤◌, List, length, map, true, false, Some, None};
 ghost use Rattle.std.specs.Prelude.{IfOk, IfErr, string_bytes};
 ghost use Rattle.std.specs.List.{prefix_len};
 ghost use Rattle.am_universe.specs.declared.kind.Kind.TheVariants as kinds;
 ghost use Rattle.am_labels.specs.MatcherText.{has_escape, byte_of_escape};
-ghost use Rattle.am_questions.specs.Tokens as spec;
-ghost use Rattle.am_questions.specs.Tokens.{SpellsTokens, is_word_character};
-ghost use Rattle.am_questions.specs.TokenView.{token_view};
-ghost use Rattle.am_questions.specs.TokenReading.{is_plain, read_quoted, read_token};
+ghost use Rattle.am_questions.specs.Lexemes as spec;
+ghost use Rattle.am_questions.specs.Lexemes.{SpellsLexemes, is_word_character};
+ghost use Rattle.am_questions.specs.LexemeView.{lexeme_view};
+ghost use Rattle.am_questions.specs.LexemeReading.{is_plain, read_quoted, read_lexeme};
 
 use am_labels::brace_len;
 use am_universe::Kind;
 use std::alloc::Global;
 
-/// A token of a question.
+/// A lexeme of a question.
 #[derive(Debug, Drop)]
-pub enum Token<'a> {
+pub enum Lexeme<'a> {
     /// `(`
     Open,
     /// `)`
@@ -29,43 +29,43 @@ pub enum Token<'a> {
     Braces(&'a str),
 }
 
-/// The tokens of a text, however many. `QuestionSyntax` where it has none; `Memory`.
-pub fn read_tokens(alloc: Global, text: &str) -> Result<Vec<Token<'_>>, Kind>
-    ensures read { IfOk result (λ tokens. SpellsTokens text.now (map token_view tokens.items)) }
+/// The lexemes of a text, however many. `QuestionSyntax` where it has none; `Memory`.
+pub fn read_lexemes(alloc: Global, text: &str) -> Result<Vec<Lexeme<'_>>, Kind>
+    ensures read { IfOk result (λ lexemes. SpellsLexemes text.now (map lexeme_view lexemes.items)) }
     ensures refused { IfErr result (λ kind. kind ≢ kinds.Memory → (kind ≡ kinds.QuestionSyntax)
-        × ((ts : List spec.Token) → SpellsTokens text.now ts → ⊥)) }
+        × ((ts : List spec.Lexeme) → SpellsLexemes text.now ts → ⊥)) }
 {
-    let mut tokens = Vec::new(alloc);
+    let mut lexemes = Vec::new(alloc);
     let mut rest = text.trim_ascii_start();
     while !rest.is_empty() {
-        let (token, behind) = read_token(alloc, rest)?;
-        tokens.push(token)?;
+        let (lexeme, behind) = read_lexeme(alloc, rest)?;
+        lexemes.push(lexeme)?;
         rest = behind.trim_ascii_start();
     }
-    Ok(tokens)
+    Ok(lexemes)
 }
 
-/// The first token of a text that begins with no whitespace, and what stands behind it.
-#[tactic(auto, unfolding(crate::specs::TokenReading::read_token))]
-fn read_token(alloc: Global, text: &str) -> Result<(Token<'_>, &str), Kind>
-    ensures read { IfOk result (λ x. read_token text.now ≡ Some (token_view x.0, x.1.now)) }
+/// The first lexeme of a text that begins with no whitespace, and what stands behind it.
+#[tactic(auto, unfolding(crate::specs::LexemeReading::read_lexeme))]
+fn read_lexeme(alloc: Global, text: &str) -> Result<(Lexeme<'_>, &str), Kind>
+    ensures read { IfOk result (λ x. read_lexeme text.now ≡ Some (lexeme_view x.0, x.1.now)) }
     ensures refused { IfErr result (λ kind. kind ≢ kinds.Memory → (kind ≡ kinds.QuestionSyntax)
-        × (read_token text.now ≡ None)) }
+        × (read_lexeme text.now ≡ None)) }
 {
     match text.as_bytes() {
-        [b'(', ..] => Ok((Token::Open, &text[1..])),
-        [b')', ..] => Ok((Token::Close, &text[1..])),
+        [b'(', ..] => Ok((Lexeme::Open, &text[1..])),
+        [b')', ..] => Ok((Lexeme::Close, &text[1..])),
         [b'"', ..] => {
             let (value, behind) = read_quoted(alloc, &text[1..])?;
-            Ok((Token::Quoted(value), behind))
+            Ok((Lexeme::Quoted(value), behind))
         }
         [b'{', ..] => match brace_len(text) {
-            Some(len) => Ok((Token::Braces(&text[..len]), &text[len..])),
+            Some(len) => Ok((Lexeme::Braces(&text[..len]), &text[len..])),
             None => Err(Kind::QuestionSyntax),
         },
         _ => {
             let len = word_len(text.as_bytes());
-            Ok((Token::Word(&text[..len]), &text[len..]))
+            Ok((Lexeme::Word(&text[..len]), &text[len..]))
         }
     }
 }

@@ -1,4 +1,4 @@
--- Where a brace token ends, whatever stands behind it.
+-- Where a brace lexeme ends, whatever stands behind it.
 use Rattle.std.proofs.Common.{◌≡◌, refl, sym, ◌∙◌, ap, subst, inl, inr, ℕ, zero, suc, ◌+◌, ◌<◌, ◌≤◌}
 use Rattle.std.proofs.Common.{List, ◌++◌, length, take, drop, get_or, Bool, true, false}
 use Rattle.std.proofs.Common.{Some, arith}
@@ -79,9 +79,9 @@ closes_shorter xs ys i inside c = record {
   none_before = λ k l. sym (closes_before xs ys k (omega arith)) ∙ c.none_before k l;
 }
 
--- ---- the length of the token
+-- ---- the length of the lexeme
 
--- the parts of a token's length
+-- the parts of a lexeme's length
 pub record HasLength (text : List ℕ) (n : ℕ) : Type 0 where
   pub last : ℕ
   pub length_is : last + 1 ≡ n
@@ -101,7 +101,7 @@ has_length text n e =
 length_from : (text : List ℕ) (n : ℕ) → HasLength text n → brace_len text ≡ Some n
 length_from text n h = rw (h.opens, closes_to text h.last h.closes_at, h.length_is) refl
 
--- a token is the token that each text has that begins with it
+-- a lexeme is the lexeme that each text has that begins with it
 pub brace_longer : (list rest : List ℕ) → brace_len list ≡ Some (length list)
     → brace_len (list ++ rest) ≡ Some (length list)
 brace_longer list rest e =
@@ -114,7 +114,7 @@ brace_longer list rest e =
       closes_at = closes_longer list rest h.last h.closes_at;
     })
 
--- the token that a text begins with ends within the text, and is a token by itself
+-- the lexeme that a text begins with ends within the text, and is a lexeme by itself
 pub brace_shorter : (text : List ℕ) (n : ℕ) → brace_len text ≡ Some n
     → (length (take n text) ≡ n) × (brace_len (take n text) ≡ Some n)
 brace_shorter text n e =

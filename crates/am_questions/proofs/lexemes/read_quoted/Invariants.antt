@@ -2,9 +2,9 @@ use Rattle.std.proofs.Common.{◌≡◌, length}
 use denote.Text.{Utf8}
 use denote.Shadow.{shadow}
 use Rattle.std.specs.String.{string_bytes}
-use Rattle.am_questions.specs.TokenReading.{read_quoted}
+use Rattle.am_questions.specs.LexemeReading.{read_quoted}
 use Rattle.am_questions.proofs.QuotedTexts.{begun_with_run}
-use Rattle.am_questions.proofs.tokens.read_quoted.Given as goal
+use Rattle.am_questions.proofs.lexemes.read_quoted.Given as goal
 
 abbrev pub invariant-loop-value : goal.invariant-loop-value
 invariant-loop-value l =

@@ -1,4 +1,4 @@
--- The tokens of a question's text, which is a list of bytes; a character is one of them here.
+-- The lexemes of a question's text, which is a list of bytes; a character is one of them here.
 -- (This project's own.)
 use Rattle.std.specs.Prelude.{◌≡◌, ◌≢◌, ◌⊎◌, ℕ, List, [], ◌∷◌, ◌++◌, length, Bool, not}
 use Rattle.std.specs.Prelude.{◌||◌, ◌==◌, IsTrue, IsFalse, Some, codes, ⊤}
@@ -8,13 +8,13 @@ use Rattle.am_universe.specs.Bytes.{backslash, left_brace}
 use Rattle.am_labels.specs.MatcherText.{is_space, is_blank}
 use Rattle.am_labels.specs.BraceToken.{brace_len}
 
--- A token: a parenthesis, a word, a text in quotes, a list of matchers with its braces.
-pub data Token : Type 0 where
-  Open : Token
-  Close : Token
-  Word : List ℕ → Token
-  Quoted : List ℕ → Token
-  BraceList : List ℕ → Token
+-- A lexeme: a parenthesis, a word, a text in quotes, a list of matchers with its braces.
+pub data Lexeme : Type 0 where
+  Open : Lexeme
+  Close : Lexeme
+  Word : List ℕ → Lexeme
+  Quoted : List ℕ → Lexeme
+  BraceList : List ℕ → Lexeme
 
 -- A character of a word: any but whitespace, parentheses, an opening brace and a quote
 abbrev pub is_word_character : ℕ → Bool
@@ -38,33 +38,33 @@ SpellsQuoted text (c ∷ cs) =
     (head : List ℕ) × (tail : List ℕ) × (text ≡ head ++ tail)
     × SpellsCharacter head c × SpellsQuoted tail cs
 
--- How a token is written: `(`, `)`, a word as itself, a text in quotes between two quotes, and a
+-- How a lexeme is written: `(`, `)`, a word as itself, a text in quotes between two quotes, and a
 -- list of matchers as far as the brace that closes it.
 -- Source: own choice.
 -- Example: `{a="}"} b` begins with the list `{a="}"}`, and `"a\"b"` is how the text `a"b` is
 -- written in quotes.
-abbrev pub SpellsToken : List ℕ → Token → Type 0
-SpellsToken text Open = text ≡ codes "("
-SpellsToken text Close = text ≡ codes ")"
-SpellsToken text (Word word) =
+abbrev pub SpellsLexeme : List ℕ → Lexeme → Type 0
+SpellsLexeme text Open = text ≡ codes "("
+SpellsLexeme text Close = text ≡ codes ")"
+SpellsLexeme text (Word word) =
     (text ≡ word) × (word ≢ []) × IsTrue (list_all is_word_character word)
-SpellsToken text (Quoted value) =
+SpellsLexeme text (Quoted value) =
     (body : List ℕ) × (text ≡ codes "\"" ++ (body ++ codes "\"")) × SpellsQuoted body value
-SpellsToken text (BraceList list) = (text ≡ list) × (brace_len list ≡ Some (length list))
+SpellsLexeme text (BraceList list) = (text ≡ list) × (brace_len list ≡ Some (length list))
 
--- What may stand behind a token: anything, but behind a word nothing that would go on with it. So a
--- word is as long as it can be.
-abbrev pub MayFollow : Token → List ℕ → Type 0
+-- What may stand behind a lexeme: anything, but behind a word nothing that would go on with it. So
+-- a word is as long as it can be.
+abbrev pub MayFollow : Lexeme → List ℕ → Type 0
 MayFollow (Word word) [] = ⊤
 MayFollow (Word word) (c ∷ rest) = IsFalse (is_word_character c)
-MayFollow token rest = ⊤
+MayFollow lexeme rest = ⊤
 
--- A text's tokens: each with whitespace before it, or none, and whitespace behind the last.
+-- A text's lexemes: each with whitespace before it, or none, and whitespace behind the last.
 -- Source: own choice.
--- Example: `receiver"r"` has two tokens, a word and a text in quotes, and `not(any)` has four.
-abbrev pub SpellsTokens : List ℕ → List Token → Type 0
-SpellsTokens text [] = IsTrue (is_blank text)
-SpellsTokens text (token ∷ tokens) =
+-- Example: `receiver"r"` has two lexemes, a word and a text in quotes, and `not(any)` has four.
+abbrev pub SpellsLexemes : List ℕ → List Lexeme → Type 0
+SpellsLexemes text [] = IsTrue (is_blank text)
+SpellsLexemes text (lexeme ∷ lexemes) =
     (blanks : List ℕ) × (here : List ℕ) × (rest : List ℕ)
     × (text ≡ blanks ++ (here ++ rest)) × IsTrue (is_blank blanks)
-    × SpellsToken here token × MayFollow token rest × SpellsTokens rest tokens
+    × SpellsLexeme here lexeme × MayFollow lexeme rest × SpellsLexemes rest lexemes

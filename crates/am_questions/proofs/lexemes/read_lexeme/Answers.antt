@@ -2,7 +2,7 @@ use Rattle.std.proofs.Common.{arith, sym}
 use Rattle.std.proofs.lemmas.Grind.{common_steps}
 use Rattle.std.proofs.lemmas.Str.{IsCharBoundary-after_ascii}
 use Rattle.am_questions.proofs.Boundaries.{behind_brace, behind_word}
-use Rattle.am_questions.proofs.tokens.read_token.Goals as goal
+use Rattle.am_questions.proofs.lexemes.read_lexeme.Goals as goal
 
 pub range_from-requires : goal.range_from-requires
 range_from-requires c =

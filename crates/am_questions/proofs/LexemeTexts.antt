@@ -1,4 +1,4 @@
--- A text begins with a token exactly where one is read there, and its tokens are read one by one.
+-- A text begins with a lexeme exactly where one is read there, and its lexemes are read one by one.
 use Rattle.std.proofs.Common.{◌≡◌, refl, sym, ◌∙◌, ap, subst, inl, inr, ℕ, suc, ◌+◌, ◌<◌}
 use Rattle.std.proofs.Common.{List, [], ◌∷◌, ◌++◌, length, take, drop, get_or, true, false}
 use Rattle.std.proofs.Common.{Option, Some, None, option_map, arith, append_assoc, length-append}
@@ -17,34 +17,34 @@ use Rattle.am_labels.specs.BraceToken.{brace_len}
 use Rattle.am_labels.proofs.MatcherTextLists.{prefix_all, prefix_whole, drop_prefix, all_of_prefix, all_append}
 use Rattle.am_labels.proofs.MatcherTextLists.{first_after_prefix}
 use Rattle.am_labels.proofs.MatcherTextWhole.{said_again}
-use Rattle.am_questions.specs.Tokens.{Token, Open, Close, Word, Quoted, BraceList, is_word_character}
-use Rattle.am_questions.specs.Tokens.{SpellsToken, MayFollow, SpellsTokens}
-use Rattle.am_questions.specs.TokenReading.{cut, quoted_token, read_quoted, read_token}
+use Rattle.am_questions.specs.Lexemes.{Lexeme, Open, Close, Word, Quoted, BraceList, is_word_character}
+use Rattle.am_questions.specs.Lexemes.{SpellsLexeme, MayFollow, SpellsLexemes}
+use Rattle.am_questions.specs.LexemeReading.{cut, quoted_lexeme, read_quoted, read_lexeme}
 use Rattle.am_questions.proofs.QuotedTexts.{quoted_is_read, read_is_quoted}
-use Rattle.am_questions.proofs.BraceTokens.{has_length, brace_longer, brace_shorter}
+use Rattle.am_questions.proofs.BraceLists.{has_length, brace_longer, brace_shorter}
 
--- the text begins with this token, and this stands behind it
-abbrev pub BeginsWith : List ℕ → Token → List ℕ → Type 0
-BeginsWith text token rest =
-    (here : List ℕ) × (text ≡ here ++ rest) × SpellsToken here token × MayFollow token rest
+-- the text begins with this lexeme, and this stands behind it
+abbrev pub BeginsWith : List ℕ → Lexeme → List ℕ → Type 0
+BeginsWith text lexeme rest =
+    (here : List ℕ) × (text ≡ here ++ rest) × SpellsLexeme here lexeme × MayFollow lexeme rest
 
 -- ---- one step
 
-open_step : (text : List ℕ) → read_token (40 ∷ text) ≡ Some (Open, text)
-unfolding read_token
+open_step : (text : List ℕ) → read_lexeme (40 ∷ text) ≡ Some (Open, text)
+unfolding read_lexeme
 open_step text = refl
 
-close_step : (text : List ℕ) → read_token (41 ∷ text) ≡ Some (Close, text)
-unfolding read_token
+close_step : (text : List ℕ) → read_lexeme (41 ∷ text) ≡ Some (Close, text)
+unfolding read_lexeme
 close_step text = refl
 
-quote_step : (text : List ℕ) → read_token (34 ∷ text) ≡ option_map quoted_token (read_quoted text)
-unfolding read_token
+quote_step : (text : List ℕ) → read_lexeme (34 ∷ text) ≡ option_map quoted_lexeme (read_quoted text)
+unfolding read_lexeme
 quote_step text = refl
 
 brace_step : (text : List ℕ) → get_or text 0 0 ≡ 123
-    → read_token text ≡ option_map (cut BraceList text) (brace_len text)
-unfolding read_token
+    → read_lexeme text ≡ option_map (cut BraceList text) (brace_len text)
+unfolding read_lexeme
 brace_step text e = rw e refl
 
 -- how long the word is with which a text begins
@@ -65,8 +65,8 @@ begins_no_other c h = (
 )
 
 word_step : (c : ℕ) (text : List ℕ) → is_word_character c ≡ true
-    → read_token (c ∷ text) ≡ Some (cut Word (c ∷ text) (word_len (c ∷ text)))
-unfolding read_token
+    → read_lexeme (c ∷ text) ≡ Some (cut Word (c ∷ text) (word_len (c ∷ text)))
+unfolding read_lexeme
 word_step c text h = let n = begins_no_other c h in rw (n.0, n.1, n.2, n.3) refl
 
 word_length : (word rest : List ℕ) → list_all is_word_character word ≡ true
@@ -76,7 +76,7 @@ word_length word (c ∷ rest) h e = prefix_whole is_word_character word (c ∷ r
 
 word_is_read : (word rest : List ℕ) → word ≢ [] → list_all is_word_character word ≡ true
     → MayFollow (Word word) rest
-    → read_token (word ++ rest) ≡ Some (Word word, rest)
+    → read_lexeme (word ++ rest) ≡ Some (Word word, rest)
 word_is_read [] rest some h e = absurd (some refl)
 word_is_read (c ∷ cs) rest some h e =
     let first = (and_parts (is_word_character c) (list_all is_word_character cs) h).0 in
@@ -94,17 +94,17 @@ ends_word word (c ∷ text) = elim (cases_Bool (is_word_character c)) [
   | inr n ↦ rw n n
 ]
 
-read_is_word : (c : ℕ) (text : List ℕ) (token : Token) (rest : List ℕ) → is_word_character c ≡ true
-    → read_token (c ∷ text) ≡ Some (token, rest)
-    → BeginsWith (c ∷ text) token rest
-read_is_word c text token rest begins e =
+read_is_word : (c : ℕ) (text : List ℕ) (lexeme : Lexeme) (rest : List ℕ) → is_word_character c ≡ true
+    → read_lexeme (c ∷ text) ≡ Some (lexeme, rest)
+    → BeginsWith (c ∷ text) lexeme rest
+read_is_word c text lexeme rest begins e =
     let n : ℕ = word_len (c ∷ text) in
     let word : List ℕ = take n (c ∷ text) in
     let one : n ≡ 1 + word_len text = rw begins refl in
     let len : length word ≡ n =
     length-take-le n (c ∷ text) (prefix_len-le-length is_word_character (c ∷ text)) in
     let some : word ≢ [] = λ z. (let l : length word ≡ 0 = ap length z in absurd (omega arith)) in
-    said_again (BeginsWith (c ∷ text)) (Word word) token (drop n (c ∷ text)) rest
+    said_again (BeginsWith (c ∷ text)) (Word word) lexeme (drop n (c ∷ text)) rest
     (sym (word_step c text begins) ∙ e) (
       word,
       sym (take-append-drop n (c ∷ text)),
@@ -114,19 +114,19 @@ read_is_word c text token rest begins e =
 
 -- ---- what is spelled is read
 
-pub token_is_read : (token : Token) (here rest : List ℕ) → SpellsToken here token
-    → MayFollow token rest
-    → read_token (here ++ rest) ≡ Some (token, rest)
-token_is_read Open here rest s e = rw s (open_step rest)
-token_is_read Close here rest s e = rw s (close_step rest)
-token_is_read (Word word) here rest s e = rw s.0 (word_is_read word rest s.1 s.2 e)
-token_is_read (Quoted value) here rest s e =
+pub lexeme_is_read : (lexeme : Lexeme) (here rest : List ℕ) → SpellsLexeme here lexeme
+    → MayFollow lexeme rest
+    → read_lexeme (here ++ rest) ≡ Some (lexeme, rest)
+lexeme_is_read Open here rest s e = rw s (open_step rest)
+lexeme_is_read Close here rest s e = rw s (close_step rest)
+lexeme_is_read (Word word) here rest s e = rw s.0 (word_is_read word rest s.1 s.2 e)
+lexeme_is_read (Quoted value) here rest s e =
     let body : List ℕ = s.0 in
     let parts : here ++ rest ≡ 34 ∷ (body ++ 34 ∷ rest) =
     ap (λ (t : List ℕ). t ++ rest) s.1
     ∙ ap (λ (t : List ℕ). 34 ∷ t) (append_assoc body (34 ∷ []) rest) in
     rw parts (quote_step (body ++ 34 ∷ rest) ∙ rw (quoted_is_read value body rest s.2) refl)
-token_is_read (BraceList list) here rest s e =
+lexeme_is_read (BraceList list) here rest s e =
     let h = has_length list (length list) s.1 in
     let long = brace_longer list rest s.1 in
     let opens : get_or (list ++ rest) 0 0 ≡ 123 =
@@ -137,66 +137,66 @@ token_is_read (BraceList list) here rest s e =
 
 -- ---- what is read is spelled
 
-read_is_quote : (text : List ℕ) (token : Token) (rest : List ℕ) (read : Option (List ℕ × List ℕ))
+read_is_quote : (text : List ℕ) (lexeme : Lexeme) (rest : List ℕ) (read : Option (List ℕ × List ℕ))
     → ((v r : List ℕ) → read ≡ Some (v, r) → read_quoted text ≡ Some (v, r))
-    → option_map quoted_token read ≡ Some (token, rest)
-    → BeginsWith (34 ∷ text) token rest
-read_is_quote text token rest None h e = absurd (none-some (token, rest) e)
-read_is_quote text token rest (Some p) h e =
+    → option_map quoted_lexeme read ≡ Some (lexeme, rest)
+    → BeginsWith (34 ∷ text) lexeme rest
+read_is_quote text lexeme rest None h e = absurd (none-some (lexeme, rest) e)
+read_is_quote text lexeme rest (Some p) h e =
     let q = read_is_quoted text p.0 p.1 (h p.0 p.1 refl) in
-    said_again (BeginsWith (34 ∷ text)) (Quoted p.0) token p.1 rest e (
+    said_again (BeginsWith (34 ∷ text)) (Quoted p.0) lexeme p.1 rest e (
       34 ∷ (q.0 ++ 34 ∷ []),
       ap (λ (t : List ℕ). 34 ∷ t) (q.1 ∙ sym (append_assoc q.0 (34 ∷ []) p.1)),
       (q.0, refl, q.2),
       tt,
     )
 
-read_is_brace : (text : List ℕ) (token : Token) (rest : List ℕ) (read : Option ℕ)
+read_is_brace : (text : List ℕ) (lexeme : Lexeme) (rest : List ℕ) (read : Option ℕ)
     → ((n : ℕ) → read ≡ Some n → brace_len text ≡ Some n)
-    → option_map (cut BraceList text) read ≡ Some (token, rest)
-    → BeginsWith text token rest
-read_is_brace text token rest None h e = absurd (none-some (token, rest) e)
-read_is_brace text token rest (Some n) h e =
+    → option_map (cut BraceList text) read ≡ Some (lexeme, rest)
+    → BeginsWith text lexeme rest
+read_is_brace text lexeme rest None h e = absurd (none-some (lexeme, rest) e)
+read_is_brace text lexeme rest (Some n) h e =
     let short = brace_shorter text n (h n refl) in
     let whole : brace_len (take n text) ≡ Some (length (take n text)) =
     short.1 ∙ ap (λ (k : ℕ). Some k) (sym short.0) in
-    said_again (BeginsWith text) (BraceList (take n text)) token (drop n text) rest e
+    said_again (BeginsWith text) (BraceList (take n text)) lexeme (drop n text) rest e
     (take n text, sym (take-append-drop n text), (refl, whole), tt)
 
-pub read_is_token : (text : List ℕ) (token : Token) (rest : List ℕ) → 0 < length text
+pub read_is_lexeme : (text : List ℕ) (lexeme : Lexeme) (rest : List ℕ) → 0 < length text
     → is_space (get_or text 0 0) ≡ false
-    → read_token text ≡ Some (token, rest) → BeginsWith text token rest
-read_is_token [] token rest l start e = absurd (omega arith)
-read_is_token (c ∷ text) token rest l start e = elim (cases_Bool (c == 40)) [
+    → read_lexeme text ≡ Some (lexeme, rest) → BeginsWith text lexeme rest
+read_is_lexeme [] lexeme rest l start e = absurd (omega arith)
+read_is_lexeme (c ∷ text) lexeme rest l start e = elim (cases_Bool (c == 40)) [
   | inl y ↦
       let is : c ≡ 40 = eqb-true c 40 y in
-      rw is (said_again (BeginsWith (40 ∷ text)) Open token text rest
+      rw is (said_again (BeginsWith (40 ∷ text)) Open lexeme text rest
       (sym (open_step text) ∙ rw is at e) (40 ∷ [], refl, refl, tt))
   | inr not_open ↦ elim (cases_Bool (c == 41)) [
     | inl y ↦
         let is : c ≡ 41 = eqb-true c 41 y in
-        rw is (said_again (BeginsWith (41 ∷ text)) Close token text rest
+        rw is (said_again (BeginsWith (41 ∷ text)) Close lexeme text rest
         (sym (close_step text) ∙ rw is at e) (41 ∷ [], refl, refl, tt))
     | inr not_close ↦ elim (cases_Bool (c == 34)) [
       | inl y ↦
           let is : c ≡ 34 = eqb-true c 34 y in
-          rw is (read_is_quote text token rest (read_quoted text) (λ v r h. h)
+          rw is (read_is_quote text lexeme rest (read_quoted text) (λ v r h. h)
           (sym (quote_step text) ∙ rw is at e))
       | inr not_quote ↦ elim (cases_Bool (c == 123)) [
         | inl y ↦
             let is : c ≡ 123 = eqb-true c 123 y in
-            read_is_brace (c ∷ text) token rest (brace_len (c ∷ text)) (λ n h. h)
+            read_is_brace (c ∷ text) lexeme rest (brace_len (c ∷ text)) (λ n h. h)
             (sym (brace_step (c ∷ text) is) ∙ e)
         | inr not_brace ↦
             let begins : is_word_character c ≡ true =
             rw (start, not_open, not_close, not_brace, not_quote) refl in
-            read_is_word c text token rest begins e
+            read_is_word c text lexeme rest begins e
       ]
     ]
   ]
 ]
 
--- ---- how a token begins
+-- ---- how a lexeme begins
 
 -- it begins with no whitespace
 pub record Begins (here : List ℕ) : Type 0 where
@@ -211,12 +211,12 @@ word_begins (c ∷ cs) some h = record {
       (begins_no_other c (and_parts (is_word_character c) (list_all is_word_character cs) h).0).4;
 }
 
-pub token_begins : (token : Token) (here : List ℕ) → SpellsToken here token → Begins here
-token_begins Open here s = rw s (record { some = omega arith; no_space = refl })
-token_begins Close here s = rw s (record { some = omega arith; no_space = refl })
-token_begins (Word word) here s = rw s.0 (word_begins word s.1 s.2)
-token_begins (Quoted value) here s = rw s.1 (record { some = omega arith; no_space = refl })
-token_begins (BraceList list) here s =
+pub lexeme_begins : (lexeme : Lexeme) (here : List ℕ) → SpellsLexeme here lexeme → Begins here
+lexeme_begins Open here s = rw s (record { some = omega arith; no_space = refl })
+lexeme_begins Close here s = rw s (record { some = omega arith; no_space = refl })
+lexeme_begins (Word word) here s = rw s.0 (word_begins word s.1 s.2)
+lexeme_begins (Quoted value) here s = rw s.1 (record { some = omega arith; no_space = refl })
+lexeme_begins (BraceList list) here s =
     let h = has_length list (length list) s.1 in
     rw s.0 (record { some = omega (arith, h.length_is); no_space = ap is_space h.opens })
 
@@ -240,8 +240,8 @@ trimmed_first text = first_after_prefix is_space text refl
 blanks_before : (text : List ℕ) → take (prefix_len is_space text) text ++ without_leading_blanks text ≡ text
 blanks_before text = take-append-drop (prefix_len is_space text) text
 
-untrim : (text : List ℕ) (us : List Token) → SpellsTokens (without_leading_blanks text) us
-    → SpellsTokens text us
+untrim : (text : List ℕ) (us : List Lexeme) → SpellsLexemes (without_leading_blanks text) us
+    → SpellsLexemes text us
 untrim text [] s =
     let blanks : List ℕ = take (prefix_len is_space text) text in
     subst (λ (t : List ℕ). is_blank t ≡ true) (blanks_before text)
@@ -261,20 +261,20 @@ untrim text (u ∷ us) s =
       s.7,
     )
 
--- what is spelled begins with its first token
-pub record FirstIs (text : List ℕ) (token : Token) (tokens : List Token) : Type 0 where
+-- what is spelled begins with its first lexeme
+pub record FirstIs (text : List ℕ) (lexeme : Lexeme) (lexemes : List Lexeme) : Type 0 where
   pub here : List ℕ
   pub rest : List ℕ
   pub parts : without_leading_blanks text ≡ here ++ rest
   pub begins : Begins here
-  pub spells : SpellsToken here token
-  pub ends : MayFollow token rest
-  pub more : SpellsTokens rest tokens
+  pub spells : SpellsLexeme here lexeme
+  pub ends : MayFollow lexeme rest
+  pub more : SpellsLexemes rest lexemes
 
-first_is : (text : List ℕ) (token : Token) (tokens : List Token)
-    → SpellsTokens text (token ∷ tokens) → FirstIs text token tokens
-first_is text token tokens s =
-    let b = token_begins token s.1 s.5 in
+first_is : (text : List ℕ) (lexeme : Lexeme) (lexemes : List Lexeme)
+    → SpellsLexemes text (lexeme ∷ lexemes) → FirstIs text lexeme lexemes
+first_is text lexeme lexemes s =
+    let b = lexeme_begins lexeme s.1 s.5 in
     record {
       here = s.1;
       rest = s.2;
@@ -285,33 +285,33 @@ first_is text token tokens s =
       more = s.7;
     }
 
-trim : (text : List ℕ) (us : List Token) → SpellsTokens text us
-    → SpellsTokens (without_leading_blanks text) us
+trim : (text : List ℕ) (us : List Lexeme) → SpellsLexemes text us
+    → SpellsLexemes (without_leading_blanks text) us
 trim text [] s = rw (blank_goes text s) refl
 trim text (u ∷ us) s =
     let f = first_is text u us s in
     ([], f.here, f.rest, f.parts, refl, f.spells, f.ends, f.more)
 
-first_is_read : (text : List ℕ) (token : Token) (tokens : List Token)
-    (f : FirstIs text token tokens)
-    → read_token (without_leading_blanks text) ≡ Some (token, f.rest)
-first_is_read text token tokens f =
-    ap read_token f.parts ∙ token_is_read token f.here f.rest f.spells f.ends
+first_is_read : (text : List ℕ) (lexeme : Lexeme) (lexemes : List Lexeme)
+    (f : FirstIs text lexeme lexemes)
+    → read_lexeme (without_leading_blanks text) ≡ Some (lexeme, f.rest)
+first_is_read text lexeme lexemes f =
+    ap read_lexeme f.parts ∙ lexeme_is_read lexeme f.here f.rest f.spells f.ends
 
-no_token_of_blank : (text : List ℕ) (u : Token) (us : List Token) → is_blank text ≡ true
-    → SpellsTokens text (u ∷ us) → ⊥
-no_token_of_blank text u us b s =
+no_lexeme_of_blank : (text : List ℕ) (u : Lexeme) (us : List Lexeme) → is_blank text ≡ true
+    → SpellsLexemes text (u ∷ us) → ⊥
+no_lexeme_of_blank text u us b s =
     let f = first_is text u us s in
     let none : f.here ++ f.rest ≡ [] = sym f.parts ∙ blank_goes text b in
     absurd (omega (arith, f.begins.some, length-append f.here f.rest, ap length none))
 
--- ---- one list of tokens a text
+-- ---- one list of lexemes a text
 
-pub one_list : (text : List ℕ) (ts us : List Token) → SpellsTokens text ts → SpellsTokens text us
+pub one_list : (text : List ℕ) (ts us : List Lexeme) → SpellsLexemes text ts → SpellsLexemes text us
     → ts ≡ us
 one_list text [] [] s z = refl
-one_list text [] (u ∷ us) s z = absurd (no_token_of_blank text u us s z)
-one_list text (t ∷ ts) [] s z = absurd (no_token_of_blank text t ts z s)
+one_list text [] (u ∷ us) s z = absurd (no_lexeme_of_blank text u us s z)
+one_list text (t ∷ ts) [] s z = absurd (no_lexeme_of_blank text t ts z s)
 one_list text (t ∷ ts) (u ∷ us) s z =
     let f = first_is text t ts s in
     let g = first_is text u us z in
@@ -320,17 +320,17 @@ one_list text (t ∷ ts) (u ∷ us) s z =
     (sym (first_is_read text t ts f) ∙ first_is_read text u us g) in
     let more : ts ≡ us =
     one_list f.rest ts us f.more
-    (subst (λ (r : List ℕ). SpellsTokens r us) (sym same.1) g.more) in
+    (subst (λ (r : List ℕ). SpellsLexemes r us) (sym same.1) g.more) in
     rw (same.0, more) refl
 
--- ---- reading the tokens one by one
+-- ---- reading the lexemes one by one
 
--- These tokens stand before the rest: with the rest's tokens they are the text's, and where the
--- text has tokens the rest has.
-pub record ReadsOn (text : List ℕ) (tokens : List Token) (rest : List ℕ) : Type 0 where
+-- These lexemes stand before the rest: with the rest's lexemes they are the text's, and where the
+-- text has lexemes the rest has.
+pub record ReadsOn (text : List ℕ) (lexemes : List Lexeme) (rest : List ℕ) : Type 0 where
   pub trimmed : is_space (get_or rest 0 0) ≡ false
-  pub onward : (us : List Token) → SpellsTokens rest us → SpellsTokens text (tokens ++ us)
-  pub back : (us : List Token) → SpellsTokens text us → (vs : List Token) × SpellsTokens rest vs
+  pub onward : (us : List Lexeme) → SpellsLexemes rest us → SpellsLexemes text (lexemes ++ us)
+  pub back : (us : List Lexeme) → SpellsLexemes text us → (vs : List Lexeme) × SpellsLexemes rest vs
 
 pub at_first : (text : List ℕ) → ReadsOn text [] (without_leading_blanks text)
 at_first text = record {
@@ -339,23 +339,23 @@ at_first text = record {
   back = λ us s. (us, trim text us s);
 }
 
--- the rest begins with a token, where it has tokens
-rest_is_read : (rest : List ℕ) (vs : List Token) → 0 < length rest
-    → is_space (get_or rest 0 0) ≡ false → SpellsTokens rest vs
-    → (v : Token) × (behind : List ℕ) × (more : List Token) × (read_token rest ≡ Some (v, behind))
-    × SpellsTokens behind more
+-- the rest begins with a lexeme, where it has lexemes
+rest_is_read : (rest : List ℕ) (vs : List Lexeme) → 0 < length rest
+    → is_space (get_or rest 0 0) ≡ false → SpellsLexemes rest vs
+    → (v : Lexeme) × (behind : List ℕ) × (more : List Lexeme) × (read_lexeme rest ≡ Some (v, behind))
+    × SpellsLexemes behind more
 rest_is_read rest [] l h s =
     absurd (omega (arith, ap length (sym (trimmed_stays rest h) ∙ blank_goes rest s)))
 rest_is_read rest (v ∷ vs) l h s =
     let f = first_is rest v vs s in
-    (v, f.rest, vs, ap read_token (sym (trimmed_stays rest h)) ∙ first_is_read rest v vs f, f.more)
+    (v, f.rest, vs, ap read_lexeme (sym (trimmed_stays rest h)) ∙ first_is_read rest v vs f, f.more)
 
-pub shorter : (text : List ℕ) (token : Token) (rest : List ℕ) → 0 < length text
+pub shorter : (text : List ℕ) (lexeme : Lexeme) (rest : List ℕ) → 0 < length text
     → is_space (get_or text 0 0) ≡ false
-    → read_token text ≡ Some (token, rest) → length (without_leading_blanks rest) < length text
-shorter text token rest l h e =
-    let b = read_is_token text token rest l h e in
-    let begins = token_begins token b.0 b.2 in
+    → read_lexeme text ≡ Some (lexeme, rest) → length (without_leading_blanks rest) < length text
+shorter text lexeme rest l h e =
+    let b = read_is_lexeme text lexeme rest l h e in
+    let begins = lexeme_begins lexeme b.0 b.2 in
     omega (
       arith,
       begins.some,
@@ -365,33 +365,33 @@ shorter text token rest l h e =
           (prefix_len is_space rest) rest,
     )
 
-pub one_more : (text : List ℕ) (tokens : List Token) (rest : List ℕ) (token : Token)
+pub one_more : (text : List ℕ) (lexemes : List Lexeme) (rest : List ℕ) (lexeme : Lexeme)
     (behind : List ℕ) → 0 < length rest
-    → ReadsOn text tokens rest → read_token rest ≡ Some (token, behind)
-    → ReadsOn text (tokens ++ token ∷ []) (without_leading_blanks behind)
-one_more text tokens rest token behind l on e = record {
+    → ReadsOn text lexemes rest → read_lexeme rest ≡ Some (lexeme, behind)
+    → ReadsOn text (lexemes ++ lexeme ∷ []) (without_leading_blanks behind)
+one_more text lexemes rest lexeme behind l on e = record {
   trimmed = trimmed_first behind;
   onward = λ us s.
-      let b = read_is_token rest token behind l on.trimmed e in
-      let here : SpellsTokens rest (token ∷ us) =
+      let b = read_is_lexeme rest lexeme behind l on.trimmed e in
+      let here : SpellsLexemes rest (lexeme ∷ us) =
       ([], b.0, behind, b.1, refl, b.2, b.3, untrim behind us s) in
-      rw append_assoc (on.onward (token ∷ us) here);
+      rw append_assoc (on.onward (lexeme ∷ us) here);
   back = λ us s.
       let v = on.back us s in
       let r = rest_is_read rest v.0 l on.trimmed v.1 in
-      let same = some_pair_parts r.0 token r.1 behind (sym r.3 ∙ e) in
-      (r.2, trim behind r.2 (subst (λ (t : List ℕ). SpellsTokens t r.2) same.1 r.4));
+      let same = some_pair_parts r.0 lexeme r.1 behind (sym r.3 ∙ e) in
+      (r.2, trim behind r.2 (subst (λ (t : List ℕ). SpellsLexemes t r.2) same.1 r.4));
 }
 
-pub at_end : (text : List ℕ) (tokens : List Token) (rest : List ℕ) → length rest ≡ 0
-    → ReadsOn text tokens rest → SpellsTokens text tokens
-at_end text tokens [] z on = rw (← append-nil tokens) (on.onward [] refl)
-at_end text tokens (c ∷ rest) z on = absurd (omega arith)
+pub at_end : (text : List ℕ) (lexemes : List Lexeme) (rest : List ℕ) → length rest ≡ 0
+    → ReadsOn text lexemes rest → SpellsLexemes text lexemes
+at_end text lexemes [] z on = rw (← append-nil lexemes) (on.onward [] refl)
+at_end text lexemes (c ∷ rest) z on = absurd (omega arith)
 
-pub none_here : (text : List ℕ) (tokens : List Token) (rest : List ℕ) → 0 < length rest
-    → ReadsOn text tokens rest
-    → read_token rest ≡ None → (us : List Token) → SpellsTokens text us → ⊥
-none_here text tokens rest l on e us s =
+pub none_here : (text : List ℕ) (lexemes : List Lexeme) (rest : List ℕ) → 0 < length rest
+    → ReadsOn text lexemes rest
+    → read_lexeme rest ≡ None → (us : List Lexeme) → SpellsLexemes text us → ⊥
+none_here text lexemes rest l on e us s =
     let v = on.back us s in
     let r = rest_is_read rest v.0 l on.trimmed v.1 in
     none-some (r.0, r.1) (sym e ∙ r.3)

@@ -1,5 +1,5 @@
--- Reading one token of a question's text, as a function. What counts is the relation that it
--- decides, `SpellsTokens`.
+-- Reading one lexeme of a question's text, as a function. What counts is the relation that it
+-- decides, `SpellsLexemes`.
 use Rattle.std.specs.Prelude.{ℕ, List, [], ◌∷◌, take, drop, slice_index, Bool, not, ◌||◌, ◌==◌}
 use Rattle.std.specs.Prelude.{if◌then◌else◌, Option, Some, None, option_map}
 use Rattle.std.specs.List.{prefix_len}
@@ -7,8 +7,8 @@ use Rattle.am_universe.specs.Bytes.{double_quote, left_parenthesis, right_parent
 use Rattle.am_universe.specs.Bytes.{left_brace}
 use Rattle.am_labels.specs.MatcherText.{has_escape, byte_of_escape}
 use Rattle.am_labels.specs.BraceToken.{brace_len}
-use Rattle.am_questions.specs.Tokens.{Token, Open, Close, Word, Quoted, BraceList}
-use Rattle.am_questions.specs.Tokens.{is_word_character}
+use Rattle.am_questions.specs.Lexemes.{Lexeme, Open, Close, Word, Quoted, BraceList}
+use Rattle.am_questions.specs.Lexemes.{is_word_character}
 
 -- A byte that stands for itself between quotes.
 abbrev pub is_plain : ℕ → Bool
@@ -27,21 +27,21 @@ read_quoted (c ∷ d ∷ more) =
     else (if not (c == backslash) then begun_with c (read_quoted (d ∷ more))
     else (if has_escape d then begun_with (byte_of_escape d) (read_quoted more) else None))
 
--- A token that is the first bytes of a text, and what stands behind it.
-abbrev pub cut : (List ℕ → Token) → List ℕ → ℕ → Token × List ℕ
-cut token text n = (token (take n text), drop n text)
+-- A lexeme that is the first bytes of a text, and what stands behind it.
+abbrev pub cut : (List ℕ → Lexeme) → List ℕ → ℕ → Lexeme × List ℕ
+cut lexeme text n = (lexeme (take n text), drop n text)
 
--- A value as a token, and what stands behind it.
-abbrev pub quoted_token : List ℕ × List ℕ → Token × List ℕ
-quoted_token p = (Quoted p.0, p.1)
+-- A value as a lexeme, and what stands behind it.
+abbrev pub quoted_lexeme : List ℕ × List ℕ → Lexeme × List ℕ
+quoted_lexeme p = (Quoted p.0, p.1)
 
--- The token with which a text begins, where that is no whitespace, and what stands behind it.
-unfoldable pub read_token : List ℕ → Option (Token × List ℕ)
-read_token text =
+-- The lexeme with which a text begins, where that is no whitespace, and what stands behind it.
+unfoldable pub read_lexeme : List ℕ → Option (Lexeme × List ℕ)
+read_lexeme text =
     if slice_index text 0 == left_parenthesis then Some (Open, drop 1 text)
     else (if slice_index text 0 == right_parenthesis then Some (Close, drop 1 text)
     else (if slice_index text 0 == double_quote
-    then option_map quoted_token (read_quoted (drop 1 text))
+    then option_map quoted_lexeme (read_quoted (drop 1 text))
     else (if slice_index text 0 == left_brace
     then option_map (cut BraceList text) (brace_len text)
     else Some (cut Word text (prefix_len is_word_character text)))))
