@@ -43,6 +43,8 @@ numeral-decimal zero small = numeral-zero ∙ sym (decimal_digit 0 (omega arith)
 numeral-decimal (suc n) small =
     numeral-positive (suc n) (omega arith) ∙ sym (decimal-digits_of (suc n) (omega arith) small)
 
+pub ruleset decimal_steps = (numeral-decimal)
+
 -- the last digit behind the others
 numeral_step : (n : ℕ) → 10 ≤ n → numeral n ≡ numeral (n / 10) ++ ((48 + n % 10) ∷ [])
 numeral_step n large =

@@ -1,6 +1,6 @@
 -- The text of a path, step by step.
-use Rattle.std.proofs.Common.{◌≡◌, ℕ, ◌+◌, ◌<◌, List, [], ◌∷◌, ◌++◌, length}
-use Rattle.std.proofs.Common.{take, drop, get_or, zero, suc, length-append}
+use Rattle.std.proofs.Common.{◌≡◌, ℕ, ◌<◌, List, [], ◌∷◌, ◌++◌, length}
+use Rattle.std.proofs.Common.{drop, zero, suc, length-append}
 use Rattle.std.proofs.Common.{map, true, false, refl, sym, ap, ap₂, ◌∙◌, arith, append-nil}
 use Rattle.std.specs.Prelude.{◌==◌}
 use Rattle.std.specs.List.{flat_map, slice_split, join_with_byte, list_all, All}
@@ -11,7 +11,6 @@ use Rattle.std.proofs.lemmas.List.Splits.{join_with_byte-slice_split}
 use Rattle.std.proofs.lemmas.Str.Parse.{digit_from_value}
 use Rattle.std.specs.Cmp.Lexicographic.{bytes_decides}
 use borrow.Author.Tests.{ne_eqb}
-use Rattle.am_universe.proofs.Writing.{pieces_through}
 use Rattle.am_config.specs.Path.{path_text, step_text, numeral}
 use Rattle.am_config.proofs.Numerals.{IsNumeral-numeral, digits_value-numeral, reads_back}
 use Rattle.am_config.proofs.Numerals.{is_numeral}
@@ -20,15 +19,6 @@ use Rattle.am_config.proofs.Numerals.{is_numeral}
 pub path_text-steps : (path : List ℕ) → 0 < length path → path_text path ≡ flat_map step_text path
 path_text-steps [] some = absurd (omega arith)
 path_text-steps (p ∷ ps) some = refl
-
--- the step at i stands between those before it and those behind it
-pub steps_through : (path : List ℕ) (i p : ℕ) → i < length path → p ≡ get_or path i 0
-    → flat_map step_text (take i path)
-    ++ (step_text p ++ (flat_map step_text (drop (i + 1) path) ++ []))
-    ≡ path_text path
-steps_through path i p within is =
-    rw (is, path_text-steps path (omega arith))
-    (pieces_through [] step_text path [] i 0 within ∙ append-nil (flat_map step_text path))
 
 -- ---- The steps of a path are what stands between the slashes.
 

@@ -108,6 +108,7 @@ impl Path {
 
     /// Writes the text of the path. The only `Err` is `Kind::Write`, after a part of that from its
     /// front. No memory is taken.
+    #[tactic(auto, using(am_universe::proofs::Writing::steps))]
     pub fn write<W: Sink>(&self, out: &mut W) -> Result<(), Kind>
         ensures written { Writes W.taken W.failures out.old out.new (path_text self.now) result }
     {
@@ -166,6 +167,7 @@ fn parse_steps(text: &str) -> Option<Path>
 }
 
 /// Writes a position on the way.
+#[tactic(auto, using(am_universe::proofs::Writing::steps, crate::proofs::Numerals::decimal_steps))]
 fn write_step<W: Sink>(position: u16, out: &mut W) -> Result<(), Kind>
     ensures written { Writes W.taken W.failures out.old out.new (step_text position) result }
 {
