@@ -15,7 +15,6 @@ pub mod FlatEnds
 pub mod AbsentParts
 pub mod FirstFaults
 pub mod Promises
-pub mod WrittenItems
 pub mod SimpleParts
 pub mod SiblingLaws
 pub mod SetRefusals

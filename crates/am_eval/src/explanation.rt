@@ -1,3 +1,5 @@
+#![tactic(auto, using(am_universe::proofs::Writing::steps))]
+
 ghost use Rattle.std.specs.Prelude.{◌≡◌, decimal, IfOk};
 ghost use Rattle.std.specs.List.{flat_map};
 ghost use Rattle.am_universe.specs.Sink.{Writes};
