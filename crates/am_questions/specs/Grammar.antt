@@ -1,5 +1,5 @@
 -- The grammar of questions: which lexemes are which tree. (This project's own.)
-use Rattle.std.specs.Prelude.{◌≡◌, ◌⊎◌, ℕ, List, [], ◌∷◌, ◌++◌, ⊤, codes}
+use Rattle.std.specs.Prelude.{◌≡◌, ◌⊎◌, ℕ, List, [], ◌∷◌, ◌++◌, Option, Some, None, ⊤, codes}
 use Rattle.std.specs.List.{AllByRecursion}
 use Rattle.am_config.specs.Path.{path_text}
 use Rattle.am_eval.specs.declared.property.Property.{Property}
@@ -41,21 +41,20 @@ word_of (ReachWord Enters) = codes "enters"
 abbrev pub keyword : Keyword → Lexeme
 keyword k = Word (word_of k)
 
--- NAME: any word, a keyword too, or a text in quotes. PATH: a word that is the text of a path.
-pub data IsName : Lexeme → List ℕ → Type 0 where
-  plain_name : (name : List ℕ) → IsName (Word name) name
-  quoted_name : (name : List ℕ) → IsName (Quoted name) name
-
-pub data IsPathWord : Lexeme → List ℕ → Type 0 where
-  path_word : (path : List ℕ) → IsPathWord (Word (path_text path)) (path_text path)
+-- NAME: any word, a keyword too, or a text in quotes.
+abbrev pub name_of : Lexeme → Option (List ℕ)
+name_of (Word name) = Some name
+name_of (Quoted name) = Some name
+name_of _ = None
 
 -- part := PROPERTY | "receiver" NAME | REACH PATH | BRACES
 pub data IsPart : List Lexeme → Written → Type 0 where
   property : (p : Property) → IsPart (keyword (PropertyWord p) ∷ []) (WrittenIs p)
-  receiver : {lexeme : Lexeme} {name : List ℕ} → IsName lexeme name
+  receiver : (lexeme : Lexeme) (name : List ℕ) → name_of lexeme ≡ Some name
       → IsPart (keyword ReceiverWord ∷ lexeme ∷ []) (WrittenReceiver name)
-  route : (reach : Reach) {lexeme : Lexeme} {text : List ℕ} → IsPathWord lexeme text
-      → IsPart (keyword (ReachWord reach) ∷ lexeme ∷ []) (WrittenRoute reach text)
+  route : (reach : Reach) (path : List ℕ)
+      → IsPart (keyword (ReachWord reach) ∷ Word (path_text path) ∷ [])
+      (WrittenRoute reach (path_text path))
   braces : (list : List ℕ) → IsPart (BraceList list ∷ []) (WrittenBraces list)
 
 -- A tier of the grammar: questions that a connective joins, or one that none joins.

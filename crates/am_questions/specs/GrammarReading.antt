@@ -19,22 +19,17 @@ Stops (JoinedBy by.And) rest = IsNotFirst (JoinWord by.And) rest
 Stops (JoinedBy by.Or) rest = IsNotFirst (JoinWord by.Or) rest × IsNotFirst (JoinWord by.And) rest
 
 -- At the front stands a question of a tier, and behind it what may stand behind one of a tier.
-pub record Front (tier end : Tier) (lexemes : List Lexeme) (q : Tree Written)
-    (rest : List Lexeme) : Type 0 where
-  pub front : List Lexeme
-  pub split : lexemes ≡ front ++ rest
-  pub is : IsOf tier front q
-  pub stops : Stops end rest
+pub data Front (tier end : Tier) : List Lexeme → Tree Written → List Lexeme → Type 0 where
+  at_front : {front rest : List Lexeme} {q : Tree Written} → IsOf tier front q → Stops end rest
+      → Front tier end (front ++ rest) q rest
 
 abbrev pub Reads : Tier → List Lexeme → Tree Written → List Lexeme → Type 0
 Reads tier = Front tier tier
 
 -- The same of a simple part, behind which anything may stand.
-pub record ReadsPart (lexemes : List Lexeme) (written : Written) (rest : List Lexeme)
-    : Type 0 where
-  pub front : List Lexeme
-  pub split : lexemes ≡ front ++ rest
-  pub is : IsPart front written
+pub data ReadsPart : List Lexeme → Written → List Lexeme → Type 0 where
+  part_at_front : {front rest : List Lexeme} {w : Written} → IsPart front w
+      → ReadsPart (front ++ rest) w rest
 
 -- Why nothing is read: for want of memory, or nothing of the kind is at the front.
 abbrev pub Refuses : Kind → (Tree Written → List Lexeme → Type 0) → Type 0

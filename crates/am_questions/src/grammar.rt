@@ -1,7 +1,7 @@
 //! The grammar of questions: from lexemes to a tree.
 
 ghost use Rattle.std.specs.Prelude.{◌≡◌, ◌≢◌, ◌<◌, ◌≤◌, ◌↔◌, ◌∷◌, ℕ, List, map, length, IsTrue};
-ghost use Rattle.std.specs.Prelude.{IfOk, IfErr, IfSome, IfNone};
+ghost use Rattle.std.specs.Prelude.{IfOk, IfErr, IfSome, IfNone, option_map};
 ghost use Rattle.am_universe.specs.declared.kind.Kind.TheVariants as kinds;
 ghost use Rattle.am_config.specs.Path.{path_text};
 ghost use Rattle.am_eval.specs.declared.property.Property.{Property};
@@ -10,7 +10,7 @@ ghost use Rattle.am_eval.specs.Tree as trees;
 ghost use Rattle.am_questions.specs.Lexemes as lexeme;
 ghost use Rattle.am_questions.specs.Grammar as spec;
 ghost use Rattle.am_questions.specs.Grammar.{JoinedBy, Single, operand, word_of, JoinWord};
-ghost use Rattle.am_questions.specs.Grammar.{PropertyWord, ReachWord, IsName, IsPathWord};
+ghost use Rattle.am_questions.specs.Grammar.{PropertyWord, ReachWord, name_of};
 ghost use Rattle.am_questions.specs.GrammarReading.{Reads, ReadsPart, Refuses};
 ghost use Rattle.am_questions.specs.LexemeView.{lexeme_view};
 ghost use Rattle.am_questions.specs.TreeView.{tree_view, written_view};
@@ -182,9 +182,7 @@ fn read_part<'a>(lexemes: &'a [Lexeme<'a>]) -> Option<(Written<'a>, &'a [Lexeme<
     ensures refused { IfNone result ((written : spec.Written) (rest : List lexeme.Lexeme)
         → ReadsPart (map lexeme_view lexemes.now) written rest → ⊥) }
 {
-    let [first, rest @ ..] = lexemes else {
-        return None;
-    };
+    let (first, rest) = lexemes.split_first()?;
     match first {
         Lexeme::Braces(list) => Some((Written::Braces(list), rest)),
         Lexeme::Word(word) => read_word_part(word, rest),
@@ -207,9 +205,7 @@ fn read_word_part<'a>(
     if let Some(property) = property_of(word) {
         return Some((Written::Is(property), lexemes));
     }
-    let [first, rest @ ..] = lexemes else {
-        return None;
-    };
+    let (first, rest) = lexemes.split_first()?;
     match reach_of(word) {
         Some(reach) => Some((Written::Route(reach, path_of(first)?), rest)),
         None if word == "receiver" => Some((Written::Receiver(name_of(first)?), rest)),
@@ -218,12 +214,10 @@ fn read_word_part<'a>(
 }
 
 /// The name that a lexeme is.
-fn name_of<'a>(lexeme: &'a Lexeme<'a>) -> Option<&'a str>
-    ensures taken { IfSome result (λ name. IsName (lexeme_view lexeme.now) name.now) }
-    ensures refused { IfNone result ((name : List ℕ) → IsName (lexeme_view lexeme.now) name
-        → ⊥) }
+fn name_of<'a>(first: &'a Lexeme<'a>) -> Option<&'a str>
+    ensures { option_map (λ name. name.now) result ≡ name_of (lexeme_view first.now) }
 {
-    match lexeme {
+    match first {
         Lexeme::Word(name) => Some(name),
         Lexeme::Quoted(name) => Some(name.as_str()),
         _ => None,
@@ -231,12 +225,13 @@ fn name_of<'a>(lexeme: &'a Lexeme<'a>) -> Option<&'a str>
 }
 
 /// The text of a path that a lexeme is.
-fn path_of<'a>(lexeme: &'a Lexeme<'a>) -> Option<&'a str>
-    ensures taken { IfSome result (λ text. IsPathWord (lexeme_view lexeme.now) text.now) }
-    ensures refused { IfNone result ((text : List ℕ) → IsPathWord (lexeme_view lexeme.now) text
-        → ⊥) }
+fn path_of<'a>(first: &'a Lexeme<'a>) -> Option<&'a str>
+    ensures taken { IfSome result (λ text. (lexeme_view first.now ≡ lexeme.Word text.now)
+        × ((path : List ℕ) × (path_text path ≡ text.now))) }
+    ensures refused { IfNone result ((path : List ℕ)
+        → lexeme_view first.now ≢ lexeme.Word (path_text path)) }
 {
-    match lexeme {
+    match first {
         Lexeme::Word(text) if is_path(text) => Some(text),
         _ => None,
     }

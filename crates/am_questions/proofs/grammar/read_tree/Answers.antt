@@ -16,13 +16,13 @@ pub returns-then-is_empty-clause-read : goal.returns-then-is_empty-clause-read
 returns-then-is_empty-clause-read c =
     let none = nil_from_length c.in_ok-tree.rest.now
     (eqb-true _ _ (sym c.is_empty.ensures ∙ c.if-is_empty.true)) in
-    whole_front (rw none at c.in_ok-tree.ensures.taken)
+    whole_front c.in_ok-tree.ensures.taken (rw none)
 
 pub returns-clause-refused : goal.returns-clause-refused
 returns-clause-refused c = λ _. (
   refl,
   λ tree is.
-      let same = same_read (whole_read is) c.in_ok-tree.ensures.taken in
+      let same = same_read (whole_read is) c.in_ok-tree.ensures.taken refl in
       let none : length c.in_ok-tree.rest.now ≡ 0 =
       sym (length-map c.in_ok-tree.rest.now lexeme_view) ∙ ap length (sym same.1) in
       let empty = rw none at c.is_empty.ensures in cc,
