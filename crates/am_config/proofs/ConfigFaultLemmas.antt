@@ -27,8 +27,8 @@ use Rattle.am_config.specs.ConfigReading.{read_route, read_rule, read_rules}
 use Rattle.am_json.specs.Json.{field, items_of}
 use Rattle.am_json.specs.Pointer.{Refusal, refusal_here, refusal_within, to_field}
 use Rattle.am_json.specs.Reading.{MayRefuse, Reading, accept, accept_some}
-use Rattle.am_json.specs.Reading.{as_object, read_items, reading_within, refuse_for, required_field}
-use Rattle.am_json.specs.Reading.{required_text, ◌>>=◌}
+use Rattle.am_json.specs.Reading.{as_object, read_counted, read_items, reading_within, refuse_for}
+use Rattle.am_json.specs.Reading.{required_field, required_text, ◌>>=◌}
 use Rattle.am_config.specs.declared.limits.TheConstants.{MAX_LEVELS, MAX_RECEIVERS, MAX_RULES}
 use Rattle.am_list_files.specs.MatcherFaults.{is_profile_pattern}
 use Rattle.am_config.proofs.ConfigParts.{name_says}
@@ -48,7 +48,7 @@ use Rattle.am_list_files.proofs.PatternFaultLemmas.{next_pattern}
 use Rattle.am_json.proofs.SameReadings.{items_within}
 use Rattle.am_json.proofs.SequenceLemmas.{Sequence, array_form, items_are_read, items_judged}
 use Rattle.am_json.proofs.SequenceLemmas.{next_form, required_array, required_array_gives}
-use Rattle.am_json.specs.OptionalItems.{optional_items, read_counted}
+use Rattle.am_json.specs.OptionalItems.{optional_items}
 use Rattle.am_json.proofs.OptionalArrays.{optional_array_within}
 
 -- ---- One receiver.

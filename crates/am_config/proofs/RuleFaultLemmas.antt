@@ -17,7 +17,7 @@ use Rattle.am_json.specs.Json.{field}
 use Rattle.am_json.specs.Places.{ArrayPlace, OnlyPlace, Step, array_fault, array_itself, in_field}
 use Rattle.am_json.specs.Places.{in_item, items_in_field, items_path, known_member, limit_fault}
 use Rattle.am_json.specs.Places.{object_itself, only_path, rank_of}
-use Rattle.am_json.specs.Reading.{Reading, accept, read_items, refuse_for, ◌>>=◌}
+use Rattle.am_json.specs.Reading.{Reading, accept, read_counted, read_items, refuse_for, ◌>>=◌}
 use Rattle.am_config.specs.declared.limits.TheConstants.{MAX_EQUAL_NAMES, MAX_RULES}
 use Rattle.am_list_files.specs.MatcherFaults.{is_profile_pattern, label_name_fault}
 use Rattle.am_json.proofs.FieldLemmas.{items_sequence}
@@ -30,7 +30,7 @@ use Rattle.am_json.proofs.SequenceLemmas.{Sequence, array_form, items_judged, no
 use Rattle.am_json.proofs.SequenceLemmas.{valued_judged, valued_seen, valued_sequence}
 use Rattle.am_json.proofs.OptionalArrays.{optional_array, optional_array_within}
 use Rattle.am_config.proofs.SideFaultLemmas.{IsSide, side_judges}
-use Rattle.am_json.specs.OptionalItems.{optional_array_fault, optional_items, read_counted}
+use Rattle.am_json.specs.OptionalItems.{optional_array_fault, optional_items}
 
 -- ---- The names in `equal`.
 

@@ -12,7 +12,7 @@ use Rattle.serde_json.specs.Read.{read}
 use Rattle.serde_json.proofs.OnLiterals.{serde_json_on_literals}
 use Rattle.am_json.specs.Json.{json_of}
 use Rattle.am_json.specs.Reading.{required_items, required_text, read_each, read_next_item}
-use Rattle.am_json.specs.Reading.{check_only_fields, read_boolean_or}
+use Rattle.am_json.specs.Reading.{check_only_fields, read_boolean_or, read_counted}
 use Rattle.am_config.specs.ConfigFile.{FileSaysConfig}
 use Rattle.am_config.specs.ConfigReading.{read_config, read_receivers, read_receiver_names}
 use Rattle.am_config.specs.ConfigReading.{read_next_receiver, read_route, read_route_fields}
@@ -20,7 +20,7 @@ use Rattle.am_config.specs.ConfigReading.{read_receiver, read_matchers}
 use Rattle.am_config.specs.SmallestConfig.{smallest_config_file, smallest_config}
 use Rattle.am_json.proofs.Values.{json_of_text}
 use Rattle.am_config.proofs.ConfigSays.{config_says}
-use Rattle.am_json.specs.OptionalItems.{read_counted, read_optional_array, read_optional_items}
+use Rattle.am_json.specs.OptionalItems.{read_optional_array, read_optional_items}
 
 abbrev value : Data
 value = object (member (codes "receivers")

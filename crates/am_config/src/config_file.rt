@@ -5,12 +5,10 @@ ghost use Rattle.std.specs.Prelude.{string_bytes, option_map, false};
 ghost use Rattle.serde_json.specs.Data.{Data};
 ghost use Rattle.serde_json.specs.View.{view};
 ghost use Rattle.am_universe.specs.declared.place.Place.TheVariants as places;
-ghost use Rattle.am_json.specs.Reading.{Gives, IsRefusalAt, Reading, check_only_fields, read_items};
-ghost use Rattle.am_json.specs.OptionalItems.{read_counted};
+ghost use Rattle.am_json.specs.Reading.{Gives, IsRefusalAt, Reading, check_only_fields};
+ghost use Rattle.am_json.specs.Reading.{read_counted, read_items};
 ghost use Rattle.am_config.specs.ConfigFile.{FileSaysConfig, route_fields, route_matcher_fields};
 ghost use Rattle.am_config.specs.ConfigFile.{route_count, routes_count, routes_of};
-ghost use Rattle.am_config.specs.ConfigFile.{source_matcher_fields, target_matcher_fields};
-ghost use Rattle.am_config.specs.ConfigFile.{rule_fields};
 ghost use Rattle.am_config.specs.RouteView.{route_view, names_of};
 ghost use Rattle.am_config.specs.ConfigView.{config_view, fields_view};
 ghost use Rattle.am_config.specs.ConfigReading.{read_next_receiver, read_receiver_names};
@@ -28,8 +26,8 @@ use crate::route_matchers::{MatcherFields, read_matchers};
 use crate::rule::Rule;
 use am_json::{
     ReadError, as_object, as_text, check_count, check_only_fields, field, read_boolean_or,
-    read_each_item, read_json, read_optional_items, refuse_for, required_field, required_items,
-    required_text, within_field, within_item,
+    read_json, read_optional_array, read_optional_items, refuse_for, required_field,
+    required_items, required_text, within_field, within_item,
 };
 use am_labels::Matchers;
 use am_list_files::label_name_fault;
@@ -413,64 +411,27 @@ const TARGET_FIELDS: MatcherFields<'static> = MatcherFields {
     patterns: "target_match_re",
 };
 
-#[tactic(auto, using(am_json::proofs::Readings::steps), unfolding(am_json::specs::OptionalItems::read_optional_array))]
 fn read_rules(alloc: Global, value: &Value) -> Result<Vec<Rule>, ReadError>
     ensures { Gives (λ rules. rules.items) result (read_rules (view value.now)) }
 {
-    let items = read_optional_items(alloc, value, "inhibit_rules")?;
-    within_field(alloc, "inhibit_rules", read_rule_items(alloc, items))
-}
-
-#[tactic(auto, unfolding(am_json::specs::OptionalItems::read_counted))]
-fn read_rule_items(alloc: Global, items: &[Value]) -> Result<Vec<Rule>, ReadError>
-    ensures { Gives (λ rules. rules.items) result
-        (read_counted MAX_RULES read_rule (map view items.now)) }
-{
-    check_count(alloc, MAX_RULES, items.len())?;
-    read_each_rule(alloc, items)
-}
-
-fn read_each_rule(alloc: Global, items: &[Value]) -> Result<Vec<Rule>, ReadError>
-    ensures { Gives (λ rules. rules.items) result
-        (read_items (λ _ d. read_rule d) [] (map view items.now)) }
-{
-    read_each_item(alloc, items, |item| read_rule(alloc, item))
+    read_optional_array(alloc, value, "inhibit_rules", MAX_RULES, |item| {
+        read_rule(alloc, item)
+    })
 }
 
 #[tactic(auto, using(am_json::proofs::Readings::steps), unfolding(crate::specs::ConfigReading::read_rule))]
 fn read_rule(alloc: Global, value: &Value) -> Result<Rule, ReadError>
     ensures { Gives (λ rule. rule) result (read_rule (view value.now)) }
 {
-    check_rule_fields(alloc, value)?;
-    let source = read_source(alloc, value)?;
-    let target = read_target(alloc, value)?;
+    check_only_fields(alloc, value, &RULE_FIELDS)?;
+    let source = read_matchers(alloc, SOURCE_FIELDS, false, value)?;
+    let target = read_matchers(alloc, TARGET_FIELDS, false, value)?;
     let equal = read_equal(alloc, value)?;
     Ok(Rule {
         source,
         target,
         equal,
     })
-}
-
-/// A rule has no other fields than those of the form.
-fn check_rule_fields(alloc: Global, value: &Value) -> Result<(), ReadError>
-    ensures { Gives (λ _. tt) result (check_only_fields rule_fields (view value.now)) }
-{
-    check_only_fields(alloc, value, &RULE_FIELDS)
-}
-
-fn read_source(alloc: Global, value: &Value) -> Result<Matchers, ReadError>
-    ensures { Gives (λ ms. ms) result
-        (read_matchers source_matcher_fields false (view value.now)) }
-{
-    read_matchers(alloc, SOURCE_FIELDS, false, value)
-}
-
-fn read_target(alloc: Global, value: &Value) -> Result<Matchers, ReadError>
-    ensures { Gives (λ ms. ms) result
-        (read_matchers target_matcher_fields false (view value.now)) }
-{
-    read_matchers(alloc, TARGET_FIELDS, false, value)
 }
 
 #[tactic(auto, using(am_json::proofs::Readings::steps), unfolding(am_json::specs::OptionalItems::read_optional_array))]
@@ -481,7 +442,7 @@ fn read_equal(alloc: Global, value: &Value) -> Result<Vec<String>, ReadError>
     within_field(alloc, "equal", read_equal_names(alloc, items))
 }
 
-#[tactic(auto, unfolding(am_json::specs::OptionalItems::read_counted))]
+#[tactic(auto, unfolding(am_json::specs::Reading::read_counted))]
 fn read_equal_names(alloc: Global, items: &[Value]) -> Result<Vec<String>, ReadError>
     ensures { Gives (λ names. names_of names.items) result
         (read_counted MAX_EQUAL_NAMES read_equal_name (map view items.now)) }

@@ -13,7 +13,7 @@ use Rattle.am_json.specs.OptionalItems.{AreItems, SaysItemsOrNull}
 use Rattle.am_json.specs.Pointer.{refusal_here, to_item}
 use Rattle.am_json.specs.Reading.{Reading, ◌>>=◌, accept, reading_within, read_each, as_items}
 use Rattle.am_json.specs.Reading.{check_count, read_next_item, read_items, read_item_array}
-use Rattle.am_json.specs.Reading.{read_items_or_null, Fails}
+use Rattle.am_json.specs.Reading.{read_counted, read_items_or_null, Fails}
 use Rattle.am_json.proofs.Readings.{Leads, leads_on, fails_led, fails_first, bind_ok, within_ok}
 use Rattle.am_json.proofs.Readings.{check_count_ok, check_count_fits, ok_or_some, same_read}
 use Rattle.am_json.proofs.Readings.{Decides}
@@ -189,32 +189,42 @@ module _ {A : Type 0} (Says : Data → A → Type 0) (read : Data → Reading A)
       items_read Says AlwaysFits (λ before d. read d)
       (λ before d x says fits. (decides d).reads x says) [] ds xs said (all_fit [] xs)
 
-  -- an array of at most so many
+  -- those of at most so many
   module _ (limit : ℕ) where
+    pub counted_says : (ds : List Data) (xs : List A)
+        → (read_counted limit read ds).result ≡ Ok xs
+        → (length ds ≤ limit) × AllZip Says ds xs
+    unfolding read_counted
+    counted_says ds xs h =
+        let few =
+        bind_ok ((check_count limit (length ds)).result)
+        (λ _. (read_items (λ before item. read item) [] ds).result) xs h in
+        (check_count_ok limit (length ds) few.0 few.1, each_says ds xs few.2)
+
+    pub counted_reads : (ds : List Data) (xs : List A) → length ds ≤ limit → AllZip Says ds xs
+        → (read_counted limit read ds).result ≡ Ok xs
+    unfolding read_counted
+    counted_reads ds xs few said =
+        rw (check_count_fits limit (length ds) few, each_reads ds xs said) refl
+
     array_says : (d : Data) (xs : List A) → (read_item_array limit read d).result ≡ Ok xs
         → AreItems Says limit d xs
     unfolding read_item_array
     array_says d xs h =
-        let items = bind_ok ((as_items d).result) _ xs h in
-        let few =
-        bind_ok ((check_count limit (length items.0)).result)
-        (λ _. (read_items (λ before item. read item) [] items.0).result) xs items.2 in
+        let items = bind_ok ((as_items d).result) (λ ds. (read_counted limit read ds).result) xs h in
+        let counted = counted_says items.0 xs items.2 in
         record {
           items = items.0;
           is_array = ok_or_some (items_of d) (refusal_here kinds.Shape) items.0 items.1;
-          few = check_count_ok limit (length items.0) few.0 few.1;
-          each = each_says items.0 xs few.2;
+          few = counted.0;
+          each = counted.1;
         }
 
     array_reads : (d : Data) (xs : List A) → AreItems Says limit d xs
         → (read_item_array limit read d).result ≡ Ok xs
     unfolding read_item_array
     array_reads d xs said =
-        rw (
-          said.is_array,
-          check_count_fits limit (length said.items) said.few,
-          each_reads said.items xs said.each,
-        ) refl
+        rw (said.is_array, counted_reads said.items xs said.few said.each) refl
 
     -- or `null`, which says that there are none
     or_null_says : (d : Data) (xs : List A) → (read_items_or_null limit read d).result ≡ Ok xs

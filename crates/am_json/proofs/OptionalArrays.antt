@@ -7,15 +7,15 @@ use Rattle.serde_json.specs.Data.{Data}
 use Rattle.am_universe.specs.declared.kind.Kind.{Kind}
 use Rattle.am_universe.specs.declared.kind.Kind.TheVariants as kinds
 use Rattle.am_json.specs.Json.{field, items_of}
-use Rattle.am_json.specs.OptionalItems.{HasItems, optional_items, read_counted}
+use Rattle.am_json.specs.OptionalItems.{HasItems, optional_items}
 use Rattle.am_json.specs.OptionalItems.{read_optional_array, read_optional_items}
 use Rattle.am_json.specs.Places.{if_there, items_in_field, shape_or}
 use Rattle.am_json.specs.Pointer.{refusal_here, to_field}
-use Rattle.am_json.specs.Reading.{Reading, accept_some, check_count, read_items, reading_within}
+use Rattle.am_json.specs.Reading.{Reading, accept_some, read_counted, reading_within}
 use Rattle.am_json.specs.Reading.{refuse_for, ◌>>=◌}
-use Rattle.am_json.proofs.Items.{each_reads, each_says}
+use Rattle.am_json.proofs.Items.{counted_reads, counted_says}
 use Rattle.am_json.proofs.PlaceLemmas.{Judges}
-use Rattle.am_json.proofs.Readings.{Decides, bind_ok, check_count_fits, check_count_ok}
+use Rattle.am_json.proofs.Readings.{Decides, bind_ok}
 use Rattle.am_json.proofs.Readings.{ok_or_some, same_read, within_ok}
 use Rattle.am_json.proofs.SameReadings.{then_assoc}
 use Rattle.am_json.proofs.SequenceLemmas.{Sequence, array_form, array_judged, required_array}
@@ -122,30 +122,28 @@ module _ {A : Type 0} (Says : Data → A → Type 0) (read : Data → Reading A)
     → Decides (Says d) ((read d).result)) (key : List ℕ) (limit : ℕ) where
   array_says : (d : Data) (xs : List A) → (read_optional_array key limit read d).result ≡ Ok xs
       → SaysEach Says key limit d xs
-  unfolding read_optional_array read_counted
+  unfolding read_optional_array
   array_says d xs h =
       let items =
       bind_ok ((read_optional_items key d).result)
       (λ ds. (reading_within (to_field key) (read_counted limit read ds)).result) xs h in
       let counted =
-      bind_ok ((check_count limit (length items.0)).result)
-      (λ _. (read_items (λ before e. read e) [] items.0).result) xs
+      counted_says Says read decides limit items.0 xs
       (within_ok (to_field key) ((read_counted limit read items.0).result) xs items.2) in
       record {
         items = items.0;
         is_array = optional_array_says key d items.0 items.1;
-        few = check_count_ok limit (length items.0) counted.0 counted.1;
-        each = each_says Says read decides items.0 xs counted.2;
+        few = counted.0;
+        each = counted.1;
       }
 
   array_reads : (d : Data) (xs : List A) → SaysEach Says key limit d xs
       → (read_optional_array key limit read d).result ≡ Ok xs
-  unfolding read_optional_array read_counted
+  unfolding read_optional_array
   array_reads d xs said =
       rw (
         optional_array_reads key d said.items said.is_array,
-        check_count_fits limit (length said.items) said.few,
-        each_reads Says read decides said.items xs said.each,
+        counted_reads Says read decides limit said.items xs said.few said.each,
       ) refl
 
   pub array_decides : (d : Data)

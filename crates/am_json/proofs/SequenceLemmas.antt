@@ -18,7 +18,8 @@ use Rattle.am_json.specs.Places.{in_item, items_or_null_fault, items_path, limit
 use Rattle.am_json.specs.Places.{name_of_pair, pair_name, rank_of, shape_or, step_pointer}
 use Rattle.am_json.specs.Places.{step_rank}
 use Rattle.am_json.specs.Pointer.{Refusal, refusal_here, refusal_within, to_item}
-use Rattle.am_json.specs.Reading.{Reading, accept, accept_some, read_each, read_item_array}
+use Rattle.am_json.specs.Reading.{Reading, accept, accept_some, read_counted, read_each}
+use Rattle.am_json.specs.Reading.{read_item_array}
 use Rattle.am_json.specs.Reading.{read_items, read_items_or_null, read_next_item, reading_within}
 use Rattle.am_json.specs.Reading.{refuse_for, ◌>>=◌}
 use Rattle.am_json.proofs.PlaceLemmas.{Clear, Form, IsPart, Judges, accept_judges, itself_refused}
@@ -158,7 +159,7 @@ module _ {Q : Type 0} (s : Sequence Data Q) where
         → Judges (array_form (shape_or (λ items. limit_fault limit (length items)) (items_of d))
         (unwrap_or (items_of d) []))
         (read_item_array limit read d)
-    unfolding read_item_array
+    unfolding read_item_array read_counted
     limited d all =
         required_array (λ items. limit_fault limit (length items))
         (read_items (λ _ item. read item) []) (items_of d) all

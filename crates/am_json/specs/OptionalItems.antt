@@ -8,8 +8,7 @@ use Rattle.am_universe.specs.declared.kind.Kind.{Kind}
 use Rattle.am_json.specs.Json.{field, items_of}
 use Rattle.am_json.specs.Places.{shape_or, if_there, limit_fault}
 use Rattle.am_json.specs.Pointer.{to_field}
-use Rattle.am_json.specs.Reading.{Reading, ◌>>=◌, accept, reading_within, as_items, check_count}
-use Rattle.am_json.specs.Reading.{read_items}
+use Rattle.am_json.specs.Reading.{Reading, ◌>>=◌, accept, reading_within, as_items, read_counted}
 
 -- A field has an array with these items; where the field is absent, there are none.
 abbrev pub HasItems : List ℕ → Data → List Data → Type 0
@@ -44,13 +43,7 @@ optional_items (Some d) = as_items d
 unfoldable pub read_optional_items : List ℕ → Data → Reading (List Data)
 read_optional_items key d = reading_within (to_field key) (optional_items (field key d))
 
--- The items of a list of at most so many, each read by itself, and those of the array in a field
--- that may be absent.
-unfoldable pub read_counted : {A : Type 0} → ℕ → (Data → Reading A) → List Data → Reading (List A)
-read_counted limit read items = do
-  _ ← check_count limit (length items)
-  read_items (λ before item. read item) [] items
-
+-- The items of the array in a field that may be absent, of at most so many, each read by itself.
 unfoldable pub read_optional_array : {A : Type 0} → List ℕ → ℕ → (Data → Reading A) → Data
     → Reading (List A)
 read_optional_array key limit read d = do

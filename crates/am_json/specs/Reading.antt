@@ -220,13 +220,17 @@ abbrev pub read_items : {A : Type 0} → (List A → Data → Reading A) → Lis
     → Reading (List A)
 read_items read = read_each (read_next_item read)
 
--- The items of an array of at most so many, each read by itself; and the same, where `null` says
--- that there are none.
+-- The items of a list of at most so many, each read by itself; those of an array; and the same,
+-- where `null` says that there are none.
+unfoldable pub read_counted : {A : Type 0} → ℕ → (Data → Reading A) → List Data → Reading (List A)
+read_counted limit read items = do
+  _ ← check_count limit (length items)
+  read_items (λ before item. read item) [] items
+
 unfoldable pub read_item_array : {A : Type 0} → ℕ → (Data → Reading A) → Data → Reading (List A)
 read_item_array limit read d = do
   items ← as_items d
-  _ ← check_count limit (length items)
-  read_items (λ before item. read item) [] items
+  read_counted limit read items
 
 abbrev pub read_items_or_null : {A : Type 0} → ℕ → (Data → Reading A) → Data → Reading (List A)
 read_items_or_null limit read d = if is_null d then accept [] else read_item_array limit read d

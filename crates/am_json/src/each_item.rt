@@ -4,10 +4,13 @@ ghost use Rattle.std.specs.Prelude.{◌≤◌, [], ℕ, List, length, map, IfOk}
 ghost use Rattle.std.specs.Fn.{FnReturnsAt};
 ghost use Rattle.serde_json.specs.Data.{Data};
 ghost use Rattle.serde_json.specs.View.{members_view, view};
-ghost use Rattle.am_json.specs.Reading.{Gives, Reading, read_each, read_items};
+ghost use Rattle.am_json.specs.Reading.{Gives, Reading, read_each, read_items, read_counted};
+ghost use Rattle.am_json.specs.Reading.{read_items_or_null};
+ghost use Rattle.am_json.specs.OptionalItems.{read_optional_array};
 ghost use Rattle.am_json.specs.Json.{member_list};
 
-use crate::pointer::within_item;
+use crate::json::{as_items, check_count, read_optional_items};
+use crate::pointer::{within_field, within_item};
 use crate::read_error::ReadError;
 use serde_json::{Map, Value};
 use std::alloc::Global;
@@ -34,6 +37,73 @@ pub fn read_each_item<T: Drop, F: Fn(&Value) -> Result<T, ReadError>>(
         all.push(next)?;
     }
     Ok(all)
+}
+
+/// What `read` gives of each of at most `limit` items; the refusal of more is `Limit`.
+#[tactic(auto, unfolding(crate::specs::Reading::read_counted))]
+fn read_counted<T: Drop, F: Fn(&Value) -> Result<T, ReadError>>(
+    alloc: Global,
+    items: &[Value],
+    limit: usize,
+    read: F,
+) -> Result<Vec<T>, ReadError>
+    requires { F.IsAlwaysCallable read }
+    ensures reading { (reading : Data → Reading T)
+        → ((value : _) (found : _) → FnReturnsAt F.Fn read value found
+        → Gives (λ x. x) found (reading (view value)))
+        → Gives (λ found. found.items) result
+        (read_counted limit reading (map view items.now)) }
+    ensures few { IfOk result (λ found. length found.items ≤ limit) }
+{
+    check_count(alloc, limit, items.len())?;
+    read_each_item(alloc, items, read)
+}
+
+/// What `read` gives of each of at most `limit` items of an array. The value `null` says that there
+/// are none. Beside the refusals of the items there are `Shape`, for what is neither, and `Limit`.
+#[tactic(auto, using(crate::proofs::Readings::steps), unfolding(crate::specs::Reading::read_item_array))]
+pub fn read_items_or_null<T: Drop, F: Fn(&Value) -> Result<T, ReadError>>(
+    alloc: Global,
+    value: &Value,
+    limit: usize,
+    read: F,
+) -> Result<Vec<T>, ReadError>
+    requires { F.IsAlwaysCallable read }
+    ensures reading { (reading : Data → Reading T)
+        → ((value : _) (found : _) → FnReturnsAt F.Fn read value found
+        → Gives (λ x. x) found (reading (view value)))
+        → Gives (λ found. found.items) result
+        (read_items_or_null limit reading (view value.now)) }
+    ensures few { IfOk result (λ found. length found.items ≤ limit) }
+{
+    if value.is_null() {
+        return Ok(Vec::new(alloc));
+    }
+    let items = as_items(alloc, value)?;
+    read_counted(alloc, items, limit, read)
+}
+
+/// What `read` gives of each of at most `limit` items of the array in the field of this name, and
+/// none where it is absent, as [`field`](crate::field) says. Beside the refusals of the items there
+/// are `Shape`, for what is no array, and `Limit`, both at the field.
+#[tactic(auto, using(crate::proofs::Readings::steps), unfolding(crate::specs::OptionalItems::read_optional_array))]
+pub fn read_optional_array<T: Drop, F: Fn(&Value) -> Result<T, ReadError>>(
+    alloc: Global,
+    value: &Value,
+    key: &str,
+    limit: usize,
+    read: F,
+) -> Result<Vec<T>, ReadError>
+    requires { F.IsAlwaysCallable read }
+    ensures reading { (reading : Data → Reading T)
+        → ((value : _) (found : _) → FnReturnsAt F.Fn read value found
+        → Gives (λ x. x) found (reading (view value)))
+        → Gives (λ found. found.items) result
+        (read_optional_array key.now limit reading (view value.now)) }
+    ensures few { IfOk result (λ found. length found.items ≤ limit) }
+{
+    let items = read_optional_items(alloc, value, key)?;
+    within_field(alloc, key, read_counted(alloc, items, limit, read))
 }
 
 /// What `read` makes of `first` and each of the members of an object, one behind the other, by the

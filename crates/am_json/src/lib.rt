@@ -32,7 +32,7 @@ pub use json::{
 // The items of an array, and the members of an object, one after the other.
 mod each_item;
 
-pub use each_item::{read_each_item, read_each_member};
+pub use each_item::{read_each_item, read_each_member, read_items_or_null, read_optional_array};
 
 // What holds of the definitions by themselves.
 pub mod laws;

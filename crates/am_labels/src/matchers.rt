@@ -37,6 +37,14 @@ impl Matchers {
         }
     }
 
+    /// These matchers, in their order.
+    pub fn of(matchers: Vec<Matcher>) -> Matchers
+        requires few { length matchers.items ≤ MAX_MATCHERS }
+        ensures matchers { result ≡ matchers.items }
+    {
+        Matchers { matchers }
+    }
+
     /// Adds a matcher at the end. `Limit` for one more than [`MAX_MATCHERS`]; `Memory`. After an
     /// `Err` nothing has changed.
     pub fn push(&mut self, matcher: Matcher) -> Result<(), Kind>

@@ -1,16 +1,13 @@
-ghost use Rattle.std.specs.Prelude.{◌≡◌, ◌≢◌, ◌<◌, [], ◌∷◌, ◌++◌, length};
-ghost use Rattle.std.specs.Prelude.{IfErr, OnOk, OnErr};
+ghost use Rattle.std.specs.Prelude.{◌≡◌, ◌≤◌, [], length};
 ghost use Rattle.am_labels.specs.declared.limits.TheConstants.{MAX_IMPOSSIBLE};
-ghost use Rattle.am_universe.specs.declared.kind.Kind.TheVariants as kinds;
 
 use crate::Matchers;
-use crate::limits::MAX_IMPOSSIBLE;
-use am_universe::{Kind, Universe};
+use am_universe::Universe;
 use std::alloc::Global;
 use std::marker::Model;
 
 /// A universe without the label sets that never occur: those that match one of at most
-/// [`MAX_IMPOSSIBLE`] lists of matchers.
+/// `MAX_IMPOSSIBLE` lists of matchers.
 #[derive(Drop)]
 pub struct Space {
     universe: Universe,
@@ -40,23 +37,16 @@ impl Space {
         }
     }
 
-    /// Leaves out the label sets that match a list; the empty list leaves out all. `Limit` for one
-    /// list more than [`MAX_IMPOSSIBLE`]; `Memory`. After an `Err` nothing has changed.
-    pub fn forbid(&mut self, list: Matchers) -> Result<(), Kind>
-        ensures ok { OnOk result (self.new.impossible ≡ self.old.impossible ++ list ∷ []) }
-        ensures room { OnOk result (length self.old.impossible < MAX_IMPOSSIBLE) }
-        ensures full { length self.old.impossible ≡ MAX_IMPOSSIBLE → result ≡ Err kinds.Limit }
-        ensures refused { IfErr result (λ kind. kind ≢ kinds.Memory
-            → (kind ≡ kinds.Limit) × (length self.old.impossible ≡ MAX_IMPOSSIBLE)) }
-        ensures err { OnErr result (self.new.impossible ≡ self.old.impossible) }
-        ensures labels { self.new.labels ≡ self.old.labels }
+    /// A universe without the label sets that match one of these lists; the empty list leaves out
+    /// all.
+    pub fn without(universe: Universe, impossible: Vec<Matchers>) -> Space
+        requires few { length impossible.items ≤ MAX_IMPOSSIBLE }
+        ensures labels { result.labels ≡ universe }
+        ensures impossible { result.impossible ≡ impossible.items }
     {
-        if self.impossible.len() >= MAX_IMPOSSIBLE {
-            return Err(Kind::Limit);
-        }
-        match self.impossible.push(list) {
-            Ok(()) => Ok(()),
-            Err(_) => Err(Kind::Memory),
+        Space {
+            universe,
+            impossible,
         }
     }
 

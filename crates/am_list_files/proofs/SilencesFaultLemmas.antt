@@ -27,7 +27,7 @@ use Rattle.am_list_files.specs.SilencesFaults.{silence_matcher_path, silence_mat
 use Rattle.am_list_files.specs.SilencesFaults.{silence_starts, silences_fault_at}
 use Rattle.am_list_files.specs.SilencesFaults.{silences_itself_fault, silences_path, time_fault}
 use Rattle.am_list_files.specs.SilencesFile.{FileSaysSilences, SaysSilences, Silence}
-use Rattle.am_list_files.specs.SilencesReading.{read_instant, read_next_silence_matcher, read_silence}
+use Rattle.am_list_files.specs.SilencesReading.{read_instant, read_silence, read_silence_matcher}
 use Rattle.am_list_files.specs.SilencesReading.{read_silence_matchers, read_silences}
 use Rattle.am_list_files.specs.SilencesReading.{read_silences_file, required_instant}
 use Rattle.am_list_files.specs.declared.limits.TheConstants.{MAX_SILENCES}
@@ -68,8 +68,8 @@ matchers_judge : (found : Option Data)
 unfolding read_silence_matchers
 matchers_judge found =
     required_array matchers_sequence (λ items. matcher_count_fault (length items))
-    (read_items read_next_silence_matcher []) (option_and_then items_of found)
-    (items_judged read_next_silence_matcher matchers_sequence (λ i. refl) (λ _ _. ⊤) tt
+    (read_items (λ _ d. read_silence_matcher d) []) (option_and_then items_of found)
+    (items_judged (λ _ d. read_silence_matcher d) matchers_sequence (λ i. refl) (λ _ _. ⊤) tt
     (items_in_field found) (λ _ d _ _ _ _. silence_matcher_judged d) (λ _ _ _ _ _ _. tt))
 
 -- ---- An instant.

@@ -19,7 +19,7 @@ use Rattle.am_list_files.specs.SilencesFile.{Silence, flagged_op, SaysSilenceMat
 use Rattle.am_list_files.specs.SilencesFile.{SaysInstant, SaysSilence, SaysSilences}
 use Rattle.am_list_files.specs.SilencesFaults.{matcher_count_fault}
 use Rattle.am_list_files.specs.SilencesReading.{read_label_name}
-use Rattle.am_list_files.specs.SilencesReading.{read_silence_matcher, read_next_silence_matcher}
+use Rattle.am_list_files.specs.SilencesReading.{read_silence_matcher}
 use Rattle.am_list_files.specs.SilencesReading.{read_silence_matchers, read_instant, required_instant}
 use Rattle.am_list_files.specs.SilencesReading.{read_silence, read_silences}
 use Rattle.am_list_files.specs.MatcherFaults.{check_matcher, label_name_fault}
@@ -137,7 +137,7 @@ unfolding read_silence_matchers
 matchers_say items ms h =
     let count =
     bind_ok ((refuse_for (matcher_count_fault (length items))).result)
-    (λ _. (read_items read_next_silence_matcher [] items).result) ms h in
+    (λ _. (read_items (λ _ d. read_silence_matcher d) [] items).result) ms h in
     let fits =
     count_fits items (refuse_for_ok (matcher_count_fault (length items)) count.0 count.1) in
     record {

@@ -19,14 +19,14 @@ use Rattle.am_labels.specs.Matcher.{Condition}
 use Rattle.am_labels.specs.Space.{Space}
 use Rattle.am_labels.specs.declared.limits.TheConstants.{MAX_IMPOSSIBLE}
 use Rattle.am_json.specs.Json.{field, items_of}
-use Rattle.am_json.specs.OptionalItems.{optional_array_fault, optional_items, read_counted}
+use Rattle.am_json.specs.OptionalItems.{optional_array_fault, optional_items}
 use Rattle.am_json.specs.Places.{ArrayPlace, OnlyPlace, array_itself, array_path, in_field, in_item}
 use Rattle.am_json.specs.Places.{items_in_field, known_member, limit_fault, object_itself, only_path}
 use Rattle.am_json.specs.Places.{rank_of, shape_or, text_of}
 use Rattle.am_json.specs.Pointer.{Refusal, refusal_here, to_field}
 use Rattle.am_json.specs.Reading.{MayRefuse, Reading, accept, accept_some}
-use Rattle.am_json.specs.Reading.{read_items, reading_within, refuse_for, required_items}
-use Rattle.am_json.specs.Reading.{required_text, ◌>>=◌}
+use Rattle.am_json.specs.Reading.{read_counted, read_items, reading_within, refuse_for}
+use Rattle.am_json.specs.Reading.{required_items, required_text, ◌>>=◌}
 use Rattle.am_list_files.specs.MatcherFaults.{is_profile_pattern}
 use Rattle.am_list_files.specs.UniverseFaults.{IsFirstFaultOfUniverseFile}
 use Rattle.am_list_files.specs.UniverseFaults.{UniverseFileRefusedFor}

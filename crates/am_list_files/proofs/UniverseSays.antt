@@ -1,9 +1,9 @@
 -- A value says a space exactly where reading it finds no fault, and then that space.
 use Rattle.std.proofs.Common.{◌≡◌, ℕ, ◌<◌, ◌≤◌, List, [], ◌∷◌, ◌++◌, length, Bool, true, false}
-use Rattle.std.proofs.Common.{cond, Option, Some, None, option_and_then, Result, Ok, Err, nat_le, refl}
+use Rattle.std.proofs.Common.{cond, Option, Some, None, option_and_then, Ok, nat_le, refl}
 use Rattle.std.proofs.Common.{sym, ap}
 use Rattle.std.proofs.Common.{subst, ◌∙◌, append_assoc, append-nil, length-append, arith}
-use Rattle.std.specs.Prelude.{codes, IfOk}
+use Rattle.std.specs.Prelude.{codes}
 use Rattle.std.specs.List.{AllZip, IsDistinct}
 use Rattle.std.proofs.lemmas.List.{map-append}
 use Rattle.std.proofs.lemmas.Slice.Zip.{AllZip-long}
@@ -27,8 +27,7 @@ use Rattle.am_labels.specs.Matcher.{Condition}
 use Rattle.am_labels.specs.Space.{Space}
 use Rattle.am_json.specs.Json.{field, items_of}
 use Rattle.am_json.specs.Pointer.{to_field, to_item}
-use Rattle.am_json.specs.declared.read_error.ReadError.{ReadError}
-use Rattle.am_json.specs.Reading.{Reading, ◌>>=◌, Gives, accept, reading_within, refuse_for}
+use Rattle.am_json.specs.Reading.{◌>>=◌, accept, reading_within, refuse_for}
 use Rattle.am_json.specs.Reading.{check_count}
 use Rattle.am_json.specs.Reading.{read_items, as_text, check_only_fields, required_text}
 use Rattle.am_json.specs.Reading.{required_items}
@@ -39,7 +38,7 @@ use Rattle.am_list_files.specs.UniverseFile.{read_value, read_next_value, read_v
 use Rattle.am_list_files.specs.UniverseFile.{read_next_label, read_labels, read_all_labels}
 use Rattle.am_list_files.specs.UniverseFile.{read_impossible, read_all_lists}
 use Rattle.am_list_files.specs.UniverseFile.{read_universe}
-use Rattle.am_json.proofs.Readings.{bind_ok, within_ok, fails_first, refuse_for_ok, check_count_ok}
+use Rattle.am_json.proofs.Readings.{bind_ok, within_ok, refuse_for_ok, check_count_ok}
 use Rattle.am_json.proofs.Readings.{check_count_fits, same_read, Decides}
 use Rattle.am_json.proofs.Items.{AllFit, items_say, items_read}
 use Rattle.am_json.proofs.Fields.{as_text_says, as_text_reads, only_fields_say, only_fields_read}
@@ -381,16 +380,3 @@ universe_reads d s said =
 
 pub universe_decides : (d : Data) → Decides (SaysUniverse d) ((read_universe d).result)
 universe_decides d = record { says = universe_says d; reads = universe_reads d }
-
--- ---- What a reader gives.
-
--- a space with these labels, whose lists are those that were read
-pub space_gives : (labels : List Label) (returned : Result Space ReadError)
-    (m : Reading (List (List Condition))) → Gives (λ (s : Space). s.impossible) returned m
-    → IfOk returned (λ s. s.labels ≡ labels)
-    → Gives (λ s. s) returned
-    (m >>= λ impossible. accept (record { labels = labels; impossible = impossible }))
-space_gives labels (Ok s) m gives is = rw (gives, ← is) refl
-space_gives labels (Err e) m gives is =
-    fails_first e m (λ impossible. accept (record { labels = labels; impossible = impossible }))
-    gives

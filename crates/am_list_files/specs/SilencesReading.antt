@@ -38,15 +38,11 @@ read_silence_matcher d = do
   is_equal ← read_boolean_or true (codes "isEqual") d
   read_flagged_matcher name (flagged_op is_regex is_equal) value
 
--- A matcher behind others, which it does not depend on.
-abbrev pub read_next_silence_matcher : List Condition → Data → Reading Condition
-read_next_silence_matcher before d = read_silence_matcher d
-
 -- The matchers of a silence.
 unfoldable pub read_silence_matchers : List Data → Reading (List Condition)
 read_silence_matchers items = do
   _ ← refuse_for (matcher_count_fault (length items))
-  read_items read_next_silence_matcher [] items
+  read_items (λ before item. read_silence_matcher item) [] items
 
 -- The instant that a text says.
 abbrev pub read_instant : List ℕ → Reading ℤ

@@ -1,13 +1,12 @@
 //! Reading an export of alerts.
 
-ghost use Rattle.std.specs.Prelude.{◌≤◌, [], length, map, IfOk, IfErr};
+ghost use Rattle.std.specs.Prelude.{IfOk, IfErr};
 ghost use Rattle.std.specs.FinMap as finite;
 ghost use Rattle.serde_json.specs.View.{view, members_view};
 ghost use Rattle.am_universe.specs.declared.place.Place.TheVariants as places;
 ghost use Rattle.am_universe.specs.LabelSet.{with_value};
 ghost use Rattle.am_json.specs.Json.{member_list};
-ghost use Rattle.am_json.specs.Reading.{Gives, IsRefusalAt, accept, read_each, read_items};
-ghost use Rattle.am_json.specs.Reading.{read_item_array};
+ghost use Rattle.am_json.specs.Reading.{Gives, IsRefusalAt, accept, read_each};
 ghost use Rattle.am_list_files.specs.AlertsFile.{FileSaysAlerts};
 ghost use Rattle.am_list_files.specs.AlertsFaults.{IsFirstFaultOfAlertsFile};
 ghost use Rattle.am_list_files.specs.AlertsReading.{read_next_alert_label, read_alert_labels};
@@ -17,7 +16,7 @@ use crate::alert::Alerts;
 use crate::limits::{MAX_ALERT_LABELS, MAX_ALERTS};
 use crate::matcher::read_named_text;
 use am_json::{
-    ReadError, as_items, as_object, check_count, read_each_item, read_each_member, read_json,
+    ReadError, as_object, check_count, read_each_member, read_items_or_null, read_json,
     required_field, within_field,
 };
 use am_universe::{Fault, LabelSet, Place};
@@ -58,29 +57,8 @@ fn read_alerts_file(alloc: Global, bytes: &[u8]) -> Result<Alerts, ReadError>
 fn read_alerts_value(alloc: Global, value: &Value) -> Result<Alerts, ReadError>
     ensures { Gives (λ alerts. alerts) result (read_alerts (view value.now)) }
 {
-    if value.is_null() {
-        return Ok(Alerts::none(alloc));
-    }
-    read_alert_array(alloc, value)
-}
-
-#[tactic(auto, using(am_json::proofs::Readings::steps), unfolding(am_json::specs::Reading::read_item_array))]
-fn read_alert_array(alloc: Global, value: &Value) -> Result<Alerts, ReadError>
-    ensures { Gives (λ alerts. alerts) result
-        (read_item_array MAX_ALERTS read_alert (view value.now)) }
-{
-    let items = as_items(alloc, value)?;
-    check_count(alloc, MAX_ALERTS, items.len())?;
-    let alerts = read_each_alert(alloc, items)?;
+    let alerts = read_items_or_null(alloc, value, MAX_ALERTS, |item| read_alert(alloc, item))?;
     Ok(Alerts { alerts })
-}
-
-fn read_each_alert(alloc: Global, items: &[Value]) -> Result<Vec<LabelSet>, ReadError>
-    ensures reading { Gives (λ alerts. alerts.items) result
-        (read_items (λ _ d. read_alert d) [] (map view items.now)) }
-    ensures few { IfOk result (λ alerts. length alerts.items ≤ length items.now) }
-{
-    read_each_item(alloc, items, |item| read_alert(alloc, item))
 }
 
 #[tactic(auto, using(am_json::proofs::Readings::steps), unfolding(crate::specs::AlertsReading::read_alert))]

@@ -1,27 +1,24 @@
 //! Reading an export of silences.
 
-ghost use Rattle.std.specs.Prelude.{◌≡◌, ◌≢◌, ◌<◌, ◌≤◌, [], ◌∷◌, ◌++◌, map, length, IfOk, IfErr};
-ghost use Rattle.std.specs.Prelude.{OnOk};
+ghost use Rattle.std.specs.Prelude.{◌≡◌, ◌≢◌, ◌≤◌, [], map, length, IfOk, IfErr};
 ghost use Rattle.serde_json.specs.View.{view};
 ghost use Rattle.am_universe.specs.declared.place.Place.TheVariants as places;
-ghost use Rattle.am_json.specs.declared.read_error.ReadError.TheVariants as errors;
-ghost use Rattle.am_json.specs.Reading.{Gives, IsRefusalAt, read_items, read_item_array};
+ghost use Rattle.am_json.specs.Reading.{Gives, IsRefusalAt, read_items};
 ghost use Rattle.am_list_files.specs.SilencesFile.{FileSaysSilences, flagged_op};
 ghost use Rattle.am_list_files.specs.SilencesFaults.{SilencesFileRefusedFor, matcher_count_fault};
 ghost use Rattle.am_list_files.specs.SilencesReading.{read_label_name, read_flagged_matcher};
-ghost use Rattle.am_list_files.specs.SilencesReading.{read_silence_matcher};
-ghost use Rattle.am_list_files.specs.SilencesReading.{read_next_silence_matcher};
-ghost use Rattle.am_list_files.specs.SilencesReading.{read_silence_matchers, read_instant};
-ghost use Rattle.am_list_files.specs.SilencesReading.{required_instant, read_silence};
-ghost use Rattle.am_list_files.specs.SilencesReading.{read_silences, read_silences_file};
+ghost use Rattle.am_list_files.specs.SilencesReading.{read_silence_matcher, read_silence_matchers};
+ghost use Rattle.am_list_files.specs.SilencesReading.{read_instant, required_instant};
+ghost use Rattle.am_list_files.specs.SilencesReading.{read_silence, read_silences};
+ghost use Rattle.am_list_files.specs.SilencesReading.{read_silences_file};
 
 use crate::instant::parse_instant;
 use crate::limits::MAX_SILENCES;
 use crate::matcher::{label_name_fault, new_matcher};
 use crate::silence::{Silence, Silences};
 use am_json::{
-    ReadError, as_items, as_object, check_count, read_boolean_or, read_each_item, read_json,
-    refuse_for, required_items, required_text, within_field, within_item,
+    ReadError, as_object, read_boolean_or, read_each_item, read_items_or_null, read_json,
+    refuse_for, required_items, required_text, within_field,
 };
 use am_labels::limits::MAX_MATCHERS;
 use am_labels::{Matcher, Matchers, Op};
@@ -69,28 +66,9 @@ fn read_silences_file(alloc: Global, bytes: &[u8]) -> Result<Silences, ReadError
 fn read_silences_value(alloc: Global, value: &Value) -> Result<Silences, ReadError>
     ensures { Gives (λ s. s) result (read_silences (view value.now)) }
 {
-    if value.is_null() {
-        return Ok(Silences::none(alloc));
-    }
-    read_silence_array(alloc, value)
-}
-
-#[tactic(auto, using(am_json::proofs::Readings::steps), unfolding(am_json::specs::Reading::read_item_array))]
-fn read_silence_array(alloc: Global, value: &Value) -> Result<Silences, ReadError>
-    ensures { Gives (λ s. s) result (read_item_array MAX_SILENCES read_silence (view value.now)) }
-{
-    let items = as_items(alloc, value)?;
-    check_count(alloc, MAX_SILENCES, items.len())?;
-    let silences = read_each_silence(alloc, items)?;
+    let read = |item: &Value| read_silence(alloc, item);
+    let silences = read_items_or_null(alloc, value, MAX_SILENCES, read)?;
     Ok(Silences { silences })
-}
-
-fn read_each_silence(alloc: Global, items: &[Value]) -> Result<Vec<Silence>, ReadError>
-    ensures reading { Gives (λ silences. silences.items) result
-        (read_items (λ _ d. read_silence d) [] (map view items.now)) }
-    ensures few { IfOk result (λ silences. length silences.items ≤ length items.now) }
-{
-    read_each_item(alloc, items, |item| read_silence(alloc, item))
 }
 
 #[tactic(auto, using(am_json::proofs::Readings::steps), unfolding(crate::specs::SilencesReading::read_silence))]
@@ -133,30 +111,10 @@ fn matcher_count_fault(count: usize) -> Option<Kind>
 fn read_each_silence_matcher(alloc: Global, items: &[Value]) -> Result<Matchers, ReadError>
     requires { length items.now ≤ MAX_MATCHERS }
     ensures { Gives (λ ms. ms) result
-        (read_items read_next_silence_matcher [] (map view items.now)) }
+        (read_items (λ _ d. read_silence_matcher d) [] (map view items.now)) }
 {
-    let mut matchers = Matchers::empty(alloc);
-    for item in items {
-        let found = read_silence_matcher(alloc, item);
-        let matcher = within_item(alloc, matchers.len(), found)?;
-        push(&mut matchers, matcher)?;
-    }
-    Ok(matchers)
-}
-
-/// Adds a matcher where there is room. It fails only where memory ran out.
-fn push(matchers: &mut Matchers, matcher: Matcher) -> Result<(), ReadError>
-    requires { length matchers.old < MAX_MATCHERS }
-    ensures ok { OnOk result (matchers.new ≡ matchers.old ++ matcher ∷ []) }
-    ensures memory { IfErr result (λ e. e ≡ errors.Memory) }
-{
-    match matchers.push(matcher) {
-        Ok(()) => Ok(()),
-        Err(kind) => {
-            prove!(kind == Kind::Memory);
-            Err(ReadError::Memory)
-        }
-    }
+    let matchers = read_each_item(alloc, items, |item| read_silence_matcher(alloc, item))?;
+    Ok(Matchers::of(matchers))
 }
 
 #[tactic(auto, using(am_json::proofs::Readings::steps), unfolding(crate::specs::SilencesReading::read_silence_matcher))]

@@ -11,7 +11,6 @@ ghost use Rattle.am_universe.specs.Universe.{label_fault};
 ghost use Rattle.am_universe.specs.UniverseView.{label_of, texts_of};
 ghost use Rattle.am_json.specs.Pointer.{to_item};
 ghost use Rattle.am_json.specs.Reading.{Gives, IsRefusalAt, reading_within, read_items};
-ghost use Rattle.am_json.specs.OptionalItems.{read_counted};
 ghost use Rattle.am_json.specs.Json.{field};
 ghost use Rattle.am_json.specs.Places.{items_in_field};
 ghost use Rattle.am_list_files.specs.UniverseFile.{FileSaysUniverse, read_value, read_next_value};
@@ -24,7 +23,7 @@ ghost use Rattle.am_list_files.specs.MatcherTexts.{read_matcher_text};
 ghost use Rattle.am_list_files.specs.UniverseFaults.{UniverseFileRefusedFor};
 
 use am_json::{
-    ReadError, as_text, check_count, check_only_fields, field, read_json, read_optional_items,
+    ReadError, as_text, check_count, check_only_fields, field, read_json, read_optional_array,
     refuse_for, required_items, required_text, within_field, within_item,
 };
 use am_labels::limits::MAX_IMPOSSIBLE;
@@ -97,7 +96,8 @@ fn read_universe_object(alloc: Global, value: &Value) -> Result<Space, ReadError
 {
     check_only_fields(alloc, value, &["labels", "impossible"])?;
     let universe = read_all_labels(alloc, value)?;
-    read_all_lists(alloc, universe, value)
+    let impossible = read_all_lists(alloc, value)?;
+    Ok(Space::without(universe, impossible))
 }
 
 // ---- The labels.
@@ -253,55 +253,13 @@ fn owned(alloc: Global, value: Option<&str>) -> Result<Option<String>, AllocErro
 
 // ---- The lists that are impossible.
 
-/// The space of these labels, without the lists of the file.
-#[tactic(auto, using(am_json::proofs::Readings::steps), unfolding(am_json::specs::OptionalItems::read_optional_array))]
-fn read_all_lists(alloc: Global, universe: Universe, value: &Value) -> Result<Space, ReadError>
-    ensures lists { Gives (λ s. s.impossible) result (read_all_lists (view value.now)) }
-    ensures labels { IfOk result (λ s. s.labels ≡ universe) }
+fn read_all_lists(alloc: Global, value: &Value) -> Result<Vec<Matchers>, ReadError>
+    ensures reading { Gives (λ lists. lists.items) result (read_all_lists (view value.now)) }
+    ensures few { IfOk result (λ lists. length lists.items ≤ MAX_IMPOSSIBLE) }
 {
-    let items = read_optional_items(alloc, value, "impossible")?;
-    within_field(alloc, "impossible", read_lists(alloc, universe, items))
-}
-
-#[tactic(auto, unfolding(am_json::specs::OptionalItems::read_counted))]
-fn read_lists(alloc: Global, universe: Universe, items: &[Value]) -> Result<Space, ReadError>
-    ensures lists { Gives (λ s. s.impossible) result
-        (read_counted MAX_IMPOSSIBLE read_impossible (map view items.now)) }
-    ensures labels { IfOk result (λ s. s.labels ≡ universe) }
-{
-    check_count(alloc, MAX_IMPOSSIBLE, items.len())?;
-    read_each_list(alloc, universe, items)
-}
-
-fn read_each_list(alloc: Global, universe: Universe, items: &[Value]) -> Result<Space, ReadError>
-    requires { length items.now ≤ MAX_IMPOSSIBLE }
-    ensures lists { Gives (λ s. s.impossible) result
-        (read_items (λ _ d. read_impossible d) [] (map view items.now)) }
-    ensures labels { IfOk result (λ s. s.labels ≡ universe) }
-{
-    let mut space = Space::of(alloc, universe);
-    for item in items {
-        let found = read_impossible(alloc, item);
-        let list = within_item(alloc, space.impossible().len(), found)?;
-        forbid(&mut space, list)?;
-    }
-    Ok(space)
-}
-
-/// Leaves a list out where there is room for it. It fails only where memory ran out.
-fn forbid(space: &mut Space, list: Matchers) -> Result<(), ReadError>
-    requires { length space.old.impossible < MAX_IMPOSSIBLE }
-    ensures ok { OnOk result (space.new.impossible ≡ space.old.impossible ++ list ∷ []) }
-    ensures labels { space.new.labels ≡ space.old.labels }
-    ensures memory { IfErr result (λ e. e ≡ errors.Memory) }
-{
-    match space.forbid(list) {
-        Ok(()) => Ok(()),
-        Err(kind) => {
-            prove!(kind == Kind::Memory);
-            Err(ReadError::Memory)
-        }
-    }
+    read_optional_array(alloc, value, "impossible", MAX_IMPOSSIBLE, |item| {
+        read_impossible(alloc, item)
+    })
 }
 
 #[tactic(auto, unfolding(crate::specs::UniverseFile::read_impossible))]

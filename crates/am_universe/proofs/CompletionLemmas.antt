@@ -1,6 +1,6 @@
 -- The whole choices that begin with a prefix, as a walk from label to label meets them.
 use Rattle.std.proofs.Common.{◌≡◌, ◌≢◌, ℕ, zero, suc, ◌+◌, ◌<◌, ◌≤◌, Bool, true, false, cond, List, [], ◌∷◌, ◌++◌, length, map, slice_index, nat_lt, nat_eq, ◌&&◌, inl, inr, ap, ◌∙◌, refl, arith, eq-eqb}
-use Rattle.std.specs.List.{range_with_len, flat_map, AllByRecursion, filter, starts_with}
+use Rattle.std.specs.List.{range_with_len, flat_map, filter, starts_with}
 use Rattle.std.proofs.lemmas.List.{append-nil, map-append}
 use Rattle.std.proofs.lemmas.List.Elements.{filter-append}
 use Rattle.std.proofs.lemmas.Bool.{and_parts, ne_eqb}
@@ -114,9 +114,3 @@ admits_next (size ∷ sizes) (q ∷ prefix) p a h k =
     let parts = and_parts (nat_lt q size) (admits sizes prefix) a in
     let rest = admits_next sizes prefix p parts.1 (omega arith) k in
     rw (parts.0, rest) refl
-
--- ---- Every choice of the list is whole.
-
-all_cond : {X : Type 0} (P : X → Type 0) (b : Bool) (x : X) (xs : List X) → P x → AllByRecursion P xs → AllByRecursion P (cond b (x ∷ xs) xs)
-all_cond P true x xs h all = (h, all)
-all_cond P false x xs h all = all
