@@ -1,7 +1,7 @@
 -- What a configuration does not have: no alert ends there.
 use Rattle.std.proofs.Common.{◌≡◌, ◌≤◌, ◌<◌, ℕ, zero, suc, List, [], ◌∷◌, ◌++◌, length}
 use Rattle.std.proofs.Common.{Some, None, true, refl, sym, subst, ◌∙◌, arith}
-use Rattle.std.specs.Prelude.{slice_get, IsFalse, nat_lt}
+use Rattle.std.specs.Prelude.{slice_get, IsTrue, IsFalse, nat_lt}
 use Rattle.std.proofs.lemmas.Bool.{and_parts, false_from_ne_true, ltb-true}
 use Rattle.std.proofs.lemmas.Option.{option_and_then_some, same_Some}
 use Rattle.am_universe.specs.LabelSet.{LabelMap}
@@ -10,9 +10,10 @@ use Rattle.am_config.specs.ConfigFile.{IsConfig, children_of, has_receivers_belo
 use Rattle.am_config.specs.ConfigFile.{have_receivers_below}
 use Rattle.am_config.specs.Path.{list_of, route_at}
 use Rattle.am_eval.specs.World.{World}
+use Rattle.am_eval.specs.declared.reach.Reach.{Reach}
 use Rattle.am_eval.specs.declared.reach.Reach.TheVariants.{Ends, Enters}
 use Rattle.am_eval.specs.Question.{Receiver, Route, holds_of}
-use Rattle.am_eval.proofs.EndLaws.{at_routes, exactly}
+use Rattle.am_eval.proofs.EndLaws.{at_routes, exactly, itself}
 use Rattle.am_eval.proofs.SimpleParts.{ends_there, goes_there}
 
 -- a route below another is on the way to it
@@ -26,21 +27,22 @@ on_the_way (p ∷ path) below t u e =
     let r = on_the_way path below child u further in
     (r.0, rw is r.1))
 
-pub no_end_there : (w : World) (s : LabelMap) (path : List ℕ) → route_at w.config.root path ≡ None
-    → IsFalse (holds_of w (Route Ends path) s)
-no_end_there w s path none = false_from_ne_true (holds_of w (Route Ends path) s) (λ h.
-    let m = at_routes w.config s path ((ends_there w s path).0 h) in
-    let e : None ≡ Some m.0 = sym none ∙ m.1 in
-    cc)
-
-pub no_end_below : (w : World) (s : LabelMap) (path : List ℕ) → route_at w.config.root path ≡ None
-    → IsFalse (holds_of w (Route Enters path) s)
-no_end_below w s path none = false_from_ne_true (holds_of w (Route Enters path) s) (λ h.
+no_way_there : (w : World) (s : LabelMap) (path : List ℕ) → route_at w.config.root path ≡ None
+    → IsTrue (holds_of w (Route Enters path) s) → ⊥
+no_way_there w s path none h =
     let b = (exactly w s path).0 h in
     let m = at_routes w.config s (path ++ b.0) ((ends_there w s (path ++ b.0)).0 b.1) in
     let r = on_the_way path b.0 w.config.root m.0 m.1 in
     let e : None ≡ Some r.0 = sym none ∙ r.1 in
-    cc)
+    cc
+
+pub no_route_there : (w : World) (s : LabelMap) (reach : Reach) (path : List ℕ)
+    → route_at w.config.root path ≡ None → IsFalse (holds_of w (Route reach path) s)
+no_route_there w s Ends path none =
+    false_from_ne_true (holds_of w (Route Ends path) s)
+    (λ h. no_way_there w s path none (itself w s path h))
+no_route_there w s Enters path none =
+    false_from_ne_true (holds_of w (Route Enters path) s) (no_way_there w s path none)
 
 -- ---- Receivers.
 

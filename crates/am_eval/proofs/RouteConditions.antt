@@ -1,10 +1,11 @@
 -- An alert ends at a route, enters it, or goes to a receiver, exactly where the ways there say so.
 use Rattle.std.proofs.Common.{◌≡◌, ◌↔◌, ℕ, List, [], ◌∷◌, ◌++◌, map, take, Bool, true, false}
-use Rattle.std.proofs.Common.{◌&&◌, ◌||◌, not, cond, Option, Some, None, refl, sym, ap}
+use Rattle.std.proofs.Common.{◌&&◌, ◌||◌, not, cond, Option, Some, None, refl, sym, ap, subst}
 use Rattle.std.proofs.Common.{◌∙◌}
 use Rattle.std.specs.Prelude.{slice_get, IsTrue, IsFalse, ◌==◌}
 use Rattle.std.specs.List.{AllByRecursion, filter, list_all, list_any}
 use Rattle.std.proofs.lemmas.Bool.{and_parts, and_from, eqb-true, eq-eqb, not-true}
+use Rattle.std.proofs.lemmas.List.{append-nil}
 use Rattle.std.proofs.lemmas.List.Folds.{list_all-map}
 use Rattle.am_universe.specs.LabelSet.{LabelMap}
 use Rattle.am_universe.specs.Text.{same_text}
@@ -142,31 +143,7 @@ further s reach t p path =
           (and_from (list_all holds before) rest ((passed s (take p children)).0 h.3) goes),
     )
 
--- ---- To the end.
-
-ends_by : (s : LabelMap) (t : RouteTree) (path : List ℕ)
-    → EndsThere s t path ↔ GoesDown s Ends t path
-ends_by s t [] =
-    let none = no_child s t in
-    let at = there s Ends t in
-    (λ h. at.1 (h.0, none.0 h.1), λ h. let parts = at.0 h in (parts.0, none.1 parts.1))
-ends_by s t (p ∷ path) =
-    let goes = further s Ends t p path in (
-      λ h. goes.1 (h.0, h.1, h.2, h.3, (ends_by s h.1 path).0 h.4),
-      λ h. let on = goes.0 h in (on.0, on.1, on.2, on.3, (ends_by s on.1 path).1 on.4),
-    )
-
-pub end_condition : (w : World) (s : LabelMap) (path : List ℕ)
-    → holds_of w (Route Ends path) s
-    ≡ some_way_holds (literal_holds s) (ways_to_reach w.config Ends path)
-end_condition w s path =
-    let root = w.config.root in
-    same_test (holds_of w (Route Ends path) s)
-    (some_way_holds (literal_holds s) (ways_to_reach w.config Ends path))
-    (through (ends_there w s path) (ends_exactly s root path))
-    (let by = ends_by s root path in (λ h. by.1 h, λ h. by.0 h))
-
--- ---- Into a route.
+-- ---- To a route.
 
 end_of_matched : (s : LabelMap) (t : RouteTree) → IsTrue (all_hold s (matchers_of t))
     → (path : List ℕ) × EndsThere s t path
@@ -179,37 +156,62 @@ matched_at_end : (s : LabelMap) (t : RouteTree) (path : List ℕ) → EndsThere 
 matched_at_end s t [] h = h.0
 matched_at_end s t (p ∷ path) h = h.0
 
-enters_by : (s : LabelMap) (t : RouteTree) (path : List ℕ)
-    → ((below : List ℕ) × EndsThere s t (path ++ below)) ↔ GoesDown s Enters t path
-enters_by s t [] =
-    let at = there s Enters t in (
-      λ h. at.1 (matched_at_end s t h.0 h.1, refl),
-      λ h. end_of_matched s t (at.0 h).0,
+-- an alert reaches a route where it ends at it, or also below it
+abbrev MayBeBelow : Reach → List ℕ → Type 0
+MayBeBelow Ends below = below ≡ []
+MayBeBelow Enters below = Unit {0}
+
+abbrev ReachesThere : LabelMap → Reach → RouteTree → List ℕ → Type 0
+ReachesThere s reach t path =
+    (below : List ℕ) × MayBeBelow reach below × EndsThere s t (path ++ below)
+
+at_route : (s : LabelMap) (reach : Reach) (t : RouteTree)
+    → ReachesThere s reach t [] ↔ GoesDown s reach t []
+at_route s Ends t =
+    let none = no_child s t in
+    let at = there s Ends t in (
+      λ h. let end = subst (EndsThere s t) h.1 h.2 in at.1 (end.0, none.0 end.1),
+      λ h. let parts = at.0 h in ([], refl, (parts.0, none.1 parts.1)),
     )
-enters_by s t (p ∷ path) =
-    let goes = further s Enters t p path in (
-      λ h.
-          let on = h.1 in
-          goes.1 (on.0, on.1, on.2, on.3, (enters_by s on.1 path).0 (h.0, on.4)),
-      λ h.
-          let on = goes.0 h in
-          let end = (enters_by s on.1 path).1 on.4 in
-          (end.0, (on.0, on.1, on.2, on.3, end.1)),
+at_route s Enters t =
+    let at = there s Enters t in (
+      λ h. at.1 (matched_at_end s t h.0 h.2, refl),
+      λ h. let end = end_of_matched s t (at.0 h).0 in (end.0, tt, end.1),
     )
 
-pub entry_condition : (w : World) (s : LabelMap) (path : List ℕ)
-    → holds_of w (Route Enters path) s
-    ≡ some_way_holds (literal_holds s) (ways_to_reach w.config Enters path)
-entry_condition w s path =
+reached_by : (s : LabelMap) (reach : Reach) (t : RouteTree) (path : List ℕ)
+    → ReachesThere s reach t path ↔ GoesDown s reach t path
+reached_by s reach t [] = at_route s reach t
+reached_by s reach t (p ∷ path) =
+    let goes = further s reach t p path in (
+      λ h.
+          let on = h.2 in
+          goes.1 (on.0, on.1, on.2, on.3, (reached_by s reach on.1 path).0 (h.0, h.1, on.4)),
+      λ h.
+          let on = goes.0 h in
+          let end = (reached_by s reach on.1 path).1 on.4 in
+          (end.0, end.1, (on.0, on.1, on.2, on.3, end.2)),
+    )
+
+reached : (w : World) (s : LabelMap) (reach : Reach) (path : List ℕ)
+    → IsTrue (holds_of w (Route reach path) s) ↔ ReachesThere s reach w.config.root path
+reached w s Ends path =
     let root = w.config.root in
-    let by = enters_by s root path in
+    let end = through (ends_there w s path) (ends_exactly s root path) in (
+      λ h. ([], refl, rw append-nil (end.0 h)),
+      λ h. end.1 (rw (h.1, append-nil) at h.2),
+    )
+reached w s Enters path =
     let end = λ (below : List ℕ).
-    through (ends_there w s (path ++ below)) (ends_exactly s root (path ++ below)) in
-    same_test (holds_of w (Route Enters path) s)
-    (some_way_holds (literal_holds s) (ways_to_reach w.config Enters path))
-    (through (exactly w s path)
-    (λ h. (h.0, (end h.0).0 h.1), λ h. (h.0, (end h.0).1 h.1)))
-    (λ h. by.1 h, λ h. by.0 h)
+    through (ends_there w s (path ++ below)) (ends_exactly s w.config.root (path ++ below)) in
+    through (exactly w s path) (λ h. (h.0, tt, (end h.0).0 h.1), λ h. (h.0, (end h.0).1 h.2))
+
+pub route_condition : (w : World) (s : LabelMap) (reach : Reach) (path : List ℕ)
+    → holds_of w (Route reach path) s
+    ≡ some_way_holds (literal_holds s) (ways_to_reach w.config reach path)
+route_condition w s reach path =
+    let by = reached_by s reach w.config.root path in
+    same_test _ _ (reached w s reach path) (λ h. by.1 h, λ h. by.0 h)
 
 -- ---- To a receiver.
 
@@ -243,5 +245,5 @@ pub receiver_condition : (w : World) (s : LabelMap) (receiver : ℕ)
     ≡ some_way_holds (literal_holds s) (ways_to_receiver w.config receiver)
 receiver_condition w s receiver =
     let paths = paths_to receiver w.config.root in
-    goes_by_ends s w.config receiver ∙ (λ i. list_any (λ path. end_condition w s path i) paths)
+    goes_by_ends s w.config receiver ∙ (λ i. list_any (λ path. route_condition w s Ends path i) paths)
     ∙ sym (some_way-joined (literal_holds s) (ways_to_reach w.config Ends) paths)

@@ -24,6 +24,7 @@ ghost use Rattle.am_eval.specs.declared.limits.TheConstants.{MAX_PAIRS};
 ghost use Rattle.am_eval.specs.declared.pair.Pair.{Pair};
 ghost use Rattle.am_eval.specs.Tree.{Not, And, Or};
 ghost use Rattle.am_eval.specs.declared.property.Property.TheVariants.{Any, Silenced, Inhibited};
+ghost use Rattle.am_eval.specs.declared.reach.Reach.{Reach};
 ghost use Rattle.am_eval.specs.declared.reach.Reach.TheVariants.{Ends, Enters};
 ghost use Rattle.am_eval.specs.Question.{Simple, Is, Receiver, Route, Braces, holds_of};
 ghost use Rattle.am_eval.specs.Question.{Question, satisfies, answers, is_answer};
@@ -144,10 +145,8 @@ pub fn an_example_of_ends_and_enters()
 pub fn what_is_not_there_is_false()
     ensures receiver { (w : World) (s : LabelMap) (receiver : ℕ) → IsConfig w.config
         → length w.config.receivers ≤ receiver → IsFalse (holds_of w (Receiver receiver) s) }
-    ensures ends { (w : World) (s : LabelMap) (path : List ℕ)
-        → route_at w.config.root path ≡ None → IsFalse (holds_of w (Route Ends path) s) }
-    ensures enters { (w : World) (s : LabelMap) (path : List ℕ)
-        → route_at w.config.root path ≡ None → IsFalse (holds_of w (Route Enters path) s) }
+    ensures route { (w : World) (s : LabelMap) (reach : Reach) (path : List ℕ)
+        → route_at w.config.root path ≡ None → IsFalse (holds_of w (Route reach path) s) }
 {}
 
 /// `enters` is true of a path exactly where a route is an end that the path leads to or through.
