@@ -1,6 +1,6 @@
 -- The simple parts of a tree, from left to right: what they mean, and the first that is refused.
-use Rattle.std.proofs.Common.{◌≤◌, ℕ, length, inr}
-use Rattle.std.proofs.Common.{◌≢◌, Result, Ok, Err, IfErr, List, [], ◌∷◌, ◌++◌, ap, sym, ◌∙◌, refl, append_assoc}
+use Rattle.std.proofs.Common.{◌≤◌, ℕ, length, inl, inr, ◌≢◌, Result, Ok, Err, IfErr, List, [], ◌∷◌}
+use Rattle.std.proofs.Common.{◌++◌, arith}
 use Rattle.std.specs.List.{AllByRecursion}
 use Rattle.am_universe.specs.declared.kind.Kind.{Kind}
 use Rattle.am_universe.specs.declared.kind.Kind.TheVariants as kinds
@@ -35,32 +35,31 @@ pub alone_if_refused : {A : Type 0} (c : Configuration) (written : Written) (res
     → IfErr result (λ kind. kind ≢ kinds.Memory → PartRefusedFor c written kind)
     → IfErr result (λ kind. kind ≢ kinds.Memory → PartsRefusedFor c (written ∷ []) kind)
 alone_if_refused c written (Ok x) h = tt
-alone_if_refused c written (Err kind) h = λ other.
-    record { before = []; part = written; after = []; among = refl; meant = tt; refused = h other }
+alone_if_refused c written (Err kind) h = λ other. inl (h other)
 
 -- a part among the first
 pub left_refused : (c : Configuration) (xs ys : List Written) (kind : Kind)
     → PartsRefusedFor c xs kind → PartsRefusedFor c (xs ++ ys) kind
-left_refused c xs ys kind h = record {
-  before = h.before;
-  part = h.part;
-  after = h.after ++ ys;
-  among = ap (λ zs. zs ++ ys) h.among ∙ append_assoc h.before (h.part ∷ h.after) ys;
-  meant = h.meant;
-  refused = h.refused;
-}
+left_refused c [] ys kind h = absurd h
+left_refused c (x ∷ xs) ys kind (inl here) = inl here
+left_refused c (x ∷ xs) ys kind (inr h) = inr (h.0, left_refused c xs ys kind h.1)
 
 -- a part behind those that mean something
 pub right_refused : (c : Configuration) (xs ys : List Written) (kind : Kind)
     → AllByRecursion (IsMeant c) xs → PartsRefusedFor c ys kind → PartsRefusedFor c (xs ++ ys) kind
-right_refused c xs ys kind meant h = record {
-  before = xs ++ h.before;
-  part = h.part;
-  after = h.after;
-  among = ap (λ zs. xs ++ zs) h.among ∙ sym (append_assoc xs h.before (h.part ∷ h.after));
-  meant = all_joined (IsMeant c) xs h.before meant h.meant;
-  refused = h.refused;
-}
+right_refused c [] ys kind meant h = h
+right_refused c (x ∷ xs) ys kind meant h = inr (meant.0, right_refused c xs ys kind meant.1 h)
+
+-- no part is refused as what could not be written
+part_unwritten : (c : Configuration) (w : Written) (kind : Kind) → PartRefusedFor c w kind
+    → kind ≢ kinds.Write
+part_unwritten c w kind refused = grind (arith, refused)
+
+pub parts_unwritten : (c : Configuration) (parts : List Written) (kind : Kind)
+    → PartsRefusedFor c parts kind → kind ≢ kinds.Write
+parts_unwritten c [] kind refused = absurd refused
+parts_unwritten c (w ∷ parts) kind (inl refused) = part_unwritten c w kind refused
+parts_unwritten c (w ∷ parts) kind (inr refused) = parts_unwritten c parts kind refused.1
 
 -- what the parts of a tree are refused for, its text is refused for
 pub text_if_parts_refused : {A : Type 0} (c : Configuration) (text : List ℕ) (lexemes : List Lexeme)

@@ -1,7 +1,7 @@
 -- The text of a question is read or refused, never both, and refused with one kind; but for the
 -- patterns that the engine may refuse.
-use Rattle.std.proofs.Common.{◌≡◌, ◌≢◌, ◌≤◌, ℕ, List, [], ◌∷◌, ◌++◌, length, None, Some}
-use Rattle.std.proofs.Common.{sym, subst, ◌∙◌, ◌⊎◌, inl, inr, arith}
+use Rattle.std.proofs.Common.{◌≡◌, ◌≢◌, ◌≤◌, ℕ, List, [], ◌∷◌, length, None, Some, sym, subst}
+use Rattle.std.proofs.Common.{◌∙◌, inl, inr, arith}
 use Rattle.std.specs.List.{AllByRecursion}
 use Rattle.am_universe.specs.declared.kind.Kind.{Kind}
 use Rattle.am_universe.specs.declared.kind.Kind.TheVariants as kinds
@@ -42,46 +42,25 @@ part_kind c (WrittenBraces text) kind other refused again h k =
     words_kind (text ∷ []) kind other refused again h k
 part_kind c (WrittenIs property) kind other refused again h k = absurd refused
 
--- ---- Lists of parts.
-
-all_behind : {X : Type 0} (P : X → Type 0) (before : List X) (x : X) (after : List X)
-    → AllByRecursion P (before ++ (x ∷ after)) → P x
-all_behind P [] x after h = h.0
-all_behind P (y ∷ before) x after h = all_behind P before x after h.1
-
 parts_accepted : (c : Configuration) (parts : List Written) (kind : Kind)
     → AllByRecursion (IsMeant c) parts → PartsRefusedFor c parts kind → kind ≡ kinds.Pattern
-parts_accepted c parts kind meant refused =
-    part_meant c refused.part kind
-    (all_behind (IsMeant c) refused.before refused.part refused.after
-    (subst (AllByRecursion (IsMeant c)) refused.among meant))
-    refused.refused
-
--- where one list is cut in two ways, each behind some with a property, the cuts are the same, or
--- the first item behind one of them has it
-same_cut : {X : Type 0} (P : X → Type 0) (before others : List X) (x y : X) (after behind : List X)
-    → before ++ (x ∷ after) ≡ others ++ (y ∷ behind) → AllByRecursion P before
-    → AllByRecursion P others → (x ≡ y) ⊎ (P x ⊎ P y)
-same_cut P [] [] x y after behind e h k = inl (cc)
-same_cut P [] (z ∷ others) x y after behind e h k =
-    let same : z ≡ x = cc in inr (inl (subst P same k.0))
-same_cut P (z ∷ before) [] x y after behind e h k =
-    let same : z ≡ y = cc in inr (inr (subst P same h.0))
-same_cut P (z ∷ before) (w ∷ others) x y after behind e h k =
-    same_cut P before others x y after behind (cc) h.1 k.1
+parts_accepted c [] kind meant refused = absurd refused
+parts_accepted c (w ∷ parts) kind meant (inl refused) = part_meant c w kind meant.0 refused
+parts_accepted c (w ∷ parts) kind meant (inr refused) =
+    parts_accepted c parts kind meant.1 refused.1
 
 parts_kind : (c : Configuration) (parts : List Written) (kind other : Kind)
     → PartsRefusedFor c parts kind → PartsRefusedFor c parts other → kind ≢ kinds.Pattern
     → other ≢ kinds.Pattern → kind ≡ other
-parts_kind c parts kind other refused again h k =
-    elim (same_cut (IsMeant c) refused.before again.before refused.part again.part refused.after
-    again.after (sym refused.among ∙ again.among) refused.meant again.meant) [
-      | inl same ↦
-          part_kind c again.part kind other
-          (subst (λ (w : Written). PartRefusedFor c w kind) same refused.refused) again.refused h k
-      | inr (inl meant) ↦ absurd (h (part_meant c refused.part kind meant refused.refused))
-      | inr (inr meant) ↦ absurd (k (part_meant c again.part other meant again.refused))
-    ]
+parts_kind c [] kind other refused again h k = absurd refused
+parts_kind c (w ∷ parts) kind other (inl refused) (inl again) h k =
+    part_kind c w kind other refused again h k
+parts_kind c (w ∷ parts) kind other (inl refused) (inr again) h k =
+    absurd (h (part_meant c w kind again.0 refused))
+parts_kind c (w ∷ parts) kind other (inr refused) (inl again) h k =
+    absurd (k (part_meant c w other refused.0 again))
+parts_kind c (w ∷ parts) kind other (inr refused) (inr again) h k =
+    parts_kind c parts kind other refused.1 again.1 h k
 
 -- ---- Lexemes, and texts.
 

@@ -2,7 +2,6 @@
 -- (This project's own.)
 use Rattle.std.specs.Prelude.{◌≡◌, ◌≤◌, ◌<◌, ◌⊎◌, ℕ, List, [], ◌∷◌, ◌++◌, length, Option, Some}
 use Rattle.std.specs.Prelude.{None, position, IsTrue, is_some}
-use Rattle.std.specs.List.{AllByRecursion}
 use Rattle.am_universe.specs.Text.{same_text}
 use Rattle.am_universe.specs.declared.kind.Kind.{Kind}
 use Rattle.am_universe.specs.declared.kind.Kind.TheVariants as kinds
@@ -85,15 +84,12 @@ PartRefusedFor c (WrittenBraces text) kind = TextRefusedFor text kind
 abbrev pub IsMeant : Configuration → Written → Type 0
 IsMeant c written = (simple : Simple) × Means c written simple
 
--- The first of the parts that is refused.
-pub record PartsRefusedFor (c : Configuration) (parts : List Written) (kind : Kind)
-    : Type 0 where
-  pub before : List Written
-  pub part : Written
-  pub after : List Written
-  pub among : parts ≡ before ++ (part ∷ after)
-  pub meant : AllByRecursion (IsMeant c) before
-  pub refused : PartRefusedFor c part kind
+-- Why some parts are refused: as the first of them that is refused, behind those that mean
+-- something.
+abbrev pub PartsRefusedFor : Configuration → List Written → Kind → Type 0
+PartsRefusedFor c [] kind = ⊥
+PartsRefusedFor c (part ∷ parts) kind =
+    PartRefusedFor c part kind ⊎ (IsMeant c part × PartsRefusedFor c parts kind)
 
 -- Why lexemes are refused: there are too many; or they are no tree; or else for a simple part.
 abbrev pub LexemesRefusedFor : Configuration → List Lexeme → Kind → Type 0

@@ -11,6 +11,7 @@ use Rattle.am_questions.specs.Inputs.{Inputs, inputs_of, inputs_fingerprint, ask
 use Rattle.am_eval.specs.AcceptedWorld.{world_stages}
 use Rattle.am_eval.proofs.FirstFaults.{first_of_more, first_behind_world, handed_on}
 use Rattle.am_questions.proofs.HasFingerprint.{asked_is_start}
+use Rattle.am_questions.proofs.PartLemmas.{parts_unwritten}
 use Rattle.am_questions.proofs.inputs.read_inputs.Goals as goal
 
 -- the stages behind those of the files
@@ -40,7 +41,7 @@ returns-in-Err-clause-first c = λ remembered.
     let accepts = c.in_ok-world.ensures.accepts in
     let given : c.in-Err.kind ≢ kinds.Memory = λ e. remembered (c.at.ensures.kind ∙ e) in
     let told = c.in-Err.ensures.refused given in
-    let unwritten : c.in-Err.kind ≢ kinds.Write = grind (arith, told) in
+    let unwritten : c.in-Err.kind ≢ kinds.Write = grind (arith, told, parts_unwritten) in
     let refused : QuestionRefusedFor world.config inputs.question c.at.result.kind =
     rw (c.at.ensures.kind, ← c.config.ensures.config) told in
     inr (
