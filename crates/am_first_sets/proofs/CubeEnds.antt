@@ -23,11 +23,12 @@ use Rattle.am_judged_lists.specs.Cube.{MaskedLabels, verdict_at}
 use Rattle.am_judged_lists.specs.Verdicts.{verdict_of_list, matches_at}
 use Rattle.am_search.specs.Judge.{is_yes, is_no}
 use Rattle.am_judged_lists.proofs.VerdictLemmas.{list_says}
+use Rattle.am_eval.specs.declared.reach.Reach.TheVariants.{Ends}
 use Rattle.am_eval.specs.Question as question
 use Rattle.am_eval.specs.World.{World}
 use Rattle.am_eval.specs.Conditions.{Literal, literal_holds, some_way_holds, matching, not_matching}
 use Rattle.am_eval.specs.Conditions.{no_child_of, stopped_by_none, ways_into, ways_below}
-use Rattle.am_eval.specs.Conditions.{ways_to_end}
+use Rattle.am_eval.specs.Conditions.{ways_to_reach}
 use Rattle.am_eval.proofs.ConditionLaws as conditions
 use Rattle.am_eval.proofs.SomeWay.{some_way-literal, some_way-front}
 use Rattle.am_first_sets.specs.declared.route_cubes.RouteCubes.{RouteCubes}
@@ -71,9 +72,9 @@ world_of config = record { config = config; silences = []; alerts = []; instant 
 
 ends_by_ways : (u : List Label) (config : Configuration) (path c : List ℕ)
     → is_end_at u config path c
-    ≡ some_way_holds (literal_holds (label_set_of u c)) (ways_to_end config path)
+    ≡ some_way_holds (literal_holds (label_set_of u c)) (ways_to_reach config Ends path)
 ends_by_ways u config path c =
-    conditions.exactly (world_of config) (label_set_of u c) (question.Ends path)
+    conditions.exactly (world_of config) (label_set_of u c) (question.Route Ends path)
 
 -- what is left of a path
 pub left_of_path : (path : List ℕ) (i p : ℕ) → i < length path → p ≡ get_or path i 0
@@ -118,7 +119,7 @@ pub record IsOnWay (u : List Label) (choice : List ℕ) (end : Bool) (r : RouteC
   pub tree : RouteTree
   pub cubes : AreCubesOf u choice tree r
   pub ends : ((all_may_match choice wanted && none_before choice before)
-      && some_way_holds (literal_holds (label_set_of u choice)) (ways_below no_child_of tree left))
+      && some_way_holds (literal_holds (label_set_of u choice)) (ways_below Ends tree left))
       ≡ end
 
 module _ (u : List Label) (choice : List ℕ) (whole : IsWhole (sizes u) choice) where
@@ -204,7 +205,7 @@ module _ (u : List Label) (choice : List ℕ) (whole : IsWhole (sizes u) choice)
       → none ≡ [] → wanted ≡ none ++ ref ∷ [] → before ≡ []
       → IsOnWay u choice (is_end_at u c path choice) r wanted before path
   begun c path r none wanted before ref are is empty adds no_more =
-      let ways = ways_below no_child_of c.root path in
+      let ways = ways_below Ends c.root path in
       let top = may_match choice ref.now in
       let first = adds ∙ ap (λ refs. refs ++ ref ∷ []) empty in
       record {
@@ -232,7 +233,7 @@ module _ (u : List Label) (choice : List ℕ) (whole : IsWhole (sizes u) choice)
     others = none_before choice before
 
     abbrev further : List ℕ → Option RouteTree → List (List Literal)
-    further rest child = ways_into (λ t. ways_below no_child_of t rest) child
+    further rest child = ways_into (λ t. ways_below Ends t rest) child
 
     are : AreCubesOfEach u choice children rs
     are = subst (AreCubesOfEach u choice children) (sym same) (below on.tree r on.cubes)
@@ -247,7 +248,7 @@ module _ (u : List Label) (choice : List ℕ) (whole : IsWhole (sizes u) choice)
     down p rest child goes there =
         let front = stopped_by_none (take p (list_of children)) in
         ap (λ b. (first && others) && b)
-        (sym (ap (λ path. some_way_holds holds (ways_below no_child_of on.tree path)) goes
+        (sym (ap (λ path. some_way_holds holds (ways_below Ends on.tree path)) goes
         ∙ some_way-front holds front (further rest (slice_get (list_of children) p))
         ∙ ap (λ o. list_all holds front && some_way_holds holds (further rest o)) there))
         ∙ on.ends
@@ -261,7 +262,7 @@ module _ (u : List Label) (choice : List ℕ) (whole : IsWhole (sizes u) choice)
     one_step longer more ref siblings p rest child goes there is adds are_before adds_them =
         let found = child_at children rs p child are there in
         let matched = holds (matching (matchers_of found.0)) in
-        let ways = ways_below no_child_of found.0 rest in
+        let ways = ways_below Ends found.0 rest in
         let also : all_may_match choice longer ≡ (first && matched) =
         ap (all_may_match choice) adds
         ∙ list_all-append (λ (cube : Bor MaskedLabels). may_match choice cube.now) wanted (ref ∷ [])
@@ -288,7 +289,7 @@ module _ (u : List Label) (choice : List ℕ) (whole : IsWhole (sizes u) choice)
         let none = list_all holds (no_child_of on.tree) in
         ap (λ b. first && (others && b)) (none_matched children rs are)
         ∙ and_in first others none ∙ ap (λ b. (first && others) && b)
-        (sym (ap (λ path. some_way_holds holds (ways_below no_child_of on.tree path)) ends
+        (sym (ap (λ path. some_way_holds holds (ways_below Ends on.tree path)) ends
         ∙ or_false none))
         ∙ on.ends
 
