@@ -1,13 +1,13 @@
 -- Equal matchers of a label, and lists that have the same matchers.
-use Rattle.std.proofs.Common.{◌≡◌, ℕ, true, List, refl}
+use Rattle.std.proofs.Common.{◌≡◌, ℕ, List, sym}
 use Rattle.std.specs.Prelude.{IsTrue}
 use Rattle.std.specs.Cmp.Lexicographic.{bytes_decides}
 use Rattle.std.proofs.lemmas.Bool.{and_parts}
+use denote.Enum.Bare.{same_true}
 use Rattle.am_universe.specs.Text.{same_text}
 use Rattle.am_universe.proofs.ListLemmas.{IsIn, IsIn-from_Contains, Contains-from_IsIn}
 use Rattle.am_universe.proofs.ListLemmas.{AllByRecursion-each, AllByRecursion-at}
-use Rattle.am_labels.specs.declared.op.Op.{Op}
-use Rattle.am_labels.specs.declared.op.Op.TheVariants.{Equal, NotEqual, Matches, NotMatches}
+use Rattle.am_labels.specs.contracts.op.Op.{the_type}
 use Rattle.am_labels.specs.Matcher.{Condition, holds}
 use Rattle.am_labels.specs.Space.{Space}
 use Rattle.am_classes.specs.declared.alphabet.Alphabet.{Alphabet}
@@ -22,19 +22,12 @@ use Rattle.am_complete.proofs.AmongMatchers.{among_by}
 
 -- ---- Equal matchers.
 
-op_is : (o p : Op) → same_op o p ≡ true → o ≡ p
-op_is Equal Equal h = refl
-op_is NotEqual NotEqual h = refl
-op_is Matches Matches h = refl
-op_is NotMatches NotMatches h = refl
-op_is o p h = absurd (cc)
-
 -- equal matchers on one label are one
 pub equal_is : (m n : Condition) → m.name ≡ n.name → IsTrue (asks_same m n) → m ≡ n
 equal_is m n named h =
-    let both = and_parts (same_op m.op n.op) (same_text m.value n.value) h in
-    let op = op_is m.op n.op both.0 in
-    let value = (bytes_decides m.value n.value).0 both.1 in
+    let both = and_parts (same_op n.op m.op) (same_text n.value m.value) h in
+    let op = sym (same_true the_type tt n.op m.op both.0) in
+    let value = sym ((bytes_decides n.value m.value).0 both.1) in
     λ i. record { name = named i; op = op i; value = value i }
 
 -- ---- The same matchers.

@@ -1,13 +1,14 @@
 -- Labels that matchers ask of, each with those matchers.
-use Rattle.std.specs.Prelude.{◌≢◌, ℕ, List, [], ◌∷◌, ◌++◌, map, fold, Bool, true, false, ◌&&◌}
+use Rattle.std.specs.Prelude.{◌≢◌, ℕ, List, [], ◌∷◌, ◌++◌, map, fold, Bool, ◌&&◌}
 use Rattle.std.specs.Prelude.{if◌then◌else◌, Contains}
 use Rattle.std.specs.List.{AllByRecursion, IsDistinct, list_any}
 use Rattle.am_universe.specs.Text.{same_text}
 use Rattle.am_labels.specs.declared.op.Op.{Op}
-use Rattle.am_labels.specs.declared.op.Op.TheVariants.{Equal, NotEqual, Matches, NotMatches}
+use Rattle.am_labels.specs.contracts.op.Op.{the_type}
 use Rattle.am_labels.specs.Matcher.{Condition}
 use Rattle.am_complete.specs.declared.origin.Origin.{Origin}
 use Rattle.am_complete.specs.Complete.{about, HaveSameMatchers}
+use denote.Enum.Bare.{sameb}
 
 -- A label by its name, the matchers that ask of it, and where the first of them stands.
 pub record AskedLabel : Type 0 where
@@ -21,17 +22,13 @@ asked_names labels = map (λ l. l.name) labels
 
 -- Two operators are the same.
 abbrev pub same_op : Op → Op → Bool
-same_op Equal Equal = true
-same_op NotEqual NotEqual = true
-same_op Matches Matches = true
-same_op NotMatches NotMatches = true
-same_op o p = false
+same_op o p = sameb the_type o p
 
 -- Two matchers on one label are equal: they have the same operator and the same value.
 -- Source: own choice.
 -- Example: of `team="db"`, `team=~"db"` and `team="db"` the first and the last are.
 abbrev pub asks_same : Condition → Condition → Bool
-asks_same m n = same_op m.op n.op && same_text m.value n.value
+asks_same m other = same_op other.op m.op && same_text other.value m.value
 
 -- A label with one matcher more on it, unless it has an equal one.
 abbrev pub with_matcher : Condition → AskedLabel → AskedLabel

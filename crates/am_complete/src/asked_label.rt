@@ -1,10 +1,10 @@
 // The module of words stands on this type, so its own words come from where they stand.
 ghost use Rattle.std.specs.Prelude.{◌≡◌, map, IfOk, OnOk, OnErr};
 ghost use Rattle.am_complete.specs.AskedLabel.{label_of, with_matcher};
+ghost use Rattle.am_complete.specs.Operators.{operators_with};
 
 use crate::Origin;
-use crate::operators::{Operators, operators_with};
-use am_labels::Matcher;
+use am_labels::{Matcher, Op};
 use std::alloc::{AllocError, Global};
 use std::collections::BTreeMap;
 use std::marker::Model;
@@ -14,7 +14,7 @@ use std::marker::Model;
 pub struct AskedLabel<'m> {
     name: &'m str,
     matchers: Vec<&'m Matcher>,
-    operators: BTreeMap<&'m str, Operators>,
+    operators: BTreeMap<&'m str, Vec<Op>>,
     first: Origin,
 }
 
@@ -50,24 +50,26 @@ impl<'m> AskedLabel<'m> {
             operators: BTreeMap::new(alloc),
             first: *origin,
         };
-        label.add(matcher)?;
+        label.add(alloc, matcher)?;
         Ok(label)
     }
 
     /// Adds a matcher on this label, unless it has an equal one. An `Err` comes only where memory
     /// was refused; then nothing has changed.
-    pub(crate) fn add(&mut self, matcher: &'m Matcher) -> Result<(), AllocError>
+    pub(crate) fn add(&mut self, alloc: Global, matcher: &'m Matcher) -> Result<(), AllocError>
         ensures ok { OnOk result (self.new ≡ with_matcher matcher.now self.old) }
         ensures err { OnErr result (self.new ≡ self.old) }
     {
-        let found = operators_with(&self.operators, matcher.value());
-        if found.has(matcher.op()) {
+        let (op, value) = (matcher.op(), matcher.value());
+        let found = operators_with(&self.operators, value);
+        if found.contains(&op) {
             return Ok(());
         }
+        let mut operators = Vec::from_slice(alloc, found)?;
+        operators.push(op)?;
         // Room comes first, so that nothing has changed where memory is refused.
         self.matchers.reserve(1)?;
-        self.operators
-            .insert(matcher.value(), found.with(matcher.op()))?;
+        self.operators.insert(value, operators)?;
         match self.matchers.push(matcher) {
             Ok(()) => Ok(()),
             // There is room: it was reserved.
@@ -94,5 +96,15 @@ impl<'m> AskedLabel<'m> {
         ensures first { result ≡ self.now.first }
     {
         self.first
+    }
+}
+
+/// The operators that a map has for a value.
+fn operators_with<'a>(operators: &'a BTreeMap<&str, Vec<Op>>, value: &str) -> &'a [Op]
+    ensures { result.now ≡ operators_with operators.now value.now }
+{
+    match operators.get(value) {
+        Some(found) => found.as_slice(),
+        None => &[],
     }
 }

@@ -51,7 +51,7 @@ impl<'m> Gathering<'m> {
         ensures err { OnErr result (self.new ≡ self.old) }
     {
         match self.positions.get(matcher.name()).copied() {
-            Some(position) => self.labels[position].add(matcher),
+            Some(position) => self.labels[position].add(self.alloc, matcher),
             None => self.add_label(origin, matcher),
         }
     }

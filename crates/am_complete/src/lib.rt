@@ -8,7 +8,6 @@
 // Labels with the matchers that ask of them, and where in the files they are first asked of.
 mod asked_label;
 mod gathering;
-mod operators;
 mod origin;
 
 pub use asked_label::AskedLabel;
