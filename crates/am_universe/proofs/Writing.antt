@@ -1,6 +1,6 @@
 -- What is written step by step.
 use Rattle.std.proofs.Common.{◌≡◌, ℕ, ◌+◌, ◌-◌, ◌<◌, ◌≤◌, List, [], ◌∷◌, ◌++◌, length, get_or, take, drop, Result, Ok, Err, IsErr, refl, subst, sym, ap, ◌∙◌, append_assoc, append-nil, length-append, length-drop, arith}
-use Rattle.std.proofs.Math.Seq.{drop-append_seam, drop-length, take-add, take-append-add}
+use Rattle.std.proofs.Math.Seq.{drop-append_seam, take-add, take-append-add}
 use Rattle.std.proofs.lemmas.List.{drop-drop, take-append-le, take_all, take-append-drop, take_more}
 use Rattle.std.proofs.lemmas.Grind.{flat_map-append, take_at_read}
 use Rattle.std.specs.List.{flat_map}
@@ -70,16 +70,19 @@ IsCut old new again = (text : List ℕ) → again text ≡ text → GrowsByPrope
 
 -- `grind` matches the first part of each conclusion with what is known of the piece that was cut off, and of the pieces before it.
 module _ (old new : List ℕ) where
-  pub cut_piece : (a : List ℕ) → GrowsByProperPrefix old new a → GrowsByProperPrefix old new a × IsCut old new (λ text. a ++ drop (length a) text)
+  pub cut_piece : (a : List ℕ) → GrowsByProperPrefix old new a → GrowsByProperPrefix old new a × (IsCut old new (λ text. a) × IsCut old new (λ text. a ++ drop (length a) text))
   unfolding IsCut
-  cut_piece a p = (p, λ text is. subst (GrowsByProperPrefix old new) is (grows_on old new a _ p))
+  cut_piece a p = (p, ((λ text is. subst (GrowsByProperPrefix old new) is p), λ text is. subst (GrowsByProperPrefix old new) is (grows_on old new a _ p)))
 
   pub cut_behind : (a : List ℕ) (again : List ℕ → List ℕ) → IsCut (old ++ a) new again → IsCut (old ++ a) new again × IsCut old new (λ text. a ++ again (drop (length a) text))
   unfolding IsCut
-  cut_behind a again p = (p, λ text is.
-    let rest : List ℕ = again (drop (length a) text) in
-    let same : drop (length a) text ≡ rest = ap (drop (length a)) (sym is) ∙ drop-append_seam a rest in
-    subst (GrowsByProperPrefix old new) is (grows_behind old new a rest (p rest (sym (ap again same)))))
+  cut_behind a again p = (
+    p,
+    λ text is.
+        let rest : List ℕ = again (drop (length a) text) in
+        let same : drop (length a) text ≡ rest = ap (drop (length a)) (sym is) ∙ drop-append_seam a rest in
+        subst (GrowsByProperPrefix old new) is (grows_behind old new a rest (p rest (sym (ap again same)))),
+  )
 
   pub cut_off : (again : List ℕ → List ℕ) → IsCut old new again → IsCut old new again × ((text : List ℕ) → again text ≡ text → GrowsByProperPrefix old new text)
   unfolding IsCut
@@ -89,7 +92,7 @@ module _ (old new : List ℕ) where
 pub around_read : {X : Type 0} (xs : List X) (i : ℕ) (d : X) → i < length xs → (get_or xs i d ≡ get_or xs i d) × (xs ≡ take i xs ++ (get_or xs i d ∷ drop (i + 1) xs))
 around_read xs i d h = (refl, sym (take-append-drop (i + 1) xs) ∙ ap (λ t. t ++ drop (i + 1) xs) (take_more xs i d h) ∙ append_assoc (take i xs) (get_or xs i d ∷ []) (drop (i + 1) xs))
 
-pub ruleset steps = (append_assoc, append-nil, flat_map-append, take_all, take_at_read, around_read, more_taken, taken_in_part, drop-append_seam, drop-length, dropped_pieces, cut_piece, cut_behind, cut_off)
+pub ruleset steps = (append_assoc, append-nil, flat_map-append, take_all, take_at_read, around_read, more_taken, taken_in_part, drop-append_seam, dropped_pieces, cut_piece, cut_behind, cut_off)
 
 -- ---- One write behind another. A definition that ends `a ++ (b ++ c)` is met by calls that write a, b and c in turn:
 -- `first ⟩ second ⟩ third`, and where the second failed, `first ⟩ fails _ answer second`.
