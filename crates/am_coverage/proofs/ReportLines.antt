@@ -1,5 +1,5 @@
 -- The lines of a report: those of routes, and those of receivers beside their names.
-use Rattle.std.proofs.Common.{◌≡◌, ℕ, ◌<◌, ◌≤◌, List, [], ◌++◌, length, map, get_or, take}
+use Rattle.std.proofs.Common.{◌≡◌, ℕ, ◌<◌, ◌≤◌, List, [], ◌++◌, length, get_or, take}
 use Rattle.std.proofs.Common.{◌+◌, drop, codes, Some, ◌∙◌, refl, sym, ap, arith}
 use Rattle.std.specs.Prelude.{slice_get}
 use Rattle.std.specs.List.{flat_map, zip}
@@ -7,13 +7,13 @@ use Rattle.std.proofs.lemmas.List.Folds.{flat_map-map}
 use Rattle.std.proofs.lemmas.Option.{get_or_from_slice_get}
 use Rattle.std.proofs.lemmas.Slice.Zip.{get_or-zip, length-zip}
 use Rattle.am_universe.specs.Universe.{Label}
-use Rattle.am_universe.proofs.Writing.{pieces_more, pieces_through, pieces_end}
+use Rattle.am_universe.proofs.Writing.{steps, pieces_more, pieces_through, pieces_end}
 use Rattle.am_coverage.specs.declared.coverage.RouteCoverage.{RouteCoverage}
 use Rattle.am_coverage.specs.declared.coverage.ReceiverCoverage.{ReceiverCoverage}
 use Rattle.am_coverage.specs.declared.route_coverage.RouteFound.{RouteFound}
 use Rattle.am_coverage.specs.CoverageView.{found_view}
 use Rattle.am_coverage.specs.WrittenCoverage.{route_status, receiver_status}
-use Rattle.am_coverage.specs.WrittenCoverage.{route_line, routes_text}
+use Rattle.am_coverage.specs.WrittenCoverage.{route_line}
 
 -- what stands behind the path of a route, and behind the name of a receiver
 abbrev pub route_ending : List Label → RouteCoverage → List ℕ
@@ -26,10 +26,7 @@ receiver_ending u coverage = receiver_status u coverage ++ codes "\n"
 abbrev pub line_of : List Label → RouteFound → List ℕ
 line_of u route = route_line u (found_view route)
 
-pub all_lines : (u : List Label) (routes : List RouteFound)
-    → flat_map (line_of u) routes ++ codes "# end\n" ≡ routes_text u (map found_view routes)
-all_lines u routes =
-    ap (λ lines. lines ++ codes "# end\n") (sym (flat_map-map (route_line u) found_view routes))
+pub ruleset report_steps = (steps, flat_map-map)
 
 -- The lines of what stands side by side in two lists of one length.
 module _ {X Y : Type 0} (line : X × Y → List ℕ) (names : List X) (found : List Y)

@@ -1,4 +1,5 @@
 //! The reports of routes and of receivers.
+#![tactic(auto, using(crate::proofs::ReportLines::report_steps))]
 
 ghost use Rattle.std.specs.Prelude.{◌≡◌, ◌++◌, length, map, codes};
 ghost use Rattle.std.specs.List.{AllByRecursion};

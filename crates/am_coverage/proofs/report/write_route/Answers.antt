@@ -3,11 +3,6 @@ use Rattle.am_universe.proofs.Writing.{◌⟩◌, writes_as}
 use Rattle.am_coverage.proofs.ReportLines.{route_ending}
 use Rattle.am_coverage.proofs.report.write_route.Goals as goal
 
-pub returns-in-Live : goal.returns-in-Live
-returns-in-Live g c =
-    c.in_ok-write.ensures.written.ok
-    ⟩ writes_as (ap (route_ending c.args.universe.now) (sym c.in-Live.is)) c.write_live.ensures
-
 pub returns-in-Entered : goal.returns-in-Entered
 returns-in-Entered g c =
     c.in_ok-write.ensures.written.ok
