@@ -2,15 +2,15 @@
 
 ghost use Rattle.std.specs.Prelude.{◌≡◌, ◌==◌, IfOk};
 ghost use Rattle.std.specs.List.{list_any};
-ghost use Rattle.am_universe.specs.Text.{same_text};
-ghost use Rattle.am_config.specs.Path.{leads_through};
+ghost use Rattle.am_universe.specs.LabelSet.{LabelMap};
 ghost use Rattle.am_eval.specs.QuestionView.{question_view};
-ghost use Rattle.am_eval.specs.Question.{satisfies};
+ghost use Rattle.am_eval.specs.Question.{has_property, reaches, satisfies};
+ghost use Rattle.am_eval.specs.World.{World};
 ghost use Rattle.am_alerts.specs.Fates.{IsFate};
 
 use crate::fates::Fate;
 use am_config::Path;
-use am_eval::{Question, World};
+use am_eval::{Property, Question, Reach, World};
 use am_universe::LabelSet;
 use std::alloc::{AllocError, Global};
 
@@ -28,12 +28,9 @@ pub(crate) fn satisfies(
         truth ≡ satisfies world.now (question_view question.now) set.now) }
 {
     match question {
-        Question::Any => Ok(true),
-        Question::Silenced => Ok(!fate.silencers.is_empty()),
-        Question::Inhibited => Ok(!fate.inhibitors.is_empty()),
+        Question::Is(property) => Ok(has_property(fate, *property)),
         Question::Receiver(receiver) => Ok(has_receiver(fate.receivers.as_slice(), *receiver)),
-        Question::Ends(path) => Ok(has_end(fate.ends.as_slice(), path)),
-        Question::Enters(path) => Ok(has_end_below(fate.ends.as_slice(), path)),
+        Question::Route(reach, path) => Ok(reaches(fate.ends.as_slice(), *reach, path)),
         Question::Braces(matchers) => matchers.matches(alloc, set),
         Question::Not(question) => Ok(!satisfies(alloc, world, question, set, fate)?),
         Question::And(left, right) => {
@@ -49,6 +46,18 @@ pub(crate) fn satisfies(
     }
 }
 
+/// Whether an alert of which this becomes has a property.
+fn has_property(fate: &Fate, property: Property) -> bool
+    ensures { (w : World) (s : LabelMap) → IsFate w s fate.now
+        → result ≡ has_property w property s }
+{
+    match property {
+        Property::Any => true,
+        Property::Silenced => !fate.silencers.is_empty(),
+        Property::Inhibited => !fate.inhibitors.is_empty(),
+    }
+}
+
 /// Whether one of the receivers is the one at this position.
 fn has_receiver(receivers: &[usize], receiver: usize) -> bool
     ensures { result ≡ list_any (λ other. other == receiver) receivers.now }
@@ -56,16 +65,12 @@ fn has_receiver(receivers: &[usize], receiver: usize) -> bool
     receivers.iter().any(|other| *other == receiver)
 }
 
-/// Whether one of the routes is the one at this path.
-fn has_end(ends: &[Path], path: &Path) -> bool
-    ensures { result ≡ list_any (λ end. same_text end path.now) ends.now }
+/// Whether an alert with these ends reaches the route at a path.
+fn reaches(ends: &[Path], reach: Reach, path: &Path) -> bool
+    ensures { result ≡ list_any (reaches reach path.now) ends.now }
 {
-    ends.iter().any(|end| *end == *path)
-}
-
-/// Whether one of the routes is the one at this path, or stands below it.
-fn has_end_below(ends: &[Path], path: &Path) -> bool
-    ensures { result ≡ list_any (leads_through path.now) ends.now }
-{
-    ends.iter().any(|end| end.leads_through(path))
+    match reach {
+        Reach::Ends => ends.iter().any(|end| *end == *path),
+        Reach::Enters => ends.iter().any(|end| end.leads_through(path)),
+    }
 }

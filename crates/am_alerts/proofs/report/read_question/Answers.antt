@@ -5,6 +5,7 @@ use Rattle.am_universe.specs.declared.kind.Kind.TheVariants as kinds
 use Rattle.am_config.specs.ConfigView.{config_view}
 use Rattle.am_eval.specs.QuestionView.{question_view}
 use Rattle.am_questions.specs.QuestionText.{ReadsQuestion, QuestionRefusedFor}
+use Rattle.am_questions.proofs.PartLemmas.{parts_unwritten}
 use Rattle.am_alerts.proofs.report.read_question.Goals as goal
 
 pub returns-in-Ok-clause-reads : goal.returns-in-Ok-clause-reads
@@ -20,5 +21,5 @@ returns-in-Err-clause-refused c = λ remembered.
     let refused = subst (λ text. QuestionRefusedFor config text c.at.result.kind) c.asked_text.ensures
     (subst (λ (k : Kind). QuestionRefusedFor config c.asked_text.result.now k)
     (sym c.at.ensures.kind) told) in
-    let unwritten : c.in-Err.kind ≢ kinds.Write = grind (arith, told) in
+    let unwritten : c.in-Err.kind ≢ kinds.Write = grind (arith, told, parts_unwritten) in
     (c.at.ensures.place given unwritten, (refused, c.at.ensures.pointer))
