@@ -126,13 +126,6 @@ fn read_receiver_names(alloc: Global, items: &[Value]) -> Result<Vec<String>, Re
         (read_receiver_names (map view items.now)) }
 {
     check_count(alloc, MAX_RECEIVERS, items.len())?;
-    read_each_receiver(alloc, items)
-}
-
-fn read_each_receiver(alloc: Global, items: &[Value]) -> Result<Vec<String>, ReadError>
-    ensures { Gives (λ names. names_of names.items) result
-        (read_items read_next_receiver [] (map view items.now)) }
-{
     read_each_name(alloc, items, |before, item| {
         read_next_receiver(alloc, before, item)
     })
@@ -448,13 +441,6 @@ fn read_equal_names(alloc: Global, items: &[Value]) -> Result<Vec<String>, ReadE
         (read_counted MAX_EQUAL_NAMES read_equal_name (map view items.now)) }
 {
     check_count(alloc, MAX_EQUAL_NAMES, items.len())?;
-    read_each_equal_name(alloc, items)
-}
-
-fn read_each_equal_name(alloc: Global, items: &[Value]) -> Result<Vec<String>, ReadError>
-    ensures { Gives (λ names. names_of names.items) result
-        (read_items (λ _ d. read_equal_name d) [] (map view items.now)) }
-{
     read_each_name(alloc, items, |_, item| read_equal_name(alloc, item))
 }
 

@@ -3,10 +3,9 @@
 ghost use Rattle.std.specs.Prelude.{◌≡◌, ◌≢◌, [], ◌∷◌, map, option_map, Err, IsErrAnd};
 ghost use Rattle.am_universe.specs.declared.kind.Kind.TheVariants as kinds;
 ghost use Rattle.am_json.specs.declared.read_error.ReadError.TheVariants as errors;
-ghost use Rattle.serde_json.specs.View.{view, members_view};
+ghost use Rattle.serde_json.specs.View.{view};
 ghost use Rattle.am_json.specs.Pointer.{to_item};
-ghost use Rattle.am_json.specs.Json.{member_list};
-ghost use Rattle.am_json.specs.Reading.{Gives, IsRefusalOrMemory, read_each};
+ghost use Rattle.am_json.specs.Reading.{Gives, IsRefusalOrMemory};
 ghost use Rattle.am_list_files.specs.MatcherTexts.{read_matcher_text, text_refusal};
 ghost use Rattle.am_config.specs.ConfigView.{matcher_fields_view};
 ghost use Rattle.am_config.specs.ConfigReading.{read_matchers, optional_texts, read_texts};
@@ -16,13 +15,12 @@ ghost use Rattle.am_config.specs.ConfigReading.{read_next_pair, read_matcher_pai
 ghost use Rattle.am_config.specs.ConfigReading.{refuse_root_matchers};
 
 use am_json::{
-    ReadError, as_items, as_object, as_text, field, read_each_member, refuse_for, within_field,
-    within_item,
+    ReadError, as_items, as_object, as_text, field, read_each_member, within_field, within_item,
 };
 use am_labels::{Matcher, Matchers, Op, parse_matchers};
 use am_list_files::{new_matcher, read_named_text};
 use am_universe::Kind;
-use serde_json::{Map, Value};
+use serde_json::Value;
 use std::alloc::Global;
 
 /// The names of three fields with matchers: an array of texts, an object of names and texts for
@@ -169,22 +167,10 @@ fn read_pairs(
     ensures { Gives (λ ms. ms) result (read_pairs is_root op before (view value.now)) }
 {
     let members = as_object(alloc, value)?;
-    let found = read_each_pair(alloc, op, before, members)?;
-    refuse_root_matchers(alloc, is_root, found)
-}
-
-fn read_each_pair(
-    alloc: Global,
-    op: Op,
-    before: Matchers,
-    members: &Map<String, Value>,
-) -> Result<Matchers, ReadError>
-    ensures { Gives (λ ms. ms) result
-        (read_each (read_next_pair op) before (member_list (members_view members.now.entries))) }
-{
-    read_each_member(before, members, |before, name, value| {
+    let found = read_each_member(before, members, |before, name, value| {
         read_next_pair(alloc, op, before, name, value)
-    })
+    })?;
+    refuse_root_matchers(alloc, is_root, found)
 }
 
 #[tactic(auto, using(am_json::proofs::Readings::steps), unfolding(crate::specs::ConfigReading::read_next_pair))]

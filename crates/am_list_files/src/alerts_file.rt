@@ -1,12 +1,10 @@
 //! Reading an export of alerts.
 
 ghost use Rattle.std.specs.Prelude.{IfOk, IfErr};
-ghost use Rattle.std.specs.FinMap as finite;
-ghost use Rattle.serde_json.specs.View.{view, members_view};
+ghost use Rattle.serde_json.specs.View.{view};
 ghost use Rattle.am_universe.specs.declared.place.Place.TheVariants as places;
 ghost use Rattle.am_universe.specs.LabelSet.{with_value};
-ghost use Rattle.am_json.specs.Json.{member_list};
-ghost use Rattle.am_json.specs.Reading.{Gives, IsRefusalAt, accept, read_each};
+ghost use Rattle.am_json.specs.Reading.{Gives, IsRefusalAt, accept};
 ghost use Rattle.am_list_files.specs.AlertsFile.{FileSaysAlerts};
 ghost use Rattle.am_list_files.specs.AlertsFaults.{IsFirstFaultOfAlertsFile};
 ghost use Rattle.am_list_files.specs.AlertsReading.{read_next_alert_label, read_alert_labels};
@@ -20,7 +18,7 @@ use am_json::{
     required_field, within_field,
 };
 use am_universe::{Fault, LabelSet, Place};
-use serde_json::{Map, Value};
+use serde_json::Value;
 use std::alloc::Global;
 
 /// The alerts that the bytes of an export say, as `amtool alert query -o json` writes it. The value
@@ -76,13 +74,6 @@ fn read_alert_labels(alloc: Global, value: &Value) -> Result<LabelSet, ReadError
 {
     let members = as_object(alloc, value)?;
     check_count(alloc, MAX_ALERT_LABELS, members.len())?;
-    read_each_alert_label(alloc, members)
-}
-
-fn read_each_alert_label(alloc: Global, members: &Map<String, Value>) -> Result<LabelSet, ReadError>
-    ensures { Gives (λ s. s) result (read_each read_next_alert_label finite.empty
-        (member_list (members_view members.now.entries))) }
-{
     let none = LabelSet::empty(alloc);
     read_each_member(none, members, |before, name, value| {
         read_next_alert_label(alloc, before, name, value)
