@@ -6,6 +6,7 @@ use Rattle.std.proofs.Common.{true, zero, suc}
 use Rattle.std.proofs.lemmas.Bool.{or_cases, or_left, or_right, cases_Bool}
 use Rattle.std.proofs.lemmas.Slice.Eq.{bytes_eq-Decides}
 use Rattle.std.proofs.lemmas.Option.{same_Some}
+use Rattle.std.proofs.lemmas.Grind.{common_steps}
 use Rattle.am_labels.specs.Matcher.{Condition, takes_pattern}
 use Rattle.am_classes.specs.Alike.{HasPattern}
 use Rattle.am_classes.specs.declared.alphabet.Alphabet.{Alphabet}
@@ -94,10 +95,8 @@ among_place (x ∷ xs) text e = elim (or_cases (bytes_eq x text) (list_any (λ y
 pub among_found : (xs : List (List ℕ)) (text : List ℕ) (k : ℕ) → slice_get xs k ≡ Some text
     → list_any (λ x. bytes_eq x text) xs ≡ true
 among_found [] text k e = absurd cc
-among_found (x ∷ xs) text zero e =
-    or_left (bytes_eq x text) (list_any (λ y. bytes_eq y text) xs) ((bytes_eq-Decides x text).1 (same_Some x text e))
-among_found (x ∷ xs) text (suc k) e =
-    or_right (bytes_eq x text) (list_any (λ y. bytes_eq y text) xs) (among_found xs text k e)
+among_found (x ∷ xs) text zero e = grind (arith, common_steps, or_left, bytes_eq-Decides, same_Some)
+among_found (x ∷ xs) text (suc k) e = grind (arith, common_steps, or_right, among_found xs text k e)
 
 -- A text is at some place, or at none.
 pub among_cases : (xs : List (List ℕ)) (text : List ℕ)
@@ -115,10 +114,8 @@ length_of_all (x ∷ xs) = length x + length_of_all xs
 pub one_of_all : (xs : List (List ℕ)) (text : List ℕ) (k : ℕ) → slice_get xs k ≡ Some text
     → length text ≤ length_of_all xs
 one_of_all [] text k e = absurd cc
-one_of_all (x ∷ xs) text zero e =
-    let same : length x ≡ length text = ap length (same_Some x text e) in omega (arith, same)
-one_of_all (x ∷ xs) text (suc k) e =
-    let rest = one_of_all xs text k e in omega (arith, rest)
+one_of_all (x ∷ xs) text zero e = grind (arith, common_steps, same_Some)
+one_of_all (x ∷ xs) text (suc k) e = grind (arith, common_steps, one_of_all xs text k e)
 
 -- Where a pattern is asked for, a matcher takes it.
 pub has_pattern : (a : Alphabet) (ms : List Condition) (values : List (List ℕ))

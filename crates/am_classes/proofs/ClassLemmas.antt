@@ -5,6 +5,7 @@ use Rattle.std.proofs.Common.{sym, ap, ◌∙◌, arith}
 use Rattle.std.proofs.lemmas.Bool.{false_from_ne_true, cases_Bool}
 use Rattle.std.proofs.lemmas.Slice.Eq.{bytes_eq-Decides}
 use Rattle.std.proofs.lemmas.Option.{same_Some}
+use Rattle.std.proofs.lemmas.Grind.{common_steps}
 use Rattle.am_universe.specs.Text.{same_text}
 use Rattle.am_labels.specs.declared.op.Op.{Op}
 use Rattle.am_labels.specs.declared.op.Op.TheVariants.{Equal, NotEqual, Matches, NotMatches}
@@ -60,41 +61,18 @@ pattern_answer op value x y e h = absurd cc
 -- A text over an alphabet is none that is not.
 foreign_differs : (a : Alphabet) (value x : List ℕ) → is_over a value ≡ false → IsOver a x
     → same_text x value ≡ false
-foreign_differs a value x foreign over =
-    false_from_ne_true (same_text x value)
-    (λ same.
-    let is : is_over a x ≡ is_over a value = ap (is_over a) ((bytes_eq-Decides x value).0 same) in
-    let own = is_over_from a x over in
-    absurd cc)
+foreign_differs a value x foreign over = grind (arith, common_steps, false_from_ne_true, bytes_eq-Decides, is_over_from)
 
 -- Texts with the same answers are alike.
 alike_from : (ms : List Condition) (q : Questions) → AreAsked ms q → (x y : List ℕ)
     → IsOver q.alphabet x → IsOver q.alphabet y → SameAnswers q x y → AreAlike ms x y
 alike_from ms q asked x y x_over y_over same =
-    all_from_places (λ m. holds m.op m.value x ≡ holds m.op m.value y) ms
-    (λ k m at. holds_same m.op m.value x y
-    (λ text. elim (cases_Bool (is_over q.alphabet m.value)) [
-      | inl over ↦
-          let place = asked.texts.each k m at text over in same.texts place.0 m.value place.1
-      | inr foreign ↦
-          foreign_differs q.alphabet m.value x foreign x_over
-          ∙ sym (foreign_differs q.alphabet m.value y foreign y_over)
-    ])
-    (λ pattern. let place = asked.patterns.each k m at pattern refl in same.patterns place.0 m.value place.1))
+    grind (arith, common_steps, all_from_places, holds_same, cases_Bool, foreign_differs)
 
 -- Alike texts have the same answers.
 answers_from : (ms : List Condition) (q : Questions) → AreAsked ms q → (x y : List ℕ)
     → AreAlike ms x y → SameAnswers q x y
-answers_from ms q asked x y alike = record {
-  texts = λ k named at.
-      let from = asked.texts.from k named at in
-      let here = all_at_place (λ m. holds m.op m.value x ≡ holds m.op m.value y) ms from.0 from.1 alike from.2 in
-      subst (λ v. same_text x v ≡ same_text y v) from.4 (text_answer from.1.op from.1.value x y from.3 here);
-  patterns = λ k pattern at.
-      let from = asked.patterns.from k pattern at in
-      let here = all_at_place (λ m. holds m.op m.value x ≡ holds m.op m.value y) ms from.0 from.1 alike from.2 in
-      subst (λ v. finds v x ≡ finds v y) from.4 (pattern_answer from.1.op from.1.value x y from.3 here);
-}
+answers_from ms q asked x y alike = grind (arith, common_steps, all_at_place, text_answer, pattern_answer)
 
 -- What is at a place under a function is of what is at the place.
 get_mapped : {X Y : Type 0} (f : X → Y) (xs : List X) (k : ℕ) (y : Y) → slice_get (map f xs) k ≡ Some y
@@ -124,9 +102,7 @@ found_from_patterns q x y each =
 -- A text that is not named is none of those that are.
 unnamed_differs : (q : Questions) (x : List ℕ) → (IsNamed q x → ⊥) → (k : ℕ) (named : List ℕ)
     → slice_get (named_texts q) k ≡ Some named → same_text x named ≡ false
-unnamed_differs q x unnamed k named at =
-    false_from_ne_true (same_text x named)
-    (λ same. unnamed (k, at ∙ ap Some (sym ((bytes_eq-Decides x named).0 same))))
+unnamed_differs q x unnamed k named at = grind (arith, common_steps, false_from_ne_true, bytes_eq-Decides)
 
 -- The texts of the classes.
 abbrev pub class_texts : Questions → List Candidate → List (List ℕ)
@@ -162,10 +138,7 @@ named_is_alone q x y k at same =
     (bytes_eq-Decides y x).0 (sym (same.texts k x at) ∙ (bytes_eq-Decides x x).1 refl)
 
 same_answers_sym : (q : Questions) (x y : List ℕ) → SameAnswers q x y → SameAnswers q y x
-same_answers_sym q x y same = record {
-  texts = λ k v at. sym (same.texts k v at);
-  patterns = λ k p at. sym (same.patterns k p at);
-}
+same_answers_sym q x y same = grind (arith, common_steps)
 
 pub classes_apart : (ms : List Condition) (q : Questions) (cs : List Candidate) → AreAsked ms q
     → AreApartCandidates q cs → AreApart ms (class_texts q cs)

@@ -1,7 +1,6 @@
 -- Places of texts that end with what was read.
-use Rattle.std.proofs.Common.{◌≡◌, ℕ, ◌+◌, ◌-◌, ◌<◌, List, [], ◌∷◌, ◌++◌, Some, slice_get, length, take, get_or, inl, inr, refl, ap, subst, sym, ◌∙◌, append_assoc, arith, length-append}
+use Rattle.std.proofs.Common.{◌≡◌, ℕ, ◌+◌, ◌<◌, List, [], ◌∷◌, ◌++◌, Some, slice_get, length, take, get_or, inl, inr, refl, ap, subst, sym, ◌∙◌, append_assoc}
 use Rattle.std.proofs.lemmas.Option.{slice_get_within}
-use Rattle.std.proofs.lemmas.List.{get_or_at}
 use Rattle.am_classes.specs.Ends.{IsNoEnd, HasEndsAt, HasByteBefore, IsAtOne}
 use Rattle.am_scan.proofs.Places.{get_front, get_kept, get_last, get_whole}
 
@@ -15,25 +14,6 @@ pub no_end_longer : (texts : List (List ℕ)) (text : List ℕ) (b : ℕ) → Is
     → IsNoEnd texts (b ∷ text)
 no_end_longer texts text b none k named front at e =
     none k named (front ++ b ∷ []) at (e ∙ sym (append_assoc front (b ∷ []) text))
-
--- Where no place is left, no text ends so.
-pub no_end_at_none : (texts : List (List ℕ)) (places end : List ℕ) → places ≡ []
-    → HasEndsAt texts places end → IsNoEnd texts end
-no_end_at_none texts places end none ends k named front at e =
-    let place = subst (λ ps. (j : ℕ) × (slice_get ps j ≡ Some k)) none (ends k named front at e) in
-    let found = place.1 in
-    absurd cc
-
--- The byte in front of so many last ones.
-pub byte_before : (named front end : List ℕ) (byte count : ℕ) → named ≡ front ++ byte ∷ end
-    → length end ≡ count → (count < length named) × (get_or named (length named - 1 - count) 0 ≡ byte)
-byte_before named front end byte count is so_many =
-    let all : length named ≡ length front + length (byte ∷ end) = ap length is ∙ length-append front (byte ∷ end) in
-    let place : length front ≡ length named - 1 - count = omega (arith, all, so_many) in (
-      omega (arith, all, so_many),
-      subst (λ xs. get_or xs (length named - 1 - count) 0 ≡ byte) (sym is)
-          (get_or_at front byte end 0 (length named - 1 - count) place),
-    )
 
 -- Of some places those are kept at which a text has a byte in front of so many last ones.
 abbrev pub KeepsPlaces : List (List ℕ) → ℕ → ℕ → List ℕ → List ℕ → Type 0

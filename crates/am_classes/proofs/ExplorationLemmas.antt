@@ -1,8 +1,9 @@
 -- States that are listed: with more listed, and each text that leads to one.
 use Rattle.std.specs.declared.alloc.Global.{Global}
 use Rattle.std.proofs.lemmas.Bool.{cases_lt}
-use Rattle.std.proofs.Common.{◌≡◌, ◌≢◌, ◌<◌, ◌+◌, Vec, vec_len, ℕ, zero, suc, ap, set, replicate, Bool, Option, None, Result, Ok, Err, IfOk, IfSome, IsTrue, ◌⊎◌, List, [], ◌∷◌, ◌++◌, Some, slice_get, length, refl, inl, inr, subst, sym, ◌∙◌, arith}
+use Rattle.std.proofs.Common.{◌≡◌, ◌≢◌, ◌<◌, ◌+◌, Vec, vec_len, ℕ, zero, suc, ap, set, Bool, Option, Result, Ok, Err, IfOk, IfSome, IsTrue, ◌⊎◌, List, [], ◌∷◌, ◌++◌, Some, slice_get, length, refl, inl, inr, subst, sym, ◌∙◌, arith}
 use Rattle.std.proofs.lemmas.Option.{option_and_then_some, same_Some, slice_get_within}
+use Rattle.std.proofs.lemmas.Grind.{common_steps}
 use Rattle.am_classes.specs.declared.questions.Questions.{Questions}
 use Rattle.am_classes.specs.declared.label_state.LabelState.{LabelState}
 use Rattle.am_classes.specs.declared.led.Led.{Led}
@@ -77,11 +78,6 @@ get_changed (z ∷ xs) (suc i) zero x y e = inr e
 get_changed (z ∷ xs) (suc i) (suc k) x y e =
     elim (get_changed xs i k x y e) [ inl a ↦ inl (ap suc a.0, a.1) | inr b ↦ inr b ]
 
-none_replicated : (n k : ℕ) (l : Led) → slice_get (replicate n None) k ≡ Some (Some l) → ⊥
-none_replicated zero k l e = cc
-none_replicated (suc n) zero l e = cc
-none_replicated (suc n) (suc k) l e = none_replicated n k l e
-
 -- What led to a place still does when more is listed.
 pub led_kept : (q : Questions) (old new : List ReachedState) (at : ℕ) (led : List (Option Led))
     → Grows old new → at < length old → AreLed q old at led → AreLed q new at led
@@ -105,12 +101,6 @@ led_more q listed at led class one are make leads = λ c l here.
           (subst (λ k. MakeSame q.automata.items k one.byte) (sym new.0) make, leads)
       | inr old ↦ are c l old
     ]
-
--- No byte has led anywhere yet.
-pub led_none : (q : Questions) (listed : List ReachedState) (at n : ℕ) (led : List (Option Led))
-    → led ≡ replicate n None → AreLed q listed at led
-led_none q listed at n led is = λ class l here.
-    absurd (none_replicated n class l (subst (λ xs. slice_get xs class ≡ Some (Some l)) is here))
 
 -- A byte leads where another led, if it does so for UTF-8, for what is kept of a text,
 -- and for the patterns.
@@ -189,8 +179,4 @@ leads_within_kept q old new state first last grows leads = λ b low high.
 -- Two ranges in a row.
 pub leads_joined : (q : Questions) (listed : List ReachedState) (state : LabelState) (a b d : ℕ)
     → LeadsWithin q listed state a b → LeadsWithin q listed state b d → LeadsWithin q listed state a d
-leads_joined q listed state a b d low high = λ byte from below.
-    elim (cases_lt byte b) [
-      | inl before ↦ low byte from before
-      | inr behind ↦ high byte behind below
-    ]
+leads_joined q listed state a b d low high = λ byte from below. grind (arith, common_steps, cases_lt)

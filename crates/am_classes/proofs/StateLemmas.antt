@@ -1,10 +1,11 @@
 -- What states say of texts.
-use Rattle.std.proofs.Common.{Result, Ok, Vec, Bool, IfOk, IfSome, subst, ◌≡◌, ℕ, true, false, List}
-use Rattle.std.proofs.Common.{[], ◌∷◌, Option, Some, None, slice_get, refl, ap, sym, ◌∙◌}
+use Rattle.std.proofs.Common.{Result, Ok, Vec, Bool, IfOk, IfSome, ◌≡◌, ℕ, true, false, List, arith}
+use Rattle.std.proofs.Common.{[], ◌∷◌, Option, Some, None, slice_get, refl, sym, ◌∙◌}
 use Rattle.std.specs.declared.alloc.Global.{Global}
 use Rattle.am_scan.specs.declared.pattern_automaton.PatternAutomaton.{PatternAutomaton}
 use Rattle.std.specs.List.{list_all}
 use Rattle.std.proofs.lemmas.Bool.{and_parts, not-true}
+use Rattle.std.proofs.lemmas.Grind.{common_steps}
 use Rattle.am_scan.specs.Automaton.{is_ascii}
 use Rattle.am_classes.specs.declared.alphabet.Alphabet.{Alphabet}
 use Rattle.am_classes.specs.declared.alphabet.Alphabet.TheVariants.{Unicode, Ascii}
@@ -39,10 +40,7 @@ each_scanned : (a : Alphabet) (automata : List PatternAutomaton) (text : List �
     → list_all (fits a) automata ≡ true → tail_of a text ≡ Some tail → AreScanned automata text
 each_scanned a [] text tail fit e = tt
 each_scanned a (scan ∷ automata) text tail fit e =
-    let parts = and_parts (fits a scan) (list_all (fits a) automata) fit in (
-      scanned_of_tail a (is_ascii scan) (not_ascii a scan parts.0) text tail e,
-      each_scanned a automata text tail parts.1 e,
-    )
+    grind (arith, common_steps, and_parts, scanned_of_tail, not_ascii, each_scanned a automata text tail)
 
 scanned_of_followed : (q : Questions) (state : LabelState) (text : List ℕ)
     → FollowsLabel q state text → AreScanned q.automata.items text
@@ -58,10 +56,7 @@ pub found_of_numbers : {E : Type 0} (q : Questions) (state : LabelState)
     → IfOk r (λ found. IfSome found (λ answers. (text : List ℕ) → FollowsLabel q state text
     → answers.items ≡ found_by q.automata.items text))
 found_of_numbers q state automata numbers (Ok (Some answers)) s t h = λ text follows.
-    let own : numbers ≡ numbers_of automata text = t ∙ follows.numbers ∙ ap (λ xs. numbers_of xs text) (sym s) in
-    let scanned : AreScanned automata text =
-    subst (λ xs. AreScanned xs text) (sym s) (scanned_of_followed q state text follows) in
-    h text own scanned ∙ ap (λ xs. found_by xs text) s
+    grind (arith, common_steps, scanned_of_followed)
 found_of_numbers q state automata numbers r s t h = tt
 
 -- What a state follows, one that is the same follows.
@@ -70,8 +65,4 @@ pub same_follows : (q : Questions) (state other : LabelState) (text : List ℕ)
     → (RestFollows (named_texts q) state.rest text → RestFollows (named_texts q) other.rest text)
     → state.numbers.items ≡ other.numbers.items → FollowsLabel q state text
     → FollowsLabel q other text
-same_follows q state other text tails rests same follows = record {
-  tail = follows.tail ∙ ap Some tails;
-  rest = rests follows.rest;
-  numbers = sym same ∙ follows.numbers;
-}
+same_follows q state other text tails rests same follows = grind (arith, common_steps)

@@ -1,12 +1,13 @@
 -- A text over an alphabet is whole at its front.
-use Rattle.std.proofs.Common.{◌≡◌, ℕ, ◌<◌, ◌≤◌, ◌+◌, ◌/◌, ◌%◌, true, Some, List, [], ◌∷◌, ◌++◌, inl, inr, ltb, refl, ap, subst, ◌∙◌, arith}
+use Rattle.std.proofs.Common.{◌≡◌, ℕ, ◌<◌, ◌≤◌, true, Some, List, [], ◌∷◌, ◌++◌, inl, inr, refl, ap, subst, ◌∙◌, arith}
 use Rattle.std.specs.Option.{option_and_then}
 use Rattle.std.specs.Str.{IsUtf8}
-use Rattle.std.proofs.lemmas.Bool.{cases_lt, cond_both, ltb-true, ltb-false, and_parts}
+use Rattle.std.proofs.lemmas.Bool.{cases_lt, and_parts}
 use Rattle.std.proofs.lemmas.Bool.Decides.{nat_tests}
+use Rattle.std.proofs.lemmas.Grind.{common_steps}
 use lib.Utf8.{scalar, scalars, encode, encodes, scalar_cases}
 use Rattle.am_classes.specs.declared.tail.Tail.{Tail}
-use Rattle.am_classes.specs.declared.tail.Tail.TheVariants.{Whole, One, TwoLow, TwoHigh, ThreeLow, ThreeHigh}
+use Rattle.am_classes.specs.declared.tail.Tail.TheVariants.{Whole, TwoLow, TwoHigh}
 use Rattle.am_classes.specs.declared.alphabet.Alphabet.{Alphabet}
 use Rattle.am_classes.specs.declared.alphabet.Alphabet.TheVariants.{Unicode, Ascii}
 use Rattle.am_classes.specs.Alphabet.{IsOver}
@@ -21,49 +22,26 @@ step_of b text tail next e step = ap (option_and_then (λ last. text_step Unicod
 -- A character of two bytes in front of a whole text.
 two_bytes : (a b : ℕ) (text : List ℕ) → tail_of Unicode text ≡ Some Whole → 194 ≤ a → a < 224 → 128 ≤ b
     → b < 192 → tail_of Unicode (a ∷ b ∷ text) ≡ Some Whole
-two_bytes a b text e la ha lb hb =
-    let one = step_of b text Whole One e (grind (arith, nat_tests)) in
-    step_of a (b ∷ text) One Whole one (grind (arith, nat_tests))
+two_bytes a b text e la ha lb hb = grind (arith, common_steps, step_of, nat_tests)
 
 -- A character of three bytes in front of a whole text.
 three_bytes : (a b d : ℕ) (text : List ℕ) → tail_of Unicode text ≡ Some Whole → 224 ≤ a → a < 240 → 128 ≤ b
     → b < 192 → 128 ≤ d → d < 192 → (a ≡ 224 → 160 ≤ b) → (a ≡ 237 → b < 160)
     → tail_of Unicode (a ∷ b ∷ d ∷ text) ≡ Some Whole
-three_bytes a b d text e la ha lb hb ld hd long valid =
-    let one = step_of d text Whole One e (grind (arith, nat_tests)) in
-    elim (cases_lt b 160) [
-      | inl low ↦
-          let two = step_of b (d ∷ text) One TwoLow one (grind (arith, nat_tests)) in
-          step_of a (b ∷ d ∷ text) TwoLow Whole two (grind (arith, nat_tests))
-      | inr high ↦
-          let two = step_of b (d ∷ text) One TwoHigh one (grind (arith, nat_tests)) in
-          step_of a (b ∷ d ∷ text) TwoHigh Whole two (grind (arith, nat_tests))
-    ]
+three_bytes a b d text e la ha lb hb ld hd long valid = grind (arith, common_steps, step_of, nat_tests, cases_lt)
 
 -- Three bytes of a character in front of one that ends it.
 three_of : (a : Tail) (b d : ℕ) (text : List ℕ) → tail_of Unicode text ≡ Some Whole → 128 ≤ b → b < 192
     → 128 ≤ d → d < 192 → tail_step TwoLow b ≡ Some a → tail_step TwoHigh b ≡ Some a
     → (f : ℕ) → 128 ≤ f → f < 192 → tail_of Unicode (b ∷ d ∷ f ∷ text) ≡ Some a
-three_of a b d text e lb hb ld hd low high f lf hf =
-    let one = step_of f text Whole One e (grind (arith, nat_tests)) in
-    elim (cases_lt d 160) [
-      | inl below ↦ step_of b (d ∷ f ∷ text) TwoLow a (step_of d (f ∷ text) One TwoLow one (grind (arith, nat_tests))) low
-      | inr above ↦ step_of b (d ∷ f ∷ text) TwoHigh a (step_of d (f ∷ text) One TwoHigh one (grind (arith, nat_tests))) high
-    ]
+three_of a b d text e lb hb ld hd low high f lf hf = grind (arith, common_steps, step_of, nat_tests, cases_lt)
 
 -- A character of four bytes in front of a whole text.
 four_bytes : (a b d f : ℕ) (text : List ℕ) → tail_of Unicode text ≡ Some Whole → 240 ≤ a → a < 245 → 128 ≤ b
     → b < 192 → 128 ≤ d → d < 192 → 128 ≤ f → f < 192 → (a ≡ 240 → 144 ≤ b) → (a ≡ 244 → b < 144)
     → tail_of Unicode (a ∷ b ∷ d ∷ f ∷ text) ≡ Some Whole
 four_bytes a b d f text e la ha lb hb ld hd lf hf long valid =
-    elim (cases_lt b 144) [
-      | inl low ↦
-          let three = three_of ThreeLow b d text e lb hb ld hd (grind (arith, nat_tests)) (grind (arith, nat_tests)) f lf hf in
-          step_of a (b ∷ d ∷ f ∷ text) ThreeLow Whole three (grind (arith, nat_tests))
-      | inr high ↦
-          let three = three_of ThreeHigh b d text e lb hb ld hd (grind (arith, nat_tests)) (grind (arith, nat_tests)) f lf hf in
-          step_of a (b ∷ d ∷ f ∷ text) ThreeHigh Whole three (grind (arith, nat_tests))
-    ]
+    grind (arith, common_steps, cases_lt, three_of, nat_tests, step_of)
 
 -- Below the surrogates, or above them.
 abbrev IsValid : ℕ → Type 0
@@ -77,22 +55,11 @@ char_whole : (c : ℕ) (text : List ℕ) → IsValid c → tail_of Unicode text 
     → tail_of Unicode (encode c ++ text) ≡ Some Whole
 unfolding encode
 char_whole c text valid e =
-    cond_both (ltb c 128) _ _ (λ bytes. tail_of Unicode (bytes ++ text) ≡ Some Whole)
-    (λ yes. step_of c text Whole Whole e (grind (arith, nat_tests)))
-    (λ no. cond_both (ltb c 2048) _ _ (λ bytes. tail_of Unicode (bytes ++ text) ≡ Some Whole)
-    (λ yes. let l = ltb-false c 128 no in let h = ltb-true c 2048 yes in
-    two_bytes (192 + c / 64) (128 + c % 64) text e (omega arith) (omega arith) (omega arith) (omega arith))
-    (λ no2. cond_both (ltb c 65536) _ _ (λ bytes. tail_of Unicode (bytes ++ text) ≡ Some Whole)
-    (λ yes. let l = ltb-false c 2048 no2 in let h = ltb-true c 65536 yes in
-    three_bytes (224 + c / 4096) (128 + c / 64 % 64) (128 + c % 64) text e (omega arith) (omega arith) (omega arith) (omega arith) (omega arith) (omega arith) (λ is. omega arith) (λ is. elim (cases_lt c 55296) [ inl below ↦ omega arith | inr above ↦ (let up : 57344 ≤ c = valid.1 above in omega arith) ]))
-    (λ no3. let l = ltb-false c 65536 no3 in let h = valid.0 in
-    four_bytes (240 + c / 262144) (128 + c / 4096 % 64) (128 + c / 64 % 64) (128 + c % 64) text e (omega arith) (omega arith) (omega arith) (omega arith) (omega arith) (omega arith) (omega arith) (omega arith) (λ is. omega arith) (λ is. omega arith))))
+    grind (arith, common_steps, step_of, nat_tests, two_bytes, three_bytes, four_bytes)
 
 chars_whole : (cs : List ℕ) → scalars cs ≡ true → tail_of Unicode (encodes cs) ≡ Some Whole
 chars_whole [] e = refl
-chars_whole (c ∷ cs) e =
-    let parts = and_parts (scalar c) (scalars cs) e in
-    char_whole c (encodes cs) (valid_scalar c parts.0) (chars_whole cs parts.1)
+chars_whole (c ∷ cs) e = grind (arith, common_steps, and_parts, char_whole, valid_scalar, chars_whole cs)
 
 -- A text over an alphabet is whole at its front.
 utf8_whole : (text : List ℕ) → IsUtf8 text → tail_of Unicode text ≡ Some Whole

@@ -1,19 +1,8 @@
-use Rattle.std.proofs.Common.{◌<◌, ◌∷◌, length, slice_index, refl, arith}
+use Rattle.std.proofs.Common.{arith}
 use Rattle.std.proofs.lemmas.Option.{slice_get_read, slice_get-get_or}
-use Rattle.am_scan.specs.Automaton.{number_of}
+use Rattle.std.proofs.lemmas.Grind.{common_steps}
 use Rattle.am_classes.proofs.AutomataLemmas.{mapped_more, number_at}
 use Rattle.am_classes.proofs.automata.next_numbers.Goals as goal
 
 pub loop-i-preserved : goal.loop-i-preserved
-loop-i-preserved c =
-    let automata = c.args.automata.now in
-    let numbers = c.args.numbers.now in
-    let i = c.loop-i.i in
-    let automaton = c.index-automata-i.result in
-    let automaton_at = slice_get_read automata _ i automaton refl c.loop-i-test.true c.index-automata-i.is in
-    let inside : i < length numbers = omega (arith, c.loop-i-test.true) in
-    let read = slice_get-get_or numbers i 0 inside in
-    λ text own.
-    mapped_more (λ a. number_of a (c.args.byte ∷ text)) automata i automaton c.loop-i.nexts.items c.push.new.self.items c.step.result
-    c.loop-i-test.true c.index-automata-i.is c.in_ok-push.ensures.items (c.loop-i.invariant text own)
-    (c.step.ensures text (number_at automata numbers text i automaton (slice_index numbers i) own automaton_at read))
+loop-i-preserved c = grind (arith, common_steps, slice_get_read, slice_get-get_or, mapped_more, number_at)

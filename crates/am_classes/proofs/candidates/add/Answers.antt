@@ -1,4 +1,5 @@
-use Rattle.std.proofs.Common.{◌≡◌, [], ◌∷◌, Some, slice_get, length, string_bytes, refl, sym, ap, ◌∙◌, subst}
+use Rattle.std.proofs.Common.{◌≡◌, [], ◌∷◌, Some, slice_get, length, string_bytes, refl, sym, ap, ◌∙◌, subst, arith}
+use Rattle.std.proofs.lemmas.Grind.{common_steps}
 use Rattle.am_classes.specs.declared.candidate.Candidate.{Candidate}
 use Rattle.am_classes.specs.declared.tail.Tail.TheVariants.{Whole}
 use Rattle.am_classes.specs.Automata.{found_by}
@@ -12,12 +13,7 @@ use Rattle.am_classes.proofs.CandidateLemmas.{apart_pushed}
 use Rattle.am_classes.proofs.candidates.add.Goals as goal
 
 pub returns-then-names_followed-clause-added : goal.returns-then-names_followed-clause-added
-returns-then-names_followed-clause-added c = λ _ text follows whole unnamed.
-    let q = c.args.questions.now in
-    let item = c.args.item.now in
-    let named = (c.names_followed.ensures item.text.items c.requires.follows).0 c.if-names_followed.true in
-    let same = only_named q item.state item.text.items text named c.requires.follows follows in
-    absurd (unnamed (subst (IsNamed q) same named))
+returns-then-names_followed-clause-added c = λ _ text follows whole unnamed. grind (arith, common_steps, only_named)
 
 pub returns-then-has_found-clause-added : goal.returns-then-has_found-clause-added
 returns-then-has_found-clause-added c =

@@ -1,46 +1,23 @@
 use Rattle.std.proofs.Common.{◌≡◌, ◌+◌, ◌<◌, map, length, string_bytes, vec_len, sym, ap, ap₂, ◌∙◌}
-use Rattle.std.proofs.Common.{subst, List, ℕ, arith, length-append}
+use Rattle.std.proofs.Common.{List, arith, length-append}
 use Rattle.am_universe.specs.declared.limits.TheConstants.{MAX_VALUES}
 use Rattle.std.proofs.lemmas.List.{length-map}
+use Rattle.std.proofs.lemmas.Grind.{common_steps}
 use Rattle.am_scan.specs.Automaton.{pattern_of}
 use Rattle.am_labels.specs.Matcher.{Condition}
-use Rattle.am_classes.specs.declared.alphabet.Alphabet.{Alphabet}
-use Rattle.am_classes.specs.Alphabet.{AreOver}
-use Rattle.am_classes.specs.Alike.{Covers, AreApart}
 use Rattle.am_classes.specs.State.{patterns_of}
 use Rattle.am_classes.proofs.AskedLemmas.{has_pattern}
 use Rattle.am_classes.proofs.ClassLemmas.{class_texts, classes_cover, classes_apart, classes_over}
 use Rattle.am_classes.proofs.class_texts.classes.Goals as goal
 
 pub returns-clause-covers : goal.returns-clause-covers
-returns-clause-covers c =
-    let asked = (rw c.in-Some.is at c.in_ok-questions.ensures).some in
-    let alphabet = (rw c.in-Some.is at c.in_ok-questions.ensures).alphabet in
-    let all = (rw c.in-Some-2.is at c.in_ok-candidates.ensures).all in
-    let ms : List Condition = map (λ m. m.now) c.args.matchers.now in
-    let q = c.in-Some.questions in
-    let cs = c.in-Some-2.candidates.items.items in
-    λ yes. subst (λ (ts : List (List ℕ)). Covers c.args.alphabet ms ts) (sym c.in_ok-texts.ensures)
-    (subst (λ (a : Alphabet). Covers a ms (class_texts q cs)) alphabet
-    (classes_cover ms q cs asked (all yes)))
+returns-clause-covers c = grind (arith, common_steps, class_texts, classes_cover)
 
 pub returns-clause-over : goal.returns-clause-over
-returns-clause-over c =
-    let asked = (rw c.in-Some.is at c.in_ok-questions.ensures).some in
-    let alphabet = (rw c.in-Some.is at c.in_ok-questions.ensures).alphabet in
-    let distinct = (rw c.in-Some-2.is at c.in_ok-candidates.ensures).distinct in
-    let ms : List Condition = map (λ m. m.now) c.args.matchers.now in
-    let q = c.in-Some.questions in
-    let cs = c.in-Some-2.candidates.items.items in
-    subst (λ (ts : List (List ℕ)). AreOver c.args.alphabet ts) (sym c.in_ok-texts.ensures)
-    (subst (λ (a : Alphabet). AreOver a (class_texts q cs)) alphabet
-    (classes_over ms q cs asked distinct))
+returns-clause-over c = grind (arith, common_steps, class_texts, classes_over)
 
 pub returns-clause-apart : goal.returns-clause-apart
-returns-clause-apart c =
-    let asked = (rw c.in-Some.is at c.in_ok-questions.ensures).some in
-    let distinct = (rw c.in-Some-2.is at c.in_ok-candidates.ensures).distinct in
-    subst (AreApart _) (sym c.in_ok-texts.ensures) (classes_apart _ c.in-Some.questions c.in-Some-2.candidates.items.items asked distinct)
+returns-clause-apart c = grind (arith, common_steps, classes_apart)
 
 pub returns-clause-many : goal.returns-clause-many
 returns-clause-many c = λ some_missing.
@@ -62,9 +39,4 @@ returns-clause-many c = λ some_missing.
     )
 
 pub returns-in_default-2-clause-none : goal.returns-in_default-2-clause-none
-returns-in_default-2-clause-none c =
-    let questions = c.in-Some.questions in
-    let asked = (rw c.in-Some.is at c.in_ok-questions.ensures).some in
-    let some = rw c.in_default-2.is at c.in_ok-candidates.ensures.none in
-    has_pattern questions.alphabet (map (λ m. m.now) c.args.matchers.now) (patterns_of questions) asked.patterns
-    (omega (arith, some, length-map questions.automata.items pattern_of))
+returns-in_default-2-clause-none c = grind (arith, common_steps, has_pattern, length-map)

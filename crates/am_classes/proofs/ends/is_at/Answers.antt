@@ -1,8 +1,8 @@
-use Rattle.std.proofs.Common.{Some, string_bytes, refl, sym, ap, ◌∙◌, ltb-false}
+use Rattle.std.proofs.Common.{Some, string_bytes, refl, sym, ap, ◌∙◌, arith}
 use Rattle.std.proofs.lemmas.Option.{slice_get_read, slice_get_past, slice_get-map, same_Some}
-use Rattle.std.specs.Option.{option_map}
 use Rattle.std.proofs.lemmas.Bool.Decides.{Decides-eqb}
 use Rattle.std.proofs.lemmas.Slice.Eq.{slice_eq-Decides}
+use Rattle.std.proofs.lemmas.Grind.{common_steps}
 use Rattle.am_classes.proofs.AutomataLemmas.{get_under}
 use Rattle.am_classes.proofs.ends.is_at.Goals as goal
 
@@ -26,9 +26,4 @@ returns-in-Some-clause-no c = λ no at.
     absurd cc
 
 pub returns-in-None-clause-no : goal.returns-in-None-clause-no
-returns-in-None-clause-no c = λ _ at.
-    let texts = c.args.texts.now in
-    let past = ltb-false c.args.place _ (sym c.in-None.ensures.lookup.0) in
-    let none = slice_get-map string_bytes texts c.args.place ∙ ap (option_map string_bytes) (slice_get_past texts c.args.place past) in
-    let some = sym at ∙ none in
-    absurd cc
+returns-in-None-clause-no c = λ _ at. grind (arith, common_steps, slice_get-map, slice_get_past)

@@ -1,4 +1,5 @@
-use Rattle.std.proofs.Common.{◌≡◌, ℕ, Some, true, map, slice_get, string_bytes, sym, ap, ◌∙◌, subst}
+use Rattle.std.proofs.Common.{◌≡◌, ℕ, Some, true, map, slice_get, string_bytes, sym, ap, ◌∙◌, subst, arith}
+use Rattle.std.proofs.lemmas.Grind.{common_steps}
 use Rattle.am_labels.specs.Matcher.{takes_pattern}
 use Rattle.am_classes.specs.Values.{AreValues, counts}
 use Rattle.am_classes.proofs.BoolLemmas.{differs, agrees}
@@ -7,31 +8,13 @@ use Rattle.am_classes.proofs.AskedLemmas.{values_skip, values_same, values_push}
 use Rattle.am_classes.proofs.questions.values.Goals as goal
 
 pub loop-matcher-preserved-then-takes_pattern-patterns : goal.loop-matcher-preserved-then-takes_pattern-patterns
-loop-matcher-preserved-then-takes_pattern-patterns c =
-    let longer = map_front (λ m. m.now) c.args.matchers.now c.loop-matcher.matcher-index c.matcher-item.result c.loop-matcher-test.true c.matcher-item.is in
-    let other : takes_pattern c.matcher-item.result.now.op ≡ c.args.patterns → ⊥ = λ takes.
-    (let r : c.takes_pattern.result ≡ c.args.patterns = c.takes_pattern.ensures ∙ ap takes_pattern c.op.ensures.op ∙ takes in
-    differs c.takes_pattern.result c.args.patterns c.if-takes_pattern-patterns.true r) in
-    subst (λ ms. AreValues c.args.alphabet ms c.args.patterns (map string_bytes c.loop-matcher.values.items)) (sym longer) (values_skip c.args.alphabet _ c.matcher-item.result.now _ _ c.loop-matcher.invariant (λ takes _. other takes))
+loop-matcher-preserved-then-takes_pattern-patterns c = grind (arith, common_steps, map_front, differs, values_skip)
 
 pub loop-matcher-preserved-then-not-counts : goal.loop-matcher-preserved-then-not-counts
-loop-matcher-preserved-then-not-counts c =
-    let longer = map_front (λ m. m.now) c.args.matchers.now c.loop-matcher.matcher-index c.matcher-item.result c.loop-matcher-test.true c.matcher-item.is in
-    let other : counts c.args.alphabet c.args.patterns c.matcher-item.result.now.value ≡ true → ⊥ = λ counted.
-    (let r : c.counts.result ≡ true = c.counts.ensures ∙ ap (counts c.args.alphabet c.args.patterns) c.value-value.ensures.value ∙ counted in
-    let missed = c.if-not-counts.true in
-    absurd cc) in
-    subst (λ ms. AreValues c.args.alphabet ms c.args.patterns (map string_bytes c.loop-matcher.values.items)) (sym longer) (values_skip c.args.alphabet _ c.matcher-item.result.now _ _ c.loop-matcher.invariant (λ _ counted. other counted))
+loop-matcher-preserved-then-not-counts c = grind (arith, common_steps, map_front, values_skip)
 
 pub loop-matcher-preserved-then-is_among : goal.loop-matcher-preserved-then-is_among
-loop-matcher-preserved-then-is_among c =
-    let longer = map_front (λ m. m.now) c.args.matchers.now c.loop-matcher.matcher-index c.matcher-item.result c.loop-matcher-test.true c.matcher-item.is in
-    let found = c.is_among.ensures.0 c.if-is_among.true in
-    let there =
-    subst (λ xs. slice_get (map string_bytes xs) found.0 ≡ Some c.as_bytes.result.now) c.as_slice.ensures.value found.1
-    ∙ ap Some (c.as_bytes.ensures.value ∙ c.value-value.ensures.value)
-    in
-    subst (λ ms. AreValues c.args.alphabet ms c.args.patterns (map string_bytes c.loop-matcher.values.items)) (sym longer) (values_same c.args.alphabet _ c.matcher-item.result.now _ _ c.loop-matcher.invariant found.0 there)
+loop-matcher-preserved-then-is_among c = grind (arith, common_steps, map_front, values_same)
 
 pub loop-matcher-preserved : goal.loop-matcher-preserved
 loop-matcher-preserved c =

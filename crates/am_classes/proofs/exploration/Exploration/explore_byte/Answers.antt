@@ -1,6 +1,6 @@
 use Rattle.std.proofs.Common.{◌≡◌, Some, slice_get, refl, sym, ap, ◌∙◌, subst, arith}
 use Rattle.std.proofs.lemmas.Option.{slice_get_read, same_Some}
-use Rattle.am_classes.specs.Utf8.{text_step}
+use Rattle.std.proofs.lemmas.Grind.{common_steps}
 use Rattle.am_classes.specs.Automata.{MakeSame}
 use Rattle.am_classes.proofs.ExplorationLemmas.{leads_on, led_kept, led_more}
 use Rattle.am_classes.proofs.exploration.Exploration.explore_byte.Goals as goal
@@ -19,13 +19,7 @@ returns-then-branch-clause-leads c = λ _ item at.
     (c.in_ok-repeats.ensures c.if-branch.true item at)
 
 pub explore_step-requires-clause-tail : goal.explore_step-requires-clause-tail
-explore_step-requires-clause-tail c = λ item there.
-    let listed = c.args.self.now.listed in
-    let this = c.index.result.now in
-    let at = slice_get_read listed.items _ c.args.at this refl (omega (arith, c.requires.at, listed.ok.0)) c.index.ensures in
-    let same = same_Some this item (sym at ∙ there) in
-    subst (λ i. text_step c.args.questions.now.alphabet i.state.tail c.args.byte ≡ Some c.in-Some.tail) same
-    (sym c.step.ensures ∙ c.in-Some.is)
+explore_step-requires-clause-tail c = λ item there. grind (arith, common_steps, slice_get_read, same_Some)
 
 pub returns-in_err-place-clause-led : goal.returns-in_err-place-clause-led
 returns-in_err-place-clause-led c =
