@@ -1,8 +1,8 @@
 -- What the pages of a search under a budget are: what came before the stop, and what is left.
-use Rattle.std.proofs.Common.{◌≡◌, ◌⊎◌, ℕ, zero, suc, ◌+◌, ◌-◌, ◌<◌, ◌≤◌, Bool, true, false, not, cond, nat_eq, List, [], ◌∷◌, ◌++◌, length, take, drop, get_or, slice_get, Option, Some, None, IfSome, length-append, ap, sym, subst, ◌∙◌, refl, inl, inr, arith, append-nil}
+use Rattle.std.proofs.Common.{◌≡◌, ◌⊎◌, ℕ, zero, suc, ◌+◌, ◌<◌, ◌≤◌, Bool, true, false, not, nat_eq, List, [], ◌∷◌, ◌++◌, length, take, drop, slice_get, Option, Some, None, IfSome, length-append, ap, sym, subst, ◌∙◌, refl, inl, inr, arith, append-nil, rules}
 use Rattle.std.specs.List.{filter, flat_map, starts_with}
 use Rattle.std.proofs.lemmas.Bool.{false≢true, false_from_ne_true, cases_Bool, cases_lt}
-use Rattle.std.proofs.lemmas.Grind.{flat_map-append}
+use Rattle.std.proofs.lemmas.Grind.{flat_map-append, common_steps}
 use Rattle.std.proofs.lemmas.List.{take-append-le, take-append-drop, get_or_append_left, take_all}
 use Rattle.std.proofs.lemmas.List.Elements.{filter-append}
 use Rattle.am_universe.specs.Choice.{choices}
@@ -13,10 +13,9 @@ use Rattle.am_search.specs.declared.start.Start.TheVariants.{At}
 use Rattle.am_search.specs.declared.trailer.Trailer.{Trailer}
 use Rattle.am_search.specs.declared.trailer.Trailer.TheVariants.{End, Next, Stopped}
 use Rattle.am_search.specs.declared.verdict.Verdict.{Verdict}
-use Rattle.am_search.specs.declared.verdict.Verdict.TheVariants.{Yes, No, Open}
-use Rattle.am_search.specs.Judge.{IsJudge, is_open, is_yes}
-use Rattle.am_search.specs.Start.{comes_before, first_of_start, at_or_after, choices_from, answers_from}
-use Rattle.am_search.specs.Visits.{visited, completions_from, given_at, given_by, given_under}
+use Rattle.am_search.specs.Judge.{IsJudge, is_open}
+use Rattle.am_search.specs.Start.{comes_before, at_or_after, choices_from, answers_from}
+use Rattle.am_search.specs.Visits.{visited, given_at, given_by, given_under}
 use Rattle.am_search.specs.Page.{page_ending, page_of, page_from, rest_after}
 use Rattle.am_search.specs.BudgetPage.{stop_of, trailer_at, page_under, IsEnough}
 use Rattle.am_search.proofs.ChoiceOrder.{got_at, Ascends, above_first, ascends_rest, not_back, before_trans, filter_all, filter_none, in_filter}
@@ -31,8 +30,7 @@ use Rattle.am_search.proofs.Pages.{choices_at, filters_swapped, filter_within, p
 
 -- what does not come before a later choice does not come before an earlier one
 pub stays_from : (f p c : List ℕ) → comes_before f p ≡ true → not (comes_before c p) ≡ true → not (comes_before c f) ≡ true
-stays_from f p c less late = ap not (false_from_ne_true (comes_before c f) (λ early.
-    false≢true (sym (ap not (before_trans c f p early less)) ∙ late)))
+stays_from f p c less late = grind (arith, common_steps, false_from_ne_true, before_trans)
 
 -- ---- Before and after a place in a list that ascends.
 
@@ -54,17 +52,11 @@ in_taken xs k q i = subst (λ l. IsIn l q) (take-append-drop k xs) (IsIn-left (t
 -- a filter of joined lists whose members all pass, or all fail
 all_joined : (test : List ℕ → Bool) (f : List ℕ → List (List ℕ)) (ps : List (List ℕ)) → ((p c : List ℕ) → IsIn ps p → IsIn (f p) c → test c ≡ true) → filter test (flat_map f ps) ≡ flat_map f ps
 all_joined test f [] h = refl
-all_joined test f (p ∷ ps) h =
-    filter-append test (f p) (flat_map f ps)
-    ∙ ap (λ l. l ++ filter test (flat_map f ps)) (filter_all test (f p) (λ c i. h p c (inl refl) i))
-    ∙ ap (λ l. f p ++ l) (all_joined test f ps (λ q c i. h q c (inr i)))
+all_joined test f (p ∷ ps) h = grind (arith, common_steps, filter-append, filter_all, all_joined test f ps)
 
 none_joined : (test : List ℕ → Bool) (f : List ℕ → List (List ℕ)) (ps : List (List ℕ)) → ((p c : List ℕ) → IsIn ps p → IsIn (f p) c → test c ≡ false) → filter test (flat_map f ps) ≡ []
 none_joined test f [] h = refl
-none_joined test f (p ∷ ps) h =
-    filter-append test (f p) (flat_map f ps)
-    ∙ ap (λ l. l ++ filter test (flat_map f ps)) (filter_none test (f p) (λ c i. h p c (inl refl) i))
-    ∙ none_joined test f ps (λ q c i. h q c (inr i))
+none_joined test f (p ∷ ps) h = grind (arith, common_steps, filter-append, filter_none, none_joined test f ps)
 
 -- ---- What a prefix gives begins with it, and the prefix is judged `Yes`.
 
@@ -74,16 +66,10 @@ record IsGivenAt (verdict : List ℕ → Verdict) (q c : List ℕ) : Type 0 wher
 
 in_completions_from : (sizes q c : List ℕ) (first : Option (List ℕ)) → IsIn (at_or_after first (completions sizes q)) c → starts_with nat_eq c q ≡ true
 in_completions_from sizes q c None i = absurd i
-in_completions_from sizes q c (Some f) i =
-    (in_filter (λ d. starts_with nat_eq d q) (choices sizes) c (in_filter (λ d. not (comes_before d f)) (completions sizes q) c i).0).1
+in_completions_from sizes q c (Some f) i = grind (arith, common_steps, in_filter)
 
 given_at_is : (sizes : List ℕ) (verdict : List ℕ → Verdict) (start : Start) (q c : List ℕ) → IsIn (given_at sizes verdict start q) c → IsGivenAt verdict q c
-given_at_is sizes verdict start q c i = by (verdict q) refl i
-  where
-    by : (v : Verdict) → verdict q ≡ v → IsIn (cond (is_yes v) (completions_from sizes start q) []) c → IsGivenAt verdict q c
-    by Yes e j = record { begins = in_completions_from sizes q c (first_of_start sizes start) j; closed = ap is_open e }
-    by No e j = absurd j
-    by Open e j = absurd j
+given_at_is sizes verdict start q c i = grind (arith, common_steps, in_completions_from)
 
 -- ---- What is given before a visited prefix, and from there on.
 
@@ -158,13 +144,7 @@ longer : (f a b : List ℕ) → starts_with nat_eq f a ≡ true → starts_with 
 longer f a [] h k less = absurd (false≢true (sym (before_nothing a) ∙ less))
 longer f [] (q ∷ b) h k less = omega arith
 longer [] (p ∷ a) (q ∷ b) h k less = absurd (false≢true h)
-longer (r ∷ f) (p ∷ a) (q ∷ b) h k less =
-    let to_a = begins_parts r p f a h in
-    let to_b = begins_parts r q f b k in
-    elim (before_parts p q a b less) [
-      | inl l ↦ absurd (omega (arith, l, to_a.0, to_b.0))
-      | inr same ↦ omega (arith, longer f a b to_a.1 to_b.1 same.1)
-    ]
+longer (r ∷ f) (p ∷ a) (q ∷ b) h k less = grind (arith, common_steps, begins_parts, before_parts, longer f a b)
 
 deep : (f : List ℕ) (xs : List (List ℕ)) (n k : ℕ) (p : List ℕ) → Ascends xs → ((y : List ℕ) → IsIn xs y → ReachesTo f y)
     → ((y : List ℕ) → IsIn xs y → starts_with nat_eq f y ≡ true → n ≤ length y) → slice_get xs k ≡ Some p → starts_with nat_eq f p ≡ true → n + k ≤ length p
@@ -209,9 +189,7 @@ module _ (sizes : List ℕ) (verdict : List ℕ → Verdict) (start : Start) (k 
 all_given : (sizes : List ℕ) (truth : List ℕ → Bool) (verdict : List ℕ → Verdict) (start : Start) (budget : Option ℕ) → IsJudge sizes truth verdict
     → stop_of sizes verdict start budget ≡ None → given_under sizes verdict start budget ≡ answers_from sizes truth start
 all_given sizes truth verdict start None law none = visited_give sizes truth verdict start law
-all_given sizes truth verdict start (Some k) law none =
-    ap (given_by sizes verdict start) (take_all k (visited sizes verdict start) (past_length (visited sizes verdict start) k none))
-    ∙ visited_give sizes truth verdict start law
+all_given sizes truth verdict start (Some k) law none = grind (arith, common_steps, take_all, past_length, visited_give)
 
 -- the answers under a budget are the first of all
 given_first : (sizes : List ℕ) (truth : List ℕ → Bool) (verdict : List ℕ → Verdict) (start : Start) (budget : Option ℕ) → IsJudge sizes truth verdict
@@ -227,18 +205,12 @@ given_first sizes truth verdict start (Some k) law =
 
 -- a page that is cut by its limit is that of all answers
 same_part : (ending : Trailer) (xs later : List (List ℕ)) (n : ℕ) → 0 < n → n < length xs → page_ending ending xs (Some n) ≡ page_of (xs ++ later) (Some n)
-same_part ending xs later n some more =
-    page_of_part ending xs n more
-    ∙ ap (λ l. record { choices = l; trailer = Next (get_or xs (n - 1) []) }) (sym (take-append-le n xs later (omega (arith, more))))
-    ∙ ap (λ l. record { choices = take n (xs ++ later); trailer = Next l }) (sym (get_or_append_left xs later [] (n - 1) (omega (arith, some, more))))
-    ∙ sym (page_of_part End (xs ++ later) n (omega (arith, more, length-append xs later)))
+same_part ending xs later n some more = search (rules, page_of_part, take-append-le, get_or_append_left, length-append)
 
 module _ (sizes : List ℕ) (truth : List ℕ → Bool) (verdict : List ℕ → Verdict) (start : Start) (law : IsJudge sizes truth verdict) where
   -- without a stop, or cut by the limit, the page is the one without a budget
   pub same_unstopped : (limit budget : Option ℕ) → stop_of sizes verdict start budget ≡ None → page_under sizes verdict start limit budget ≡ page_from sizes truth start limit
-  same_unstopped limit budget none =
-      ap (λ o. page_ending (trailer_at o) (given_under sizes verdict start budget) limit) none
-      ∙ ap (λ xs. page_of xs limit) (all_given sizes truth verdict start budget law none)
+  same_unstopped limit budget none = grind (arith, common_steps, all_given)
 
   same_cut : (limit budget : Option ℕ) (n : ℕ) → limit ≡ Some n → 0 < n → n < length (given_under sizes verdict start budget)
       → page_under sizes verdict start limit budget ≡ page_from sizes truth start limit
@@ -286,10 +258,7 @@ module _ (sizes : List ℕ) (truth : List ℕ → Bool) (verdict : List ℕ → 
 
 -- a page without a budget does not stop
 pub never_stopped : (sizes : List ℕ) (truth : List ℕ → Bool) (start : Start) (limit : Option ℕ) (p : List ℕ) → IfSome limit (λ n. 0 < n) → (page_from sizes truth start limit).trailer ≡ Stopped p → ⊥
-never_stopped sizes truth start limit p some e = elim (kind_of End (answers_from sizes truth start) limit some) [
-  | part c n h ↦ let next : Next c ≡ Stopped p = sym h.trailer ∙ e in cc
-  | whole h ↦ let end : End ≡ Stopped p = sym h.trailer ∙ e in cc
-]
+never_stopped sizes truth start limit p some e = grind (arith, common_steps, kind_of, part, whole)
 
 -- ---- Laws of pages under a budget.
 
@@ -310,13 +279,7 @@ module _ (sizes : List ℕ) (truth : List ℕ → Bool) (verdict : List ℕ → 
   -- one that stops at a prefix has the answers before it
   pub stopped_before : (p : List ℕ) → (page_under sizes verdict start limit budget).trailer ≡ Stopped p
       → (page_under sizes verdict start limit budget).choices ≡ filter (λ c. comes_before c p) (answers_from sizes truth start)
-  stopped_before p e = elim (under_kind sizes truth verdict start law limit budget some) [
-    | without same ↦ absurd (never_stopped sizes truth start limit p some (sym (ap (λ page. page.trailer) same) ∙ e))
-    | stopped k q is at_k ends has ↦
-        let both : Stopped q ≡ Stopped p = sym ends ∙ e in
-        let here : q ≡ p = cc in
-        has ∙ given_before sizes verdict start k q at_k truth law ∙ ap (λ x. filter (λ c. comes_before c x) (answers_from sizes truth start)) here
-  ]
+  stopped_before p e = grind (arith, common_steps, under_kind, never_stopped, given_before)
 
   module _ (enough : IsEnough sizes budget) where
     pub enough_steps : (k : ℕ) → budget ≡ Some k → length sizes < k

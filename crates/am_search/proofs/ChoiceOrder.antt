@@ -1,5 +1,5 @@
 -- The order of choices, and lists of choices that ascend in it.
-use Rattle.std.proofs.Common.{◌≡◌, ◌⊎◌, ℕ, zero, suc, ◌-◌, ◌<◌, Bool, true, false, not, cond, List, [], ◌∷◌, length, take, drop, get_or, Option, Some, None, IfSome, slice_get, ap, sym, subst, ◌∙◌, refl, inl, inr, arith}
+use Rattle.std.proofs.Common.{◌≡◌, ◌⊎◌, ℕ, zero, suc, ◌-◌, ◌<◌, Bool, true, false, not, cond, List, [], ◌∷◌, length, take, drop, get_or, Option, Some, None, IfSome, slice_get, ap, sym, subst, ◌∙◌, refl, inl, inr, arith, rules}
 use Rattle.std.specs.List.{filter, find}
 use Rattle.std.specs.List.Sorted.{IsStrictlySortedBy}
 use Rattle.std.specs.Ordering.{nat_cmp, is_lt, ordering_reverse}
@@ -10,6 +10,7 @@ use Rattle.std.proofs.lemmas.Bool.{false≢true}
 use Rattle.std.proofs.lemmas.Cmp.{nat_list_cmp_total}
 use Rattle.std.proofs.lemmas.List.Elements.{Contains-get_or}
 use Rattle.std.proofs.lemmas.Option.{slice_get_within, get_or_from_slice_get}
+use Rattle.std.proofs.lemmas.Grind.{common_steps}
 use Rattle.am_universe.proofs.ListLemmas.{IsIn, IsIn-from_Contains, AllByRecursion-at}
 use Rattle.am_search.specs.Start.{comes_before, at_or_after}
 
@@ -60,20 +61,13 @@ in_cond test x y l false e i = inr i
 
 pub in_filter : {X : Type 0} (test : X → Bool) (xs : List X) (y : X) → IsIn (filter test xs) y → IsIn xs y × (test y ≡ true)
 in_filter test [] y h = absurd h
-in_filter test (x ∷ xs) y h = elim (in_cond test x y (filter test xs) (test x) refl h) [
-  | inl a ↦ (inl a.0, a.1)
-  | inr i ↦ let r = in_filter test xs y i in (inr r.0, r.1)
-]
+in_filter test (x ∷ xs) y h = grind (arith, common_steps, in_cond, in_filter test xs y)
 
 -- and what it does keep
 pub into_filter : {X : Type 0} (test : X → Bool) (xs : List X) (x : X) → IsIn xs x → test x ≡ true → IsIn (filter test xs) x
 into_filter test [] x i h = absurd i
 into_filter test (y ∷ xs) x (inl e) h = subst (λ l. IsIn l x) (sym (filter_step test y xs true (ap test e ∙ h))) (inl e)
-into_filter test (y ∷ xs) x (inr i) h = by (test y) (into_filter test xs x i h)
-  where
-    by : (b : Bool) → IsIn (filter test xs) x → IsIn (cond b (y ∷ filter test xs) (filter test xs)) x
-    by true j = inr j
-    by false j = j
+into_filter test (y ∷ xs) x (inr i) h = grind (arith, common_steps, into_filter test xs x i h)
 
 -- what is at a place is one of them
 pub got_at : {X : Type 0} (xs : List X) (k : ℕ) (x : X) → slice_get xs k ≡ Some x → IsIn xs x
@@ -88,11 +82,7 @@ none_found test (x ∷ xs) none = rw (none x (inl refl)) (none_found test xs (λ
 -- the first that passes is one of them
 found_cond : (test : List ℕ → Bool) (x : List ℕ) (xs : List (List ℕ)) (b : Bool) → IfSome (find test xs) (λ f. IsIn xs f) → IfSome (cond b (Some x) (find test xs)) (λ f. IsIn (x ∷ xs) f)
 found_cond test x xs true h = inl refl
-found_cond test x xs false h = later (find test xs) h
-  where
-    later : (o : Option (List ℕ)) → IfSome o (λ f. IsIn xs f) → IfSome o (λ f. IsIn (x ∷ xs) f)
-    later None h = tt
-    later (Some f) h = inr h
+found_cond test x xs false h = grind (arith, common_steps)
 
 pub found_in : (test : List ℕ → Bool) (xs : List (List ℕ)) → IfSome (find test xs) (λ f. IsIn xs f)
 found_in test [] = tt
@@ -113,9 +103,7 @@ ascends_rest x xs s = s.1
 
 -- all are at or after the first of them
 pub from_first : (x : List ℕ) (xs : List (List ℕ)) → Ascends (x ∷ xs) → at_or_after (Some x) (x ∷ xs) ≡ x ∷ xs
-from_first x xs s =
-    filter_step (λ d. not (comes_before d x)) x xs true (ap not (not_itself x))
-    ∙ ap (λ l. x ∷ l) (filter_all (λ d. not (comes_before d x)) xs (λ y i. ap not (not_back x y (above_first x xs y s i))))
+from_first x xs s = grind (arith, common_steps, filter_step, not_itself, filter_all, not_back, above_first)
 
 -- what comes after the first of them
 after_first : (x : List ℕ) (xs : List (List ℕ)) → Ascends (x ∷ xs) → filter (comes_before x) (x ∷ xs) ≡ xs
@@ -128,26 +116,15 @@ from_later x xs (Some f) s h = filter_step (λ d. not (comes_before d f)) x xs f
 -- one of them, and what comes after it
 pub from_member : (xs : List (List ℕ)) (c : List ℕ) → Ascends xs → IsIn xs c → at_or_after (Some c) xs ≡ c ∷ filter (comes_before c) xs
 from_member [] c s i = absurd i
-from_member (x ∷ xs) c s (inl e) = subst (λ c. at_or_after (Some c) (x ∷ xs) ≡ c ∷ filter (comes_before c) (x ∷ xs)) e
-    (from_first x xs s ∙ ap (λ l. x ∷ l) (sym (after_first x xs s)))
+from_member (x ∷ xs) c s (inl e) = grind (arith, common_steps, from_first, after_first)
 from_member (x ∷ xs) c s (inr i) =
-    let less : comes_before x c ≡ true = above_first x xs c s i in
-    from_later x xs (Some c) s i ∙ from_member xs c (ascends_rest x xs s) i
-    ∙ ap (λ l. c ∷ l) (sym (filter_step (comes_before c) x xs false (not_back x c less)))
+    grind (arith, common_steps, above_first, from_later, from_member xs c, ascends_rest, filter_step, not_back)
 
 -- from the first that comes after a choice on, all do
 pub from_found : (xs : List (List ℕ)) (c : List ℕ) → Ascends xs → at_or_after (find (comes_before c) xs) xs ≡ filter (comes_before c) xs
 from_found [] c s = refl
-from_found (x ∷ xs) c s = by (from_found xs c (ascends_rest x xs s)) (comes_before c x) refl
-  where
-    by : at_or_after (find (comes_before c) xs) xs ≡ filter (comes_before c) xs → (b : Bool) → comes_before c x ≡ b → at_or_after (cond (comes_before c x) (Some x) (find (comes_before c) xs)) (x ∷ xs) ≡ filter (comes_before c) (x ∷ xs)
-    by rest true e =
-        ap (λ b. at_or_after (cond b (Some x) (find (comes_before c) xs)) (x ∷ xs)) e ∙ from_first x xs s
-        ∙ sym (filter_all (comes_before c) (x ∷ xs) (λ y i. elim i [ inl same ↦ sym (ap (comes_before c) same) ∙ e | inr later ↦ before_trans c x y e (above_first x xs y s later) ]))
-    by rest false e =
-        ap (λ b. at_or_after (cond b (Some x) (find (comes_before c) xs)) (x ∷ xs)) e
-        ∙ from_later x xs (find (comes_before c) xs) s (found_in (comes_before c) xs) ∙ rest
-        ∙ sym (filter_step (comes_before c) x xs false e)
+from_found (x ∷ xs) c s =
+    grind (arith, common_steps, from_found xs c, ascends_rest, from_first, filter_all, before_trans, above_first, from_later, found_in, filter_step)
 
 -- a member, and what is from the first after it on
 pub member_then_rest : (xs : List (List ℕ)) (c : List ℕ) → Ascends xs → IsIn xs c → at_or_after (Some c) xs ≡ c ∷ at_or_after (find (comes_before c) xs) xs
@@ -161,10 +138,7 @@ in_at ys k h = IsIn-from_Contains ys (get_or ys k []) (Contains-get_or ys k [] h
 after_nth : (xs : List (List ℕ)) (n : ℕ) → Ascends xs → n < length xs → filter (comes_before (get_or xs n [])) xs ≡ drop (suc n) xs
 after_nth [] n s h = absurd (omega arith)
 after_nth (x ∷ xs) zero s h = after_first x xs s
-after_nth (x ∷ xs) (suc n) s h =
-    let c : List ℕ = get_or xs n [] in
-    let less : comes_before x c ≡ true = above_first x xs c s (in_at xs n (omega arith)) in
-    filter_step (comes_before c) x xs false (not_back x c less) ∙ after_nth xs n (ascends_rest x xs s) (omega arith)
+after_nth (x ∷ xs) (suc n) s h = search (rules, above_first, in_at, filter_step, not_back, after_nth xs n, ascends_rest)
 
 -- after the last of the first n come the others
 pub after_taken : (xs : List (List ℕ)) (n : ℕ) → Ascends xs → 0 < n → n < length xs → filter (comes_before (get_or xs (n - 1) [])) xs ≡ drop n xs
@@ -175,13 +149,8 @@ after_taken xs n s some h =
 -- the first n are those that the last of them does not come before
 up_to_nth : (xs : List (List ℕ)) (n : ℕ) → Ascends xs → n < length xs → filter (λ d. not (comes_before (get_or xs n []) d)) xs ≡ take (suc n) xs
 up_to_nth [] n s h = absurd (omega arith)
-up_to_nth (x ∷ xs) zero s h =
-    filter_step (λ d. not (comes_before x d)) x xs true (ap not (not_itself x))
-    ∙ ap (λ l. x ∷ l) (filter_none (λ d. not (comes_before x d)) xs (λ y i. ap not (above_first x xs y s i)))
-up_to_nth (x ∷ xs) (suc n) s h =
-    let c : List ℕ = get_or xs n [] in
-    let less : comes_before x c ≡ true = above_first x xs c s (in_at xs n (omega arith)) in
-    filter_step (λ d. not (comes_before c d)) x xs true (ap not (not_back x c less)) ∙ ap (λ l. x ∷ l) (up_to_nth xs n (ascends_rest x xs s) (omega arith))
+up_to_nth (x ∷ xs) zero s h = search (rules, filter_step, not_itself, filter_none, above_first)
+up_to_nth (x ∷ xs) (suc n) s h = search (rules, above_first, in_at, filter_step, not_back, up_to_nth xs n, ascends_rest)
 
 pub up_to_taken : (xs : List (List ℕ)) (n : ℕ) → Ascends xs → 0 < n → n < length xs → filter (λ d. not (comes_before (get_or xs (n - 1) []) d)) xs ≡ take n xs
 up_to_taken xs n s some h =

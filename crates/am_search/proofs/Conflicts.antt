@@ -1,12 +1,12 @@
 -- Conflicts, as a search that jumps meets them.
-use Rattle.std.proofs.Common.{◌≡◌, ℕ, zero, suc, ◌+◌, ◌<◌, ◌≤◌, Bool, true, false, ◌&&◌, ◌||◌, List, [], ◌∷◌, ◌++◌, length, slice_index, nat_eq, nat_lt, Option, Some, None, IfSome, IfNone, refl, ap, sym, subst, ◌∙◌, inl, inr, arith}
-use Rattle.std.specs.Prelude.{IsTrue}
+use Rattle.std.proofs.Common.{◌≡◌, ℕ, zero, suc, ◌+◌, ◌<◌, ◌≤◌, Bool, true, false, ◌&&◌, ◌||◌, List, [], ◌∷◌, ◌++◌, length, slice_index, nat_eq, nat_lt, Option, Some, None, IfSome, IfNone, refl, ap, sym, ◌∙◌, inl, inr, arith, rules}
 use Rattle.std.specs.List.{find, flat_map, range_with_len, starts_with}
 use Rattle.std.specs.Option.{option_or}
-use Rattle.std.proofs.lemmas.Bool.{cases_Bool, cases_eq, cases_lt, and_parts, and_from, or_right, eqb-true, ltb-true, lt-ltb}
+use Rattle.std.proofs.lemmas.Bool.{cases_eq, cases_lt, and_parts, eqb-true}
 use Rattle.std.proofs.lemmas.List.{length_push, get_or_push, get_or_append_left, same_from_push}
 use Rattle.std.proofs.lemmas.List.Folds.{find-append}
 use Rattle.std.proofs.Math.Nat.{eq-or-lt_of_le}
+use Rattle.std.proofs.lemmas.Grind.{common_steps}
 use Rattle.am_universe.specs.Choice.{choices, admits, IsWhole}
 use Rattle.am_universe.specs.Completions.{completions}
 use Rattle.am_universe.proofs.ListLemmas.{IsIn}
@@ -26,20 +26,16 @@ use Rattle.am_search.proofs.Walks.{found, completion_whole}
 pub taken_off : (r : Option ℕ) (old before after : List ℕ) (p : ℕ)
     → IfSome r (λ q. before ≡ after ++ q ∷ []) → IfNone r ((before ≡ []) × (after ≡ []))
     → before ≡ old ++ p ∷ [] → after ≡ old
-taken_off None old before after p last none e =
-    absurd (omega (arith, length_push old p, ap length (sym none.0 ∙ e)))
-taken_off (Some q) old before after p last none e =
-    (same_from_push after old q p (sym last ∙ e)).0
+taken_off None old before after p last none e = grind (arith, common_steps, length_push)
+taken_off (Some q) old before after p last none e = grind (arith, common_steps, same_from_push)
 
 -- a choice that begins with a prefix has its positions
 pub begins_at : (c prefix : List ℕ) (i : ℕ) → starts_with nat_eq c prefix ≡ true → i < length prefix
     → slice_index c i ≡ slice_index prefix i
 begins_at c [] i e h = absurd (omega arith)
 begins_at [] (p ∷ prefix) i e h = cc
-begins_at (q ∷ c) (p ∷ prefix) zero e h =
-    sym (eqb-true p q (and_parts (nat_eq p q) (starts_with nat_eq c prefix) e).0)
-begins_at (q ∷ c) (p ∷ prefix) (suc i) e h =
-    begins_at c prefix i (and_parts (nat_eq p q) (starts_with nat_eq c prefix) e).1 (omega arith)
+begins_at (q ∷ c) (p ∷ prefix) zero e h = search (rules, eqb-true, and_parts)
+begins_at (q ∷ c) (p ∷ prefix) (suc i) e h = search (rules, begins_at c prefix i, and_parts)
 
 -- ---- Conflicts.
 
@@ -48,18 +44,7 @@ module _ (ns : List ℕ) (truth : List ℕ → Bool) where
   pub jump : (labels : Labels) (prefix : List ℕ) (p : ℕ)
       → IsConflict ns truth labels (prefix ++ p ∷ [])
       → has_label labels (length prefix) ≡ false → IsConflict ns truth labels prefix
-  jump labels prefix p h out = record {
-    within = within;
-    none_true = λ c whole agrees. h.none_true c whole (λ i has.
-        agrees i has ∙ sym (get_or_append_left prefix (p ∷ []) 0 i (within i has)));
-  }
-    where
-      within : (i : ℕ) → IsTrue (has_label labels i) → i < length prefix
-      within i has = elim (cases_eq i (length prefix)) [
-        | inl same ↦
-            let both : true ≡ false = sym has ∙ ap (has_label labels) same ∙ out in cc
-        | inr other ↦ let low = h.within i has in omega (arith, low, length_push prefix p, other)
-      ]
+  jump labels prefix p h out = search (rules, get_or_append_left, cases_eq, length_push)
 
   -- what is to blame for one position more is to blame, as far as it stands before, for all of them
   pub up_to_next : (old labels new : Labels) (prefix : List ℕ) (p : ℕ)
@@ -67,49 +52,14 @@ module _ (ns : List ℕ) (truth : List ℕ → Bool) where
       → ((i : ℕ) → has_label new i
       ≡ (has_label old i || (has_label labels i && nat_lt i (length prefix))))
       → IsConflictUpTo ns truth new prefix (p + 1)
-  up_to_next old labels new prefix p before here is = record {
-    within = λ i has. elim (cases_Bool (has_label old i)) [
-      | inl kept ↦ before.within i kept
-      | inr added ↦
-          let e : (has_label labels i && nat_lt i (length prefix)) ≡ true =
-          ap (λ b. b || (has_label labels i && nat_lt i (length prefix))) (sym added)
-          ∙ sym (is i) ∙ has in
-          ltb-true i (length prefix) (and_parts (has_label labels i) (nat_lt i (length prefix)) e).1
-    ];
-    none_true = λ c whole agrees low. elim (cases_lt (slice_index c (length prefix)) p) [
-      | inl less ↦ before.none_true c whole (λ i has. agrees i (from_old i has)) less
-      | inr most ↦
-          let at : slice_index c (length prefix) ≡ p = omega (arith, low, most) in
-          here.none_true c whole (λ i has. elim (cases_lt i (length prefix)) [
-            | inl front ↦ agrees i (from_labels i has front) ∙ sym (get_or_append_left prefix (p ∷ []) 0 i front)
-            | inr behind ↦
-                let within = here.within i has in
-                let last : i ≡ length prefix = omega (arith, within, behind, length_push prefix p) in
-                ap (slice_index c) last ∙ at ∙ sym (get_or_push prefix p 0 (length prefix) refl)
-                ∙ ap (slice_index (prefix ++ p ∷ [])) (sym last)
-          ])
-    ];
-  }
-    where
-      from_old : (i : ℕ) → IsTrue (has_label old i) → IsTrue (has_label new i)
-      from_old i has = is i ∙ ap (λ b. b || (has_label labels i && nat_lt i (length prefix))) has
-
-      from_labels : (i : ℕ) → IsTrue (has_label labels i) → i < length prefix
-          → IsTrue (has_label new i)
-      from_labels i has front =
-          is i ∙ or_right (has_label old i) (has_label labels i && nat_lt i (length prefix))
-          (and_from (has_label labels i) (nat_lt i (length prefix)) has (lt-ltb i (length prefix) front))
+  up_to_next old labels new prefix p before here is =
+      search (rules, cases_lt, get_or_append_left, length_push, get_or_push)
 
   -- what is to blame for all positions of the label behind a prefix is a conflict
   pub up_to_all : (labels : Labels) (prefix : List ℕ) (size : ℕ) → length prefix < length ns
       → slice_index ns (length prefix) ≤ size → IsConflictUpTo ns truth labels prefix size
       → IsConflict ns truth labels prefix
-  up_to_all labels prefix size h most all = record {
-    within = all.within;
-    none_true = λ c whole agrees.
-        let low = admitted_at ns c (length prefix) whole.0 (omega (arith, whole.1)) in
-        all.none_true c whole agrees (omega (arith, low, most));
-  }
+  up_to_all labels prefix size h most all = grind (arith, common_steps, admitted_at)
 
   -- ---- The first true choice.
 
@@ -161,15 +111,12 @@ module _ (ns : List ℕ) (truth : List ℕ → Bool) where
 
   pub refuted : (labels : Labels) (prefix c : List ℕ) → IsConflict ns truth labels prefix
       → IsIn (completions ns prefix) c → truth c ≡ false
-  refuted labels prefix c conflict there =
-      let is = completion_whole ns prefix c there in
-      conflict.none_true c is.0 (λ i has. begins_at c prefix i is.1 (conflict.within i has))
+  refuted labels prefix c conflict there = grind (arith, common_steps, completion_whole, begins_at)
 
   -- a prefix that is a whole choice, and true
   pub found_whole : (prefix : List ℕ) → admits ns prefix ≡ true → length prefix ≡ length ns
       → truth prefix ≡ true → find truth (completions ns prefix) ≡ Some prefix
-  found_whole prefix admitted long holds =
-      ap (find truth) (completions_of_whole ns prefix (admitted, long)) ∙ rw holds refl
+  found_whole prefix admitted long holds = grind (arith, common_steps, completions_of_whole)
 
   -- below the empty prefix stand all choices
   all_below : completions ns [] ≡ choices ns
@@ -182,11 +129,7 @@ module _ (ns : List ℕ) (truth : List ℕ → Bool) where
 
   pub found_none : (labels : Labels) (prefix : List ℕ) → prefix ≡ []
       → IsConflict ns truth labels prefix → None ≡ find truth (choices ns)
-  found_none labels prefix empty conflict =
-      sym (none_found truth (choices ns) (λ c there.
-      conflict.none_true c (whole_from_in ns c there) (λ i has.
-      let within : i < length {A = ℕ} [] = subst (λ p. i < length p) empty (conflict.within i has) in
-      absurd (omega (arith, within)))))
+  found_none labels prefix empty conflict = grind (arith, common_steps, none_found, whole_from_in)
 
   pub found_is_whole : (prefix c : List ℕ) → find truth (completions ns prefix) ≡ Some c
       → IsWhole ns c

@@ -1,11 +1,12 @@
 -- Sets of labels, bit by bit.
-use Rattle.std.proofs.Common.{◌≡◌, ℕ, ◌*◌, ◌/◌, ◌%◌, ◌^◌, ◌<◌, Bool, true, false, ◌&&◌, ◌||◌, ◌==◌, nat_eq, nat_lt, bit_and, bit_or, min, max, ◌-◌, refl, ap, sym, ◌∙◌, inl, inr, arith}
+use Rattle.std.proofs.Common.{◌≡◌, ℕ, ◌*◌, ◌/◌, ◌%◌, ◌^◌, ◌<◌, Bool, true, false, ◌&&◌, ◌||◌, ◌==◌, nat_eq, nat_lt, bit_and, bit_or, max, ◌-◌, refl, ap, sym, ◌∙◌, inl, inr, arith}
 use Rattle.std.specs.Int.{bit_at}
-use Rattle.std.proofs.lemmas.Bool.{cases_eq, cases_lt, eq-eqb, ne_eqb, lt-ltb, le-ltb, and_right, or_right}
+use Rattle.std.proofs.lemmas.Bool.{cases_eq, eq-eqb, ne_eqb, or_right}
 use Rattle.std.proofs.lemmas.Bool.Decides.{nat_tests}
 use Rattle.std.proofs.lemmas.Nat.Bits.{bit_at-zero, shr_and_one, bit_at_or, bit_at-lt, bit_at_set_same, bit_at_set_other, bit_at_and, bit_at_ones, bit_at_ones_above}
 use Rattle.std.proofs.Math.Nat.{mod-eq_of_lt}
 use Rattle.std.proofs.Math.Pow.{pow-lt}
+use Rattle.std.proofs.lemmas.Grind.{common_steps}
 use mir.Syntax.{w64}
 use Rattle.am_search.specs.declared.labels.TheConstants.{ROOM}
 use Rattle.am_search.specs.Labels.{has_label}
@@ -42,9 +43,7 @@ pub has_either : (a b i : ℕ)
     → has_label (record { bits = bit_or a b }) i
     ≡ (has_label (record { bits = a }) i || has_label (record { bits = b }) i)
 unfolding has_label
-has_either a b i =
-    ap (λ n. nat_eq n 1) (bit_at_or a b i)
-    ∙ greater (bit_at a i) (bit_at b i) (bit_at-lt a i) (bit_at-lt b i)
+has_either a b i = grind (arith, common_steps, bit_at_or, greater, bit_at-lt)
 
 -- the bits below one
 pub has_before : (bits label i ones : ℕ) → ones ≡ 2 ^ label - 1
@@ -52,24 +51,10 @@ pub has_before : (bits label i ones : ℕ) → ones ≡ 2 ^ label - 1
     ≡ (has_label (record { bits = bits }) i && nat_lt i label)
 unfolding has_label
 has_before bits label i ones same =
-    ap (λ n. nat_eq (bit_at (bit_and bits n) i) 1) same
-    ∙ ap (λ n. nat_eq n 1) (bit_at_and bits (2 ^ label - 1) i)
-    ∙ elim (cases_lt i label) [
-      | inl low ↦ rw (bit_at_ones label i low, lt-ltb i label low) (kept (bit_at bits i) (bit_at-lt bits i))
-      | inr high ↦ rw (bit_at_ones_above label i high, le-ltb i label high)
-          (ap (λ n. nat_eq n 1) (min_none (bit_at bits i)) ∙ sym (and_right (is_one bits i) false refl))
-    ]
-  where
-    min_none : (n : ℕ) → min n 0 ≡ 0
-    min_none n = omega arith
-
-    kept : (n : ℕ) → n < 2 → nat_eq (min n 1) 1 ≡ (nat_eq n 1 && true)
-    kept n h = grind (arith, nat_tests)
+    grind (arith, common_steps, bit_at_and, bit_at_ones, bit_at-lt, bit_at_ones_above, nat_tests)
 
 pub ones_of : (label : ℕ) → label < ROOM → 1 * 2 ^ label % 2 ^ ROOM - 1 ≡ 2 ^ label - 1
-ones_of label h =
-    let one : 1 * 2 ^ label ≡ 2 ^ label = omega arith in
-    ap (λ n. n % 2 ^ ROOM - 1) one ∙ ap (λ n. n - 1) (mod-eq_of_lt (pow-lt h))
+ones_of label h = grind (arith, common_steps, mod-eq_of_lt, pow-lt)
 
 -- the test that the code makes
 pub tested : (bits label : ℕ)

@@ -6,7 +6,6 @@ pub mod Walks
 pub mod VisitedPrefixes
 pub mod VisitsGive
 pub mod VisitsBound
-pub mod ExampleJudge
 pub mod VisitSteps
 pub mod WalkSteps
 pub mod WalkBudgets

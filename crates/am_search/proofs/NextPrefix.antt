@@ -1,11 +1,9 @@
 -- The prefix beside another: which it is among all that are admitted.
-use Rattle.std.proofs.Common.{◌≡◌, ◌⊎◌, ℕ, zero, suc, ◌+◌, ◌<◌, ◌≤◌, Bool, true, false, cond, nat_eq, nat_lt, List, [], ◌∷◌, length, take, Option, Some, None, ap, sym, subst, ◌∙◌, refl, inl, inr, arith}
-use Rattle.std.specs.Prelude.{option_map}
-use Rattle.std.specs.Option.{option_or}
+use Rattle.std.proofs.Common.{◌≡◌, ◌⊎◌, ℕ, zero, suc, ◌+◌, ◌<◌, ◌≤◌, Bool, true, false, cond, nat_eq, nat_lt, List, [], ◌∷◌, length, take, Some, None, ap, sym, subst, ◌∙◌, refl, inl, inr, arith, rules}
 use Rattle.std.specs.List.{starts_with, list_all}
-use Rattle.std.proofs.lemmas.Bool.{false≢true, false_from_ne_true, and_parts, and_from}
-use borrow.Author.Tests.{lt-ltb, le-ltb}
+use Rattle.std.proofs.lemmas.Bool.{false≢true, and_parts, and_from}
 use Rattle.std.proofs.lemmas.Bool.Decides.{nat_tests}
+use Rattle.std.proofs.lemmas.Grind.{common_steps}
 use Rattle.am_universe.specs.Choice.{admits}
 use Rattle.am_search.specs.Start.{comes_before}
 use Rattle.am_search.specs.Visits.{proper_fronts}
@@ -32,24 +30,10 @@ by_less size p next false less e = cc
 
 pub beside_parts : (size : ℕ) (sizes prefix : List ℕ) (p : ℕ) (next : List ℕ) → next_beside (size ∷ sizes) (p ∷ prefix) ≡ Some next
     → IsRestBeside sizes prefix p next ⊎ IsFirstBeside size sizes prefix p next
-beside_parts size sizes prefix p next e = by (next_beside sizes prefix) refl e
-  where
-    by : (o : Option (List ℕ)) → next_beside sizes prefix ≡ o → option_or (option_map (λ c. p ∷ c) o) (cond (nat_lt (p + 1) size) (Some ((p + 1) ∷ [])) None) ≡ Some next
-        → IsRestBeside sizes prefix p next ⊎ IsFirstBeside size sizes prefix p next
-    by (Some rest) o h = inl (record { rest = rest; beside = o; is = cc })
-    by None o h = let parts = by_less size p next (nat_lt (p + 1) size) refl h in inr (record { none = o; below = parts.0; is = parts.1 })
+beside_parts size sizes prefix p next e = grind (arith, common_steps, by_less)
 
 none_parts : (size : ℕ) (sizes prefix : List ℕ) (p : ℕ) → next_beside (size ∷ sizes) (p ∷ prefix) ≡ None → (next_beside sizes prefix ≡ None) × (size ≤ p + 1)
-none_parts size sizes prefix p e = by (next_beside sizes prefix) refl e
-  where
-    least : (b : Bool) → nat_lt (p + 1) size ≡ b → cond b (Some ((p + 1) ∷ [])) None ≡ None → size ≤ p + 1
-    least true less h = cc
-    least false less h = grind (arith, nat_tests, less)
-
-    by : (o : Option (List ℕ)) → next_beside sizes prefix ≡ o → option_or (option_map (λ c. p ∷ c) o) (cond (nat_lt (p + 1) size) (Some ((p + 1) ∷ [])) None) ≡ None
-        → (next_beside sizes prefix ≡ None) × (size ≤ p + 1)
-    by (Some rest) o h = cc
-    by None o h = (o, least (nat_lt (p + 1) size) refl h)
+none_parts size sizes prefix p e = grind (arith, common_steps, nat_tests)
 
 -- ---- Where nothing comes beside a prefix.
 
@@ -58,16 +42,7 @@ none_beside sizes [] x e a b less = refl
 none_beside [] (p ∷ prefix) x e a b less = cc
 none_beside (size ∷ sizes) (p ∷ prefix) [] e a b less = absurd (false≢true less)
 none_beside (size ∷ sizes) (p ∷ prefix) (q ∷ x) e a b less =
-    let parts = none_parts size sizes prefix p e in
-    let here = and_parts (nat_lt p size) (admits sizes prefix) a in
-    let there = and_parts (nat_lt q size) (admits sizes x) b in
-    let below : q < size = grind (arith, nat_tests, there.0) in
-    elim (before_parts p q prefix x less) [
-      | inl l ↦ absurd (omega (arith, l, below, parts.1))
-      | inr same ↦
-          ap (λ r. starts_with nat_eq (r ∷ x) (p ∷ prefix)) (sym same.0) ∙ begins_same p x prefix
-          ∙ none_beside sizes prefix x parts.0 here.1 there.1 same.1
-    ]
+    grind (arith, common_steps, none_parts, and_parts, nat_tests, before_parts, begins_same, none_beside sizes prefix x)
 
 -- ---- What comes beside a prefix.
 
@@ -100,29 +75,8 @@ behind_rest size sizes prefix rest p below h = record {
     ]
 
 behind_last : (size : ℕ) (sizes prefix : List ℕ) (p : ℕ) → admits sizes prefix ≡ true → next_beside sizes prefix ≡ None → p + 1 < size → IsBeside (size ∷ sizes) (p ∷ prefix) ((p + 1) ∷ [])
-behind_last size sizes prefix p a none below = record {
-  admitted = and_from (nat_lt (p + 1) size) true (lt-ltb (p + 1) size below) refl;
-  after = before_less p (p + 1) prefix [] (omega arith);
-  apart = begins_other (p + 1) p [] prefix (λ e. omega (arith, e));
-  least = least;
-  fronts = λ test all. fronts_from test (p + 1) [] (fronts_parts test p prefix all).0 refl;
-}
-  where
-    least : (x : List ℕ) → admits (size ∷ sizes) x ≡ true → comes_before (p ∷ prefix) x ≡ true → starts_with nat_eq x (p ∷ prefix) ≡ false → comes_before x ((p + 1) ∷ []) ≡ false
-    least [] b less other = absurd (false≢true less)
-    least (q ∷ x) b less other = elim (before_parts p q prefix x less) [
-      | inl l ↦ not_less q x l
-      | inr same ↦
-          let begins = none_beside sizes prefix x none a (and_parts (nat_lt q size) (admits sizes x) b).1 same.1 in
-          absurd (false≢true (sym other ∙ ap (λ r. starts_with nat_eq (r ∷ x) (p ∷ prefix)) (sym same.0) ∙ begins_same p x prefix ∙ begins))
-    ]
-      where
-        not_less : (q : ℕ) (x : List ℕ) → p < q → comes_before (q ∷ x) ((p + 1) ∷ []) ≡ false
-        not_less q x l = false_from_ne_true (comes_before (q ∷ x) ((p + 1) ∷ [])) (λ less.
-            elim (before_parts q (p + 1) x [] less) [
-              | inl k ↦ omega (arith, l, k)
-              | inr same ↦ false≢true (sym (before_nothing x) ∙ same.1)
-            ])
+behind_last size sizes prefix p a none below =
+    grind (arith, common_steps, before_less, begins_other, fronts_from, fronts_parts, before_parts, none_beside, begins_same, before_nothing)
 
 pub beside_is : (sizes prefix next : List ℕ) → admits sizes prefix ≡ true → next_beside sizes prefix ≡ Some next → IsBeside sizes prefix next
 beside_is sizes [] next a e = cc
@@ -140,38 +94,18 @@ pub none_of_front : (sizes c : List ℕ) (n : ℕ) → next_beside sizes c ≡ N
 none_of_front sizes c zero e = refl
 none_of_front sizes [] (suc n) e = refl
 none_of_front [] (p ∷ c) (suc n) e = refl
-none_of_front (size ∷ sizes) (p ∷ c) (suc n) e =
-    let parts = none_parts size sizes c p e in
-    ap (λ o. option_or (option_map (λ r. p ∷ r) o) (cond (nat_lt (p + 1) size) (Some ((p + 1) ∷ [])) None)) (none_of_front sizes c n parts.0)
-    ∙ ap (λ b. cond b (Some ((p + 1) ∷ [])) None) (le-ltb (p + 1) size parts.1)
+none_of_front (size ∷ sizes) (p ∷ c) (suc n) e = grind (arith, common_steps, none_parts, none_of_front sizes c n)
 
 -- where it is no longer than these, it is the same
 pub beside_front : (sizes c next : List ℕ) (n : ℕ) → next_beside sizes c ≡ Some next → length next ≤ n → next_beside sizes (take n c) ≡ Some next
 beside_front sizes [] next n e h = cc
 beside_front [] (p ∷ c) next n e h = cc
-beside_front (size ∷ sizes) (p ∷ c) next zero e h = elim (beside_parts size sizes c p next e) [
-  | inl r ↦ absurd (omega (arith, h, ap length r.is))
-  | inr r ↦ absurd (omega (arith, h, ap length r.is))
-]
-beside_front (size ∷ sizes) (p ∷ c) next (suc n) e h = elim (beside_parts size sizes c p next e) [
-  | inl r ↦
-      ap (λ o. option_or (option_map (λ t. p ∷ t) o) (cond (nat_lt (p + 1) size) (Some ((p + 1) ∷ [])) None))
-      (beside_front sizes c r.rest n r.beside (omega (arith, h, ap length r.is)))
-      ∙ ap Some (sym r.is)
-  | inr r ↦
-      ap (λ o. option_or (option_map (λ t. p ∷ t) o) (cond (nat_lt (p + 1) size) (Some ((p + 1) ∷ [])) None)) (none_of_front sizes c n r.none)
-      ∙ ap (λ b. cond b (Some ((p + 1) ∷ [])) None) (lt-ltb (p + 1) size r.below)
-      ∙ ap Some (sym r.is)
-]
+beside_front (size ∷ sizes) (p ∷ c) next zero e h = search (rules, beside_parts)
+beside_front (size ∷ sizes) (p ∷ c) next (suc n) e h = search (rules, beside_parts, beside_front sizes c, none_of_front)
 
 -- where it is longer, it begins with these
 pub beside_begins : (sizes c next : List ℕ) (n : ℕ) → next_beside sizes c ≡ Some next → n < length next → starts_with nat_eq next (take n c) ≡ true
 beside_begins sizes c next zero e h = refl
 beside_begins sizes [] next (suc n) e h = cc
 beside_begins [] (p ∷ c) next (suc n) e h = cc
-beside_begins (size ∷ sizes) (p ∷ c) next (suc n) e h = elim (beside_parts size sizes c p next e) [
-  | inl r ↦
-      ap (λ l. starts_with nat_eq l (p ∷ take n c)) r.is ∙ begins_same p r.rest (take n c)
-      ∙ beside_begins sizes c r.rest n r.beside (omega (arith, h, ap length r.is))
-  | inr r ↦ absurd (omega (arith, h, ap length r.is))
-]
+beside_begins (size ∷ sizes) (p ∷ c) next (suc n) e h = search (rules, beside_parts, begins_same, beside_begins sizes c)

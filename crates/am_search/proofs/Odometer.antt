@@ -1,5 +1,5 @@
 -- The choice that follows another, as the code finds it: the last position that can be greater is, and those behind it are 0.
-use Rattle.std.proofs.Common.{◌≡◌, subst, ℕ, zero, suc, ◌+◌, ◌<◌, ◌≤◌, Bool, true, false, cond, List, [], ◌∷◌, ◌++◌, length, map, slice_index, slice_get, nat_lt, Option, Some, None, ap, sym, ◌∙◌, refl, inl, inr, arith}
+use Rattle.std.proofs.Common.{◌≡◌, subst, ℕ, zero, suc, ◌+◌, ◌<◌, ◌≤◌, Bool, true, false, cond, List, [], ◌∷◌, ◌++◌, length, map, slice_index, slice_get, nat_lt, Option, Some, None, ap, sym, ◌∙◌, refl, inl, inr, arith, rules}
 use Rattle.std.specs.Prelude.{option_map}
 use Rattle.std.specs.Option.{option_or}
 use Rattle.std.specs.List.{AllByRecursion, find}
@@ -9,7 +9,8 @@ use Rattle.std.proofs.lemmas.Bool.{and_parts, and_from}
 use Rattle.std.proofs.lemmas.Bool.Decides.{nat_tests}
 use Rattle.std.proofs.lemmas.List.Folds.{find-append}
 use Rattle.std.proofs.lemmas.Option.{get_or_from_slice_get}
-use borrow.Author.Tests.{lt-ltb, le-ltb}
+use Rattle.std.proofs.lemmas.Grind.{common_steps}
+use borrow.Author.Tests.{le-ltb}
 use Rattle.am_universe.specs.Choice.{choices, admits, IsWhole}
 use Rattle.am_universe.specs.declared.limits.TheConstants.{MAX_VALUES}
 use Rattle.am_universe.specs.Completions.{completions}
@@ -62,8 +63,7 @@ got_mapped f (d ∷ ds) c e = ap (option_map f) e
 first_below : (sizes prefix : List ℕ) → ArePositive sizes → admits sizes prefix ≡ true → slice_get (below sizes prefix) 0 ≡ Some (filled sizes prefix)
 first_below sizes [] some a = ap (λ cs. slice_get cs 0) (first_choice sizes some).is
 first_below [] (p ∷ prefix) some a = cc
-first_below (size ∷ sizes) (p ∷ prefix) some a =
-    got_mapped (λ c. p ∷ c) (below sizes prefix) (filled sizes prefix) (first_below sizes prefix some.1 (and_parts (nat_lt p size) (admits sizes prefix) a).1)
+first_below (size ∷ sizes) (p ∷ prefix) some a = search (rules, got_mapped, below, first_below sizes prefix, and_parts)
 
 pub first_completion_is : (sizes prefix : List ℕ) → ArePositive sizes → admits sizes prefix ≡ true → slice_get (completions sizes prefix) 0 ≡ Some (filled sizes prefix)
 first_completion_is sizes prefix some a = ap (λ cs. slice_get cs 0) (completions_are_below sizes prefix a) ∙ first_below sizes prefix some a
@@ -79,30 +79,19 @@ pub beside_last : (sizes prefix : List ℕ) (p : ℕ) → length prefix < length
     → next_beside sizes (prefix ++ p ∷ []) ≡ cond (nat_lt (p + 1) (slice_index sizes (length prefix))) (Some (prefix ++ (p + 1) ∷ [])) (next_beside sizes prefix)
 beside_last [] prefix p h = absurd (omega arith)
 beside_last (size ∷ sizes) [] p h = refl
-beside_last (size ∷ sizes) (q ∷ prefix) p h =
-    ap (λ o. option_or (option_map (λ c. q ∷ c) o) (cond (nat_lt (q + 1) size) (Some ((q + 1) ∷ [])) None)) (beside_last sizes prefix p (omega arith))
-    ∙ beside_by (nat_lt (p + 1) (slice_index sizes (length prefix))) q (prefix ++ (p + 1) ∷ []) (next_beside sizes prefix) _
+beside_last (size ∷ sizes) (q ∷ prefix) p h = grind (arith, common_steps, beside_last sizes prefix p, beside_by)
 
 -- ---- The first choice after a whole one.
 
 find_mapped : (test own : List ℕ → Bool) (f : List ℕ → List ℕ) (xs : List (List ℕ)) → ((x : List ℕ) → test (f x) ≡ own x) → find test (map f xs) ≡ option_map f (find own xs)
 find_mapped test own f [] same = refl
-find_mapped test own f (x ∷ xs) same = by (test (f x)) (own x) (same x) (find_mapped test own f xs same)
-  where
-    by : (a b : Bool) → a ≡ b → find test (map f xs) ≡ option_map f (find own xs) → cond a (Some (f x)) (find test (map f xs)) ≡ option_map f (cond b (Some x) (find own xs))
-    by true true e h = refl
-    by false false e h = h
-    by true false e h = cc
-    by false true e h = cc
+find_mapped test own f (x ∷ xs) same = grind (arith, common_steps, find_mapped test own f xs same)
 
 -- behind greater positions the first is the one
 found_higher : (p first n : ℕ) (c : List ℕ) (cs : List (List ℕ)) (d : List ℕ) (others : List (List ℕ)) → p < first → cs ≡ d ∷ others
     → find (comes_before (p ∷ c)) (behind first n cs) ≡ cond (nat_lt first (first + n)) (Some (first ∷ d)) None
 found_higher p first zero c cs d others h e = sym (ap (λ b. cond b (Some (first ∷ d)) None) (le-ltb first (first + zero) (omega arith)))
-found_higher p first (suc n) c cs d others h e =
-    ap (λ l. find (comes_before (p ∷ c)) (behind first (suc n) l)) e
-    ∙ ap (λ b. cond b (Some (first ∷ d)) (find (comes_before (p ∷ c)) (map (λ t. first ∷ t) others ++ behind (first + 1) n (d ∷ others)))) (ap is_lt (less_first p first c d h))
-    ∙ sym (ap (λ b. cond b (Some (first ∷ d)) None) (lt-ltb first (first + suc n) (omega arith)))
+found_higher p first (suc n) c cs d others h e = grind (arith, common_steps, behind, less_first)
 
 found_behind : (p first n : ℕ) (c : List ℕ) (cs : List (List ℕ)) (d : List ℕ) (others : List (List ℕ)) → first ≤ p → p < first + n → cs ≡ d ∷ others
     → find (comes_before (p ∷ c)) (behind first n cs) ≡ option_or (option_map (λ t. p ∷ t) (find (comes_before c) cs)) (cond (nat_lt (p + 1) (first + n)) (Some ((p + 1) ∷ d)) None)
@@ -176,13 +165,8 @@ pub record IsAdmittedWith (ns prefix : List ℕ) (p : ℕ) : Type 0 where
 admitted_with : (ns prefix : List ℕ) (p : ℕ) → admits ns (prefix ++ p ∷ []) ≡ true → IsAdmittedWith ns prefix p
 admitted_with [] [] p a = cc
 admitted_with [] (q ∷ prefix) p a = cc
-admitted_with (n ∷ ns) [] p a =
-    let parts = and_parts (nat_lt p n) true a in
-    record { front = refl; label = omega arith; below = grind (arith, nat_tests, parts.0) }
-admitted_with (n ∷ ns) (q ∷ prefix) p a =
-    let parts = and_parts (nat_lt q n) (admits ns (prefix ++ p ∷ [])) a in
-    let rest = admitted_with ns prefix p parts.1 in
-    record { front = and_from (nat_lt q n) (admits ns prefix) parts.0 rest.front; label = omega (arith, rest.label); below = rest.below }
+admitted_with (n ∷ ns) [] p a = search (rules, and_parts, below, nat_tests)
+admitted_with (n ∷ ns) (q ∷ prefix) p a = search (rules, and_parts, admitted_with ns prefix p, and_from, below)
 
 pub popped : (ns before prefix : List ℕ) (p : ℕ) → admits ns before ≡ true → before ≡ prefix ++ p ∷ [] → IsAdmittedWith ns prefix p
 popped ns before prefix p a same = admitted_with ns prefix p (subst (λ c. admits ns c ≡ true) same a)
@@ -191,9 +175,7 @@ pub size_at : (ns : List ℕ) (n i size : ℕ) → i ≡ n → slice_get ns i �
 size_at ns n i size same is = get_or_from_slice_get ns n size 0 (subst (λ k. slice_get ns k ≡ Some size) same is)
 
 pub nothing_greater : (sizes prefix : List ℕ) (p : ℕ) → length prefix < length sizes → slice_index sizes (length prefix) ≤ p + 1 → next_beside sizes (prefix ++ p ∷ []) ≡ next_beside sizes prefix
-nothing_greater sizes prefix p h k =
-    beside_last sizes prefix p h ∙ ap (λ b. cond b (Some (prefix ++ (p + 1) ∷ [])) (next_beside sizes prefix)) (le-ltb (p + 1) (slice_index sizes (length prefix)) k)
+nothing_greater sizes prefix p h k = grind (arith, common_steps, beside_last)
 
 pub beside_found : (sizes prefix : List ℕ) (p : ℕ) → length prefix < length sizes → p + 1 < slice_index sizes (length prefix) → next_beside sizes (prefix ++ p ∷ []) ≡ Some (prefix ++ (p + 1) ∷ [])
-beside_found sizes prefix p h k =
-    beside_last sizes prefix p h ∙ ap (λ b. cond b (Some (prefix ++ (p + 1) ∷ [])) (next_beside sizes prefix)) (lt-ltb (p + 1) (slice_index sizes (length prefix)) k)
+beside_found sizes prefix p h k = grind (arith, common_steps, beside_last)

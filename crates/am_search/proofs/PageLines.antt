@@ -1,12 +1,12 @@
 -- A page that is being written: the lines of some answers are out, the others are left.
-use Rattle.std.proofs.Common.{◌≡◌, ◌≢◌, ℕ, zero, suc, ◌+◌, ◌-◌, ◌<◌, ◌≤◌, Bool, true, false, cond, nat_eq, nat_lt, List, [], ◌∷◌, ◌++◌, length, take, get_or, Option, Some, None, IfSome, refl, subst, sym, ap, ◌∙◌, append_assoc, append-nil, length-append, arith}
+use Rattle.std.proofs.Common.{◌≡◌, ◌≢◌, ℕ, zero, suc, ◌+◌, ◌-◌, ◌<◌, ◌≤◌, Bool, true, false, cond, nat_eq, nat_lt, List, [], ◌∷◌, ◌++◌, length, take, get_or, Option, Some, None, IfSome, refl, sym, ap, ◌∙◌, append_assoc, append-nil, length-append, arith, rules}
 use Rattle.std.specs.Prelude.{option_map}
 use Rattle.std.specs.Option.{option_eq}
 use Rattle.std.proofs.lemmas.Bool.{false≢true}
 use Rattle.std.specs.List.{flat_map}
 use Rattle.std.proofs.Math.Seq.{take-append-add, take-append_seam, get_or-append_seam}
 use Rattle.std.proofs.lemmas.List.{get_or_append_left}
-use Rattle.std.proofs.lemmas.Grind.{flat_map-append}
+use Rattle.std.proofs.lemmas.Grind.{flat_map-append, common_steps}
 use borrow.Author.Tests.{lt-ltb, le-ltb, eqb-true}
 use Rattle.am_search.specs.declared.trailer.Trailer.{Trailer}
 use Rattle.am_search.specs.declared.trailer.Trailer.TheVariants.{Next}
@@ -36,42 +36,16 @@ pub record IsSoFar (xs : List (List ℕ)) (limit : Option ℕ) (IsWritten : List
   pub written : IsWritten done
 
 pub begun : (xs : List (List ℕ)) (limit : Option ℕ) (IsWritten : List (List ℕ) → Type 0) (last : List ℕ) → last ≡ [] → IsWritten [] → IsSoFar xs limit IsWritten xs limit last
-begun xs limit IsWritten last e w = record { done = []; all = refl; limit_is = by limit; last_is = here limit; written = w }
-  where
-    here : (o : Option ℕ) → IfSome o (λ _. last ≡ [])
-    here None = tt
-    here (Some n) = e
-
-    by : (o : Option ℕ) → o ≡ option_map (λ r. 0 + r) o
-    by None = refl
-    by (Some n) = ap Some (omega arith)
+begun xs limit IsWritten last e w = grind (arith, common_steps)
 
 module _ {xs : List (List ℕ)} {limit : Option ℕ} {IsWritten : List (List ℕ) → Type 0} {left : List (List ℕ)} {room : Option ℕ} {last : List ℕ} (ending : Trailer) (so_far : IsSoFar xs limit IsWritten left room last) where
   -- no answer is left
   pub all_written : left ≡ [] → page_ending ending xs limit ≡ record { choices = so_far.done; trailer = ending }
-  all_written none =
-      let same : xs ≡ so_far.done = so_far.all ∙ ap (λ l. so_far.done ++ l) none ∙ append-nil so_far.done in
-      page_of_all ending xs limit (fits same limit room so_far.limit_is) ∙ ap (all_page ending) same
-    where
-      fits : xs ≡ so_far.done → (l r : Option ℕ) → l ≡ option_map (λ k. length so_far.done + k) r → IfSome l (λ n. length xs ≤ n)
-      fits same None r e = tt
-      fits same (Some n) None e = cc
-      fits same (Some n) (Some k) e =
-          let is : n ≡ length so_far.done + k = cc in
-          omega (arith, ap length same, is)
+  all_written none = grind (arith, common_steps, append-nil, page_of_all)
 
   -- one more is left than there may be
   pub full : (c : List ℕ) (rest : List (List ℕ)) → left ≡ c ∷ rest → room ≡ Some 0 → IfSome limit (λ n. 0 < n) → page_ending ending xs limit ≡ record { choices = so_far.done; trailer = Next last }
-  full c rest found e some =
-      let done : List (List ℕ) = so_far.done in
-      let n : ℕ = length done in
-      let is : limit ≡ Some n = so_far.limit_is ∙ ap (option_map (λ r. n + r)) e ∙ ap Some (omega arith) in
-      let positive : 0 < n = subst (λ l. IfSome l (λ n. 0 < n)) is some in
-      let same : xs ≡ done ++ c ∷ rest = so_far.all ∙ ap (λ l. done ++ l) found in
-      ap (page_ending ending xs) is ∙ page_of_part ending xs n (omega (arith, ap length same, length-append done (c ∷ rest)))
-      ∙ ap (λ l. part_page l n) same
-      ∙ ap (λ (l : List (List ℕ)). record { choices = l; trailer = Next (get_or (done ++ c ∷ rest) (n - 1) []) }) (take-append_seam done (c ∷ rest))
-      ∙ ap (λ (l : List ℕ). record { choices = done; trailer = Next l }) (get_or_append_left done (c ∷ rest) [] (n - 1) (omega (arith, positive)) ∙ sym (subst (λ r. IfSome r (λ _. last ≡ get_or done (n - 1) [])) e so_far.last_is))
+  full c rest found e some = search (rules, page_of_part, length-append, take-append_seam, get_or_append_left)
 
   -- the next answer is written: the page has it behind the others
   pub through : (c : List ℕ) (rest : List (List ℕ)) → left ≡ c ∷ rest → room ≢ Some 0 → (more : List (List ℕ)) × ((page_ending ending xs limit).choices ≡ so_far.done ++ c ∷ more)
@@ -98,21 +72,8 @@ module _ {xs : List (List ℕ)} {limit : Option ℕ} {IsWritten : List (List ℕ
 
 module _ {xs : List (List ℕ)} {limit : Option ℕ} {IsWritten : List (List ℕ) → Type 0} {left : List (List ℕ)} {room : Option ℕ} {last : List ℕ} (so_far : IsSoFar xs limit IsWritten left room last) where
   pub one_more : {IsWrittenNow : List (List ℕ) → Type 0} (c : List ℕ) (rest : List (List ℕ)) (after : Option ℕ) (now : List ℕ) → left ≡ c ∷ rest → room ≡ option_map (λ r. r + 1) after → IfSome after (λ _. now ≡ c) → IsWrittenNow (so_far.done ++ c ∷ []) → IsSoFar xs limit IsWrittenNow rest after now
-  one_more c rest after now found less is_last w = record {
-    done = so_far.done ++ c ∷ [];
-    all = so_far.all ∙ ap (λ l. so_far.done ++ l) found ∙ sym (append_assoc so_far.done (c ∷ []) rest);
-    limit_is = so_far.limit_is ∙ ap (option_map (λ r. length so_far.done + r)) less ∙ by after;
-    last_is = last_is_now after is_last;
-    written = w;
-  }
-    where
-      last_is_now : (o : Option ℕ) → IfSome o (λ _. now ≡ c) → IfSome o (λ _. now ≡ get_or (so_far.done ++ c ∷ []) (length (so_far.done ++ c ∷ []) - 1) [])
-      last_is_now None h = tt
-      last_is_now (Some n) h = h ∙ sym (ap (λ n. get_or (so_far.done ++ c ∷ []) n []) (omega (arith, length-append so_far.done (c ∷ []))) ∙ get_or-append_seam so_far.done c [] [])
-
-      by : (o : Option ℕ) → option_map (λ r. length so_far.done + r) (option_map (λ r. r + 1) o) ≡ option_map (λ r. length (so_far.done ++ c ∷ []) + r) o
-      by None = refl
-      by (Some n) = ap Some (omega (arith, length-append so_far.done (c ∷ [])))
+  one_more c rest after now found less is_last w =
+      grind (arith, common_steps, append_assoc, length-append, get_or-append_seam)
 
 -- ---- The tests of the loop.
 

@@ -1,13 +1,14 @@
 -- The choices from a start on, and the pages of the answers among them.
-use Rattle.std.proofs.Common.{◌≡◌, ◌↔◌, ℕ, zero, suc, ◌+◌, ◌-◌, ◌<◌, ◌≤◌, Bool, true, false, not, cond, List, [], ◌∷◌, ◌++◌, length, take, drop, get_or, nat_lt, Contains, Option, Some, None, IfSome, MatchOption, codes, ap, sym, subst, ◌∙◌, refl, inl, inr, arith, append-nil}
+use Rattle.std.proofs.Common.{◌≡◌, ◌↔◌, ℕ, zero, suc, ◌+◌, ◌-◌, ◌<◌, ◌≤◌, Bool, true, false, not, cond, List, [], ◌∷◌, ◌++◌, length, take, drop, get_or, Contains, Option, Some, None, IfSome, MatchOption, codes, ap, sym, subst, ◌∙◌, refl, inl, inr, arith, append-nil, rules}
 use Rattle.std.specs.Prelude.{IsTrue}
 use Rattle.std.specs.List.{filter}
 use Rattle.std.specs.List.Sorted.{IsStrictlySortedBy}
-use Rattle.std.specs.Ordering.{nat_cmp, is_lt, ordering_then}
+use Rattle.std.specs.Ordering.{nat_cmp, is_lt}
 use Rattle.std.specs.Cmp.Lexicographic.{slice_cmp}
-use Rattle.std.proofs.lemmas.Bool.{false≢true, false_from_ne_true, and_parts, cases_lt}
+use Rattle.std.proofs.lemmas.Bool.{false_from_ne_true, and_parts, cases_lt}
 use Rattle.std.proofs.lemmas.List.{take-append-drop}
 use Rattle.std.proofs.lemmas.List.Kept.{IsStrictlySortedBy-filter}
+use Rattle.std.proofs.lemmas.Grind.{common_steps}
 use Rattle.am_universe.specs.Choice.{choices, admits, IsWhole}
 use Rattle.am_universe.proofs.ListLemmas.{IsIn, IsIn-from_Contains, Contains-from_IsIn}
 use Rattle.am_universe.proofs.ChoiceLemmas.{choices_sorted, whole_from_in, less_first}
@@ -43,14 +44,7 @@ before_filled : (ns prefix d : List ℕ) → admits ns prefix ≡ true → lengt
 before_filled ns [] d a e = before_first ns d e ∙ sym (nothing_before d)
 before_filled [] (p ∷ prefix) d a e = cc
 before_filled (n ∷ ns) (p ∷ prefix) [] a e = absurd (omega arith)
-before_filled (n ∷ ns) (p ∷ prefix) (q ∷ d) a e =
-    by (nat_cmp q p) (before_filled ns prefix d (and_parts (nat_lt p n) (admits ns prefix) a).1 (omega arith))
-  where
-    by : (o : Rattle.std.specs.declared.cmp.Ordering.Ordering) → comes_before d (filled ns prefix) ≡ comes_before d prefix
-        → is_lt (ordering_then o (slice_cmp nat_cmp d (filled ns prefix))) ≡ is_lt (ordering_then o (slice_cmp nat_cmp d prefix))
-    by Rattle.std.specs.declared.cmp.Ordering.TheVariants.Less h = refl
-    by Rattle.std.specs.declared.cmp.Ordering.TheVariants.Equal h = h
-    by Rattle.std.specs.declared.cmp.Ordering.TheVariants.Greater h = refl
+before_filled (n ∷ ns) (p ∷ prefix) (q ∷ d) a e = search (rules, before_filled ns prefix d, and_parts, filled)
 
 pub choices_at : (ns prefix : List ℕ) → AreSizes ns → admits ns prefix ≡ true → choices_from ns (At prefix) ≡ filter (λ c. not (comes_before c prefix)) (choices ns)
 choices_at ns prefix h a =
@@ -114,9 +108,7 @@ two_conds false false x xs = refl
 
 pub filters_swapped : {X : Type 0} (f g : X → Bool) (xs : List X) → filter f (filter g xs) ≡ filter g (filter f xs)
 filters_swapped f g [] = refl
-filters_swapped f g (x ∷ xs) =
-    swapped_cond f x (g x) (filter g xs) ∙ ap (λ l. cond (g x) (cond (f x) (x ∷ l) l) l) (filters_swapped f g xs)
-    ∙ two_conds (g x) (f x) x (filter g (filter f xs)) ∙ sym (swapped_cond g x (f x) (filter f xs))
+filters_swapped f g (x ∷ xs) = grind (arith, common_steps, swapped_cond, filters_swapped f g xs, two_conds)
 
 -- where all that pass a test pass another, the other changes nothing
 pub filter_within : {X : Type 0} (f g : X → Bool) (xs : List X) → ((x : X) → f x ≡ true → g x ≡ true) → filter f (filter g xs) ≡ filter f xs
@@ -124,19 +116,15 @@ filter_within f g xs h = filters_swapped f g xs ∙ filter_all g (filter f xs) (
 
 -- a choice after one that is at or after the first is so too
 stays_after : (first c d : List ℕ) → not (comes_before c first) ≡ true → comes_before c d ≡ true → not (comes_before d first) ≡ true
-stays_after first c d h k = ap not (false_from_ne_true (comes_before d first) (λ e.
-    false≢true (sym (ap not (before_trans c d first k e)) ∙ h)))
+stays_after first c d h k = grind (arith, common_steps, false_from_ne_true, before_trans)
 
 after_from : (o : Option (List ℕ)) (cs : List (List ℕ)) (c : List ℕ) → IsIn (at_or_after o cs) c → filter (comes_before c) (at_or_after o cs) ≡ filter (comes_before c) cs
 after_from None cs c i = absurd i
-after_from (Some first) cs c i =
-    filter_within (comes_before c) (λ d. not (comes_before d first)) cs (λ d k. stays_after first c d (in_filter (λ d. not (comes_before d first)) cs c i).1 k)
+after_from (Some first) cs c i = grind (arith, common_steps, filter_within, stays_after, in_filter)
 
 pub after_answer : (ns c : List ℕ) (truth : List ℕ → Bool) (start : Start) → IsIn (answers_from ns truth start) c
     → filter (comes_before c) (answers_from ns truth start) ≡ answers_from ns truth (After c)
-after_answer ns c truth start i =
-    filters_swapped (comes_before c) truth (choices_from ns start)
-    ∙ ap (filter truth) (after_from (first_of_start ns start) (choices ns) c (in_filter truth (choices_from ns start) c i).0 ∙ sym (choices_after ns c))
+after_answer ns c truth start i = grind (arith, common_steps, filters_swapped, after_from, in_filter, choices_after)
 
 answer_whole : (ns c : List ℕ) (truth : List ℕ → Bool) (start : Start) → IsIn (answers_from ns truth start) c → IsWhole ns c
 answer_whole ns c truth start i = from_whole ns c start (in_filter truth (choices_from ns start) c i).0
@@ -174,10 +162,7 @@ page_kind : (ns : List ℕ) (truth : List ℕ → Bool) (start : Start) (page : 
 page_kind ns truth start page h = subst (PageKind End (answers_from ns truth start)) (sym h.from_start) (kind_of End (answers_from ns truth start) h.limit h.at_least_one)
 
 rest_of_part : (ns c : List ℕ) (truth : List ℕ → Bool) (start : Start) (page : AnswerPage) (n : ℕ) → IsPart (answers_from ns truth start) page c n → answers_from ns truth (After c) ≡ drop n (answers_from ns truth start)
-rest_of_part ns c truth start page n h =
-    let xs : List (List ℕ) = answers_from ns truth start in
-    let i : IsIn xs c = subst (IsIn xs) (sym h.last) (taken_last xs n h.some h.more) in
-    sym (after_answer ns c truth start i) ∙ ap (λ d. filter (comes_before d) xs) h.last ∙ after_taken xs n (answers_sorted ns truth start) h.some h.more
+rest_of_part ns c truth start page n h = search (rules, taken_last, after_answer, after_taken, answers_sorted)
 
 pub page_rest : (ns : List ℕ) (truth : List ℕ → Bool) (start : Start) (page : AnswerPage) → IsPage ns truth start page
     → answers_from ns truth start ≡ page.choices ++ rest_after ns truth page.trailer
@@ -219,51 +204,27 @@ up_to_trailer ns c truth start page h e = elim (page_kind ns truth start page h)
 ]
 
 pub to_the_end : (ns : List ℕ) (truth : List ℕ → Bool) (start : Start) (page : AnswerPage) → IsPage ns truth start page → page.trailer ≡ End → page.choices ≡ answers_from ns truth start
-to_the_end ns truth start page h e = elim (page_kind ns truth start page h) [
-  | part c n p ↦ cc (p.trailer, e)
-  | whole w ↦ w.choices
-]
+to_the_end ns truth start page h e = grind (arith, common_steps, page_kind)
 
 pub within_limit : (ns : List ℕ) (truth : List ℕ → Bool) (start : Start) (n : ℕ)
     → length (page_from ns truth start (Some n)).choices ≤ n
-within_limit ns truth start n =
-    let xs : List (List ℕ) = answers_from ns truth start in
-    elim (cases_lt n (length xs)) [
-      | inl more ↦
-          let same = ap (λ (p : AnswerPage). length p.choices) (page_of_part End xs n more) in
-          omega (arith, same, Rattle.std.proofs.Common.length-take n xs)
-      | inr few ↦
-          let same = ap (λ (p : AnswerPage). length p.choices) (page_of_all End xs (Some n) few) in
-          omega (arith, same, few)
-    ]
+within_limit ns truth start n = grind (arith, common_steps, cases_lt, page_of_part, page_of_all)
 
 -- a page that leaves something has as many choices as its limit
 pub limit_reached : (ns c : List ℕ) (truth : List ℕ → Bool) (start : Start) (n : ℕ)
     → (page_from ns truth start (Some n)).trailer ≡ Next c
     → length (page_from ns truth start (Some n)).choices ≡ n
-limit_reached ns c truth start n ends =
-    let xs : List (List ℕ) = answers_from ns truth start in
-    elim (cases_lt n (length xs)) [
-      | inl more ↦
-          let same = ap (λ (p : AnswerPage). length p.choices) (page_of_part End xs n more) in
-          omega (arith, same, Rattle.std.proofs.Common.length-take n xs, more)
-      | inr few ↦
-          let end : End ≡ Next c = sym (ap (λ p. p.trailer) (page_of_all End xs (Some n) few)) ∙ ends in cc
-    ]
+limit_reached ns c truth start n ends = grind (arith, common_steps, cases_lt, page_of_part, page_of_all)
 
 -- ---- Trailers.
 
 pub trailer_next : (fingerprint c : List ℕ) (start : Start) → start_after (Next c) ≡ Some start
     → trailer_text fingerprint (Next c) ≡ codes "# next " ++ (token_text fingerprint start ++ codes "\n")
-trailer_next fingerprint c start e =
-    let same : After c ≡ start = cc in
-    ap (λ s. codes "# next " ++ (token_text fingerprint s ++ codes "\n")) same
+trailer_next fingerprint c start e = grind (arith, common_steps)
 
 pub trailer_stopped : (fingerprint prefix : List ℕ) (start : Start) → start_after (Stopped prefix) ≡ Some start
     → trailer_text fingerprint (Stopped prefix) ≡ codes "# stopped " ++ (token_text fingerprint start ++ codes "\n")
-trailer_stopped fingerprint prefix start e =
-    let same : At prefix ≡ start = cc in
-    ap (λ s. codes "# stopped " ++ (token_text fingerprint s ++ codes "\n")) same
+trailer_stopped fingerprint prefix start e = grind (arith, common_steps)
 
 pub trailer_end : (fingerprint : List ℕ) (trailer : Trailer) → start_after trailer ≡ None
     → trailer_text fingerprint trailer ≡ codes "# end\n"

@@ -1,14 +1,15 @@
 -- Positions in decimal, and what is joined of them.
-use Rattle.std.proofs.Common.{◌≡◌, ℕ, zero, suc, ◌+◌, ◌<◌, ◌^◌, false, List, [], ◌∷◌, ◌++◌, length, map, take, drop, get_or, Result, Ok, Err, refl, sym, ap, ap₂, ◌∙◌, arith, append_assoc, append-nil, add-one}
+use Rattle.std.proofs.Common.{◌≡◌, ℕ, zero, suc, ◌+◌, ◌<◌, ◌^◌, false, List, [], ◌∷◌, ◌++◌, length, map, take, drop, get_or, Result, Ok, Err, refl, sym, ap, ◌∙◌, arith, append_assoc, append-nil, add-one}
 use Rattle.std.specs.Prelude.{◌==◌}
 use Rattle.std.specs.List.{AllByRecursion, slice_split, join_with_byte, All}
 use Rattle.std.specs.Fmt.{decimal}
 use Rattle.std.specs.Result.{OkIff}
 use Rattle.std.specs.Str.Parse.{AllDigits, digits_value, ParsesUnsigned}
 use Rattle.std.proofs.lemmas.Fmt.{decimal_is_IsNumeral}
-use Rattle.std.proofs.lemmas.Str.Parse.{digit_from_value, parse_digits, numerals_by_value, tells_digits}
+use Rattle.std.proofs.lemmas.Str.Parse.{digit_from_value, parse_digits, numerals_by_value}
 use Rattle.std.proofs.lemmas.List.{take_more, drop_more, take-append-drop}
 use Rattle.std.proofs.lemmas.List.Splits.{slice_split_none, slice_split_at}
+use Rattle.std.proofs.lemmas.Grind.{common_steps}
 use borrow.Author.Tests.{ne_eqb}
 
 -- ---- One number.
@@ -19,9 +20,7 @@ decimal-injective m n h k same =
 
 parse_gives : {E : Type 0} (k n : ℕ) (r : Result ℕ E) → n < 2 ^ 64 → ParsesUnsigned k 10 (decimal n) r
     → OkIff r ((0 < length (decimal n)) × (n < 2 ^ k)) n
-parse_gives k n r small h =
-    let is = decimal_is_IsNumeral n small in
-    rw is.1 at (parse_digits (numerals_by_value _ tells_digits) k (decimal n) r h is.0.1)
+parse_gives k n r small h = grind (arith, common_steps, decimal_is_IsNumeral, parse_digits, numerals_by_value)
 
 pub parsed : {E : Type 0} (k n p : ℕ) (r : Result ℕ E) → n < 2 ^ 64 → ParsesUnsigned k 10 (decimal n) r
     → r ≡ Ok p → p ≡ n
@@ -29,8 +28,7 @@ parsed k n p r small h is = (rw is at (parse_gives k n r small h)).1
 
 pub not_parsed : {E : Type 0} (k n : ℕ) (e : E) (r : Result ℕ E) → n < 2 ^ 64 → n < 2 ^ k
     → ParsesUnsigned k 10 (decimal n) r → r ≡ Err e → ⊥
-not_parsed k n e r small fits h is =
-    (rw is at (parse_gives k n r small h)) ((decimal_is_IsNumeral n small).0.0, fits)
+not_parsed k n e r small fits h is = grind (arith, common_steps, parse_gives, decimal_is_IsNumeral)
 
 -- ---- Numbers joined by full stops.
 
@@ -51,15 +49,11 @@ no_stop n small = no_stop_among (decimal n) (decimal_is_IsNumeral n small).0.1
 -- the pieces between the full stops are the numbers
 pub pieces_of_joined : (p : ℕ) (ps : List ℕ) → AreSmall (p ∷ ps) → pieces_of (join_with_byte 46 (map decimal (p ∷ ps))) ≡ map decimal (p ∷ ps)
 pieces_of_joined p [] small = slice_split_none (λ b. b == 46) (decimal p) (no_stop p small.0)
-pieces_of_joined p (q ∷ qs) small =
-    slice_split_at (λ b. b == 46) (decimal p) 46 (join_with_byte 46 (map decimal (q ∷ qs))) (no_stop p small.0) refl
-    ∙ ap (λ ts. decimal p ∷ ts) (pieces_of_joined q qs small.1)
+pieces_of_joined p (q ∷ qs) small = grind (arith, common_steps, slice_split_at, no_stop, pieces_of_joined q qs)
 
 pub decimals-injective : (c d : List ℕ) → AreSmall c → AreSmall d → map decimal c ≡ map decimal d → c ≡ d
 decimals-injective [] [] h k same = refl
-decimals-injective (p ∷ c) (q ∷ d) h k same =
-    ap₂ (λ x xs. x ∷ xs) (decimal-injective p q h.0 k.0 (ap (λ ts. get_or ts 0 []) same))
-    (decimals-injective c d h.1 k.1 (ap (drop 1) same))
+decimals-injective (p ∷ c) (q ∷ d) h k same = grind (arith, common_steps, decimal-injective, decimals-injective c d)
 decimals-injective c d h k same = absurd (omega (arith, ap length same))
 
 some_digits : (p : ℕ) (ps : List ℕ) → AreSmall (p ∷ ps) → 0 < length (join_with_byte 46 (map decimal (p ∷ ps)))
@@ -94,18 +88,14 @@ joined-cons p (q ∷ qs) = ap (λ t. decimal p ++ (46 ∷ t)) (joined-cons q qs)
 
 following-append : (ps qs : List ℕ) → following (ps ++ qs) ≡ following ps ++ following qs
 following-append [] qs = refl
-following-append (p ∷ ps) qs =
-    ap (λ t. 46 ∷ (decimal p ++ t)) (following-append ps qs) ∙ ap (λ t. 46 ∷ t) (sym (append_assoc (decimal p) (following ps) (following qs)))
+following-append (p ∷ ps) qs = grind (arith, common_steps, following-append ps qs, append_assoc)
 
 joined_among : (ps : List ℕ) (p : ℕ) (qs : List ℕ) → joined (ps ++ p ∷ qs) ≡ joined ps ++ ((separator ps ++ decimal p) ++ following qs)
 joined_among [] p qs = joined-cons p qs
-joined_among (o ∷ ps) p qs =
-    joined-cons o (ps ++ p ∷ qs) ∙ ap (λ t. decimal o ++ t) (following-append ps (p ∷ qs)) ∙ sym (append_assoc (decimal o) (following ps) (following (p ∷ qs)))
-    ∙ ap (λ t. t ++ following (p ∷ qs)) (sym (joined-cons o ps))
+joined_among (o ∷ ps) p qs = grind (arith, common_steps, joined-cons, following-append, append_assoc)
 
 split_at : (c : List ℕ) (i p : ℕ) → i < length c → p ≡ get_or c i 0 → c ≡ take i c ++ p ∷ drop (i + 1) c
-split_at c i p h is =
-    sym (take-append-drop i c) ∙ ap (λ l. take i c ++ l) (drop_more c i 0 h ∙ ap (λ x. x ∷ drop (i + 1) c) (sym is))
+split_at c i p h is = grind (arith, common_steps, take-append-drop, drop_more)
 
 -- the number at i stands between those before it and those behind it
 pub joined_through : (c : List ℕ) (i p : ℕ) (s : List ℕ) → i < length c → p ≡ get_or c i 0 → s ≡ separator (take i c)
@@ -116,9 +106,7 @@ joined_through c i p s h is same =
 
 pub joined_more : (c : List ℕ) (i p : ℕ) (s : List ℕ) → i < length c → p ≡ get_or c i 0 → s ≡ separator (take i c)
     → joined (take i c) ++ (s ++ decimal p) ≡ joined (take (i + 1) c)
-joined_more c i p s h is same =
-    ap (λ t. joined (take i c) ++ (t ++ decimal p)) same ∙ ap (λ t. joined (take i c) ++ t) (sym (append-nil (separator (take i c) ++ decimal p)))
-    ∙ sym (joined_among (take i c) p []) ∙ ap (λ q. joined (take i c ++ q ∷ [])) is ∙ ap joined (sym (take_more c i 0 h))
+joined_more c i p s h is same = grind (arith, common_steps, append-nil, joined_among, take_more)
 
 pub separator_more : (c : List ℕ) (i : ℕ) → i < length c → 46 ∷ [] ≡ separator (take (i + 1) c)
 separator_more [] i h = absurd (omega arith)

@@ -1,16 +1,16 @@
 -- Verdicts that are the same at all prefixes of choices make the same search.
-use Rattle.std.proofs.Common.{◌≡◌, ℕ, Bool, true, cond, nat_lt, ◌&&◌, List, [], ◌∷◌, length, map, slice_get, Option, Some, None, ap, sym, ◌∙◌, refl}
+use Rattle.std.proofs.Common.{◌≡◌, ℕ, Bool, true, nat_lt, ◌&&◌, List, [], ◌∷◌, length, slice_get, Option, Some, None, ap, refl, arith, rules}
 use Rattle.std.specs.List.{list_all}
 use Rattle.std.proofs.lemmas.Bool.{and_parts, and_from}
 use Rattle.std.proofs.lemmas.List.Folds.{list_all-map}
+use Rattle.std.proofs.lemmas.Grind.{common_steps}
 use Rattle.am_universe.specs.Choice.{admits}
 use Rattle.am_universe.proofs.ListLemmas.{IsIn}
 use Rattle.am_search.specs.declared.start.Start.{Start}
 use Rattle.am_search.specs.declared.verdict.Verdict.{Verdict}
-use Rattle.am_search.specs.Judge.{is_open, is_yes}
-use Rattle.am_search.specs.Visits.{all_prefixes, proper_fronts, completions_from, is_visited, visited, given_at, given_by, up_to_budget, given_under}
-use Rattle.am_search.specs.Page.{page_ending}
-use Rattle.am_search.specs.BudgetPage.{stop_of, trailer_at, page_under}
+use Rattle.am_search.specs.Judge.{is_open}
+use Rattle.am_search.specs.Visits.{all_prefixes, proper_fronts, completions_from, is_visited, visited, up_to_budget, given_under}
+use Rattle.am_search.specs.BudgetPage.{stop_of, page_under}
 use Rattle.am_search.proofs.ChoiceOrder.{in_filter, filter_same}
 use Rattle.am_search.proofs.VisitsGive.{joined_same}
 use Rattle.am_search.proofs.VisitedPrefixes.{admitted_in}
@@ -22,13 +22,7 @@ fronts_same : (ns prefix : List ℕ) (f g : List ℕ → Bool) → ((q : List �
     → list_all f (proper_fronts prefix) ≡ list_all g (proper_fronts prefix)
 fronts_same ns [] f g same a = refl
 fronts_same [] (p ∷ prefix) f g same a = cc
-fronts_same (n ∷ ns) (p ∷ prefix) f g same a =
-    let parts = and_parts (nat_lt p n) (admits ns prefix) a in
-    ap (λ b. b && list_all f (map (λ front. p ∷ front) (proper_fronts prefix))) (same [] refl)
-    ∙ ap (λ b. g [] && b)
-    (list_all-map f (λ front. p ∷ front) (proper_fronts prefix)
-    ∙ fronts_same ns prefix (λ q. f (p ∷ q)) (λ q. g (p ∷ q)) (λ q b. same (p ∷ q) (and_from (nat_lt p n) (admits ns q) parts.0 b)) parts.1
-    ∙ sym (list_all-map g (λ front. p ∷ front) (proper_fronts prefix)))
+fronts_same (n ∷ ns) (p ∷ prefix) f g same a = search (rules, and_parts, list_all-map, fronts_same ns prefix, and_from)
 
 in_budget : (budget : Option ℕ) (ps : List (List ℕ)) (p : List ℕ) → IsIn (up_to_budget budget ps) p → IsIn ps p
 in_budget None ps p i = i
@@ -44,17 +38,11 @@ module _ (ns : List ℕ) (v w : List ℕ → Verdict) (start : Start) (same : (p
       (fronts_same ns p (λ front. is_open (v front)) (λ front. is_open (w front)) (λ q a. ap is_open (same q a)) (admitted_in ns p i)))
 
   same_given : (budget : Option ℕ) → given_under ns v start budget ≡ given_under ns w start budget
-  same_given budget =
-      joined_same (given_at ns v start) (given_at ns w start) (up_to_budget budget (visited ns v start))
-      (λ p i. ap (λ x. cond (is_yes x) (completions_from ns start p) [])
-      (same p (admitted_in ns p (in_filter (is_visited ns v start) (all_prefixes ns) p (in_budget budget (visited ns v start) p i)).0)))
-      ∙ ap (λ l. given_by ns w start (up_to_budget budget l)) same_visited
+  same_given budget = grind (arith, common_steps, joined_same, admitted_in, in_filter, in_budget, same_visited)
 
   same_stop_of : (budget : Option ℕ) → stop_of ns v start budget ≡ stop_of ns w start budget
   same_stop_of None = refl
   same_stop_of (Some n) = ap (λ l. slice_get l n) same_visited
 
   pub same_page : (limit budget : Option ℕ) → page_under ns v start limit budget ≡ page_under ns w start limit budget
-  same_page limit budget =
-      ap (λ o. page_ending (trailer_at o) (given_under ns v start budget) limit) (same_stop_of budget)
-      ∙ ap (λ l. page_ending (trailer_at (stop_of ns w start budget)) l limit) (same_given budget)
+  same_page limit budget = grind (arith, common_steps, same_stop_of, same_given)

@@ -1,7 +1,7 @@
 -- Pages of searches in a row, under budgets that are enough: what they have together, and that they come to an end.
-use Rattle.std.proofs.Common.{◌≡◌, ◌⊎◌, ℕ, ◌<◌, ◌≤◌, Bool, true, false, not, cond, nat_eq, ◌-◌, get_or, List, [], ◌∷◌, ◌++◌, length, Option, Some, None, IfSome, MatchOption, ap, sym, subst, ◌∙◌, refl, inl, inr, arith}
+use Rattle.std.proofs.Common.{◌≡◌, ◌⊎◌, ℕ, ◌<◌, ◌≤◌, Bool, true, false, not, nat_eq, ◌-◌, get_or, List, [], ◌∷◌, ◌++◌, length, Option, Some, None, IfSome, MatchOption, ap, sym, subst, ◌∙◌, refl, inl, inr, arith, rules}
 use Rattle.std.specs.List.{filter, starts_with}
-use Rattle.std.proofs.lemmas.Bool.{false≢true}
+use Rattle.std.proofs.lemmas.Grind.{common_steps}
 use Rattle.am_universe.specs.Choice.{choices, admits}
 use Rattle.am_universe.specs.Completions.{completions}
 use Rattle.am_universe.proofs.ListLemmas.{IsIn}
@@ -28,21 +28,8 @@ use Rattle.am_search.proofs.BudgetPages.{begun, visited_is, past_first, under_ki
 fewer_by_one : (few more : List ℕ → Bool) (xs : List (List ℕ)) (y : List ℕ) → ((x : List ℕ) → few x ≡ true → more x ≡ true) → IsIn xs y → few y ≡ false → more y ≡ true
     → length (filter few xs) < length (filter more xs)
 fewer_by_one few more [] y within i out kept = absurd i
-fewer_by_one few more (x ∷ xs) y within (inl same) out kept =
-    omega (
-      arith,
-      kept_more few more xs within,
-      ap length (filter_step few x xs false (ap few same ∙ out)),
-      ap length (filter_step more x xs true (ap more same ∙ kept)),
-    )
-fewer_by_one few more (x ∷ xs) y within (inr i) out kept = by (few x) (more x) refl refl (fewer_by_one few more xs y within i out kept)
-  where
-    by : (a b : Bool) → few x ≡ a → more x ≡ b → length (filter few xs) < length (filter more xs)
-        → length (cond a (x ∷ filter few xs) (filter few xs)) < length (cond b (x ∷ filter more xs) (filter more xs))
-    by true true a b h = omega arith
-    by true false a b h = absurd (false≢true (sym b ∙ within x a))
-    by false true a b h = omega arith
-    by false false a b h = h
+fewer_by_one few more (x ∷ xs) y within (inl same) out kept = search (rules, kept_more, filter_step)
+fewer_by_one few more (x ∷ xs) y within (inr i) out kept = search (rules, fewer_by_one few more xs y within i out kept)
 
 -- ---- Where a start begins.
 
@@ -52,11 +39,7 @@ pub record HasFirst (ns : List ℕ) (start : Start) : Type 0 where
   pub begins : first_of_start ns start ≡ Some first
 
 has_first : (ns : List ℕ) (start : Start) → 0 < length (choices_from ns start) → HasFirst ns start
-has_first ns start some = by (first_of_start ns start) refl
-  where
-    by : (o : Option (List ℕ)) → first_of_start ns start ≡ o → HasFirst ns start
-    by None e = absurd (omega (arith, some, ap length (ap (λ x. at_or_after x (choices ns)) e)))
-    by (Some c) e = record { first = c; begins = e }
+has_first ns start some = grind (arith, common_steps)
 
 first_member : (xs ys : List (List ℕ)) (c : List ℕ) → xs ≡ c ∷ ys → IsIn xs c
 first_member xs ys c e = subst (λ l. IsIn l c) (sym e) (inl refl)
@@ -163,9 +146,7 @@ module _ (ns : List ℕ) (truth : List ℕ → Bool) (verdict : List ℕ → Ver
 
   -- the answers are those of the page and those that its trailer leaves
   pub search_rest : answers_from ns truth start ≡ page.choices ++ rest_after ns truth page.trailer
-  search_rest =
-      rest_under ns truth verdict start h.limit h.budget law h.at_least_one h.enough
-      ∙ ap (λ p. p.choices ++ rest_after ns truth p.trailer) (sym h.from_start)
+  search_rest = grind (arith, common_steps, rest_under)
 
 -- ---- Pages in a row.
 
@@ -202,11 +183,7 @@ at_most_from ns truth verdict start (page ∷ pages) law h =
         ]
 
 pub from_at_most : (ns : List ℕ) (start : Start) → length (choices_from ns start) ≤ length (choices ns)
-from_at_most ns start = by (first_of_start ns start)
-  where
-    by : (o : Option (List ℕ)) → length (at_or_after o (choices ns)) ≤ length (choices ns)
-    by None = omega arith
-    by (Some f) = kept_all (λ c. not (comes_before c f)) (choices ns)
+from_at_most ns start = grind (arith, common_steps, kept_all)
 
 pub some_choice : (ns : List ℕ) → AreSizes ns → 0 < length (choices ns)
 some_choice ns are =

@@ -1,13 +1,13 @@
 -- The form of a token: what stands between its letter and its positions, and what that tells.
-use Rattle.std.proofs.Common.{◌≡◌, ◌≢◌, ℕ, ◌<◌, true, List, ◌∷◌, ◌++◌, length, take, drop, get_or, Option, Some, None, IfSome, Result, Ok, Err, ◌⊎◌, inl, inr, refl, sym, ap, subst, ◌∙◌, arith}
+use Rattle.std.proofs.Common.{◌≡◌, ◌≢◌, ℕ, ◌<◌, true, List, ◌∷◌, ◌++◌, length, take, drop, get_or, Option, Some, None, IfSome, ◌⊎◌, inl, inr, refl, sym, ap, subst, ◌∙◌, arith, rules}
 use Rattle.std.specs.Prelude.{codes}
 use Rattle.std.specs.List.{AllPass}
 use Rattle.std.specs.Result.{result_ok}
 use Rattle.std.proofs.lemmas.List.{append_cancel_left}
 use Rattle.std.proofs.lemmas.Option.{same_Some}
 use Rattle.std.proofs.Math.Seq.{take-append_seam}
+use Rattle.std.proofs.lemmas.Grind.{common_steps}
 use Rattle.hex.specs.Hex.{decode_of, decode_sized, encode_lower, is_hex_digit, lower_digits}
-use Rattle.hex.specs.declared.error.FromHexError.{FromHexError}
 use Rattle.hex.proofs.HexLemmas.{length-encode_with, decode_of-encode_lower, decode_of-ok, decode_of-same, decode_sized-encode_lower, decode_sized-ok, decode_sized-twice}
 use Rattle.am_universe.specs.declared.kind.Kind.{Kind}
 use Rattle.am_universe.specs.declared.kind.Kind.TheVariants.{BadToken, OtherInputs}
@@ -41,28 +41,15 @@ digits-injective h k is it e =
 
 -- a text that does not decode has the digits of no fingerprint
 pub no_digits : (text h : List ℕ) → result_ok (decode_sized text 16) ≡ None → IsFingerprint h → encode_lower h ≡ text → ⊥
-no_digits text h none is e =
-    let read : decode_sized text 16 ≡ Ok h = ap (λ t. decode_sized t 16) (sym e) ∙ decode_sized-encode_lower h 16 is.0 is.1 in
-    let some : None ≡ Some h = sym none ∙ ap result_ok read in
-    cc some
+no_digits text h none is e = grind (arith, common_steps, decode_sized-encode_lower)
 
 -- a text that decodes has the digits of no other
 pub other_digits : (text x h : List ℕ) → result_ok (decode_sized text 16) ≡ Some x → IsFingerprint h → encode_lower h ≡ text → encode_lower x ≡ text
-other_digits text x h some is e =
-    let read : decode_sized text 16 ≡ Ok h = ap (λ t. decode_sized t 16) (sym e) ∙ decode_sized-encode_lower h 16 is.0 is.1 in
-    let same : x ≡ h = same_Some x h (sym some ∙ ap result_ok read) in
-    ap encode_lower same ∙ e
+other_digits text x h some is e = grind (arith, common_steps, decode_sized-encode_lower, same_Some)
 
 -- the 32 digits of 16 bytes are those of a fingerprint
 pub is_fingerprint : (text h : List ℕ) → result_ok (decode_sized text 16) ≡ Some h → IsFingerprint h
-is_fingerprint text h some = by (decode_sized text 16) refl some
-  where
-    by : (r : Result (List ℕ) FromHexError) → decode_sized text 16 ≡ r → result_ok r ≡ Some h → IsFingerprint h
-    by (Err e) is none = cc
-    by (Ok x) is same =
-        let size = decode_sized-ok text 16 x is in
-        let read = decode_of-ok text x (sym (decode_sized-twice text 16 size) ∙ is) in
-        subst IsFingerprint (same_Some x h same) (omega (arith, size, read.2), read.3)
+is_fingerprint text h some = grind (arith, common_steps, decode_sized-ok, decode_of-ok, decode_sized-twice, same_Some)
 
 -- ---- Forms.
 
@@ -114,10 +101,7 @@ same_parts s t l e = absurd (omega (arith, l))
 pub same_spelled : (ns ms : List ℕ) (f g : Option (List ℕ)) (s t : Start) → AreSizes ns → AreSizes ms → IsStart ns s → IsStart ms t → IsForm f → IsForm g
     → spelled_text f s ≡ spelled_text g t → (s ≡ t) × (f ≡ g)
 same_spelled ns ms f g s t sizes also a b h k e =
-    let parts : letter s ∷ form_text f (positions_text (positions s)) ≡ letter t ∷ form_text g (positions_text (positions t)) = sym (spelled_parts f s) ∙ e ∙ spelled_parts g t in
-    let forms = same_form f g (positions_text (positions s)) (positions_text (positions t)) h k (ap (drop 1) parts) in
-    let same = joined-injective (positions s) (positions t) (small_positions ns (positions s) sizes.values (start_positions ns s a)) (small_positions ms (positions t) also.values (start_positions ms t b)) forms.1 in
-    (same_parts s t (ap (λ l. get_or l 0 0) parts) same, forms.0)
+    search (rules, spelled_parts, same_form, joined-injective, small_positions, start_positions, same_parts)
 
 -- ---- What is read and what is refused.
 
@@ -159,20 +143,12 @@ same_written ns ms h k s t sizes others a b is it e =
     (same.0, same_Some h k same.1)
 
 pub different : (h : List ℕ) (s t : Start) → token_text h s ≢ old_token_text t
-different h s t e =
-    let parts : letter s ∷ form_text (Some h) (positions_text (positions s)) ≡ letter t ∷ form_text None (positions_text (positions t)) = sym (spelled_parts (Some h) s) ∙ e ∙ spelled_parts None t in
-    omega (arith, ap (λ l. get_or l 1 0) parts)
-
-pub no_other : (ns h text : List ℕ) (start : Start) → ReadsToken ns h text start → (text ≡ token_text h start) ⊎ (text ≡ old_token_text start)
-no_other ns h text start (is, inl old) = inr (sym old)
-no_other ns h text start (is, inr written) = inl (sym written)
+different h s t e = grind (arith, common_steps, spelled_parts)
 
 pub not_refused : (ns h text : List ℕ) (start : Start) (kind : Kind) → AreSizes ns → IsFingerprint h → ReadsToken ns h text start → RefusesToken ns h text kind → ⊥
 not_refused ns h text start kind sizes is reads (inl none) = none.1 h start is reads
 not_refused ns h text start kind sizes is (at, inl old) (inr others) = different others.1.other others.1.start start (others.1.is_written ∙ sym old)
-not_refused ns h text start kind sizes is (at, inr written) (inr others) =
-    let o = others.1 in
-    o.differs (same_written ns ns o.other h o.start start sizes sizes o.is_start at o.is_fingerprint is (o.is_written ∙ sym written)).1
+not_refused ns h text start kind sizes is (at, inr written) (inr others) = grind (arith, common_steps, same_written)
 
 no_token_of_others : (ns h text : List ℕ) → IsNoToken ns text → IsTokenOfOthers ns h text → ⊥
 no_token_of_others ns h text none o = none o.other o.start o.is_fingerprint (o.is_start, inr o.is_written)
@@ -190,8 +166,7 @@ pub same_fingerprint : (ns ms h k text : List ℕ) (s t : Start) → AreSizes ns
     → ReadsToken ns h text s → ReadsToken ms k text t → (text ≡ old_token_text s) ⊎ (h ≡ k)
 same_fingerprint ns ms h k text s t sizes others is it (a, inl old) also = inl (sym old)
 same_fingerprint ns ms h k text s t sizes others is it (a, inr written) (b, inl old) = absurd (different h s t (written ∙ sym old))
-same_fingerprint ns ms h k text s t sizes others is it (a, inr written) (b, inr too) =
-    inr (same_written ns ms h k s t sizes others a b is it (written ∙ sym too)).1
+same_fingerprint ns ms h k text s t sizes others is it (a, inr written) (b, inr too) = search (rules, same_written)
 
 -- a text that is read as a start over some sizes is no token over sizes of which that is no start
 pub no_start_there : (ns ms h k text : List ℕ) (start : Start) → AreSizes ns → AreSizes ms → IsFingerprint h → ReadsToken ns h text start → (IsStart ms start → ⊥)
@@ -200,8 +175,7 @@ no_start_there ns ms h k text start sizes others is reads none =
     inl (refl, λ other t it also. none (subst (IsStart ms) (sym (same_start ns ms h other text start t sizes others is it reads also)) also.0))
 
 pub of_other_inputs : (ms h k : List ℕ) (start : Start) → IsStart ms start → IsFingerprint h → h ≢ k → RefusesToken ms k (token_text h start) OtherInputs
-of_other_inputs ms h k start at is differs =
-    inr (refl, record { start = start; other = h; is_start = at; is_fingerprint = is; is_written = refl; differs = differs })
+of_other_inputs ms h k start at is differs = grind (arith, common_steps, is_fingerprint)
 
 -- ---- For the readers.
 
@@ -242,8 +216,4 @@ module _ (ns text rest : List ℕ) where
 
 -- a text that begins with neither letter is no token
 pub no_letter : (ns text : List ℕ) → ((rest : List ℕ) → text ≢ 115 ∷ rest) → ((rest : List ℕ) → text ≢ 116 ∷ rest) → IsNoToken ns text
-no_letter ns text s t = not_spelled ns text by
-  where
-    by : (g : Option (List ℕ)) (start : Start) → IsForm g → IsStart ns start → letter start ∷ form_text g (positions_text (positions start)) ≡ text → ⊥
-    by g (At prefix) it at e = s (form_text g (positions_text prefix)) (sym e)
-    by g (After c) it at e = t (form_text g (positions_text c)) (sym e)
+no_letter ns text s t = grind (arith, common_steps, not_spelled)

@@ -1,12 +1,12 @@
 -- A list of positions read piece by piece, under the sizes of a universe.
-use Rattle.std.proofs.Common.{◌≡◌, ℕ, ◌<◌, ◌≤◌, true, List, [], ◌∷◌, ◌++◌, length, map, slice_index, nat_lt, Option, Some, None, Bor, sym, ap, ◌∙◌, arith, append-nil, append_assoc, length-append, get_or, drop}
+use Rattle.std.proofs.Common.{◌≡◌, ℕ, ◌<◌, ◌≤◌, true, List, [], ◌∷◌, ◌++◌, length, map, slice_index, Option, Some, None, Bor, sym, ap, ◌∙◌, arith, append-nil, append_assoc, length-append, rules}
 use Rattle.std.specs.Str.Pattern.{StripsPrefix, FindsTextPrefix}
 use Rattle.std.specs.Iterator.{AlwaysYields}
 use Rattle.std.specs.List.{AllByRecursion, join_with_byte}
 use Rattle.std.specs.Fmt.{decimal}
 use Rattle.std.proofs.lemmas.Bool.{and_parts}
 use Rattle.std.proofs.lemmas.Bool.Decides.{nat_tests}
-use Rattle.std.proofs.lemmas.List.{map-append}
+use Rattle.std.proofs.lemmas.List.{map-append, length-map}
 use Rattle.std.proofs.lemmas.List.Splits.{join_with_byte-slice_split}
 use Rattle.am_universe.specs.Choice.{admits}
 use Rattle.am_universe.specs.Universe.{Label, IsLabel, IsUniverse, sizes}
@@ -15,7 +15,7 @@ use Rattle.am_universe.proofs.CompletionLemmas.{admits_next}
 use Rattle.am_search.specs.Judge.{AreSizes}
 use Rattle.am_search.specs.Token.{positions_text}
 use Rattle.am_search.proofs.Positions.{AreSmall, pieces_of, pieces_of_joined}
-use Rattle.std.proofs.lemmas.List.{length-map}
+use Rattle.std.proofs.lemmas.Grind.{common_steps}
 
 -- ---- The sizes of a universe.
 
@@ -27,18 +27,12 @@ limited [] h = tt
 limited (l ∷ u) h = ((h.0.some_value, h.0.at_most), limited u h.1)
 
 pub sizes_of_universe : (u : List Label) → IsUniverse u → AreSizes (sizes u)
-sizes_of_universe u h = record {
-  labels = omega (arith, h.at_most, length-map u (λ (l : Label). length l.values));
-  values = limited u h.labels;
-}
+sizes_of_universe u h = grind (arith, common_steps, length-map, limited)
 
 pub small_positions : (ns c : List ℕ) → AreLimited ns → admits ns c ≡ true → AreSmall c
 small_positions ns [] h a = tt
 small_positions [] (p ∷ c) h a = cc
-small_positions (n ∷ ns) (p ∷ c) h a =
-    let parts = and_parts (nat_lt p n) (admits ns c) a in
-    let below : p < n = grind (arith, nat_tests, parts.0) in
-    (omega (arith, below, h.0.1), small_positions ns c h.1 parts.1)
+small_positions (n ∷ ns) (p ∷ c) h a = grind (arith, common_steps, and_parts, nat_tests, small_positions ns c)
 
 -- ---- A choice of which the front is read.
 
@@ -54,12 +48,8 @@ at_seam : (ns c front piece : List ℕ) (rest : List (List ℕ)) → AreLimited 
     → map decimal c ≡ map decimal front ++ piece ∷ rest → IsAtSeam ns c front piece
 at_seam ns [] front piece rest h a e = absurd (omega (arith, ap length e, length-append (map decimal front) (piece ∷ rest)))
 at_seam [] (p ∷ c) front piece rest h a e = cc
-at_seam (n ∷ ns) (p ∷ c) [] piece rest h a e =
-    let parts = and_parts (nat_lt p n) (admits ns c) a in
-    record { position = p; is = ap (λ ts. get_or ts 0 []) e; label = omega arith; below = grind (arith, nat_tests, parts.0); limit = h.0.1 }
-at_seam (n ∷ ns) (p ∷ c) (q ∷ front) piece rest h a e =
-    let s = at_seam ns c front piece rest h.1 (and_parts (nat_lt p n) (admits ns c) a).1 (ap (drop 1) e) in
-    record { position = s.position; is = s.is; label = omega (arith, s.label); below = s.below; limit = s.limit }
+at_seam (n ∷ ns) (p ∷ c) [] piece rest h a e = search (rules, and_parts, nat_tests)
+at_seam (n ∷ ns) (p ∷ c) (q ∷ front) piece rest h a e = search (rules, at_seam ns c front piece rest, and_parts)
 
 -- the pieces of a text are a choice's, where the text is
 pieces_are : (text c : List ℕ) → 0 < length text → AreSmall c → positions_text c ≡ text → pieces_of text ≡ map decimal c
@@ -99,18 +89,12 @@ module _ {S : Type 0} (steps : S → Option (Bor (List ℕ)) → S → Type 0) w
 
   pub piece_read : (ns text front piece : List ℕ) (s t : S) (p : ℕ) → (next : IsNext text front piece t) → IsReadSoFar ns text front s
       → decimal p ≡ piece → length front < length ns → p < slice_index ns (length front) → IsReadSoFar ns text (front ++ (p ∷ [])) t
-  piece_read ns text front piece s t p next h is room below = record {
-    left = next.rest;
-    all = next.all ∙ ap (λ x. map decimal front ++ (x ∷ next.rest)) (sym is) ∙ sym (append_assoc (map decimal front) (decimal p ∷ []) next.rest) ∙ ap (λ ts. ts ++ next.rest) (sym (map-append decimal front (p ∷ [])));
-    yields = next.yields;
-    admitted = admits_next ns front p h.admitted room below;
-  }
+  piece_read ns text front piece s t p next h is room below = search (rules, append_assoc, map-append, admits_next)
 
   -- each choice with the text has a position that the next piece says
   pub seam : (ns text front piece c : List ℕ) (t : S) → AreLimited ns → 0 < length text → IsNext text front piece t
       → admits ns c ≡ true → positions_text c ≡ text → IsAtSeam ns c front piece
-  seam ns text front piece c t h some next a e =
-      at_seam ns c front piece next.rest h a (sym (pieces_are text c some (small_positions ns c h a) e) ∙ next.all)
+  seam ns text front piece c t h some next a e = grind (arith, common_steps, at_seam, pieces_are, small_positions)
 
 -- what `strip_prefix` says of a text that it has cut
 pub cut : (prefix text rest : List ℕ) → StripsPrefix (FindsTextPrefix prefix) text rest → text ≡ prefix ++ rest

@@ -2,6 +2,7 @@
 use Rattle.std.proofs.Common.{◌≡◌, ℕ, zero, suc, ◌<◌, ◌≤◌, true, false, nat_eq, List, [], ◌∷◌, ◌++◌, length, take, slice_index, slice_get, Some, None, ap, sym, ◌∙◌, refl, inl, inr, arith}
 use Rattle.std.specs.List.{starts_with}
 use Rattle.std.proofs.lemmas.Bool.{false≢true, false_from_ne_true}
+use Rattle.std.proofs.lemmas.Grind.{common_steps}
 use Rattle.am_universe.specs.Choice.{IsWhole}
 use Rattle.am_universe.proofs.ListLemmas.{IsIn}
 use Rattle.am_universe.proofs.CompletionLemmas.{admits_next}
@@ -31,15 +32,9 @@ second_is p (y ∷ ys) next s (inr i) least =
 pub next_at : (xs : List (List ℕ)) (k : ℕ) (p next : List ℕ) → Ascends xs → slice_get xs k ≡ Some p → IsIn xs next → comes_before p next ≡ true
     → ((x : List ℕ) → IsIn xs x → comes_before p x ≡ true → comes_before x next ≡ false) → slice_get xs (suc k) ≡ Some next
 next_at [] k p next s e i less least = absurd i
-next_at (x ∷ xs) zero p next s e (inl same) less least =
-    let here : x ≡ p = cc in
-    absurd (false≢true (sym (not_itself p) ∙ ap (comes_before p) (sym here ∙ same) ∙ less))
-next_at (x ∷ xs) zero p next s e (inr i) less least =
-    let here : x ≡ p = cc in
-    second_is x xs next s i (λ y j l. least y j (ap (λ q. comes_before q y) (sym here) ∙ l))
-next_at (x ∷ xs) (suc k) p next s e (inl same) less least =
-    let over : comes_before x p ≡ true = above_first x xs p s (got_at xs k p e) in
-    absurd (false≢true (sym (not_back x p over) ∙ ap (comes_before p) same ∙ less))
+next_at (x ∷ xs) zero p next s e (inl same) less least = grind (arith, common_steps, not_itself)
+next_at (x ∷ xs) zero p next s e (inr i) less least = grind (arith, common_steps, second_is)
+next_at (x ∷ xs) (suc k) p next s e (inl same) less least = grind (arith, common_steps, above_first, got_at, not_back)
 next_at (x ∷ xs) (suc k) p next s e (inr i) less least = next_at xs k p next (ascends_rest x xs s) e i less (λ y j. least y (inr j))
 
 pub none_at : (xs : List (List ℕ)) (k : ℕ) (p : List ℕ) → Ascends xs → slice_get xs k ≡ Some p → ((x : List ℕ) → IsIn xs x → comes_before p x ≡ true → ⊥) → slice_get xs (suc k) ≡ None
@@ -66,10 +61,7 @@ pub begins_next : (prefix f : List ℕ) → starts_with nat_eq f prefix ≡ true
 begins_next [] [] h k = absurd (omega arith)
 begins_next [] (q ∷ f) h k = begins_same q f []
 begins_next (p ∷ prefix) [] h k = absurd (false≢true h)
-begins_next (p ∷ prefix) (q ∷ f) h k =
-    let parts = begins_parts q p f prefix h in
-    ap (λ r. starts_with nat_eq (r ∷ f) (p ∷ (prefix ++ slice_index f (length prefix) ∷ []))) parts.0
-    ∙ begins_same p f (prefix ++ slice_index f (length prefix) ∷ []) ∙ begins_next prefix f parts.1 (omega arith)
+begins_next (p ∷ prefix) (q ∷ f) h k = grind (arith, common_steps, begins_parts, begins_same, begins_next prefix f)
 
 -- ---- From one judged prefix to the next.
 

@@ -1,5 +1,5 @@
 -- Which prefixes are judged, and their order.
-use Rattle.std.proofs.Common.{◌≡◌, ◌⊎◌, ◌↔◌, ℕ, ◌+◌, ◌<◌, true, false, not, nat_eq, nat_lt, ◌&&◌, List, [], ◌∷◌, length, Contains, Some, None, ap, sym, subst, ◌∙◌, refl, inl, inr, arith}
+use Rattle.std.proofs.Common.{◌≡◌, ◌⊎◌, ◌↔◌, ℕ, ◌<◌, true, not, nat_eq, nat_lt, List, [], ◌∷◌, length, Contains, Some, None, ap, sym, subst, refl, inl, inr, arith, rules}
 use Rattle.std.specs.Prelude.{IsTrue}
 use Rattle.std.specs.List.{list_all, starts_with, AllByRecursion}
 use Rattle.std.specs.List.Sorted.{IsStrictlySortedBy}
@@ -9,6 +9,7 @@ use Rattle.std.specs.declared.cmp.Ordering.TheVariants.{Less}
 use Rattle.std.proofs.lemmas.Bool.{false≢true, and_parts, and_from, and_right, cases_Bool}
 use Rattle.std.proofs.lemmas.Bool.Decides.{nat_tests}
 use Rattle.std.proofs.lemmas.List.Kept.{IsStrictlySortedBy-filter}
+use Rattle.std.proofs.lemmas.Grind.{common_steps}
 use borrow.Author.Tests.{lt-ltb}
 use Rattle.am_universe.specs.Choice.{choices, admits, IsWhole}
 use Rattle.am_universe.specs.Completions.{completions}
@@ -18,7 +19,7 @@ use Rattle.am_search.specs.declared.start.Start.{Start}
 use Rattle.am_search.specs.declared.verdict.Verdict.{Verdict}
 use Rattle.am_search.specs.Judge.{is_open}
 use Rattle.am_search.specs.Start.{comes_before, first_of_start, at_or_after}
-use Rattle.am_search.specs.Visits.{all_prefixes, proper_fronts, completions_from, is_visited, visited}
+use Rattle.am_search.specs.Visits.{all_prefixes, proper_fronts, is_visited, visited}
 use Rattle.am_search.proofs.ChoiceOrder.{got_at, in_filter, into_filter, filter_none, not_itself, not_back}
 use Rattle.am_search.proofs.Odometer.{ArePositive, filled, first_completion_is}
 use Rattle.am_search.proofs.PrefixOrder.{before_begins, before_beside, other_before}
@@ -37,10 +38,7 @@ admitted_in (size ∷ sizes) prefix (inr i) =
 
 pub in_admitted : (sizes prefix : List ℕ) → admits sizes prefix ≡ true → IsIn (all_prefixes sizes) prefix
 in_admitted [] (p ∷ prefix) a = absurd (false≢true a)
-in_admitted (size ∷ sizes) (p ∷ prefix) a =
-    let parts = and_parts (nat_lt p size) (admits sizes prefix) a in
-    let below : p < 0 + size = grind (arith, nat_tests, parts.0) in
-    inr (into_behind 0 size (all_prefixes sizes) p prefix (omega arith) below (in_admitted sizes prefix parts.1))
+in_admitted (size ∷ sizes) (p ∷ prefix) a = search (rules, and_parts, nat_tests, into_behind, in_admitted sizes prefix)
 in_admitted sizes prefix a = inl refl
 
 pub prefixes_admitted : (sizes prefix : List ℕ) → (Contains (all_prefixes sizes) prefix ↔ IsTrue (admits sizes prefix))
@@ -77,18 +75,7 @@ ReachesTo f prefix = (starts_with nat_eq f prefix ≡ true) ⊎ (comes_before f 
 
 pub reaches : (sizes f prefix : List ℕ) → nat_lt 0 (length (at_or_after (Some f) (completions sizes prefix))) ≡ true → ReachesTo f prefix
 reaches sizes f prefix h =
-    let member = some_member (at_or_after (Some f) (completions sizes prefix)) h in
-    let late = in_filter (λ c. not (comes_before c f)) (completions sizes prefix) member.0 member.1 in
-    let begins : starts_with nat_eq member.0 prefix ≡ true = (completion_whole sizes prefix member.0 late.0).1 in
-    elim (cases_Bool (starts_with nat_eq f prefix)) [
-      | inl e ↦ inl e
-      | inr other ↦ elim (cases_Bool (comes_before f prefix)) [
-        | inl e ↦ inr e
-        | inr not_less ↦
-            let less : comes_before member.0 f ≡ true = before_beside prefix f member.0 (other_before prefix f other not_less) other begins in
-            absurd (false≢true (sym (ap not less) ∙ late.1))
-      ]
-    ]
+    grind (arith, common_steps, some_member, in_filter, completion_whole, cases_Bool, before_beside, other_before)
 
 pub in_completions : (sizes prefix c : List ℕ) → IsWhole sizes c → starts_with nat_eq c prefix ≡ true → IsIn (completions sizes prefix) c
 in_completions sizes prefix c w h = into_filter (λ d. starts_with nat_eq d prefix) (choices sizes) c (in_choices sizes c w) h
@@ -114,25 +101,11 @@ pub record IsVisited (sizes : List ℕ) (verdict : List ℕ → Verdict) (f pref
 
 module _ (sizes : List ℕ) (verdict : List ℕ → Verdict) (start : Start) (f : List ℕ) (begins : first_of_start sizes start ≡ Some f) where
   pub in_visited : (prefix : List ℕ) → IsIn (visited sizes verdict start) prefix → IsVisited sizes verdict f prefix
-  in_visited prefix i =
-      let r = in_filter (is_visited sizes verdict start) (all_prefixes sizes) prefix i in
-      let parts = and_parts (list_all (λ front. is_open (verdict front)) (proper_fronts prefix)) (nat_lt 0 (length (completions_from sizes start prefix))) r.1 in
-      record {
-        admitted = admitted_in sizes prefix r.0;
-        fronts = parts.0;
-        reaches_to = reaches sizes f prefix (subst (λ o. nat_lt 0 (length (at_or_after o (completions sizes prefix))) ≡ true) begins parts.1);
-      }
+  in_visited prefix i = grind (arith, common_steps, in_filter, and_parts, admitted_in, reaches)
 
   pub into_visited : (prefix : List ℕ) → ArePositive sizes → IsWhole sizes f → IsVisited sizes verdict f prefix → IsIn (visited sizes verdict start) prefix
-  into_visited prefix some w h =
-      into_filter (is_visited sizes verdict start) (all_prefixes sizes) prefix (in_admitted sizes prefix h.admitted)
-      (and_from (list_all (λ front. is_open (verdict front)) (proper_fronts prefix)) (nat_lt 0 (length (completions_from sizes start prefix))) h.fronts
-      (subst (λ o. nat_lt 0 (length (at_or_after o (completions sizes prefix))) ≡ true) (sym begins) (reached sizes f prefix some w h.admitted h.reaches_to)))
+  into_visited prefix some w h = grind (arith, common_steps, into_filter, in_admitted, and_from, reached)
 
 -- where it begins nowhere, none is
 pub none_visited : (sizes : List ℕ) (verdict : List ℕ → Verdict) (start : Start) → first_of_start sizes start ≡ None → visited sizes verdict start ≡ []
-none_visited sizes verdict start e =
-    filter_none (is_visited sizes verdict start) (all_prefixes sizes)
-    (λ prefix i.
-    ap (λ o. list_all (λ front. is_open (verdict front)) (proper_fronts prefix) && nat_lt 0 (length (at_or_after o (completions sizes prefix)))) e
-    ∙ and_right (list_all (λ front. is_open (verdict front)) (proper_fronts prefix)) false refl)
+none_visited sizes verdict start e = grind (arith, common_steps, filter_none, and_right)

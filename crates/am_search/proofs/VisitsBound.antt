@@ -1,5 +1,5 @@
 -- How many prefixes a search judges at most, where the judge is exact.
-use Rattle.std.proofs.Common.{◌≡◌, ◌≢◌, ℕ, zero, suc, ◌+◌, ◌*◌, ◌<◌, ◌≤◌, Bool, true, false, not, cond, nat_eq, nat_lt, ◌&&◌, ◌||◌, List, [], ◌∷◌, length, map, Option, Some, None, ap, sym, subst, ◌∙◌, refl, inl, inr, arith}
+use Rattle.std.proofs.Common.{◌≡◌, ◌≢◌, ℕ, zero, suc, ◌+◌, ◌*◌, ◌<◌, ◌≤◌, Bool, true, false, not, nat_eq, nat_lt, ◌&&◌, ◌||◌, List, [], ◌∷◌, length, map, Option, Some, None, ap, sym, subst, ◌∙◌, refl, inl, inr, arith, rules}
 use Rattle.std.specs.List.{filter, list_any, sum, starts_with}
 use Rattle.std.proofs.Math.Nat.{add-mul, mul-add, eq-or-lt_of_le}
 use Rattle.std.proofs.lemmas.Bool.{false≢true, and_parts, and_from, and_right, cases_order}
@@ -7,7 +7,7 @@ use Rattle.std.proofs.lemmas.Bool.Decides.{nat_tests}
 use Rattle.std.proofs.lemmas.List.{length-append, length-map}
 use Rattle.std.proofs.lemmas.List.Elements.{filter-append}
 use Rattle.std.proofs.lemmas.List.Sums.{sum_by-cons, length-filter, count_by-le-length}
-use borrow.Author.Tests.{lt-ltb}
+use Rattle.std.proofs.lemmas.Grind.{common_steps}
 use Rattle.am_universe.specs.Choice.{choices, admits, IsWhole}
 use Rattle.am_universe.specs.Completions.{completions}
 use Rattle.am_universe.proofs.ChoiceLemmas.{behind}
@@ -40,13 +40,7 @@ kept_all test xs = rw (length-filter test xs) (count_by-le-length test xs)
 
 pub kept_more : {X : Type 0} (f g : X → Bool) (xs : List X) → ((x : X) → f x ≡ true → g x ≡ true) → kept f xs ≤ kept g xs
 kept_more f g [] h = omega arith
-kept_more f g (x ∷ xs) h = by (f x) (g x) refl refl (kept_more f g xs h)
-  where
-    by : (a b : Bool) → f x ≡ a → g x ≡ b → kept f xs ≤ kept g xs → length (cond a (x ∷ filter f xs) (filter f xs)) ≤ length (cond b (x ∷ filter g xs) (filter g xs))
-    by true true d e k = omega (arith, k)
-    by true false d e k = absurd (false≢true (sym e ∙ h x d))
-    by false true d e k = omega (arith, k)
-    by false false d e k = k
+kept_more f g (x ∷ xs) h = grind (arith, common_steps, kept_more f g xs h)
 
 kept_same : {X : Type 0} (f g : X → Bool) (xs : List X) → ((x : X) → f x ≡ g x) → kept f xs ≡ kept g xs
 kept_same f g xs same = ap length (filter_same f g xs (λ x i. same x))
@@ -59,27 +53,15 @@ kept_map test q xs = ap length (filter_of_map (λ x. q ∷ x) test xs) ∙ lengt
 
 kept_some : {X : Type 0} (test : X → Bool) (xs : List X) → list_any test xs ≡ true → 0 < kept test xs
 kept_some test [] h = absurd (false≢true h)
-kept_some test (x ∷ xs) h = by (test x) h (kept_some test xs)
-  where
-    by : (b : Bool) → (b || list_any test xs) ≡ true → (list_any test xs ≡ true → 0 < kept test xs) → 0 < length (cond b (x ∷ filter test xs) (filter test xs))
-    by true e k = omega arith
-    by false e k = k e
+kept_some test (x ∷ xs) h = grind (arith, common_steps, kept_some test xs)
 
 -- of those that pass one test, those that pass another
 twice : {X : Type 0} (f g : X → Bool) (xs : List X) → filter g (filter f xs) ≡ filter (λ x. f x && g x) xs
 twice f g [] = refl
-twice f g (x ∷ xs) = by (f x) (g x) refl (twice f g xs)
-  where
-    by : (a b : Bool) → g x ≡ b → filter g (filter f xs) ≡ filter (λ x. f x && g x) xs
-        → filter g (cond a (x ∷ filter f xs) (filter f xs)) ≡ cond (a && g x) (x ∷ filter (λ x. f x && g x) xs) (filter (λ x. f x && g x) xs)
-    by true b e k = ap (λ l. cond (g x) (x ∷ l) l) k
-    by false b e k = k
+twice f g (x ∷ xs) = grind (arith, common_steps, twice f g xs)
 
 kept_behind : (test : List ℕ → Bool) (first count : ℕ) (xs : List (List ℕ)) → kept test (behind first (suc count) xs) ≡ kept (past first test) xs + kept test (behind (first + 1) count xs)
-kept_behind test first count xs =
-    ap length (filter-append test (map (λ x. first ∷ x) xs) (behind (first + 1) count xs))
-    ∙ length-append (filter test (map (λ x. first ∷ x) xs)) (filter test (behind (first + 1) count xs))
-    ∙ ap (λ n. n + kept test (behind (first + 1) count xs)) (kept_map test first xs)
+kept_behind test first count xs = grind (arith, common_steps, filter-append, behind, length-append, kept_map)
 
 -- ---- Sums over the positions of a label.
 
@@ -135,10 +117,7 @@ IsOpenAtSome sizes truth verdict = (prefix : List ℕ) → admits sizes prefix �
 
 open_behind : (size : ℕ) (sizes : List ℕ) (truth : List ℕ → Bool) (verdict : List ℕ → Verdict) (q : ℕ) → q < size → IsOpenAtSome (size ∷ sizes) truth verdict
     → IsOpenAtSome sizes (past q truth) (past q verdict)
-open_behind size sizes truth verdict q below some prefix a e =
-    subst (λ n. 0 < n)
-    (ap (kept truth) (at_its_own q 0 size prefix (choices sizes) (omega arith) (omega (arith, below))) ∙ kept_map truth q (completions sizes prefix))
-    (some (q ∷ prefix) (and_from (nat_lt q size) (admits sizes prefix) (lt-ltb q size below) a) e)
+open_behind size sizes truth verdict q below some prefix a e = search (rules, at_its_own, kept_map, and_from)
 
 -- ---- Below a prefix that is judged `Open`, and one that is not.
 
@@ -203,16 +182,10 @@ reached_alone f verdict prefix h = (and_parts (is_reached verdict prefix) (reach
 
 -- with a position before that of the choice, with its own, and with one after it
 reached_before : (verdict : List ℕ → Verdict) (q p : ℕ) (f prefix : List ℕ) → q < p → is_reached_from (p ∷ f) verdict (q ∷ prefix) ≡ false
-reached_before verdict q p f prefix less =
-    ap (λ b. is_reached verdict (q ∷ prefix) && (b || comes_before (p ∷ f) (q ∷ prefix))) (begins_other p q f prefix (λ e. omega (arith, less, e)))
-    ∙ ap (λ b. is_reached verdict (q ∷ prefix) && b) (not_back (q ∷ prefix) (p ∷ f) (before_less q p prefix f less))
-    ∙ and_right (is_reached verdict (q ∷ prefix)) false refl
+reached_before verdict q p f prefix less = search (rules, is_reached, begins_other, not_back, before_less, and_right)
 
 reached_at : (verdict : List ℕ → Verdict) (p : ℕ) (f prefix : List ℕ) → verdict [] ≡ Open → is_reached_from (p ∷ f) verdict (p ∷ prefix) ≡ is_reached_from f (past p verdict) prefix
-reached_at verdict p f prefix open_ =
-    ap (λ b. b && reaches_to (p ∷ f) (p ∷ prefix)) (reached_behind verdict p prefix open_)
-    ∙ ap (λ b. is_reached (past p verdict) prefix && (b || comes_before (p ∷ f) (p ∷ prefix))) (begins_same p f prefix)
-    ∙ ap (λ b. is_reached (past p verdict) prefix && (starts_with nat_eq f prefix || b)) (before_same p f prefix)
+reached_at verdict p f prefix open_ = grind (arith, common_steps, reached_behind, is_reached, begins_same, before_same)
 
 true_at_own : (truth : List ℕ → Bool) (p : ℕ) (f c : List ℕ) → is_true_from (p ∷ f) truth (p ∷ c) ≡ is_true_from f (past p truth) c
 true_at_own truth p f c = ap (λ b. not b && truth (p ∷ c)) (before_same p c f)
@@ -245,11 +218,7 @@ module _ (sizes : List ℕ) (truth : List ℕ → Bool) (verdict : List ℕ → 
   ]
 
   along : IsBoundedFrom f sizes (past p truth) (past p verdict) → reached_past p ≤ 1 + (true_past p + 1) * sum sizes
-  along own =
-      rw (
-        kept_same (past p (is_reached_from (p ∷ f) verdict)) (is_reached_from f (past p verdict)) (all_prefixes sizes) (λ x. reached_at verdict p f x e),
-        kept_same (past p (is_true_from (p ∷ f) truth)) (is_true_from f (past p truth)) (choices sizes) (λ c. true_at_own truth p f c),
-      ) own
+  along own = grind (arith, common_steps, kept_same, reached_at, true_at_own)
 
 reached_from_at_most : (sizes : List ℕ) (truth : List ℕ → Bool) (verdict : List ℕ → Verdict) (f : List ℕ) → IsOpenAtSome sizes truth verdict → IsWhole sizes f → IsBoundedFrom f sizes truth verdict
 reached_from_at_most [] truth verdict f some w = omega (arith, kept_all (is_reached_from f verdict) ([] ∷ []))
@@ -283,11 +252,7 @@ reached_from_at_most (size ∷ sizes) truth verdict (p ∷ f) some w =
 
 reaches_as_test : (f prefix : List ℕ) → ReachesTo f prefix → reaches_to f prefix ≡ true
 reaches_as_test f prefix (inl begins) = ap (λ b. b || comes_before f prefix) begins
-reaches_as_test f prefix (inr less) = by (starts_with nat_eq f prefix)
-  where
-    by : (b : Bool) → (b || comes_before f prefix) ≡ true
-    by true = refl
-    by false = less
+reaches_as_test f prefix (inr less) = grind (arith, common_steps)
 
 module _ (sizes : List ℕ) (truth : List ℕ → Bool) (verdict : List ℕ → Verdict) where
   open_at_some : IsExactJudge sizes truth verdict → IsOpenAtSome sizes truth verdict

@@ -1,10 +1,10 @@
 -- What the judged prefixes give: the true choices from the start on.
-use Rattle.std.proofs.Common.{◌≡◌, ℕ, zero, suc, ◌+◌, ◌<◌, ◌≤◌, Bool, true, false, not, cond, nat_lt, ◌&&◌, List, [], ◌∷◌, ◌++◌, length, map, Option, Some, None, ap, sym, subst, ◌∙◌, refl, inl, inr, arith, append-nil}
+use Rattle.std.proofs.Common.{◌≡◌, ℕ, zero, suc, ◌+◌, ◌<◌, ◌≤◌, Bool, true, false, not, cond, nat_lt, ◌&&◌, List, [], ◌∷◌, ◌++◌, length, map, Option, Some, None, ap, sym, subst, ◌∙◌, refl, inl, inr, arith, append-nil, rules}
 use Rattle.std.specs.Prelude.{IsTrue}
 use Rattle.std.specs.List.{filter, flat_map, list_all}
 use Rattle.std.proofs.lemmas.Bool.{false≢true, and_from}
 use Rattle.std.proofs.lemmas.List.Elements.{filter-append}
-use Rattle.std.proofs.lemmas.Grind.{flat_map-append}
+use Rattle.std.proofs.lemmas.Grind.{flat_map-append, common_steps}
 use Rattle.std.proofs.lemmas.List.Folds.{flat_map-map, list_all-map}
 use borrow.Author.Tests.{lt-ltb}
 use Rattle.am_universe.specs.Choice.{choices, admits, IsWhole}
@@ -64,13 +64,7 @@ all_passing sizes verdict test prefixes = flat_map (passing sizes verdict test) 
 
 -- below a verdict that is not `Open` nothing is reached
 pub none_reached : (verdict : List ℕ → Verdict) (first count : ℕ) (prefixes : List (List ℕ)) → is_open (verdict []) ≡ false → filter (is_reached verdict) (behind first count prefixes) ≡ []
-none_reached verdict first count prefixes closed = filter_none (is_reached verdict) (behind first count prefixes) fails
-  where
-    fails : (prefix : List ℕ) → IsIn (behind first count prefixes) prefix → is_reached verdict prefix ≡ false
-    fails prefix i =
-        let r = from_behind first count prefixes prefix i in
-        subst (λ c. is_reached verdict c ≡ false) r.same
-        (ap (λ b. b && list_all (λ front. is_open (verdict front)) (map (λ front. r.position ∷ front) (proper_fronts r.rest))) closed)
+none_reached verdict first count prefixes closed = grind (arith, common_steps, filter_none, behind, from_behind)
 
 passing_at : (sizes : List ℕ) (verdict : List ℕ → Verdict) (test : List ℕ → Bool) (prefix : List ℕ) (v : Verdict) → verdict prefix ≡ v
     → passing sizes verdict test prefix ≡ cond (is_yes v) (filter test (completions sizes prefix)) []
@@ -87,34 +81,21 @@ map_of_given q true cs = refl
 map_of_given q false cs = refl
 
 pub reached_behind : (verdict : List ℕ → Verdict) (q : ℕ) (prefix : List ℕ) → verdict [] ≡ Open → is_reached verdict (q ∷ prefix) ≡ is_reached (λ p. verdict (q ∷ p)) prefix
-reached_behind verdict q prefix open_ =
-    ap (λ v. is_open v && list_all (λ front. is_open (verdict front)) (map (λ front. q ∷ front) (proper_fronts prefix))) open_
-    ∙ list_all-map (λ front. is_open (verdict front)) (λ front. q ∷ front) (proper_fronts prefix)
+reached_behind verdict q prefix open_ = grind (arith, common_steps, list_all-map)
 
 passing_behind : (size : ℕ) (sizes : List ℕ) (verdict : List ℕ → Verdict) (test : List ℕ → Bool) (q : ℕ) (prefix : List ℕ) → q < size
     → passing (size ∷ sizes) verdict test (q ∷ prefix) ≡ map (λ c. q ∷ c) (passing sizes (λ p. verdict (q ∷ p)) (λ c. test (q ∷ c)) prefix)
-passing_behind size sizes verdict test q prefix below =
-    ap (λ cs. cond (is_yes (verdict (q ∷ prefix))) (filter test cs) []) (completions_behind size sizes q prefix below)
-    ∙ ap (λ cs. cond (is_yes (verdict (q ∷ prefix))) cs []) (filter_of_map (λ c. q ∷ c) test (completions sizes prefix))
-    ∙ map_of_given q (is_yes (verdict (q ∷ prefix))) (filter (λ c. test (q ∷ c)) (completions sizes prefix))
+passing_behind size sizes verdict test q prefix below = search (rules, completions_behind, filter_of_map, map_of_given)
 
 all_passing_behind : (size : ℕ) (sizes : List ℕ) (verdict : List ℕ → Verdict) (test : List ℕ → Bool) (q : ℕ) (prefixes : List (List ℕ)) → q < size → verdict [] ≡ Open
     → all_passing (size ∷ sizes) verdict test (map (λ prefix. q ∷ prefix) prefixes) ≡ map (λ c. q ∷ c) (all_passing sizes (λ p. verdict (q ∷ p)) (λ c. test (q ∷ c)) prefixes)
 all_passing_behind size sizes verdict test q prefixes below open_ =
-    let kept : List (List ℕ) = filter (is_reached (λ p. verdict (q ∷ p))) prefixes in
-    ap (flat_map (passing (size ∷ sizes) verdict test))
-    (filter_of_map (λ prefix. q ∷ prefix) (is_reached verdict) prefixes
-    ∙ ap (map (λ prefix. q ∷ prefix)) (filter_same (λ prefix. is_reached verdict (q ∷ prefix)) (is_reached (λ p. verdict (q ∷ p))) prefixes (λ prefix i. reached_behind verdict q prefix open_)))
-    ∙ flat_map-map (passing (size ∷ sizes) verdict test) (λ prefix. q ∷ prefix) kept
-    ∙ joined_same (λ prefix. passing (size ∷ sizes) verdict test (q ∷ prefix)) (λ prefix. map (λ c. q ∷ c) (passing sizes (λ p. verdict (q ∷ p)) (λ c. test (q ∷ c)) prefix)) kept
-    (λ prefix i. passing_behind size sizes verdict test q prefix below)
-    ∙ sym (map_of_flat_map q (passing sizes (λ p. verdict (q ∷ p)) (λ c. test (q ∷ c))) kept)
+    grind (arith, common_steps, filter_of_map, filter_same, reached_behind, flat_map-map, joined_same, passing_behind, map_of_flat_map)
 
 -- ---- They give the true choices that pass the test.
 
 two_filters : (q : ℕ) (truth test : List ℕ → Bool) (cs : List (List ℕ)) → map (λ c. q ∷ c) (filter (λ c. truth (q ∷ c)) (filter (λ c. test (q ∷ c)) cs)) ≡ filter truth (filter test (map (λ c. q ∷ c) cs))
-two_filters q truth test cs =
-    sym (filter_of_map (λ c. q ∷ c) truth (filter (λ c. test (q ∷ c)) cs)) ∙ ap (filter truth) (sym (filter_of_map (λ c. q ∷ c) test cs))
+two_filters q truth test cs = grind (arith, common_steps, filter_of_map)
 
 module _ (size : ℕ) (sizes : List ℕ) (truth : List ℕ → Bool) (verdict : List ℕ → Verdict) (test : List ℕ → Bool) (open_ : verdict [] ≡ Open)
     (others : (q : ℕ) → q < size → all_passing sizes (λ p. verdict (q ∷ p)) (λ c. test (q ∷ c)) (all_prefixes sizes) ≡ filter (λ c. truth (q ∷ c)) (filter (λ c. test (q ∷ c)) (choices sizes))) where
@@ -136,23 +117,16 @@ module _ (size : ℕ) (sizes : List ℕ) (truth : List ℕ → Bool) (verdict : 
 -- by the verdict of the empty prefix
 module _ (size : ℕ) (sizes : List ℕ) (truth : List ℕ → Bool) (verdict : List ℕ → Verdict) (test : List ℕ → Bool) (law : IsLawful (size ∷ sizes) truth verdict) where
   closed_at : is_open (verdict []) ≡ false → all_passing (size ∷ sizes) verdict test (all_prefixes (size ∷ sizes)) ≡ passing (size ∷ sizes) verdict test []
-  closed_at e =
-      ap (λ l. passing (size ∷ sizes) verdict test [] ++ flat_map (passing (size ∷ sizes) verdict test) l) (none_reached verdict 0 size (all_prefixes sizes) e)
-      ∙ append-nil (passing (size ∷ sizes) verdict test [])
+  closed_at e = grind (arith, common_steps, none_reached, append-nil)
 
   member_at : (c : List ℕ) → IsIn (filter test (choices (size ∷ sizes))) c → IsIn (completions (size ∷ sizes) []) c
   member_at c i = subst (λ cs. IsIn cs c) (sym (completions_are_below (size ∷ sizes) [] refl)) (in_filter test (choices (size ∷ sizes)) c i).0
 
   gives_yes : verdict [] ≡ Yes → all_passing (size ∷ sizes) verdict test (all_prefixes (size ∷ sizes)) ≡ filter truth (filter test (choices (size ∷ sizes)))
-  gives_yes e =
-      closed_at (ap is_open e) ∙ passing_at (size ∷ sizes) verdict test [] Yes e
-      ∙ ap (filter test) (completions_are_below (size ∷ sizes) [] refl)
-      ∙ sym (filter_all truth (filter test (choices (size ∷ sizes))) (λ c i. law.all_true [] c refl e (member_at c i)))
+  gives_yes e = search (rules, closed_at, passing_at, completions_are_below, filter_all, member_at)
 
   gives_no : verdict [] ≡ No → all_passing (size ∷ sizes) verdict test (all_prefixes (size ∷ sizes)) ≡ filter truth (filter test (choices (size ∷ sizes)))
-  gives_no e =
-      closed_at (ap is_open e) ∙ passing_at (size ∷ sizes) verdict test [] No e
-      ∙ sym (filter_none truth (filter test (choices (size ∷ sizes))) (λ c i. law.all_false [] c refl e (member_at c i)))
+  gives_no e = search (rules, closed_at, passing_at, filter_none, member_at)
 
 gives_true : (sizes : List ℕ) (truth : List ℕ → Bool) (verdict : List ℕ → Verdict) (test : List ℕ → Bool) → IsLawful sizes truth verdict
     → all_passing sizes verdict test (all_prefixes sizes) ≡ filter truth (filter test (choices sizes))
@@ -199,14 +173,7 @@ none_either false = refl
 left_out : (give : List ℕ → List (List ℕ)) (a b : List ℕ → Bool) (ps : List (List ℕ)) → ((p : List ℕ) → b p ≡ false → give p ≡ [])
     → flat_map give (filter (λ p. a p && b p) ps) ≡ flat_map give (filter a ps)
 left_out give a b [] none = refl
-left_out give a b (p ∷ ps) none = by (a p) (b p) refl (left_out give a b ps none)
-  where
-    by : (x y : Bool) → b p ≡ y → flat_map give (filter (λ p. a p && b p) ps) ≡ flat_map give (filter a ps)
-        → flat_map give (cond (x && y) (p ∷ filter (λ p. a p && b p) ps) (filter (λ p. a p && b p) ps)) ≡ flat_map give (cond x (p ∷ filter a ps) (filter a ps))
-    by true true e h = ap (λ l. give p ++ l) h
-    by true false e h = h ∙ sym (ap (λ l. l ++ flat_map give (filter a ps)) (none p e))
-    by false true e h = h
-    by false false e h = h
+left_out give a b (p ∷ ps) none = grind (arith, common_steps, left_out give a b ps none)
 
 pub visited_give : (sizes : List ℕ) (truth : List ℕ → Bool) (verdict : List ℕ → Verdict) (start : Start) → IsJudge sizes truth verdict
     → given_under sizes verdict start None ≡ answers_from sizes truth start

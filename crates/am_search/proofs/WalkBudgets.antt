@@ -1,10 +1,9 @@
 -- What a search has given and what it has left, under a budget.
 use Rattle.std.proofs.Common.{◌≡◌, ℕ, ◌+◌, ◌-◌, ◌<◌, ◌≤◌, List, [], ◌∷◌, ◌++◌, length, take, drop, get_or, Option, Some, None, IfSome, ap, sym, subst, ◌∙◌, refl, arith, append-nil, append_assoc, length-append, length-take}
 use Rattle.std.specs.Prelude.{option_map}
-use Rattle.std.specs.Iterator.{YieldsFirst}
 use Rattle.std.proofs.Math.Seq.{take-add, take-append_seam}
-use Rattle.std.proofs.lemmas.List.{drop_at, drop_all, take_all, take-append-drop}
-use Rattle.std.proofs.lemmas.Grind.{flat_map-append}
+use Rattle.std.proofs.lemmas.List.{drop_at, take_all, take-append-drop}
+use Rattle.std.proofs.lemmas.Grind.{flat_map-append, common_steps}
 use Rattle.am_universe.specs.Completions.{completions}
 use Rattle.am_search.specs.declared.answers.Answers.{Answers}
 use Rattle.am_search.specs.declared.judge.Judge.{Ghosts}
@@ -14,8 +13,7 @@ use Rattle.am_search.specs.declared.stage.Stage.TheVariants.{Judging, Giving, Do
 use Rattle.am_search.specs.declared.verdict.Verdict.{Verdict}
 use Rattle.am_search.specs.Start.{at_or_after}
 use Rattle.am_search.specs.Visits.{visited, given_at, given_by, up_to_budget, given_under, IsPartOfSearch, IsWholeSearch, IsStoppedSearch, BeginsWithLast}
-use Rattle.am_search.specs.BudgetPage.{stop_of, trailer_at, page_under}
-use Rattle.am_search.specs.Page.{page_ending}
+use Rattle.am_search.specs.BudgetPage.{page_under}
 use Rattle.am_search.specs.AnswersView.{answers_left, answers_stop, answers_page}
 use Rattle.am_search.specs.Walk.{IsLeft, IsAtStop, IsWalk}
 
@@ -28,8 +26,7 @@ left_first (Some n) judged none = ap Some (omega (arith, ap length none))
 pub left_after : (budget left after : Option ℕ) (judged more : List (List ℕ)) (p : List ℕ) → IsLeft budget left judged
     → left ≡ option_map (λ n. 1 + n) after → more ≡ judged ++ p ∷ [] → IsLeft budget after more
 left_after budget left None judged more p is less e = is ∙ ap (option_map (λ n. length judged + n)) less
-left_after budget left (Some k) judged more p is less e =
-    is ∙ ap (option_map (λ n. length judged + n)) less ∙ ap Some (omega (arith, ap length e, length-append judged (p ∷ [])))
+left_after budget left (Some k) judged more p is less e = grind (arith, common_steps, length-append)
 
 -- ---- What is judged under a budget.
 
@@ -51,8 +48,7 @@ front_under all budget (Some n) judged is front = record {
 -- where all is judged, the budget leaves nothing out
 pub all_under : (all : List (List ℕ)) (budget left : Option ℕ) (judged : List (List ℕ)) → IsLeft budget left judged → length all ≤ length judged → up_to_budget budget all ≡ all
 all_under all budget None judged is past = ap (λ b. up_to_budget b all) is
-all_under all budget (Some n) judged is past =
-    ap (λ b. up_to_budget b all) is ∙ take_all (length judged + n) all (omega (arith, past))
+all_under all budget (Some n) judged is past = grind (arith, common_steps, take_all)
 
 used_up : (budget : Option ℕ) (judged : List (List ℕ)) → IsLeft budget (Some 0) judged → budget ≡ Some (length judged)
 used_up budget judged is = is ∙ ap Some (omega arith)
@@ -87,10 +83,7 @@ given_front {sizes} {verdict} {start} {stage} {current} {along} {judged} {given}
     }
 
 pub left_one : (given rest all : List (List ℕ)) (c : List ℕ) → (given ++ c ∷ []) ++ rest ≡ all → drop (length given) all ≡ c ∷ drop (length (given ++ c ∷ [])) all
-left_one given rest all c e =
-    let more : given ++ (c ∷ rest) ≡ all = sym (append_assoc given (c ∷ []) rest) ∙ e in
-    ap (drop (length given)) (sym more) ∙ drop_at given (c ∷ rest) (length given) refl
-    ∙ ap (λ l. c ∷ l) (sym (ap (drop (length (given ++ c ∷ []))) (sym e) ∙ drop_at (given ++ c ∷ []) rest (length (given ++ c ∷ [])) refl))
+left_one given rest all c e = grind (arith, common_steps, append_assoc, drop_at)
 
 module _ {sizes : List ℕ} {verdict : List ℕ → Verdict} {start : Start} {stage : Stage} {current : List ℕ} {along : Option (List ℕ)} {judged given : List (List ℕ)} (budget left : Option ℕ)
     (h : IsWalk sizes verdict start stage current along judged given) (is : IsLeft budget left judged) where
@@ -113,20 +106,14 @@ module _ {sizes : List ℕ} {verdict : List ℕ → Verdict} {start : Start} {st
   ended_search e = record { judged_all = all_judged e; given_all = (h.done e).given_all ∙ ap (given_by sizes verdict start) (all_judged e) }
 
   pub whole_search : stage ≡ Done → IsWholeSearch sizes verdict start budget judged given
-  whole_search e =
-      let past = h.done e in
-      whole_of (all_judged e ∙ sym (all_under (visited sizes verdict start) budget left judged is past.all)) past.given_all
+  whole_search e = grind (arith, common_steps, whole_of, all_judged, all_under)
 
   -- the budget is used
   used : left ≡ Some 0 → IsLeft budget (Some 0) judged
   used none = subst (λ l. IsLeft budget l judged) none is
 
   pub stopped_search : (prefix : List ℕ) → IsAtStop stage current left prefix → IsStoppedSearch sizes verdict start budget judged given prefix
-  stopped_search prefix at_stop = record {
-    used = used_up budget judged (used at_stop.2);
-    next = (h.judging at_stop.0).next ∙ ap Some at_stop.1;
-    given_all = (h.judging at_stop.0).given_all;
-  }
+  stopped_search prefix at_stop = grind (arith, common_steps, used, used_up)
 
 pub begins_with_last : {sizes : List ℕ} {verdict : List ℕ → Verdict} {start : Start} {stage : Stage} {current : List ℕ} {along : Option (List ℕ)} {judged given : List (List ℕ)} (depth : ℕ)
     → IsWalk sizes verdict start stage current along judged given → stage ≡ Giving depth → BeginsWithLast judged current
@@ -139,40 +126,14 @@ begins_with_last {sizes} {verdict} {start} {stage} {current} {along} {judged} {g
     let here : get_or all i x ≡ x = Rattle.std.proofs.lemmas.Option.get_or_from_slice_get all i x x w.last in
     record { depth = depth; last = Rattle.std.proofs.lemmas.Option.slice_get_read judged (length judged) i x refl below (sym (ap (λ l. get_or l i x) h.front ∙ Rattle.std.proofs.lemmas.List.get_or-take (length judged) all i x below ∙ here)) }
 
-pub none_left : (given all : List (List ℕ)) → given ≡ all → drop (length given) all ≡ []
-none_left given all e = drop_all (length given) all (omega (arith, ap length e))
-
--- answers that have come as far have as much left
-pub same_left : {J : Type 0} {j : Ghosts J} (a b : Answers J j) → a.judge.now ≡ b.judge.now → a.start ≡ b.start → a.budget ≡ b.budget → a.given.items ≡ b.given.items → answers_left a ≡ answers_left b
-same_left {J} {j} a b judge start budget given =
-    ap (λ l. drop (length l) (given_under (j.sizes a.judge.now) (j.verdict a.judge.now) a.start a.budget)) given
-    ∙ ap (λ k. drop (length b.given.items) (given_under (j.sizes k) (j.verdict k) a.start a.budget)) judge
-    ∙ ap (λ s. drop (length b.given.items) (given_under (j.sizes b.judge.now) (j.verdict b.judge.now) s a.budget)) start
-    ∙ ap (λ n. drop (length b.given.items) (given_under (j.sizes b.judge.now) (j.verdict b.judge.now) b.start n)) budget
-
--- where the search is over, nothing is left
-pub nothing_left : {J : Type 0} {j : Ghosts J} (a b : Answers J j) → a.judge.now ≡ b.judge.now → a.start ≡ b.start → a.budget ≡ b.budget → a.given.items ≡ b.given.items
-    → IsWholeSearch (j.sizes b.judge.now) (j.verdict b.judge.now) b.start b.budget b.judged b.given.items → YieldsFirst answers_left a None b
-nothing_left {J} {j} a b judge start budget given whole =
-    let none : answers_left b ≡ [] = none_left b.given.items (given_under (j.sizes b.judge.now) (j.verdict b.judge.now) b.start b.budget) whole.given_all in
-    (same_left a b judge start budget given ∙ none, none)
-
 -- answers under one budget stop at one prefix
 pub same_stop : {J : Type 0} {j : Ghosts J} (a b : Answers J j) → a.judge.now ≡ b.judge.now → a.start ≡ b.start → a.budget ≡ b.budget → answers_stop a ≡ answers_stop b
-same_stop {J} {j} a b judge start budget =
-    ap (λ k. stop_of (j.sizes k) (j.verdict k) a.start a.budget) judge
-    ∙ ap (λ s. stop_of (j.sizes b.judge.now) (j.verdict b.judge.now) s a.budget) start
-    ∙ ap (stop_of (j.sizes b.judge.now) (j.verdict b.judge.now) b.start) budget
+same_stop {J} {j} a b judge start budget = grind (arith, common_steps)
 
 -- the page of answers that have just begun is that of a search
 pub page_is : {J : Type 0} {j : Ghosts J} (a : Answers J j) (judge : J) (start : Start) (limit budget : Option ℕ) → a.judge.now ≡ judge → a.start ≡ start → a.budget ≡ budget
     → answers_left a ≡ given_under (j.sizes judge) (j.verdict judge) start budget → answers_page a limit ≡ page_under (j.sizes judge) (j.verdict judge) start limit budget
-page_is {J} {j} a judge start limit budget same begins under left =
-    ap (λ xs. page_ending (trailer_at (stop_of (j.sizes a.judge.now) (j.verdict a.judge.now) a.start a.budget)) xs limit) left
-    ∙ ap (λ o. page_ending (trailer_at o) (given_under (j.sizes judge) (j.verdict judge) start budget) limit)
-    (ap (λ k. stop_of (j.sizes k) (j.verdict k) a.start a.budget) same
-    ∙ ap (λ b. stop_of (j.sizes judge) (j.verdict judge) b a.budget) begins
-    ∙ ap (stop_of (j.sizes judge) (j.verdict judge) start) under)
+page_is {J} {j} a judge start limit budget same begins under left = grind (arith, common_steps)
 
 -- ---- How many are judged.
 
@@ -185,11 +146,9 @@ under_length (Some n) all = omega (arith, length-take n all)
 
 pub judged_within : (sizes : List ℕ) (verdict : List ℕ → Verdict) (start : Start) (budget : Option ℕ) (judged given : List (List ℕ)) → IsPartOfSearch sizes verdict start budget judged given
     → length judged ≤ length (visited sizes verdict start)
-judged_within sizes verdict start budget judged given h =
-    omega (arith, taken_length judged (up_to_budget budget (visited sizes verdict start)) h.judged_first, under_length budget (visited sizes verdict start))
+judged_within sizes verdict start budget judged given h = grind (arith, common_steps, taken_length, under_length)
 
 pub judged_budget : (sizes : List ℕ) (verdict : List ℕ → Verdict) (start : Start) (budget : Option ℕ) (judged given : List (List ℕ)) → IsPartOfSearch sizes verdict start budget judged given
     → IfSome budget (λ n. length judged ≤ n)
 judged_budget sizes verdict start None judged given h = tt
-judged_budget sizes verdict start (Some n) judged given h =
-    omega (arith, taken_length judged (take n (visited sizes verdict start)) h.judged_first, length-take n (visited sizes verdict start))
+judged_budget sizes verdict start (Some n) judged given h = grind (arith, common_steps, taken_length, length-take)

@@ -1,11 +1,11 @@
 -- Where the search stands after it has judged a prefix, and after it has given a choice.
-use Rattle.std.proofs.Common.{◌≡◌, ℕ, suc, ◌-◌, ◌<◌, ◌≤◌, Bool, true, false, not, cond, nat_eq, List, [], ◌∷◌, ◌++◌, length, map, nat_lt, take, drop, slice_get, slice_index, Option, Some, None, IfSome, MatchOption, ap, sym, subst, ◌∙◌, refl, inl, inr, arith, append-nil, append_assoc, length-append}
+use Rattle.std.proofs.Common.{◌≡◌, ℕ, suc, ◌-◌, ◌<◌, ◌≤◌, Bool, true, false, cond, nat_eq, List, [], ◌∷◌, ◌++◌, length, map, nat_lt, take, drop, slice_get, slice_index, Option, Some, None, IfSome, MatchOption, ap, sym, subst, ◌∙◌, refl, inl, inr, arith, append-nil, append_assoc, length-append, rules}
 use Rattle.std.specs.Prelude.{option_map}
 use Rattle.std.specs.List.{filter, find, flat_map, range_with_len, starts_with}
 use Rattle.std.proofs.lemmas.Bool.{false≢true, false_from_ne_true, cases_Bool, cases_lt}
 use Rattle.std.proofs.lemmas.List.{length-take-le}
 use Rattle.std.proofs.lemmas.List.Kept.{IsStrictlySortedBy-filter}
-use Rattle.std.proofs.lemmas.Grind.{flat_map-append}
+use Rattle.std.proofs.lemmas.Grind.{flat_map-append, common_steps}
 use Rattle.std.specs.Ordering.{nat_cmp}
 use Rattle.std.specs.Cmp.Lexicographic.{slice_cmp}
 use Rattle.am_universe.specs.Choice.{choices, admits, IsWhole}
@@ -19,7 +19,7 @@ use Rattle.am_search.specs.declared.verdict.Verdict.{Verdict}
 use Rattle.am_search.specs.declared.verdict.Verdict.TheVariants.{Yes, No, Open}
 use Rattle.am_search.specs.Judge.{IsJudge, is_open, is_yes}
 use Rattle.am_search.specs.Start.{comes_before, first_of_start, at_or_after}
-use Rattle.am_search.specs.Visits.{all_prefixes, is_visited, completions_from, visited, given_at, given_by}
+use Rattle.am_search.specs.Visits.{all_prefixes, is_visited, visited, given_at, given_by}
 use Rattle.am_search.specs.NextPrefix.{next_beside}
 use Rattle.am_search.specs.Walk.{if_begins, first_position, IsJudging, IsGiving, IsDone, IsWalk}
 use Rattle.am_search.proofs.ChoiceOrder.{got_at, none_found, Ascends, not_itself, not_back, filter_all, filter_step, from_first, member_then_rest}
@@ -43,9 +43,7 @@ at_first (d ∷ cs) c s e = let same : d ≡ c = cc in ap (λ x. at_or_after (So
 all_from : (sizes prefix f c : List ℕ) → comes_before f prefix ≡ true → slice_get (completions sizes prefix) 0 ≡ Some c
     → at_or_after (Some c) (completions sizes prefix) ≡ at_or_after (Some f) (completions sizes prefix)
 all_from sizes prefix f c less e =
-    at_first (completions sizes prefix) c (completions_ascend sizes prefix) e
-    ∙ sym (filter_all (λ d. not (comes_before d f)) (completions sizes prefix)
-    (λ d i. ap not (not_back f d (before_begins f prefix d less (completion_whole sizes prefix d i).1))))
+    grind (arith, common_steps, at_first, completions_ascend, filter_all, not_back, before_begins, completion_whole)
 
 -- ---- Where the start begins.
 
@@ -66,8 +64,7 @@ along_if prefix f e = ap (λ x. cond x (Some f) None) e
 
 -- what comes after the choice does not lie along it
 behind_false : (prefix f : List ℕ) → comes_before f prefix ≡ true → starts_with nat_eq f prefix ≡ false
-behind_false prefix f less = false_from_ne_true (starts_with nat_eq f prefix) (λ b.
-    false≢true (sym (begins_behind prefix f b) ∙ less))
+behind_false prefix f less = grind (arith, common_steps, false_from_ne_true, begins_behind)
 
 -- ---- The stages.
 
@@ -92,19 +89,13 @@ module _ (sizes : List ℕ) (verdict : List ℕ → Verdict) (start : Start) (so
   longer = omega (arith, length-append judged (p ∷ []))
 
   pub front_more : judged ++ p ∷ [] ≡ take (length (judged ++ p ∷ [])) (visited sizes verdict start)
-  front_more =
-      ap (λ l. l ++ p ∷ []) front ∙ taken_pushed (visited sizes verdict start) (length judged) p here.next
-      ∙ ap (λ n. take n (visited sizes verdict start)) longer
+  front_more = grind (arith, common_steps, taken_pushed, longer)
 
   given_more : given_by sizes verdict start (judged ++ p ∷ []) ≡ given_by sizes verdict start judged ++ given_at sizes verdict start p
-  given_more =
-      flat_map-append (given_at sizes verdict start) judged (p ∷ [])
-      ∙ ap (λ l. given_by sizes verdict start judged ++ l) (append-nil (given_at sizes verdict start p))
+  given_more = grind (arith, common_steps, flat_map-append, append-nil)
 
   given_none : is_yes (verdict p) ≡ false → given ≡ given_by sizes verdict start (judged ++ p ∷ [])
-  given_none e =
-      here.given_all ∙ sym (append-nil (given_by sizes verdict start judged))
-      ∙ ap (λ b. given_by sizes verdict start judged ++ cond b (completions_from sizes start p) []) (sym e) ∙ sym given_more
+  given_none e = grind (arith, common_steps, append-nil)
 
   begun : HasBegun sizes start
   begun = begun_at sizes verdict start (length judged) p here.next
@@ -117,17 +108,10 @@ module _ (sizes : List ℕ) (verdict : List ℕ → Verdict) (start : Start) (so
 
   -- the choice along which the prefix lies
   pub along_some : (f : List ℕ) → along ≡ Some f → (first_of_start sizes start ≡ Some f) × IsWhole sizes f × (starts_with nat_eq f p ≡ true)
-  along_some f e = elim (cases_Bool (starts_with nat_eq begun.first p)) [
-    | inl b ↦
-        let all : Some begun.first ≡ Some f = sym (along_if p begun.first b) ∙ along_of e in
-        let same : begun.first ≡ f = cc in
-        (begun.begins ∙ ap Some same, subst (IsWhole sizes) same begun.whole, subst (λ x. starts_with nat_eq x p ≡ true) same b)
-    | inr b ↦ let none : None ≡ Some f = sym (along_if p begun.first b) ∙ along_of e in cc
-  ]
+  along_some f e = grind (arith, common_steps, cases_Bool, along_if, along_of, begun)
 
   along_none : along ≡ None → starts_with nat_eq begun.first p ≡ false
-  along_none e = false_from_ne_true (starts_with nat_eq begun.first p) (λ b.
-      let none : Some begun.first ≡ None = sym (along_if p begun.first b) ∙ along_of e in cc)
+  along_none e = grind (arith, common_steps, false_from_ne_true, along_if, along_of)
 
   less_none : along ≡ None → comes_before begun.first p ≡ true
   less_none e = elim (judged_is sizes verdict start begun.first begun.begins begun.whole some (length judged) p here.next).reaches_to [
@@ -157,27 +141,12 @@ module _ (sizes : List ℕ) (verdict : List ℕ → Verdict) (start : Start) (so
 
   -- a certain one
   last_judged : slice_get (visited sizes verdict start) (length (judged ++ p ∷ []) - 1) ≡ Some p
-  last_judged =
-      let same : length (judged ++ p ∷ []) - 1 ≡ length judged = omega (arith, longer) in
-      ap (slice_get (visited sizes verdict start)) same ∙ here.next
+  last_judged = grind (arith, common_steps, longer)
 
   pub after_yes : verdict p ≡ Yes → (f c : List ℕ) → first_of_start sizes start ≡ Some f → IsWhole sizes c → starts_with nat_eq c p ≡ true
       → at_or_after (Some c) (completions sizes p) ≡ at_or_after (Some f) (completions sizes p)
       → IsGiving sizes verdict start (length p) c (judged ++ p ∷ []) given
-  after_yes e f c begins w b same =
-      let front_is : take (length p) c ≡ p = taken_is p c b in
-      record {
-        some = omega (arith, longer);
-        last = last_judged ∙ ap Some (sym front_is);
-        yes = ap verdict front_is ∙ e;
-        whole = w;
-        depth_is = begins_length p c b;
-        given_next = ap (λ x. given ++ at_or_after (Some c) (completions sizes x)) front_is
-            ∙ ap (λ l. l ++ at_or_after (Some c) (completions sizes p)) here.given_all
-            ∙ ap (λ l. given_by sizes verdict start judged ++ l) (same ∙ ap (λ o. at_or_after o (completions sizes p)) (sym begins))
-            ∙ ap (λ v. given_by sizes verdict start judged ++ cond (is_yes v) (completions_from sizes start p) []) (sym e)
-            ∙ sym given_more;
-      }
+  after_yes e f c begins w b same = grind (arith, common_steps, taken_is, longer, last_judged, begins_length)
 
   pub after_yes_along : verdict p ≡ Yes → (f : List ℕ) → along ≡ Some f → IsGiving sizes verdict start (length p) f (judged ++ p ∷ []) given
   after_yes_along e f is = let parts = along_some f is in after_yes e f f parts.0 parts.1 parts.2 refl
@@ -215,14 +184,7 @@ module _ (sizes : List ℕ) (verdict : List ℕ → Verdict) (start : Start) (so
 -- the first that passes, among some of a list
 found_kept : (test keep : List ℕ → Bool) (xs : List (List ℕ)) (d : List ℕ) → find test xs ≡ Some d → keep d ≡ true → find test (filter keep xs) ≡ Some d
 found_kept test keep [] d e k = cc
-found_kept test keep (x ∷ xs) d e k = by (test x) (keep x) refl refl e (λ h. found_kept test keep xs d h k)
-  where
-    by : (a b : Bool) → test x ≡ a → keep x ≡ b → cond a (Some x) (find test xs) ≡ Some d → (find test xs ≡ Some d → find test (filter keep xs) ≡ Some d)
-        → find test (cond b (x ∷ filter keep xs) (filter keep xs)) ≡ Some d
-    by true true s t h rest = ap (λ b. cond b (Some x) (find test (filter keep xs))) s ∙ h
-    by true false s t h rest = let same : x ≡ d = cc in absurd (false≢true (sym t ∙ ap keep same ∙ k))
-    by false true s t h rest = ap (λ b. cond b (Some x) (find test (filter keep xs))) s ∙ rest h
-    by false false s t h rest = rest h
+found_kept test keep (x ∷ xs) d e k = grind (arith, common_steps, found_kept test keep xs d)
 
 module _ (sizes : List ℕ) (verdict : List ℕ → Verdict) (start : Start) (some : ArePositive sizes) (depth : ℕ) (c : List ℕ) (judged given : List (List ℕ))
     (front : judged ≡ take (length judged) (visited sizes verdict start)) (here : IsGiving sizes verdict start depth c judged given) where
@@ -231,10 +193,7 @@ module _ (sizes : List ℕ) (verdict : List ℕ → Verdict) (start : Start) (so
 
   -- the completions from the choice on are the choice and those from the next on
   given_one : (given ++ c ∷ []) ++ at_or_after (find (comes_before c) (completions sizes (take depth c))) (completions sizes (take depth c)) ≡ given_by sizes verdict start judged
-  given_one =
-      append_assoc given (c ∷ []) (at_or_after (find (comes_before c) (completions sizes (take depth c))) (completions sizes (take depth c)))
-      ∙ ap (λ l. given ++ l) (sym (member_then_rest (completions sizes (take depth c)) c (completions_ascend sizes (take depth c)) (in_completions sizes (take depth c) c here.whole (begins_taken depth c))))
-      ∙ here.given_next
+  given_one = search (rules, append_assoc, member_then_rest, completions_ascend, in_completions, begins_taken)
 
   -- the next choice has the same front
   pub given_longer : (next d : List ℕ) → next_beside sizes c ≡ Some next → depth < length next → slice_get (completions sizes next) 0 ≡ Some d → IsGiving sizes verdict start depth d judged (given ++ c ∷ [])
@@ -270,9 +229,7 @@ module _ (sizes : List ℕ) (verdict : List ℕ → Verdict) (start : Start) (so
 
   -- a later completion of the front is not the choice itself
   other_choice : (x : List ℕ) → IsWhole sizes x → comes_before c x ≡ true → starts_with nat_eq x c ≡ false
-  other_choice x w less = false_from_ne_true (starts_with nat_eq x c) (λ b.
-      let same : x ≡ c = begins_whole x c (omega (arith, w.1, here.whole.1)) b in
-      false≢true (sym (not_itself c) ∙ ap (comes_before c) (sym same) ∙ less))
+  other_choice x w less = search (rules, false_from_ne_true, begins_whole, not_itself)
 
   given_all_of : find (comes_before c) (completions sizes (take depth c)) ≡ None → given ++ c ∷ [] ≡ given_by sizes verdict start judged
   given_all_of none = sym (append-nil (given ++ c ∷ [])) ∙ ap (λ o. (given ++ c ∷ []) ++ at_or_after o (completions sizes (take depth c))) (sym none) ∙ given_one
@@ -324,18 +281,12 @@ module _ (sizes : List ℕ) (verdict : List ℕ → Verdict) (start : Start) (so
 pub walk_at : {sizes : List ℕ} {verdict : List ℕ → Verdict} {start : Start} {along : Option (List ℕ)} {given given' : List (List ℕ)} (stage stage' : Stage) (current current' : List ℕ) (judged judged' : List (List ℕ))
     → stage ≡ stage' → current ≡ current' → judged ≡ judged' → given ≡ given' → IsWalk sizes verdict start stage current along judged given → IsWalk sizes verdict start stage' current' along judged' given'
 walk_at {sizes} {verdict} {start} {along} {given} {given'} stage stage' current current' judged judged' s p j t h =
-    subst (λ x. IsWalk sizes verdict start x current' along judged' given') s
-    (subst (λ x. IsWalk sizes verdict start stage x along judged' given') p
-    (subst (λ x. IsWalk sizes verdict start stage current along x given') j
-    (subst (λ x. IsWalk sizes verdict start stage current along judged x) t h)))
+    grind (arith, common_steps)
 
 -- ---- An open prefix is shorter than a choice.
 
 pub open_room : (sizes : List ℕ) (truth : List ℕ → Bool) (verdict : List ℕ → Verdict) → IsJudge sizes truth verdict → (p : List ℕ) → admits sizes p ≡ true → verdict p ≡ Open → length p < length sizes
-open_room sizes truth verdict law p a e = elim (cases_lt (length p) (length sizes)) [
-  | inl l ↦ l
-  | inr h ↦ absurd (law.whole p (a, omega (arith, h, admits_at_most sizes p a)) e)
-]
+open_room sizes truth verdict law p a e = grind (arith, common_steps, cases_lt, admits_at_most)
 
 pub along_longer : (o : Option (List ℕ)) (n m : ℕ) → n ≡ m → ((f : List ℕ) → o ≡ Some f → m < length f) → IfSome o (λ f. n < length f)
 along_longer None n m e h = tt

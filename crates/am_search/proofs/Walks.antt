@@ -1,8 +1,9 @@
 -- Where a start begins, and the first answer.
-use Rattle.std.proofs.Common.{◌≡◌, ℕ, true, false, cond, Bool, List, [], ◌∷◌, length, Option, Some, None, IfSome, MatchOption, slice_get, nat_eq, ap, sym, subst, ◌∙◌, refl, arith}
+use Rattle.std.proofs.Common.{◌≡◌, ℕ, true, Bool, List, [], ◌∷◌, length, Option, Some, None, IfSome, MatchOption, slice_get, nat_eq, ap, subst, ◌∙◌, refl, arith}
 use Rattle.std.specs.Prelude.{⊤}
 use Rattle.std.specs.List.{filter, find, starts_with}
 use Rattle.std.specs.Iterator.{YieldsFirst, MakesProgress, item_count}
+use Rattle.std.proofs.lemmas.Grind.{common_steps}
 use Rattle.am_universe.specs.Choice.{choices, IsWhole}
 use Rattle.am_universe.specs.Completions.{completions}
 use Rattle.am_universe.proofs.ListLemmas.{IsIn, IsIn-from_Contains}
@@ -51,17 +52,8 @@ first_of_all ns = ap (λ cs. at_or_after (slice_get cs 0) (choices ns)) (complet
 
 found_first : (truth : List ℕ → Bool) (cs : List (List ℕ)) → find truth cs ≡ slice_get (filter truth cs) 0
 found_first truth [] = refl
-found_first truth (c ∷ cs) = by (truth c) (found_first truth cs)
-  where
-    by : (b : Bool) → find truth cs ≡ slice_get (filter truth cs) 0 → cond b (Some c) (find truth cs) ≡ slice_get (cond b (c ∷ filter truth cs) (filter truth cs)) 0
-    by true e = refl
-    by false e = e
+found_first truth (c ∷ cs) = grind (arith, common_steps, found_first truth cs)
 
 pub first_answer : (ns : List ℕ) (truth : List ℕ → Bool) (prefix : List ℕ) (left rest : List (List ℕ)) (r : Option (List ℕ)) → prefix ≡ [] → left ≡ filter truth (choices_from ns (At prefix))
     → MatchOption r ((left ≡ []) × (rest ≡ [])) (λ x. left ≡ x ∷ rest) → r ≡ find truth (choices ns)
-first_answer ns truth prefix left rest r none are h =
-    got r h ∙ ap (λ cs. slice_get cs 0) (are ∙ ap (λ q. filter truth (choices_from ns (At q))) none ∙ ap (filter truth) (first_of_all ns)) ∙ sym (found_first truth (choices ns))
-  where
-    got : (o : Option (List ℕ)) → MatchOption o ((left ≡ []) × (rest ≡ [])) (λ x. left ≡ x ∷ rest) → o ≡ slice_get left 0
-    got None k = ap (λ cs. slice_get cs 0) (sym k.0)
-    got (Some x) k = ap (λ cs. slice_get cs 0) (sym k)
+first_answer ns truth prefix left rest r none are h = grind (arith, common_steps, first_of_all, found_first)

@@ -1,5 +1,6 @@
-use Rattle.std.proofs.Common.{ap, sym, ◌∙◌}
+use Rattle.std.proofs.Common.{ap, sym, ◌∙◌, arith}
 use Rattle.std.specs.Prelude.{option_map}
+use Rattle.std.proofs.lemmas.Grind.{common_steps}
 use Rattle.am_search.proofs.Odometer.{filled, next_choice_is, positive, first_completion_is}
 use Rattle.am_search.proofs.NextPrefix.{beside_is}
 use Rattle.am_search.proofs.answers.choice_after.Goals as goal
@@ -17,7 +18,4 @@ returns-then-go_beside g c =
     ∙ sym (first_completion_is ns c.go_beside.new.prefix some admitted) ∙ c.complete.ensures)
 
 pub returns-else-go_beside : goal.returns-else-go_beside
-returns-else-go_beside g c =
-    let ns = g.J.Judge.sizes c.args.judge.now in
-    let some = positive ns (g.met.J.Judge.laws c.args.judge.now).limits.values in
-    sym (next_choice_is ns c.args.choice.now some c.requires ∙ ap (option_map (filled ns)) c.if-go_beside.ensures)
+returns-else-go_beside g c = grind (arith, common_steps, positive, next_choice_is, filled)

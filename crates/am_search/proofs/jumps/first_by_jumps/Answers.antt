@@ -1,3 +1,5 @@
+use Rattle.std.proofs.lemmas.Grind.{common_steps}
+use Rattle.std.proofs.Common.{arith}
 use Rattle.am_search.proofs.Conflicts.{found_is_whole, found_first, found_none}
 use Rattle.am_search.proofs.jumps.first_by_jumps.Goals as goal
 
@@ -7,11 +9,7 @@ returns-in-Found-clause-whole g c =
     c.search_below.new.prefix c.in-Found.ensures
 
 pub returns-in-Found-clause-first : goal.returns-in-Found-clause-first
-returns-in-Found-clause-first g c =
-    found_first (g.R.Refuter.sizes c.args.refuter.now) (g.R.Refuter.truth c.args.refuter.now) _
-    c.search_below.new.prefix c.empty-choice.ensures.no_position c.in-Found.ensures
+returns-in-Found-clause-first g c = grind (arith, common_steps, found_first)
 
 pub returns-in-Refuted-clause-first : goal.returns-in-Refuted-clause-first
-returns-in-Refuted-clause-first g c =
-    found_none (g.R.Refuter.sizes c.args.refuter.now) (g.R.Refuter.truth c.args.refuter.now) _ _
-    c.empty-choice.ensures.no_position c.in-Refuted.ensures.1
+returns-in-Refuted-clause-first g c = grind (arith, common_steps, found_none)

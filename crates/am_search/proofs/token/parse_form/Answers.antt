@@ -1,8 +1,7 @@
-use Rattle.std.proofs.Common.{◌≡◌, ◌++◌, ◌∷◌, lit<, sym, ap, ◌∙◌}
+use Rattle.std.proofs.Common.{◌≡◌, ◌++◌, lit<, sym}
 use Rattle.std.specs.Prelude.{codes}
-use Rattle.std.proofs.lemmas.Str.Pattern.{split_after, split_parts}
+use Rattle.std.proofs.lemmas.Str.Pattern.{split_after}
 use Rattle.hex.specs.Hex.{encode_lower}
-use Rattle.am_search.specs.Token.{IsFingerprint}
 use Rattle.am_search.proofs.TokenTexts.{cut}
 use Rattle.am_search.proofs.TokenForms.{written_form, no_colon}
 use Rattle.am_search.proofs.token.parse_form.Goals as goal
@@ -25,11 +24,3 @@ returns-in_err-parse_digits c =
     (λ h a is e.
     let parts = rw c.in_ok-digits.was at (split_after 58 rest (encode_lower h) a c.split_once.result c.split_once.ensures.cases (lit< tt) e (no_colon h is)) in
     none h is (sym parts.0)))
-
-pub returns : goal.returns
-returns c =
-    let rest = c.in_ok-strip_prefix.field-0.now in
-    let text : c.args.text.now ≡ codes "2:" ++ rest = cut (codes "2:") c.args.text.now rest c.in_ok-strip_prefix.ensures.cases in
-    let parts = rw c.in_ok-digits.was at (split_parts 58 rest c.split_once.result c.split_once.ensures.cases (lit< tt)) in
-    let digits : IsFingerprint c.in_ok-parse_digits.field-0 × (encode_lower c.in_ok-parse_digits.field-0 ≡ c.in_ok-digits.digits.now) = rw c.in_ok-parse_digits.was at c.parse_digits.ensures in
-    (digits.0, ap (λ d. codes "2:" ++ (d ++ (58 ∷ c.in_ok-digits.positions.now))) digits.1 ∙ ap (λ r. codes "2:" ++ r) (sym parts.0) ∙ sym text)

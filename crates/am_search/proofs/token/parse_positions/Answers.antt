@@ -1,10 +1,11 @@
-use Rattle.std.proofs.Common.{◌≡◌, ◌<◌, length, lit<, refl, sym, ◌∙◌, arith, slice_index}
+use Rattle.std.proofs.Common.{◌≡◌, ◌<◌, length, lit<, refl, sym, ◌∙◌, arith, slice_index, rules}
 use Rattle.std.specs.Str.Iter.{split_steps}
 use Rattle.std.specs.Str.Pattern.{FindsChar}
 use Rattle.std.proofs.lemmas.Bool.Decides.{nat_tests}
 use Rattle.std.proofs.lemmas.List.{length-map}
 use Rattle.std.proofs.lemmas.Option.{get_or_from_slice_get}
 use Rattle.std.proofs.lemmas.Iterator.Splits.{YieldsList-from_str_split}
+use Rattle.std.proofs.lemmas.Grind.{common_steps}
 use Rattle.am_universe.specs.Universe.{Label, sizes}
 use Rattle.am_search.proofs.Positions.{pieces_of, decimal-injective}
 use Rattle.am_search.proofs.Odometer.{admits_at_most}
@@ -46,9 +47,7 @@ returns-in_err-position c =
     none at.position (omega (arith, at.below, at.limit)) at.is)
 
 pub size-requires : goal.size-requires
-size-requires c =
-    let u = c.args.universe.now in
-    omega (arith, admits_at_most (sizes u) c.loop-part.prefix c.loop-part.invariant.admitted, length-map u (λ (l : Label). length l.values))
+size-requires c = grind (arith, common_steps, admits_at_most, length-map)
 
 pub returns-then-from-size : goal.returns-then-from-size
 returns-then-from-size c = λ d a e.
@@ -65,22 +64,10 @@ returns-then-from-size c = λ d a e.
     omega (arith, at.below, size, same)
 
 pub push-requires : goal.push-requires
-push-requires c =
-    let u = c.args.universe.now in
-    omega (arith, admits_at_most (sizes u) c.loop-part.prefix c.loop-part.invariant.admitted, length-map u (λ (l : Label). length l.values), c.len-in-loop-part.ensures.universe.at_most)
+push-requires c = grind (arith, common_steps, admits_at_most, length-map)
 
 pub loop-part-preserved : goal.loop-part-preserved
-loop-part-preserved c =
-    let u = c.args.universe.now in
-    let ns = sizes u in
-    let text = c.args.text.now in
-    let next : IsNext (split_steps FindsChar (λ a b. b ≡ a)) text c.loop-part.prefix c.in-Some.part.now c.next.new.self =
-    next_piece _ ns text _ _ _ c.in-Some.part c.loop-part.invariant c.in-Some.ensures.steps in
-    let position = rw c.in_ok-position.was at c.parse_position.ensures in
-    let size : slice_index ns (length c.loop-part.prefix) ≡ c.size.result = get_or_from_slice_get ns (length c.loop-part.prefix) c.size.result 0 (rw c.len-in-loop-part-2.ensures.len at c.size.ensures.size) in
-    let most = admits_at_most ns c.loop-part.prefix c.loop-part.invariant.admitted in
-    rw c.push.ensures.added (piece_read _ ns text c.loop-part.prefix _ _ _ c.in_ok-position.position next c.loop-part.invariant position
-    (omega (arith, most, length-map u (λ (l : Label). length l.values))) (omega (arith, size)))
+loop-part-preserved c = search (rules, next_piece, get_or_from_slice_get, admits_at_most, piece_read, length-map)
 
 pub returns : goal.returns
 returns c = (c.loop-part.invariant.admitted, all_read _ _ _ _ _ _ c.loop-part.invariant c.in-None.ensures.steps)

@@ -1,5 +1,5 @@
-use Rattle.std.proofs.Common.{length, drop, ap, sym, ◌∙◌}
-use Rattle.am_search.specs.Visits.{given_under}
+use Rattle.std.proofs.Common.{sym, arith}
+use Rattle.std.proofs.lemmas.Grind.{common_steps}
 use Rattle.am_search.proofs.Odometer.{positive}
 use Rattle.am_search.proofs.VisitsGive.{visited_give}
 use Rattle.am_search.proofs.WalkSteps.{walk_begins, nothing_given}
@@ -19,13 +19,4 @@ invariant_of-result g c =
     }
 
 pub returns-clause-left : goal.returns-clause-left
-returns-clause-left g c = λ none.
-    let judge = c.args.judge.now in
-    let ns = g.J.Judge.sizes judge in
-    let v = g.J.Judge.verdict judge in
-    ap (λ b. drop (length c.new.result.items) (given_under ns v c.args.start b)) none
-    ∙ nothing_given c.new.result.items _ c.new.ensures.nothing
-    ∙ visited_give ns (g.J.Judge.truth judge) v c.args.start (g.met.J.Judge.laws judge)
-
-pub returns-clause-left_under : goal.returns-clause-left_under
-returns-clause-left_under g c = nothing_given c.new.result.items _ c.new.ensures.nothing
+returns-clause-left g c = λ none. grind (arith, common_steps, nothing_given, visited_give)

@@ -1,11 +1,10 @@
-use Rattle.std.proofs.Common.{rules, ◌≡◌, ◌++◌, ◌∷◌, [], ℕ, List, length, drop, ap, sym, subst, ◌∙◌}
+use Rattle.std.proofs.Common.{rules, ◌≡◌, ◌++◌, ◌∷◌, [], ℕ, List, length, drop, ap, sym, subst, ◌∙◌, arith}
+use Rattle.std.proofs.lemmas.Grind.{common_steps}
 use Rattle.am_universe.specs.Choice.{IsWhole}
 use Rattle.am_search.specs.Visits.{given_under, BeginsWithLast}
 use Rattle.am_search.specs.AnswersView.{answers_left}
 use Rattle.am_search.proofs.Walks.{progress}
-use Rattle.am_search.specs.declared.stage.Stage.TheVariants.{Done}
-use Rattle.am_search.proofs.WalkBudgets.{given_front, left_one, part_of_search, whole_search}
-use Rattle.am_search.proofs.WalkBudgets.{begins_with_last, nothing_left}
+use Rattle.am_search.proofs.WalkBudgets.{given_front, left_one, part_of_search, begins_with_last}
 use Rattle.am_search.proofs.answers.AnswersIterator.next.Goals as goal
 
 pub returns-in-Giving-clause-first : goal.returns-in-Giving-clause-first
@@ -32,9 +31,7 @@ returns-in-Giving-clause-whole g c =
     (subst (IsWhole (g.J.Judge.sizes c.loop-self.self.judge.now)) (sym c.give_next.ensures.choice) (c.loop-self.self.walk.giving c.in-Giving.depth c.in-Giving.is).whole)
 
 pub returns-in-Giving-clause-judged : goal.returns-in-Giving-clause-judged
-returns-in-Giving-clause-judged g c =
-    let new = c.give_next.new.self in
-    part_of_search new.budget new.left new.walk new.steps
+returns-in-Giving-clause-judged g c = search (rules, part_of_search)
 
 pub returns-in-Giving-clause-last : goal.returns-in-Giving-clause-last
 returns-in-Giving-clause-last g c =
@@ -42,8 +39,4 @@ returns-in-Giving-clause-last g c =
     (subst (λ j. BeginsWithLast j c.loop-self.self.current) (sym c.give_next.ensures.judged) (begins_with_last c.in-Giving.depth c.loop-self.self.walk c.in-Giving.is))
 
 pub returns-clause-first : goal.returns-clause-first
-returns-clause-first g c =
-    let a = c.loop-self.self in
-    let is = c.loop-self.invariant in
-    let done : a.stage ≡ Done = search rules in
-    nothing_left c.args.self.now a (sym is.judge) (sym is.start) (sym is.budget) (sym is.given) (whole_search a.budget a.left a.walk a.steps done)
+returns-clause-first g c = grind (arith, common_steps)
