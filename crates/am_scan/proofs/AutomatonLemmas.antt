@@ -1,10 +1,10 @@
 -- The numbers of texts lead to the states of texts.
 use Rattle.std.proofs.Common.{◌≡◌, ℕ, ◌<◌, true, List, [], ◌∷◌, ◌++◌, length, inl, inr, Some}
-use Rattle.std.proofs.Common.{slice_get, slice_index, string_bytes, vec_len, sym, ap, ◌∙◌, subst}
-use Rattle.std.proofs.Common.{arith}
+use Rattle.std.proofs.Common.{slice_get, slice_index, string_bytes, vec_len, sym, ◌∙◌, subst, arith}
 use Rattle.std.specs.List.{list_all}
 use Rattle.std.proofs.lemmas.Bool.{and_parts}
 use Rattle.std.proofs.lemmas.Option.{slice_get-get_or, slice_get_within}
+use Rattle.std.proofs.lemmas.Grind.{common_steps}
 use Rattle.am_labels.specs.Pattern.{finds}
 use Rattle.am_scan.specs.declared.column.Column.{Column}
 use Rattle.am_scan.specs.declared.row.Row.{Row}
@@ -12,7 +12,7 @@ use Rattle.am_scan.specs.declared.pattern_scan.PatternScan.{PatternScan}
 use Rattle.am_scan.specs.declared.pattern_state.PatternState.{PatternState}
 use Rattle.am_scan.specs.Sight.{is_scanned, IsScanned}
 use Rattle.am_scan.specs.Scan.{Follows}
-use Rattle.am_scan.specs.Numbers.{next_in, number_in, found_at, found_in}
+use Rattle.am_scan.specs.Numbers.{next_in, number_in, found_in}
 use Rattle.am_scan.specs.Column.{IsColumn}
 use Rattle.am_scan.specs.Automaton.{AreClasses, Grows, GrowsColumns, IsNumber, IsRow, AreRows}
 use Rattle.am_scan.proofs.Places.{get_within, get_pushed}
@@ -52,10 +52,7 @@ module _ (scan : PatternScan) (columns : List Column) (classes : List ℕ) (stat
 
   -- So what is said of the number is so of the text.
   pub found_in-exact : (text : List ℕ) → IsScanned scan.ascii text → found_in rows (number_in rows classes text) ≡ finds (string_bytes scan.pattern) text
-  found_in-exact text scanned =
-      let here = stands_for text scanned in
-      let row = row_at _ here.0 here.1 in
-      ap found_at row.1 ∙ row.2.found text here.2 scanned
+  found_in-exact text scanned = grind (arith, common_steps, stands_for, row_at)
 
 -- What was at a place stays within.
 pub grows_within : (old new : List PatternState) (k : ℕ) → Grows old new → k < length old → k < length new

@@ -1,14 +1,14 @@
 -- A closed list says of each state whether it leads to a match.
-use Rattle.std.proofs.Common.{◌≡◌, ℕ, suc, ◌+◌, ◌<◌, ◌≤◌, ◌⊎◌, ⊎_elim, All, ◌++◌, eq-eqb, Bool, true, false, ◌&&◌, ◌||◌, cond, eqb, List, [], ◌∷◌, length, vec_len, slice_index, slice_index_or, slice_get, Option, Some, None, is_some, refl, sym, subst, inl, inr, ap, ap₂, ◌∙◌, arith, eqb-true}
+use Rattle.std.proofs.Common.{◌≡◌, ℕ, suc, ◌+◌, ◌<◌, ◌≤◌, ◌⊎◌, All, ◌++◌, Bool, true, false, ◌&&◌, ◌||◌, cond, eqb, List, [], ◌∷◌, length, vec_len, slice_index, slice_index_or, slice_get, Option, Some, None, is_some, refl, sym, inl, inr, ap, ◌∙◌, arith, eqb-true}
 use Rattle.std.proofs.lemmas.Bool.{or_cases, or_left, or_right, cases_Bool, cases_eq, both_ways}
-use Rattle.std.proofs.lemmas.List.Elements.{All-push}
 use Rattle.std.proofs.lemmas.List.Folds.{list_any-append}
 use Rattle.std.specs.Option.{option_or}
+use Rattle.std.proofs.lemmas.Grind.{common_steps}
 use Rattle.regex_hir.specs.Looks.{holds}
 use Rattle.regex_hir.specs.Text.{byte_before}
 use Rattle.regex_hir.proofs.OptionLemmas.{is_some-write}
 use Rattle.regex_nfa.specs.Run.{state_of, measure, run}
-use Rattle.regex_nfa.specs.States.{visit, read, IsBelow}
+use Rattle.regex_nfa.specs.States.{visit, IsBelow}
 use Rattle.regex_nfa.specs.declared.state.State.{State}
 use Rattle.regex_nfa.specs.declared.state.State.TheVariants.{ByteRange, Sparse, Split, Save, Look, Match, Fail}
 use Rattle.regex_nfa.specs.declared.nfa.Nfa.{Nfa}
@@ -37,17 +37,12 @@ module _ (nfa : Nfa) (sight : Sight) (ascii : Bool) (seen : IsSeen nfa sight asc
       accepts after before accepted (reads q) state
       ≡ is_some (visit nfa.transitions.items hay (length hay) (run nfa hay (length hay)) state i)
   unfolding holds
-  by_state q inside (Split first second) is h =
-      let s = sound_of nfa q _ is in
-      ap₂ ◌||◌ (h first s.0) (h second s.1) ∙ sym (is_some-option_or _ _)
+  by_state q inside (Split first second) is h = grind (arith, common_steps, sound_of, is_some-option_or)
   by_state q inside (Save slot next) is h = h next (sound_of nfa q _ is).1 ∙ sym (is_some-write slot i _)
-  by_state q inside (Look l next) is h =
-      let kinds = holds-kinds nfa sight ascii seen hay i scanned q l next is in
-      ap₂ ◌&&◌ (rw (after_is, before_is) (sym kinds)) (h next (sound_of nfa q _ is)) ∙ sym (is_some-cond (holds l hay i) _)
+  by_state q inside (Look l next) is h = grind (arith, common_steps, holds-kinds, sound_of, is_some-cond)
   by_state q inside Match is h = refl
   by_state q inside Fail is h = refl
-  by_state q inside state is h =
-      read_is q inside ∙ ap (λ s. is_some (read nfa.transitions.items hay (length hay) (run nfa hay (length hay)) s i)) is
+  by_state q inside state is h = grind (arith, common_steps)
 
   -- a state is accepted exactly where it leads to a match
   pub leads_where_accepted : IsClosed nfa after before reads accepted → (q : ℕ) → q < vec_len nfa.states →
@@ -86,15 +81,8 @@ pub IsClosed-rounds : (nfa : Nfa) (after before : Option ℕ) (reads : ℕ → B
     ((k : ℕ) → k < length idle →
     slice_index_or accepted (slice_index idle k) false ≡ accepts after before accepted (reads (slice_index idle k)) (state_of nfa (slice_index idle k))) →
     IsClosed nfa after before reads accepted
-IsClosed-rounds nfa after before reads accepted idle len own all each = record {
-  len = len;
-  each = λ q inside. elim (cases_Bool (reads_byte (state_of nfa q))) [
-    | inl reading ↦ own q inside reading ∙ sym (accepts_reading after before accepted (reads q) (state_of nfa q) reading)
-    | inr idling ↦
-        (let p = place_of idle q (all q inside idling) in
-        subst (λ r. slice_index_or accepted r false ≡ accepts after before accepted (reads r) (state_of nfa r)) p.2 (each p.0 p.1))
-  ];
-}
+IsClosed-rounds nfa after before reads accepted idle len own all each =
+    grind (arith, common_steps, cases_Bool, accepts_reading, place_of)
 
 -- Numbers are those of the states that read no byte, among the last k.
 pub record AreIdle (nfa : Nfa) (idle : List ℕ) (k : ℕ) : Type 0 where
@@ -103,28 +91,14 @@ pub record AreIdle (nfa : Nfa) (idle : List ℕ) (k : ℕ) : Type 0 where
 
 -- a number more is contained
 contains_pushed : (idle : List ℕ) (id q : ℕ) → (contains idle q ≡ true) ⊎ (id ≡ q) → contains (idle ++ id ∷ []) q ≡ true
-contains_pushed idle id q h =
-    list_any-append (λ m. eqb m q) idle (id ∷ [])
-    ∙ ⊎_elim (λ before. or_left (contains idle q) _ before) (λ here. or_right (contains idle q) _ (or_left (eqb id q) false (eq-eqb id q here))) h
+contains_pushed idle id q h = grind (arith, common_steps, list_any-append, or_left, or_right)
 
 -- one state more that reads no byte
 pub AreIdle-more : (nfa : Nfa) (idle all : List ℕ) (id k : ℕ) → AreIdle nfa idle k → all ≡ idle ++ id ∷ [] → (id + k) + 1 ≡ vec_len nfa.states →
     reads_byte (state_of nfa id) ≡ false → AreIdle nfa all (k + 1)
-AreIdle-more nfa idle all id k h is e idling =
-    let new : (id < vec_len nfa.states) × (reads_byte (state_of nfa id) ≡ false) = (omega arith, idling) in
-    subst (λ xs. AreIdle nfa xs (k + 1)) (sym is)
-    (record {
-      alone = All-push (λ q. (q < vec_len nfa.states) × (reads_byte (state_of nfa q) ≡ false)) idle id h.alone new;
-      all = λ q inside low none.
-          contains_pushed idle id q (⊎_elim (λ same. inr same) (λ other. inl (h.all q inside (omega (arith, other)) none)) (cases_eq id q));
-    })
+AreIdle-more nfa idle all id k h is e idling = grind (arith, common_steps, contains_pushed, cases_eq)
 
 -- or that reads one
 pub AreIdle-same : (nfa : Nfa) (idle : List ℕ) (id k : ℕ) → AreIdle nfa idle k → (id + k) + 1 ≡ vec_len nfa.states →
     reads_byte (state_of nfa id) ≡ true → AreIdle nfa idle (k + 1)
-AreIdle-same nfa idle id k h e reading = record {
-  alone = h.alone;
-  all = λ q inside low none.
-      ⊎_elim (λ same. absurd (both_ways _ none (ap (λ r. reads_byte (state_of nfa r)) (sym same) ∙ reading))) (λ other. h.all q inside (omega (arith, other)) none)
-      (cases_eq id q);
-}
+AreIdle-same nfa idle id k h e reading = grind (arith, common_steps, both_ways, cases_eq)

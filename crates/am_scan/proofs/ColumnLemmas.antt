@@ -1,9 +1,10 @@
 -- The steps that a byte takes lead on from the states that read it.
-use Rattle.std.proofs.Common.{◌≡◌, ℕ, zero, suc, ◌<◌, Bool, true, false, ◌&&◌, ◌||◌, cond, eqb, nat_lt, List, [], ◌∷◌, ◌++◌, map, filter, vec_len, slice_index_or, Option, Some, None, refl, sym, ap, ap₂, ◌∙◌, inl, inr, arith, lt-ltb, le-ltb, ne_eqb, eq-eqb}
+use Rattle.std.proofs.Common.{◌≡◌, ℕ, zero, suc, ◌<◌, Bool, true, false, ◌&&◌, ◌||◌, cond, eqb, nat_lt, List, [], ◌∷◌, ◌++◌, map, vec_len, slice_index_or, Option, Some, None, refl, sym, ap, ap₂, ◌∙◌, inl, inr, arith, lt-ltb, le-ltb, ne_eqb, eq-eqb}
 use Rattle.std.proofs.lemmas.Bool.{cases_order}
 use Rattle.std.proofs.lemmas.List.{map-append}
 use Rattle.std.proofs.lemmas.List.Elements.{filter-append}
 use Rattle.std.proofs.lemmas.List.Folds.{list_any-append}
+use Rattle.std.proofs.lemmas.Grind.{common_steps}
 use Rattle.regex_hir.specs.Text.{is_some_and}
 use Rattle.regex_nfa.specs.Run.{state_of}
 use Rattle.regex_nfa.specs.States.{next_on}
@@ -40,12 +41,7 @@ or_is_and false = refl
 module _ (accepted : List Bool) where
   -- the sources of steps in a row are those of the first, and then those of the others
   contains-append : (xs ys : List Edge) (q : ℕ) → contains (sources accepted (xs ++ ys)) q ≡ (contains (sources accepted xs) q || contains (sources accepted ys) q)
-  contains-append xs ys q =
-      let leads : Edge → Bool = λ e. slice_index_or accepted e.to false in
-      let from : Edge → ℕ = λ e. e.from in
-      ap (λ es. contains (map from es) q) (filter-append leads xs ys)
-      ∙ ap (λ ns. contains ns q) (map-append from (filter leads xs) (filter leads ys))
-      ∙ list_any-append (λ m. eqb m q) (map from (filter leads xs)) (map from (filter leads ys))
+  contains-append xs ys q = grind (arith, common_steps, filter-append, map-append, list_any-append)
 
   -- a step has its source where it leads to an accepted state
   contains_if : (x : Bool) (p r q : ℕ) → contains (map (λ (e : Edge). e.from) (cond x (record { from = p; to = r } ∷ []) [])) q ≡ (eqb p q && x)

@@ -1,10 +1,9 @@
 -- What is compiled of an anchored pattern searches for the pattern.
-use Rattle.std.proofs.Common.{◌≡◌, ℕ, List, length, cond, Option, Some, None, is_some, refl, sym, ap, ◌∙◌}
+use Rattle.std.proofs.Common.{◌≡◌, ℕ, List, length, Option, Some, None, is_some, refl, sym, ap, ◌∙◌, arith}
 use Rattle.std.specs.Prelude.{chars}
-use Rattle.regex_hir.specs.Re.{accept, attempt}
+use Rattle.std.proofs.lemmas.Grind.{common_steps}
 use Rattle.regex_hir.specs.Find.{find_str, first_between}
 use Rattle.regex_hir.specs.Meaning.{meaning}
-use Rattle.regex_hir.specs.Text.{is_boundary}
 use Rattle.regex_hir.specs.declared.hir.Hir.{Hir}
 use Rattle.regex_hir.proofs.FindLemmas.{first_between_cong}
 use Rattle.regex_nfa.specs.declared.nfa.Nfa.{Nfa}
@@ -23,9 +22,7 @@ module _ (nfa : Nfa) (hir : Hir) (implements : Implements nfa (meaning hir)) (p 
   -- the compiled pattern searches as the tree does
   by_tree : (text : List ℕ) → first_between (start_at nfa text) 0 (length text) ≡ find_str (meaning hir) text 0
   unfolding find_str
-  by_tree text =
-      first_between_cong (start_at nfa text) (λ i. cond (is_boundary text i) (attempt text (meaning hir) accept i) None) 0 (length text)
-      (λ i _ _. ap (λ o. cond (is_boundary text i) o None) (implements text i))
+  by_tree text = grind (arith, common_steps, first_between_cong)
 
   -- by what the grammar answers
   read_by : (o : Option (Nested Re × Names)) → read default_config (chars (anchored_pattern p)) ≡ o → IsSearchFor nfa p

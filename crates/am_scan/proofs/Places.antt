@@ -3,14 +3,14 @@ use Rattle.std.proofs.Common.{◌≡◌, ℕ, zero, suc, ◌+◌, ◌<◌, List,
 use Rattle.std.specs.List.{AllByRecursion}
 use Rattle.std.proofs.lemmas.List.{take_more, take_all, map-append}
 use Rattle.std.proofs.lemmas.Option.{get_or_from_slice_get, slice_get_within, same_Some}
+use Rattle.std.proofs.lemmas.Grind.{common_steps}
 
 -- At a place of two lists in a row is one of the first, or of the second.
 pub get_append : {X : Type 0} (xs ys : List X) (x : X) (k : ℕ) → slice_get (xs ++ ys) k ≡ Some x
     → (slice_get xs k ≡ Some x) ⊎ ((m : ℕ) × (k ≡ length xs + m) × (slice_get ys m ≡ Some x))
 get_append [] ys x k e = inr (k, omega arith, e)
 get_append (z ∷ xs) ys x zero e = inl e
-get_append (z ∷ xs) ys x (suc k) e =
-    elim (get_append xs ys x k e) [ inl a ↦ inl a | inr b ↦ inr (b.0, omega (arith, b.1), b.2) ]
+get_append (z ∷ xs) ys x (suc k) e = grind (arith, common_steps, get_append xs ys x k e)
 
 -- At a place of a list with one element more is one of the list, or the last.
 pub get_pushed : {X : Type 0} (xs : List X) (y x : X) (k : ℕ) → slice_get (xs ++ y ∷ []) k ≡ Some x
@@ -18,8 +18,7 @@ pub get_pushed : {X : Type 0} (xs : List X) (y x : X) (k : ℕ) → slice_get (x
 get_pushed [] y x zero e = inr (refl, same_Some y x e)
 get_pushed [] y x (suc k) e = absurd cc
 get_pushed (z ∷ xs) y x zero e = inl e
-get_pushed (z ∷ xs) y x (suc k) e =
-    elim (get_pushed xs y x k e) [ inl a ↦ inl a | inr b ↦ inr (omega (arith, b.0), b.1) ]
+get_pushed (z ∷ xs) y x (suc k) e = grind (arith, common_steps, get_pushed xs y x k e)
 
 -- What is at a place stays there.
 pub get_kept : {X : Type 0} (xs ys : List X) (x : X) (k : ℕ) → slice_get xs k ≡ Some x
@@ -32,9 +31,7 @@ get_kept (z ∷ xs) ys x (suc k) e = get_kept xs ys x k e
 pub get_behind : {X : Type 0} (xs ys : List X) (x : X) (k : ℕ) → slice_get ys k ≡ Some x
     → slice_get (xs ++ ys) (length xs + k) ≡ Some x
 get_behind [] ys x k e = let same : 0 + k ≡ k = omega arith in rw same e
-get_behind (z ∷ xs) ys x k e =
-    let next : suc (length xs) + k ≡ suc (length xs + k) = omega arith in
-    rw next (get_behind xs ys x k e)
+get_behind (z ∷ xs) ys x k e = grind (arith, common_steps, get_behind xs ys x k e)
 
 -- The last is behind all others.
 pub get_last : {X : Type 0} (xs : List X) (y : X) → slice_get (xs ++ y ∷ []) (length xs) ≡ Some y
@@ -45,10 +42,7 @@ get_last (x ∷ xs) y = get_last xs y
 pub get_front : {X : Type 0} (xs : List X) (i : ℕ) (y x : X) (k : ℕ) → i < length xs
     → y ≡ get_or xs i y → slice_get (take (i + 1) xs) k ≡ Some x
     → (slice_get (take i xs) k ≡ Some x) ⊎ (y ≡ x)
-get_front xs i y x k below is e =
-    let longer = take_more xs i y below in
-    let here : slice_get (take i xs ++ get_or xs i y ∷ []) k ≡ Some x = subst (λ zs. slice_get zs k ≡ Some x) longer e in
-    elim (get_pushed (take i xs) (get_or xs i y) x k here) [ inl a ↦ inl a | inr b ↦ inr (is ∙ b.1) ]
+get_front xs i y x k below is e = grind (arith, common_steps, take_more, get_pushed)
 
 -- At a place of a list is what is at the place of its longest front.
 pub get_whole : {X : Type 0} (xs : List X) (n k : ℕ) (x : X) → n ≡ length xs
@@ -76,8 +70,7 @@ all_at_place P (y ∷ xs) (suc k) x h e = all_at_place P xs k x h.1 e
 -- A front that is one longer has one more at its end, each element under a function.
 pub map_front : {X Y : Type 0} (f : X → Y) (xs : List X) (i : ℕ) (y : X) → i < length xs
     → y ≡ get_or xs i y → map f (take (i + 1) xs) ≡ map f (take i xs) ++ f y ∷ []
-map_front f xs i y below is =
-    ap (map f) (take_more xs i y below) ∙ map-append f (take i xs) (get_or xs i y ∷ []) ∙ ap (λ z. map f (take i xs) ++ f z ∷ []) (sym is)
+map_front f xs i y below is = grind (arith, common_steps, take_more, map-append)
 
 -- Functions that agree at each place make one list.
 pub map_same : {X Y : Type 0} (f g : X → Y) (xs : List X)
@@ -88,8 +81,7 @@ map_same f g (x ∷ xs) h = let here = h 0 x refl in let rest = map_same f g xs 
 -- One element more is one more under a function.
 pub map_pushed : {X Y : Type 0} (f : X → Y) (xs all : List X) (x : X) (y : Y) → all ≡ xs ++ x ∷ []
     → f x ≡ y → map f all ≡ map f xs ++ y ∷ []
-map_pushed f xs all x y is e =
-    ap (map f) is ∙ map-append f xs (x ∷ []) ∙ ap (λ z. map f xs ++ z ∷ []) e
+map_pushed f xs all x y is e = grind (arith, common_steps, map-append)
 
 -- Within a list there is something at each place.
 pub get_within : {X : Type 0} (xs : List X) (k : ℕ) → k < length xs
@@ -107,14 +99,4 @@ take_front xs i y below is = take_more xs i y below ∙ ap (λ z. take i xs ++ z
 pub each_pushed : {X Y : Type 0} (R : X → Y → Type 0) (xs : List X) (ys : List Y) (x : X) (y : Y) → length xs ≡ length ys
     → ((k : ℕ) (a : X) (b : Y) → slice_get xs k ≡ Some a → slice_get ys k ≡ Some b → R a b) → R x y
     → (k : ℕ) (a : X) (b : Y) → slice_get (xs ++ x ∷ []) k ≡ Some a → slice_get (ys ++ y ∷ []) k ≡ Some b → R a b
-each_pushed R xs ys x y len each last k a b at also =
-    elim (get_pushed xs x a k at) [
-      | inl here ↦ elim (get_pushed ys y b k also) [
-        | inl there ↦ each k a b here there
-        | inr end ↦ absurd (omega (arith, slice_get_within xs k a here, end.0))
-      ]
-      | inr end ↦ elim (get_pushed ys y b k also) [
-        | inl there ↦ absurd (omega (arith, slice_get_within ys k b there, end.0))
-        | inr too ↦ subst (λ z. R z b) end.1 (subst (R x) too.1 last)
-      ]
-    ]
+each_pushed R xs ys x y len each last k a b at also = grind (arith, common_steps, get_pushed, slice_get_within)

@@ -1,9 +1,9 @@
 -- An assertion sees of the bytes beside it no more than their kinds.
-use Rattle.std.proofs.Common.{◌≡◌, ℕ, zero, suc, ◌+◌, ◌-◌, ◌<◌, ◌≤◌, Bool, true, false, ◌&&◌, ◌||◌, cond, eqb, Option, Some, None, is_some, refl, sym, arith, List, [], ◌∷◌, length, slice_get, ap, ◌∙◌, ⊎_elim, subst, ltb-true, leb, leb-true, eqb-true}
+use Rattle.std.proofs.Common.{◌≡◌, ℕ, zero, suc, ◌+◌, ◌-◌, ◌<◌, ◌≤◌, Bool, true, false, ◌&&◌, ◌||◌, cond, eqb, Option, Some, None, is_some, refl, sym, arith, List, [], ◌∷◌, length, slice_get, ap, ◌∙◌, ⊎_elim, subst, ltb-true, rules}
 use Rattle.std.specs.List.{list_all}
-use Rattle.std.specs.Char.{len_utf8}
 use Rattle.std.proofs.lemmas.Bool.{and_parts, cases_Bool, cases_lt, cond_both, or_parts}
 use Rattle.std.proofs.lemmas.Option.{none-some, slice_get-get_or}
+use Rattle.std.proofs.lemmas.Grind.{common_steps}
 use Rattle.ucd_perl.specs.Perl.{is_word_byte, is_word_char}
 use Rattle.ucd_perl.proofs.PerlLemmas.{is_word_char-ascii}
 use Rattle.regex_hir.specs.Looks.{holds, holds_between}
@@ -33,31 +33,21 @@ known_by lines words b = cond (lines && (eqb b 10 || eqb b 13)) b (cond (words &
 -- a byte is a line feed exactly where its kind is
 lf_byte : (lines words : Bool) (b : ℕ) → lines ≡ true → eqb (known_by lines words b) 10 ≡ eqb b 10
 lf_byte false words b e = absurd cc
-lf_byte true words b e =
-    cond_both (eqb b 10 || eqb b 13) b _ (λ x. eqb x 10 ≡ eqb b 10) (λ _. refl)
-    (λ other. let no = (or_parts (eqb b 10) (eqb b 13) other).0 in
-    cond_both (words && is_word_byte b) 97 0 (λ x. eqb x 10 ≡ eqb b 10) (λ _. sym no) (λ _. sym no))
+lf_byte true words b e = grind (arith, common_steps, cond_both, or_parts)
 
 -- and a carriage return
 cr_byte : (lines words : Bool) (b : ℕ) → lines ≡ true → eqb (known_by lines words b) 13 ≡ eqb b 13
 cr_byte false words b e = absurd cc
-cr_byte true words b e =
-    cond_both (eqb b 10 || eqb b 13) b _ (λ x. eqb x 13 ≡ eqb b 13) (λ _. refl)
-    (λ other. let no = (or_parts (eqb b 10) (eqb b 13) other).1 in
-    cond_both (words && is_word_byte b) 97 0 (λ x. eqb x 13 ≡ eqb b 13) (λ _. sym no) (λ _. sym no))
+cr_byte true words b e = grind (arith, common_steps, cond_both, or_parts)
 
 -- a byte is of a word exactly where its kind is
 word_byte : (lines words : Bool) (b : ℕ) → words ≡ true → is_word_byte (known_by lines words b) ≡ is_word_byte b
 word_byte lines false b e = absurd cc
-word_byte lines true b e =
-    cond_both (lines && (eqb b 10 || eqb b 13)) b _ (λ x. is_word_byte x ≡ is_word_byte b) (λ _. refl)
-    (λ _. cond_both (is_word_byte b) 97 0 (λ x. is_word_byte x ≡ is_word_byte b) (λ e. sym e) (λ e. sym e))
+word_byte lines true b e = search (rules, cond_both)
 
 -- the kind of a byte of ASCII is of ASCII
 kind_is_ascii : (lines words : Bool) (b : ℕ) → b < 128 → known_by lines words b < 128
-kind_is_ascii lines words b small =
-    cond_both (lines && (eqb b 10 || eqb b 13)) b _ (λ x. x < 128) (λ _. small)
-    (λ _. cond_both (words && is_word_byte b) 97 0 (λ x. x < 128) (λ _. omega arith) (λ _. omega arith))
+kind_is_ascii lines words b small = grind (arith, common_steps, cond_both)
 
 module _ (sight : Sight) where
   -- there is a byte where there is a kind
@@ -83,10 +73,7 @@ module _ (sight : Sight) where
   -- a side of ASCII shows a character of a word exactly where its kind does
   word_char-kind : sight.words ≡ true → (o : Option ℕ) → IsAsciiSide o → is_some_and (kind_beside sight o) is_word_char ≡ is_some_and o is_word_char
   word_char-kind words None ascii = refl
-  word_char-kind words (Some b) ascii =
-      let small = ascii b refl in
-      is_word_char-ascii _ (kind_is_ascii sight.lines sight.words b small)
-      ∙ word_byte sight.lines sight.words b words ∙ sym (is_word_char-ascii b small)
+  word_char-kind words (Some b) ascii = search (rules, is_word_char-ascii, kind_is_ascii, word_byte)
 
   -- between two characters of one byte an assertion holds exactly where it does between their kinds
   holds_between-kinds : (l : look.Look) (a b : Option ℕ) → sees sight l ≡ true →
@@ -106,14 +93,10 @@ module _ (sight : Sight) where
   holds_between-kinds WordEndAscii a b h ascii = simp (word_byte-kind h)
   holds_between-kinds WordStartHalfAscii a b h ascii = simp (word_byte-kind h)
   holds_between-kinds WordEndHalfAscii a b h ascii = simp (word_byte-kind h)
-  holds_between-kinds WordUnicode a b h ascii =
-      simp (word_char-kind h a (ascii h).0, word_char-kind h b (ascii h).1)
-  holds_between-kinds WordUnicodeNegate a b h ascii =
-      simp (edge-kind, word_char-kind h a (ascii h).0, word_char-kind h b (ascii h).1)
-  holds_between-kinds WordStartUnicode a b h ascii =
-      simp (word_char-kind h a (ascii h).0, word_char-kind h b (ascii h).1)
-  holds_between-kinds WordEndUnicode a b h ascii =
-      simp (word_char-kind h a (ascii h).0, word_char-kind h b (ascii h).1)
+  holds_between-kinds WordUnicode a b h ascii = grind (arith, common_steps, word_char-kind)
+  holds_between-kinds WordUnicodeNegate a b h ascii = grind (arith, common_steps, edge-kind, word_char-kind)
+  holds_between-kinds WordStartUnicode a b h ascii = grind (arith, common_steps, word_char-kind)
+  holds_between-kinds WordEndUnicode a b h ascii = grind (arith, common_steps, word_char-kind)
   holds_between-kinds WordStartHalfUnicode a b h ascii = simp (edge-kind, word_char-kind h a (ascii h).0)
   holds_between-kinds WordEndHalfUnicode a b h ascii = simp (edge-kind, word_char-kind h b (ascii h).1)
 
@@ -141,12 +124,7 @@ module _ (hay : List ℕ) (i : ℕ) where
 
   -- a character that ends at a place ends within the text
   fits : (n c : ℕ) → char_of_len_before hay n i ≡ Some c → i ≤ length hay
-  fits n c e =
-      let p = cond_some (leb n i && is_some_and (char_at hay (i - n)) (λ x. eqb (len_utf8 x) n)) _ c e in
-      let inside : n ≤ i = leb-true n i (and_parts (leb n i) _ p.0).0 in
-      let len : len_utf8 c ≡ n =
-      eqb-true (len_utf8 c) n (ap (λ o. is_some_and o (λ x. eqb (len_utf8 x) n)) (sym p.1) ∙ (and_parts (leb n i) _ p.0).1) in
-      omega (arith, char_at_fits hay (i - n) c p.1)
+  fits n c e = grind (arith, common_steps, cond_some, and_parts, char_at_fits)
 
   -- so none ends behind it
   char_before_past : length hay < i → char_before hay i ≡ None

@@ -1,11 +1,10 @@
 -- How the state of a text follows from that of the text behind its first byte.
-use Rattle.std.proofs.Common.{◌≡◌, ℕ, zero, suc, ◌+◌, ◌-◌, ◌<◌, Bool, true, false, ◌&&◌, ◌||◌, List}
+use Rattle.std.proofs.Common.{◌≡◌, ℕ, zero, suc, ◌+◌, ◌-◌, ◌<◌, Bool, true, false, ◌&&◌, ◌||◌, List, rules}
 use Rattle.std.proofs.Common.{[], ◌∷◌, length, drop, vec_len, slice_index_or, slice_get, Option}
-use Rattle.std.proofs.Common.{Some, None, is_some, option_map, option_and_then, refl, sym, ap, ap₂}
+use Rattle.std.proofs.Common.{Some, None, is_some, option_map, option_and_then, refl, sym, ap}
 use Rattle.std.proofs.Common.{◌∙◌, arith, drop-drop, All, ltb-true}
-use Rattle.std.proofs.lemmas.List.Elements.{All-weaker}
-use Rattle.std.proofs.lemmas.List.Sums.{AllPass-from_list_all}
 use Rattle.std.specs.Option.{option_or}
+use Rattle.std.proofs.lemmas.Grind.{common_steps}
 use Rattle.regex_hir.specs.Re.{Trace}
 use Rattle.regex_hir.specs.Find.{Match, first_from}
 use Rattle.regex_hir.specs.Text.{byte_before, is_boundary, is_some_and}
@@ -57,14 +56,7 @@ is_some-first i (Some t) later = refl
 -- the state of the empty text
 pub FollowsText-end : (nfa : Nfa) (sight : Sight) (ascii : Bool) → FollowsText nfa sight ascii None true (λ q. false) false []
 unfolding first_from is_boundary
-FollowsText-end nfa sight ascii = record {
-  kind = refl;
-  boundary = refl;
-  each = λ hay i scanned e q inside.
-      sym (ap (λ o. is_some (option_and_then (λ r. run nfa hay (length hay) r (i + 1)) (option_and_then (next_on nfa.transitions.items (state_of nfa q)) o)))
-      (byte_below-length hay i ∙ here hay i [] e));
-  others = λ hay i scanned e. refl;
-}
+FollowsText-end nfa sight ascii = grind (arith, common_steps, byte_below-length, here)
 
 -- what is scanned is a byte
 pub scanned_is_byte : (ascii : Bool) (b : ℕ) → is_scanned ascii b ≡ true → b < 256
@@ -73,8 +65,7 @@ scanned_is_byte false b h = ltb-true b 256 h
 
 -- so a scanned text is of bytes
 bytes_of_scanned : (ascii : Bool) (text : List ℕ) → IsScanned ascii text → All (λ b. b < 256) text
-bytes_of_scanned ascii text scanned =
-    All-weaker (λ b. is_scanned ascii b ≡ true) (λ b. b < 256) (scanned_is_byte ascii) text (AllPass-from_list_all (is_scanned ascii) text scanned)
+bytes_of_scanned ascii text scanned = grind (arith, common_steps, scanned_is_byte)
 
 module _ (nfa : Nfa) (sight : Sight) (ascii : Bool) (seen : IsSeen nfa sight ascii) (first : Option ℕ) (starts : Bool) (reads : ℕ → Bool) (later : Bool) (text : List ℕ)
     (follows : FollowsText nfa sight ascii first starts reads later text) (accepted : List Bool) where
@@ -91,10 +82,7 @@ module _ (nfa : Nfa) (sight : Sight) (ascii : Bool) (seen : IsSeen nfa sight asc
       (later || (starts && slice_index_or accepted nfa.start false)) ≡ is_some (first_from (start_at nfa hay) (suc (length text)) i)
   unfolding first_from
   from_here before closed hay i scanned e before_is =
-      or_comm later _
-      ∙ ap₂ ◌||◌ (ap₂ ◌&&◌ (follows.boundary ∙ sym (same_boundary hay i text e)) (leads_there before closed hay i scanned e before_is nfa.start nfa.start_in)
-      ∙ sym (is_some-cond (is_boundary hay i) _)) (follows.others hay i scanned e)
-      ∙ sym (is_some-first i _ _)
+      search (rules, or_comm, same_boundary, leads_there, is_some-cond, is_some-first)
 
   -- what a byte leads to, where all that it may lead to is known
   goes : (hay : List ℕ) (i : ℕ) (o : Option ℕ) → ((r : ℕ) → o ≡ Some r → slice_index_or accepted r false ≡ leads nfa hay r i) →

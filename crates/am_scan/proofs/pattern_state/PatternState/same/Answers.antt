@@ -1,16 +1,13 @@
 -- What follows a text is seen in the fields that were compared.
-use Rattle.std.proofs.Common.{◌≡◌, ℕ, List, Bool, true, false, Decides, true≢false, eqb, Option, Some, None, refl, sym, ap, ap₂, ◌∙◌}
+use Rattle.std.proofs.Common.{◌≡◌, ℕ, List, Bool, true, false, Decides, true≢false, eqb, Option, Some, None, refl, sym, ap, rules}
 use mathlib.Core.Bool.{beq}
-use lib.Pointwise.{pointwise}
 use Rattle.std.specs.Option.{option_eq}
 use Rattle.std.proofs.lemmas.Bool.{false≢true, eqb-true}
-use Rattle.std.proofs.lemmas.Bool.Decides.{Decides-eqb}
 use Rattle.std.proofs.lemmas.Slice.Eq.{slice_eq-Decides}
 use Rattle.am_scan.specs.declared.pattern_scan.PatternScan.{PatternScan}
 use Rattle.am_scan.specs.declared.pattern_state.PatternState.{PatternState}
 use Rattle.am_scan.specs.Scan.{Follows}
 use Rattle.am_scan.proofs.pattern_state.PatternState.same.Goals as goal
-use Rattle.am_scan.proofs.pattern_state.PatternState.same.Goals.{then-eq, else-eq, then-self-other, else-self-other}
 
 -- states with the same fields follow the same texts
 by_fields : (a b : PatternState) → a.first ≡ b.first → a.starts ≡ b.starts → a.later ≡ b.later → a.reads.items ≡ b.reads.items →
@@ -33,19 +30,4 @@ same_kinds (Some x) None e = absurd (true≢false e)
 same_kinds (Some x) (Some y) e = ap Some (eqb-true x y (sym e))
 
 pub returns-then-self-other-2 : goal.returns-then-self-other-2
-returns-then-self-other-2 c = λ equal.
-    let a = c.args.self.now in
-    let b = c.args.other.now in
-    let reads : a.reads.items ≡ b.reads.items =
-    (slice_eq-Decides Decides-eqb a.reads.items b.reads.items c.eq-then-self-other-2.result
-    (c.eq-then-self-other-2.ensures ∙ ap₂ (pointwise eqb) c.as_slice.ensures.value c.as_slice-then-self-other-2.ensures.value)).0 equal in
-    elim c.if-self-other.branch [
-      | then-self-other v ↦ elim c.if-eq.branch [
-        | then-eq w ↦
-            by_fields a b (same_kinds a.first b.first w.if-eq.ensures)
-            ((compared a.starts b.starts).0 (sym w.value-is ∙ v.if-self-other.true))
-            ((compared a.later b.later).0 (sym v.value-is ∙ c.if-self-other-2.true)) reads
-        | else-eq w ↦ absurd (false≢true (sym w.if-eq.false ∙ sym w.value-is ∙ v.if-self-other.true))
-      ]
-      | else-self-other v ↦ absurd (false≢true (sym v.if-self-other.false ∙ sym v.value-is ∙ c.if-self-other-2.true))
-    ]
+returns-then-self-other-2 c = λ equal. search (rules, slice_eq-Decides, by_fields, same_kinds, compared)
