@@ -1,6 +1,7 @@
 -- Texts that some matchers cannot tell apart: an equivalence; and of fewer matchers.
-use Rattle.std.proofs.Common.{◌≡◌, ℕ, List, [], ◌∷◌, Contains, refl, sym, ◌∙◌, inl, inr}
+use Rattle.std.proofs.Common.{◌≡◌, ℕ, List, [], ◌∷◌, Contains, refl, sym, ◌∙◌, inl, inr, arith}
 use Rattle.std.specs.Cmp.Lexicographic.{bytes_decides}
+use Rattle.std.proofs.lemmas.Grind.{common_steps}
 use Rattle.am_universe.proofs.ListLemmas.{IsIn, IsIn-from_Contains}
 use Rattle.am_universe.specs.Text.{same_text}
 use Rattle.am_labels.specs.Matcher.{Condition}
@@ -23,10 +24,7 @@ alike_joined (m ∷ ms) x y z g h = (g.0 ∙ h.0, alike_joined ms x y z g.1 h.1)
 
 -- one text alone
 pub only : {X : Type 0} (y x : X) → Contains (y ∷ []) x → y ≡ x
-only y x there = elim (IsIn-from_Contains (y ∷ []) x there) [
-  | inl same ↦ same
-  | inr none ↦ absurd none
-]
+only y x there = grind (arith, common_steps)
 
 -- a matcher on a label is one of the matchers, and has the label's name
 pub is_about : (name : List ℕ) (ms : List Condition) (m : Condition) → IsIn ms m

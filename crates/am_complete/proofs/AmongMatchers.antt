@@ -1,5 +1,6 @@
 -- Matchers that are among others.
-use Rattle.std.proofs.Common.{List, ◌++◌, Contains}
+use Rattle.std.proofs.Common.{List, ◌++◌, Contains, arith}
+use Rattle.std.proofs.lemmas.Grind.{common_steps}
 use Rattle.am_universe.proofs.ListLemmas.{IsIn, Contains-from_IsIn, IsIn-left, IsIn-right}
 use Rattle.am_universe.proofs.ListLemmas.{AllByRecursion-each}
 use Rattle.am_labels.specs.Matcher.{Condition}
@@ -17,5 +18,4 @@ pub last_among : (ms ns : List Condition) → AreAmong ns (ms ++ ns)
 last_among ms ns = among_by ns (ms ++ ns) (λ m i. IsIn-right ms ns m i)
 
 pub among_through : (ks ns ms : List Condition) → AreAmong ks ns → AreAmong ns ms → AreAmong ks ms
-among_through ks ns ms h k =
-    among_by ks ms (λ m i. is_among ns ms m k (is_among ks ns m h i))
+among_through ks ns ms h k = grind (arith, common_steps, among_by, is_among)

@@ -1,6 +1,6 @@
 -- Texts of which no two are alike: that they are distinct, with one more, and how many there are.
 use Rattle.std.proofs.Common.{◌≡◌, ◌≤◌, ℕ, zero, suc, true, List, [], ◌∷◌, ◌++◌, length}
-use Rattle.std.proofs.Common.{get_or, refl, sym, ◌∙◌, subst, inl, inr, arith}
+use Rattle.std.proofs.Common.{get_or, refl, subst, inl, inr, arith}
 use Rattle.std.specs.List.{AllByRecursion, IsDistinct}
 use Rattle.std.specs.Cmp.{IsEquivalence}
 use Rattle.std.specs.Cmp.Lexicographic.{bytes_decides}
@@ -8,6 +8,7 @@ use Rattle.std.proofs.lemmas.Bool.{cases_Bool}
 use Rattle.std.proofs.lemmas.Map.Keys.{IsDistinct-from_apart}
 use Rattle.std.proofs.lemmas.Map.Made.{length-le_from_is_member}
 use Rattle.std.proofs.lemmas.Option.{slice_get-get_or}
+use Rattle.std.proofs.lemmas.Grind.{common_steps}
 use Rattle.am_universe.specs.Text.{same_text}
 use Rattle.am_universe.proofs.ListLemmas.{IsIn, IsIn-from_Contains, AllByRecursion-at}
 use Rattle.am_labels.specs.Matcher.{Condition}
@@ -47,18 +48,8 @@ distinct_where_apart ms xs apart =
 
 pub apart_pushed : (ms : List Condition) (xs : List (List ℕ)) (x : List ℕ) → AreApart ms xs
     → ((y : List ℕ) → IsIn xs y → AreAlike ms y x → ⊥) → AreApart ms (xs ++ x ∷ [])
-apart_pushed ms xs x apart none i j y z at_y at_z same = elim (got_either xs x y i at_y) [
-  | inl a ↦ elim (got_either xs x z j at_z) [
-    | inl b ↦ apart i j y z a b same
-    | inr b ↦ absurd (none y (in_at xs i y a) (subst (AreAlike ms y) (sym b.1) same))
-  ]
-  | inr a ↦ elim (got_either xs x z j at_z) [
-    | inl b ↦
-        absurd (none z (in_at xs j z b)
-        (alike_turned ms x z (subst (λ (w : List ℕ). AreAlike ms w z) (sym a.1) same)))
-    | inr b ↦ a.0 ∙ sym b.0
-  ]
-]
+apart_pushed ms xs x apart none i j y z at_y at_z same =
+    grind (arith, common_steps, got_either, in_at, alike_turned)
 
 -- ---- How many there are.
 
@@ -68,14 +59,10 @@ alike_itself_is ms x = alike_is ms x x (alike_itself ms x)
 alike_through : (ms : List Condition) (x y z : List ℕ) → alike ms x y ≡ true
     → alike ms x z ≡ alike ms y z
 alike_through ms x y z e =
-    let xy = is_alike ms x y e in
-    same_where_both (alike ms x z) (alike ms y z)
-    (λ h. alike_is ms y z (alike_joined ms y x z (alike_turned ms x y xy) (is_alike ms x z h)))
-    (λ h. alike_is ms x z (alike_joined ms x y z xy (is_alike ms y z h)))
+    grind (arith, common_steps, is_alike, same_where_both, alike_is, alike_joined, alike_turned)
 
 alike_equivalence : (ms : List Condition) → IsEquivalence (alike ms)
-alike_equivalence ms =
-    record { refl = alike_itself_is ms; symm = turned ms; congr = alike_through ms }
+alike_equivalence ms = grind (arith, common_steps, alike_itself_is, turned, alike_through)
 
 -- texts of which no two are alike are no more than others, where each has one alike among these
 pub apart_are_no_more : (ms : List Condition) (xs ys : List (List ℕ)) → AreApart ms xs

@@ -6,8 +6,7 @@ use Rattle.std.specs.Cmp.Lexicographic.{bytes_decides}
 use Rattle.std.proofs.lemmas.Bool.{cases_Bool}
 use Rattle.am_universe.specs.Text.{same_text}
 use Rattle.am_universe.specs.Universe.{is_label_name}
-use Rattle.am_universe.proofs.ListLemmas.{IsIn}
-use Rattle.am_universe.proofs.ListLemmas.{AllByRecursion-each, AllByRecursion-at}
+use Rattle.am_universe.proofs.ListLemmas.{IsIn, AllByRecursion-each, AllByRecursion-at}
 use Rattle.am_universe.proofs.Members.{joined_in}
 use Rattle.am_labels.specs.Matcher.{Condition}
 use Rattle.am_complete.specs.Complete.{about, asks_only_of, AreAmong, impossible_conditions}

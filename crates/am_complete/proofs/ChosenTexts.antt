@@ -1,6 +1,6 @@
 -- Texts that stand for classes of texts: others of their classes do too, and so they do in another
 -- order.
-use Rattle.std.proofs.Common.{◌≡◌, ◌<◌, ◌&&◌, ℕ, zero, suc, Bool, true, false, List, [], ◌∷◌, ◌++◌}
+use Rattle.std.proofs.Common.{◌≡◌, ◌<◌, ℕ, zero, suc, Bool, true, false, List, [], ◌∷◌, ◌++◌}
 use Rattle.std.proofs.Common.{length, map, take, String, string_bytes, get_or, Option, Some, None}
 use Rattle.std.proofs.Common.{refl, sym, ap, ◌∙◌, subst, inl, inr, arith}
 use Rattle.std.specs.Prelude.{slice_get, IsPermutation, IfSome, is_some}
@@ -13,9 +13,10 @@ use Rattle.std.proofs.lemmas.List.Sorted.{Contains-permutation, IsPermutation-sy
 use Rattle.std.proofs.lemmas.Map.Keys.{IsDistinct-IsPermutation, IsDistinct-from_apart}
 use Rattle.std.proofs.lemmas.Map.Keys.{apart_from_distinct}
 use Rattle.std.proofs.lemmas.Option.{slice_get-get_or, get_or_from_slice_get, slice_get_within}
+use Rattle.std.proofs.lemmas.Grind.{common_steps}
 use Rattle.am_universe.proofs.ListLemmas.{IsIn, IsIn-from_Contains, Contains-from_IsIn}
 use Rattle.am_universe.proofs.ListLemmas.{AllByRecursion-at, AllByRecursion-each}
-use Rattle.am_labels.specs.Matcher.{Condition, holds}
+use Rattle.am_labels.specs.Matcher.{Condition}
 use Rattle.am_universe.proofs.Members.{in_at}
 use Rattle.am_classes.specs.declared.alphabet.Alphabet.{Alphabet}
 use Rattle.am_classes.specs.Alphabet.{IsOver, AreOver}
@@ -32,16 +33,14 @@ alike_in ms [] [] y each i = absurd i
 alike_in ms [] (z ∷ ys) y each i = absurd each
 alike_in ms (x ∷ xs) [] y each i = absurd i
 alike_in ms (x ∷ xs) (z ∷ ys) y each (inl e) = (x, inl refl, subst (AreAlike ms x) e each.0)
-alike_in ms (x ∷ xs) (z ∷ ys) y each (inr i) =
-    let r = alike_in ms xs ys y each.1 i in (r.0, inr r.1, r.2)
+alike_in ms (x ∷ xs) (z ∷ ys) y each (inr i) = grind (arith, common_steps, alike_in ms xs ys y)
 
 alike_there : (ms : List Condition) (xs ys : List (List ℕ)) (i : ℕ) (x : List ℕ)
     → AreAlikeEach ms xs ys → slice_get xs i ≡ Some x
     → (y : List ℕ) × (slice_get ys i ≡ Some y) × AreAlike ms x y
 alike_there ms [] ys i x each e = absurd (cc)
 alike_there ms (z ∷ xs) [] i x each e = absurd each
-alike_there ms (z ∷ xs) (y ∷ ys) zero x each e =
-    let same : z ≡ x = cc in (y, refl, subst (λ (w : List ℕ). AreAlike ms w y) same each.0)
+alike_there ms (z ∷ xs) (y ∷ ys) zero x each e = grind (arith, common_steps)
 alike_there ms (z ∷ xs) (y ∷ ys) (suc i) x each e = alike_there ms xs ys i x each.1 e
 
 pub classes_chosen : (alphabet : Alphabet) (ms : List Condition) (xs ys : List (List ℕ))
@@ -84,9 +83,7 @@ found_among ms have texts j y (Some k) at_y some is =
 pub each_of_all : (P : List ℕ → Type 0) (texts : List (String Global)) (n : ℕ)
     → n ≡ length texts → AllByRecursion P (map string_bytes (take n texts))
     → AllByRecursion P (map string_bytes texts)
-each_of_all P texts n all each =
-    subst (λ (ts : List (String Global)). AllByRecursion P (map string_bytes ts))
-    (take_all n texts (omega (arith, all))) each
+each_of_all P texts n all each = grind (arith, common_steps, take_all)
 
 -- ---- Another order.
 
@@ -110,19 +107,14 @@ same_where_both false false f g = refl
 
 pub alike_is : (ms : List Condition) (x y : List ℕ) → AreAlike ms x y → alike ms x y ≡ true
 alike_is [] x y h = refl
-alike_is (m ∷ ms) x y h =
-    λ i. same_truths (holds m.op m.value x) (holds m.op m.value y) h.0 i && alike_is ms x y h.1 i
+alike_is (m ∷ ms) x y h = grind (arith, common_steps, same_truths, alike_is ms x y)
 
 pub is_alike : (ms : List Condition) (x y : List ℕ) → alike ms x y ≡ true → AreAlike ms x y
 is_alike [] x y h = tt
-is_alike (m ∷ ms) x y h =
-    let both = and_parts _ _ h in (one_truth _ _ both.0, is_alike ms x y both.1)
+is_alike (m ∷ ms) x y h = grind (arith, common_steps, and_parts, one_truth, is_alike ms x y)
 
 pub turned : (ms : List Condition) (x y : List ℕ) → alike ms x y ≡ alike ms y x
-turned ms x y =
-    same_where_both (alike ms x y) (alike ms y x)
-    (λ h. alike_is ms y x (alike_turned ms x y (is_alike ms x y h)))
-    (λ h. alike_is ms x y (alike_turned ms y x (is_alike ms y x h)))
+turned ms x y = grind (arith, common_steps, same_where_both, alike_is, alike_turned, is_alike)
 
 pub distinct_from_apart : (ms : List Condition) (xs : List (List ℕ)) → AreApart ms xs
     → IsDistinct (alike ms) xs
@@ -152,14 +144,7 @@ apart_before ms xs i j x y distinct at_x at_y h before =
 pub apart_from_distinct_texts : (ms : List Condition) (xs : List (List ℕ))
     → IsDistinct (alike ms) xs → AreApart ms xs
 apart_from_distinct_texts ms xs distinct i j x y at_x at_y h =
-    elim (cases_lt i j) [
-      | inl before ↦ absurd (apart_before ms xs i j x y distinct at_x at_y h before)
-      | inr from ↦ elim (cases_lt j i) [
-        | inl before ↦
-            absurd (apart_before ms xs j i y x distinct at_y at_x (alike_turned ms x y h) before)
-        | inr to ↦ omega (arith, from, to)
-      ]
-    ]
+    grind (arith, common_steps, cases_lt, apart_before, alike_turned)
 
 apart_moved : (ms : List Condition) (xs ys : List (List ℕ)) → IsPermutation xs ys
     → AreApart ms xs → AreApart ms ys

@@ -5,6 +5,7 @@ use Rattle.std.proofs.Common.{sym, ◌∙◌, subst, inl, inr, arith, Contains}
 use Rattle.std.specs.Prelude.{unwrap_or, IsTrue}
 use Rattle.std.specs.Cmp.Lexicographic.{bytes_decides}
 use Rattle.std.proofs.lemmas.Bool.{cases_Bool, and_parts}
+use Rattle.std.proofs.lemmas.Grind.{common_steps}
 use Rattle.am_universe.specs.Text.{same_text}
 use Rattle.am_universe.specs.Universe.{Label, Values, IsLabel, IsUniverse}
 use Rattle.am_universe.specs.LabelSet.{LabelMap, value_of}
@@ -61,10 +62,7 @@ pub by_names : (P : List ℕ → Type 0) (ms : List Condition)
     → ((name : List ℕ) → about name ms ≡ [] → P name)
     → ((m : Condition) → IsIn ms m → m.name ≢ [] → P m.name)
     → (name : List ℕ) → name ≢ [] → P name
-by_names P ms without on name some = elim (some_about name ms) [
-  | inl none ↦ without name none
-  | inr asks ↦ subst P asks.2 (on asks.0 asks.1 (λ empty. some (sym asks.2 ∙ empty)))
-]
+by_names P ms without on name some = grind (arith, common_steps, some_about)
 
 -- or at the labels that are asked of
 named_by : (asked : List AskedLabel) (ms : List Condition) (m : Condition) → IsAskedOf asked ms

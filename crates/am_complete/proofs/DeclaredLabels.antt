@@ -1,11 +1,12 @@
 -- Why a label is not declared: for a new label name and distinct texts there is no room.
 use Rattle.std.proofs.Common.{◌≡◌, ◌≢◌, ◌<◌, ◌≤◌, ℕ, List, [], ◌∷◌, length, map, false, refl, sym}
-use Rattle.std.proofs.Common.{ap, ◌∙◌, subst, inl, inr, arith, Some, None, Contains, length-append}
+use Rattle.std.proofs.Common.{ap, ◌∙◌, subst, arith, Some, None, Contains, length-append}
 use Rattle.std.specs.Prelude.{IsTrue, unwrap_or, Option}
 use Rattle.std.specs.List.{AllByRecursion, IsDistinct, list_any}
 use Rattle.std.specs.Cmp.Lexicographic.{bytes_decides}
 use Rattle.std.proofs.lemmas.Bool.{false_from_ne_true, cases_lt}
 use Rattle.std.proofs.lemmas.List.{length-map, map-append}
+use Rattle.std.proofs.lemmas.Grind.{common_steps}
 use Rattle.am_universe.specs.declared.kind.Kind.TheVariants as kinds
 use Rattle.am_universe.specs.declared.label_fault.LabelFault.{LabelFault}
 use Rattle.am_universe.specs.declared.limits.TheConstants.{MAX_LABELS, MAX_VALUES}
@@ -93,13 +94,4 @@ pub full_otherwise : (u : List Label) (name : List ℕ) (values : Values) (texts
     → IsTrue (is_label_name name) → (Contains (names u) name → ⊥) → texts ≢ []
     → IsDistinct same_text texts → IsFullFor u texts
 full_otherwise u name values texts fault h are texts_of first no_memory named fresh some distinct =
-    elim (cases_lt (length u) MAX_LABELS) [
-      | inr full ↦ inl (omega (arith, full, h.at_most))
-      | inl room ↦ elim (cases_lt MAX_VALUES (length texts)) [
-        | inl many ↦ inr many
-        | inr few ↦
-            let none = fits u name values texts h named fresh are texts_of some distinct room few in
-            let is : fault ≡ memory_fault = first ∙ ap (λ o. unwrap_or o memory_fault) none in
-            absurd (no_memory (ap (λ (f : LabelFault). f.kind) is))
-      ]
-    ]
+    grind (arith, common_steps, cases_lt, fits)

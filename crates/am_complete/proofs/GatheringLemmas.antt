@@ -1,7 +1,7 @@
 -- The labels that matchers ask of, and the position of each by its name, with one matcher more.
 use Rattle.std.proofs.Common.{◌≡◌, ℕ, zero, suc, ◌<◌, Bool, true, false, cond, List, [], ◌∷◌, ◌++◌, length}
 use Rattle.std.proofs.Common.{map, set, Some, None, refl, sym, ap, ◌∙◌, subst, inl, inr, arith, Bor}
-use Rattle.std.proofs.Common.{bytes_eq, ◌↔◌, option_map, slice_get}
+use Rattle.std.proofs.Common.{bytes_eq, ◌↔◌, slice_get}
 use Rattle.std.specs.Prelude.{Result, Ok, Err, OnOk, OnErr}
 use Rattle.std.specs.BTreeMap.{BTreeMap}
 use Rattle.std.specs.Map.{update}
@@ -10,13 +10,14 @@ use Rattle.std.specs.Cmp.Lexicographic.{bytes_decides}
 use Rattle.std.proofs.lemmas.Bool.{cases_Bool, both_ways, false_from_ne_true}
 use Rattle.std.proofs.lemmas.List.{map-append, length-map}
 use Rattle.std.proofs.lemmas.Option.{slice_get_within, slice_get-map, same_Some}
+use Rattle.std.proofs.lemmas.Grind.{common_steps}
 use Rattle.am_universe.specs.Text.{same_text}
 use Rattle.am_labels.specs.Matcher.{Condition}
 use Rattle.am_labels.proofs.Passing.{any_in, in_any}
 use Rattle.am_universe.proofs.ListLemmas.{IsIn-unmap}
 use Rattle.am_universe.proofs.Members.{at_in, in_at}
 use Rattle.am_complete.specs.declared.origin.Origin.{Origin}
-use Rattle.am_complete.specs.AskedLabel.{AskedLabel, asked_names, asks_same, with_matcher}
+use Rattle.am_complete.specs.AskedLabel.{AskedLabel, asked_names, with_matcher}
 use Rattle.am_complete.specs.AskedLabel.{and_asked, with_asked}
 use Rattle.am_complete.specs.Gathering.{position_in, IsIndexed}
 use Rattle.am_complete.proofs.Pushed.{got_front, got_last, got_either}
@@ -25,9 +26,7 @@ use Rattle.am_complete.proofs.Pushed.{got_front, got_last, got_either}
 
 pub name_at : (labels : List AskedLabel) (i : ℕ) (l : AskedLabel) (name : List ℕ)
     → slice_get labels i ≡ Some l → l.name ≡ name → slice_get (asked_names labels) i ≡ Some name
-name_at labels i l name at named =
-    slice_get-map (λ x. x.name) labels i ∙ ap (option_map (λ (x : AskedLabel). x.name)) at
-    ∙ ap Some named
+name_at labels i l name at named = grind (arith, common_steps, slice_get-map)
 
 -- the label that stands where a name does has that name
 pub named_at : (labels : List AskedLabel) (i : ℕ) (l : AskedLabel) (name : List ℕ)
@@ -38,8 +37,7 @@ named_at labels i l name at there =
 -- there are as many labels as names
 pub within_names : (labels : List AskedLabel) (i : ℕ) (name : List ℕ)
     → slice_get (asked_names labels) i ≡ Some name → i < length labels
-within_names labels i name at =
-    omega (arith, slice_get_within (asked_names labels) i name at, length-map labels (λ l. l.name))
+within_names labels i name at = grind (arith, common_steps, slice_get_within, length-map)
 
 -- where no label has a name, it stands nowhere
 unnamed : (labels : List AskedLabel) (name : List ℕ)
@@ -111,11 +109,9 @@ absent_label positions labels name indexed absent =
 names_set : (labels : List AskedLabel) (i : ℕ) (l next : AskedLabel) → slice_get labels i ≡ Some l
     → next.name ≡ l.name → asked_names labels ≡ asked_names (set labels i next)
 names_set [] i l next h same = absurd (cc)
-names_set (x ∷ labels) zero l next h same =
-    let is : x ≡ l = cc in
-    ap (λ n. n ∷ asked_names labels) (ap (λ y. y.name) is ∙ sym same)
+names_set (x ∷ labels) zero l next h same = grind (arith, common_steps)
 names_set (x ∷ labels) (suc i) l next h same =
-    ap (λ ns. x.name ∷ ns) (names_set labels i l next h same)
+    grind (arith, common_steps, names_set labels i l next h same)
 
 none_gain : (m : Condition) (labels : List AskedLabel)
     → ((j : ℕ) → slice_get (asked_names labels) j ≡ Some m.name → ⊥)
@@ -164,10 +160,7 @@ asked_again positions labels origin m i l indexed at there =
 
 -- a label keeps its name, whether the matcher was added or memory was refused
 pub with_matcher_name : (m : Condition) (l : AskedLabel) → (with_matcher m l).name ≡ l.name
-with_matcher_name m l = elim (cases_Bool (list_any (asks_same m) l.matchers)) [
-  | inl some ↦ rw some refl
-  | inr none ↦ rw none refl
-]
+with_matcher_name m l = grind (arith, common_steps, cases_Bool)
 
 pub name_kept : {T E : Type 0} (m : Condition) (l next : AskedLabel) (r : Result T E)
     → OnOk r (next ≡ with_matcher m l) → OnErr r (next ≡ l) → next.name ≡ l.name
@@ -179,9 +172,7 @@ pub indexed_again : (positions : BTreeMap (Bor (List ℕ)) ℕ) (labels : List A
     (i : ℕ) (l next : AskedLabel) → IsIndexed positions labels → slice_get labels i ≡ Some l
     → next.name ≡ l.name → IsIndexed positions (set labels i next)
 indexed_again positions labels i l next indexed there same q j =
-    let P : List (List ℕ) → Type 0 =
-    λ ns. (position_in positions q ≡ Some j ↔ (slice_get ns j ≡ Some q)) in
-    subst P (names_set labels i l next there same) (indexed q j)
+    grind (arith, common_steps, names_set)
 
 -- a label stands where the map says
 pub within : (positions : BTreeMap (Bor (List ℕ)) ℕ) (labels : List AskedLabel) (name : List ℕ)

@@ -3,8 +3,8 @@ use Rattle.std.proofs.Common.{◌≡◌, ◌≢◌, ◌<◌, ◌+◌, ◌==◌, 
 use Rattle.std.proofs.Common.{◌++◌, length, map, take, get_or, Option, Some, None, Contains, refl}
 use Rattle.std.proofs.Common.{sym, ap, ◌∙◌, subst, inl, inr, arith, String, string_bytes}
 use Rattle.std.proofs.Common.{append_assoc}
-use Rattle.std.specs.Prelude.{IsTrue, slice_get, unwrap_or, option_map, is_some, IfSome, IfNone}
-use Rattle.std.specs.List.{AllByRecursion, filter, find, list_any, list_all, position_or_len}
+use Rattle.std.specs.Prelude.{IsTrue, slice_get, unwrap_or, is_some, IfSome, IfNone}
+use Rattle.std.specs.List.{AllByRecursion, filter, find, list_any, list_all}
 use Rattle.std.specs.Cmp.Lexicographic.{bytes_decides}
 use Rattle.std.specs.declared.alloc.Global.{Global}
 use Rattle.std.proofs.lemmas.Bool.{cases_Bool, false_from_ne_true, or_from}
@@ -15,12 +15,12 @@ use Rattle.std.proofs.lemmas.List.Folds.{find_at, list_any_more}
 use Rattle.std.proofs.lemmas.List.Quantifiers.{position-Some}
 use Rattle.std.proofs.lemmas.Option.{slice_get-get_or, get_or_from_slice_get, slice_get_within}
 use Rattle.std.proofs.lemmas.Option.{slice_get_read, cond_some}
+use Rattle.std.proofs.lemmas.Grind.{common_steps}
 use Rattle.am_universe.specs.LabelSet.{LabelMap}
 use Rattle.am_universe.specs.Universe.{Label, Values, IsUniverse, names, label_position, values_at}
 use Rattle.am_universe.proofs.DistinctLists.{all_push}
 use Rattle.am_universe.proofs.ListLemmas.{IsIn, IsIn-left, IsIn-right, IsIn-map, IsIn-unmap}
-use Rattle.am_universe.proofs.ListLemmas.{IsIn-from_Contains, Contains-from_IsIn}
-use Rattle.am_universe.proofs.ListLemmas.{AllByRecursion-at}
+use Rattle.am_universe.proofs.ListLemmas.{Contains-from_IsIn, AllByRecursion-at}
 use Rattle.am_universe.proofs.UniverseLemmas.{no_label}
 use Rattle.am_labels.specs.Matcher.{Condition}
 use Rattle.am_labels.specs.Space.{Space}
@@ -34,11 +34,9 @@ use Rattle.am_complete.specs.declared.label_state.LabelState.{LabelState}
 use Rattle.am_complete.specs.Complete.{about, label_texts, texts_of_label}
 use Rattle.am_complete.specs.Complete.{IsSpaceComplete, IsSpaceCompleteAt}
 use Rattle.am_complete.specs.AskedLabel.{AskedLabel, asked_names, IsAskedOf}
-use Rattle.am_complete.specs.Covering.{CoverPossible, standing_texts, standing_in}
-use Rattle.am_complete.specs.LabelState.{IsSoAt, is_settled, is_declared}
-use Rattle.am_complete.specs.LabelState.{reported_names}
-use Rattle.am_complete.specs.FoundState.{IsFoundAt, IsSoOfAsked}
-use Rattle.am_complete.specs.FoundState.{IsSoOfName, IsWithState, begins}
+use Rattle.am_complete.specs.Covering.{CoverPossible, standing_texts}
+use Rattle.am_complete.specs.LabelState.{IsSoAt, is_settled, is_declared, reported_names}
+use Rattle.am_complete.specs.FoundState.{IsFoundAt, IsSoOfAsked, IsSoOfName, IsWithState, begins}
 use Rattle.am_complete.proofs.Alike.{alike_joined}
 use Rattle.am_complete.proofs.CompleteUniverses.{space_complete_without_matchers}
 use Rattle.am_complete.proofs.CompleteUniverses.{space_complete_where_asked}
@@ -54,16 +52,11 @@ use Rattle.am_complete.proofs.Pushed.{one_longer}
 found_at : (u : List Label) (name : List ℕ) (i : ℕ) → label_position u name ≡ Some i
     → find (has_name name) u ≡ Some (get_or u i no_label)
 found_at u name i e =
-    let p = has_name name in
-    let first : position_or_len p u ≡ i = (cond_some _ _ _ e).1 in
-    find_at p u ∙ ap (slice_get u) first
-    ∙ slice_get-get_or u i no_label (position-Some p u i no_label e).0
+    grind (arith, common_steps, has_name, cond_some, find_at, slice_get-get_or, position-Some)
 
 values_of_found : (u : List Label) (name : List ℕ) (i : ℕ) → label_position u name ≡ Some i
     → map (λ v. unwrap_or v []) (values_at u i) ≡ texts_of_label (Some (get_or u i no_label))
-values_of_found u name i e =
-    ap (λ o. map (λ v. unwrap_or v []) (unwrap_or (option_map (λ k. k.values) o) []))
-    (slice_get-get_or u i no_label (position-Some (has_name name) u i no_label e).0)
+values_of_found u name i e = grind (arith, common_steps, slice_get-get_or, position-Some, has_name)
 
 pub texts_at : (u : List Label) (name : List ℕ) (i : ℕ) → label_position u name ≡ Some i
     → map (λ v. unwrap_or v []) (values_at u i) ≡ label_texts u name
@@ -71,20 +64,14 @@ texts_at u name i e = values_of_found u name i e ∙ sym (ap texts_of_label (fou
 
 pub standing_at : (s : Space) (name : List ℕ) (i : ℕ) → label_position s.labels name ≡ Some i
     → map (λ v. unwrap_or v []) (values_at s.labels i) ≡ standing_texts s name
-standing_at s name i e =
-    values_of_found s.labels name i e
-    ∙ sym (ap (standing_in s.impossible name) (found_at s.labels name i e))
+standing_at s name i e = grind (arith, common_steps, values_of_found, found_at)
 
 -- texts in memory, with that of one value more
 pub texts_more : (values : Values) (j : ℕ) (texts : List (String Global)) (text : String Global)
     → map string_bytes texts ≡ map (λ v. unwrap_or v []) (take j values)
     → string_bytes text ≡ unwrap_or (get_or values j None) [] → j < length values
     → map string_bytes (texts ++ text ∷ []) ≡ map (λ v. unwrap_or v []) (take (j + 1) values)
-texts_more values j texts text before here lt =
-    map-append string_bytes texts (text ∷ [])
-    ∙ (λ i. before i ++ here i ∷ [])
-    ∙ sym (map-append (λ v. unwrap_or v []) (take j values) (get_or values j None ∷ []))
-    ∙ ap (map (λ v. unwrap_or v [])) (sym (take_more values j None lt))
+texts_more values j texts text before here lt = grind (arith, common_steps, map-append, take_more)
 
 -- ---- At one label.
 
@@ -93,10 +80,7 @@ pub covered : (alphabet : Alphabet) (impossible : List (List Condition)) (name :
     (have texts : List (List ℕ)) → CoverPossible alphabet impossible name ms texts
     → AllByRecursion (HasAlikeIn ms have) texts → CoverPossible alphabet impossible name ms have
 covered alphabet impossible name ms have texts covers each text valid possible =
-    let one = covers text valid possible in
-    let there = AllByRecursion-at (HasAlikeIn ms have) texts one.0 each
-    (IsIn-from_Contains texts one.0 one.1) in
-    (there.0, there.1, alike_joined ms there.0 one.0 text there.2 one.2)
+    grind (arith, common_steps, alike_joined)
 
 found_is_so : (alphabet : Alphabet) (s : Space) (asked : List AskedLabel) (ms : List Condition) (l : AskedLabel)
     (c : Completeness) → IsAskedOf asked ms → IsIn asked l → l.name ≢ [] → IsFoundAt alphabet s l c

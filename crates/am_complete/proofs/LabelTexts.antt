@@ -1,11 +1,12 @@
 -- The texts that a label has in the label sets of a universe.
-use Rattle.std.proofs.Common.{◌≡◌, ℕ, List, [], ◌∷◌, map, Option, Some, None, Bool, true, false}
+use Rattle.std.proofs.Common.{◌≡◌, ℕ, List, [], ◌∷◌, map, Option, Some, None, Bool, true, false, arith}
 use Rattle.std.proofs.Common.{Contains, refl, sym, ap, ◌∙◌, subst, inl, inr}
 use Rattle.std.specs.Prelude.{unwrap_or, IsTrue}
 use Rattle.std.specs.List.{find, IsDistinct}
 use Rattle.std.specs.Cmp.Lexicographic.{bytes_decides}
 use Rattle.std.proofs.lemmas.Bool.{cases_Bool}
 use Rattle.std.proofs.lemmas.Map.Keys.{IsDistinct-head, IsDistinct-tail}
+use Rattle.std.proofs.lemmas.Grind.{common_steps}
 use Rattle.am_universe.specs.Text.{same_text}
 use Rattle.am_universe.specs.Universe.{Label, IsLabel, IsUniverse, names, is_label_name}
 use Rattle.am_universe.proofs.ListLemmas.{IsIn, IsIn-map, IsIn-unmap, AllByRecursion-at}
@@ -62,11 +63,7 @@ declared_texts u l h i = ap texts_of_label (finds_label u l h.distinct i)
 pub texts_by : (P : List (List ℕ) → Type 0) (u : List Label) (name : List ℕ) → P ([] ∷ [])
     → ((l : Label) → IsIn u l → l.name ≡ name → P (texts_of_label (Some l)))
     → P (label_texts u name)
-texts_by P u name absent declared = by (find (has_name name) u) refl
-  where
-    by : (o : Option Label) → find (has_name name) u ≡ o → P (texts_of_label o)
-    by None e = absent
-    by (Some l) e = let r = found_in name u l e in declared l r.0 r.1
+texts_by P u name absent declared = grind (arith, common_steps, found_in)
 
 -- a label that no name is of is not declared
 pub unnamed_texts : (u : List Label) (name : List ℕ) → (Contains (names u) name → ⊥)

@@ -11,9 +11,9 @@ use Rattle.std.proofs.lemmas.List.{append-nil, map-append, length-take-le}
 use Rattle.std.proofs.lemmas.List.Elements.{filter-append}
 use Rattle.std.proofs.lemmas.Map.Keys.{IsDistinct-head, IsDistinct-tail}
 use Rattle.std.proofs.lemmas.Option.{slice_get_within}
+use Rattle.std.proofs.lemmas.Grind.{common_steps}
 use Rattle.am_universe.specs.Text.{same_text}
-use Rattle.am_universe.specs.Universe.{Label, Values, IsLabel, IsUniverse, names}
-use Rattle.am_universe.specs.Universe.{is_empty_text}
+use Rattle.am_universe.specs.Universe.{Label, Values, IsLabel, IsUniverse, names, is_empty_text}
 use Rattle.am_universe.proofs.ListLemmas.{IsIn, IsIn-left, IsIn-right, IsIn-map}
 use Rattle.am_universe.proofs.ListLemmas.{IsIn-unmap, IsIn-from_Contains, Contains-from_IsIn}
 use Rattle.am_universe.proofs.ListLemmas.{AllByRecursion-at, AllByRecursion-each}
@@ -156,8 +156,7 @@ module _ (a : Alphabet) (s : Space) where
       → (m : MissingTexts) × (slice_get missing i ≡ Some m) × IsMissingAt a s l m
   at_label [] missing i l zip at = absurd (cc)
   at_label (x ∷ asked) [] i l zip at = absurd zip
-  at_label (x ∷ asked) (m ∷ missing) zero l zip at =
-      let same : x ≡ l = cc in (m, refl, subst (λ y. IsMissingAt a s y m) same zip.0)
+  at_label (x ∷ asked) (m ∷ missing) zero l zip at = grind (arith, common_steps)
   at_label (x ∷ asked) (m ∷ missing) (suc i) l zip at = at_label asked missing i l zip.1 at
 
   pub at_missing : (asked : List AskedLabel) (missing : List MissingTexts) (i : ℕ)
@@ -165,8 +164,7 @@ module _ (a : Alphabet) (s : Space) where
       → (l : AskedLabel) × (slice_get asked i ≡ Some l) × IsMissingAt a s l m
   at_missing asked [] i m zip at = absurd (cc)
   at_missing [] (k ∷ missing) i m zip at = absurd zip
-  at_missing (x ∷ asked) (k ∷ missing) zero m zip at =
-      let same : k ≡ m = cc in (x, refl, subst (IsMissingAt a s x) same zip.0)
+  at_missing (x ∷ asked) (k ∷ missing) zero m zip at = grind (arith, common_steps)
   at_missing (x ∷ asked) (k ∷ missing) (suc i) m zip at = at_missing asked missing i m zip.1 at
 
   -- and that which is found by a name
@@ -267,12 +265,7 @@ module _ (a : Alphabet) (s : Space) where
   missing_over : (asked : List AskedLabel) (missing : List MissingTexts) (name : List ℕ)
       → AreMissing a s asked missing
       → AreOver a (texts_of_missing (missing_for missing name))
-  missing_over asked missing name zip = by (missing_for missing name) refl
-    where
-      by : (o : Option MissingTexts) → missing_for missing name ≡ o
-          → AreOver a (texts_of_missing o)
-      by None e = tt
-      by (Some m) e = (by_name asked missing name m zip e).3.needed.possible.over
+  missing_over asked missing name zip = grind (arith, common_steps, by_name)
 
   pub made_over : (asked : List AskedLabel) (missing : List MissingTexts) (v : List Label)
       → AreMissing a s asked missing → AllByRecursion (IsWhole s missing) v
@@ -412,10 +405,7 @@ values_kept : (vs ws : Values) (texts : List (List ℕ))
 values_kept [] ws texts full whole are = (ws, refl)
 values_kept (v ∷ vs) [] texts full whole are = absurd (cc)
 values_kept (v ∷ vs) (w ∷ ws) texts full whole are =
-    let here : unwrap_or w [] ≡ unwrap_or v [] = cc in
-    let later : map (λ x. unwrap_or x []) ws ≡ map (λ x. unwrap_or x []) vs ++ texts = cc in
-    let r = values_kept vs ws texts full.1 whole.1 later in
-    let same = same_values w v whole.0 full.0 here in (r.0, λ i. same i ∷ r.1 i)
+    grind (arith, common_steps, values_kept vs ws texts, same_values)
 
 module _ (s : Space) (missing : List MissingTexts) where
   keeps_each : (u v : List Label) (rest : List (List ℕ))
@@ -442,6 +432,4 @@ module _ (s : Space) (missing : List MissingTexts) where
   pub keeps : (v : List Label) → IsUniverse s.labels → IsUniverse v
       → names v ≡ names s.labels ++ names_to_declare s.labels missing
       → AllByRecursion (IsWhole s missing) v → KeepsLabels s.labels v
-  keeps v h universe are whole =
-      keeps_each s.labels v (names_to_declare s.labels missing) (λ l i. standing_of l h i) h.labels
-      universe.labels are whole
+  keeps v h universe are whole = grind (arith, common_steps, keeps_each, standing_of)

@@ -1,12 +1,13 @@
 -- Texts that a label lacks, and that it has enough where it lacks none.
-use Rattle.std.proofs.Common.{◌≡◌, ◌<◌, ◌≤◌, ◌==◌, ℕ, zero, suc, Bool, false, true, List, [], ◌∷◌}
+use Rattle.std.proofs.Common.{◌≡◌, ◌<◌, ◌≤◌, ◌==◌, ℕ, zero, suc, Bool, false, List, [], ◌∷◌}
 use Rattle.std.proofs.Common.{length, map, take, drop, min, Some, Contains, String, string_bytes}
-use Rattle.std.proofs.Common.{sym, ap, ◌∙◌, subst, arith, lit≤, lit<}
+use Rattle.std.proofs.Common.{sym, subst, arith, lit≤, lit<}
 use Rattle.std.specs.Prelude.{IsTrue, slice_get, unwrap_or}
 use Rattle.std.specs.List.{AllByRecursion, IsDistinct}
 use Rattle.std.specs.declared.alloc.Global.{Global}
 use Rattle.std.proofs.lemmas.List.{length-map, length-take-le, take-append-drop, map-append}
 use Rattle.std.proofs.lemmas.Bool.Decides.{nat_tests}
+use Rattle.std.proofs.lemmas.Grind.{common_steps}
 use Rattle.am_universe.specs.declared.limits.TheConstants.{MAX_VALUES}
 use Rattle.am_universe.specs.Text.{same_text}
 use Rattle.am_universe.specs.Universe.{Label, IsLabel, IsUniverse, is_label_name}
@@ -55,28 +56,18 @@ pub never_refused : (u : List Label) (name : List ℕ) (texts : List (String Glo
     → IsUniverse u → map string_bytes texts ≡ label_texts u name
     → (((texts ≡ []) → ⊥) → IsDistinct same_text (map string_bytes texts)
     → MAX_VALUES < length texts) → ⊥
-never_refused u name texts h are refused =
-    let values : AreValues (map string_bytes texts) = subst AreValues (sym are) (of_label u name h) in
-    let long = length-map texts string_bytes in
-    let some : texts ≡ [] → ⊥ = λ e.
-    let none : length texts ≡ 0 = ap length e in
-    omega (arith, long, none, values.some) in
-    omega (arith, long, values.few, refused some values.distinct)
+never_refused u name texts h are refused = grind (arith, common_steps, of_label, length-map)
 
 -- nor those of texts of which no two are alike, and which are not too many
 pub never_refused_apart : (ms : List Condition) (texts : List (String Global))
     → AreApart ms (map string_bytes texts) → length texts ≤ MAX_VALUES
     → (IsDistinct same_text (map string_bytes texts) → MAX_VALUES < length texts) → ⊥
-never_refused_apart ms texts apart few refused =
-    omega (arith, few, refused (distinct_where_apart ms (map string_bytes texts) apart))
+never_refused_apart ms texts apart few refused = grind (arith, common_steps, distinct_where_apart)
 
 -- a list that is not empty
 pub is_some_list : (texts : List (String Global)) (none : Bool) → none ≡ (length texts == 0)
     → none ≡ false → texts ≡ [] → ⊥
-is_some_list texts none is fails e =
-    let empty : length texts ≡ 0 = ap length e in
-    let test : (length texts == 0) ≡ true = grind (arith, nat_tests) in
-    let both : true ≡ false = sym test ∙ sym is ∙ fails in cc
+is_some_list texts none is fails e = grind (arith, common_steps, nat_tests)
 
 -- ---- Some of the texts.
 
@@ -91,8 +82,7 @@ taken_at (t ∷ texts) (suc n) (suc i) x at = taken_at texts n i x at
 
 pub taken_apart : (ms : List Condition) (texts : List (String Global)) (n : ℕ)
     → AreApart ms (map string_bytes texts) → AreApart ms (map string_bytes (take n texts))
-taken_apart ms texts n apart i j x y at_x at_y alike =
-    apart i j x y (taken_at texts n i x at_x) (taken_at texts n j y at_y) alike
+taken_apart ms texts n apart i j x y at_x at_y alike = grind (arith, common_steps, taken_at)
 
 pub taken_in : (texts : List (String Global)) (n : ℕ) (x : List ℕ)
     → IsIn (map string_bytes (take n texts)) x → IsIn (map string_bytes texts) x

@@ -11,6 +11,7 @@ use Rattle.std.proofs.lemmas.Bool.{both_ways, cases_Bool, false_from_ne_true, no
 use Rattle.std.proofs.lemmas.List.{length-append, append-nil}
 use Rattle.std.proofs.lemmas.List.Elements.{filter-append}
 use Rattle.std.proofs.lemmas.List.Filters.{length-filter_both}
+use Rattle.std.proofs.lemmas.Grind.{common_steps}
 use Rattle.am_universe.specs.declared.limits.TheConstants.{MAX_VALUES}
 use Rattle.am_universe.specs.Universe.{Label, IsUniverse, is_label_name, names}
 use Rattle.am_universe.proofs.ListLemmas.{IsIn, IsIn-left, IsIn-right, IsIn-from_Contains}
@@ -21,7 +22,7 @@ use Rattle.am_labels.proofs.Passing.{any_in, in_any, passes_from_kept, kept_from
 use Rattle.am_classes.specs.declared.alphabet.Alphabet.{Alphabet}
 use Rattle.am_classes.specs.Alike.{AreAlike, HasAlikeIn, AreApart}
 use Rattle.am_classes.proofs.OverLemmas.{nil_over}
-use Rattle.am_complete.specs.Complete.{label_texts, texts_of_label, may_have}
+use Rattle.am_complete.specs.Complete.{label_texts, may_have}
 use Rattle.am_complete.specs.AskedLabel.{AskedLabel}
 use Rattle.am_complete.specs.Covering.{ArePossible, AreNeeded, CoverPossible, standing_texts}
 use Rattle.am_complete.specs.Covering.{standing_in}
@@ -47,10 +48,7 @@ alike_there ms have text some =
 
 pub none_alike : (ms : List Condition) (have : List (List ℕ)) (text : List ℕ)
     → is_new ms have text ≡ true → HasAlikeIn ms have text → ⊥
-none_alike ms have text new one =
-    both_ways (list_any (λ x. alike ms x text) have) (not-true _ new)
-    (in_any (λ x. alike ms x text) have one.0 (IsIn-from_Contains have one.0 one.1)
-    (alike_is ms one.0 text one.2))
+none_alike ms have text new one = grind (arith, common_steps, both_ways, not-true, in_any, alike_is)
 
 pub has_alike : (ms : List Condition) (have : List (List ℕ)) (text : List ℕ)
     → is_new ms have text ≡ false → HasAlikeIn ms have text
@@ -58,14 +56,11 @@ has_alike ms have text old = alike_there ms have text (not-false _ old)
 
 new_where : (ms : List Condition) (have : List (List ℕ)) (text : List ℕ)
     → (HasAlikeIn ms have text → ⊥) → is_new ms have text ≡ true
-new_where ms have text none =
-    ap not (false_from_ne_true (list_any (λ x. alike ms x text) have)
-    (λ some. none (alike_there ms have text some)))
+new_where ms have text none = grind (arith, common_steps, false_from_ne_true, alike_there)
 
 old_where : (ms : List Condition) (have : List (List ℕ)) (text : List ℕ)
     → HasAlikeIn ms have text → is_new ms have text ≡ false
-old_where ms have text one =
-    false_from_ne_true (is_new ms have text) (λ new. none_alike ms have text new one)
+old_where ms have text one = grind (arith, common_steps, false_from_ne_true, none_alike)
 
 -- one text more
 pub none_among : (ms : List Condition) (have texts : List (List ℕ)) (j : ℕ) (y : List ℕ)
@@ -104,27 +99,15 @@ one_more_old ms have texts j y at one =
 -- it is of the texts that the label has there
 pub standing_within : (s : Space) (name x : List ℕ) → IsIn (standing_texts s name) x
     → IsIn (label_texts s.labels name) x
-standing_within s name x = by (find (has_name name) s.labels)
-  where
-    by : (o : Option Label) → IsIn (standing_in s.impossible name o) x → IsIn (texts_of_label o) x
-    by None i = (passes_from_kept (may_have s.impossible name) ([] ∷ []) x i).0
-    by (Some l) i = i
+standing_within s name x = grind (arith, common_steps, has_name, passes_from_kept)
 
 -- and of these that one is which is alike to a text that the label may have
 pub alike_standing : (s : Space) (l : AskedLabel) (text : List ℕ)
     → HasThoseOfLists s.impossible l → IsTrue (may_have s.impossible l.name text)
     → HasAlikeIn l.matchers (label_texts s.labels l.name) text
     → HasAlikeIn l.matchers (standing_texts s l.name) text
-alike_standing s l text lists possible = by (find (has_name l.name) s.labels)
-  where
-    by : (o : Option Label) → HasAlikeIn l.matchers (texts_of_label o) text
-        → HasAlikeIn l.matchers (standing_in s.impossible l.name o) text
-    by None one =
-        let test = may_have s.impossible l.name in
-        let there = kept_from_passes test ([] ∷ []) one.0 (IsIn-from_Contains ([] ∷ []) one.0 one.1)
-        (same_possible s.impossible l one.0 text lists one.2 ∙ possible) in
-        (one.0, Contains-from_IsIn (filter test ([] ∷ [])) one.0 there, one.2)
-    by (Some k) one = one
+alike_standing s l text lists possible =
+    grind (arith, common_steps, has_name, kept_from_passes, same_possible)
 
 -- ---- What is needed.
 
@@ -164,17 +147,7 @@ enough_new ms have texts apart =
 pub first_needed : (a : Alphabet) (s : Space) (l : AskedLabel) (texts : List (List ℕ))
     → AreNeeded a s l.name l.matchers texts → 0 < length texts → NeedsText a s l
 first_needed a s l [] needed some = absurd (omega (arith, some))
-first_needed a s l (t ∷ texts) needed some = (
-  t,
-  record {
-    possible = record {
-      over = (needed.possible.over.0, tt);
-      possible = (needed.possible.possible.0, tt);
-      apart = one_apart l.matchers t;
-    };
-    new = (needed.new.0, tt);
-  },
-)
+first_needed a s l (t ∷ texts) needed some = grind (arith, common_steps, one_apart)
 
 pub needs_text : (a : Alphabet) (s : Space) (l : AskedLabel) (texts : List (List ℕ))
     → ArePossible a s.impossible l.name l.matchers texts
@@ -206,10 +179,7 @@ needs_too_many a s l texts named possible many =
 pub not_covered : (a : Alphabet) (s : Space) (l : AskedLabel) → HasThoseOfLists s.impossible l
     → NeedsText a s l
     → CoverPossible a s.impossible l.name l.matchers (label_texts s.labels l.name) → ⊥
-not_covered a s l lists needs cover =
-    let possible = needs.1.possible in
-    needs.1.new.0 (alike_standing s l needs.0 lists possible.possible.0
-    (cover needs.0 possible.over.0 possible.possible.0))
+not_covered a s l lists needs cover = grind (arith, common_steps, alike_standing)
 
 -- ---- What covers all.
 
@@ -304,8 +274,7 @@ pub covered_by_absence : (a : Alphabet) (s : Space) (l : AskedLabel) (texts : Li
     → CoverPossible a s.impossible l.name l.matchers texts
     → CoverPossible a s.impossible l.name l.matchers (standing_texts s l.name)
 covered_by_absence a s l texts h unnamed few cover =
-    cover_by_standing a s l texts
-    (none_found s.labels l.name (undeclared s.labels l.name h unnamed)) few cover
+    grind (arith, common_steps, cover_by_standing, none_found, undeclared)
 
 pub absence_stands : (a : Alphabet) (s : Space) (l : AskedLabel) (texts : List (List ℕ)) (n : ℕ)
     → IsUniverse s.labels → is_label_name l.name ≡ false
@@ -313,16 +282,8 @@ pub absence_stands : (a : Alphabet) (s : Space) (l : AskedLabel) (texts : List (
     → CoverPossible a s.impossible l.name l.matchers texts
     → length texts ≤ length (standing_texts s l.name) → length texts ≡ n
     → IsFoundAt a s l (state_is.Complete n)
-absence_stands a s l texts n h unnamed possible cover few count = (
-  cover_weaker a s l (standing_texts s l.name) (label_texts s.labels l.name)
-      (λ x i. standing_within s l.name x i)
-      (covered_by_absence a s l texts h unnamed few cover),
-  (
-    texts,
-    record { cover = cover; possible = possible },
-    count,
-  ),
-)
+absence_stands a s l texts n h unnamed possible cover few count =
+    grind (arith, common_steps, cover_weaker, standing_within, covered_by_absence)
 
 pub absence_fails : (a : Alphabet) (s : Space) (l : AskedLabel) (texts : List (List ℕ))
     → is_label_name l.name ≡ false → HasThoseOfLists s.impossible l
@@ -335,10 +296,7 @@ absence_fails a s l texts unnamed lists possible more =
 
 pub none_needed : (a : Alphabet) (s : Space) (name : List ℕ) (ms : List Condition)
     → AreNeeded a s name ms []
-none_needed a s name ms = record {
-  possible = record { over = tt; possible = tt; apart = λ i j x y at_x. absurd (cc) };
-  new = tt;
-}
+none_needed a s name ms = grind (arith, common_steps)
 
 module _ (a : Alphabet) (s : Space) (l : AskedLabel) (texts : List (List ℕ)) (known : Bool)
     (wanted : ArePossibleClasses a s.impossible l texts known) where

@@ -1,20 +1,20 @@
 -- Texts that a label may have, as impossible lists say that ask of this label alone.
-use Rattle.std.proofs.Common.{◌≡◌, ◌+◌, ◌||◌, ◌&&◌, ℕ, Bool, true, false, not, List, [], ◌∷◌}
-use Rattle.std.proofs.Common.{take, get_or, Some, None, cond}
-use Rattle.std.proofs.Common.{refl, sym, ap, ◌∙◌, inl, inr}
-use Rattle.std.specs.Prelude.{IsTrue, slice_get, unwrap_or}
-use Rattle.std.specs.FinMap.{get, empty}
+use Rattle.std.proofs.Common.{◌≡◌, ◌+◌, ◌&&◌, ℕ, Bool, true, false, not, List, [], ◌∷◌, arith}
+use Rattle.std.proofs.Common.{take, get_or, Some, refl, sym, ap, ◌∙◌, inl, inr}
+use Rattle.std.specs.Prelude.{IsTrue, slice_get}
+use Rattle.std.specs.FinMap.{empty}
 use Rattle.std.specs.List.{AllByRecursion, IsDistinct, filter, list_all, list_any}
 use Rattle.std.proofs.lemmas.Bool.{both_ways, false_from_ne_true, cases_Bool, cond_both, and_parts}
 use Rattle.std.proofs.lemmas.Bool.{and_from}
 use Rattle.std.proofs.lemmas.List.Folds.{list_all_more}
 use Rattle.std.proofs.lemmas.Option.{slice_get_within, get_or_from_slice_get}
+use Rattle.std.proofs.lemmas.Grind.{common_steps}
 use Rattle.am_universe.specs.LabelSet.{LabelMap, value_of, with_value}
 use Rattle.am_universe.proofs.LabelMapLemmas.{removed_at, inserted_at}
 use Rattle.am_universe.proofs.LabelSetLemmas.{same_text-itself}
 use Rattle.am_universe.proofs.ListLemmas.{IsIn, IsIn-from_Contains, Contains-from_IsIn}
 use Rattle.am_universe.proofs.ListLemmas.{AllByRecursion-each, AllByRecursion-at}
-use Rattle.am_labels.specs.Matcher.{Condition, holds, all_hold}
+use Rattle.am_labels.specs.Matcher.{Condition, all_hold}
 use Rattle.am_labels.proofs.Passing.{passes_from_kept, kept_from_passes}
 use Rattle.am_classes.specs.declared.alphabet.Alphabet.{Alphabet}
 use Rattle.am_classes.specs.Alphabet.{IsOver, AreOver}
@@ -30,13 +30,8 @@ use Rattle.am_complete.proofs.CompleteUniverses.{alone_truth, takes_away}
 -- ---- A list on the label set that has one text of a label, and no other label.
 
 value_alone : (s : LabelMap) (name text : List ℕ) → value_of (with_value s name text) name ≡ text
-value_alone s name [] =
-    ap (λ o. unwrap_or o [])
-    (removed_at s name name ∙ ap (λ b. cond b None (get s name)) (same_text-itself name))
-value_alone s name (c ∷ cs) =
-    ap (λ o. unwrap_or o [])
-    (inserted_at s name (c ∷ cs) name
-    ∙ ap (λ b. cond b (Some (c ∷ cs)) (get s name)) (same_text-itself name))
+value_alone s name [] = grind (arith, common_steps, removed_at, same_text-itself)
+value_alone s name (c ∷ cs) = grind (arith, common_steps, inserted_at, same_text-itself)
 
 -- it takes a text of the label away where it asks of the label alone and matches that label set
 pub taken_by : (set : LabelMap) (name text : List ℕ) (list : List Condition)
@@ -52,10 +47,8 @@ taken_by set name text list is alone =
 pub all_pass : {X : Type 0} (test : X → Bool) (xs : List X) (x : X) → list_all test xs ≡ true
     → IsIn xs x → test x ≡ true
 all_pass test [] x h i = absurd i
-all_pass test (y ∷ xs) x h (inl same) =
-    ap test (sym same) ∙ (and_parts (test y) (list_all test xs) h).0
-all_pass test (y ∷ xs) x h (inr later) =
-    all_pass test xs x (and_parts (test y) (list_all test xs) h).1 later
+all_pass test (y ∷ xs) x h (inl same) = grind (arith, common_steps, and_parts)
+all_pass test (y ∷ xs) x h (inr later) = grind (arith, common_steps, all_pass test xs x, and_parts)
 
 pub all_more : {X : Type 0} (test : X → Bool) (xs : List X) (i : ℕ) (x : X)
     → slice_get xs i ≡ Some x → list_all test (take i xs) ≡ true → test x ≡ true
@@ -67,9 +60,7 @@ all_more test xs i x at before passes =
 
 pub one_fails : {X : Type 0} (test : X → Bool) (xs : List X) (x : X) → IsIn xs x
     → test x ≡ false → list_all test xs ≡ false
-one_fails test xs x i fails =
-    false_from_ne_true (list_all test xs) (λ all.
-    both_ways (test x) fails (all_pass test xs x all i))
+one_fails test xs x i fails = grind (arith, common_steps, false_from_ne_true, both_ways, all_pass)
 
 -- ---- Texts that are alike, and those of a filter.
 
@@ -89,18 +80,12 @@ distinct_kept e test (x ∷ xs) distinct =
 same_match : (x y : List ℕ) (ms list : List Condition) → AreAmong list ms → AreAlike ms x y
     → matches_text x list ≡ matches_text y list
 same_match x y ms [] among alike = refl
-same_match x y ms (m ∷ list) among alike =
-    let here = AllByRecursion-at (λ n. holds n.op n.value x ≡ holds n.op n.value y) ms m alike
-    (IsIn-from_Contains ms m among.0) in
-    λ i. here i && same_match x y ms list among.1 alike i
+same_match x y ms (m ∷ list) among alike = grind (arith, common_steps, same_match x y ms list)
 
 same_taken : (name x y : List ℕ) (ms list : List Condition)
     → (IsTrue (asks_only_of name list) → AreAmong list ms) → AreAlike ms x y
     → takes_away name x list ≡ takes_away name y list
-same_taken name x y ms list among alike = elim (cases_Bool (asks_only_of name list)) [
-  | inl alone ↦ ap (λ b. asks_only_of name list && b) (same_match x y ms list (among alone) alike)
-  | inr others ↦ rw others refl
-]
+same_taken name x y ms list among alike = grind (arith, common_steps, cases_Bool, same_match)
 
 any_taken : (impossible : List (List Condition)) (name x y : List ℕ) (ms : List Condition)
     → AllByRecursion (λ list. IsTrue (asks_only_of name list) → AreAmong list ms) impossible
@@ -108,8 +93,7 @@ any_taken : (impossible : List (List Condition)) (name x y : List ℕ) (ms : Lis
     → list_any (takes_away name x) impossible ≡ list_any (takes_away name y) impossible
 any_taken [] name x y ms among alike = refl
 any_taken (list ∷ impossible) name x y ms among alike =
-    λ i. same_taken name x y ms list among.0 alike i
-    || any_taken impossible name x y ms among.1 alike i
+    grind (arith, common_steps, same_taken, any_taken impossible name x y ms)
 
 pub same_possible : (impossible : List (List Condition)) (l : AskedLabel) (x y : List ℕ)
     → HasThoseOfLists impossible l → AreAlike l.matchers x y
@@ -127,8 +111,7 @@ all_kept P test xs all =
 pub apart_kept : (ms : List Condition) (test : List ℕ → Bool) (xs : List (List ℕ))
     → AreApart ms xs → AreApart ms (filter test xs)
 apart_kept ms test xs apart =
-    apart_from_distinct_texts ms (filter test xs)
-    (distinct_kept (alike ms) test xs (distinct_from_apart ms xs apart))
+    grind (arith, common_steps, apart_from_distinct_texts, distinct_kept, distinct_from_apart)
 
 -- of texts of which no two are alike, those that the label may have
 pub are_possible : (alphabet : Alphabet) (impossible : List (List Condition)) (name : List ℕ)

@@ -1,10 +1,11 @@
 -- A list with one item more: what stands where, what is in it, and what holds of all of it.
-use Rattle.std.proofs.Common.{◌≡◌, ◌⊎◌, ℕ, zero, suc, ◌+◌, List, [], ◌∷◌, ◌++◌, length, take, Some}
+use Rattle.std.proofs.Common.{◌≡◌, ◌⊎◌, ℕ, zero, suc, ◌+◌, List, [], ◌∷◌, ◌++◌, length, take, Some, arith}
 use Rattle.std.proofs.Common.{refl, sym, ap, ◌∙◌, inl, inr}
 use Rattle.std.specs.Prelude.{slice_get}
 use Rattle.std.specs.List.{AllByRecursion}
 use Rattle.std.proofs.lemmas.List.{take_more}
 use Rattle.std.proofs.lemmas.Option.{get_or_from_slice_get, slice_get_within}
+use Rattle.std.proofs.lemmas.Grind.{common_steps}
 use Rattle.am_universe.proofs.DistinctLists.{all_push}
 use Rattle.am_universe.proofs.ListLemmas.{IsIn}
 
@@ -26,10 +27,7 @@ pub got_either : {X : Type 0} (xs : List X) (y x : X) (i : ℕ)
 got_either [] y x zero h = inr (refl, cc)
 got_either [] y x (suc i) h = absurd (cc)
 got_either (z ∷ xs) y x zero h = inl h
-got_either (z ∷ xs) y x (suc i) h = elim (got_either xs y x i h) [
-  | inl a ↦ inl a
-  | inr b ↦ inr (ap suc b.0, b.1)
-]
+got_either (z ∷ xs) y x (suc i) h = grind (arith, common_steps, got_either xs y x i h)
 
 pub in_pushed : {X : Type 0} (xs : List X) (y x : X) → IsIn (xs ++ y ∷ []) x
     → IsIn xs x ⊎ (y ≡ x)

@@ -1,8 +1,8 @@
 -- Labels that can stand in one universe beside those of a space, and why there is no room for them.
-use Rattle.std.proofs.Common.{◌≡◌, ◌≢◌, ◌<◌, ◌≤◌, ◌+◌, ℕ, true, false, not, List, []}
+use Rattle.std.proofs.Common.{◌≡◌, ◌≢◌, ◌<◌, ◌≤◌, ◌+◌, ℕ, true, false, List, []}
 use Rattle.std.proofs.Common.{◌∷◌, ◌++◌, length, map, take, Option, Some, None, Contains, refl, sym, ap}
 use Rattle.std.proofs.Common.{◌∙◌, subst, inl, inr, arith, zero, suc, slice_get, lit≤, get_or, Bor}
-use Rattle.std.proofs.Common.{String, string_bytes, option_map}
+use Rattle.std.proofs.Common.{String, string_bytes}
 use Rattle.std.specs.Prelude.{unwrap_or, IsTrue}
 use Rattle.std.specs.List.{find, filter, AllByRecursion, IsDistinct}
 use Rattle.std.specs.Cmp.Lexicographic.{bytes_decides}
@@ -12,6 +12,7 @@ use Rattle.std.proofs.lemmas.List.{length-map, length-append, append-nil, length
 use Rattle.std.proofs.lemmas.List.{map-append}
 use Rattle.std.proofs.lemmas.Map.Keys.{IsDistinct-head, IsDistinct-tail}
 use Rattle.std.proofs.lemmas.Option.{slice_get-map, slice_get-get_or, slice_get_within}
+use Rattle.std.proofs.lemmas.Grind.{common_steps}
 use Rattle.am_universe.proofs.DistinctLists.{all_push}
 use Rattle.am_universe.specs.declared.limits.TheConstants.{MAX_VALUES}
 use Rattle.am_universe.specs.Text.{same_text}
@@ -102,9 +103,7 @@ module _ (a : Alphabet) (s : Space) (asked : List AskedLabel) (missing : List Mi
 
   to_declare : (m : MissingTexts) → is_to_declare s.labels m ≡ true
       → (has_some m.texts ≡ true) × (is_declared s.labels m.name ≡ false)
-  to_declare m passes =
-      let both = and_parts (has_some m.texts) (not (is_declared s.labels m.name)) passes in
-      (both.0, not-true (is_declared s.labels m.name) both.1)
+  to_declare m passes = grind (arith, common_steps, and_parts, not-true)
 
   asked_there : (name : List ℕ) → IsIn (names_to_declare s.labels missing) name
       → (m : MissingTexts) × IsIn missing m × (m.name ≡ name)
@@ -213,15 +212,11 @@ module _ (a : Alphabet) (s : Space) (asked : List AskedLabel) (missing : List Mi
   same_names (l ∷ ls) (m ∷ ms) z = λ i. z.0.name i ∷ same_names ls ms z.1 i
 
   beside_distinct : IsDistinct same_text (names_to_declare s.labels missing)
-  beside_distinct =
-      names_kept missing (subst (IsDistinct same_text) (sym (same_names asked missing zip)) distinct)
+  beside_distinct = grind (arith, common_steps, names_kept, same_names)
 
   pub names_distinct : IsDistinct same_text (names s.labels ++ names_to_declare s.labels missing)
   names_distinct =
-      distinct_joined (names s.labels) (names_to_declare s.labels missing) h.distinct
-      beside_distinct (λ name i j.
-      both_ways (is_declared s.labels name) (asked_there name j).4
-      (declared_where s.labels name i))
+      grind (arith, common_steps, distinct_joined, beside_distinct, both_ways, asked_there, declared_where)
 
   -- ---- No room.
 
@@ -262,9 +257,7 @@ module _ (a : Alphabet) (s : Space) (asked : List AskedLabel) (missing : List Mi
 
   longer_names : (labels : List AskedLabel) (ns : List (List ℕ)) → asked_names labels ≡ ns
       → length labels ≡ length ns
-  longer_names labels ns are =
-      sym (length-map labels (λ (l : AskedLabel). l.name))
-      ∙ ap (λ (xs : List (List ℕ)). length xs) are
+  longer_names labels ns are = grind (arith, common_steps, length-map)
 
   pub no_room : AreTooLarge s missing (names s.labels ++ names_to_declare s.labels missing)
       → HaveNoRoom a s asked
@@ -316,9 +309,7 @@ module _ (a : Alphabet) (s : Space) (asked : List AskedLabel) (missing : List Mi
 
 pub name_at : (named : List (Bor (List ℕ))) (i : ℕ) (d : Bor (List ℕ)) → i < length named
     → slice_get (map (λ n. n.now) named) i ≡ Some (get_or named i d).now
-name_at named i d lt =
-    slice_get-map (λ (n : Bor (List ℕ)). n.now) named i
-    ∙ ap (option_map (λ (n : Bor (List ℕ)). n.now)) (slice_get-get_or named i d lt)
+name_at named i d lt = grind (arith, common_steps, slice_get-map, slice_get-get_or)
 
 fresh_at : (ns : List (List ℕ)) (i : ℕ) (n : List ℕ) → IsDistinct same_text ns
     → slice_get ns i ≡ Some n → IsIn (take i ns) n → ⊥
@@ -338,16 +329,11 @@ module _ (s : Space) (missing : List MissingTexts) (u : List Label) (ns : List (
     (so_far : names u ≡ take i ns) where
   pub names_more : (v : List Label) → IsWithLabel u v name (map string_bytes texts)
       → names v ≡ take (i + 1) ns
-  names_more v more =
-      ap names more.1 ∙ map-append (λ l. l.name) u (more.0 ∷ [])
-      ∙ (λ k. so_far k ++ more.2 k ∷ []) ∙ one_longer ns i name at
+  names_more v more = grind (arith, common_steps, map-append, one_longer)
 
   pub whole_more : (v : List Label) → IsWithLabel u v name (map string_bytes texts)
       → AllByRecursion (IsWhole s missing) u → AllByRecursion (IsWhole s missing) v
-  whole_more v more before =
-      subst (AllByRecursion (IsWhole s missing)) (sym more.1)
-      (all_push (IsWhole s missing) u more.0 before
-      (more.3 ∙ are ∙ ap (whole_texts s missing) (sym more.2)))
+  whole_more v more before = grind (arith, common_steps, all_push)
 
   -- where there is no room for the next one, they are too large
   pub too_large_at : IsDistinct same_text ns → AllByRecursion (CanBeDeclared s missing) ns

@@ -1,21 +1,20 @@
 -- Equal matchers of a label, and lists that have the same matchers.
-use Rattle.std.proofs.Common.{◌≡◌, ℕ, List, sym}
+use Rattle.std.proofs.Common.{◌≡◌, ℕ, true, List, refl, arith}
 use Rattle.std.specs.Prelude.{IsTrue}
 use Rattle.std.specs.Cmp.Lexicographic.{bytes_decides}
 use Rattle.std.proofs.lemmas.Bool.{and_parts}
-use denote.Enum.Bare.{same_true}
+use Rattle.std.proofs.lemmas.Grind.{common_steps}
 use Rattle.am_universe.specs.Text.{same_text}
-use Rattle.am_universe.proofs.ListLemmas.{IsIn, IsIn-from_Contains, Contains-from_IsIn}
-use Rattle.am_universe.proofs.ListLemmas.{AllByRecursion-each, AllByRecursion-at}
-use Rattle.am_labels.specs.contracts.op.Op.{the_type}
+use Rattle.am_universe.proofs.ListLemmas.{IsIn, AllByRecursion-each, AllByRecursion-at}
+use Rattle.am_labels.specs.declared.op.Op.{Op}
+use Rattle.am_labels.specs.declared.op.Op.TheVariants.{Equal, NotEqual, Matches, NotMatches}
 use Rattle.am_labels.specs.Matcher.{Condition, holds}
 use Rattle.am_labels.specs.Space.{Space}
 use Rattle.am_classes.specs.declared.alphabet.Alphabet.{Alphabet}
 use Rattle.am_classes.specs.Alike.{AreAlike, HasAlikeIn, AreApart, HasPattern}
 use Rattle.am_complete.specs.Complete.{AreAmong, HaveSameMatchers}
 use Rattle.am_complete.specs.AskedLabel.{same_op, asks_same}
-use Rattle.am_complete.specs.Covering.{ArePossible, CoverPossible, standing_texts}
-use Rattle.am_complete.specs.Covering.{AreNeeded}
+use Rattle.am_complete.specs.Covering.{ArePossible, CoverPossible, standing_texts, AreNeeded}
 use Rattle.am_complete.specs.LabelState.{HasClasses}
 use Rattle.am_complete.proofs.Alike.{is_among}
 use Rattle.am_complete.proofs.AmongMatchers.{among_by}
@@ -69,20 +68,12 @@ cover_among a impossible name ns ms texts among cover text over possible =
     has_alike_among ns ms texts text among (cover text over possible)
 
 pub pattern_among : (ns ms : List Condition) → AreAmong ns ms → HasPattern ns → HasPattern ms
-pattern_among ns ms among h = (
-  h.0,
-  Contains-from_IsIn ms h.0 (is_among ns ms h.0 among (IsIn-from_Contains ns h.0 h.1)),
-  h.2,
-)
+pattern_among ns ms among h = grind (arith, common_steps, is_among)
 
 pub possible_among : (a : Alphabet) (impossible : List (List Condition)) (name : List ℕ)
     (ns ms : List Condition) (texts : List (List ℕ)) → AreAmong ns ms
     → ArePossible a impossible name ns texts → ArePossible a impossible name ms texts
-possible_among a impossible name ns ms texts among h = record {
-  over = h.over;
-  possible = h.possible;
-  apart = apart_among ns ms texts among h.apart;
-}
+possible_among a impossible name ns ms texts among h = grind (arith, common_steps, apart_among)
 
 pub same_classes : (a : Alphabet) (impossible : List (List Condition)) (name : List ℕ)
     (ns ms : List Condition) (n : ℕ) → HaveSameMatchers ns ms

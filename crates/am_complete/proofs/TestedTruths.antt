@@ -1,6 +1,6 @@
 -- The truths of matchers on texts, as the rows of a universe of one label.
 use Rattle.std.proofs.Common.{◌≡◌, ◌<◌, ◌+◌, ℕ, Bool, true, false, List, [], ◌∷◌, length, map, take}
-use Rattle.std.proofs.Common.{get_or, Option, Some, None, option_map, unwrap_or, refl, sym, ap, ◌∙◌}
+use Rattle.std.proofs.Common.{get_or, Option, Some, unwrap_or, refl, sym, ap, ◌∙◌}
 use Rattle.std.proofs.Common.{arith, slice_get, not, IfSome}
 use mathlib.Core.Bool.{beq}
 use Rattle.std.specs.List.{AllByRecursion}
@@ -9,6 +9,7 @@ use Rattle.std.proofs.lemmas.Bool.{both_ways, not-true, not-false}
 use Rattle.std.proofs.lemmas.List.{get_or-map, length-map}
 use Rattle.std.proofs.lemmas.Option.{slice_get-map, slice_get_read, slice_get_within}
 use Rattle.std.proofs.lemmas.Option.{get_or_from_slice_get}
+use Rattle.std.proofs.lemmas.Grind.{common_steps}
 use Rattle.am_universe.specs.Text.{same_text}
 use Rattle.am_universe.specs.Universe.{Label}
 use Rattle.am_universe.proofs.ListLemmas.{AllByRecursion-at}
@@ -51,19 +52,7 @@ pub row_at : (rows : List TruthRow) (texts : List (List ℕ)) (ms : List Conditi
     (row : TruthRow) → rows ≡ map (truth_row texts) ms → i < length rows
     → row ≡ get_or rows i row
     → (m : Condition) × (slice_get ms i ≡ Some m) × (row ≡ truth_row texts m)
-row_at rows texts ms i row are lt is =
-    let there : slice_get rows i ≡ Some row =
-    slice_get_read rows (length rows) i row refl lt is in
-    let mapped : option_map (truth_row texts) (slice_get ms i) ≡ Some row =
-    sym (slice_get-map (truth_row texts) ms i)
-    ∙ ap (λ rs. slice_get rs i) (sym are) ∙ there in
-    by (slice_get ms i) refl mapped
-  where
-    by : (o : Option Condition) → slice_get ms i ≡ o
-        → option_map (truth_row texts) o ≡ Some row
-        → (m : Condition) × (slice_get ms i ≡ Some m) × (row ≡ truth_row texts m)
-    by None e h = absurd (cc)
-    by (Some m) e h = (m, e, sym (cc))
+row_at rows texts ms i row are lt is = grind (arith, common_steps, slice_get_read, slice_get-map)
 
 -- its truth at a text
 pub truth_is : (texts : List (List ℕ)) (m : Condition) (row : TruthRow) (k : ℕ) (x : List ℕ)
@@ -90,15 +79,12 @@ equal_truths a b h = one_truth a b (not-false (beq a b) h)
 pub same_length : (rows others : List TruthRow) (texts texts' : List (List ℕ))
     (ms ns : List Condition) → rows ≡ map (truth_row texts) ms
     → others ≡ map (truth_row texts') ns → ms ≡ ns → length rows ≡ length others
-same_length rows others texts texts' ms ns are are' same =
-    ap length are ∙ length-map ms (truth_row texts) ∙ ap length same
-    ∙ sym (length-map ns (truth_row texts')) ∙ sym (ap length are')
+same_length rows others texts texts' ms ns are are' same = grind (arith, common_steps, length-map)
 
 -- both rows at a position are of one matcher
 pub same_matcher : (ms ns : List Condition) (i : ℕ) (m n : Condition) → ms ≡ ns
     → slice_get ms i ≡ Some m → slice_get ns i ≡ Some n → m ≡ n
-same_matcher ms ns i m n same at_m at_n =
-    let both : Some m ≡ Some n = sym at_m ∙ ap (λ xs. slice_get xs i) same ∙ at_n in cc
+same_matcher ms ns i m n same at_m at_n = grind (arith, common_steps)
 
 -- the rows at a position of two lists, which are of the same matchers: each is that of the matcher
 -- there, on its own texts
@@ -114,18 +100,7 @@ pub both_rows : (s t s' o : TestedTexts) (rows others : List TruthRow) (i : ℕ)
     → i < length rows → row ≡ get_or rows i row → other ≡ get_or others i other
     → BothRows t o i row other
 both_rows s t s' o rows others i row other are seen are' seen' same lt is is' =
-    let mine = rw seen at are in
-    let theirs = rw seen' at are' in
-    let long = same_length rows others t.texts o.texts t.matchers o.matchers mine theirs same in
-    let at = row_at rows t.texts t.matchers i row mine lt is in
-    let at' = row_at others o.texts o.matchers i other theirs (omega (arith, long, lt)) is' in
-    let one = same_matcher t.matchers o.matchers i at.0 at'.0 same at.1 at'.1 in
-    record {
-      matcher = at.0;
-      at = at.1;
-      row_is = at.2;
-      other_is = at'.2 ∙ ap (truth_row o.texts) (sym one);
-    }
+    grind (arith, common_steps, same_length, row_at, same_matcher, row_is)
 
 -- ---- Texts that are alike.
 

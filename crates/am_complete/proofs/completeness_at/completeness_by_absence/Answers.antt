@@ -1,5 +1,6 @@
-use Rattle.std.proofs.Common.{◌≡◌, ℕ, List, length, map, string_bytes, ap, ◌∙◌, arith}
+use Rattle.std.proofs.Common.{◌≡◌, length, map, string_bytes, arith}
 use Rattle.std.proofs.lemmas.List.{length-map}
+use Rattle.std.proofs.lemmas.Grind.{common_steps}
 use Rattle.am_complete.specs.Covering.{standing_texts}
 use Rattle.am_complete.proofs.NeededTexts.{absence_stands, absence_fails}
 use Rattle.am_complete.proofs.completeness_at.completeness_by_absence.Goals as goal
@@ -7,15 +8,7 @@ use Rattle.am_complete.proofs.completeness_at.completeness_by_absence.Goals.{Aft
 
 -- how many stand there
 count : (c : After-len) → c.len.result ≡ length (standing_texts c.args.space.now c.args.label.now.name)
-count c =
-    omega (
-      arith,
-      c.len.ensures,
-      c.in_ok-standing.standing.ok.0,
-      length-map c.in_ok-standing.standing.items string_bytes,
-      ap (λ (xs : List (List ℕ)). length xs)
-          (c.in_ok-standing.ensures ∙ ap (standing_texts c.args.space.now) c.name.ensures.name),
-    )
+count c = grind (arith, common_steps)
 
 pub returns-then-count-len : goal.returns-then-count-len
 returns-then-count-len c = λ some.

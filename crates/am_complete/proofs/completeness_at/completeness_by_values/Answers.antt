@@ -2,6 +2,7 @@ use Rattle.std.proofs.Common.{◌≡◌, ◌+◌, ◌-◌, List, length, map, ta
 use Rattle.std.proofs.Common.{◌∙◌, subst, arith, true}
 use Rattle.std.specs.List.{AllByRecursion}
 use Rattle.std.proofs.lemmas.List.{length-map}
+use Rattle.std.proofs.lemmas.Grind.{common_steps}
 use Rattle.am_universe.specs.Universe.{Label}
 use Rattle.am_classes.specs.Alike.{HasAlikeIn}
 use Rattle.am_complete.specs.Complete.{label_texts}
@@ -16,9 +17,7 @@ use Rattle.am_complete.proofs.completeness_at.completeness_by_values.Goals.{else
 use Rattle.am_complete.proofs.completeness_at.completeness_by_values.Goals.{else-not-all-via-else-not-all}
 
 pub first_missing-requires-clause-apart : goal.first_missing-requires-clause-apart
-first_missing-requires-clause-apart c =
-    taken_apart c.args.label.now.matchers c.args.texts.now c.min-few.result
-    c.requires.classes.possible.apart
+first_missing-requires-clause-apart c = grind (arith, common_steps, taken_apart)
 
 pub returns-in-Some : goal.returns-in-Some
 returns-in-Some c =

@@ -1,4 +1,5 @@
 use Rattle.std.proofs.Common.{map, string_bytes, sym, ◌∙◌, arith}
+use Rattle.std.proofs.lemmas.Grind.{common_steps}
 use Rattle.am_complete.specs.Complete.{label_texts}
 use Rattle.am_complete.proofs.NeededTexts.{first_new, none_new}
 use Rattle.am_complete.proofs.completeness_at.first_missing.Goals as goal
@@ -12,9 +13,4 @@ returns-clause-missing c =
     (sym c.into_iter.ensures.rest ∙ c.next.ensures.items)
 
 pub returns-clause-none : goal.returns-clause-none
-returns-clause-none c =
-    let l = c.args.label.now in
-    let news = c.in_ok-missing.missing in
-    none_new l.matchers (label_texts c.args.universe.now l.name)
-    (map string_bytes c.args.texts.now) news.items c.next.result c.in_ok-missing.ensures
-    (λ some. c.next.ensures.variant.1 (omega (arith, some, news.ok.0, c.into_iter.ensures.len)))
+returns-clause-none c = grind (arith, common_steps, none_new)

@@ -1,6 +1,7 @@
 use Rattle.std.proofs.Common.{◌≡◌, ◌<◌, ◌+◌, ℕ, List, [], ◌∷◌, ◌++◌, Some, map, string_bytes, sym}
-use Rattle.std.proofs.Common.{ap, ◌∙◌, subst, inl, inr, arith, slice_get}
+use Rattle.std.proofs.Common.{ap, ◌∙◌, subst, arith, slice_get}
 use Rattle.std.proofs.lemmas.List.{map-append}
+use Rattle.std.proofs.lemmas.Grind.{common_steps}
 use Rattle.am_universe.proofs.ListLemmas.{IsIn, AllByRecursion-each, AllByRecursion-at}
 use Rattle.am_universe.proofs.Members.{in_at}
 use Rattle.am_classes.specs.Alphabet.{IsOver}
@@ -14,10 +15,7 @@ one_more : (tried before : List (List ℕ)) (j : ℕ) (x : List ℕ) → slice_g
     → ((text : List ℕ) → IsIn before text → (k : ℕ) × (k < j) × (slice_get tried k ≡ Some text))
     → (text : List ℕ) → IsIn (before ++ x ∷ []) text
     → (k : ℕ) × (k < j + 1) × (slice_get tried k ≡ Some text)
-one_more tried before j x at from text i = elim (in_pushed before x text i) [
-  | inl a ↦ let r = from text a in (r.0, omega (arith, r.1), r.2)
-  | inr e ↦ (j, omega arith, at ∙ ap Some e)
-]
+one_more tried before j x at from text i = grind (arith, common_steps, in_pushed)
 
 pub loop-j-preserved : goal.loop-j-preserved
 loop-j-preserved c =

@@ -1,6 +1,7 @@
-use Rattle.std.proofs.Common.{◌≡◌, ◌<◌, ◌≤◌, [], length, get_or, None, map, ap, ◌∙◌, unwrap_or, arith}
+use Rattle.std.proofs.Common.{◌≡◌, ◌<◌, [], length, get_or, None, map, ap, ◌∙◌, unwrap_or, arith}
 use Rattle.std.proofs.Common.{string_bytes}
 use Rattle.std.proofs.lemmas.List.{take_all}
+use Rattle.std.proofs.lemmas.Grind.{common_steps}
 use Rattle.am_universe.specs.Universe.{values_at}
 use Rattle.am_universe.proofs.LabelValueLemmas.{size_at, value_is}
 use Rattle.am_labels.proofs.RowLemmas.{unwrapped}
@@ -21,8 +22,4 @@ loop-j-preserved c =
     c.loop-j.invariant (c.in_ok-from_str.ensures.ok ∙ value) within
 
 pub returns : goal.returns
-returns c =
-    let values = values_at c.args.universe.now c.args.i in
-    let size = size_at c.args.universe.now c.args.i _ c.size-size.ensures.size in
-    let past : length values ≤ c.loop-j.j = omega arith in
-    c.loop-j.invariant ∙ ap (map (λ v. unwrap_or v [])) (take_all c.loop-j.j values past)
+returns c = grind (arith, common_steps, size_at, take_all)

@@ -1,14 +1,14 @@
-use Rattle.std.proofs.Common.{◌<◌, length, ◌≡◌, ◌++◌, List, ℕ, Bor, map, sym, ap, ◌∙◌, subst}
-use Rattle.std.specs.List.{AllByRecursion, IsDistinct}
+use Rattle.std.proofs.Common.{◌<◌, length, ◌≡◌, ◌++◌, List, ℕ, Bor, map, sym, ap, ◌∙◌, subst, arith}
+use Rattle.std.specs.List.{AllByRecursion}
 use Rattle.std.proofs.lemmas.Result.{err_from_is_err_and}
-use Rattle.am_universe.specs.Text.{same_text}
+use Rattle.std.proofs.lemmas.Grind.{common_steps}
 use Rattle.am_universe.specs.Universe.{Label, IsUniverse, names}
 use Rattle.am_universe.proofs.ListLemmas.{IsIn}
 use Rattle.am_complete.specs.AskedLabel.{AskedLabel}
 use Rattle.am_complete.specs.Covering.{CoversEachBut}
 use Rattle.am_complete.specs.Room.{AreUnproved}
 use Rattle.am_complete.specs.Missing.{MissingTexts, IsWhole, open_positions, AreTooLarge}
-use Rattle.am_complete.specs.Missing.{names_to_declare, CanBeDeclared}
+use Rattle.am_complete.specs.Missing.{names_to_declare}
 use Rattle.am_complete.proofs.MadeUniverses.{keeps, adds, covers_each, within_asked, are_unproved}
 use Rattle.am_complete.proofs.MadeUniverses.{complete, made_over}
 use Rattle.am_complete.proofs.RoomBeside.{names_distinct, can_be_declared, no_room, named_before}
@@ -19,32 +19,18 @@ use Rattle.am_complete.proofs.made_universe.universe_beside.Goals.{After-as_slic
 beside : (c : After-as_slice-3) → map (λ (n : Bor (List ℕ)). n.now) c.as_slice-2.result.now
     ≡ names c.args.space.now.labels
     ++ names_to_declare c.args.space.now.labels c.in_ok-missing.missing.items
-beside c =
-    let labels : List Label = c.args.space.now.labels in
-    ap (map (λ (n : Bor (List ℕ)). n.now)) c.as_slice-2.ensures.value ∙ c.in_ok-add_names.ensures
-    ∙ (λ i. (c.in_ok-names.ensures.names ∙ ap names c.universe.ensures.labels) i
-    ++ names_to_declare (c.universe-2.ensures.labels i) (c.as_slice.ensures.value i))
+beside c = grind (arith, common_steps)
 
 universe : (c : After-as_slice-3) → IsUniverse c.args.space.now.labels
 universe c = subst IsUniverse c.universe.ensures.labels c.in_ok-names.ensures.universe
 
 pub universe_of-requires-clause-distinct : goal.universe_of-requires-clause-distinct
 universe_of-requires-clause-distinct c =
-    let here = (goal.at.universe_of-requires-clause-distinct c).After-as_slice-3 in
-    subst (IsDistinct same_text) (sym (beside here))
-    (names_distinct c.args.alphabet c.args.space.now c.args.asked.now c.in_ok-missing.missing.items
-    (universe here) c.in_ok-missing.ensures.missing c.requires.1.distinct)
+    grind (arith, common_steps, beside, names_distinct, universe)
 
 pub universe_of-requires-clause-labels : goal.universe_of-requires-clause-labels
 universe_of-requires-clause-labels c =
-    let s = c.args.space.now in
-    let missing : List MissingTexts = c.in_ok-missing.missing.items in
-    let here = (goal.at.universe_of-requires-clause-labels c).After-as_slice-3 in
-    subst (λ (ms : List MissingTexts). AllByRecursion (CanBeDeclared s ms)
-    (map (λ (n : Bor (List ℕ)). n.now) c.as_slice-2.result.now)) (sym c.as_slice-3.ensures.value)
-    (subst (AllByRecursion (CanBeDeclared s missing)) (sym (beside here))
-    (can_be_declared c.args.alphabet s c.args.asked.now missing (universe here)
-    c.in_ok-missing.ensures.missing c.requires.1.distinct))
+    grind (arith, common_steps, beside, can_be_declared, universe)
 
 pub returns-in_err-universe-clause-limit : goal.returns-in_err-universe-clause-limit
 returns-in_err-universe-clause-limit c =

@@ -1,5 +1,6 @@
-use Rattle.std.proofs.Common.{◌≡◌, List, ℕ, [], Bor, get_or, map, string_bytes, ap, ◌∙◌}
+use Rattle.std.proofs.Common.{◌≡◌, List, ℕ, [], Bor, get_or, map, string_bytes, ap, ◌∙◌, arith}
 use Rattle.std.proofs.lemmas.Result.{err_from_is_err_and}
+use Rattle.std.proofs.lemmas.Grind.{common_steps}
 use Rattle.am_complete.specs.Missing.{whole_texts}
 use Rattle.am_complete.proofs.RoomBeside.{name_at, names_more, whole_more, too_large_at}
 use Rattle.am_complete.proofs.made_universe.universe_of.Goals as goal
@@ -28,21 +29,4 @@ returns-in_err-declare-clause-limit c =
     (c.in_err-declare.ensures.limit limit))
 
 pub loop-name-preserved : goal.loop-name-preserved
-loop-name-preserved c =
-    let s = c.args.space.now in
-    let missing = c.args.missing.now in
-    let u = c.loop-name.universe in
-    let v = c.declare.new.universe in
-    let now : Bor (List ℕ) → List ℕ = λ n. n.now in
-    let ns = map now c.args.named.now in
-    let i = c.loop-name.name-index in
-    let here = (goal.at.loop-name-preserved c).After-as_slice in
-    let at = name_at c.args.named.now i _ c.loop-name-test.true in
-    let more = c.in_ok-declare.ensures.declared in
-    record {
-      universe = c.in_ok-declare.ensures.universe;
-      names = names_more s missing u ns i (name_of here) c.as_slice.result.now at (texts_are here)
-          c.loop-name.invariant.names v more;
-      whole = whole_more s missing u ns i (name_of here) c.as_slice.result.now at (texts_are here)
-          c.loop-name.invariant.names v more c.loop-name.invariant.whole;
-    }
+loop-name-preserved c = grind (arith, common_steps, name_at, names_more, texts_are, whole_more)

@@ -4,6 +4,7 @@ use Rattle.std.specs.Prelude.{IsTrue}
 use Rattle.std.specs.List.{filter}
 use Rattle.std.proofs.lemmas.Bool.{both_ways, leb-true, leb-false}
 use Rattle.std.proofs.lemmas.List.{length-map}
+use Rattle.std.proofs.lemmas.Grind.{common_steps}
 use Rattle.am_universe.specs.Universe.{is_label_name}
 use Rattle.am_complete.specs.Complete.{label_texts}
 use Rattle.am_complete.specs.Covering.{standing_texts}
@@ -12,7 +13,7 @@ use Rattle.am_complete.specs.Truths.{is_new}
 use Rattle.am_complete.proofs.AskedLabels.{no_name}
 use Rattle.am_complete.proofs.NeededTexts.{lacks_new, lacks_none, needs_too_many}
 use Rattle.am_complete.proofs.missing_texts.missing_at.Goals as goal
-use Rattle.am_complete.proofs.missing_texts.missing_at.Goals.{then-wanted, else-wanted, Joined-wanted}
+use Rattle.am_complete.proofs.missing_texts.missing_at.Goals.{then-wanted, else-wanted}
 
 pub returns-then-not-is_label_name-clause-missing : goal.returns-then-not-is_label_name-clause-missing
 returns-then-not-is_label_name-clause-missing c =
@@ -66,20 +67,7 @@ returns-then-not-is_label_name-clause-missing c =
 
 pub returns-then-len-gt-MAX_VALUES-clause-limit : goal.returns-then-len-gt-MAX_VALUES-clause-limit
 returns-then-len-gt-MAX_VALUES-clause-limit c = λ limit.
-    let l = c.args.label.now in
-    let texts = c.in_ok-wanted.wanted.texts in
-    let named : IsTrue (is_label_name l.name) =
-    ap is_label_name (sym c.name-name.ensures.name) ∙ sym c.is_label_name.ensures.named
-    ∙ c.if-not-is_label_name.false in
-    needs_too_many c.args.alphabet c.args.space.now l (map string_bytes texts.items) named
-    c.in_ok-wanted.ensures.possible
-    (omega (
-      arith,
-      c.if-len-gt-MAX_VALUES.true,
-      c.len-2.ensures,
-      texts.ok.0,
-      length-map texts.items string_bytes,
-    ))
+    grind (arith, common_steps, needs_too_many, length-map)
 
 pub returns-clause-missing : goal.returns-clause-missing
 returns-clause-missing c =

@@ -1,7 +1,8 @@
-use Rattle.std.proofs.Common.{◌≡◌, map, string_bytes, ap, ◌∙◌}
+use Rattle.std.proofs.Common.{◌≡◌, map, string_bytes, ap, ◌∙◌, arith}
 use Rattle.std.specs.Prelude.{IsTrue}
 use Rattle.std.specs.List.{filter}
 use Rattle.std.proofs.lemmas.Result.{IfOk-weaker}
+use Rattle.std.proofs.lemmas.Grind.{common_steps}
 use Rattle.am_universe.specs.Universe.{is_label_name}
 use Rattle.am_complete.specs.Complete.{label_texts}
 use Rattle.am_complete.specs.Truths.{is_new}
@@ -9,15 +10,7 @@ use Rattle.am_complete.proofs.MissingTexts.{never_refused, never_refused_apart, 
 use Rattle.am_complete.proofs.missing_texts.missing_texts.Goals as goal
 
 pub unreachable-requires : goal.unreachable-requires
-unreachable-requires c =
-    let u = c.args.universe.now in
-    let l = c.args.label.now in
-    let named : IsTrue (is_label_name c.name-2.result.now) =
-    ap is_label_name c.name-2.ensures.name ∙ c.requires.named in
-    never_refused u l.name c.as_slice.result.now c.requires.universe
-    (ap (map string_bytes) c.as_slice.ensures.value ∙ c.in_ok-values.ensures
-    ∙ ap (label_texts u) c.name.ensures.name)
-    (rw c.in_default.is at c.in_ok-have.ensures.none named)
+unreachable-requires c = grind (arith, common_steps, never_refused)
 
 pub of-requires-2 : goal.of-requires-2
 of-requires-2 c =

@@ -1,5 +1,6 @@
-use Rattle.std.proofs.Common.{sym, ◌∙◌}
+use Rattle.std.proofs.Common.{sym, ◌∙◌, arith}
 use Rattle.std.proofs.lemmas.Bool.{not-true, not-false}
+use Rattle.std.proofs.lemmas.Grind.{common_steps}
 use Rattle.am_universe.specs.Text.{same_text}
 use Rattle.am_universe.proofs.Members.{in_at}
 use Rattle.am_complete.proofs.PossibleTexts.{all_more, one_fails}
@@ -13,7 +14,4 @@ returns-then-ne c =
     (rw (← c.name.ensures.name) (not-true _ (sym c.ne.ensures ∙ c.if-ne.true))))
 
 pub loop-i-preserved : goal.loop-i-preserved
-loop-i-preserved c =
-    all_more (λ n. same_text n.name c.args.name.now) c.args.list.now c.loop-i.i c.get.result.now
-    c.get.ensures.matcher c.loop-i.invariant
-    (rw (← c.name.ensures.name) (not-false _ (sym c.ne.ensures ∙ c.if-ne.false)))
+loop-i-preserved c = grind (arith, common_steps, all_more, not-false)

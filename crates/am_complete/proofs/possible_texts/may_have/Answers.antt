@@ -1,7 +1,6 @@
-use Rattle.std.proofs.Common.{◌≡◌, ◌&&◌, true, false, not, length, Some, slice_get, refl, sym, ap}
-use Rattle.std.proofs.Common.{◌∙◌}
+use Rattle.std.proofs.Common.{◌≡◌, ◌&&◌, true, false, not, Some, slice_get, sym, ap, arith, ◌∙◌}
 use Rattle.std.proofs.lemmas.Option.{slice_get_read}
-use Rattle.am_universe.specs.LabelSet.{with_value}
+use Rattle.std.proofs.lemmas.Grind.{common_steps}
 use Rattle.am_labels.specs.Matcher.{all_hold}
 use Rattle.am_labels.proofs.Passing.{in_any}
 use Rattle.am_universe.proofs.Members.{in_at}
@@ -17,19 +16,12 @@ use Rattle.am_complete.proofs.possible_texts.may_have.Goals.{else-asks_only_of-v
 -- the list at the position, and that it takes the text away where it matches the set
 at_position : (c : After-asks_only_of)
     → slice_get c.args.impossible.now c.loop-list.list-index ≡ Some c.list-item.result
-at_position c =
-    slice_get_read c.args.impossible.now (length c.args.impossible.now) c.loop-list.list-index
-    c.list-item.result refl c.loop-list-test.true c.list-item.is
+at_position c = grind (arith, common_steps, slice_get_read)
 
 taken : (c : After-asks_only_of) → c.asks_only_of.result ≡ true
     → takes_away c.args.name.now c.args.text.now c.list-item.result
     ≡ all_hold c.put.new.self c.list-item.result
-taken c alone =
-    taken_by c.put.new.self c.args.name.now c.args.text.now c.list-item.result
-    (c.in_ok-put.ensures.ok
-    ∙ (λ i. with_value (c.empty-set.ensures.empty i) (c.in_ok-from_str.ensures.ok i)
-    (c.in_ok-from_str-2.ensures.ok i)))
-    (sym c.asks_only_of.ensures ∙ alone)
+taken c alone = grind (arith, common_steps, taken_by)
 
 pub returns-then-branch : goal.returns-then-branch
 returns-then-branch c =

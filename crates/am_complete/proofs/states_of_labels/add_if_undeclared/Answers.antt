@@ -1,11 +1,10 @@
-use Rattle.std.proofs.Common.{refl, inl, inr}
+use Rattle.std.proofs.Common.{inr, arith}
+use Rattle.std.proofs.lemmas.Grind.{common_steps}
 use Rattle.am_complete.proofs.LabelStates.{declared_by, undeclared_by}
 use Rattle.am_complete.proofs.states_of_labels.add_if_undeclared.Goals as goal
 
 pub returns-in-Some : goal.returns-in-Some
-returns-in-Some c =
-    let declared = declared_by _ c.in-Some.field-0 c.name.result.now c.in-Some.ensures.found in
-    inl ((rw (← c.universe.ensures.labels, ← c.name.ensures.name) declared), refl)
+returns-in-Some c = grind (arith, common_steps, declared_by)
 
 pub returns-in_ok-push-in-None : goal.returns-in_ok-push-in-None
 returns-in_ok-push-in-None c =

@@ -1,8 +1,7 @@
-use Rattle.std.proofs.Common.{◌≡◌, Contains, option_map, sym, ap, ◌∙◌, subst, string_bytes}
+use Rattle.std.proofs.Common.{option_map, ◌∙◌, arith}
 use Rattle.std.proofs.lemmas.Result.{IfOk-weaker}
+use Rattle.std.proofs.lemmas.Grind.{common_steps}
 use Rattle.am_universe.proofs.Members.{in_at}
-use Rattle.am_complete.specs.AskedLabel.{asked_names}
-use Rattle.am_complete.specs.FoundState.{is_unseen}
 use Rattle.am_complete.proofs.GatheringLemmas.{named_at, within_names}
 use Rattle.am_complete.proofs.AskedLabels.{asked_for, not_asked}
 use Rattle.am_complete.proofs.LabelStates.{stands_at, state_is_so}
@@ -40,13 +39,11 @@ returns-in-Some c =
 
 pub returns-in_ok-from_str-in-None-clause-so : goal.returns-in_ok-from_str-in-None-clause-so
 returns-in_ok-from_str-in-None-clause-so c =
-    let asked = c.args.asked.now in
-    let text = string_bytes c.in_ok-from_str-in-None.field-0 in
-    let is : text ≡ c.args.name.now = c.in_ok-from_str-in-None.ensures.ok in
-    record {
-      so = λ ms asks.
-          λ some. not_asked asked ms text asks
-          (λ h. c.in-None.ensures.none (subst (Contains (asked_names asked)) is h)) some;
-      unseen = c.is_unseen.ensures
-          ∙ ap (is_unseen (option_map (λ a. a.now) c.args.alerts)) (sym is);
-    }
+    grind (
+      arith,
+      common_steps,
+      not_asked,
+      c.in_ok-from_str-in-None.ensures.ok,
+      c.in-None.ensures.none,
+      c.is_unseen.ensures,
+    )

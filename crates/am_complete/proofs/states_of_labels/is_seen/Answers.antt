@@ -1,4 +1,5 @@
-use Rattle.std.proofs.Common.{sym, ◌∙◌}
+use Rattle.std.proofs.Common.{sym, ◌∙◌, arith}
+use Rattle.std.proofs.lemmas.Grind.{common_steps}
 use Rattle.am_labels.proofs.Passing.{in_any}
 use Rattle.am_universe.proofs.Members.{in_at}
 use Rattle.am_complete.specs.FoundState.{has_label}
@@ -13,6 +14,4 @@ returns-then-has_label c =
     (sym c.has_label.ensures ∙ c.if-has_label.true))
 
 pub loop-i-preserved : goal.loop-i-preserved
-loop-i-preserved c =
-    none_more (has_label c.args.name.now) c.args.alerts.now c.loop-i.i c.get.result.now
-    c.get.ensures.alert c.loop-i.invariant (sym c.has_label.ensures ∙ c.if-has_label.false)
+loop-i-preserved c = grind (arith, common_steps, none_more)

@@ -1,6 +1,6 @@
-use Rattle.std.proofs.Common.{◌≡◌, ◌<◌, ℕ, List, length, map, Some, slice_get, sym, ap, ◌∙◌, arith}
+use Rattle.std.proofs.Common.{◌≡◌, ℕ, List, Some, slice_get, sym, ◌∙◌, arith}
+use Rattle.std.proofs.lemmas.Grind.{common_steps}
 use Rattle.am_labels.specs.Matcher.{Condition, holds}
-use Rattle.am_complete.specs.Truths.{truth_row, TestedTexts}
 use Rattle.am_complete.proofs.TestedTruths.{row_at, truth_is, readable, equal_truths, BothRows}
 use Rattle.am_complete.proofs.TestedTruths.{unequal_truths, one_more_alike, alike_at, both_rows}
 use Rattle.am_complete.proofs.truths.Truths.are_alike.Goals as goal
@@ -8,27 +8,12 @@ use Rattle.am_complete.proofs.truths.Truths.are_alike.Goals.{After-index-in-loop
 use Rattle.am_complete.proofs.truths.Truths.are_alike.Goals.{After-holds-in-loop-i}
 
 pub holds-requires : goal.holds-requires
-holds-requires c =
-    let rows = c.self.inside.rows.items in
-    let t = c.args.self.now in
-    let are : rows ≡ map (truth_row t.texts) t.matchers =
-    c.self.invariant
-    ∙ ap (λ (s : TestedTexts). map (truth_row s.texts) s.matchers) c.self.view_is in
-    let lt : c.loop-i.i < length rows =
-    omega (arith, c.loop-i-test.true, c.len-i-end.ensures, c.self.inside.rows.ok.0) in
-    let at = row_at rows t.texts t.matchers c.loop-i.i c.index.result.now are lt c.index.ensures in
-    readable t.texts at.0 c.index.result.now c.args.k at.2 c.requires.here
+holds-requires c = grind (arith, common_steps, row_at, readable)
 
 -- the rows at the position are of one matcher
 rows_here : (c : After-index-in-loop-i) → BothRows c.args.self.now c.args.others.now c.loop-i.i
     c.index.result.now c.index-in-loop-i.result.now
-rows_here c =
-    let lt : c.loop-i.i < length c.self.inside.rows.items =
-    omega (arith, c.loop-i-test.true, c.len-i-end.ensures, c.self.inside.rows.ok.0) in
-    both_rows _ c.args.self.now _ c.args.others.now c.self.inside.rows.items
-    c.others.inside.rows.items c.loop-i.i c.index.result.now c.index-in-loop-i.result.now
-    c.self.invariant c.self.view_is c.others.invariant c.others.view_is c.requires.same lt
-    c.index.ensures c.index-in-loop-i.ensures
+rows_here c = grind (arith, common_steps, both_rows)
 
 -- and their truths are those of this matcher on the two texts
 truths_here : (c : After-holds-in-loop-i)
@@ -38,17 +23,7 @@ truths_here : (c : After-holds-in-loop-i)
     × (slice_get c.args.self.now.texts c.args.k ≡ Some x → c.holds.result ≡ holds m.op m.value x)
     × (slice_get c.args.others.now.texts c.args.j ≡ Some y
     → c.holds-in-loop-i.result ≡ holds m.op m.value y)
-truths_here c r x y = (
-  r.matcher,
-  r.at,
-  λ at_x.
-      c.holds.ensures.truth
-      ∙ truth_is c.args.self.now.texts r.matcher c.index.result.now c.args.k x r.row_is at_x,
-  λ at_y.
-      c.holds-in-loop-i.ensures.truth
-      ∙ truth_is c.args.others.now.texts r.matcher c.index-in-loop-i.result.now c.args.j y
-      r.other_is at_y,
-)
+truths_here c r x y = grind (arith, common_steps, truth_is)
 
 pub holds-requires-in-loop-i : goal.holds-requires-in-loop-i
 holds-requires-in-loop-i c =
