@@ -1,11 +1,12 @@
 -- Routes of which the same is seen, child by child.
-use Rattle.std.proofs.Common.{◌≡◌, ℕ, ◌+◌, ◌-◌, ◌<◌, ◌≤◌, Bool, true, false, not, cond, ◌&&◌, List}
+use Rattle.std.proofs.Common.{◌≡◌, ℕ, ◌+◌, ◌<◌, ◌≤◌, Bool, true, false, not, cond, List}
 use Rattle.std.proofs.Common.{[], ◌∷◌, ◌++◌, length, take, get_or, refl, ap, sym, ◌∙◌, subst, arith}
 use Rattle.std.proofs.Common.{append-nil, append_assoc, length-append}
 use Rattle.std.proofs.Math.Bool.{beq}
 use Rattle.std.proofs.Math.Seq.{drop-append_seam}
 use Rattle.std.specs.List.{AllZip, slice_range}
 use Rattle.std.proofs.lemmas.List.{take_more, take_all}
+use Rattle.std.proofs.lemmas.Grind.{common_steps}
 use Rattle.am_universe.specs.Universe.{Label, sizes}
 use Rattle.am_universe.specs.Choice.{admits}
 use Rattle.am_labels.specs.Space.{Space}
@@ -13,7 +14,7 @@ use Rattle.am_config.specs.ConfigFile.{Configuration, RouteTree, Routes, route, 
 use Rattle.am_config.specs.ConfigFile.{next_route}
 use Rattle.am_search.specs.declared.verdict.Verdict.{Verdict}
 use Rattle.am_judged_lists.specs.Cube.{verdict_at}
-use Rattle.am_search.specs.Judge.{is_yes, is_no}
+use Rattle.am_search.specs.Judge.{is_no}
 use Rattle.am_first_sets.specs.declared.route_cubes.RouteCubes.{RouteCubes}
 use Rattle.am_first_sets.specs.declared.route_cubes.RouteCubes.TheViews.{out-RouteCubes}
 use Rattle.am_first_sets.specs.RouteCubes.{AreCubesOf, AreCubesOfEach}
@@ -44,9 +45,7 @@ children_alike u prefix (next_route t ts) us [] qs alike are also = absurd are
 children_alike u prefix (next_route t ts) us (r ∷ rs) [] alike are also = absurd alike
 children_alike u prefix (next_route t ts) no_routes (r ∷ rs) (q ∷ qs) alike are also = absurd also
 children_alike u prefix (next_route t ts) (next_route s us) (r ∷ rs) (q ∷ qs) alike are also =
-    let one = alike.0 u prefix t s are.0 also.0 in
-    let more = children_alike u prefix ts us rs qs alike.1 are.1 also.1 in
-    λ i. one.2 i ++ cond (is_yes (one.0 i) && not (one.1 i)) [] (more i)
+    grind (arith, common_steps, children_alike u prefix ts us rs qs)
 
 -- one child more
 pub alike_more : (rs qs : List RouteCubes) (i : ℕ) (r q : RouteCubes) → i < length rs
@@ -141,9 +140,7 @@ grown now more after adds =
 
 part_added : (now more : List Verdict)
     → slice_range (now ++ more) (length now) (length (now ++ more)) ≡ more
-part_added now more =
-    (λ i. take (length-append now more i - length now) (drop-append_seam now more i))
-    ∙ take_all (length now + length more - length now) more (omega (arith))
+part_added now more = grind (arith, common_steps, length-append, drop-append_seam, take_all)
 
 -- and it is what is seen of the second
 pub seen_twice : (s : Space) (cs : List Configuration) (rs : List RouteCubes) (prefix : List ℕ)
@@ -154,19 +151,11 @@ pub seen_twice : (s : Space) (cs : List Configuration) (rs : List RouteCubes) (p
     → after ≡ one ++ slice_range one (length now) (length one)
     → after ≡ now ++ routes_state s cs prefix
 seen_twice s [] rs prefix r now one after know alike admitted is adds twice =
-    absurd (omega (arith, alike.0))
+    grind (arith, common_steps)
 seen_twice s (c ∷ []) rs prefix r now one after know alike admitted is adds twice =
-    absurd (omega (arith, alike.0))
+    grind (arith, common_steps)
 seen_twice s (c ∷ d ∷ []) [] prefix r now one after know alike admitted is adds twice = absurd know
 seen_twice s (c ∷ d ∷ []) (x ∷ rs) prefix r now one after know alike admitted is adds twice =
-    let u = s.labels in
-    let first = route_state u prefix c.root in
-    let seen = adds c.root (subst (AreCubesOf u prefix c.root) (sym is) (know.0 prefix admitted)) in
-    let same = alike.1 c d refl prefix admitted in
-    twice
-    ∙ ap (λ l. l ++ slice_range l (length now) (length l)) seen
-    ∙ ap (λ l. (now ++ first) ++ l) (part_added now first)
-    ∙ append_assoc now first first
-    ∙ ap (λ l. now ++ (first ++ l)) (same ∙ sym (append-nil (route_state u prefix d.root)))
+    grind (arith, common_steps, part_added, append_assoc, append-nil)
 seen_twice s (c ∷ d ∷ e ∷ cs) rs prefix r now one after know alike admitted is adds twice =
-    absurd (omega (arith, alike.0))
+    grind (arith, common_steps)

@@ -1,11 +1,12 @@
 -- The first thing with each key: it is one of the things, each of them has its key among the first,
 -- and no two of these have the same.
-use Rattle.std.proofs.Common.{◌≡◌, ◌⊎◌, Bool, true, false, ◌||◌, List, [], ◌∷◌, ◌++◌, map, fold, refl}
-use Rattle.std.proofs.Common.{sym, ap, ◌∙◌, subst, inl, inr}
+use Rattle.std.proofs.Common.{◌≡◌, ◌⊎◌, Bool, true, false, List, [], ◌∷◌, ◌++◌, map, fold, refl, arith}
+use Rattle.std.proofs.Common.{sym, ap, ◌∙◌, inl, inr}
 use Rattle.std.specs.Prelude.{if◌then◌else◌}
 use Rattle.std.specs.List.{list_any, IsDistinct}
-use Rattle.std.proofs.lemmas.Bool.{cases_Bool, or_parts, false≢true}
+use Rattle.std.proofs.lemmas.Bool.{cases_Bool, or_parts}
 use Rattle.std.proofs.lemmas.List.{map-append}
+use Rattle.std.proofs.lemmas.Grind.{common_steps}
 use Rattle.am_universe.proofs.DistinctLists.{distinct_none, distinct_push}
 use Rattle.am_universe.proofs.ListLemmas.{IsIn, IsIn-left, IsIn-right, IsIn-split}
 use Rattle.am_labels.proofs.Passing.{any_in}
@@ -17,12 +18,7 @@ Decides {K = K} same = (x y : K) → (same x y ≡ true → x ≡ y) × (x ≡ y
 
 flipped : {K : Type 0} (same : K → K → Bool) → Decides same → (x y : K) → same x y ≡ false
     → same y x ≡ false
-flipped same decides x y apart = elim (cases_Bool (same y x)) [
-  | inl is ↦
-      let turned : same x y ≡ true = (decides x y).1 (sym ((decides y x).0 is)) in
-      absurd (false≢true (sym apart ∙ turned))
-  | inr other ↦ other
-]
+flipped same decides x y apart = grind (arith, common_steps, cases_Bool)
 
 module _ {K A : Type 0} (same : K → K → Bool) where
   abbrev has_key : List (K × A) → K → Bool
@@ -62,15 +58,7 @@ module _ {K A : Type 0} (same : K → K → Bool) where
   from_all : (all found : List (K × A)) (f : K × A) → IsIn (fold (with_first same) found all) f
       → IsIn found f ⊎ IsIn all f
   from_all [] found f i = inl i
-  from_all (one ∷ all) found f i =
-      elim (from_all all (with_first same found one) f i) [
-        | inl before ↦
-            elim (from_either (has_key found one.0) found one f before) [
-              | inl earlier ↦ inl earlier
-              | inr is ↦ inr (inl is)
-            ]
-        | inr later ↦ inr (inr later)
-      ]
+  from_all (one ∷ all) found f i = grind (arith, common_steps, from_all all, from_either)
 
   pub first_is_one : (all : List (K × A)) (f : K × A) → IsIn (firsts same all) f → IsIn all f
   first_is_one all f i = elim (from_all all [] f i) [ inl none ↦ absurd none | inr there ↦ there ]
@@ -110,25 +98,20 @@ module _ {K A : Type 0} (same : K → K → Bool) where
       → list_any (λ k. same k key) (keys found) ≡ false
   none_before decides [] key none = refl
   none_before decides (f ∷ found) key none =
-      let parts = or_parts (same key f.0) (has_key found key) none in
-      let here = flipped same decides key f.0 parts.0 in
-      let others = none_before decides found key parts.1 in
-      λ i. here i || others i
+      grind (arith, common_steps, or_parts, flipped, none_before decides found key)
 
   one_more_apart : Decides same → (b : Bool) (found : List (K × A)) (one : K × A)
       → has_key found one.0 ≡ b → IsDistinct same (keys found)
       → IsDistinct same (keys (more_if b found one))
   one_more_apart decides true found one has apart = apart
   one_more_apart decides false found one none apart =
-      subst (IsDistinct same) (sym (map-append (λ e. e.0) found (one ∷ [])))
-      (distinct_push same (keys found) one.0 apart (none_before decides found one.0 none))
+      grind (arith, common_steps, map-append, distinct_push, none_before)
 
   all_apart : Decides same → (all found : List (K × A)) → IsDistinct same (keys found)
       → IsDistinct same (keys (fold (with_first same) found all))
   all_apart decides [] found apart = apart
   all_apart decides (one ∷ all) found apart =
-      all_apart decides all (with_first same found one)
-      (one_more_apart decides (has_key found one.0) found one refl apart)
+      grind (arith, common_steps, all_apart decides all, one_more_apart)
 
   pub firsts_apart : Decides same → (all : List (K × A))
       → IsDistinct same (map (λ e. e.0) (firsts same all))

@@ -1,5 +1,5 @@
 -- The outcomes of the choices of the last layer.
-use Rattle.std.proofs.Common.{◌≡◌, ℕ, ◌+◌, Bool, true, false, not, cond, ◌&&◌, ◌||◌, List, [], ◌∷◌}
+use Rattle.std.proofs.Common.{◌≡◌, ℕ, ◌+◌, Bool, true, false, cond, ◌&&◌, ◌||◌, List, [], ◌∷◌, arith}
 use Rattle.std.proofs.Common.{◌++◌, map, fold, length, take, slice_get, Some, refl, ap, sym, ◌∙◌}
 use Rattle.std.proofs.Common.{nat_eq}
 use Rattle.std.specs.Global.{Vec}
@@ -8,7 +8,8 @@ use Rattle.std.specs.Cmp.Lexicographic.{pointwise}
 use Rattle.std.proofs.lemmas.List.{map-append, length-map, take_more}
 use Rattle.std.proofs.lemmas.List.Sums.{fold-append}
 use Rattle.std.proofs.lemmas.Option.{slice_get_within, get_or_from_slice_get}
-use Rattle.am_universe.specs.Universe.{Label, sizes}
+use Rattle.std.proofs.lemmas.Grind.{common_steps}
+use Rattle.am_universe.specs.Universe.{sizes}
 use Rattle.am_universe.specs.Text.{same_text}
 use Rattle.am_universe.specs.Choice.{IsWhole}
 use Rattle.am_universe.specs.LabelSet.{label_set_of}
@@ -99,12 +100,7 @@ module _ (s : Space) (cs : List Configuration) where
 
   whole_there : (found : List ℕ × List Verdict) → HasState s cs (length s.labels) found
       → IsWhole (sizes s.labels) found.0 × (is_possible_choice s found.0 ≡ true)
-  whole_there found has =
-      let counted = length-map s.labels (λ (l : Label). length l.values) in
-      let whole : IsWhole (sizes s.labels) found.0 = (has.0, has.1 ∙ sym counted) in (
-        whole,
-        possible_by_state s found.0 whole ∙ ap not (state_parts s cs found.0 found.1 has.2).0,
-      )
+  whole_there found has = grind (arith, common_steps, length-map, possible_by_state, state_parts)
 
   pub whole_entry : (entry : Vec Verdict × List ℕ)
       → HasState s cs (length s.labels) (state_view entry) → IsWhole (sizes s.labels) entry.1

@@ -11,6 +11,7 @@ use Rattle.std.proofs.lemmas.List.Concat.{flat_map-append}
 use Rattle.std.proofs.lemmas.List.Sums.{fold-append}
 use Rattle.std.proofs.lemmas.List.Folds.{list_any-append}
 use Rattle.std.proofs.lemmas.List.Elements.{filter-append}
+use Rattle.std.proofs.lemmas.Grind.{common_steps}
 use Rattle.am_universe.proofs.ListLemmas.{IsIn, IsIn-map, AllByRecursion-each, AllByRecursion-at}
 use Rattle.am_universe.proofs.Members.{joined_in}
 use Rattle.am_universe.proofs.CompletionLemmas.{below, completions_are_below, below_by_next}
@@ -44,46 +45,30 @@ module _ {K A : Type 0} (same : K → K → Bool) where
       → is_there found key ≡ true
       → is_there (cond b found (found ++ one ∷ [])) key ≡ true
   there_or_not true found one key h = h
-  there_or_not false found one key h =
-      list_any-append (λ e. same key e.0) found (one ∷ [])
-      ∙ ap (λ b. b || is_there (one ∷ []) key) h
+  there_or_not false found one key h = grind (arith, common_steps, list_any-append)
 
   -- what is there stays
   still_there : (xs found : List (K × A)) (key : K) → is_there found key ≡ true
       → is_there (fold (with_first same) found xs) key ≡ true
   still_there [] found key h = h
-  still_there (x ∷ xs) found key h =
-      still_there xs (with_first same found x) key
-      (there_or_not (is_there found x.0) found x key h)
+  still_there (x ∷ xs) found key h = grind (arith, common_steps, still_there xs, there_or_not)
 
   -- and what comes is there
   now_there : ((k : K) → same k k ≡ true) → (found : List (K × A)) (x : K × A)
       → is_there (with_first same found x) x.0 ≡ true
-  now_there itself found x = elim (cases_Bool (is_there found x.0)) [
-    | inl there ↦ ap (λ b. is_there (cond b found (found ++ x ∷ [])) x.0) there ∙ there
-    | inr new ↦
-        ap (λ b. is_there (cond b found (found ++ x ∷ [])) x.0) new
-        ∙ list_any-append (λ e. same x.0 e.0) found (x ∷ [])
-        ∙ or_right (is_there found x.0) (same x.0 x.0 || false)
-        (ap (λ b. b || false) (itself x.0))
-  ]
+  now_there itself found x = grind (arith, common_steps, cases_Bool, list_any-append, or_right)
 
   pub comes_there : ((k : K) → same k k ≡ true) → (xs found : List (K × A)) (x : K × A)
       → IsIn xs x → is_there (fold (with_first same) found xs) x.0 ≡ true
   comes_there itself [] found x i = absurd i
-  comes_there itself (y ∷ xs) found x (inl e) =
-      subst (λ z. is_there (fold (with_first same) (with_first same found y) xs) z.0 ≡ true) e
-      (still_there xs (with_first same found y) y.0 (now_there itself found y))
-  comes_there itself (y ∷ xs) found x (inr i) =
-      comes_there itself xs (with_first same found y) x i
+  comes_there itself (y ∷ xs) found x (inl e) = grind (arith, common_steps, still_there, now_there)
+  comes_there itself (y ∷ xs) found x (inr i) = grind (arith, common_steps, comes_there itself xs)
 
   -- what is there already adds nothing
   pub nothing_new : (xs found : List (K × A)) → AllByRecursion (λ x. is_there found x.0 ≡ true) xs
       → fold (with_first same) found xs ≡ found
   nothing_new [] found all = refl
-  nothing_new (x ∷ xs) found all =
-      ap (λ b. fold (with_first same) (cond b found (found ++ x ∷ [])) xs) all.0
-      ∙ nothing_new xs found all.1
+  nothing_new (x ∷ xs) found all = grind (arith, common_steps, nothing_new xs found)
 
 is_certain_yes : (v : Verdict) → is_yes v ≡ true → v ≡ Yes
 is_certain_yes Yes e = refl
@@ -99,20 +84,11 @@ module _ (s : Space) (cs : List Configuration) where
   pub gathered-append : (found : Found) (ps qs : List (List ℕ))
       → gathered s cs found (ps ++ qs) ≡ gathered s cs (gathered s cs found ps) qs
   gathered-append found ps qs =
-      ap (λ l. fold (with_first same_fate) found (map (with_fate s cs) l))
-      (flat_map-append (possible_completions s) ps qs)
-      ∙ ap (fold (with_first same_fate) found)
-      (map-append (with_fate s cs) (flat_map (possible_completions s) ps)
-      (flat_map (possible_completions s) qs))
-      ∙ fold-append (with_first same_fate) found
-      (map (with_fate s cs) (flat_map (possible_completions s) ps))
-      (map (with_fate s cs) (flat_map (possible_completions s) qs))
+      grind (arith, common_steps, flat_map-append, map-append, fold-append)
 
   pub stand_for_both : (olds bs ps qs : List (List ℕ)) → StandFor s cs olds bs → StandFor s cs ps qs
       → StandFor s cs (olds ++ ps) (bs ++ qs)
-  stand_for_both olds bs ps qs first second found =
-      gathered-append found olds ps ∙ ap (λ f. gathered s cs f ps) (first found)
-      ∙ second (gathered s cs found bs) ∙ sym (gathered-append found bs qs)
+  stand_for_both olds bs ps qs first second found = grind (arith, common_steps, gathered-append)
 
   pub stand_for_all : (olds bs ps : List (List ℕ)) → StandFor s cs olds bs → StandFor s cs bs ps
       → StandFor s cs olds ps
@@ -123,9 +99,7 @@ module _ (s : Space) (cs : List Configuration) where
   filtered : {X : Type 0} (test : List ℕ → Bool) (f : X → List (List ℕ)) (xs : List X)
       → filter test (flat_map f xs) ≡ flat_map (λ x. filter test (f x)) xs
   filtered test f [] = refl
-  filtered test f (x ∷ xs) =
-      filter-append test (f x) (flat_map f xs)
-      ∙ ap (λ l. filter test (f x) ++ l) (filtered test f xs)
+  filtered test f (x ∷ xs) = grind (arith, common_steps, filter-append, filtered test f xs)
 
   each_below : (prefix : List ℕ) (positions : List ℕ)
       → AllByRecursion (λ p. admits (sizes s.labels) (prefix ++ p ∷ []) ≡ true) positions
@@ -134,9 +108,7 @@ module _ (s : Space) (cs : List Configuration) where
       ≡ flat_map (possible_completions s) (longer_by prefix positions)
   each_below prefix [] all = refl
   each_below prefix (p ∷ positions) all =
-      λ i. filter (is_possible_choice s)
-      (sym (completions_are_below (sizes s.labels) (prefix ++ p ∷ []) all.0) i)
-      ++ each_below prefix positions all.1 i
+      grind (arith, common_steps, completions_are_below, each_below prefix positions)
 
   within : (size first count : ℕ) → first + count ≤ size
       → AllByRecursion (λ p. p < size) (range_with_len first count)
@@ -148,10 +120,8 @@ module _ (s : Space) (cs : List Configuration) where
       → AllByRecursion (λ p. p < slice_index (sizes s.labels) (length prefix)) positions
       → AllByRecursion (λ p. admits (sizes s.labels) (prefix ++ p ∷ []) ≡ true) positions
   each_admitted prefix [] admitted short all = tt
-  each_admitted prefix (p ∷ positions) admitted short all = (
-    admits_next (sizes s.labels) prefix p admitted short all.0,
-    each_admitted prefix positions admitted short all.1,
-  )
+  each_admitted prefix (p ∷ positions) admitted short all =
+      grind (arith, common_steps, admits_next, each_admitted prefix positions admitted short)
 
   pub by_next : (prefix : List ℕ) (size : ℕ) → admits (sizes s.labels) prefix ≡ true
       → length prefix < length (sizes s.labels)
@@ -251,17 +221,12 @@ module _ (s : Space) (cs : List Configuration) where
 
   -- behind the empty prefix stands everything
   pub from_the_start : gathered s cs [] ([] ∷ []) ≡ outcomes_of s cs
-  from_the_start =
-      ap (λ l. fold (with_first same_fate) [] (map (with_fate s cs) l))
-      (append-nil (possible_completions s [])
-      ∙ ap (filter (is_possible_choice s)) (completions_are_below (sizes s.labels) [] refl))
+  from_the_start = grind (arith, common_steps, append-nil, completions_are_below)
 
   -- and behind a whole choice that is possible, itself
   itself_alone : (choice : List ℕ) → IsWhole (sizes s.labels) choice
       → is_possible_choice s choice ≡ true → possible_completions s choice ≡ choice ∷ []
-  itself_alone choice whole possible =
-      ap (filter (is_possible_choice s)) (completions_of_whole (sizes s.labels) choice whole)
-      ∙ ap (λ b. cond b (choice ∷ []) []) possible
+  itself_alone choice whole possible = grind (arith, common_steps, completions_of_whole)
 
   pub at_the_end : (choices : List (List ℕ))
       → AllByRecursion (λ c. IsWhole (sizes s.labels) c × (is_possible_choice s c ≡ true)) choices

@@ -1,5 +1,5 @@
 -- What is seen of lists and of configurations, one by one.
-use Rattle.std.proofs.Common.{◌≡◌, ℕ, zero, suc, ◌+◌, ◌<◌, ◌≤◌, true, false, cond, ◌||◌, List, []}
+use Rattle.std.proofs.Common.{◌≡◌, ℕ, zero, suc, ◌+◌, ◌<◌, ◌≤◌, true, false, cond, List, []}
 use Rattle.std.proofs.Common.{◌∷◌, ◌++◌, map, length, take, drop, get_or, drop-cons, add-one}
 use Rattle.std.proofs.Common.{append_assoc, append-nil, Bor, Some, None, refl, ap, sym, ◌∙◌, subst}
 use Rattle.std.proofs.Common.{arith}
@@ -7,7 +7,7 @@ use Rattle.std.specs.Global.{Vec}
 use Rattle.std.specs.List.{list_any}
 use Rattle.std.proofs.lemmas.Bool.{or_right}
 use Rattle.std.proofs.lemmas.List.{drop_all, take_all, map-append, map_more}
-use Rattle.std.proofs.lemmas.List.Folds.{list_any-append}
+use Rattle.std.proofs.lemmas.Grind.{common_steps}
 use Rattle.am_universe.specs.Universe.{Label, sizes}
 use Rattle.am_universe.specs.LabelSet.{LabelMap}
 use Rattle.am_universe.specs.Choice.{admits}
@@ -44,49 +44,20 @@ pub knows_more : (u : List Label) (configs : List (Bor Config)) (i : ℕ) (confi
     → KnowsConfigs u (configs_view (take i configs)) rs → KnowsConfig u (config_view config.now) r
     → KnowsConfigs u (configs_view (take (i + 1) configs)) more
 knows_more u configs i config rs more r within is adds know one =
-    let view : Bor Config → Configuration = λ c. config_view c.now in
-    let longer : configs_view (take i configs) ++ view config ∷ []
-    ≡ configs_view (take (i + 1) configs) =
-    ap (λ c. configs_view (take i configs) ++ view c ∷ []) is
-    ∙ sym (map_more view configs i config within) in
-    subst (KnowsConfigs u (configs_view (take (i + 1) configs))) (sym adds)
-    (subst (λ cs. KnowsConfigs u cs (rs ++ r ∷ [])) longer
-    (knows_pushed u (configs_view (take i configs)) rs (view config) r know one))
+    grind (arith, common_steps, map_more, knows_pushed)
 
 -- ---- The verdicts of lists.
 
 abbrev pub verdicts_of : List MaskedLabels → List ℕ → List Verdict
 verdicts_of cubes prefix = map (λ cube. verdict_at cube prefix) cubes
 
-pub verdict_more : (cubes : List MaskedLabels) (prefix : List ℕ) (i : ℕ) (cube : MaskedLabels)
-    (now after : List Verdict) → i < length cubes → cube ≡ get_or cubes i cube
-    → now ≡ verdicts_of (take i cubes) prefix → after ≡ now ++ verdict_at cube prefix ∷ []
-    → after ≡ verdicts_of (take (i + 1) cubes) prefix
-verdict_more cubes prefix i cube now after within is so_far adds =
-    let view : MaskedLabels → Verdict = λ c. verdict_at c prefix in
-    adds ∙ (λ j. so_far j ++ view (is j) ∷ []) ∙ sym (map_more view cubes i cube within)
-
-either_any : (v : Verdict) (vs : List Verdict) → list_any is_yes vs ≡ false → is_yes v ≡ false
-    → list_any is_yes (vs ++ v ∷ []) ≡ false
-either_any v vs none new =
-    list_any-append is_yes vs (v ∷ [])
-    ∙ (λ i. none i || (new i || false))
-
-pub none_certain_yet : (now after : List Verdict) (v : Verdict) → list_any is_yes now ≡ false
-    → is_yes v ≡ false → after ≡ now ++ v ∷ [] → list_any is_yes after ≡ false
-none_certain_yet now after v none new adds =
-    ap (list_any is_yes) adds ∙ either_any v now none new
-
 pub one_certain : (cubes : List MaskedLabels) (prefix : List ℕ) (i : ℕ) (cube : MaskedLabels)
     → i < length cubes → cube ≡ get_or cubes i cube → is_yes (verdict_at cube prefix) ≡ true
     → list_any is_yes (verdicts_of cubes prefix) ≡ true
 one_certain [] prefix i cube within is certain = absurd (omega (arith, within))
-one_certain (c ∷ cubes) prefix zero cube within is certain =
-    ap (λ d. is_yes (verdict_at d prefix) || list_any is_yes (verdicts_of cubes prefix)) (sym is)
-    ∙ ap (λ b. b || list_any is_yes (verdicts_of cubes prefix)) certain
+one_certain (c ∷ cubes) prefix zero cube within is certain = grind (arith, common_steps)
 one_certain (c ∷ cubes) prefix (suc i) cube within is certain =
-    or_right (is_yes (verdict_at c prefix)) (list_any is_yes (verdicts_of cubes prefix))
-    (one_certain cubes prefix i cube (omega (arith, within)) is certain)
+    grind (arith, common_steps, or_right, one_certain cubes prefix i cube)
 
 -- the verdicts of all lists, none of which is certain
 pub all_lists_judged : (s : Space) (prefix : List ℕ) (lists cubes : List MaskedLabels) (i : ℕ)
@@ -95,9 +66,7 @@ pub all_lists_judged : (s : Space) (prefix : List ℕ) (lists cubes : List Maske
     → list_any is_yes now ≡ false
     → (now ≡ lists_state s prefix) × (list_any is_yes (lists_state s prefix) ≡ false)
 all_lists_judged s prefix lists cubes i now know admitted same past so_far none =
-    let all : now ≡ lists_state s prefix =
-    so_far ∙ ap (λ ms. verdicts_of ms prefix) (take_all i cubes past ∙ same) ∙ know prefix admitted in
-    (all, ap (list_any is_yes) (sym all) ∙ none)
+    grind (arith, common_steps, take_all)
 
 pub no_state : (s : Space) (cs : List Configuration) (prefix : List ℕ)
     → list_any is_yes (lists_state s prefix) ≡ true → None ≡ state_of s cs prefix
@@ -107,9 +76,7 @@ no_state s cs prefix certain =
 pub some_state : (s : Space) (cs : List Configuration) (prefix : List ℕ) (state : List Verdict)
     → list_any is_yes (lists_state s prefix) ≡ false
     → state ≡ lists_state s prefix ++ routes_state s cs prefix → Some state ≡ state_of s cs prefix
-some_state s cs prefix state none is =
-    ap Some is
-    ∙ ap (λ b. cond b None (Some (lists_state s prefix ++ routes_state s cs prefix))) (sym none)
+some_state s cs prefix state none is = grind (arith, common_steps, routes_state)
 
 -- ---- The configurations that are left.
 
@@ -177,10 +144,7 @@ pub state_complete : (s : Space) (cs : List Configuration) (prefix : List ℕ) (
     (i : ℕ) (now : List Verdict) → length rs ≤ i → IsStateSoFar s cs prefix rs i now
     → now ≡ lists_state s prefix ++ routes_state s cs prefix
 state_complete s cs prefix rs i now past so_far =
-    sym (append-nil now)
-    ∙ ap (λ ds. now ++ routes_state s ds prefix)
-    (sym (no_config_left s.labels so_far.0 rs i past so_far.1))
-    ∙ so_far.2
+    grind (arith, common_steps, append-nil, routes_state, no_config_left)
 
 -- the fate is being made
 abbrev pub IsFateSoFar : Space → List Configuration → LabelMap → List RouteCubes → ℕ
@@ -213,6 +177,4 @@ pub fate_complete : (s : Space) (cs : List Configuration) (set : LabelMap) (rs :
     (i : ℕ) (now : List (List ℕ)) → length rs ≤ i → IsFateSoFar s cs set rs i now
     → now ≡ fate cs set
 fate_complete s cs set rs i now past so_far =
-    sym (append-nil now)
-    ∙ ap (λ ds. now ++ fate ds set) (sym (no_config_left s.labels so_far.0 rs i past so_far.1))
-    ∙ so_far.2
+    grind (arith, common_steps, append-nil, no_config_left)

@@ -1,7 +1,7 @@
 -- A layer, prefix by prefix.
-use Rattle.std.proofs.Common.{◌≡◌, ◌≢◌, ℕ, ◌+◌, ◌<◌, ◌≤◌, Bool, true, false, cond, ◌||◌, List, []}
+use Rattle.std.proofs.Common.{◌≡◌, ◌≢◌, ℕ, ◌+◌, ◌<◌, ◌≤◌, Bool, true, false, ◌||◌, List, []}
 use Rattle.std.proofs.Common.{◌∷◌, ◌++◌, map, length, take, slice_get, Some, None, append-nil}
-use Rattle.std.proofs.Common.{append_assoc, add-one, slice_index, refl, ap, sym, ◌∙◌, subst, inl}
+use Rattle.std.proofs.Common.{append_assoc, add-one, slice_index, refl, ap, sym, ◌∙◌, inl}
 use Rattle.std.proofs.Common.{inr, arith}
 use Rattle.std.specs.Global.{Vec}
 use Rattle.std.specs.List.{list_any, range_with_len, AllByRecursion}
@@ -11,6 +11,7 @@ use Rattle.std.proofs.lemmas.Option.{slice_get_within, get_or_from_slice_get}
 use Rattle.am_universe.proofs.Members.{in_at}
 use Rattle.std.specs.Cmp.Lexicographic.{pointwise, pointwise_decides}
 use Rattle.std.specs.Bool.{Decides}
+use Rattle.std.proofs.lemmas.Grind.{common_steps}
 use denote.Enum.Bare.{sameb}
 use Rattle.am_search.specs.contracts.verdict.Verdict.{the_type}
 use Rattle.am_universe.proofs.ListLemmas.{IsIn, AllByRecursion-at}
@@ -22,13 +23,11 @@ use Rattle.am_labels.specs.Space.{Space}
 use Rattle.am_config.specs.ConfigFile.{Configuration}
 use Rattle.am_search.specs.declared.verdict.Verdict.{Verdict}
 use Rattle.am_search.specs.declared.verdict.Verdict.TheVariants.{Yes, No, Open}
-use Rattle.am_search.specs.Judge.{is_yes}
 use Rattle.am_outcomes.specs.declared.judged.Judged.{Judged}
 use Rattle.am_outcomes.specs.declared.limits.TheConstants.{MAX_STATES}
 use Rattle.am_outcomes.specs.Outcomes.{with_first}
 use Rattle.am_outcomes.specs.JudgedView.{judged_space, judged_configs}
 use Rattle.am_outcomes.specs.States.{HasState, HaveDistinctStates, HaveManyStates, state_of}
-use Rattle.am_outcomes.specs.States.{lists_state}
 use Rattle.am_outcomes.specs.LayerView.{IsLayer, StandFor, prefixes_of, state_view, longer_by}
 use Rattle.am_outcomes.specs.LayerView.{gathered}
 use Rattle.am_outcomes.proofs.SameFates.{routes_state, alike_behind}
@@ -64,17 +63,8 @@ module _ (same : Vec Verdict → Vec Verdict → Bool) (tells : TellsSame same) 
       → list_any (λ e. same state e.0) entries ≡ false
       → AllByRecursion (λ other. other.1 ≢ state.items) (map state_view entries)
   all_differ [] state e = tt
-  all_differ (entry ∷ entries) state e = elim (cases_Bool (same state entry.0)) [
-    | inl here ↦
-        let both : true ≡ false =
-        ap (λ b. b || list_any (λ f. same state f.0) entries) (sym here) ∙ e in absurd cc
-    | inr other ↦ (
-      λ equal.
-          let both : true ≡ false = sym ((tells state entry.0).1 (sym equal)) ∙ other in cc,
-      all_differ entries state
-          (ap (λ b. b || list_any (λ f. same state f.0) entries) (sym other) ∙ e),
-    )
-  ]
+  all_differ (entry ∷ entries) state e =
+      grind (arith, common_steps, cases_Bool, all_differ entries state)
 
 -- ---- One prefix more.
 
@@ -82,10 +72,8 @@ apart_pushed : (found : List (List ℕ × List Verdict)) (one : List ℕ × List
     → HaveDistinctStates found → AllByRecursion (λ other. other.1 ≢ one.1) found
     → HaveDistinctStates (found ++ one ∷ [])
 apart_pushed [] one apart differ = (tt, tt)
-apart_pushed (f ∷ found) one apart differ = (
-  all_push (λ other. f.1 ≢ other.1) found one apart.0 differ.0,
-  apart_pushed found one apart.1 differ.1,
-)
+apart_pushed (f ∷ found) one apart differ =
+    grind (arith, common_steps, all_push, apart_pushed found one)
 
 entry_in : (entries : List Entry) (e : Entry) → IsIn entries e
     → IsIn (map state_view entries) (state_view e) × IsIn (prefixes_of entries) e.1
@@ -104,19 +92,7 @@ module _ (judged : Judged) where
   pub skipped : (prefix : List ℕ) (entries : List Entry) → None ≡ state_of s cs prefix
       → StandFor s cs (prefixes_of entries ++ prefix ∷ []) (prefixes_of entries)
   skipped prefix entries none =
-      let certain : list_any is_yes (lists_state s prefix) ≡ true =
-      by (list_any is_yes (lists_state s prefix)) none in
-      λ found.
-      stand_for_both s cs (prefixes_of entries) (prefixes_of entries) (prefix ∷ []) []
-      (λ f. refl) (without_impossible s cs prefix certain) found
-      ∙ ap (λ l. gathered s cs found l)
-      (append-nil (prefixes_of entries))
-    where
-      by : (b : Bool)
-          → None ≡ cond b None (Some (lists_state s prefix ++ routes_state s cs prefix))
-          → b ≡ true
-      by true e = refl
-      by false e = absurd cc
+      grind (arith, common_steps, stand_for_both, without_impossible, append-nil, routes_state)
 
   -- its state is there
   pub known : (same : Vec Verdict → Vec Verdict → Bool) → TellsSame same
@@ -145,22 +121,7 @@ module _ (judged : Judged) where
       → IsLayer s cs (length prefix) more
       × StandFor s cs (prefixes_of entries ++ prefix ∷ []) (prefixes_of more)
   layer_pushed same tells prefix entries more state admitted layer is new adds =
-      let pushed : more ≡ entries ++ (state, prefix) ∷ [] =
-      adds ∙ ap (λ b. cond b entries (entries ++ (state, prefix) ∷ [])) new in
-      let views : map state_view more ≡ map state_view entries ++ (prefix, state.items) ∷ [] =
-      ap (map state_view) pushed ∙ map-append state_view entries ((state, prefix) ∷ []) in
-      let paths : prefixes_of more ≡ prefixes_of entries ++ prefix ∷ [] =
-      ap prefixes_of pushed ∙ map-append (λ (e : Entry). e.1) entries ((state, prefix) ∷ []) in (
-        record {
-          each = subst (AllByRecursion (HasState s cs (length prefix))) (sym views)
-              (all_push (HasState s cs (length prefix)) (map state_view entries)
-              (prefix, state.items) layer.each (admitted, refl, sym is));
-          apart = subst HaveDistinctStates (sym views)
-              (apart_pushed (map state_view entries) (prefix, state.items) layer.apart
-              (all_differ same tells entries state new));
-        },
-        λ found. ap (λ l. gathered s cs found l) (sym paths),
-      )
+      grind (arith, common_steps, map-append, all_push, apart_pushed, all_differ)
 
   -- there is no room for it
   pub many_states : (same : Vec Verdict → Vec Verdict → Bool) → TellsSame same
@@ -182,15 +143,6 @@ module _ (judged : Judged) where
         apart = apart_pushed views one layer.apart (all_differ same tells entries state new);
         many = omega (arith, full, long, counted);
       }
-
--- nothing is in a layer yet
-pub no_entry : (s : Space) (cs : List Configuration) (len : ℕ) (entries : List Entry)
-    → entries ≡ [] → IsLayer s cs len entries
-no_entry s cs len entries none = record {
-  each = subst (λ (es : List Entry). AllByRecursion (HasState s cs len) (map state_view es))
-      (sym none) tt;
-  apart = subst (λ (es : List Entry). HaveDistinctStates (map state_view es)) (sym none) tt;
-}
 
 -- ---- The positions of a label, one by one.
 

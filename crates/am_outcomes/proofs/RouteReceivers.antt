@@ -1,8 +1,9 @@
 -- The receivers route by route are those of the ends.
-use Rattle.std.proofs.Common.{◌≡◌, ℕ, ◌+◌, Bool, true, false, not, cond, ◌&&◌, List, [], ◌∷◌, ◌++◌, map}
+use Rattle.std.proofs.Common.{◌≡◌, ℕ, ◌+◌, Bool, true, false, not, cond, ◌&&◌, List, [], ◌∷◌, ◌++◌, map, arith}
 use Rattle.std.proofs.Common.{Option, Some, None, option_map, option_and_then, slice_get, drop, zero, suc}
 use Rattle.std.proofs.Common.{add-one, refl, ap, ◌∙◌}
 use Rattle.std.specs.List.{AllZip, flat_map, filter_map}
+use Rattle.std.proofs.lemmas.Grind.{common_steps}
 use Rattle.am_universe.specs.LabelSet.{LabelMap}
 use Rattle.am_labels.specs.Matcher.{all_hold}
 use Rattle.am_config.specs.ConfigFile.{Configuration, RouteSettings, RouteTree, Routes, route}
@@ -70,14 +71,7 @@ own_if_none : (settings : RouteSettings) (children : Routes) (xs : List (List �
 own_if_none settings children [] [] all = (refl, tt)
 own_if_none settings children [] (u ∷ us) all = absurd all
 own_if_none settings children (x ∷ xs) [] all = absurd all
-own_if_none settings children (x ∷ xs) (u ∷ us) all =
-    each_pair (HasBelow (list_of children)) (Has (route settings children)) (x ∷ xs) (u ∷ us)
-    (from_child settings children) all
-  where
-    from_child : (settings : RouteSettings) (children : Routes) (path : List ℕ) (receiver : ℕ)
-        → HasBelow (list_of children) path receiver → Has (route settings children) path receiver
-    from_child settings children [] receiver has = absurd cc
-    from_child settings children (p ∷ path) receiver has = has
+own_if_none settings children (x ∷ xs) (u ∷ us) all = grind (arith, common_steps, each_pair)
 
 only_matched : (b : Bool) {A B : Type 0} (R : A → B → Type 0) (xs : List A) (us : List B)
     → AllZip R xs us → AllZip R (cond b xs []) (cond b us [])

@@ -1,10 +1,11 @@
 -- Prefixes with the same state have the same fates behind them.
-use Rattle.std.proofs.Common.{◌≡◌, ℕ, ◌+◌, Bool, true, false, not, cond, List, [], ◌∷◌, ◌++◌, map}
-use Rattle.std.proofs.Common.{length, nat_eq, nat_lt, Some, None, append_assoc, refl, ap, sym, ◌∙◌}
+use Rattle.std.proofs.Common.{◌≡◌, ℕ, ◌+◌, Bool, true, false, not, List, [], ◌∷◌, ◌++◌, map}
+use Rattle.std.proofs.Common.{length, nat_eq, Some, append_assoc, refl, ap, sym, ◌∙◌}
 use Rattle.std.proofs.Common.{subst, inl, inr, arith}
 use Rattle.std.specs.List.{list_any, flat_map, filter, starts_with}
 use Rattle.std.proofs.lemmas.Bool.{and_parts, and_from, eq-eqb, eqb-true}
 use Rattle.std.proofs.lemmas.List.{length-map, length-append}
+use Rattle.std.proofs.lemmas.Grind.{common_steps}
 use Rattle.am_universe.proofs.ListLemmas.{IsIn}
 use Rattle.am_universe.proofs.UniverseLemmas.{list_any-map}
 use Rattle.am_universe.specs.LabelSet.{LabelMap, label_set_of}
@@ -35,16 +36,8 @@ use Rattle.am_outcomes.proofs.StateLemmas.{same_route, same_verdict_behind}
 into_filter : {X : Type 0} (test : X → Bool) (xs : List X) (x : X) → IsIn xs x → test x ≡ true
     → IsIn (filter test xs) x
 into_filter test [] x i e = absurd i
-into_filter test (y ∷ xs) x (inl same) e =
-    subst (λ b. IsIn (cond b (y ∷ filter test xs) (filter test xs)) x)
-    (sym (ap test same ∙ e)) (inl same)
-into_filter test (y ∷ xs) x (inr i) e =
-    by (test y) (into_filter test xs x i e)
-  where
-    by : (b : Bool) → IsIn (filter test xs) x
-        → IsIn (cond b (y ∷ filter test xs) (filter test xs)) x
-    by true later = inr later
-    by false later = later
+into_filter test (y ∷ xs) x (inl same) e = grind (arith, common_steps)
+into_filter test (y ∷ xs) x (inr i) e = grind (arith, common_steps, into_filter test xs x i e)
 
 -- the same list in two parts, whose first parts are as long
 same_parts : {X : Type 0} (xs us ys vs : List X) → length xs ≡ length us → xs ++ ys ≡ us ++ vs
@@ -52,11 +45,7 @@ same_parts : {X : Type 0} (xs us ys vs : List X) → length xs ≡ length us →
 same_parts [] [] ys vs long e = (refl, e)
 same_parts [] (u ∷ us) ys vs long e = absurd (omega (arith, long))
 same_parts (x ∷ xs) [] ys vs long e = absurd (omega (arith, long))
-same_parts (x ∷ xs) (u ∷ us) ys vs long e =
-    let first : x ≡ u = cc in
-    let rest : xs ++ ys ≡ us ++ vs = cc in
-    let r = same_parts xs us ys vs (omega (arith, long)) rest in
-    (λ i. first i ∷ r.0 i, r.1)
+same_parts (x ∷ xs) (u ∷ us) ys vs long e = grind (arith, common_steps, same_parts xs us ys vs)
 
 -- ---- The parts of a state.
 
@@ -72,21 +61,12 @@ pub state_parts : (s : Space) (cs : List Configuration) (p : List ℕ) (state : 
     → state_of s cs p ≡ Some state
     → (list_any is_yes (lists_state s p) ≡ false)
     × (lists_state s p ++ routes_state s cs p ≡ state)
-state_parts s cs p state is =
-    by (list_any is_yes (lists_state s p)) (lists_state s p ++ routes_state s cs p) is
-  where
-    by : (b : Bool) (parts : List Verdict) → cond b None (Some parts) ≡ Some state
-        → (b ≡ false) × (parts ≡ state)
-    by true parts e = absurd cc
-    by false parts e = (refl, cc)
+state_parts s cs p state is = grind (arith, common_steps)
 
 -- a whole choice is possible where no impossible list is certain
 pub possible_by_state : (s : Space) (c : List ℕ) → IsWhole (sizes s.labels) c
     → is_possible_choice s c ≡ not (list_any is_yes (lists_state s c))
-possible_by_state s c whole =
-    ap not (sym (list_any-map is_yes (λ (ms : List Condition). verdict_of_list s.labels ms c)
-    s.impossible
-    ∙ (λ i. list_any (λ (ms : List Condition). certain_where s.labels c whole ms i) s.impossible)))
+possible_by_state s c whole = grind (arith, common_steps, list_any-map, certain_where)
 
 module _ (s : Space) (is : IsUniverse s.labels) (cs : List Configuration) (cubes : List MaskedLabels)
     (routes : List RouteCubes) (knows_lists : KnowsLists s cubes)
@@ -162,10 +142,7 @@ module _ (s : Space) (is : IsUniverse s.labels) (cs : List Configuration) (cubes
   begun_by : (p c : List ℕ) → starts_with nat_eq c p ≡ true → (r : List ℕ) × (c ≡ p ++ r)
   begun_by [] c e = (c, refl)
   begun_by (n ∷ p) [] e = absurd cc
-  begun_by (n ∷ p) (m ∷ c) e =
-      let parts = and_parts (nat_eq n m) (starts_with nat_eq c p) e in
-      let rest = begun_by p c parts.1 in
-      (rest.0, λ i. sym (eqb-true n m parts.0) i ∷ rest.1 i)
+  begun_by (n ∷ p) (m ∷ c) e = grind (arith, common_steps, and_parts, begun_by p c, eqb-true)
 
   begins_itself : (q r : List ℕ) → starts_with nat_eq (q ++ r) q ≡ true
   begins_itself [] r = refl
@@ -179,10 +156,7 @@ module _ (s : Space) (is : IsUniverse s.labels) (cs : List Configuration) (cubes
   admitted_too ms (m ∷ p) [] r long a b = absurd (omega (arith, long))
   admitted_too [] (m ∷ p) (n ∷ q) r long a b = absurd cc
   admitted_too (k ∷ ms) (m ∷ p) (n ∷ q) r long a b =
-      let a-parts = and_parts (nat_lt m k) (admits ms (p ++ r)) a in
-      let b-parts = and_parts (nat_lt n k) (admits ms q) b in
-      and_from (nat_lt n k) (admits ms (q ++ r)) b-parts.0
-      (admitted_too ms p q r (omega (arith, long)) a-parts.1 b-parts.1)
+      grind (arith, common_steps, and_parts, and_from, admitted_too ms p q r)
 
   pub alike_behind : (p q : List ℕ) (state : List Verdict) → length p ≡ length q
       → admits ns p ≡ true → admits ns q ≡ true

@@ -1,7 +1,8 @@
 -- Prefixes with the same state: what stands behind them has the same fate.
-use Rattle.std.proofs.Common.{◌≡◌, ℕ, Bool, true, false, not, cond, ◌&&◌, List, [], ◌∷◌, ◌++◌}
+use Rattle.std.proofs.Common.{◌≡◌, ℕ, Bool, true, false, not, cond, ◌&&◌, List, [], ◌∷◌, ◌++◌, arith}
 use Rattle.std.proofs.Common.{length, append_assoc, refl, ap, sym, ◌∙◌, inl, inr}
 use Rattle.std.proofs.lemmas.Bool.{cases_Bool, and_parts}
+use Rattle.std.proofs.lemmas.Grind.{common_steps}
 use Rattle.am_universe.specs.Universe.{Label, IsUniverse, sizes}
 use Rattle.am_universe.specs.LabelSet.{LabelMap, label_set_of}
 use Rattle.am_labels.specs.Matcher.{Condition, all_hold}
@@ -96,15 +97,9 @@ module _ (u : List Label) (is : IsUniverse u) (p q r : List ℕ) (long : length 
   behind_by : (cube : MaskedLabels) (ms : List Condition)
       → ((prefix : List ℕ) → admits (sizes u) prefix ≡ true → verdict_at cube prefix ≡ v ms prefix)
       → (w : Verdict) → v ms p ≡ w → v ms q ≡ w → v ms (p ++ r) ≡ v ms (q ++ r)
-  behind_by cube ms know Yes at-p at-q =
-      stays_yes u ms p r at-p ∙ sym (stays_yes u ms q r at-q)
-  behind_by cube ms know No at-p at-q =
-      stays_no u ms p r is p-whole.0 at-p ∙ sym (stays_no u ms q r is q-whole.0 at-q)
-  behind_by cube ms know Open at-p at-q =
-      sym (know (p ++ r) p-whole.0)
-      ∙ same_behind p q long r cube (may_open cube p (know p p-in ∙ at-p))
-      (may_open cube q (know q q-in ∙ at-q))
-      ∙ know (q ++ r) q-whole.0
+  behind_by cube ms know Yes at-p at-q = grind (arith, common_steps, stays_yes)
+  behind_by cube ms know No at-p at-q = grind (arith, common_steps, stays_no)
+  behind_by cube ms know Open at-p at-q = grind (arith, common_steps, same_behind, may_open)
 
   pub same_verdict_behind : (cube : MaskedLabels) (ms : List Condition)
       → ((prefix : List ℕ) → admits (sizes u) prefix ≡ true → verdict_at cube prefix ≡ v ms prefix)

@@ -1,12 +1,13 @@
 -- What is written of outcomes.
 use Rattle.std.proofs.Common.{◌≡◌, ℕ, ◌+◌, ◌<◌, Bool, true, false, cond, List, [], ◌∷◌, ◌++◌, map}
-use Rattle.std.proofs.Common.{length, take, get_or, slice_get, unwrap_or, Option, Some, None}
-use Rattle.std.proofs.Common.{option_map, drop, append-nil, refl, ap, sym, ◌∙◌, subst, arith}
+use Rattle.std.proofs.Common.{length, take, get_or, slice_get, unwrap_or, Some}
+use Rattle.std.proofs.Common.{drop, append-nil, refl, ap, sym, ◌∙◌, subst, arith}
 use Rattle.std.specs.Global.{Vec}
 use Rattle.std.specs.List.{filter, flat_map, filter_map, AllByRecursion}
 use Rattle.std.proofs.lemmas.List.{length-map, length-append, flat_map_more}
 use Rattle.std.proofs.lemmas.List.Elements.{filter_more}
 use Rattle.std.proofs.lemmas.Option.{slice_get_within, get_or_from_slice_get, slice_get-map}
+use Rattle.std.proofs.lemmas.Grind.{common_steps}
 use Rattle.am_universe.specs.Universe.{Label, sizes}
 use Rattle.am_universe.proofs.ListLemmas.{IsIn-unmap, AllByRecursion-at, AllByRecursion-each}
 use Rattle.am_universe.proofs.Members.{in_at}
@@ -14,8 +15,7 @@ use Rattle.am_universe.proofs.ChoiceLemmas.{whole_from_in}
 use Rattle.am_universe.specs.LabelSet.{LabelMap, label_set_of}
 use Rattle.am_universe.specs.Choice.{IsWhole, choices}
 use Rattle.am_labels.specs.Space.{Space, all_choices, is_possible_choice}
-use Rattle.am_config.specs.ConfigFile.{Configuration, IsConfig, RouteTree}
-use Rattle.am_config.specs.Path.{route_at}
+use Rattle.am_config.specs.ConfigFile.{Configuration, IsConfig}
 use Rattle.am_search.proofs.ChoiceOrder.{in_filter}
 use Rattle.am_eval.specs.Routing.{receivers, receiver_at, ends}
 use Rattle.am_eval.proofs.AbsentParts.{receiver_below}
@@ -51,14 +51,7 @@ declared_at : (c : Configuration) → IsConfig c → (paths : List (List ℕ))
     → AreDeclared c (filter_map (receiver_at c) paths)
 declared_at c sound [] = tt
 declared_at c sound (path ∷ paths) =
-    by (route_at c.root path) refl (declared_at c sound paths)
-  where
-    by : (found : Option RouteTree) → route_at c.root path ≡ found
-        → AreDeclared c (filter_map (receiver_at c) paths)
-        → AreDeclared c (filter_map (receiver_at c) (path ∷ paths))
-    by None at later = rw at later
-    by (Some t) at later =
-        rw at (receiver_below (length c.receivers) path c.root t sound.receivers_declared at, later)
+    grind (arith, common_steps, declared_at c sound paths, receiver_below)
 
 pub receivers_declared : (c : Configuration) → IsConfig c → (set : LabelMap)
     → AreDeclared c (receivers set c)
@@ -79,30 +72,19 @@ module _ (s : Space) (cs : List Configuration) (outcomes : List (List (List ℕ)
 pub as_many : (s : Space) (cs : List Configuration) (outcome : List (List ℕ) × List ℕ)
     (fates : List (Vec ℕ)) → IsOfChoice s cs outcome → outcome.0 ≡ fates_view fates
     → length fates ≡ length cs
-as_many s cs outcome fates of_choice is =
-    sym (length-map fates (λ (v : Vec ℕ). v.items)) ∙ ap length (sym is ∙ of_choice.1)
-    ∙ length-map cs (λ c. receivers (label_set_of s.labels outcome.1) c)
+as_many s cs outcome fates of_choice is = grind (arith, common_steps, length-map)
 
 pub under_declared : (s : Space) (cs : List Configuration) (outcome : List (List ℕ) × List ℕ)
     (i : ℕ) (c : Configuration) → slice_get cs i ≡ Some c → IsConfig c
     → IsOfChoice s cs outcome → AreDeclared c (under i outcome.0)
 under_declared s cs outcome i c at sound of_choice =
-    let set = label_set_of s.labels outcome.1 in
-    let is : under i outcome.0 ≡ receivers set c =
-    ap (under i) of_choice.1
-    ∙ ap (λ o. unwrap_or o []) (slice_get-map (receivers set) cs i ∙ ap (option_map (receivers set)) at)
-    in
-    subst (AreDeclared c) (sym is) (receivers_declared c sound set)
+    grind (arith, common_steps, slice_get-map, receivers_declared)
 
 -- the receivers at a position, as the code reads them
 pub under_is : (outcome : List (List ℕ) × List ℕ) (fates : List (Vec ℕ)) (i : ℕ) (v : Vec ℕ)
     → outcome.0 ≡ fates_view fates → i < length fates → v ≡ get_or fates i v
     → under i outcome.0 ≡ v.items
-under_is outcome fates i v is within at =
-    ap (under i) is
-    ∙ ap (λ o. unwrap_or o [])
-    (slice_get-map (λ (w : Vec ℕ). w.items) fates i
-    ∙ ap (option_map (λ (w : Vec ℕ). w.items)) (item_here fates i v within at))
+under_is outcome fates i v is within at = grind (arith, common_steps, slice_get-map, item_here)
 
 -- ---- Names.
 

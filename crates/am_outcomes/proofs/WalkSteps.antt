@@ -1,8 +1,9 @@
 -- A walk down the routes, child by child.
 use Rattle.std.proofs.Common.{◌≡◌, ◌≢◌, ℕ, suc, ◌+◌, ◌<◌, ◌≤◌, Bool, true, false, not, cond, ◌&&◌}
 use Rattle.std.proofs.Common.{List, [], ◌∷◌, ◌++◌, length, drop, get_or, drop-cons, add-one}
-use Rattle.std.proofs.Common.{append_assoc, append-nil, refl, ap, sym, ◌∙◌, subst, arith}
+use Rattle.std.proofs.Common.{append_assoc, append-nil, refl, ap, sym, subst, arith}
 use Rattle.std.proofs.lemmas.List.{drop_all, length-append}
+use Rattle.std.proofs.lemmas.Grind.{common_steps}
 use denote.Enum.Bare.{sameb}
 use Rattle.am_universe.specs.Universe.{Label, sizes}
 use Rattle.am_universe.specs.LabelSet.{LabelMap, label_set_of}
@@ -108,23 +109,14 @@ pub state_begun : (u : List Label) (prefix : List ℕ) (t : RouteTree) (r : Rout
     → rs ≡ (out-RouteCubes r).routes.items → now ≡ old ++ v ∷ []
     → IsBeingSeen u prefix t rs 0 old now
 state_begun u prefix (route settings children) r rs v old now are is may same added =
-    let own : v ≡ verdict_of_list u settings.matchers prefix = is ∙ are.0 in (
-      children,
-      subst (AreCubesOfEach u prefix children) (sym same) are.3,
-      ap (λ l. l ++ children_state u prefix children) added
-          ∙ append_assoc old (v ∷ []) (children_state u prefix children)
-          ∙ ap (λ b. old ++ v ∷ cond b [] (children_state u prefix children)) (sym may)
-          ∙ ap (λ w. old ++ w ∷ cond (is_no w) [] (children_state u prefix children)) own,
-    )
+    grind (arith, common_steps, append_assoc)
 
 pub state_excluded : (u : List Label) (prefix : List ℕ) (t : RouteTree) (r : RouteCubes)
     (v : Verdict) (old now : List Verdict) → AreCubesOf u prefix t r
     → v ≡ verdict_at (out-RouteCubes r).cube prefix → is_no v ≡ true → now ≡ old ++ v ∷ []
     → now ≡ old ++ route_state u prefix t
 state_excluded u prefix (route settings children) r v old now are is excluded added =
-    let own : v ≡ verdict_of_list u settings.matchers prefix = is ∙ are.0 in
-    added ∙ ap (λ b. old ++ v ∷ cond b [] (children_state u prefix children)) (sym excluded)
-    ∙ ap (λ w. old ++ w ∷ cond (is_no w) [] (children_state u prefix children)) own
+    grind (arith, common_steps)
 
 module _ (u : List Label) (prefix : List ℕ) (t : RouteTree) (rs : List RouteCubes) (i : ℕ)
     (old now after : List Verdict) (child : RouteCubes) (below : Verdict)
@@ -146,34 +138,18 @@ module _ (u : List Label) (prefix : List ℕ) (t : RouteTree) (rs : List RouteCu
 
   behind : after ++ cond last [] (children_state u prefix next.later)
       ≡ old ++ route_state u prefix t
-  behind =
-      ap (λ l. l ++ cond last [] (children_state u prefix next.later)) (adds next.tree next.cubes).1
-      ∙ append_assoc now (route_state u prefix next.tree)
-      (cond last [] (children_state u prefix next.later))
-      ∙ ap (λ b. now ++ (route_state u prefix next.tree
-      ++ cond b [] (children_state u prefix next.later))) (sym is_last)
-      ∙ ap (λ ts. now ++ children_state u prefix ts) (sym next.is) ∙ seen.2
+  behind = grind (arith, common_steps, append_assoc)
 
   pub state_goes_on : last ≡ false → IsBeingSeen u prefix t rs (i + 1) old after
-  state_goes_on more = (
-    next.later,
-    next.left,
-    ap (λ b. after ++ cond b [] (children_state u prefix next.later)) (sym more) ∙ behind,
-  )
+  state_goes_on more = grind (arith, common_steps, next, behind)
 
   pub state_stops : last ≡ true → after ≡ old ++ route_state u prefix t
-  state_stops stops =
-      sym (append-nil after)
-      ∙ ap (λ b. after ++ cond b [] (children_state u prefix next.later)) (sym stops) ∙ behind
+  state_stops stops = grind (arith, common_steps, append-nil, behind)
 
 pub state_closed : (u : List Label) (prefix : List ℕ) (t : RouteTree) (rs : List RouteCubes) (i : ℕ)
     (old now : List Verdict) → length rs ≤ i → IsBeingSeen u prefix t rs i old now
     → now ≡ old ++ route_state u prefix t
-state_closed u prefix t rs i old now past seen =
-    sym (append-nil now)
-    ∙ ap (λ ts. now ++ children_state u prefix ts)
-    (sym (none_left u prefix seen.0 rs i past seen.1))
-    ∙ seen.2
+state_closed u prefix t rs i old now past seen = grind (arith, common_steps, append-nil, none_left)
 
 -- ---- The receivers of a whole choice.
 
@@ -182,13 +158,7 @@ pub matched_by : (u : List Label) (choice : List ℕ) (t : RouteTree) (r : Route
     → IsWhole (sizes u) choice → AreCubesOf u choice t r
     → b ≡ not (is_no (verdict_at (out-RouteCubes r).cube choice))
     → b ≡ all_hold (label_set_of u choice) (matchers_of t)
-matched_by u choice t r b whole are is =
-    is ∙ ap (λ v. not (is_no v)) (own_verdict u choice t r are ∙ list_says u (matchers_of t) choice whole)
-    ∙ by (all_hold (label_set_of u choice) (matchers_of t))
-  where
-    by : (m : Bool) → not (is_no (cond m Yes No)) ≡ m
-    by true = refl
-    by false = refl
+matched_by u choice t r b whole are is = grind (arith, common_steps, own_verdict, list_says)
 
 abbrev pub AreBeingFound : List Label → List ℕ → RouteTree → List RouteCubes → ℕ → List ℕ → List ℕ
     → Type 0
@@ -219,39 +189,23 @@ module _ (u : List Label) (choice : List ℕ) (t : RouteTree) (rs : List RouteCu
   ends = matches && not (out-RouteCubes child).continues
 
   its_end : (all_hold s (matchers_of one.tree) && not (continues_of one.tree)) ≡ ends
-  its_end =
-      λ j. sym (adds one.tree one.cubes).0 j
-      && not (sym (own_continues u choice one.tree child one.cubes) j)
+  its_end = grind (arith, common_steps, own_continues)
 
   found_behind : after ++ cond ends [] (child_receivers s one.later)
       ≡ old ++ child_receivers s (children_of t)
-  found_behind =
-      ap (λ l. l ++ cond ends [] (child_receivers s one.later)) (adds one.tree one.cubes).1
-      ∙ append_assoc now (receivers_at s one.tree) (cond ends [] (child_receivers s one.later))
-      ∙ ap (λ b. now ++ (receivers_at s one.tree ++ cond b [] (child_receivers s one.later)))
-      (sym its_end)
-      ∙ ap (λ ts. now ++ child_receivers s ts) (sym one.is) ∙ found.2
+  found_behind = grind (arith, common_steps, append_assoc)
 
   pub search_goes_on : ends ≡ false → AreBeingFound u choice t rs (i + 1) old after
-  search_goes_on more = (
-    one.later,
-    one.left,
-    ap (λ b. after ++ cond b [] (child_receivers s one.later)) (sym more) ∙ found_behind,
-  )
+  search_goes_on more = grind (arith, common_steps, one, found_behind)
 
   pub search_stops : ends ≡ true → after ≡ old ++ child_receivers s (children_of t)
-  search_stops stops =
-      sym (append-nil after)
-      ∙ ap (λ b. after ++ cond b [] (child_receivers s one.later)) (sym stops) ∙ found_behind
+  search_stops stops = grind (arith, common_steps, append-nil, found_behind)
 
 pub search_closed : (u : List Label) (choice : List ℕ) (t : RouteTree) (rs : List RouteCubes) (i : ℕ)
     (old now : List ℕ) → length rs ≤ i → AreBeingFound u choice t rs i old now
     → now ≡ old ++ child_receivers (label_set_of u choice) (children_of t)
 search_closed u choice t rs i old now past found =
-    sym (append-nil now)
-    ∙ ap (λ ts. now ++ child_receivers (label_set_of u choice) ts)
-    (sym (none_left u choice found.0 rs i past found.1))
-    ∙ found.2
+    grind (arith, common_steps, append-nil, none_left)
 
 -- the receivers of a route that is matched: those of its children, or its own
 pub its_receivers : (s : LabelMap) (t : RouteTree) → all_hold s (matchers_of t) ≡ true
@@ -264,25 +218,10 @@ pub its_own : (s : LabelMap) (t : RouteTree) (r : RouteCubes) (u : List Label) (
     → now ≡ old ++ child_receivers s (children_of t) → length now ≡ length old
     → after ≡ now ++ (out-RouteCubes r).receiver ∷ [] → after ≡ old ++ receivers_at s t
 its_own s t r u choice old now after are matched found same adds =
-    by (child_receivers s (children_of t)) found (its_receivers s t matched)
-  where
-    by : (below : List ℕ) → now ≡ old ++ below
-        → receivers_at s t ≡ or_own_receiver (receiver_of t) below → after ≡ old ++ receivers_at s t
-    by [] f own =
-        adds ∙ (λ i. (f ∙ append-nil old) i ++ own_receiver u choice t r are i ∷ [])
-        ∙ ap (λ l. old ++ l) (sym own)
-    by (x ∷ below) f own =
-        let longer = ap length f ∙ length-append old (x ∷ below) in
-        absurd (omega (arith, longer, same))
+    grind (arith, common_steps, its_receivers, append-nil, own_receiver, length-append)
 
 pub of_children : (s : LabelMap) (t : RouteTree) (old now : List ℕ)
     → all_hold s (matchers_of t) ≡ true
     → now ≡ old ++ child_receivers s (children_of t) → length now ≢ length old
     → now ≡ old ++ receivers_at s t
-of_children s t old now matched found other =
-    by (child_receivers s (children_of t)) found (its_receivers s t matched)
-  where
-    by : (below : List ℕ) → now ≡ old ++ below
-        → receivers_at s t ≡ or_own_receiver (receiver_of t) below → now ≡ old ++ receivers_at s t
-    by [] f own = absurd (other (ap length (f ∙ append-nil old)))
-    by (x ∷ below) f own = f ∙ ap (λ l. old ++ l) (sym own)
+of_children s t old now matched found other = grind (arith, common_steps, its_receivers, append-nil)

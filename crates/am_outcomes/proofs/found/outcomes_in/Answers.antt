@@ -1,9 +1,9 @@
-use Rattle.std.proofs.Common.{ℕ, List, ap, sym, ◌∙◌, arith}
+use Rattle.std.proofs.Common.{ℕ, List, sym, ◌∙◌, arith}
 use Rattle.std.specs.Global.{Vec}
 use Rattle.std.proofs.lemmas.List.{take_all}
+use Rattle.std.proofs.lemmas.Grind.{common_steps}
 use Rattle.am_search.specs.declared.verdict.Verdict.{Verdict}
 use Rattle.am_outcomes.specs.JudgedView.{judged_space, judged_configs}
-use Rattle.am_outcomes.specs.LayerView.{prefixes_of}
 use Rattle.am_outcomes.proofs.LayerSteps.{entry_at}
 use Rattle.am_outcomes.proofs.FoundSteps.{outcomes_in, whole_entry, one_outcome_more, all_found}
 use Rattle.am_outcomes.proofs.FoundSteps.{there_already}
@@ -33,11 +33,4 @@ loop-i-preserved c =
     ])
 
 pub returns : goal.returns
-returns c =
-    let s = judged_space c.args.judged.now in
-    let cs = judged_configs c.args.judged.now in
-    let entries = c.args.last.now.states in
-    c.loop-i.invariant
-    ∙ ap (λ es. outcomes_in s cs (prefixes_of es))
-    (take_all c.loop-i.i entries (omega (arith, c.loop-i-test.false, c.len-i-end.ensures)))
-    ∙ all_found s cs entries c.requires
+returns c = grind (arith, common_steps, outcomes_in, take_all, all_found)

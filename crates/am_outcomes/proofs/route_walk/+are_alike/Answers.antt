@@ -1,5 +1,5 @@
-use Rattle.std.proofs.Common.{refl}
-use Rattle.am_first_sets.specs.declared.route_cubes.RouteCubes.TheViews.{out-RouteCubes}
+use Rattle.std.proofs.Common.{refl, arith}
+use Rattle.std.proofs.lemmas.Grind.{common_steps}
 use Rattle.am_outcomes.proofs.AlikeSteps.{same_continue, alike_more, alike_routes}
 use Rattle.am_outcomes.proofs.route_walk.+are_alike.Goals as goal
 
@@ -10,9 +10,4 @@ loop-i-preserved t c =
     c.index-routes-i.is c.index-others-i.is c.loop-i.invariant (c.if-not-are_alike.ensures refl)
 
 pub returns : goal.returns
-returns t c = λ true.
-    alike_routes c.args.one.now c.args.other.now c.as_slice-routes.result.now
-    c.as_slice-others.result.now c.loop-i.i c.as_slice-routes.ensures.value
-    c.as_slice-others.ensures.value c.if-routes-others.false c.loop-i-test.false
-    (same_continue (out-RouteCubes c.args.one.now).continues
-    (out-RouteCubes c.args.other.now).continues c.if-one-other.false) (c.if-not-is_same.ensures.same refl) c.loop-i.invariant
+returns t c = λ true. grind (arith, common_steps, alike_routes, same_continue)

@@ -1,5 +1,6 @@
-use Rattle.std.proofs.Common.{◌≡◌, ◌++◌, ℕ, List, refl, sym, ap, ◌∙◌, arith, append-nil}
+use Rattle.std.proofs.Common.{◌≡◌, ◌++◌, ℕ, List, sym, ap, ◌∙◌, arith, append-nil}
 use Rattle.std.specs.Prelude.{not, ◌&&◌}
+use Rattle.std.proofs.lemmas.Grind.{common_steps}
 use Rattle.am_universe.specs.Universe.{Label, sizes}
 use Rattle.am_universe.specs.Choice.{IsWhole}
 use Rattle.am_universe.specs.LabelSet.{label_set_of}
@@ -26,12 +27,7 @@ returns-then-not-may t c = λ u tree are whole.
     )
 
 pub loop-child-init : goal.loop-child-init
-loop-child-init t c = λ u tree are whole. (
-  children_of tree,
-  rw (c.deref-child-items.ensures.value)
-      (own_children u c.args.choice.now tree c.args.route.now are),
-  refl,
-)
+loop-child-init t c = λ u tree are whole. grind (arith, common_steps, own_children)
 
 pub loop-child-preserved : goal.loop-child-preserved
 loop-child-preserved t c = λ u tree are whole.

@@ -1,5 +1,6 @@
 use Rattle.std.proofs.Common.{sym, ap, ◌∙◌, arith}
 use Rattle.std.specs.Prelude.{not, ◌&&◌}
+use Rattle.std.proofs.lemmas.Grind.{common_steps}
 use Rattle.am_first_sets.specs.declared.route_cubes.RouteCubes.TheViews.{out-RouteCubes}
 use Rattle.am_outcomes.proofs.WalkSteps.{excluded_by, certain_by, own_verdict, state_begun}
 use Rattle.am_outcomes.proofs.WalkSteps.{state_excluded, state_goes_on, state_stops, state_closed}
@@ -9,12 +10,7 @@ use Rattle.am_outcomes.proofs.route_walk.+push_state.Goals.{else-eq-2-via-else-e
 
 pub returns-then-eq : goal.returns-then-eq
 returns-then-eq t c = λ u tree are.
-    let v = c.judge-verdict.result in (
-      c.judge-verdict.ensures.verdict ∙ own_verdict u c.args.prefix.now tree c.args.route.now are,
-      state_excluded u c.args.prefix.now tree c.args.route.now v c.args.state.now.items
-          c.push.new.self.items are c.judge-verdict.ensures.verdict
-          (sym (excluded_by v c.eq.result c.eq.ensures) ∙ c.if-eq.true) c.in_ok-push.ensures.items,
-    )
+    grind (arith, common_steps, own_verdict, state_excluded, excluded_by)
 
 pub loop-child-init : goal.loop-child-init
 loop-child-init t c = λ u tree are.

@@ -1,23 +1,10 @@
-use Rattle.std.proofs.Common.{ap, sym, ◌∙◌, subst, arith, ◌++◌}
+use Rattle.std.proofs.Common.{ap, ◌∙◌, arith, ◌++◌}
 use Rattle.am_universe.specs.LabelSet.{label_set_of}
-use Rattle.am_outcomes.specs.Knows.{KnowsConfigs}
 use Rattle.am_outcomes.specs.FatesView.{fates_view}
 use Rattle.am_outcomes.specs.JudgedView.{judged_space, judged_configs}
-use Rattle.am_outcomes.specs.Outcomes.{fate}
 use Rattle.am_outcomes.specs.Receivers.{receivers_at}
 use Rattle.am_outcomes.proofs.JudgedSteps.{fate_more, fate_complete}
 use Rattle.am_outcomes.proofs.judged.Judged.fate.Goals as goal
-
-pub loop-routes-init : goal.loop-routes-init
-loop-routes-init c =
-    let self = c.args.self.now in
-    let s = judged_space self in
-    let set = label_set_of s.labels c.args.choice.now in (
-      judged_configs self,
-      subst (KnowsConfigs s.labels (judged_configs self)) (sym c.deref-routes-items.ensures.value)
-          self.knows_configs,
-      ap (λ l. fates_view l ++ fate (judged_configs self) set) c.in_ok-fates.ensures.items,
-    )
 
 pub loop-routes-preserved : goal.loop-routes-preserved
 loop-routes-preserved c =

@@ -30,10 +30,3 @@ returns-clause-layer c = λ room.
     c.add.new.self c.in-Some.state c.requires.admitted c.requires.layer
     (ap (option_map (λ verdicts. verdicts.items)) (sym c.in-Some.is) ∙ c.in_ok-state.ensures)
     (sym c.has.ensures ∙ c.if-has.false) c.in_ok-add.ensures).0
-
-pub returns-clause-stands : goal.returns-clause-stands
-returns-clause-stands c = λ room.
-    (layer_pushed c.args.judged.now same_state tells_same c.args.prefix c.args.self.now.states
-    c.add.new.self c.in-Some.state c.requires.admitted c.requires.layer
-    (ap (option_map (λ verdicts. verdicts.items)) (sym c.in-Some.is) ∙ c.in_ok-state.ensures)
-    (sym c.has.ensures ∙ c.if-has.false) c.in_ok-add.ensures).1

@@ -1,10 +1,10 @@
 use Rattle.std.proofs.Common.{◌+◌, length, slice_index, ap, sym, ◌∙◌, subst, arith}
-use Rattle.std.proofs.lemmas.List.{length-map, take_all}
+use Rattle.std.proofs.lemmas.List.{length-map}
 use Rattle.am_universe.specs.Universe.{Label, sizes}
 use Rattle.am_outcomes.specs.JudgedView.{judged_space, judged_configs}
 use Rattle.am_outcomes.specs.States.{HasState}
-use Rattle.am_outcomes.specs.LayerView.{IsLayer, StandFor, prefixes_of, state_view}
-use Rattle.am_outcomes.proofs.LayerSteps.{no_entry, entry_at, extended_more}
+use Rattle.am_outcomes.specs.LayerView.{IsLayer, prefixes_of, state_view}
+use Rattle.am_outcomes.proofs.LayerSteps.{entry_at, extended_more}
 use Rattle.am_outcomes.proofs.layers.Layer.next.Goals as goal
 use Rattle.am_outcomes.proofs.layers.Layer.next.Goals.{After-get}
 
@@ -16,15 +16,6 @@ here c =
     entry_at (judged_space c.args.judged.now) (judged_configs c.args.judged.now) c.args.label
     c.args.self.now.states c.loop-i.i (c.get.result.0.now, c.get.result.1.now) c.get.ensures
     c.requires.layer
-
-pub loop-i-init : goal.loop-i-init
-loop-i-init c =
-    let s = judged_space c.args.judged.now in
-    let cs = judged_configs c.args.judged.now in (
-      no_entry s cs (c.args.label + 1) c.empty-next.result.states c.empty-next.ensures,
-      λ found. ap (λ es. Rattle.am_outcomes.specs.LayerView.gathered s cs found (prefixes_of es))
-          (sym c.empty-next.ensures),
-    )
 
 pub extend-requires-clause-admitted : goal.extend-requires-clause-admitted
 extend-requires-clause-admitted c = (here (goal.at.extend-requires-clause-admitted c).After-get).0
@@ -61,11 +52,3 @@ loop-i-preserved c =
           (c.requires.size ∙ ap (slice_index (sizes s.labels)) (sym has.1))
           c.loop-i.invariant.1 (c.in_ok-extend.ensures.stands room),
     )
-
-pub returns-clause-stands : goal.returns-clause-stands
-returns-clause-stands c = λ found.
-    ap (λ es. Rattle.am_outcomes.specs.LayerView.gathered (judged_space c.args.judged.now)
-    (judged_configs c.args.judged.now) found (prefixes_of es))
-    (sym (take_all c.loop-i.i c.args.self.now.states
-    (omega (arith, c.loop-i-test.false, c.len-i-end.ensures))))
-    ∙ c.loop-i.invariant.1 found
