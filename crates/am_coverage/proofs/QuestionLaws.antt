@@ -4,7 +4,8 @@ use Rattle.std.specs.List.{filter, find}
 use Rattle.am_labels.specs.Space.{Space, all_choices}
 use Rattle.am_eval.specs.World.{World}
 use Rattle.am_eval.specs.Tree.{Part}
-use Rattle.am_eval.specs.Question.{Simple, Ends, Enters, Receiver, satisfies_at, answers}
+use Rattle.am_eval.specs.declared.reach.Reach.TheVariants.{Ends, Enters}
+use Rattle.am_eval.specs.Question.{Simple, Receiver, Route, satisfies_at, answers}
 use Rattle.am_eval.proofs.RouteConditions.{through}
 use Rattle.am_first_sets.proofs.FirstPossible.{find_first, no_first}
 use Rattle.am_coverage.specs.Coverage.{IsDead, IsNeverEntered, IsUnmatched}
@@ -20,13 +21,13 @@ no_answer s w part =
     let all = all_choices s in no_first (filter test all) (find test all) (find_first test all)
 
 pub dead_unanswered : (s : Space) (w : World) (path : List ℕ)
-    → IsDead s w.config path ↔ (answers s w (Part (Ends path)) ≡ [])
-dead_unanswered s w path = through (dead_by_end s w.config path) (no_answer s w (Ends path))
+    → IsDead s w.config path ↔ (answers s w (Part (Route Ends path)) ≡ [])
+dead_unanswered s w path = through (dead_by_end s w.config path) (no_answer s w (Route Ends path))
 
 pub never_entered_unanswered : (s : Space) (w : World) (path : List ℕ)
-    → IsNeverEntered s w.config path ↔ (answers s w (Part (Enters path)) ≡ [])
+    → IsNeverEntered s w.config path ↔ (answers s w (Part (Route Enters path)) ≡ [])
 never_entered_unanswered s w path =
-    through (never_by_entry s w.config path) (no_answer s w (Enters path))
+    through (never_by_entry s w.config path) (no_answer s w (Route Enters path))
 
 pub unmatched_unanswered : (s : Space) (w : World) (receiver : ℕ)
     → IsUnmatched s w.config receiver ↔ (answers s w (Part (Receiver receiver)) ≡ [])

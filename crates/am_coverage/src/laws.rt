@@ -13,7 +13,8 @@ ghost use Rattle.am_config.specs.Path.{route_at, path_text, leads_through};
 ghost use Rattle.am_config.specs.RoutePaths.{paths_of};
 ghost use Rattle.am_eval.specs.Conditions.{paths_to};
 ghost use Rattle.am_eval.specs.Tree.{Part};
-ghost use Rattle.am_eval.specs.Question.{Ends, Enters, Receiver, answers};
+ghost use Rattle.am_eval.specs.declared.reach.Reach.TheVariants.{Ends, Enters};
+ghost use Rattle.am_eval.specs.Question.{Receiver, Route, answers};
 ghost use Rattle.am_eval.specs.Routing.{ends, receivers};
 ghost use Rattle.am_eval.specs.World.{World};
 ghost use Rattle.am_search.specs.Start.{comes_before};
@@ -85,9 +86,9 @@ pub fn an_unmatched_receiver_has_dead_routes_alone()
 /// exactly where the question whether an alert goes to it has none.
 pub fn a_dead_routes_question_has_no_answer()
     ensures dead { (s : Space) (w : World) (path : List ℕ)
-        → IsDead s w.config path ↔ (answers s w (Part (Ends path)) ≡ []) }
+        → IsDead s w.config path ↔ (answers s w (Part (Route Ends path)) ≡ []) }
     ensures never_entered { (s : Space) (w : World) (path : List ℕ)
-        → IsNeverEntered s w.config path ↔ (answers s w (Part (Enters path)) ≡ []) }
+        → IsNeverEntered s w.config path ↔ (answers s w (Part (Route Enters path)) ≡ []) }
     ensures unmatched { (s : Space) (w : World) (receiver : ℕ)
         → IsUnmatched s w.config receiver ↔ (answers s w (Part (Receiver receiver)) ≡ []) }
 {}
