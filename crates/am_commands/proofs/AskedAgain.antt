@@ -26,7 +26,8 @@ use Rattle.am_questions.specs.Inputs.{Inputs, inputs_fingerprint, after_token, A
 use Rattle.am_questions.proofs.OneInputs.{one_meaning_of_inputs}
 use Rattle.am_commands.specs.AskOutcome.{answer_page, searched_page, Asked}
 use Rattle.am_commands.specs.AskOutcome.{IsAskedOf, AreAskedInARow}
-use Rattle.am_commands.proofs.AskedPages.{question_judges, enough_for}
+use Rattle.am_plans.proofs.Soundness.{question_judges}
+use Rattle.am_commands.proofs.AskedPages.{enough_for}
 
 -- the lines of the answers from a start on
 abbrev pub lines_left : Space → World → Question → Start → List ℕ

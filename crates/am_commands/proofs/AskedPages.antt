@@ -10,24 +10,22 @@ use Rattle.am_universe.specs.WrittenLabelSet.{line}
 use Rattle.am_labels.specs.Space.{Space}
 use Rattle.am_eval.specs.World.{World}
 use Rattle.am_eval.specs.Question.{Question, is_answer}
-use Rattle.am_eval.proofs.ConditionLaws.{exactly}
 use Rattle.am_search.specs.declared.start.Start.{Start}
 use Rattle.am_search.specs.declared.trailer.Trailer.{Trailer}
 use Rattle.am_search.specs.declared.trailer.Trailer.TheVariants.{End, Next, Stopped}
 use Rattle.am_search.specs.declared.verdict.Verdict.{Verdict}
-use Rattle.am_search.specs.Judge.{AreSizes, IsJudge}
+use Rattle.am_search.specs.Judge.{AreSizes}
 use Rattle.am_search.specs.Start.{comes_before, answers_from}
 use Rattle.am_search.specs.Page.{AnswerPage, page_from, rest_after, IsChain, all_choices_of}
 use Rattle.am_search.specs.BudgetPage.{page_under, IsEnough, IsSearchChain}
 use Rattle.am_search.specs.PageText.{lines_text, page_text}
 use Rattle.am_search.specs.TrailerText.{trailer_text}
-use Rattle.am_search.proofs.TokenTexts.{sizes_of_universe}
 use Rattle.am_search.proofs.Pages.{chain_joined}
 use Rattle.am_search.proofs.BudgetPages.{same_unstopped, same_next, same_end, stopped_before, rest_under}
 use Rattle.am_search.proofs.SearchChains.{search_chain_joined}
 use Rattle.am_search.proofs.SameVerdicts.{same_page}
 use Rattle.am_plans.specs.Verdicts.{verdict_of}
-use Rattle.am_plans.proofs.Soundness.{yes_says_all, no_says_none, never_open}
+use Rattle.am_plans.proofs.Soundness.{question_judges}
 use Rattle.am_questions.specs.declared.inputs.AcceptedInputs.{AcceptedInputs}
 use Rattle.am_questions.specs.Inputs.{Inputs, inputs_fingerprint, AcceptsInputs}
 use Rattle.am_eval.specs.QuestionView.{question_view}
@@ -35,15 +33,6 @@ use Rattle.am_commands.specs.AskOutcome.{AnswersInputs, IsAskedOf, answer_page, 
 use Rattle.am_commands.specs.AskOutcome.{page_of_inputs, page_promise}
 
 -- ---- The search for the answers to a question.
-
--- the verdicts of a question make a judge of its answers
-pub question_judges : (s : Space) (w : World) (q : Question) → IsUniverse s.labels → IsJudge (sizes s.labels) (is_answer s w q) (verdict_of s w q)
-question_judges s w q is = record {
-  limits = sizes_of_universe s.labels is;
-  yes = λ prefix a e. yes_says_all exactly s w q prefix e;
-  no = λ prefix a e. no_says_none exactly s w q prefix e;
-  whole = λ c whole e. never_open exactly s w q c whole e;
-}
 
 -- a judge that has these verdicts at the prefixes of choices finds the same page
 pub page_of_plan : (s : Space) (w : World) (q : Question) (ns : List ℕ) (verdict : List ℕ → Verdict) (start : Start) (limit steps : Option ℕ)

@@ -21,7 +21,7 @@ use Rattle.am_questions.specs.Inputs.{Inputs, inputs_fingerprint, after_token, A
 use Rattle.am_questions.proofs.OneInputs.{one_meaning_of_inputs}
 use Rattle.am_commands.specs.AskOutcome.{searched_page, Asked, IsAskedOf, AreAskedInARow}
 use Rattle.am_commands.specs.AskOutcome.{AreAskedSoFar}
-use Rattle.am_commands.proofs.AskedPages.{question_judges}
+use Rattle.am_plans.proofs.Soundness.{question_judges}
 use Rattle.am_commands.proofs.AskedAgain.{asked_page, asked_goes_on}
 
 -- the start that the trailer of a call leaves is later than its own

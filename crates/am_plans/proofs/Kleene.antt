@@ -53,18 +53,6 @@ passes_or Must Open Open = refl
 
 -- ---- The joins of lists.
 
-pub passes_all : (m : Certainty) (vs : List Verdict) → passes m (all_of vs) ≡ list_all (passes m) vs
-passes_all May [] = refl
-passes_all Must [] = refl
-passes_all m (v ∷ vs) =
-    passes_and m v (all_of vs) ∙ ap (λ b. passes m v && b) (passes_all m vs)
-
-pub passes_any : (m : Certainty) (vs : List Verdict) → passes m (any_of vs) ≡ list_any (passes m) vs
-passes_any May [] = refl
-passes_any Must [] = refl
-passes_any m (v ∷ vs) =
-    passes_or m v (any_of vs) ∙ ap (λ b. passes m v || b) (passes_any m vs)
-
 -- and of the verdicts of some things
 pub passes_each : {X : Type 0} (m : Certainty) (verdict : X → Verdict) (xs : List X)
     → passes m (all_of (map verdict xs)) ≡ list_all (λ x. passes m (verdict x)) xs
@@ -99,15 +87,3 @@ pub from_passes : (v : Verdict)
 from_passes Yes = refl
 from_passes No = refl
 from_passes Open = refl
-
-pub same_by_passes : (v w : Verdict) → passes May v ≡ passes May w → passes Must v ≡ passes Must w
-    → v ≡ w
-same_by_passes v w may must =
-    from_passes v ∙ ap (λ b. cond (not b) No (cond (passes Must v) Yes Open)) may
-    ∙ ap (λ b. cond (not (passes May w)) No (cond b Yes Open)) must ∙ sym (from_passes w)
-
--- what must be true may be true
-pub must_is_may : (v : Verdict) → passes Must v ≡ true → passes May v ≡ true
-must_is_may Yes e = refl
-must_is_may No e = e
-must_is_may Open e = refl

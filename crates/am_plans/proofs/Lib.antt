@@ -11,5 +11,4 @@ pub mod QuestionSteps
 pub mod ListSteps
 pub mod PairSteps
 pub mod SilenceSteps
-pub mod PossibleSteps
 pub mod PlanJudges

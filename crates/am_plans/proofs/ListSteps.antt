@@ -15,16 +15,6 @@ one_more xs i x here =
     take_more xs i x (slice_get_within xs i x here)
     ∙ ap (λ y. take i xs ++ y ∷ []) (get_or_from_slice_get xs i x x here)
 
--- the same is made of both lists
-pub mapped_both : {X Y Z : Type 0} (f : X → Z) (g : Y → Z) (xs : List X) (x : X) (ys : List Y)
-    (i : ℕ) (y : Y) → map f xs ≡ map g (take i ys) → slice_get ys i ≡ Some y → f x ≡ g y
-    → map f (xs ++ x ∷ []) ≡ map g (take (i + 1) ys)
-mapped_both f g xs x ys i y so_far here same =
-    map-append f xs (x ∷ [])
-    ∙ ap (λ zs. zs ++ f x ∷ []) so_far
-    ∙ ap (λ z. map g (take i ys) ++ z ∷ []) same
-    ∙ sym (ap (map g) (one_more ys i y here) ∙ map-append g (take i ys) (y ∷ []))
-
 -- ---- Whether some of the items that are kept passes.
 
 or_false : (b : Bool) → (b || false) ≡ b
@@ -54,22 +44,6 @@ any_kept q keep ys i y so_far also now here keeps e f g =
     g ∙ ap (λ b. b || also) e ∙ ap (λ b. list_any q kept || b) f
     ∙ sym (ap (list_any q) with_y ∙ any_pushed q kept y)
 
--- one more of all
-pub any_more : {Y : Type 0} (q : Y → Bool) (ys : List Y) (i : ℕ) (y : Y) (so_far also now : Bool)
-    → slice_get ys i ≡ Some y → so_far ≡ list_any q (take i ys) → also ≡ q y
-    → now ≡ (so_far || also) → now ≡ list_any q (take (i + 1) ys)
-any_more q ys i y so_far also now here e f g =
-    g ∙ ap (λ b. b || also) e ∙ ap (λ b. list_any q (take i ys) || b) f
-    ∙ sym (ap (list_any q) (one_more ys i y here) ∙ any_pushed q (take i ys) y)
-
--- one that adds nothing
-pub any_without : {X : Type 0} (p : X → Bool) (xs : List X) (x : X)
-    → (p x ≡ true → list_any p xs ≡ true) → list_any p xs ≡ (list_any p xs || p x)
-any_without p xs x said = elim (cases_Bool (p x)) [
-  | inl e ↦ said e ∙ sym (ap (λ b. b || p x) (said e))
-  | inr e ↦ sym (ap (λ b. list_any p xs || b) e ∙ or_false (list_any p xs))
-]
-
 -- one that is not kept has none
 pub none_kept : {Y : Type 0} (q keep : Y → Bool) (ys : List Y) (i : ℕ) (y : Y) (so_far : Bool)
     → slice_get ys i ≡ Some y → keep y ≡ false
@@ -86,13 +60,3 @@ none_kept q keep ys i y so_far here drops e =
 pub and_true : (b : Bool) → (b && true) ≡ b
 and_true true = refl
 and_true false = refl
-
--- two lists of which the same truths are made
-pub any_of_same : {X Y : Type 0} (p : X → Bool) (q : Y → Bool) (xs : List X) (ys : List Y)
-    → map p xs ≡ map q ys → list_any p xs ≡ list_any q ys
-any_of_same p q xs ys same =
-    sym (any_made p xs) ∙ ap (list_any (λ b. b)) same ∙ any_made q ys
-  where
-    any_made : {X : Type 0} (p : X → Bool) (xs : List X) → list_any (λ b. b) (map p xs) ≡ list_any p xs
-    any_made p [] = refl
-    any_made p (x ∷ xs) = ap (λ b. p x || b) (any_made p xs)

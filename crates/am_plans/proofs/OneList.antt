@@ -21,16 +21,15 @@ use Rattle.am_search.proofs.VisitsBound.{visited_at_most, visited_from_first}
 use Rattle.am_judged_lists.specs.Verdicts.{matches_at, verdict_of_list}
 use Rattle.am_judged_lists.proofs.VerdictLemmas.{open_exactly}
 use Rattle.am_eval.specs.Tree.{Part}
-use Rattle.am_eval.specs.Question.{Braces, Question, is_answer}
+use Rattle.am_eval.specs.Question.{Braces, is_answer}
 use Rattle.am_eval.specs.World.{World}
 use Rattle.am_eval.specs.Conditions.{not_matching}
-use Rattle.am_eval.proofs.ConditionLaws as conditions
 use Rattle.am_plans.specs.declared.plan.Plan.{Plan}
 use Rattle.am_plans.specs.PlanWords.{plan_space, plan_sizes, plan_verdict, plan_is_judge}
 use Rattle.am_plans.specs.Verdicts.{kleene_and, kleene_or, all_of, verdict_of_literal}
 use Rattle.am_plans.specs.Verdicts.{verdict_of_question, verdict_of}
 use Rattle.am_plans.proofs.ListSteps.{and_true}
-use Rattle.am_plans.proofs.Soundness.{yes_says_all, no_says_none, never_open}
+use Rattle.am_plans.proofs.Soundness.{judges}
 
 -- the or of one way, which is the and of one literal; and that it is possible
 one_way : (v : Verdict) → kleene_and (kleene_or (kleene_and v Yes) No) Yes ≡ v
@@ -72,21 +71,12 @@ module _ (s : Space) (w : World) (ms : List Condition) (none : s.impossible ≡ 
 
   pub is_exact_judge : AreSizes (sizes s.labels)
       → IsExactJudge (sizes s.labels) (is_answer s w (Part (Braces ms))) verdict
-  is_exact_judge are =
-      let question : Question = Part (Braces ms) in
-      record {
-        judge = record {
-          limits = are;
-          yes = λ prefix a e.
-              yes_says_all conditions.exactly s w question prefix (sym (same prefix a) ∙ e);
-          no = λ prefix a e.
-              no_says_none conditions.exactly s w question prefix (sym (same prefix a) ∙ e);
-          whole = λ c whole e.
-              never_open conditions.exactly s w question c whole (sym (same c whole.0) ∙ e);
-        };
-        some = λ prefix a e. (some_match_and_some_do_not prefix a e).0;
-        not_all = λ prefix a e. (some_match_and_some_do_not prefix a e).1;
-      }
+  is_exact_judge are = record {
+    judge = judges s w (Part (Braces ms)) (is_answer s w (Part (Braces ms))) verdict
+        (λ c whole. refl) same are;
+    some = λ prefix a e. (some_match_and_some_do_not prefix a e).0;
+    not_all = λ prefix a e. (some_match_and_some_do_not prefix a e).1;
+  }
 
 -- ---- What a plan judges.
 

@@ -249,37 +249,6 @@ no_pair_more test fails vs sides from i next side before none at spared same j v
           and_right (test v) (fails other) (ap fails (same j side other last low at with) ∙ spared)
     ]
 
--- ---- What adds nothing.
-
--- a pair that says the same as one of some
-pub said_before : {L : Type 0} (verdict : L → List ℕ → Verdict) (prefix : List ℕ) (m : Certainty)
-    (sources : List L) (lists : List (PairList L)) (i : ℕ) (other pair : PairList L)
-    → slice_get lists i ≡ Some other → other.side.rule ≡ pair.side.rule → other.side.both ≡ pair.side.both
-    → verdict other.list prefix ≡ verdict pair.list prefix
-    → IsTrue (pair_by verdict prefix m sources pair)
-    → IsTrue (list_any (pair_by verdict prefix m sources) lists)
-said_before verdict prefix m sources lists i other pair at same_rule same_both same_list e =
-    let same : pair_by verdict prefix m sources other ≡ pair_by verdict prefix m sources pair =
-    ap (λ v. passes m v && source_fails verdict prefix m (source_among sources other.side.both other.side.rule))
-    same_list
-    ∙ ap (λ b. passes m (verdict pair.list prefix)
-    && source_fails verdict prefix m (source_among sources b other.side.rule)) same_both
-    ∙ ap (λ r. passes m (verdict pair.list prefix)
-    && source_fails verdict prefix m (source_among sources pair.side.both r)) same_rule in
-    in_any (pair_by verdict prefix m sources) lists other (in_at lists i other at) (same ∙ e)
-
--- a list that is never matched
-pub passes_no : (m : Certainty) (v : Verdict) → v ≡ No → passes m v ≡ false
-passes_no May v e = rw e refl
-passes_no Must v e = rw e refl
-
-pub never_inhibits : {L : Type 0} (verdict : L → List ℕ → Verdict) (prefix : List ℕ)
-    (m : Certainty) (sources : List L) (pair : PairList L) → verdict pair.list prefix ≡ No
-    → pair_by verdict prefix m sources pair ≡ false
-never_inhibits verdict prefix m sources pair e =
-    let rest = source_fails verdict prefix m (source_among sources pair.side.both pair.side.rule) in
-    ap (λ b. b && rest) (passes_no m (verdict pair.list prefix) e)
-
 -- the row of an alert's value
 pub row_of_value : (u : List Label) (alert : LabelMap) (row : TruthRow) (name read value : List ℕ)
     → row ≡ row_of u (record { name = read; op = Equal; value = value }) → read ≡ name

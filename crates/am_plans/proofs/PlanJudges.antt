@@ -1,34 +1,30 @@
 -- A question with cubes, over a space, is a judge, where its truths are those of the verdict of being
 -- an answer.
-use Rattle.std.proofs.Common.{◌≡◌, ℕ, List, Bool, true, false, ◌&&◌, cond, map, refl, ap, sym, ◌∙◌}
+use Rattle.std.proofs.Common.{◌≡◌, ℕ, List, not, ◌&&◌, map, ap, sym, ◌∙◌}
 use Rattle.std.specs.Prelude.{IsTrue}
-use Rattle.am_universe.specs.Completions.{completions}
-use Rattle.am_universe.proofs.ListLemmas.{AllByRecursion-each}
+use Rattle.std.specs.List.{list_all, list_any}
+use Rattle.am_universe.proofs.UniverseLemmas.{list_any-map}
 use Rattle.am_universe.specs.Universe.{Label, sizes}
+use Rattle.am_labels.specs.Matcher.{Condition}
 use Rattle.am_labels.specs.Space.{Space}
 use Rattle.am_universe.specs.Choice.{admits, IsWhole}
 use Rattle.am_search.specs.Judge.{AreSizes, is_yes}
-use Rattle.am_search.specs.declared.verdict.Verdict.TheVariants.{Yes, No}
 use Rattle.am_judged_lists.specs.GroupView.{verdicts_in}
 use Rattle.am_judged_lists.specs.Cube.{MaskedLabels, verdict_at}
 use Rattle.am_judged_lists.specs.Verdicts.{verdict_of_list}
-use Rattle.am_search.proofs.Walks.{completion_whole}
 use Rattle.am_eval.specs.World.{World}
 use Rattle.am_eval.specs.Question.{Question, is_answer}
-use Rattle.am_eval.proofs.ConditionLaws as conditions
 use Rattle.am_plans.specs.declared.judged_question.JudgedQuestion.{JudgedQuestion}
 use Rattle.am_judged_lists.specs.declared.group.Group.{Group}
 use Rattle.am_judged_lists.specs.declared.certainty.Certainty.{Certainty}
 use Rattle.am_judged_lists.specs.declared.certainty.Certainty.TheVariants.{May, Must}
-use Rattle.am_judged_lists.specs.Certainty.{passes}
+use Rattle.am_judged_lists.specs.Certainty.{passes, other}
 use Rattle.am_plans.specs.QuestionView.{truth_by}
-use Rattle.am_plans.specs.Verdicts.{verdict_of_question, verdict_of_space, verdict_of}
+use Rattle.am_plans.specs.Verdicts.{kleene_not, verdict_of_question, verdict_of_space, verdict_of}
 use Rattle.am_plans.specs.PlanView.{possible_by, is_answer_by, verdict_of_truths, judged_verdict}
 use Rattle.am_plans.specs.PlanView.{judged_truth, IsJudgeOver}
-use Rattle.am_plans.proofs.Kleene.{passes_and, from_passes}
-use Rattle.am_plans.proofs.PossibleSteps.{says_possible}
-use Rattle.am_plans.proofs.Soundness.{verdict_agrees, agrees_yes, agrees_no, verdict_says}
-use Rattle.am_plans.proofs.Soundness.{never_open}
+use Rattle.am_plans.proofs.Kleene.{passes_not, passes_and, passes_each, from_passes}
+use Rattle.am_plans.proofs.Soundness.{none_matches, verdict_says_truth, judges}
 
 -- the cubes are those of a question, over these labels
 abbrev pub IsQuestionOver : List Label → World → Question → JudgedQuestion MaskedLabels → Type 0
@@ -43,9 +39,18 @@ AreImpossible s impossible =
     → verdicts_in verdict_at prefix impossible
     ≡ map (λ ms. verdict_of_list s.labels ms prefix) s.impossible
 
-yes_of_truth : (b : Bool) → is_yes (cond b Yes No) ≡ b
-yes_of_truth true = refl
-yes_of_truth false = refl
+-- the cubes of the impossible lists say what is possible
+says_possible : (s : Space) (cubes : Group MaskedLabels) (prefix : List ℕ) (m : Certainty)
+    → verdicts_in verdict_at prefix cubes
+    ≡ map (λ ms. verdict_of_list s.labels ms prefix) s.impossible
+    → possible_by cubes prefix m ≡ passes m (verdict_of_space s prefix)
+says_possible s cubes prefix m same =
+    let verdict = λ (ms : List Condition). verdict_of_list s.labels ms prefix in
+    ap (λ vs. not (list_any (passes (other m)) vs)) same
+    ∙ ap not (list_any-map (passes (other m)) verdict s.impossible)
+    ∙ sym (none_matches (λ ms. passes (other m) (verdict ms)) s.impossible)
+    ∙ sym (λ i. list_all (λ ms. passes_not m (verdict ms) i) s.impossible)
+    ∙ sym (passes_each m (λ ms. kleene_not (verdict ms)) s.impossible)
 
 module _ (s : Space) (w : World) (q : Question) (judged : JudgedQuestion MaskedLabels)
     (impossible : Group MaskedLabels) (exact : IsQuestionOver s.labels w q judged)
@@ -67,27 +72,9 @@ module _ (s : Space) (w : World) (q : Question) (judged : JudgedQuestion MaskedL
 
   pub truth_is : (c : List ℕ) → IsWhole (sizes s.labels) c
       → judged_truth judged impossible c ≡ is_answer s w q c
-  truth_is c whole =
-      ap is_yes (verdict_is c whole.0 ∙ verdict_says conditions.exactly s w q c whole)
-      ∙ yes_of_truth (is_answer s w q c)
+  truth_is c whole = ap is_yes (verdict_is c whole.0) ∙ verdict_says_truth s w q c whole
 
   pub is_judge : AreSizes (sizes s.labels) → IsJudgeOver s.labels judged impossible
-  is_judge are = record {
-    limits = are;
-    yes = λ prefix a e.
-        AllByRecursion-each (λ c. IsTrue (judged_truth judged impossible c))
-        (completions (sizes s.labels) prefix)
-        (λ c there.
-        truth_is c (completion_whole (sizes s.labels) prefix c there).0
-        ∙ agrees_yes (verdict_of s w q prefix) (is_answer s w q c)
-        (verdict_agrees conditions.exactly s w q prefix c there) (sym (verdict_is prefix a) ∙ e));
-    no = λ prefix a e.
-        AllByRecursion-each (λ c. judged_truth judged impossible c ≡ false)
-        (completions (sizes s.labels) prefix)
-        (λ c there.
-        truth_is c (completion_whole (sizes s.labels) prefix c there).0
-        ∙ agrees_no (verdict_of s w q prefix) (is_answer s w q c)
-        (verdict_agrees conditions.exactly s w q prefix c there) (sym (verdict_is prefix a) ∙ e));
-    whole = λ c whole undecided.
-        never_open conditions.exactly s w q c whole (sym (verdict_is c whole.0) ∙ undecided);
-  }
+  is_judge =
+      judges s w q (judged_truth judged impossible) (judged_verdict judged impossible) truth_is
+      verdict_is

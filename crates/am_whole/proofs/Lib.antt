@@ -1,2 +1,1 @@
 pub mod RowMeaning
-pub mod WholeTruth

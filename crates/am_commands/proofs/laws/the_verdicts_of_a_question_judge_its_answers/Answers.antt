@@ -1,4 +1,4 @@
-use Rattle.am_commands.proofs.AskedPages.{question_judges}
+use Rattle.am_plans.proofs.Soundness.{question_judges}
 use Rattle.am_commands.proofs.laws.the_verdicts_of_a_question_judge_its_answers.Goals as goal
 
 pub returns : goal.returns

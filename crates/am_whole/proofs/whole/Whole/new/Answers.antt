@@ -4,7 +4,7 @@ use Rattle.am_search.proofs.TokenTexts.{sizes_of_universe}
 use Rattle.am_eval.specs.QuestionView.{question_view}
 use Rattle.am_judged_lists.specs.declared.certainty.Certainty.TheVariants.{Must}
 use Rattle.am_whole.specs.WholeView.{open_when_short}
-use Rattle.am_whole.proofs.WholeTruth.{must_at_whole}
+use Rattle.am_plans.proofs.Soundness.{question_says_truth}
 use Rattle.am_whole.proofs.whole.Whole.new.Goals as goal
 
 pub invariant_of-result : goal.invariant_of-result
@@ -14,7 +14,7 @@ invariant_of-result c =
 pub returns-clause-truth : goal.returns-clause-truth
 returns-clause-truth c choice whole =
     c.in_ok-judged.ensures.exact choice Must whole
-    ∙ must_at_whole c.args.universe.now c.args.world.now (question_view c.args.question.now) choice
+    ∙ question_says_truth c.args.universe.now c.args.world.now (question_view c.args.question.now) choice
     whole
 
 pub returns-clause-open : goal.returns-clause-open
