@@ -19,41 +19,24 @@ use Rattle.am_plans.specs.Verdicts.{verdict_of_literal, verdict_of_simple}
 pub passes_not : (m : Certainty) (v : Verdict)
     → passes m (kleene_not v) ≡ not (passes (other m) v)
 passes_not May Yes = refl
-passes_not May No = refl
-passes_not May Open = refl
 passes_not Must Yes = refl
-passes_not Must No = refl
-passes_not Must Open = refl
+passes_not m v = refl
 
 pub passes_and : (m : Certainty) (v w : Verdict)
     → passes m (kleene_and v w) ≡ (passes m v && passes m w)
-passes_and May Yes w = refl
-passes_and May No w = refl
-passes_and May Open Yes = refl
 passes_and May Open No = refl
-passes_and May Open Open = refl
-passes_and Must Yes w = refl
-passes_and Must No w = refl
-passes_and Must Open Yes = refl
 passes_and Must Open No = refl
-passes_and Must Open Open = refl
+passes_and m v w = refl
 
 pub passes_or : (m : Certainty) (v w : Verdict)
     → passes m (kleene_or v w) ≡ (passes m v || passes m w)
-passes_or May Yes w = refl
-passes_or May No w = refl
-passes_or May Open Yes = refl
 passes_or May Open No = refl
-passes_or May Open Open = refl
-passes_or Must Yes w = refl
-passes_or Must No w = refl
-passes_or Must Open Yes = refl
 passes_or Must Open No = refl
-passes_or Must Open Open = refl
+passes_or m v w = refl
 
 -- ---- The joins of lists.
 
--- and of the verdicts of some things
+-- of the verdicts of some things
 pub passes_each : {X : Type 0} (m : Certainty) (verdict : X → Verdict) (xs : List X)
     → passes m (all_of (map verdict xs)) ≡ list_all (λ x. passes m (verdict x)) xs
 passes_each May verdict [] = refl
@@ -85,5 +68,4 @@ passes_simple m u w simple prefix =
 pub from_passes : (v : Verdict)
     → v ≡ cond (not (passes May v)) No (cond (passes Must v) Yes Open)
 from_passes Yes = refl
-from_passes No = refl
-from_passes Open = refl
+from_passes v = refl

@@ -21,7 +21,8 @@ use Rattle.am_search.specs.declared.verdict.Verdict.{Verdict}
 use Rattle.am_search.specs.declared.verdict.Verdict.TheVariants.{No}
 use Rattle.am_judged_lists.specs.Verdicts.{verdict_of_list}
 use Rattle.am_eval.specs.declared.pair.Pair.{Pair}
-use Rattle.am_eval.specs.Question.{Inhibited}
+use Rattle.am_eval.specs.declared.property.Property.TheVariants.{Inhibited}
+use Rattle.am_eval.specs.Question.{Is}
 use Rattle.am_eval.specs.World.{World}
 use Rattle.am_eval.specs.Conditions.{Literal, some_way_holds, inhibiting_way, not_matching}
 use Rattle.am_eval.specs.Conditions.{same_value, pair_way}
@@ -168,7 +169,7 @@ pub pairs_truth : {L : Type 0} (u : List Label) (w : World) (verdict : L → Lis
     → lists.sides.items ≡ map (λ (pair : PairList L). pair.side) pairs
     → list_any (pair_by verdict prefix m lists.sources.items) pairs
     ≡ list_any (way_of_pair u w prefix m) (pairs_of w.config.rules w.alerts)
-    → inhibited_by verdict prefix lists m ≡ passes m (verdict_of_simple u w Inhibited prefix)
+    → inhibited_by verdict prefix lists m ≡ passes m (verdict_of_simple u w (Is Inhibited) prefix)
 pairs_truth u w verdict prefix m lists pairs of_lists of_sides same =
     let holds : Literal → Bool = λ l. passes m (verdict_of_literal u prefix l) in
     let fails = side_fails verdict prefix m lists.sources.items in
@@ -180,7 +181,7 @@ pairs_truth u w verdict prefix m lists pairs of_lists of_sides same =
     ∙ sym (list_any-map (list_all holds) (pair_way w.config.rules w.alerts)
     (pairs_of w.config.rules w.alerts))
     ∙ ap (some_way_holds holds) (ways_of_pairs w)
-    ∙ sym (passes_simple m u w Inhibited prefix)
+    ∙ sym (passes_simple m u w (Is Inhibited) prefix)
 
 -- ---- One pair after the other.
 

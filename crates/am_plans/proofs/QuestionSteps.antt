@@ -3,6 +3,7 @@
 use Rattle.std.proofs.Common.{◌≡◌, ℕ, List, Bool, not, ◌&&◌, ◌||◌, ap, sym, ◌∙◌, Box}
 use Rattle.std.specs.Global.{Global}
 use Rattle.am_search.specs.declared.verdict.Verdict.{Verdict}
+use Rattle.am_eval.specs.declared.property.Property.{Property}
 use Rattle.am_eval.specs.declared.question.Question.{fold-roll-Question}
 use Rattle.am_eval.specs.declared.question.Question as kept
 use Rattle.am_eval.specs.declared.question.Question.TheOpen.{Question-F}
@@ -17,7 +18,7 @@ use Rattle.am_plans.specs.declared.question_lists.QuestionLists.TheOpen.{Questio
 use Rattle.am_plans.specs.declared.question_lists.QuestionLists.TheVariants as lists
 use Rattle.am_plans.specs.declared.target.Target as targets
 use Rattle.am_judged_lists.specs.Certainty.{other}
-use Rattle.am_plans.specs.TargetView.{target_view}
+use Rattle.am_plans.specs.Target.{target_view}
 use Rattle.am_plans.specs.WorldByLists.{WorldSeen}
 use Rattle.am_plans.specs.QuestionByLists.{question_step, question_by}
 
@@ -43,6 +44,12 @@ module _ {L : Type 0} (verdict : L → List ℕ → Verdict) (prefix : List ℕ)
     (m : Certainty) where
   abbrev truth : QuestionLists L → Bool
   truth q = question_by verdict prefix seen q m
+
+  pub by_is : (property : Property) → truth (lists.Is property) ≡ seen.has m property
+  by_is property =
+      ap truth (sym (lists.rolls-Is property))
+      ∙ ap (λ f. f m) (fold-roll-QuestionLists L (Certainty → Bool)
+      (question_step verdict prefix seen) (QuestionLists-F.Is property))
 
   pub by_comes : (target : targets.Target)
       → truth (lists.Comes target) ≡ seen.comes m (target_view target)

@@ -13,7 +13,8 @@ use Rattle.am_judged_lists.specs.Verdicts.{matches_at, verdict_over, verdict_of_
 use Rattle.am_search.proofs.Walks.{completion_whole}
 use Rattle.am_judged_lists.proofs.VerdictLemmas.{same_verdict}
 use Rattle.am_eval.specs.Tree.{Part}
-use Rattle.am_eval.specs.Question.{Any}
+use Rattle.am_eval.specs.declared.property.Property.TheVariants.{Any}
+use Rattle.am_eval.specs.Question.{Is}
 use Rattle.am_eval.specs.World.{World}
 use Rattle.am_plans.specs.SpaceExample.{team, severity, web_critical, without_web_critical}
 use Rattle.am_plans.specs.Verdicts.{kleene_not, kleene_and, verdict_of}
@@ -33,7 +34,7 @@ is_universe =
     (added_is_universe [] team IsUniverse-empty refl) refl
 
 pub any_by_rows : (w : World) (prefix : List ℕ)
-    → verdict_of without_web_critical w (Part Any) prefix
+    → verdict_of without_web_critical w (Part (Is Any)) prefix
     ≡ kleene_and (kleene_not (verdict_over (rows_hold (team ∷ severity ∷ []) web_critical)
     (completions (sizes (team ∷ severity ∷ [])) prefix))) Yes
 any_by_rows w prefix =

@@ -4,7 +4,7 @@ use Rattle.std.proofs.Common.{List, [], ◌∷◌, ◌++◌, map, take, length, 
 use Rattle.std.proofs.Common.{refl, ap, sym, ◌∙◌, arith, append_assoc}
 use Rattle.std.specs.Prelude.{slice_get, ◌==◌}
 use Rattle.std.specs.List.{list_all, list_any, filter}
-use Rattle.std.proofs.lemmas.Bool.{eq-eqb, ne_eqb}
+use Rattle.std.proofs.lemmas.Bool.{and_right, or_right, eq-eqb, ne_eqb}
 use Rattle.std.proofs.lemmas.List.{length-append}
 use Rattle.std.proofs.lemmas.List.Folds.{list_all-append, list_any-append, list_all-map}
 use Rattle.std.proofs.lemmas.Option.{slice_get_read}
@@ -15,6 +15,8 @@ use Rattle.am_config.specs.ConfigFile.{RouteTree, RouteSettings, Routes, route, 
 use Rattle.am_config.specs.ConfigFile.{next_route, matchers_of, continues_of}
 use Rattle.am_config.specs.Path.{list_of, route_at}
 use Rattle.am_eval.specs.Conditions.{Literal, some_way_holds, matching, not_matching}
+use Rattle.am_eval.specs.declared.reach.Reach.{Reach}
+use Rattle.am_eval.specs.declared.reach.Reach.TheVariants.{Ends, Enters}
 use Rattle.am_eval.specs.Conditions.{stopped_by_none, no_child_of, ways_into, ways_below}
 use Rattle.am_eval.specs.Conditions.{is_receiver, paths_to}
 use Rattle.am_config.specs.RoutePaths.{paths_at}
@@ -22,11 +24,10 @@ use Rattle.am_config.proofs.RouteLists.{paths_from, paths_next}
 use Rattle.am_judged_lists.specs.declared.certainty.Certainty.{Certainty}
 use Rattle.am_judged_lists.specs.Certainty.{passes}
 use Rattle.am_plans.specs.Verdicts.{verdict_of_literal}
-use Rattle.am_plans.specs.Target.{Target, Nothing, Receiver, Ends, Enters, target_below, ways_to}
-use Rattle.am_plans.specs.Target.{is_end_here, on_the_way}
+use Rattle.am_plans.specs.Target.{Target, Nothing, Receiver, Route, target_below, ways_to}
+use Rattle.am_plans.specs.Target.{is_end_here}
 use Rattle.am_plans.specs.RouteSeen.{route_seen, comes_by, comes_below}
-use Rattle.am_plans.proofs.SomeWay.{and_false, or_true, or_false, and_in, or_turned, any_kept}
-use Rattle.am_plans.proofs.SomeWay.{any_and}
+use Rattle.am_plans.proofs.SomeWay.{or_false, and_in, or_turned, any_kept, any_and}
 use Rattle.am_eval.proofs.SomeWay.{some_way-literal, some_way-front, some_way-joined}
 
 -- ---- The parts of a walk over siblings, for any truth of literals.
@@ -116,7 +117,7 @@ none_reached test goes p i (t ∷ ts) less other =
     rw (
       other i t (λ e. absurd (omega (arith, e))),
       none_reached test goes p (i + 1) ts (omega arith) other,
-    ) (and_false (goes t))
+    ) (and_right (goes t) false refl)
 
 one_reached : (test : ℕ → RouteTree → Bool) (goes : RouteTree → Bool) (p i k : ℕ)
     (ts : List RouteTree) → p ≡ i + k
@@ -129,7 +130,7 @@ one_reached test goes p i zero (t ∷ ts) at other =
     let same : i ≡ p = omega (arith, at) in
     ap (λ b. test i t || (goes t && b))
     (none_reached test goes p (i + 1) ts (omega (arith, at)) other)
-    ∙ ap (λ b. test i t || b) (and_false (goes t)) ∙ or_false (test i t)
+    ∙ ap (λ b. test i t || b) (and_right (goes t) false refl) ∙ or_false (test i t)
     ∙ ap (λ j. test j t) same
 one_reached test goes p i (suc k) (t ∷ ts) at other =
     ap (λ b. b || (goes t && some_reached test goes (i + 1) ts))
@@ -152,7 +153,7 @@ passed_where holds (t ∷ ts) =
         && list_all holds (map (λ t. not_matching (matchers_of t)) kept))
     by true kept =
         let rest = list_all holds (map (λ t. not_matching (matchers_of t)) kept) in
-        ap (λ b. b && rest) (sym (or_true (is_passed_by holds t)))
+        ap (λ b. b && rest) (sym (or_right (is_passed_by holds t) true refl))
     by false kept =
         let rest = list_all holds (map (λ t. not_matching (matchers_of t)) kept) in
         ap (λ b. b && rest) (sym (or_false (is_passed_by holds t)))
@@ -164,15 +165,15 @@ into_child holds further None = refl
 into_child holds further (Some t) = some_way-literal holds (matching (matchers_of t)) (further t)
 
 -- the condition of a path below a route
-below_path : (holds : Literal → Bool) (last : RouteTree → List Literal) (settings : RouteSettings)
+below_path : (holds : Literal → Bool) (reach : Reach) (settings : RouteSettings)
     (children : Routes) (p : ℕ) (path : List ℕ)
-    → some_way_holds holds (ways_below last (route settings children) (p ∷ path))
+    → some_way_holds holds (ways_below reach (route settings children) (p ∷ path))
     ≡ (list_all (goes_on holds) (take p (list_of children))
-    && at_child (λ t. is_matched holds t && some_way_holds holds (ways_below last t path))
+    && at_child (λ t. is_matched holds t && some_way_holds holds (ways_below reach t path))
     (slice_get (list_of children) p))
-below_path holds last settings children p path =
+below_path holds reach settings children p path =
     let front = stopped_by_none (take p (list_of children)) in
-    let further = λ (child : RouteTree). ways_below last child path in
+    let further = λ (child : RouteTree). ways_below reach child path in
     let child = slice_get (list_of children) p in
     some_way-front holds front (ways_into further child)
     ∙ ap (λ b. b && some_way_holds holds (ways_into further child))
@@ -186,63 +187,53 @@ at_child_same f g same None = refl
 at_child_same f g same (Some t) = same t
 
 -- what leads elsewhere is reached by no other child
-elsewhere : (holds : Literal → Bool) (further : List ℕ → Target) (p j : ℕ) (path : List ℕ)
-    (t : RouteTree) → (p ≡ j → ⊥)
-    → (is_matched holds t
-    && some_way_holds holds (ways_to (on_the_way j further (p ∷ path)) t)) ≡ false
-elsewhere holds further p j path t differs =
-    rw (ne_eqb p j differs) (and_false (is_matched holds t))
+elsewhere : (holds : Literal → Bool) (reach : Reach) (p j : ℕ) (path : List ℕ) (t : RouteTree)
+    → (p ≡ j → ⊥) → comes_by_child holds (Route reach (p ∷ path)) j t ≡ false
+elsewhere holds reach p j path t differs =
+    rw (ne_eqb p j differs) (and_right (is_matched holds t) false refl)
 
-there : (holds : Literal → Bool) (further : List ℕ → Target) (p : ℕ) (path : List ℕ)
-    (t : RouteTree)
-    → (is_matched holds t && some_way_holds holds (ways_to (on_the_way p further (p ∷ path)) t))
-    ≡ (is_matched holds t && some_way_holds holds (ways_to (further path) t))
-there holds further p path t = rw (eq-eqb p p refl) refl
+there : (holds : Literal → Bool) (reach : Reach) (p : ℕ) (path : List ℕ) (t : RouteTree)
+    → comes_by_child holds (Route reach (p ∷ path)) p t
+    ≡ (is_matched holds t && some_way_holds holds (ways_below reach t path))
+there holds reach p path t = rw (eq-eqb p p refl) refl
 
 -- a walk to where the target's path leads, which is below a child
-to_path : (holds : Literal → Bool) (further : List ℕ → Target)
-    (last : RouteTree → List Literal) (settings : RouteSettings) (children : Routes) (p : ℕ)
-    (path : List ℕ)
-    → ((t : RouteTree) → ways_to (further path) t ≡ ways_below last t path)
-    → some_reached (λ j t. is_matched holds t
-    && some_way_holds holds (ways_to (on_the_way j further (p ∷ path)) t))
-    (goes_on holds) 0 (list_of children)
-    ≡ some_way_holds holds (ways_below last (route settings children) (p ∷ path))
-to_path holds further last settings children p path same =
-    let test = λ (j : ℕ) (t : RouteTree). is_matched holds t
-    && some_way_holds holds (ways_to (on_the_way j further (p ∷ path)) t) in
-    let below = λ (t : RouteTree). is_matched holds t
-    && some_way_holds holds (ways_below last t path) in
-    one_reached test (goes_on holds) p 0 p (list_of children) (omega arith)
-    (λ j t differs. elsewhere holds further p j path t differs)
+to_path : (holds : Literal → Bool) (reach : Reach) (settings : RouteSettings) (children : Routes)
+    (p : ℕ) (path : List ℕ)
+    → some_reached (comes_by_child holds (Route reach (p ∷ path))) (goes_on holds) 0
+    (list_of children)
+    ≡ some_way_holds holds (ways_below reach (route settings children) (p ∷ path))
+to_path holds reach settings children p path =
+    one_reached (comes_by_child holds (Route reach (p ∷ path))) (goes_on holds) p 0 p
+    (list_of children) (omega arith) (λ j t differs. elsewhere holds reach p j path t differs)
     ∙ ap (λ b. list_all (goes_on holds) (take p (list_of children)) && b)
-    (at_child_same (test p) below (λ t. there holds further p path t
-    ∙ ap (λ ways. is_matched holds t && some_way_holds holds ways) (same t))
-    (slice_get (list_of children) p))
-    ∙ sym (below_path holds last settings children p path)
+    (at_child_same (comes_by_child holds (Route reach (p ∷ path)) p)
+    (λ t. is_matched holds t && some_way_holds holds (ways_below reach t path))
+    (there holds reach p path) (slice_get (list_of children) p))
+    ∙ sym (below_path holds reach settings children p path)
 
 -- ---- A target at no child: the route itself.
 
 never_reached : (holds : Literal → Bool) (i : ℕ) (ts : List RouteTree)
-    → some_reached (comes_by_child holds (Ends [])) (goes_on holds) i ts ≡ false
+    → some_reached (comes_by_child holds (Route Ends [])) (goes_on holds) i ts ≡ false
 never_reached holds i [] = refl
 never_reached holds i (t ∷ ts) =
-    rw (and_false (is_matched holds t), never_reached holds (i + 1) ts)
-    (and_false (goes_on holds t))
+    rw (and_right (is_matched holds t) false refl, never_reached holds (i + 1) ts)
+    (and_right (goes_on holds t) false refl)
 
 -- ---- A receiver: each path below is one of a child.
 
 -- an alert that matches a route ends at a path below it, and there is the receiver
 abbrev ends_there : (Literal → Bool) → ℕ → RouteTree → List ℕ → Bool
 ends_there holds receiver t path =
-    is_receiver receiver (route_at t path) && some_way_holds holds (ways_below no_child_of t path)
+    is_receiver receiver (route_at t path) && some_way_holds holds (ways_below Ends t path)
 
 to_receiver : (holds : Literal → Bool) (receiver : ℕ) (t : RouteTree)
     → some_way_holds holds (ways_to (Receiver receiver) t)
     ≡ list_any (ends_there holds receiver t) (paths_at t)
 to_receiver holds receiver t =
-    some_way-joined holds (ways_below no_child_of t) (paths_to receiver t)
-    ∙ any_kept (λ path. some_way_holds holds (ways_below no_child_of t path))
+    some_way-joined holds (ways_below Ends t) (paths_to receiver t)
+    ∙ any_kept (λ path. some_way_holds holds (ways_below Ends t path))
     (λ path. is_receiver receiver (route_at t path)) (paths_at t)
 
 join_children : (passed matched below goes later : Bool)
@@ -260,7 +251,7 @@ by_child : (holds : Literal → Bool) (receiver : ℕ) (settings : RouteSettings
     → ends_there holds receiver (route settings children) (length front ∷ path)
     ≡ ((list_all (goes_on holds) front && is_matched holds t) && ends_there holds receiver t path)
 by_child holds receiver settings children front t path at before =
-    let further = λ (child : RouteTree). ways_below no_child_of child path in
+    let further = λ (child : RouteTree). ways_below Ends child path in
     let ends = some_way_holds holds (further t) in
     let passed = list_all (goes_on holds) front in
     let ways = ways_into further (Some t) in
@@ -288,7 +279,7 @@ by_children : (holds : Literal → Bool) (receiver : ℕ) (settings : RouteSetti
     ≡ (list_all (goes_on holds) front
     && some_reached (comes_by_child holds (Receiver receiver)) (goes_on holds) i (list_of ts))
 by_children holds receiver settings children front i no_routes all at =
-    sym (and_false (list_all (goes_on holds) front))
+    sym (and_right (list_all (goes_on holds) front) false refl)
 by_children holds receiver settings children front i (next_route t ts) all at =
     let goes = goes_on holds in
     let top = route settings children in
@@ -347,23 +338,18 @@ walked u prefix m (Receiver receiver) settings children =
     (sym (list_all-map holds (λ t. not_matching (matchers_of t)) ts)
     ∙ sym (or_false (list_all holds (no_child_of top))))
     ∙ sym (to_receiver holds receiver top)
-walked u prefix m (Ends []) settings children =
+walked u prefix m (Route Ends []) settings children =
     let holds = says m u prefix in
     let ts = list_of children in
-    walk_parts u prefix m settings.receiver (Ends []) true 0 ts
+    walk_parts u prefix m settings.receiver (Route Ends []) true 0 ts
     ∙ ap (λ b. b || list_all (is_passed_by holds) ts) (never_reached holds 0 ts)
     ∙ sym (list_all-map holds (λ t. not_matching (matchers_of t)) ts)
     ∙ sym (or_false (list_all holds (no_child_of (route settings children))))
-walked u prefix m (Ends (p ∷ path)) settings children =
+walked u prefix m (Route Enters []) settings children = refl
+walked u prefix m (Route reach (p ∷ path)) settings children =
+    let target = Route reach (p ∷ path) in
     let holds = says m u prefix in
     let ts = list_of children in
-    walk_parts u prefix m settings.receiver (Ends (p ∷ path)) true 0 ts
-    ∙ or_false (some_reached (comes_by_child holds (Ends (p ∷ path))) (goes_on holds) 0 ts)
-    ∙ to_path holds Ends no_child_of settings children p path (λ t. refl)
-walked u prefix m (Enters []) settings children = refl
-walked u prefix m (Enters (p ∷ path)) settings children =
-    let holds = says m u prefix in
-    let ts = list_of children in
-    walk_parts u prefix m settings.receiver (Enters (p ∷ path)) true 0 ts
-    ∙ or_false (some_reached (comes_by_child holds (Enters (p ∷ path))) (goes_on holds) 0 ts)
-    ∙ to_path holds Enters (λ _. []) settings children p path (λ t. refl)
+    walk_parts u prefix m settings.receiver target true 0 ts
+    ∙ or_false (some_reached (comes_by_child holds target) (goes_on holds) 0 ts)
+    ∙ to_path holds reach settings children p path

@@ -1,6 +1,5 @@
 pub mod Verdicts
 pub mod Target
-pub mod TargetView
 pub mod RouteSeen
 pub mod RoutesByLists
 pub mod PairsByLists

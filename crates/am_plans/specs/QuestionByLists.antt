@@ -1,20 +1,18 @@
 -- Whether a question is true, by its lists and by what is seen of the world: whether that is not
 -- excluded, and whether it is certain.
-use Rattle.std.specs.Prelude.{ℕ, List, Bool, true, not, ◌&&◌, ◌||◌}
+use Rattle.std.specs.Prelude.{ℕ, List, Bool, not, ◌&&◌, ◌||◌}
 use Rattle.am_search.specs.declared.verdict.Verdict.{Verdict}
 use Rattle.am_judged_lists.specs.declared.certainty.Certainty.{Certainty}
 use Rattle.am_plans.specs.declared.question_lists.QuestionLists.{QuestionLists, fold-QuestionLists}
 use Rattle.am_plans.specs.declared.question_lists.QuestionLists.TheOpen.{QuestionLists-F}
 use Rattle.am_judged_lists.specs.Certainty.{passes, other}
-use Rattle.am_plans.specs.TargetView.{target_view}
+use Rattle.am_plans.specs.Target.{target_view}
 use Rattle.am_plans.specs.WorldByLists.{WorldSeen}
 
 -- One level of a question, with the truth of its parts already known; and the whole question.
 abbrev pub question_step : {L : Type 0} → (L → List ℕ → Verdict) → List ℕ → WorldSeen
     → QuestionLists-F L (Certainty → Bool) → Certainty → Bool
-question_step verdict prefix seen QuestionLists-F.Any m = true
-question_step verdict prefix seen QuestionLists-F.Silenced m = seen.silenced m
-question_step verdict prefix seen QuestionLists-F.Inhibited m = seen.inhibited m
+question_step verdict prefix seen (QuestionLists-F.Is property) m = seen.has m property
 question_step verdict prefix seen (QuestionLists-F.Comes target) m =
     seen.comes m (target_view target)
 question_step verdict prefix seen (QuestionLists-F.Braces list) m = passes m (verdict list prefix)

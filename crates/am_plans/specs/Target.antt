@@ -2,56 +2,50 @@
 use Rattle.std.specs.Prelude.{ℕ, List, [], ◌∷◌, Bool, true, false, ◌==◌, if◌then◌else◌}
 use Rattle.std.specs.List.{flat_map}
 use Rattle.am_config.specs.ConfigFile.{RouteTree}
-use Rattle.am_eval.specs.Conditions.{Literal, ways_below, no_child_of, paths_to}
+use Rattle.am_eval.specs.declared.reach.Reach.{Reach}
+use Rattle.am_eval.specs.declared.reach.Reach.TheVariants.{Ends, Enters}
+use Rattle.am_eval.specs.Conditions.{Literal, ways_below, paths_to}
+use Rattle.am_plans.specs.declared.target.Target as kept
+use Rattle.am_plans.specs.declared.target.Target.TheVariants as kept_is
 
--- No route; an end that has this receiver; the end at this path; the route at this path, whether
--- the alert ends there or below it.
+-- No route; an end that has this receiver; the route at this path, reached so.
 pub data Target : Type 0 where
   Nothing : Target
   Receiver : ℕ → Target
-  Ends : List ℕ → Target
-  Enters : List ℕ → Target
+  Route : Reach → List ℕ → Target
 
--- What is left of a target at the child at position `i`. A path that leads to another child leaves
--- nothing.
-abbrev pub on_the_way : ℕ → (List ℕ → Target) → List ℕ → Target
-on_the_way i further [] = Nothing
-on_the_way i further (p ∷ path) = if p == i then further path else Nothing
+-- The target that a `Target` stands for: a path is the list of its steps.
+abbrev pub target_view : kept.Target → Target
+target_view kept_is.Nothing = Nothing
+target_view (kept_is.Receiver receiver) = Receiver receiver
+target_view (kept_is.Route reach path) = Route reach path.now
 
+-- What is left of a target at the child at position `i`. A path that leads to another child, or no
+-- further, leaves nothing.
 abbrev pub target_below : Target → ℕ → Target
-target_below Nothing i = Nothing
-target_below (Receiver receiver) i = Receiver receiver
-target_below (Ends path) i = on_the_way i Ends path
-target_below (Enters path) i = on_the_way i Enters path
+target_below (Route reach []) i = Nothing
+target_below (Route reach (p ∷ path)) i = if p == i then Route reach path else Nothing
+target_below target i = target
 
--- A path leads no further.
-abbrev pub is_empty : List ℕ → Bool
-is_empty [] = true
-is_empty (p ∷ path) = false
-
--- This route, with this receiver, is an end that is looked for.
+-- This route, with this receiver, is an end that is looked for; it is the one that is to be
+-- entered; and nothing is looked for.
 abbrev pub is_end_here : Target → ℕ → Bool
-is_end_here Nothing receiver = false
 is_end_here (Receiver other) receiver = receiver == other
-is_end_here (Ends path) receiver = is_empty path
-is_end_here (Enters path) receiver = false
+is_end_here (Route reach (p ∷ path)) receiver = false
+is_end_here (Route Ends []) receiver = true
+is_end_here target receiver = false
 
--- This route is the one that is to be entered; and nothing is looked for.
 abbrev pub is_entered : Target → Bool
-is_entered Nothing = false
-is_entered (Receiver receiver) = false
-is_entered (Ends path) = false
-is_entered (Enters path) = is_empty path
+is_entered (Route reach (p ∷ path)) = false
+is_entered (Route Enters []) = true
+is_entered target = false
 
 abbrev pub is_nothing : Target → Bool
 is_nothing Nothing = true
-is_nothing (Receiver receiver) = false
-is_nothing (Ends path) = false
-is_nothing (Enters path) = false
+is_nothing target = false
 
 -- The condition under which an alert that matches a route comes to the target.
 abbrev pub ways_to : Target → RouteTree → List (List Literal)
 ways_to Nothing t = []
-ways_to (Receiver receiver) t = flat_map (ways_below no_child_of t) (paths_to receiver t)
-ways_to (Ends path) t = ways_below no_child_of t path
-ways_to (Enters path) t = ways_below (λ _. []) t path
+ways_to (Receiver receiver) t = flat_map (ways_below Ends t) (paths_to receiver t)
+ways_to (Route reach path) t = ways_below reach t path

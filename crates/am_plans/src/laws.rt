@@ -14,7 +14,8 @@ ghost use Rattle.am_search.specs.ExactJudge.{IsExactJudge};
 ghost use Rattle.am_search.specs.Visits.{visited};
 ghost use Rattle.am_search.specs.Start.{answers_from};
 ghost use Rattle.am_eval.specs.Tree.{Part};
-ghost use Rattle.am_eval.specs.Question.{Any, Braces, Question, is_answer};
+ghost use Rattle.am_eval.specs.declared.property.Property.TheVariants.{Any};
+ghost use Rattle.am_eval.specs.Question.{Is, Braces, Question, is_answer};
 ghost use Rattle.am_eval.specs.World.{World};
 ghost use Rattle.am_plans.specs.declared.plan.Plan.{Plan};
 ghost use Rattle.am_plans.specs.PlanWords.{plan_space, plan_sizes, plan_verdict};
@@ -44,14 +45,14 @@ pub fn a_verdict_says_what_holds_of_all_completions()
 /// is `critical` or `warning`.
 pub fn an_example_of_verdicts_in_a_space()
     ensures nothing_chosen { (w : World)
-        → verdict_of without_web_critical w (Part Any) [] ≡ Open }
-    ensures db { (w : World) → verdict_of without_web_critical w (Part Any) (0 ∷ []) ≡ Yes }
-    ensures web { (w : World) → verdict_of without_web_critical w (Part Any) (1 ∷ []) ≡ Open }
-    ensures no_team { (w : World) → verdict_of without_web_critical w (Part Any) (2 ∷ []) ≡ Yes }
+        → verdict_of without_web_critical w (Part (Is Any)) [] ≡ Open }
+    ensures db { (w : World) → verdict_of without_web_critical w (Part (Is Any)) (0 ∷ []) ≡ Yes }
+    ensures web { (w : World) → verdict_of without_web_critical w (Part (Is Any)) (1 ∷ []) ≡ Open }
+    ensures no_team { (w : World) → verdict_of without_web_critical w (Part (Is Any)) (2 ∷ []) ≡ Yes }
     ensures web_critical { (w : World)
-        → verdict_of without_web_critical w (Part Any) (1 ∷ 0 ∷ []) ≡ No }
+        → verdict_of without_web_critical w (Part (Is Any)) (1 ∷ 0 ∷ []) ≡ No }
     ensures web_warning { (w : World)
-        → verdict_of without_web_critical w (Part Any) (1 ∷ 1 ∷ []) ≡ Yes }
+        → verdict_of without_web_critical w (Part (Is Any)) (1 ∷ 1 ∷ []) ≡ Yes }
 {}
 
 /// Where no list is impossible, the judge of a question that is one list of matchers is exact: its

@@ -17,7 +17,6 @@ mod world_lists;
 
 // The lists of a question, and the question with the lists of its world.
 mod judged_question;
-mod needs;
 mod question_lists;
 
 pub use judged_question::JudgedQuestion;

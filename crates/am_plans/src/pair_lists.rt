@@ -6,7 +6,8 @@ ghost use Rattle.std.specs.List.{list_any};
 ghost use Rattle.am_universe.specs.Universe.{sizes};
 ghost use Rattle.am_labels.specs.Row.{row_of};
 ghost use Rattle.am_judged_lists.specs.Verdicts.{verdict_of_list};
-ghost use Rattle.am_eval.specs.Question.{Inhibited};
+ghost use Rattle.am_eval.specs.declared.property.Property.TheVariants.{Inhibited};
+ghost use Rattle.am_eval.specs.Question.{Is};
 ghost use Rattle.am_eval.specs.Pairs.{pairs_of};
 ghost use Rattle.am_eval.specs.Conditions.{same_value};
 ghost use Rattle.am_judged_lists.specs.declared.certainty.Certainty.{Certainty};
@@ -60,7 +61,7 @@ impl<L: JudgedList> PairLists<L> {
     ) -> Result<PairLists<L>, AllocError>
         ensures inhibited { IfOk result (λ lists. (prefix : List ℕ) (m : Certainty)
             → L.Knows (sizes universe.now) prefix → inhibited_by L.verdict prefix lists m
-            ≡ passes m (verdict_of_simple universe.now world.now Inhibited prefix)) }
+            ≡ passes m (verdict_of_simple universe.now world.now (Is Inhibited) prefix)) }
     {
         let rules = world.config().rules();
         let sources = lists_of_sources(alloc, universe, rules)?;

@@ -12,7 +12,7 @@ ghost use Rattle.am_plans.specs.QuestionByLists.{question_by};
 
 use crate::target::Target;
 use crate::world_lists::WorldLists;
-use am_eval::Question;
+use am_eval::{Property, Question};
 use am_judged_lists::{Certainty, JudgedList, rows_of};
 use am_universe::{Choice, Universe};
 use std::alloc::{AllocError, Global};
@@ -20,12 +20,8 @@ use std::alloc::{AllocError, Global};
 /// A question, with the lists of its matchers.
 #[derive(Drop)]
 pub(crate) enum QuestionLists<'q, L> {
-    /// True of every label set.
-    Any,
-    /// Some silence hides the label set.
-    Silenced,
-    /// Some firing alert inhibits it.
-    Inhibited,
+    /// The label set has this property.
+    Is(Property),
     /// It comes to a target among the routes.
     Comes(Target<'q>),
     /// It matches the list.
@@ -53,12 +49,11 @@ impl<'q, L: JudgedList> QuestionLists<'q, L> {
             ≡ passes m (verdict_of_question universe.now w (question_view question.now) prefix)) }
     {
         match question {
-            Question::Any => Ok(QuestionLists::Any),
-            Question::Silenced => Ok(QuestionLists::Silenced),
-            Question::Inhibited => Ok(QuestionLists::Inhibited),
+            Question::Is(property) => Ok(QuestionLists::Is(*property)),
             Question::Receiver(receiver) => Ok(QuestionLists::Comes(Target::Receiver(*receiver))),
-            Question::Ends(path) => Ok(QuestionLists::Comes(Target::Ends(path.steps()))),
-            Question::Enters(path) => Ok(QuestionLists::Comes(Target::Enters(path.steps()))),
+            Question::Route(reach, path) => {
+                Ok(QuestionLists::Comes(Target::Route(*reach, path.steps())))
+            }
             Question::Braces(matchers) => {
                 let rows = rows_of(alloc, universe, matchers)?;
                 Ok(QuestionLists::Braces(L::of_rows(alloc, universe, rows.as_slice(), &[])?))
@@ -87,9 +82,7 @@ impl<'q, L: JudgedList> QuestionLists<'q, L> {
             (world_seen L.verdict prefix.now world.now) self.now certainty }
     {
         match self {
-            QuestionLists::Any => true,
-            QuestionLists::Silenced => world.silenced(certainty, prefix),
-            QuestionLists::Inhibited => world.inhibited(certainty, prefix),
+            QuestionLists::Is(property) => world.has(certainty, *property, prefix),
             QuestionLists::Comes(target) => world.comes(certainty, *target, prefix),
             QuestionLists::Braces(list) => certainty.holds(list, prefix),
             QuestionLists::Not(question) => !question.holds(world, certainty.other(), prefix),

@@ -4,7 +4,7 @@ ghost use Rattle.std.specs.Prelude.{◌≡◌, ◌&&◌, ℕ, List, map, IfOk};
 ghost use Rattle.am_universe.specs.Universe.{sizes};
 ghost use Rattle.am_config.specs.RouteView.{route_view};
 ghost use Rattle.am_judged_lists.specs.Certainty.{passes};
-ghost use Rattle.am_plans.specs.TargetView.{target_view};
+ghost use Rattle.am_plans.specs.Target.{target_view};
 ghost use Rattle.am_plans.specs.RouteSeen.{route_seen};
 ghost use Rattle.am_plans.specs.RoutesByLists.{seen_by};
 

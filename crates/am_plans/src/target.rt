@@ -1,8 +1,10 @@
 //! Which routes are looked for.
 
 ghost use Rattle.std.specs.Prelude.{◌≡◌, ℕ, List, ◌∷◌, ◌≢◌, IfSome, IfNone};
-ghost use Rattle.am_plans.specs.TargetView.{target_view};
-ghost use Rattle.am_plans.specs.Target.{target_below, is_end_here, is_entered, is_nothing};
+ghost use Rattle.am_plans.specs.Target.{target_view, target_below, is_end_here, is_entered};
+ghost use Rattle.am_plans.specs.Target.{is_nothing};
+
+use am_eval::Reach;
 
 /// Which routes are looked for, seen from a route: those to which a way leads from there, or those
 /// that have a receiver.
@@ -12,10 +14,8 @@ pub(crate) enum Target<'q> {
     Nothing,
     /// The ends whose receiver is at this position.
     Receiver(usize),
-    /// The end at this path.
-    Ends(&'q [u16]),
-    /// The route at this path, whatever end below it.
-    Enters(&'q [u16]),
+    /// The route at this path, reached so.
+    Route(Reach, &'q [u16]),
 }
 
 impl<'q> Target<'q> {
@@ -24,14 +24,9 @@ impl<'q> Target<'q> {
         ensures below { target_view result ≡ target_below (target_view self.entry) position }
     {
         match self {
-            Target::Nothing => Target::Nothing,
-            Target::Receiver(receiver) => Target::Receiver(receiver),
-            Target::Ends(path) => match path_below(path, position) {
-                Some(path) => Target::Ends(path),
-                None => Target::Nothing,
-            },
-            Target::Enters(path) => match path_below(path, position) {
-                Some(path) => Target::Enters(path),
+            Target::Nothing | Target::Receiver(_) => self,
+            Target::Route(reach, path) => match path_below(path, position) {
+                Some(path) => Target::Route(reach, path),
                 None => Target::Nothing,
             },
         }
@@ -43,9 +38,9 @@ impl<'q> Target<'q> {
         ensures here { result ≡ is_end_here (target_view self.entry) receiver }
     {
         match self {
-            Target::Nothing | Target::Enters(_) => false,
+            Target::Nothing | Target::Route(Reach::Enters, _) => false,
             Target::Receiver(other) => receiver == other,
-            Target::Ends(path) => path.is_empty(),
+            Target::Route(Reach::Ends, path) => path.is_empty(),
         }
     }
 
@@ -54,7 +49,7 @@ impl<'q> Target<'q> {
         ensures entered { result ≡ is_entered (target_view self.entry) }
     {
         match self {
-            Target::Enters(path) => path.is_empty(),
+            Target::Route(Reach::Enters, path) => path.is_empty(),
             _ => false,
         }
     }
@@ -63,10 +58,7 @@ impl<'q> Target<'q> {
     pub(crate) fn is_nothing(self) -> bool
         ensures nothing { result ≡ is_nothing (target_view self.entry) }
     {
-        match self {
-            Target::Nothing => true,
-            _ => false,
-        }
+        matches!(self, Target::Nothing)
     }
 }
 

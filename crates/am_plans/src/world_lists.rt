@@ -3,23 +3,53 @@
 ghost use Rattle.std.specs.Prelude.{◌≡◌, ◌||◌, ℕ, List, IfOk, OnOk, IsTrue};
 ghost use Rattle.std.specs.List.{list_any};
 ghost use Rattle.am_universe.specs.Universe.{sizes};
-ghost use Rattle.am_eval.specs.Question.{Silenced, Inhibited};
+ghost use Rattle.am_eval.specs.declared.property.Property.TheVariants.{Silenced, Inhibited};
+ghost use Rattle.am_eval.specs.Question.{Is};
 ghost use Rattle.am_eval.specs.QuestionView.{question_view};
+ghost use Rattle.am_judged_lists.specs.GroupView.{verdicts_in};
 ghost use Rattle.am_judged_lists.specs.declared.certainty.Certainty.{Certainty};
 ghost use Rattle.am_judged_lists.specs.Certainty.{passes};
-ghost use Rattle.am_plans.specs.TargetView.{target_view};
+ghost use Rattle.am_plans.specs.PairsByLists.{inhibited_by};
+ghost use Rattle.am_plans.specs.RoutesByLists.{seen_by};
+ghost use Rattle.am_plans.specs.Target.{target_view};
 ghost use Rattle.am_plans.specs.Verdicts.{verdict_of_simple};
-ghost use Rattle.am_plans.specs.WorldByLists.{world_seen, AreRoutes, Serves, comes_by_lists};
-ghost use Rattle.am_plans.specs.WorldByLists.{silenced_by_lists, inhibited_by_lists};
+ghost use Rattle.am_plans.specs.WorldByLists.{world_seen, needs_of, AreRoutes, IsProperty, Serves};
+ghost use Rattle.am_plans.specs.WorldByLists.{comes_from, if_there};
 
-use crate::needs::{Need, needs};
 use crate::pair_lists::PairLists;
 use crate::route_lists::RouteLists;
 use crate::target::Target;
-use am_eval::{Question, World};
+use am_eval::{Property, Question, World};
 use am_judged_lists::{Certainty, Group, JudgedList, rows_of};
 use am_universe::{Choice, Universe};
 use std::alloc::{AllocError, Global};
+
+/// What a question may ask of.
+#[derive(Clone, Copy)]
+enum Need {
+    /// The routes of the configuration.
+    Routes,
+    /// The silences that are active.
+    Silences,
+    /// The pairs of an inhibition rule and a firing alert.
+    Pairs,
+}
+
+/// Whether a question asks of something.
+fn needs(question: &Question, need: Need) -> bool
+    ensures { result ≡ needs_of need (question_view question.now) }
+{
+    match question {
+        Question::Is(Property::Any) | Question::Braces(_) => false,
+        Question::Is(Property::Silenced) => matches!(need, Need::Silences),
+        Question::Is(Property::Inhibited) => matches!(need, Need::Pairs),
+        Question::Receiver(_) | Question::Route(_, _) => matches!(need, Need::Routes),
+        Question::Not(question) => needs(question, need),
+        Question::And(left, right) | Question::Or(left, right) => {
+            needs(left, need) || needs(right, need)
+        }
+    }
+}
 
 /// The lists of the routes, the active silences, and the pairs of a world, as far as a question
 /// asks of them.
@@ -60,24 +90,21 @@ impl<L: JudgedList> WorldLists<L> {
         }
     }
 
-    /// Whether a silence hides a label set, in the same way.
-    pub(crate) fn silenced(&self, certainty: Certainty, prefix: &Choice) -> bool
-        ensures silenced { result ≡ (world_seen L.verdict prefix.now self.now).silenced certainty }
+    /// Whether a label set has a property, in the same way.
+    pub(crate) fn has(&self, certainty: Certainty, property: Property, prefix: &Choice) -> bool
+        ensures has { result
+            ≡ (world_seen L.verdict prefix.now self.now).has certainty property }
     {
-        match &self.silences {
-            Some(silences) => silences.any(certainty, prefix),
-            None => false,
-        }
-    }
-
-    /// Whether a firing alert inhibits a label set, in the same way.
-    pub(crate) fn inhibited(&self, certainty: Certainty, prefix: &Choice) -> bool
-        ensures inhibited { result
-            ≡ (world_seen L.verdict prefix.now self.now).inhibited certainty }
-    {
-        match &self.pairs {
-            Some(pairs) => pairs.inhibit(certainty, prefix),
-            None => false,
+        match property {
+            Property::Any => true,
+            Property::Silenced => match &self.silences {
+                Some(silences) => silences.any(certainty, prefix),
+                None => false,
+            },
+            Property::Inhibited => match &self.pairs {
+                Some(pairs) => pairs.inhibit(certainty, prefix),
+                None => false,
+            },
         }
     }
 }
@@ -91,7 +118,8 @@ fn routes_if<L: JudgedList>(
 ) -> Result<Option<RouteLists<L>>, AllocError>
     ensures routes { IfOk result (λ found. IsTrue needed → (prefix : List ℕ)
         → L.Knows (sizes universe.now) prefix
-        → AreRoutes universe.now world.now prefix (comes_by_lists L.verdict prefix found)) }
+        → AreRoutes universe.now world.now prefix (λ m target.
+        if_there (λ r. comes_from (seen_by L.verdict prefix r) m target) found)) }
 {
     if !needed {
         return Ok(None);
@@ -107,9 +135,9 @@ fn silences_if<L: JudgedList>(
     needed: bool,
 ) -> Result<Option<Group<L>>, AllocError>
     ensures silences { IfOk result (λ found. IsTrue needed → (prefix : List ℕ)
-        → L.Knows (sizes universe.now) prefix → (m : Certainty)
-        → silenced_by_lists L.verdict prefix found m
-        ≡ passes m (verdict_of_simple universe.now world.now Silenced prefix)) }
+        → L.Knows (sizes universe.now) prefix
+        → IsProperty universe.now world.now prefix Silenced (λ m.
+        if_there (λ group. list_any (passes m) (verdicts_in L.verdict prefix group)) found)) }
 {
     if !needed {
         return Ok(None);
@@ -126,9 +154,9 @@ fn pairs_if<L: JudgedList>(
     needed: bool,
 ) -> Result<Option<PairLists<L>>, AllocError>
     ensures pairs { IfOk result (λ found. IsTrue needed → (prefix : List ℕ)
-        → L.Knows (sizes universe.now) prefix → (m : Certainty)
-        → inhibited_by_lists L.verdict prefix found m
-        ≡ passes m (verdict_of_simple universe.now world.now Inhibited prefix)) }
+        → L.Knows (sizes universe.now) prefix
+        → IsProperty universe.now world.now prefix Inhibited (λ m.
+        if_there (λ pairs. inhibited_by L.verdict prefix pairs m) found)) }
 {
     if !needed {
         return Ok(None);
@@ -146,7 +174,7 @@ fn lists_of_silences<L: JudgedList>(
     ensures silenced { IfOk result (λ lists. (prefix : List ℕ) (m : Certainty)
         → L.Knows (sizes universe.now) prefix
         → list_any (λ list. passes m (L.verdict list prefix)) lists.items
-        ≡ passes m (verdict_of_simple universe.now world.now Silenced prefix)) }
+        ≡ passes m (verdict_of_simple universe.now world.now (Is Silenced) prefix)) }
 {
     let mut lists = Vec::new(alloc);
     for i in 0..world.silences().len() {

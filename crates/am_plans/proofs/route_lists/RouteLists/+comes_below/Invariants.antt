@@ -1,7 +1,7 @@
 use Rattle.std.proofs.Common.{◌≡◌}
 use Rattle.am_plans.specs.declared.route_lists.RouteLists.TheViews.{out-RouteLists}
 use Rattle.am_plans.specs.RoutesByLists.{seen_by}
-use Rattle.am_plans.specs.TargetView.{target_view}
+use Rattle.am_plans.specs.Target.{target_view}
 use Rattle.am_plans.proofs.RouteSteps.{comes_from_child}
 use Rattle.am_plans.proofs.route_lists.RouteLists.+comes_below.Given as goal
 
