@@ -22,6 +22,7 @@ use Rattle.am_search.specs.declared.verdict.Verdict.TheVariants.{Yes, No}
 use Rattle.am_judged_lists.specs.Cube.{MaskedLabels, verdict_at}
 use Rattle.am_judged_lists.specs.Verdicts.{verdict_of_list, matches_at}
 use Rattle.am_search.specs.Judge.{is_yes, is_no}
+use Rattle.am_judged_lists.proofs.ListLemmas.{and_true}
 use Rattle.am_judged_lists.proofs.VerdictLemmas.{list_says}
 use Rattle.am_eval.specs.declared.reach.Reach.TheVariants.{Ends}
 use Rattle.am_eval.specs.Question as question
@@ -87,10 +88,6 @@ allowed_where : (b : Bool) → not (is_no (cond b Yes No)) ≡ b
 allowed_where true = refl
 allowed_where false = refl
 
-and_true : (b : Bool) → (b && true) ≡ b
-and_true true = refl
-and_true false = refl
-
 or_false : (b : Bool) → (b || false) ≡ b
 or_false true = refl
 or_false false = refl
@@ -102,12 +99,10 @@ and_in false b c = refl
 in_order : (first others unwanted wanted rest : Bool)
     → (((first && wanted) && (others && unwanted)) && rest)
     ≡ ((first && others) && (unwanted && (wanted && rest)))
-in_order true true unwanted true rest = refl
 in_order true true true false rest = refl
 in_order true true false false rest = refl
-in_order true false unwanted true rest = refl
 in_order true false unwanted false rest = refl
-in_order false others unwanted wanted rest = refl
+in_order first others unwanted wanted rest = refl
 
 -- ---- The way down.
 
