@@ -6,7 +6,6 @@ use Rattle.std.specs.Prelude.{IsTrue, IfSome, IfNone, is_some, slice_get, slice_
 use Rattle.std.specs.List.{find, AllByRecursion}
 use Rattle.std.proofs.lemmas.Bool.{cases_Bool, and_parts, and_from, and_right, or_right, eqb-true}
 use Rattle.std.proofs.lemmas.Bool.{eq-eqb, both_ways}
-use Rattle.std.proofs.Math.Nat.{eq-or-lt_of_le}
 use Rattle.am_universe.proofs.ListLemmas.{IsIn, IsIn-from_Contains, Contains-from_IsIn}
 use Rattle.am_universe.proofs.ListLemmas.{AllByRecursion-at}
 use Rattle.am_search.proofs.ChoiceOrder.{got_at}
@@ -26,7 +25,7 @@ use Rattle.am_reasons.specs.Meeting.{meets}
 use Rattle.am_reasons.specs.Pairs.{is_shared, are_same_at, IsPair, ArePaired, AreUnpaired}
 use Rattle.am_reasons.specs.Pairs.{is_partner, has_partner, AreNeededBeside}
 use Rattle.am_reasons.specs.Reason.{without}
-use Rattle.am_reasons.proofs.ReasonLemmas.{got_renamed, fewer_met, swapped, at_most}
+use Rattle.am_reasons.proofs.ReasonLemmas.{fewer_met}
 
 -- ---- The same positions.
 
@@ -50,24 +49,6 @@ same_beside (j ∷ shared) b c d h =
     (h j (ap (λ x. x || is_shared shared j) (eq-eqb j j refl)))
     ∙ ap (λ x. (slice_index b j == slice_index d j) && x)
     (same_beside shared b c d (λ i is. h i (or_right (i == j) (is_shared shared i) is)))
-
--- where one of the labels has another position they are apart
-pub apart_at : (shared c d : List ℕ) (k label : ℕ) → slice_get shared k ≡ Some label
-    → (slice_index c label ≡ slice_index d label → ⊥) → are_same_at shared c d ≡ false
-apart_at [] c d k label at apart = absurd (cc)
-apart_at (j ∷ shared) c d zero label at apart =
-    let is : j ≡ label = cc in
-    let differs : (slice_index c j == slice_index d j) ≡ false =
-    elim (cases_Bool (slice_index c j == slice_index d j)) [
-      | inl same ↦
-          absurd (apart (subst (λ i. slice_index c i ≡ slice_index d i) is
-          (eqb-true (slice_index c j) (slice_index d j) same)))
-      | inr other ↦ other
-    ] in
-    ap (λ b. b && are_same_at shared c d) differs
-apart_at (j ∷ shared) c d (suc k) label at apart =
-    and_right (slice_index c j == slice_index d j) (are_same_at shared c d)
-    (apart_at shared c d k label at apart)
 
 -- ---- Partners.
 
@@ -298,42 +279,11 @@ fewer_either ks before after i (inr less) h c met =
 
 -- ---- What is needed.
 
--- of the literals those before a position are needed beside those of the other side, if they are
--- named
-abbrev pub AreNeededSoFar : Space → List ℕ → ℕ → List Candidate → List Candidate → Type 0
-AreNeededSoFar s shared n ks ls =
-    (i : ℕ) (k : Candidate) → slice_get ks i ≡ Some k → i < n → IsTrue k.named
-    → ArePaired s shared (without i ks) ls
-
-needed_still : (s : Space) (shared : List ℕ) (i j : ℕ) (ks ls : List Candidate)
-    → ArePaired s shared (without j ks) ls → ArePaired s shared (without j (without i ks)) ls
-needed_still s shared i j ks ls =
-    fewer_paired s shared (without j ks) (without j (without i ks)) ls ls
-    (λ c met. ap (meets c) (swapped i j ks) ∙ fewer_met c i (without j ks) met) (λ c met. met)
-
-pub needed_beside : (s : Space) (shared : List ℕ) (i : ℕ) (before after ls : List Candidate)
-    → (after ≡ before) ⊎ (after ≡ without i before)
-    → ((k : Candidate) → slice_get after i ≡ Some k → IsTrue k.named
-    → ArePaired s shared (without i after) ls)
-    → AreNeededSoFar s shared i before ls → AreNeededSoFar s shared (i + 1) after ls
-needed_beside s shared i before after ls either here so j k at lt named =
-    elim (eq-or-lt_of_le (at_most j i lt)) [
-      | inr below ↦ elim either [
-        | inl same ↦
-            subst (λ (ks : List Candidate). ArePaired s shared (without j ks) ls) (sym same)
-            (so j k (subst (λ (ks : List Candidate). slice_get ks j ≡ Some k) same at) below named)
-        | inr less ↦
-            let there = subst (λ (ks : List Candidate). slice_get ks j ≡ Some k) less at in
-            subst (λ (ks : List Candidate). ArePaired s shared (without j ks) ls) (sym less)
-            (elim (got_renamed i false before j k there) [
-              | inl it ↦ absurd (omega (arith, below, it.0))
-              | inr other ↦ needed_still s shared i j before ls (so j k other.0 below named)
-            ])
-      ]
-      | inl is ↦
-          subst (λ (n : ℕ). ArePaired s shared (without n after) ls) (sym is)
-          (here k (subst (λ (n : ℕ). slice_get after n ≡ Some k) is at) named)
-    ]
+-- a pair without a name
+pub fewer_still : (s : Space) (shared : List ℕ) (ls : List Candidate) (i : ℕ) (ks : List Candidate)
+    → ArePaired s shared ks ls → ArePaired s shared (without i ks) ls
+fewer_still s shared ls i ks =
+    fewer_paired s shared ks (without i ks) ls ls (λ c met. fewer_met c i ks met) (λ c met. met)
 
 -- what is needed beside more is needed beside less
 pub needed_less : (s : Space) (shared : List ℕ) (ks ls fewer : List Candidate)

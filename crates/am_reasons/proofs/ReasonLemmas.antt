@@ -10,7 +10,7 @@ use Rattle.std.proofs.Math.Nat.{eq-or-lt_of_le}
 use Rattle.am_labels.specs.Space.{Space, all_choices, IsChoiceOf}
 use Rattle.am_first_sets.proofs.FirstPossible.{is_found}
 use Rattle.am_reasons.specs.declared.candidate.Candidate.{Candidate}
-use Rattle.am_reasons.specs.Meeting.{holds_at, hold_all, meets, IsMet, IsUnmet}
+use Rattle.am_reasons.specs.Meeting.{holds_at, hold_all, meets, IsMet}
 use Rattle.am_reasons.specs.Reason.{AreSameLiterals, AreNamedBefore, renamed, without}
 
 -- how many are not named
@@ -18,11 +18,12 @@ abbrev pub count_unnamed : List Candidate → ℕ
 count_unnamed [] = 0
 count_unnamed (k ∷ ks) = (if k.named then 0 else 1) + count_unnamed ks
 
--- of the literals from one position on, those before another are needed where they are named
-abbrev pub AreNeededBefore : Space → ℕ → ℕ → List Candidate → Type 0
-AreNeededBefore s from n ks =
+-- of the literals from one position on, those before another are needed where they are named:
+-- without each of them something is met
+abbrev pub AreNeededBefore : (List Candidate → Type 0) → ℕ → ℕ → List Candidate → Type 0
+AreNeededBefore Met from n ks =
     (i : ℕ) (k : Candidate) → slice_get ks i ≡ Some k → from ≤ i → i < n → IsTrue k.named
-    → IsMet s (without i ks)
+    → Met (without i ks)
 
 -- ---- The same literals.
 
@@ -129,7 +130,7 @@ restored zero (l ∷ ks) k at named =
 restored (suc i) (l ∷ ks) k at named = ap (λ rest. l ∷ rest) (restored i ks k at named)
 
 -- the order in which names are taken off is no matter
-pub swapped : (i j : ℕ) (ks : List Candidate) → without j (without i ks) ≡ without i (without j ks)
+swapped : (i j : ℕ) (ks : List Candidate) → without i (without j ks) ≡ without j (without i ks)
 swapped i j [] = refl
 swapped zero zero (k ∷ ks) = refl
 swapped zero (suc j) (k ∷ ks) = refl
@@ -154,14 +155,6 @@ fewer_met c zero (k ∷ ks) h = (and_parts (not k.named || holds_at c k) (meets 
 fewer_met c (suc i) (k ∷ ks) h =
     let parts = and_parts (not k.named || holds_at c k) (meets c ks) h in
     rw (parts.0) (fewer_met c i ks parts.1)
-
-pub needed_still : (s : Space) (i j : ℕ) (ks : List Candidate) → IsMet s (without j ks)
-    → IsMet s (without j (without i ks))
-needed_still s i j ks met = (
-  met.0,
-  met.1,
-  ap (meets met.0) (swapped i j ks) ∙ fewer_met met.0 i (without j ks) met.2,
-)
 
 -- where what is named is met, a literal that is false is not named
 pub false_unnamed : (c : List ℕ) (ks : List Candidate) (i : ℕ) (k : Candidate)
@@ -207,26 +200,30 @@ hold_alike c (k ∷ ks) (l ∷ ls) same h =
 
 -- ---- What was looked at is needed.
 
-pub needed_more : (s : Space) (from i : ℕ) (before after : List Candidate)
+pub needed_more : (Met : List Candidate → Type 0)
+    → ((i : ℕ) (ks : List Candidate) → Met ks → Met (without i ks))
+    → (from i : ℕ) (before after : List Candidate)
     → (after ≡ before) ⊎ (after ≡ without i before)
-    → ((k : Candidate) → slice_get after i ≡ Some k → IsTrue k.named → IsMet s (without i after))
-    → AreNeededBefore s from i before → AreNeededBefore s from (i + 1) after
-needed_more s from i before after either here so j k at low lt named =
+    → ((k : Candidate) → slice_get after i ≡ Some k → IsTrue k.named → Met (without i after))
+    → AreNeededBefore Met from i before → AreNeededBefore Met from (i + 1) after
+needed_more Met fewer from i before after either here so j k at low lt named =
     elim (eq-or-lt_of_le (at_most j i lt)) [
       | inr below ↦ elim either [
         | inl same ↦
-            subst (λ (ks : List Candidate). IsMet s (without j ks)) (sym same)
+            subst (λ (ks : List Candidate). Met (without j ks)) (sym same)
             (so j k (subst (λ (ks : List Candidate). slice_get ks j ≡ Some k) same at) low below named)
         | inr less ↦
             let there = subst (λ (ks : List Candidate). slice_get ks j ≡ Some k) less at in
-            subst (λ (ks : List Candidate). IsMet s (without j ks)) (sym less)
+            subst (λ (ks : List Candidate). Met (without j ks)) (sym less)
             (elim (got_renamed i false before j k there) [
               | inl it ↦ absurd (omega (arith, below, it.0))
-              | inr other ↦ needed_still s i j before (so j k other.0 low below named)
+              | inr other ↦
+                  subst Met (swapped i j before)
+                  (fewer i (without j before) (so j k other.0 low below named))
             ])
       ]
       | inl is ↦
-          subst (λ (n : ℕ). IsMet s (without n after)) (sym is)
+          subst (λ (n : ℕ). Met (without n after)) (sym is)
           (here k (subst (λ (n : ℕ). slice_get after n ≡ Some k) is at) named)
     ]
 
@@ -258,11 +255,6 @@ pub met_if : (s : Space) (ks : List Candidate) (found : Option (List ℕ))
 met_if s ks None first possible some = absurd (cc)
 met_if s ks (Some c) first possible some =
     (c, possible, found_meets s ks (Some c) c first refl)
-
-pub unmet_if : (s : Space) (ks : List Candidate) (found : Option (List ℕ))
-    → found ≡ find (λ d. meets d ks) (all_choices s) → is_some found ≡ false → IsUnmet s ks
-unmet_if s ks None first none = sym first
-unmet_if s ks (Some c) first none = absurd (cc)
 
 pub literal_at : (ks : List Candidate) (i : ℕ) → i < length ks
     → (k : Candidate) × (slice_get ks i ≡ Some k)

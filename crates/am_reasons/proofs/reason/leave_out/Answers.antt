@@ -1,6 +1,8 @@
 use Rattle.std.proofs.Common.{arith}
 use Rattle.am_first_sets.specs.PossibleRefuter.{possible_space}
+use Rattle.am_reasons.specs.Meeting.{IsMet}
 use Rattle.am_reasons.proofs.ReasonLemmas.{same_itself, same_either, named_either, needed_more}
+use Rattle.am_reasons.proofs.ReasonLemmas.{fewer_met}
 use Rattle.am_reasons.proofs.reason.leave_out.Goals as goal
 
 pub loop-i-init : goal.loop-i-init
@@ -22,5 +24,6 @@ loop-i-preserved c =
       same_either c.args.candidates.now before after i told.either so.0,
       named_either c.args.from i before after c.loop-i.auto.i told.either so.1,
       told.enough,
-      needed_more s c.args.from i before after told.either told.needed so.3,
+      needed_more (IsMet s) (λ j ks met. (met.0, met.1, fewer_met met.0 j ks met.2)) c.args.from i
+          before after told.either told.needed so.3,
     )
