@@ -1,7 +1,7 @@
 -- The logic of three values seen by its two truths: each of them is that of two values.
-use Rattle.std.proofs.Common.{◌≡◌, ℕ, true, not, ◌&&◌, ◌||◌, List, [], ◌∷◌, map, cond, refl, ap}
-use Rattle.std.proofs.Common.{sym, ◌∙◌}
-use Rattle.std.specs.List.{list_all, list_any}
+use Rattle.std.proofs.Common.{◌≡◌, ℕ, not, ◌&&◌, ◌||◌, List, [], ◌∷◌, map, cond, refl, ap}
+use Rattle.std.proofs.Common.{◌∙◌}
+use Rattle.std.specs.List.{list_all}
 use Rattle.am_universe.specs.Universe.{Label}
 use Rattle.am_search.specs.declared.verdict.Verdict.{Verdict}
 use Rattle.am_search.specs.declared.verdict.Verdict.TheVariants.{Yes, No, Open}

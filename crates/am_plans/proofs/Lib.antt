@@ -1,14 +1,12 @@
 pub mod Kleene
-pub mod SomeWay
+pub mod ListTests
 pub mod Soundness
 pub mod SpaceExample
 pub mod OneList
 pub mod WalkLemmas
-pub mod RouteSteps
 pub mod RouteMade
 pub mod QuestionMade
 pub mod QuestionSteps
-pub mod ListSteps
 pub mod PairSteps
 pub mod SilenceSteps
 pub mod PlanJudges

@@ -28,7 +28,7 @@ use Rattle.am_plans.specs.declared.plan.Plan.{Plan}
 use Rattle.am_plans.specs.PlanWords.{plan_space, plan_sizes, plan_verdict, plan_is_judge}
 use Rattle.am_plans.specs.Verdicts.{kleene_and, kleene_or, all_of, verdict_of_literal}
 use Rattle.am_plans.specs.Verdicts.{verdict_of_question, verdict_of}
-use Rattle.am_plans.proofs.ListSteps.{and_true}
+use Rattle.am_judged_lists.proofs.ListLemmas.{and_true}
 use Rattle.am_plans.proofs.Soundness.{judges}
 
 -- the or of one way, which is the and of one literal; and that it is possible

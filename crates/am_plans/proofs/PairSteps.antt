@@ -2,7 +2,7 @@
 use Rattle.std.proofs.Common.{◌≡◌, ℕ, Bool, true, false, not, ◌&&◌, List, [], ◌∷◌, ◌++◌, map, cond}
 use Rattle.std.proofs.Common.{Option, Some, None, option_map, length, get_or, Contains, ◌<◌, ◌≤◌}
 use Rattle.std.proofs.Common.{◌⊎◌, ◌||◌, zero, suc, inl, inr, refl, sym, ap, ◌∙◌, arith}
-use Rattle.std.specs.Prelude.{slice_get, IsTrue}
+use Rattle.std.specs.Prelude.{slice_get}
 use Rattle.std.specs.List.{list_all, list_any}
 use Rattle.std.proofs.lemmas.Bool.{cases_lt, and_right, or_right}
 use Rattle.std.specs.declared.alloc.Global.{Global}
@@ -18,7 +18,6 @@ use Rattle.am_labels.specs.Row.{TruthRow, row_of}
 use Rattle.am_labels.specs.Matcher.{all_hold}
 use Rattle.am_config.specs.ConfigFile.{Rule}
 use Rattle.am_search.specs.declared.verdict.Verdict.{Verdict}
-use Rattle.am_search.specs.declared.verdict.Verdict.TheVariants.{No}
 use Rattle.am_judged_lists.specs.Verdicts.{verdict_of_list}
 use Rattle.am_eval.specs.declared.pair.Pair.{Pair}
 use Rattle.am_eval.specs.declared.property.Property.TheVariants.{Inhibited}
@@ -28,10 +27,7 @@ use Rattle.am_eval.specs.Conditions.{Literal, some_way_holds, inhibiting_way, no
 use Rattle.am_eval.specs.Conditions.{same_value, pair_way}
 use Rattle.am_eval.specs.Pairs.{pairs_of}
 use Rattle.am_eval.proofs.Inhibitors.{rule_within}
-use Rattle.am_labels.proofs.Passing.{in_any}
-use Rattle.am_universe.proofs.Members.{in_at}
 use Rattle.am_judged_lists.specs.declared.certainty.Certainty.{Certainty}
-use Rattle.am_judged_lists.specs.declared.certainty.Certainty.TheVariants.{May, Must}
 use Rattle.am_plans.specs.declared.pair_lists.PairList.{PairList}
 use Rattle.am_plans.specs.declared.pair_lists.PairLists.{PairLists}
 use Rattle.am_plans.specs.declared.pair_lists.PairSide.{PairSide}
@@ -42,7 +38,7 @@ use Rattle.am_plans.specs.Verdicts.{kleene_not, verdict_of_literal, verdict_of_s
 use Rattle.am_plans.specs.PairsByLists.{source_fails, source_among, pair_by, inhibited_by}
 use Rattle.am_plans.specs.PairsByLists.{AreSources, AreTargets, way_of_pair, side_fails, some_pair}
 use Rattle.am_plans.proofs.Kleene.{passes_not, passes_simple}
-use Rattle.am_plans.proofs.ListSteps.{and_true}
+use Rattle.am_judged_lists.proofs.ListLemmas.{and_true}
 use Rattle.am_eval.proofs.PairConditions.{ways_of_pairs}
 
 -- ---- What stands at a position of two lists of which the same is made.

@@ -19,7 +19,7 @@ use Rattle.am_judged_lists.specs.declared.group.Group.{Group}
 use Rattle.am_judged_lists.specs.declared.certainty.Certainty.{Certainty}
 use Rattle.am_judged_lists.specs.declared.certainty.Certainty.TheVariants.{May, Must}
 use Rattle.am_judged_lists.specs.Certainty.{passes, other}
-use Rattle.am_plans.specs.QuestionView.{truth_by}
+use Rattle.am_plans.specs.QuestionByLists.{truth_by}
 use Rattle.am_plans.specs.Verdicts.{kleene_not, verdict_of_question, verdict_of_space, verdict_of}
 use Rattle.am_plans.specs.PlanView.{possible_by, is_answer_by, verdict_of_truths, judged_verdict}
 use Rattle.am_plans.specs.PlanView.{judged_truth, IsJudgeOver}

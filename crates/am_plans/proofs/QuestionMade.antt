@@ -22,7 +22,7 @@ use Rattle.am_plans.specs.RouteSeen.{route_seen}
 use Rattle.am_plans.specs.Verdicts.{verdict_of_literal, verdict_of_simple}
 use Rattle.am_plans.specs.WorldByLists.{WorldSeen, comes_from, Serves}
 use Rattle.am_plans.proofs.Kleene.{passes_simple}
-use Rattle.am_plans.proofs.SomeWay.{any_and}
+use Rattle.am_plans.proofs.ListTests.{any_and}
 
 module _ (u : List Label) (w : World) (prefix : List ℕ) (m : Certainty) where
   abbrev says : Literal → Bool

@@ -1,5 +1,5 @@
 -- The lists of the active silences say what the condition of being silenced says.
-use Rattle.std.proofs.Common.{◌≡◌, ℕ, Bool, List, [], ◌∷◌, sym, ◌∙◌}
+use Rattle.std.proofs.Common.{◌≡◌, ℕ, Bool, ◌&&◌, List, [], ◌∷◌, sym, ◌∙◌}
 use Rattle.std.specs.List.{list_all, list_any, filter}
 use Rattle.am_universe.proofs.UniverseLemmas.{list_any-map}
 use Rattle.am_universe.specs.Universe.{Label}
@@ -14,17 +14,22 @@ use Rattle.am_judged_lists.specs.declared.certainty.Certainty.{Certainty}
 use Rattle.am_judged_lists.specs.Certainty.{passes}
 use Rattle.am_plans.specs.Verdicts.{verdict_of_literal, verdict_of_simple}
 use Rattle.am_plans.proofs.Kleene.{passes_simple}
-use Rattle.am_plans.proofs.ListSteps.{and_true}
+use Rattle.am_judged_lists.proofs.ListLemmas.{and_true}
+use Rattle.am_plans.proofs.ListTests.{any_kept}
 
-abbrev pub matchers_pass : List Label → List ℕ → Certainty → Silence → Bool
-matchers_pass u prefix m silence = passes m (verdict_of_list u silence.matchers prefix)
+-- a silence is active, and its list passes
+abbrev pub hides : List Label → World → List ℕ → Certainty → Silence → Bool
+hides u w prefix m silence =
+    is_active w.instant silence && passes m (verdict_of_list u silence.matchers prefix)
 
 pub silences_truth : (u : List Label) (w : World) (prefix : List ℕ) (m : Certainty)
-    → list_any (matchers_pass u prefix m) (filter (is_active w.instant) w.silences)
+    → list_any (hides u w prefix m) w.silences
     ≡ passes m (verdict_of_simple u w (Is Silenced) prefix)
 silences_truth u w prefix m =
     let holds : Literal → Bool = λ l. passes m (verdict_of_literal u prefix l) in
+    let test : Silence → Bool = λ silence. passes m (verdict_of_list u silence.matchers prefix) in
     let active = filter (is_active w.instant) w.silences in
-    (λ i. list_any (λ silence. sym (and_true (matchers_pass u prefix m silence)) i) active)
+    sym (any_kept test (is_active w.instant) w.silences)
+    ∙ (λ i. list_any (λ silence. sym (and_true (test silence)) i) active)
     ∙ sym (list_any-map (list_all holds) (λ (silence : Silence). matching silence.matchers ∷ []) active)
     ∙ sym (passes_simple m u w (Is Silenced) prefix)

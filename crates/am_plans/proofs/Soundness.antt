@@ -1,8 +1,8 @@
 -- The verdict of a question agrees with its truth at each completion, and says it at a whole choice;
 -- and so does the verdict of being an answer, which makes a judge of it.
 use Rattle.std.proofs.Common.{◌≡◌, ℕ, Bool, true, false, not, ◌&&◌, ◌||◌, List, [], ◌∷◌, map}
-use Rattle.std.proofs.Common.{cond, refl, ap, sym, ◌∙◌, subst}
-use Rattle.std.proofs.lemmas.Bool.{and_left, and_right, or_left, or_right}
+use Rattle.std.proofs.Common.{cond, inl, inr, refl, ap, sym, ◌∙◌, subst}
+use Rattle.std.proofs.lemmas.Bool.{cases_Bool, and_left, and_right, or_left, or_right}
 use Rattle.std.specs.Prelude.{IsTrue}
 use Rattle.std.specs.List.{list_all, list_any}
 use Rattle.am_universe.specs.Universe.{Label, IsUniverse, sizes}
@@ -39,13 +39,10 @@ Agrees May_be Open b = May_be
 pub none_matches : {X : Type 0} (matches : X → Bool) (xs : List X)
     → list_all (λ x. not (matches x)) xs ≡ not (list_any matches xs)
 none_matches matches [] = refl
-none_matches matches (x ∷ xs) =
-    ap (λ b. not (matches x) && b) (none_matches matches xs)
-    ∙ by (matches x) (list_any matches xs)
-  where
-    by : (a b : Bool) → (not a && not b) ≡ not (a || b)
-    by true b = refl
-    by false b = refl
+none_matches matches (x ∷ xs) = elim (cases_Bool (matches x)) [
+  | inl e ↦ rw e refl
+  | inr e ↦ rw e (none_matches matches xs)
+]
 
 module _ (May_be : Type 0) where
   not_agrees : (v : Verdict) (b : Bool) → Agrees May_be v b → Agrees May_be (kleene_not v) (not b)
@@ -90,16 +87,12 @@ module _ (May_be : Type 0) where
       → Agrees May_be (verdict_of_list u ms prefix) (matches_at u ms c)) where
     literal_agrees : (l : Literal)
         → Agrees May_be (verdict_of_literal u prefix l) (literal_holds (label_set_of u c) l)
-    literal_agrees l = by l.wanted
-      where
-        by : (wanted : Bool)
-            → Agrees May_be (cond wanted (verdict_of_list u l.matchers prefix)
-            (kleene_not (verdict_of_list u l.matchers prefix)))
-            (cond wanted (matches_at u l.matchers c) (not (matches_at u l.matchers c)))
-        by true = lists l.matchers
-        by false =
-            not_agrees (verdict_of_list u l.matchers prefix) (matches_at u l.matchers c)
-            (lists l.matchers)
+    literal_agrees l = elim (cases_Bool l.wanted) [
+      | inl e ↦ rw e (lists l.matchers)
+      | inr e ↦
+          rw e (not_agrees (verdict_of_list u l.matchers prefix) (matches_at u l.matchers c)
+          (lists l.matchers))
+    ]
 
     question_agrees : (q : Question)
         → Agrees May_be (verdict_of_question u w q prefix) (satisfies_at u w q c)

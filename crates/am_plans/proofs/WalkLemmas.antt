@@ -1,10 +1,10 @@
 -- The walk down a route's children says what the condition of the route says.
-use Rattle.std.proofs.Common.{◌≡◌, ℕ, zero, suc, ◌+◌, ◌<◌, Bool, true, false, not, ◌&&◌, ◌||◌, cond}
+use Rattle.std.proofs.Common.{◌≡◌, ℕ, zero, suc, ◌+◌, ◌<◌, Bool, true, false, ◌&&◌, ◌||◌, cond}
 use Rattle.std.proofs.Common.{List, [], ◌∷◌, ◌++◌, map, take, length, get_or, Option, Some, None}
-use Rattle.std.proofs.Common.{refl, ap, sym, ◌∙◌, arith, append_assoc}
+use Rattle.std.proofs.Common.{inl, inr, refl, ap, sym, ◌∙◌, arith, append_assoc}
 use Rattle.std.specs.Prelude.{slice_get, ◌==◌}
-use Rattle.std.specs.List.{list_all, list_any, filter}
-use Rattle.std.proofs.lemmas.Bool.{and_right, or_right, eq-eqb, ne_eqb}
+use Rattle.std.specs.List.{list_all, list_any}
+use Rattle.std.proofs.lemmas.Bool.{cases_Bool, and_right, or_right, eq-eqb, ne_eqb}
 use Rattle.std.proofs.lemmas.List.{length-append}
 use Rattle.std.proofs.lemmas.List.Folds.{list_all-append, list_any-append, list_all-map}
 use Rattle.std.proofs.lemmas.Option.{slice_get_read}
@@ -21,13 +21,14 @@ use Rattle.am_eval.specs.Conditions.{stopped_by_none, no_child_of, ways_into, wa
 use Rattle.am_eval.specs.Conditions.{is_receiver, paths_to}
 use Rattle.am_config.specs.RoutePaths.{paths_at}
 use Rattle.am_config.proofs.RouteLists.{paths_from, paths_next}
+use Rattle.am_judged_lists.proofs.ListLemmas.{and_true}
 use Rattle.am_judged_lists.specs.declared.certainty.Certainty.{Certainty}
 use Rattle.am_judged_lists.specs.Certainty.{passes}
 use Rattle.am_plans.specs.Verdicts.{verdict_of_literal}
 use Rattle.am_plans.specs.Target.{Target, Nothing, Receiver, Route, target_below, ways_to}
 use Rattle.am_plans.specs.Target.{is_end_here}
 use Rattle.am_plans.specs.RouteSeen.{route_seen, comes_by, comes_below}
-use Rattle.am_plans.proofs.SomeWay.{or_false, and_in, or_turned, any_kept, any_and}
+use Rattle.am_plans.proofs.ListTests.{or_false, and_in, or_turned, any_kept, any_and}
 use Rattle.am_eval.proofs.SomeWay.{some_way-literal, some_way-front, some_way-joined}
 
 -- ---- The parts of a walk over siblings, for any truth of literals.
@@ -58,21 +59,11 @@ step : (below end none passed continues later last : Bool)
     → (below || cond passed (later || (none && (end && last)))
     (continues && (later || (false && (end && last)))))
     ≡ ((below || ((passed || continues) && later)) || (none && (end && (passed && last))))
-step true end none passed continues later last = refl
-step false end none true continues later last = refl
-step false end true false true later last = by later end
-  where
-    by : (later end : Bool) → (later || false) ≡ (later || (end && false))
-    by true end = refl
-    by false true = refl
-    by false false = refl
-step false end false false true later last = refl
-step false end true false false later last = by end
-  where
-    by : (end : Bool) → false ≡ (end && false)
-    by true = refl
-    by false = refl
-step false end false false false later last = refl
+step false true true false true later last = refl
+step false true false false true later last = refl
+step false false true false true later last = refl
+step false false false false true later last = refl
+step below end none passed continues later last = refl
 
 -- what a prefix says of a literal
 abbrev says : Certainty → List Label → List ℕ → Literal → Bool
@@ -83,11 +74,8 @@ walk_parts : (u : List Label) (prefix : List ℕ) (m : Certainty) (receiver : �
     → comes_by m receiver target none i (map (route_seen u prefix) ts)
     ≡ (some_reached (comes_by_child (says m u prefix) target) (goes_on (says m u prefix)) i ts
     || (none && (is_end_here target receiver && list_all (is_passed_by (says m u prefix)) ts)))
-walk_parts u prefix m receiver target none i [] = by (is_end_here target receiver)
-  where
-    by : (end : Bool) → (none && end) ≡ (none && (end && true))
-    by true = refl
-    by false = refl
+walk_parts u prefix m receiver target none i [] =
+    ap (λ end. none && end) (sym (and_true (is_end_here target receiver)))
 walk_parts u prefix m receiver target none i (t ∷ ts) =
     let holds = says m u prefix in
     let end = is_end_here target receiver in
@@ -142,21 +130,12 @@ one_reached test goes p i (suc k) (t ∷ ts) at other =
 passed_where : (holds : Literal → Bool) (ts : List RouteTree)
     → list_all holds (stopped_by_none ts) ≡ list_all (goes_on holds) ts
 passed_where holds [] = refl
-passed_where holds (t ∷ ts) =
-    by (continues_of t) (filter (λ t. not (continues_of t)) ts)
-    ∙ ap (λ b. goes_on holds t && b) (passed_where holds ts)
-  where
-    by : (continues : Bool) (kept : List RouteTree)
-        → list_all holds (map (λ t. not_matching (matchers_of t))
-        (cond (not continues) (t ∷ kept) kept))
-        ≡ ((is_passed_by holds t || continues)
-        && list_all holds (map (λ t. not_matching (matchers_of t)) kept))
-    by true kept =
-        let rest = list_all holds (map (λ t. not_matching (matchers_of t)) kept) in
-        ap (λ b. b && rest) (sym (or_right (is_passed_by holds t) true refl))
-    by false kept =
-        let rest = list_all holds (map (λ t. not_matching (matchers_of t)) kept) in
-        ap (λ b. b && rest) (sym (or_false (is_passed_by holds t)))
+passed_where holds (t ∷ ts) = elim (cases_Bool (continues_of t)) [
+  | inl e ↦
+      rw e (passed_where holds ts ∙ ap (λ b. b && list_all (goes_on holds) ts)
+      (sym (or_right (is_passed_by holds t) true refl)))
+  | inr e ↦ rw e (λ i. sym (or_false (is_passed_by holds t)) i && passed_where holds ts i)
+]
 
 into_child : (holds : Literal → Bool) (further : RouteTree → List (List Literal))
     (o : Option RouteTree) → some_way_holds holds (ways_into further o)
@@ -240,8 +219,7 @@ join_children : (passed matched below goes later : Bool)
     → (((passed && matched) && below) || ((passed && (goes && true)) && later))
     ≡ (passed && ((matched && below) || (goes && later)))
 join_children true matched below true later = refl
-join_children true matched below false later = refl
-join_children false matched below goes later = refl
+join_children passed matched below goes later = refl
 
 -- the paths below one child, which stands behind the siblings in front
 by_child : (holds : Literal → Bool) (receiver : ℕ) (settings : RouteSettings) (children : Routes)
@@ -267,10 +245,8 @@ by_child holds receiver settings children front t path at before =
   where
     order : (a b c d : Bool) → (a && (b && (c && d))) ≡ ((b && c) && (a && d))
     order true true c d = refl
-    order true false c d = refl
     order false true true d = refl
-    order false true false d = refl
-    order false false c d = refl
+    order a b c d = refl
 
 by_children : (holds : Literal → Bool) (receiver : ℕ) (settings : RouteSettings)
     (children : Routes) (front : List RouteTree) (i : ℕ) (ts : Routes)

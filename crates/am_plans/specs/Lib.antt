@@ -5,7 +5,6 @@ pub mod RoutesByLists
 pub mod PairsByLists
 pub mod WorldByLists
 pub mod QuestionByLists
-pub mod QuestionView
 pub mod SpaceExample
 pub mod PlanView
 pub mod PlanWords

@@ -12,7 +12,7 @@ use Rattle.am_judged_lists.specs.GroupView.{verdicts_in}
 use Rattle.am_judged_lists.specs.declared.certainty.Certainty.{Certainty}
 use Rattle.am_judged_lists.specs.declared.certainty.Certainty.TheVariants.{May, Must}
 use Rattle.am_judged_lists.specs.Certainty.{passes, other}
-use Rattle.am_plans.specs.QuestionView.{truth_by}
+use Rattle.am_plans.specs.QuestionByLists.{truth_by}
 
 -- Whether a label set is possible, by the cubes of the impossible lists: it is certain where no
 -- cube may match, and not excluded where none must.

@@ -3,11 +3,12 @@
 use Rattle.std.specs.Prelude.{ℕ, List, Bool, not, ◌&&◌, ◌||◌}
 use Rattle.am_search.specs.declared.verdict.Verdict.{Verdict}
 use Rattle.am_judged_lists.specs.declared.certainty.Certainty.{Certainty}
+use Rattle.am_plans.specs.declared.judged_question.JudgedQuestion.{JudgedQuestion}
 use Rattle.am_plans.specs.declared.question_lists.QuestionLists.{QuestionLists, fold-QuestionLists}
 use Rattle.am_plans.specs.declared.question_lists.QuestionLists.TheOpen.{QuestionLists-F}
 use Rattle.am_judged_lists.specs.Certainty.{passes, other}
 use Rattle.am_plans.specs.Target.{target_view}
-use Rattle.am_plans.specs.WorldByLists.{WorldSeen}
+use Rattle.am_plans.specs.WorldByLists.{WorldSeen, world_seen}
 
 -- One level of a question, with the truth of its parts already known; and the whole question.
 abbrev pub question_step : {L : Type 0} → (L → List ℕ → Verdict) → List ℕ → WorldSeen
@@ -24,3 +25,9 @@ abbrev pub question_by : {L : Type 0} → (L → List ℕ → Verdict) → List 
     → QuestionLists L → Certainty → Bool
 question_by {L = L} verdict prefix seen =
     fold-QuestionLists L (Certainty → Bool) (question_step verdict prefix seen)
+
+-- The same, where the lists of the world and those of the question stand together.
+abbrev pub truth_by : {L : Type 0} → (L → List ℕ → Verdict) → List ℕ → JudgedQuestion L → Certainty
+    → Bool
+truth_by verdict prefix judged =
+    question_by verdict prefix (world_seen verdict prefix judged.world) judged.question

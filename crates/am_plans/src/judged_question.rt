@@ -6,7 +6,7 @@ ghost use Rattle.am_eval.specs.QuestionView.{question_view};
 ghost use Rattle.am_judged_lists.specs.declared.certainty.Certainty.{Certainty};
 ghost use Rattle.am_judged_lists.specs.Certainty.{passes};
 ghost use Rattle.am_plans.specs.Verdicts.{verdict_of_question};
-ghost use Rattle.am_plans.specs.QuestionView.{truth_by};
+ghost use Rattle.am_plans.specs.QuestionByLists.{truth_by};
 
 use crate::question_lists::QuestionLists;
 use crate::world_lists::WorldLists;

@@ -48,7 +48,8 @@ pub fn an_example_of_verdicts_in_a_space()
         → verdict_of without_web_critical w (Part (Is Any)) [] ≡ Open }
     ensures db { (w : World) → verdict_of without_web_critical w (Part (Is Any)) (0 ∷ []) ≡ Yes }
     ensures web { (w : World) → verdict_of without_web_critical w (Part (Is Any)) (1 ∷ []) ≡ Open }
-    ensures no_team { (w : World) → verdict_of without_web_critical w (Part (Is Any)) (2 ∷ []) ≡ Yes }
+    ensures no_team { (w : World)
+        → verdict_of without_web_critical w (Part (Is Any)) (2 ∷ []) ≡ Yes }
     ensures web_critical { (w : World)
         → verdict_of without_web_critical w (Part (Is Any)) (1 ∷ 0 ∷ []) ≡ No }
     ensures web_warning { (w : World)

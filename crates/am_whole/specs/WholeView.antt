@@ -14,7 +14,7 @@ use Rattle.am_search.proofs.Odometer.{admits_at_most}
 use Rattle.am_search.specs.declared.verdict.Verdict.{Verdict}
 use Rattle.am_search.specs.declared.verdict.Verdict.TheVariants.{Yes, No, Open}
 use Rattle.am_judged_lists.specs.declared.certainty.Certainty.TheVariants.{Must}
-use Rattle.am_plans.specs.QuestionView.{truth_by}
+use Rattle.am_plans.specs.QuestionByLists.{truth_by}
 use Rattle.am_whole.specs.declared.whole.Whole.{Whole}
 use Rattle.am_whole.specs.RowsView.{rows_verdict}
 

@@ -1,16 +1,14 @@
 use Rattle.std.proofs.Common.{◌≡◌, ℕ, List, take}
-use Rattle.std.specs.List.{list_any, filter}
+use Rattle.std.specs.List.{list_any}
 use Rattle.am_universe.specs.Universe.{sizes}
-use Rattle.am_eval.specs.Silencing.{is_active}
 use Rattle.am_judged_lists.specs.declared.certainty.Certainty.{Certainty}
 use Rattle.am_judged_lists.specs.Certainty.{passes}
-use Rattle.am_plans.proofs.SilenceSteps.{matchers_pass}
+use Rattle.am_plans.proofs.SilenceSteps.{hides}
 use Rattle.am_plans.proofs.world_lists.lists_of_silences.Given as goal
 
--- some list so far passes exactly where that of an active silence so far does
+-- some list so far passes exactly where a silence so far hides
 abbrev pub invariant-loop-i : goal.invariant-loop-i
 invariant-loop-i g l =
     (prefix : List ℕ) (m : Certainty) → g.L.JudgedList.Knows (sizes l.universe) prefix
     → list_any (λ list. passes m (g.L.JudgedList.verdict list prefix)) l.lists.items
-    ≡ list_any (matchers_pass l.universe prefix m)
-    (filter (is_active l.world.instant) (take l.i l.world.silences))
+    ≡ list_any (hides l.universe l.world prefix m) (take l.i l.world.silences)

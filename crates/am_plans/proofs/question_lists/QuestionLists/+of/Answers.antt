@@ -1,15 +1,14 @@
 -- A question with its lists is true as the question is.
-use Rattle.std.proofs.Common.{◌≡◌, not, ◌&&◌, ◌||◌, ap, ◌∙◌, sym, refl, subst}
+use Rattle.std.proofs.Common.{◌≡◌, not, ap, ◌∙◌, sym, refl, subst}
 use Rattle.std.proofs.lemmas.Bool.{or_left, or_right}
 use Rattle.am_eval.specs.Tree.{Not, And, Or}
 use Rattle.am_eval.specs.QuestionView.{question_view}
-use Rattle.am_judged_lists.specs.Certainty.{passes, other}
+use Rattle.am_judged_lists.specs.Certainty.{other}
 use Rattle.am_plans.specs.Verdicts.{verdict_of_question}
 use Rattle.am_plans.specs.WorldByLists.{Serves, needs_of}
 use Rattle.am_plans.specs.declared.world_lists.Need.TheVariants as needs
 use Rattle.am_plans.specs.Target as targets
 use Rattle.am_eval.proofs.QuestionSeen.{is_seen, receiver_seen, route_seen}
-use Rattle.am_plans.specs.QuestionByLists.{question_by}
 use Rattle.am_plans.proofs.Kleene.{passes_not, passes_and, passes_or}
 use Rattle.am_plans.proofs.QuestionSteps.{not_seen, and_seen, or_seen, by_is, by_comes, by_not}
 use Rattle.am_plans.proofs.QuestionSteps.{by_and, by_or}
@@ -20,11 +19,10 @@ pub returns-in-Is : goal.returns-in-Is
 returns-in-Is g t c = record {
   exact = λ w prefix seen m knows serves.
       let u = c.args.universe.now in
-      let seen_as = ap question_view c.in-Is.is ∙ is_seen c.in-Is.property in
-      by_is g.L.JudgedList.verdict prefix seen m c.in-Is.property
-      ∙ has_served u w prefix m seen c.in-Is.property
-      (subst (Serves u w prefix seen) seen_as serves)
-      ∙ sym (ap (λ q. passes m (verdict_of_question u w q prefix)) seen_as);
+      let property = c.in-Is.property in
+      let seen_as = ap question_view c.in-Is.is ∙ is_seen property in
+      rw (seen_as, by_is g.L.JudgedList.verdict prefix seen m property)
+      (has_served u w prefix m seen property (rw seen_as at serves));
 }
 
 pub returns-in-Receiver : goal.returns-in-Receiver
@@ -33,11 +31,10 @@ returns-in-Receiver g t c = record {
       let u = c.args.universe.now in
       let receiver = c.in-Receiver.receiver in
       let seen_as = ap question_view c.in-Receiver.is ∙ receiver_seen receiver in
-      let served = subst (Serves u w prefix seen) seen_as serves in
-      by_comes g.L.JudgedList.verdict prefix seen m _
-      ∙ served.1 needs.Routes refl m (targets.Receiver receiver)
-      ∙ comes_to_receiver u w prefix m receiver
-      ∙ sym (ap (λ q. passes m (verdict_of_question u w q prefix)) seen_as);
+      let served = rw seen_as at serves in
+      rw (seen_as, by_comes g.L.JudgedList.verdict prefix seen m _)
+      (served.1 needs.Routes refl m (targets.Receiver receiver)
+      ∙ comes_to_receiver u w prefix m receiver);
 }
 
 pub returns-in-Route : goal.returns-in-Route
@@ -46,12 +43,10 @@ returns-in-Route g t c = record {
       let u = c.args.universe.now in
       let reach = c.in-Route.reach in
       let seen_as = ap question_view c.in-Route.is ∙ route_seen reach c.in-Route.path in
-      let served = subst (Serves u w prefix seen) seen_as serves in
-      by_comes g.L.JudgedList.verdict prefix seen m _
-      ∙ ap (λ path. seen.comes m (targets.Route reach path)) c.steps.ensures.steps
-      ∙ served.1 needs.Routes refl m (targets.Route reach c.in-Route.path)
-      ∙ comes_to_route u w prefix m reach c.in-Route.path
-      ∙ sym (ap (λ q. passes m (verdict_of_question u w q prefix)) seen_as);
+      let served = rw seen_as at serves in
+      rw (seen_as, by_comes g.L.JudgedList.verdict prefix seen m _, c.steps.ensures.steps)
+      (served.1 needs.Routes refl m (targets.Route reach c.in-Route.path)
+      ∙ comes_to_route u w prefix m reach c.in-Route.path);
 }
 
 pub returns-in_ok-new-in-Not : goal.returns-in_ok-new-in-Not

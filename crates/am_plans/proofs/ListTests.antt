@@ -1,0 +1,58 @@
+-- Tests of two values and of lists.
+use Rattle.std.proofs.Common.{◌≡◌, ℕ, ◌+◌, Bool, true, false, ◌&&◌, ◌||◌, List, [], ◌∷◌, ◌++◌, Some}
+use Rattle.std.proofs.Common.{take, inl, inr, refl, sym, ap, ◌∙◌}
+use Rattle.std.specs.Prelude.{slice_get}
+use Rattle.std.specs.List.{list_any, filter}
+use Rattle.std.proofs.lemmas.Bool.{cases_Bool}
+use Rattle.std.proofs.lemmas.List.{take_more}
+use Rattle.std.proofs.lemmas.List.Folds.{list_any-append}
+use Rattle.std.proofs.lemmas.Option.{get_or_from_slice_get, slice_get_within}
+
+-- ---- Ands and ors of two values.
+
+pub or_false : (a : Bool) → (a || false) ≡ a
+or_false true = refl
+or_false false = refl
+
+pub and_in : (a b c : Bool) → (a && (b && c)) ≡ ((a && b) && c)
+and_in true b c = refl
+and_in false b c = refl
+
+pub or_turned : (a b : Bool) → (a || b) ≡ (b || a)
+or_turned true true = refl
+or_turned false true = refl
+or_turned a b = refl
+
+-- ---- Tests over lists.
+
+-- some that is kept passes where some is to be kept and passes
+pub any_kept : {X : Type 0} (test keep : X → Bool) (xs : List X)
+    → list_any test (filter keep xs) ≡ list_any (λ x. keep x && test x) xs
+any_kept test keep [] = refl
+any_kept test keep (x ∷ xs) = elim (cases_Bool (keep x)) [
+  | inl e ↦ rw e (ap (λ b. test x || b) (any_kept test keep xs))
+  | inr e ↦ rw e (any_kept test keep xs)
+]
+
+-- where each test asks for the same too
+pub any_and : {X : Type 0} (a : Bool) (test : X → Bool) (xs : List X)
+    → list_any (λ x. a && test x) xs ≡ (a && list_any test xs)
+any_and true test xs = refl
+any_and false test [] = refl
+any_and false test (x ∷ xs) = any_and false test xs
+
+-- ---- One item more, in a loop.
+
+pub one_more : {X : Type 0} (xs : List X) (i : ℕ) (x : X) → slice_get xs i ≡ Some x
+    → take (i + 1) xs ≡ take i xs ++ x ∷ []
+one_more xs i x here =
+    take_more xs i x (slice_get_within xs i x here)
+    ∙ ap (λ y. take i xs ++ y ∷ []) (get_or_from_slice_get xs i x x here)
+
+pub any_more : {X : Type 0} (test : X → Bool) (xs : List X) (i : ℕ) (x : X) (so_far now : Bool)
+    → slice_get xs i ≡ Some x → so_far ≡ list_any test (take i xs) → now ≡ (so_far || test x)
+    → now ≡ list_any test (take (i + 1) xs)
+any_more test xs i x so_far now here e f =
+    f ∙ ap (λ b. b || test x) e ∙ ap (λ b. list_any test (take i xs) || b) (sym (or_false (test x)))
+    ∙ sym (ap (list_any test) (one_more xs i x here)
+    ∙ list_any-append test (take i xs) (x ∷ []))
