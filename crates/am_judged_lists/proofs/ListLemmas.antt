@@ -80,10 +80,9 @@ pub all_but : (test : ℕ → Bool) (k count : ℕ) → k < count → ((i : ℕ)
 all_but test k count h pass = all_but_one test k 0 count (omega arith) (omega arith) pass
 
 both_rearranged : (a b x y : Bool) → ((a && b) && (x && y)) ≡ ((a && x) && (b && y))
-both_rearranged true true x y = refl
 both_rearranged true false true y = refl
 both_rearranged true false false y = refl
-both_rearranged false b x y = refl
+both_rearranged a b x y = refl
 
 -- two tests at once
 pub all_both : (p q : ℕ → Bool) (xs : List ℕ) → list_all (λ i. p i && q i) xs ≡ (list_all p xs && list_all q xs)

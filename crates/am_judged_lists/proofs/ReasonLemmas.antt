@@ -1,5 +1,5 @@
 -- Why a cube has its verdict at a prefix.
-use Rattle.std.proofs.Common.{◌≡◌, ℕ, ◌<◌, Bool, true, false, not, ◌&&◌, ◌||◌, ◌==◌, cond, List, []}
+use Rattle.std.proofs.Common.{◌≡◌, ℕ, ◌<◌, Bool, true, false, not, ◌||◌, ◌==◌, cond, List, []}
 use Rattle.std.proofs.Common.{◌∷◌, ◌++◌, length, get_or, slice_index, zero, suc, ◌+◌, take, drop}
 use Rattle.std.proofs.Common.{refl, ap, sym, subst, ◌∙◌, inl, inr, arith}
 use Rattle.std.specs.Prelude.{IsTrue}
@@ -28,23 +28,6 @@ permits_same : (c prefix : List ℕ) (m : LabelMask)
 permits_same c prefix m same = ap (λ p. get_or m.mask p false) same
 
 -- ---- Why the verdict is `No`.
-
-no_where : (cube : MaskedLabels) (c : List ℕ) → may_at cube c ≡ false → verdict_at cube c ≡ No
-no_where cube c e = ap (λ b. cond (not b) No (cond (reaches_all cube c) Yes Open)) e
-
-pub never : (cube : MaskedLabels) (labels : Labels) (prefix : List ℕ) → cube.empty ≡ true
-    → ((i : ℕ) → has_label labels i ≡ false) → IsReason cube No labels prefix
-never cube labels prefix empty none = record {
-  within = λ i has. let both : true ≡ false = sym has ∙ none i in cc;
-  verdict_is = λ c long agrees.
-      no_where cube c (ap (λ b. not b && list_all (fits c) cube.masks) empty);
-}
-
--- the two labels of a set that is made of one
-pub one_label : (none one : Labels) (label : ℕ) → ((i : ℕ) → has_label none i ≡ false)
-    → ((i : ℕ) → has_label one i ≡ (has_label none i || i == label))
-    → (i : ℕ) → has_label one i ≡ (i == label)
-one_label none one label empty with i = with i ∙ ap (λ b. b || i == label) (empty i)
 
 pub no_reason : (cube : MaskedLabels) (prefix : List ℕ) → cube.empty ≡ false
     → list_all (fits prefix) cube.masks ≡ true → is_no (verdict_at cube prefix) ≡ false

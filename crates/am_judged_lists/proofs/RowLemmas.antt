@@ -100,11 +100,10 @@ by_labels (Some k) truths c below =
     ∙ sym (one ∙ ap (λ b. not b || get_or truths (get_or c k 0) false) (eq-eqb k k refl))
 
 rearranged : (a b x y : Bool) → ((not a && x) && (not b && y)) ≡ (not (a || b) && (x && y))
-rearranged true b x y = refl
 rearranged false true true y = refl
 rearranged false true false y = refl
-rearranged false false true y = refl
 rearranged false false false y = refl
+rearranged a b x y = refl
 
 -- all rows, over all labels
 pub rows_by_labels : (rows : List TruthRow) (c : List ℕ) → AllByRecursion (IsRowBelow (length c)) rows
@@ -121,12 +120,15 @@ rows_by_labels (row ∷ rows) c below =
 
 -- ---- The rows of a list, one after another.
 
+pub one_more : {X : Type 0} (xs : List X) (i : ℕ) (x : X) → slice_get xs i ≡ Some x
+    → take (i + 1) xs ≡ take i xs ++ x ∷ []
+one_more xs i x here =
+    take_more xs i x (slice_get_within xs i x here)
+    ∙ ap (λ y. take i xs ++ y ∷ []) (get_or_from_slice_get xs i x x here)
+
 -- what is made of each, with one more
 pub mapped_more : {X Y : Type 0} (f : X → Y) (xs : List X) (i : ℕ) (x : X) (ys : List Y) (y : Y)
     → ys ≡ map f (take i xs) → slice_get xs i ≡ Some x → y ≡ f x
     → ys ++ y ∷ [] ≡ map f (take (i + 1) xs)
 mapped_more f xs i x ys y so_far here same =
-    let more : take (i + 1) xs ≡ take i xs ++ x ∷ [] =
-    take_more xs i x (slice_get_within xs i x here)
-    ∙ ap (λ z. take i xs ++ z ∷ []) (get_or_from_slice_get xs i x x here) in
-    rw (so_far, same) (sym (ap (map f) more ∙ map-append f (take i xs) (x ∷ [])))
+    rw (so_far, same, one_more xs i x here) (sym (map-append f (take i xs) (x ∷ [])))

@@ -1,5 +1,5 @@
 -- The verdict of a test over some choices.
-use Rattle.std.proofs.Common.{◌≡◌, ◌≢◌, ◌↔◌, ℕ, Bool, true, false, not, ◌&&◌, ◌||◌, List, [], ◌∷◌}
+use Rattle.std.proofs.Common.{◌≡◌, ◌≢◌, ◌↔◌, ℕ, Bool, true, false, not, List, [], ◌∷◌}
 use Rattle.std.proofs.Common.{cond, refl, ap, sym, ◌∙◌, inl, inr}
 use Rattle.std.specs.List.{list_all, list_any, AllByRecursion}
 use Rattle.std.proofs.lemmas.Bool.{cases_Bool, false_from_ne_true}
@@ -57,19 +57,17 @@ no_exactly test cs c i = (
 -- some pass, and some do not
 not_each_then : (test : List ℕ → Bool) (cs : List (List ℕ)) → list_all test cs ≡ false → list_any (λ c. not (test c)) cs ≡ true
 not_each_then test [] e = cc
-not_each_then test (c ∷ cs) e = by (test c) e (not_each_then test cs)
-  where
-    by : (b : Bool) → (b && list_all test cs) ≡ false → (list_all test cs ≡ false → list_any (λ c. not (test c)) cs ≡ true) → (not b || list_any (λ c. not (test c)) cs) ≡ true
-    by true h rest = rest h
-    by false h rest = refl
+not_each_then test (c ∷ cs) e = elim (cases_Bool (test c)) [
+  | inl passes ↦ rw passes (not_each_then test cs (rw passes at e))
+  | inr fails ↦ rw fails refl
+]
 
 not_each_from : (test : List ℕ → Bool) (cs : List (List ℕ)) → list_any (λ c. not (test c)) cs ≡ true → list_all test cs ≡ false
 not_each_from test [] e = cc
-not_each_from test (c ∷ cs) e = by (test c) e (not_each_from test cs)
-  where
-    by : (b : Bool) → (not b || list_any (λ c. not (test c)) cs) ≡ true → (list_any (λ c. not (test c)) cs ≡ true → list_all test cs ≡ false) → (b && list_all test cs) ≡ false
-    by true h rest = rest h
-    by false h rest = refl
+not_each_from test (c ∷ cs) e = elim (cases_Bool (test c)) [
+  | inl passes ↦ rw passes (not_each_from test cs (rw passes at e))
+  | inr fails ↦ rw fails refl
+]
 
 pub open_exactly : (test : List ℕ → Bool) (cs : List (List ℕ)) → (verdict_over test cs ≡ Open) ↔ ((list_any test cs ≡ true) × (list_any (λ c. not (test c)) cs ≡ true))
 open_exactly test cs = (
