@@ -47,9 +47,8 @@ pushed : (u : List Label) (choice : List ℕ) (ts : List RouteTree) (rs : List R
     → AreCubesOfEach u choice (routes_of ts) rs → AreCubesOf u choice t r
     → AreCubesOfEach u choice (routes_of (ts ++ t ∷ [])) (rs ++ r ∷ [])
 pushed u choice [] [] t r are is = (is, tt)
-pushed u choice [] (q ∷ rs) t r are is = absurd are
-pushed u choice (s ∷ ts) [] t r are is = absurd are
 pushed u choice (s ∷ ts) (q ∷ rs) t r are is = (are.0, pushed u choice ts rs t r are.1 is)
+pushed u choice ts rs t r are is = absurd are
 
 pub one_more : (u : List Label) (choice : List ℕ) (routes : List Route) (i : ℕ) (next : Route)
     (cubes : List RouteCubes) (r : RouteCubes) (more : List RouteCubes)
@@ -148,11 +147,10 @@ module _ (u : List Label) (choice : List ℕ) (whole : IsWhole (sizes u) choice)
       → none_stops true choice rs
       ≡ list_all holds (map (λ t. not_matching (matchers_of t)) (list_of ts))
   none_matched no_routes [] are = refl
-  none_matched no_routes (r ∷ rs) are = absurd are
-  none_matched (next_route t ts) [] are = absurd are
   none_matched (next_route (route settings children) ts) (r ∷ rs) are =
       λ i. is_unmatched (out-RouteCubes r).cube settings.matchers are.0.0 i
       && none_matched ts rs are.1 i
+  none_matched ts rs are = absurd are
 
   -- some do
   one_counted : (t : RouteTree) (ts : List RouteTree) (continues passes later : Bool)
@@ -167,31 +165,28 @@ module _ (u : List Label) (choice : List ℕ) (whole : IsWhole (sizes u) choice)
       ≡ list_all holds (stopped_by_none (take p (list_of ts)))
   none_stopped no_routes [] zero are = refl
   none_stopped no_routes [] (suc p) are = refl
-  none_stopped no_routes (r ∷ rs) p are = absurd are
-  none_stopped (next_route t ts) [] p are = absurd are
   none_stopped (next_route t ts) (r ∷ rs) zero are = refl
   none_stopped (next_route (route settings children) ts) (r ∷ rs) (suc p) are =
       one_counted (route settings children) (take p (list_of ts)) (out-RouteCubes r).continues
       (not (must_match choice (out-RouteCubes r).cube)) (none_stops false choice (take p rs))
       (sym are.0.1) (is_unmatched (out-RouteCubes r).cube settings.matchers are.0.0)
       (none_stopped ts rs p are.1)
+  none_stopped ts rs p are = absurd are
 
   child_at : (ts : Routes) (rs : List RouteCubes) (p : ℕ) (child : RouteCubes)
       → AreCubesOfEach u choice ts rs → slice_get rs p ≡ Some child
       → (t : RouteTree) × (slice_get (list_of ts) p ≡ Some t) × AreCubesOf u choice t child
   child_at no_routes [] p child are there = absurd (cc)
-  child_at no_routes (r ∷ rs) p child are there = absurd are
-  child_at (next_route t ts) [] p child are there = absurd are
   child_at (next_route t ts) (r ∷ rs) zero child are there =
       (t, refl, subst (AreCubesOf u choice t) (same_Some r child there) are.0)
   child_at (next_route t ts) (r ∷ rs) (suc p) child are there = child_at ts rs p child are.1 there
+  child_at ts rs p child are there = absurd are
 
   as_many : (ts : Routes) (rs : List RouteCubes) → AreCubesOfEach u choice ts rs
       → length (list_of ts) ≡ length rs
   as_many no_routes [] are = refl
-  as_many no_routes (r ∷ rs) are = absurd are
-  as_many (next_route t ts) [] are = absurd are
   as_many (next_route t ts) (r ∷ rs) are = let more = as_many ts rs are.1 in omega (arith, more)
+  as_many ts rs are = absurd are
 
   pub begun : (c : Configuration) (path : List ℕ) (r : RouteCubes)
       (none wanted : List (Bor MaskedLabels)) (before : List (Bor (List RouteCubes)))

@@ -47,12 +47,10 @@ found_of_space s test (Some c) e =
 pub find_first : {X : Type 0} (keep : X → Bool) (xs : List X)
     → find keep xs ≡ slice_get (filter keep xs) 0
 find_first keep [] = refl
-find_first keep (x ∷ xs) = step (keep x) refl (find_first keep xs)
-  where
-    step : (b : Bool) → keep x ≡ b → find keep xs ≡ slice_get (filter keep xs) 0
-        → find keep (x ∷ xs) ≡ slice_get (filter keep (x ∷ xs)) 0
-    step true e later = rw e refl
-    step false e later = rw e later
+find_first keep (x ∷ xs) = elim (cases_Bool (keep x)) [
+  | inl e ↦ rw e refl
+  | inr e ↦ rw e (find_first keep xs)
+]
 
 -- there is none exactly where the list is empty
 pub no_first : {X : Type 0} (xs : List X) (first : Option X) → first ≡ slice_get xs 0

@@ -34,20 +34,18 @@ same_itself (k ∷ ks) = ((refl, refl, refl), same_itself ks)
 pub same_renamed : (i : ℕ) (name : Bool) (ks ls : List Candidate) → AreSameLiterals ks ls
     → AreSameLiterals ks (renamed i name ls)
 same_renamed i name [] [] same = tt
-same_renamed i name [] (l ∷ ls) same = absurd same
-same_renamed i name (k ∷ ks) [] same = absurd same
 same_renamed zero name (k ∷ ks) (l ∷ ls) same = same
 same_renamed (suc i) name (k ∷ ks) (l ∷ ls) same = (same.0, same_renamed i name ks ls same.1)
+same_renamed i name ks ls same = absurd same
 
 pub same_through : (ks ls ms : List Candidate) → AreSameLiterals ks ls → AreSameLiterals ls ms
     → AreSameLiterals ks ms
 same_through [] [] [] a b = tt
-same_through [] [] (m ∷ ms) a b = absurd b
-same_through [] (l ∷ ls) ms a b = absurd a
-same_through (k ∷ ks) [] ms a b = absurd a
-same_through (k ∷ ks) (l ∷ ls) [] a b = absurd b
 same_through (k ∷ ks) (l ∷ ls) (m ∷ ms) a b =
     ((a.0.0 ∙ b.0.0, a.0.1 ∙ b.0.1, a.0.2 ∙ b.0.2), same_through ks ls ms a.1 b.1)
+same_through [] [] ms a b = absurd b
+same_through (k ∷ ks) (l ∷ ls) ms a b = absurd b
+same_through ks ls ms a b = absurd a
 
 -- ---- One literal that is named, or is not.
 
@@ -187,8 +185,6 @@ fewer_unnamed (l ∷ ks) (suc i) k at none =
 pub hold_alike : (c : List ℕ) (ks ls : List Candidate) → AreSameLiterals ks ls
     → hold_all c ls ≡ true → hold_all c ks ≡ true
 hold_alike c [] [] same h = refl
-hold_alike c [] (l ∷ ls) same h = absurd same
-hold_alike c (k ∷ ks) [] same h = absurd same
 hold_alike c (k ∷ ks) (l ∷ ls) same h =
     let parts = and_parts (holds_at c l) (hold_all c ls) h in
     let is : holds_at c k ≡ holds_at c l = alike k l same.0.0 same.0.1 in
@@ -197,6 +193,7 @@ hold_alike c (k ∷ ks) (l ∷ ls) same h =
     alike : (k l : Candidate) → k.cube ≡ l.cube → k.wanted ≡ l.wanted
         → holds_at c k ≡ holds_at c l
     alike k l cube wanted = rw (cube, wanted) refl
+hold_alike c ks ls same h = absurd same
 
 -- ---- What was looked at is needed.
 
@@ -275,9 +272,8 @@ one_more s ks found c i first is lt fails =
 -- the literals of two lists are as many
 pub as_many : (ks ls : List Candidate) → AreSameLiterals ks ls → length ks ≡ length ls
 as_many [] [] same = refl
-as_many [] (l ∷ ls) same = absurd same
-as_many (k ∷ ks) [] same = absurd same
 as_many (k ∷ ks) (l ∷ ls) same = ap suc (as_many ks ls same.1)
+as_many ks ls same = absurd same
 
 -- where all are looked at, the first so many are named
 pub all_named : (ks ls : List Candidate) (count n : ℕ) → AreNamedSoFar ks ls count n
