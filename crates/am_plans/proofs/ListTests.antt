@@ -1,12 +1,11 @@
 -- Tests of two values and of lists.
-use Rattle.std.proofs.Common.{◌≡◌, ℕ, ◌+◌, Bool, true, false, ◌&&◌, ◌||◌, List, [], ◌∷◌, ◌++◌, Some}
+use Rattle.std.proofs.Common.{◌≡◌, ℕ, ◌+◌, Bool, true, false, ◌&&◌, ◌||◌, List, [], ◌∷◌, Some}
 use Rattle.std.proofs.Common.{take, inl, inr, refl, sym, ap, ◌∙◌}
 use Rattle.std.specs.Prelude.{slice_get}
 use Rattle.std.specs.List.{list_any, filter}
 use Rattle.std.proofs.lemmas.Bool.{cases_Bool}
-use Rattle.std.proofs.lemmas.List.{take_more}
 use Rattle.std.proofs.lemmas.List.Folds.{list_any-append}
-use Rattle.std.proofs.lemmas.Option.{get_or_from_slice_get, slice_get_within}
+use Rattle.am_judged_lists.proofs.RowLemmas.{one_more}
 
 -- ---- Ands and ors of two values.
 
@@ -42,12 +41,6 @@ any_and false test [] = refl
 any_and false test (x ∷ xs) = any_and false test xs
 
 -- ---- One item more, in a loop.
-
-pub one_more : {X : Type 0} (xs : List X) (i : ℕ) (x : X) → slice_get xs i ≡ Some x
-    → take (i + 1) xs ≡ take i xs ++ x ∷ []
-one_more xs i x here =
-    take_more xs i x (slice_get_within xs i x here)
-    ∙ ap (λ y. take i xs ++ y ∷ []) (get_or_from_slice_get xs i x x here)
 
 pub any_more : {X : Type 0} (test : X → Bool) (xs : List X) (i : ℕ) (x : X) (so_far now : Bool)
     → slice_get xs i ≡ Some x → so_far ≡ list_any test (take i xs) → now ≡ (so_far || test x)

@@ -1,31 +1,24 @@
 -- The judge of a question that is one list of matchers is exact, where nothing is impossible.
-use Rattle.std.proofs.Common.{◌≡◌, ◌≤◌, ℕ, ◌+◌, ◌*◌, Bool, List, [], length, map, not, ◌&&◌, ap}
+use Rattle.std.proofs.Common.{◌≡◌, ℕ, List, [], map, not, ◌&&◌, ap}
 use Rattle.std.proofs.Common.{sym, ◌∙◌, refl}
 use Rattle.std.specs.Prelude.{IsTrue}
-use Rattle.std.specs.List.{sum, list_any}
+use Rattle.std.specs.List.{list_any}
 use Rattle.am_labels.specs.Space.{Space, is_possible}
 use Rattle.am_universe.specs.Universe.{sizes}
 use Rattle.am_universe.specs.Choice.{admits}
 use Rattle.am_universe.specs.Completions.{completions}
 use Rattle.am_labels.specs.Matcher.{Condition}
 use Rattle.am_universe.specs.LabelSet.{label_set_of}
-use Rattle.am_search.specs.declared.start.Start.{Start}
-use Rattle.am_search.specs.declared.start.Start.TheVariants.{At}
 use Rattle.am_search.specs.declared.verdict.Verdict.{Verdict}
 use Rattle.am_search.specs.declared.verdict.Verdict.TheVariants.{Yes, No, Open}
 use Rattle.am_search.specs.Judge.{AreSizes}
 use Rattle.am_search.specs.ExactJudge.{IsExactJudge}
-use Rattle.am_search.specs.Visits.{visited}
-use Rattle.am_search.specs.Start.{answers_from}
-use Rattle.am_search.proofs.VisitsBound.{visited_at_most, visited_from_first}
 use Rattle.am_judged_lists.specs.Verdicts.{matches_at, verdict_of_list}
 use Rattle.am_judged_lists.proofs.VerdictLemmas.{open_exactly}
 use Rattle.am_eval.specs.Tree.{Part}
 use Rattle.am_eval.specs.Question.{Braces, is_answer}
 use Rattle.am_eval.specs.World.{World}
 use Rattle.am_eval.specs.Conditions.{not_matching}
-use Rattle.am_plans.specs.declared.plan.Plan.{Plan}
-use Rattle.am_plans.specs.PlanWords.{plan_space, plan_sizes, plan_verdict, plan_is_judge}
 use Rattle.am_plans.specs.Verdicts.{kleene_and, kleene_or, all_of, verdict_of_literal}
 use Rattle.am_plans.specs.Verdicts.{verdict_of_question, verdict_of}
 use Rattle.am_judged_lists.proofs.ListLemmas.{and_true}
@@ -77,29 +70,3 @@ module _ (s : Space) (w : World) (ms : List Condition) (none : s.impossible ≡ 
     some = λ prefix a e. (some_match_and_some_do_not prefix a e).0;
     not_all = λ prefix a e. (some_match_and_some_do_not prefix a e).1;
   }
-
--- ---- What a plan judges.
-
-module _ (plan : Plan) (w : World) (ms : List Condition) (none : (plan_space plan).impossible ≡ [])
-    (same : (prefix : List ℕ) → IsTrue (admits (plan_sizes plan) prefix)
-    → plan_verdict plan prefix
-    ≡ verdict_of (plan_space plan) w (Part (Braces ms)) prefix) where
-  abbrev is_its_answer : List ℕ → Bool
-  is_its_answer = is_answer (plan_space plan) w (Part (Braces ms))
-
-  is_exact : IsExactJudge (plan_sizes plan) is_its_answer (plan_verdict plan)
-  is_exact =
-      is_exact_judge (plan_space plan) w ms none (plan_verdict plan) same
-      (plan_is_judge plan).limits
-
-  pub at_most : (start : Start) → length (visited (plan_sizes plan) (plan_verdict plan) start)
-      ≤ 1 + (length (answers_from (plan_sizes plan) is_its_answer start) + 1)
-      * sum (plan_sizes plan)
-  at_most start =
-      visited_at_most (plan_sizes plan) is_its_answer (plan_verdict plan) start is_exact
-
-  pub from_the_first : length (visited (plan_sizes plan) (plan_verdict plan) (At []))
-      ≤ 1 + length (answers_from (plan_sizes plan) is_its_answer (At []))
-      * sum (plan_sizes plan)
-  from_the_first =
-      visited_from_first (plan_sizes plan) is_its_answer (plan_verdict plan) is_exact

@@ -35,7 +35,7 @@ use Rattle.am_judged_lists.specs.GroupView.{verdicts_in}
 use Rattle.am_judged_lists.specs.Places.{NoneBetween}
 use Rattle.am_judged_lists.specs.Certainty.{passes, other}
 use Rattle.am_plans.specs.Verdicts.{kleene_not, verdict_of_literal, verdict_of_simple}
-use Rattle.am_plans.specs.PairsByLists.{source_fails, source_among, pair_by, inhibited_by}
+use Rattle.am_plans.specs.PairsByLists.{source_fails, pair_by, inhibited_by}
 use Rattle.am_plans.specs.PairsByLists.{AreSources, AreTargets, way_of_pair, side_fails, some_pair}
 use Rattle.am_plans.proofs.Kleene.{passes_not, passes_simple}
 use Rattle.am_judged_lists.proofs.ListLemmas.{and_true}
@@ -110,7 +110,7 @@ pub source_by_both : {L : Type 0} (u : List Label) (rules : List Rule)
     (verdict : L → List ℕ → Verdict) (prefix : List ℕ) (m : Certainty) (sources : List L) (i : ℕ)
     (rule : Rule) → AreSources u verdict prefix sources rules → slice_get rules i ≡ Some rule
     → (both : Bool)
-    → source_fails verdict prefix m (source_among sources both i)
+    → (not both || source_fails verdict prefix m (slice_get sources i))
     ≡ list_all (λ l. passes m (verdict_of_literal u prefix l))
     (cond both (not_matching rule.source ∷ []) [])
 source_by_both u rules verdict prefix m sources i rule are at_rule true =
@@ -136,9 +136,9 @@ pair_truth u w verdict prefix m sources list pair rule firing are at_rule at_ale
     let v = verdict_of_list u (rule.target ++ map (same_value firing) rule.equal) prefix in
     let way : pair_way w.config.rules w.alerts pair ≡ inhibiting_way rule firing =
     rw (at_rule, at_alert) refl in
-    ap (λ v. passes m v && source_fails verdict prefix m (source_among sources pair.both pair.rule))
-    exact
-    ∙ ap (λ b. passes m v && source_fails verdict prefix m (source_among sources b pair.rule)) which
+    let fails = source_fails verdict prefix m (slice_get sources pair.rule) in
+    ap (λ v. passes m v && (not pair.both || fails)) exact
+    ∙ ap (λ b. passes m v && (not b || fails)) which
     ∙ ap (λ b. passes m v && b)
     (source_by_both u w.config.rules verdict prefix m sources pair.rule rule are at_rule
     (all_hold firing rule.target))

@@ -10,8 +10,6 @@ use Rattle.am_config.specs.Path.{list_of}
 use Rattle.am_config.proofs.Paths.{list_of-routes_of}
 use Rattle.am_search.specs.declared.verdict.Verdict.{Verdict}
 use Rattle.am_judged_lists.specs.Verdicts.{verdict_of_list}
-use Rattle.am_judged_lists.specs.declared.certainty.Certainty.{Certainty}
-use Rattle.am_plans.specs.Target.{Target}
 use Rattle.am_plans.specs.RouteSeen.{RouteSeen, route_seen, comes_below}
 use Rattle.am_plans.proofs.WalkLemmas.{walked}
 
@@ -34,10 +32,8 @@ pub made_route : (u : List Label) (prefix : List ℕ) (tree : RouteTree) (v : Ve
       comes = λ m target. comes_below m receiver target seen;
     } ≡ route_seen u prefix tree
 made_route u prefix (route settings children) v continues receiver seen ev ec er es =
-    let comes : (m : Certainty) (target : Target) → comes_below m receiver target seen
-    ≡ (route_seen u prefix (route settings children)).comes m target =
-    λ m target.
-    ap (λ r. comes_below m r target seen) er
-    ∙ ap (comes_below m settings.receiver target) es
-    ∙ walked u prefix m target settings children in
-    λ i. record { verdict = ev i; continues = ec i; comes = λ m target. comes m target i }
+    rw (ev, ec, er, es) (λ i. record {
+      verdict = verdict_of_list u settings.matchers prefix;
+      continues = settings.continues;
+      comes = λ m target. walked u prefix m target settings children i;
+    })

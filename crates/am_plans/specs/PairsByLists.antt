@@ -1,7 +1,7 @@
 -- Whether a pair of a rule and a firing alert inhibits, by lists that have verdicts, and by the
 -- definitions.
 use Rattle.std.specs.Prelude.{◌≡◌, ℕ, List, [], ◌∷◌, map, slice_get, Bool, true, false, not, ◌&&◌}
-use Rattle.std.specs.Prelude.{◌||◌, if◌then◌else◌, Option, Some, None}
+use Rattle.std.specs.Prelude.{◌||◌, Option, Some, None}
 use Rattle.std.specs.List.{list_all}
 use Rattle.std.specs.declared.alloc.Global.{Global}
 use Rattle.std.specs.declared.vec.Vec.{Vec}
@@ -21,20 +21,17 @@ use Rattle.am_judged_lists.specs.GroupView.{verdicts_in}
 use Rattle.am_judged_lists.specs.Certainty.{passes, other}
 use Rattle.am_plans.specs.Verdicts.{verdict_of_literal}
 
--- The source side is not matched; where there is no list for it, nothing is asked. The source side
--- that a pair asks about, if it does. And whether a pair inhibits, by its lists.
+-- The source side is not matched; where there is no list for it, nothing is asked. What a pair asks
+-- of the source side, if it does. And whether a pair inhibits, by its lists.
 abbrev pub source_fails : {L : Type 0} → (L → List ℕ → Verdict) → List ℕ → Certainty → Option L
     → Bool
 source_fails verdict prefix m None = true
 source_fails verdict prefix m (Some source) = not (passes (other m) (verdict source prefix))
 
-abbrev pub source_among : {L : Type 0} → List L → Bool → ℕ → Option L
-source_among sources both rule = if both then slice_get sources rule else None
-
 abbrev pub side_fails : {L : Type 0} → (L → List ℕ → Verdict) → List ℕ → Certainty → List L
     → PairSide → Bool
 side_fails verdict prefix m sources side =
-    source_fails verdict prefix m (source_among sources side.both side.rule)
+    not side.both || source_fails verdict prefix m (slice_get sources side.rule)
 
 abbrev pub pair_by : {L : Type 0} → (L → List ℕ → Verdict) → List ℕ → Certainty → List L
     → PairList L → Bool

@@ -1,7 +1,6 @@
 -- A pair of the world's is a rule of its configuration and an alert that fires.
 use Rattle.std.proofs.Common.{◌≡◌, List, ◌++◌, Some, map, refl, sym, ap, ◌∙◌, arith}
 use Rattle.std.specs.Prelude.{slice_get}
-use Rattle.am_config.specs.RouteView.{names_of}
 use Rattle.am_config.specs.ConfigFile.{Configuration, Rule}
 use Rattle.am_eval.specs.Conditions.{same_value}
 use Rattle.am_eval.proofs.Inhibitors.{rule_within, alert_within, read_pair}
@@ -44,18 +43,13 @@ offset_bounds-targets-pair g c =
 
 pub of_rows-requires : goal.of_rows-requires
 of_rows-requires g c =
-    let world = c.args.world.now in
-    let pair = c.args.pair in
     let rule = c.index-rules-pair.result in
-    let a = c.get-alert.result.now in
-    let at_rule = rule_at world c.rules.result.now pair rule c.requires.pair
+    let at_rule = rule_at c.args.world.now c.rules.result.now c.args.pair rule c.requires.pair
     (the_rules c.rules.ensures.rules c.config.ensures.config) c.index-rules-pair.is in
     record {
       rows = (
-        rule.target ++ map (same_value a) rule.equal,
-        rows_of_pair c.args.universe.now c.args.targets.now world.config.rules pair.rule
-            c.index-targets-pair.result rule a c.as_slice.result.now c.as_slice-2.result.now
-            (names_of c.equal.result.now) c.requires.targets c.index-targets-pair.is at_rule
+        rule.target ++ map (same_value c.get-alert.result.now) rule.equal,
+        rows_of_pair _ _ _ _ _ rule _ _ _ _ c.requires.targets c.index-targets-pair.is at_rule
             c.as_slice.ensures.value (c.as_slice-2.ensures.value ∙ c.in_ok-values.ensures.rows)
             c.equal.ensures.equal,
       );
@@ -63,7 +57,6 @@ of_rows-requires g c =
 
 pub returns : goal.returns
 returns g c =
-    let u = c.args.universe.now in
     let world = c.args.world.now in
     let pair = c.args.pair in
     let rule = c.index-rules-pair.result in
@@ -73,16 +66,14 @@ returns g c =
     c.index-rules-pair.is in
     let at_alert : slice_get world.alerts pair.alert ≡ Some a =
     ap (λ xs. slice_get xs pair.alert) (sym c.alerts.ensures.alerts) ∙ c.get-alert.ensures.alert in
-    let rows = rows_of_pair u c.args.targets.now world.config.rules pair.rule
-    c.index-targets-pair.result rule a c.as_slice.result.now c.as_slice-2.result.now
-    (names_of c.equal.result.now) c.requires.targets c.index-targets-pair.is at_rule
+    let rows = rows_of_pair _ _ _ _ _ rule a _ _ _ c.requires.targets c.index-targets-pair.is at_rule
     c.as_slice.ensures.value (c.as_slice-2.ensures.value ∙ c.in_ok-values.ensures.rows)
     c.equal.ensures.equal in
     let read = read_pair world c.rules.result.now c.alerts.result.now pair rule a c.requires.pair
     of_world c.alerts.ensures.alerts c.index-rules-pair.is c.get-alert.ensures.alert in
     record {
       pair = λ prefix m sources knows are.
-          pair_truth u world g.L.JudgedList.verdict prefix m sources c.in_ok-list.list
+          pair_truth c.args.universe.now world g.L.JudgedList.verdict prefix m sources c.in_ok-list.list
           pair rule a are at_rule at_alert read.1
           (c.in_ok-list.ensures.exact (rule.target ++ map (same_value a) rule.equal) rows prefix knows);
     }

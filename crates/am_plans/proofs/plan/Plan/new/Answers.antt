@@ -1,4 +1,4 @@
-use Rattle.std.proofs.Common.{subst}
+use Rattle.std.proofs.Common.{subst, rules}
 use Rattle.am_universe.specs.Universe.{sizes}
 use Rattle.am_search.specs.Judge.{AreSizes}
 use Rattle.am_search.proofs.TokenTexts.{sizes_of_universe}
@@ -20,20 +20,17 @@ invariant_of-result c =
           (sizes_of_universe c.universe-universe.result.now c.len.ensures.universe));
     }
 
-pub returns-clause-verdict : goal.returns-clause-verdict
-returns-clause-verdict c =
+pub returns : goal.returns
+returns c =
     let w = c.args.world.now in
     let q = question_view c.args.question.now in
     let judged = c.in_ok-judged.judged in
-    verdict_is c.args.space.now w q judged c.in_ok-impossible.impossible
-    (subst (λ u. IsQuestionOver u w q judged) c.universe-universe.ensures.labels
-    c.in_ok-judged.ensures.exact) c.in_ok-impossible.ensures.verdicts
-
-pub returns-clause-truth : goal.returns-clause-truth
-returns-clause-truth c =
-    let w = c.args.world.now in
-    let q = question_view c.args.question.now in
-    let judged = c.in_ok-judged.judged in
-    truth_is c.args.space.now w q judged c.in_ok-impossible.impossible
-    (subst (λ u. IsQuestionOver u w q judged) c.universe-universe.ensures.labels
-    c.in_ok-judged.ensures.exact) c.in_ok-impossible.ensures.verdicts
+    let impossible = c.in_ok-impossible.impossible in
+    let exact = subst (λ u. IsQuestionOver u w q judged) c.universe-universe.ensures.labels
+    c.in_ok-judged.ensures.exact in
+    let cubes = c.in_ok-impossible.ensures.verdicts in
+    record {
+      space = search rules;
+      verdict = verdict_is c.args.space.now w q judged impossible exact cubes;
+      truth = truth_is c.args.space.now w q judged impossible exact cubes;
+    }
