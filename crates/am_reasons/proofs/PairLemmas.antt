@@ -1,25 +1,21 @@
 -- Pairs of choices that have the same positions at some labels, and what is needed for them.
-use Rattle.std.proofs.Common.{◌≡◌, ◌<◌, ◌+◌, ◌==◌, ◌&&◌, ◌||◌, ◌⊎◌, ℕ, zero, suc, List, [], ◌∷◌}
+use Rattle.std.proofs.Common.{◌≡◌, ◌<◌, ◌==◌, ◌&&◌, ◌||◌, ◌⊎◌, ℕ, zero, suc, List, [], ◌∷◌}
 use Rattle.std.proofs.Common.{Bool, true, false, Option, Some, None, refl, sym, ap, ◌∙◌, subst, inl}
-use Rattle.std.proofs.Common.{inr, arith, length}
-use Rattle.std.specs.Prelude.{IsTrue, IfSome, IfNone, is_some, slice_get, slice_index}
+use Rattle.std.proofs.Common.{inr, length}
+use Rattle.std.specs.Prelude.{IfSome, IfNone, is_some, slice_get, slice_index}
 use Rattle.std.specs.List.{find, AllByRecursion}
-use Rattle.std.proofs.lemmas.Bool.{cases_Bool, and_parts, and_from, and_right, or_right, eqb-true}
+use Rattle.std.proofs.lemmas.Bool.{cases_Bool, and_parts, and_from, or_right, eqb-true}
 use Rattle.std.proofs.lemmas.Bool.{eq-eqb, both_ways}
 use Rattle.am_universe.proofs.ListLemmas.{IsIn, IsIn-from_Contains, Contains-from_IsIn}
 use Rattle.am_universe.proofs.ListLemmas.{AllByRecursion-at}
 use Rattle.am_search.proofs.ChoiceOrder.{got_at}
-use Rattle.am_labels.specs.Space.{Space, all_choices, IsChoiceOf, is_possible_choice}
-use Rattle.am_universe.specs.Universe.{sizes}
-use Rattle.am_universe.specs.Choice.{choices}
+use Rattle.am_labels.specs.Space.{Space, all_choices, IsChoiceOf}
 use Rattle.am_labels.proofs.SpaceLaws.{space_choices}
 use Rattle.am_search.specs.declared.labels.Labels.{Labels}
 use Rattle.am_search.specs.Labels.{has_label}
-use Rattle.am_search.proofs.FirstAlike.{find_alike, first_alike}
-use Rattle.am_first_sets.specs.declared.possible_choices.PossibleRefuter.{PossibleRefuter}
-use Rattle.am_first_sets.specs.PossibleRefuter.{possible_space, possible_sizes, possible_truth}
+use Rattle.am_search.proofs.FirstAlike.{find_alike}
 use Rattle.am_first_sets.specs.Reasons.{IsReasonAgainst}
-use Rattle.am_first_sets.proofs.FirstPossible.{is_found, find_kept}
+use Rattle.am_first_sets.proofs.FirstPossible.{is_found}
 use Rattle.am_reasons.specs.declared.candidate.Candidate.{Candidate}
 use Rattle.am_reasons.specs.Meeting.{meets}
 use Rattle.am_reasons.specs.Pairs.{is_shared, are_same_at, IsPair, ArePaired, AreUnpaired}
@@ -187,21 +183,6 @@ all_to_blame s shared ls labels prefix low are none = record {
 -- what a search for pairs finds passes this test
 abbrev pub begins_pair : Space → List ℕ → List Candidate → List Candidate → List ℕ → Bool
 begins_pair s shared ks ls c = meets c ks && has_partner s shared ls c
-
-pub pair_search : (possible : PossibleRefuter) (shared : List ℕ) (ks ls : List Candidate)
-    (found : Option (List ℕ))
-    → found ≡ find (λ d. begins_pair (possible_space possible) shared ks ls d
-    && possible_truth possible d) (choices (possible_sizes possible))
-    → found ≡ find (begins_pair (possible_space possible) shared ks ls)
-    (all_choices (possible_space possible))
-pair_search possible shared ks ls found first =
-    let s = possible_space possible in
-    let begins = begins_pair s shared ks ls in
-    first
-    ∙ first_alike (sizes s.labels) (λ d. begins d && possible_truth possible d)
-    (λ d. begins d && is_possible_choice s d)
-    (λ d whole. ap (λ b. begins d && b) (possible.knows_possible d whole))
-    ∙ find_kept begins (is_possible_choice s) (choices (sizes s.labels))
 
 pub no_pair : (s : Space) (shared : List ℕ) (ks ls : List Candidate) (found : Option (List ℕ))
     → found ≡ find (begins_pair s shared ks ls) (all_choices s) → found ≡ None

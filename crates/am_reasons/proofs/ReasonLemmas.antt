@@ -1,14 +1,19 @@
 -- Literals that are named or not, one after another.
 use Rattle.std.proofs.Common.{◌≡◌, ◌<◌, ◌≤◌, ◌+◌, ℕ, zero, suc, List, [], ◌∷◌, Bool, true, false}
-use Rattle.std.proofs.Common.{not, ◌||◌, Some, None, IsTrue, refl, sym, ap, ◌∙◌, subst, inl, inr}
+use Rattle.std.proofs.Common.{not, ◌&&◌, ◌||◌, Some, None, IsTrue, refl, sym, ap, ◌∙◌, subst, inl, inr}
 use Rattle.std.proofs.Common.{arith, length, set, ◌⊎◌}
 use Rattle.std.specs.Prelude.{slice_get, slice_index_or, Option, IfSome, is_some, if◌then◌else◌}
 use Rattle.std.specs.List.{find}
 use Rattle.std.proofs.lemmas.Option.{slice_get_within}
 use Rattle.std.proofs.lemmas.Bool.{and_parts, both_ways}
 use Rattle.std.proofs.Math.Nat.{eq-or-lt_of_le}
-use Rattle.am_labels.specs.Space.{Space, all_choices, IsChoiceOf}
-use Rattle.am_first_sets.proofs.FirstPossible.{is_found}
+use Rattle.am_universe.specs.Universe.{sizes}
+use Rattle.am_universe.specs.Choice.{choices}
+use Rattle.am_labels.specs.Space.{Space, all_choices, IsChoiceOf, is_possible_choice}
+use Rattle.am_search.proofs.FirstAlike.{first_alike}
+use Rattle.am_first_sets.specs.declared.possible_choices.PossibleRefuter.{PossibleRefuter}
+use Rattle.am_first_sets.specs.PossibleRefuter.{possible_space, possible_sizes, possible_truth}
+use Rattle.am_first_sets.proofs.FirstPossible.{is_found, find_kept}
 use Rattle.am_reasons.specs.declared.candidate.Candidate.{Candidate}
 use Rattle.am_reasons.specs.Meeting.{holds_at, hold_all, meets, IsMet}
 use Rattle.am_reasons.specs.Reason.{AreSameLiterals, AreNamedBefore, renamed, without}
@@ -239,6 +244,18 @@ same_either ks before after i (inr less) h =
     subst (AreSameLiterals ks) (sym less) (same_renamed i false ks before h)
 
 -- ---- What was looked for.
+
+-- the first that passes a test and is possible by the cubes is the first of the space that passes
+pub first_in_space : (possible : PossibleRefuter) (test : List ℕ → Bool) (found : Option (List ℕ))
+    → found ≡ find (λ d. test d && possible_truth possible d) (choices (possible_sizes possible))
+    → found ≡ find test (all_choices (possible_space possible))
+first_in_space possible test found first =
+    let s = possible_space possible in
+    first
+    ∙ first_alike (sizes s.labels) (λ d. test d && possible_truth possible d)
+    (λ d. test d && is_possible_choice s d)
+    (λ d whole. ap (λ b. test d && b) (possible.knows_possible d whole))
+    ∙ find_kept test (is_possible_choice s) (choices (sizes s.labels))
 
 -- what is found meets the literals that are named, and where nothing is found none does
 pub found_meets : (s : Space) (ks : List Candidate) (found : Option (List ℕ)) (c : List ℕ)

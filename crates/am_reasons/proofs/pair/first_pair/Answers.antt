@@ -1,23 +1,22 @@
 use Rattle.std.proofs.Common.{◌≡◌, true, false, sym, ap, ◌∙◌}
 use Rattle.std.specs.Prelude.{is_some}
 use Rattle.am_first_sets.specs.PossibleRefuter.{possible_space}
-use Rattle.am_reasons.proofs.PairLemmas.{pair_search, no_pair, has_found, pair_found}
+use Rattle.am_reasons.proofs.PairLemmas.{no_pair, has_found, pair_found}
+use Rattle.am_reasons.proofs.ReasonLemmas.{first_in_space}
 use Rattle.am_reasons.proofs.pair.first_pair.Goals as goal
 
 pub returns-in_default-clause-none : goal.returns-in_default-clause-none
 returns-in_default-clause-none c =
     no_pair (possible_space c.args.possible.now) c.args.shared.now c.args.first.now
     c.args.second.now c.first_by_jumps.result
-    (pair_search c.args.possible.now c.args.shared.now c.args.first.now c.args.second.now
-    c.first_by_jumps.result c.first_by_jumps.ensures.first)
+    (first_in_space c.args.possible.now _ c.first_by_jumps.result c.first_by_jumps.ensures.first)
     c.in_default.is
 
 pub unreachable-requires : goal.unreachable-requires
 unreachable-requires c =
     let some = has_found (possible_space c.args.possible.now) c.args.shared.now c.args.first.now
     c.args.second.now c.first_by_jumps.result c.in-Some.choice c.first_partner.result
-    (pair_search c.args.possible.now c.args.shared.now c.args.first.now c.args.second.now
-    c.first_by_jumps.result c.first_by_jumps.ensures.first)
+    (first_in_space c.args.possible.now _ c.first_by_jumps.result c.first_by_jumps.ensures.first)
     c.in-Some.is c.first_partner.ensures.first in
     let both : true ≡ false = sym some ∙ ap is_some c.in-None.is in cc
 
@@ -26,6 +25,5 @@ returns-clause-some c =
     pair_found (possible_space c.args.possible.now) c.args.shared.now c.args.first.now
     c.args.second.now c.first_by_jumps.result c.in-Some.choice c.first_partner.result
     c.in-Some-first_partner.partner
-    (pair_search c.args.possible.now c.args.shared.now c.args.first.now c.args.second.now
-    c.first_by_jumps.result c.first_by_jumps.ensures.first)
+    (first_in_space c.args.possible.now _ c.first_by_jumps.result c.first_by_jumps.ensures.first)
     c.in-Some.is c.first_partner.ensures.first c.in-Some-first_partner.is

@@ -1,25 +1,14 @@
-use Rattle.std.proofs.Common.{ap, ◌∙◌, List, ℕ, Bool}
-use Rattle.std.specs.Prelude.{◌&&◌}
-use Rattle.am_universe.specs.Universe.{sizes}
-use Rattle.am_universe.specs.Choice.{choices}
-use Rattle.am_labels.specs.Space.{is_possible_choice}
-use Rattle.am_search.proofs.FirstAlike.{first_alike}
-use Rattle.am_first_sets.specs.PossibleRefuter.{possible_space, possible_truth}
-use Rattle.am_first_sets.proofs.FirstPossible.{find_kept, found_of_space}
+use Rattle.am_first_sets.specs.PossibleRefuter.{possible_space}
+use Rattle.am_first_sets.proofs.FirstPossible.{found_of_space}
 use Rattle.am_reasons.specs.Pairs.{is_partner}
+use Rattle.am_reasons.proofs.ReasonLemmas.{first_in_space}
 use Rattle.am_reasons.proofs.pair.first_partner.Goals as goal
 
 pub returns-clause-first : goal.returns-clause-first
 returns-clause-first c =
-    let possible = c.args.possible.now in
-    let s = possible_space possible in
-    let joins : List ℕ → Bool =
-    is_partner c.args.shared.now c.args.candidates.now c.args.choice.now in
-    c.first_by_jumps.ensures.first
-    ∙ first_alike (sizes s.labels) (λ d. joins d && possible_truth possible d)
-    (λ d. joins d && is_possible_choice s d)
-    (λ d whole. ap (λ b. joins d && b) (possible.knows_possible d whole))
-    ∙ find_kept joins (is_possible_choice s) (choices (sizes s.labels))
+    first_in_space c.args.possible.now
+    (is_partner c.args.shared.now c.args.candidates.now c.args.choice.now)
+    c.first_by_jumps.result c.first_by_jumps.ensures.first
 
 pub returns-clause-possible : goal.returns-clause-possible
 returns-clause-possible c =
