@@ -1,5 +1,5 @@
 mod Truths
 mod Ids
-mod ListedSteps
+pub mod ListedSteps
 mod FoundSteps
 mod AlertLaws

@@ -1,4 +1,5 @@
 //! The lines of alerts, as they are written.
+#![tactic(auto, using(crate::proofs::ListedSteps::listed_steps))]
 
 ghost use Rattle.std.specs.Prelude.{◌≡◌, ◌++◌, ◌==◌, [], List, ℕ, codes, decimal, slice_get};
 ghost use Rattle.std.specs.Prelude.{unwrap_or, if◌then◌else◌};
@@ -32,6 +33,7 @@ pub(crate) fn write_lines<W: Sink>(
     put_all(out, b"# end\n")
 }
 
+#[tactic(auto, using(am_universe::proofs::Writing::steps))]
 fn write_line<W: Sink>(
     config: &Config,
     ids: &SilenceIds,

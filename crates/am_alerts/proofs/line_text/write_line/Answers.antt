@@ -4,24 +4,6 @@ use Rattle.am_config.specs.ConfigView.{config_view}
 use Rattle.am_alerts.specs.AlertLines.{listed, receiver_text, silence_text, inhibitor_text}
 use Rattle.am_alerts.proofs.line_text.write_line.Goals as goal
 
-pub returns-in_err-put_all : goal.returns-in_err-put_all
-returns-in_err-put_all g c =
-    c.in_ok-write_number.ensures.ok
-    ⟩ fails _ c.from_residual-in_err-put_all.ensures c.in_err-put_all.ensures.written
-
-pub returns-in_err-write_map : goal.returns-in_err-write_map
-returns-in_err-write_map g c =
-    c.in_ok-write_number.ensures.ok
-    ⟩ c.in_ok-put_all.ensures.written.ok
-    ⟩ fails _ c.from_residual-in_err-write_map.ensures c.in_err-write_map.ensures.written
-
-pub returns-in_err-put_all-2 : goal.returns-in_err-put_all-2
-returns-in_err-put_all-2 g c =
-    c.in_ok-write_number.ensures.ok
-    ⟩ c.in_ok-put_all.ensures.written.ok
-    ⟩ c.in_ok-write_map.ensures.written.ok
-    ⟩ fails _ c.from_residual-in_err-put_all-2.ensures c.in_err-put_all-2.ensures.written
-
 pub returns-in_err-write_receivers : goal.returns-in_err-write_receivers
 returns-in_err-write_receivers g c =
     let names = receiver_text (config_view c.args.config.now) in
