@@ -31,17 +31,8 @@ pub fn write_matchers(list: &Matchers, out: &mut Out<Vec<u8>>) -> Result<(), Kin
 
 fn write_matcher(matcher: &Matcher, out: &mut Out<Vec<u8>>) -> Result<(), Kind> {
     put_str(out, matcher.name())?;
-    put_str(out, operator_text(matcher.op()))?;
+    put_str(out, matcher.op().text())?;
     write_text(out, matcher.value())
-}
-
-fn operator_text(op: Op) -> &'static str {
-    match op {
-        Op::Equal => "=",
-        Op::NotEqual => "!=",
-        Op::Matches => "=~",
-        Op::NotMatches => "!~",
-    }
 }
 
 /// The matcher that is made of a name, an operator and a value, with blanks between.
@@ -61,8 +52,8 @@ pub fn of_matcher(alloc: Global, text: &[u8]) -> Result<Vec<u8>, Refusal> {
 }
 
 fn operator_named(text: &[u8]) -> Option<Op> {
-    for op in [Op::Equal, Op::NotEqual, Op::Matches, Op::NotMatches] {
-        if operator_text(op).as_bytes() == text {
+    for op in Op::ALL {
+        if op.text().as_bytes() == text {
             return Some(op);
         }
     }

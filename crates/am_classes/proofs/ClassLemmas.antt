@@ -1,5 +1,5 @@
 -- The named texts and those of the candidates stand for all classes, and no two for one.
-use Rattle.std.proofs.Common.{◌≡◌, ℕ, zero, suc, ◌+◌, Bool, true, false, not, List, [], ◌∷◌, ◌++◌}
+use Rattle.std.proofs.Common.{◌≡◌, ℕ, zero, suc, ◌+◌, false, List, [], ◌∷◌, ◌++◌}
 use Rattle.std.proofs.Common.{Some, slice_get, length, map, string_bytes, inl, inr, refl, subst}
 use Rattle.std.proofs.Common.{sym, ap, ◌∙◌, arith}
 use Rattle.std.proofs.lemmas.Bool.{false_from_ne_true, cases_Bool}
@@ -7,10 +7,9 @@ use Rattle.std.proofs.lemmas.Slice.Eq.{bytes_eq-Decides}
 use Rattle.std.proofs.lemmas.Option.{same_Some}
 use Rattle.std.proofs.lemmas.Grind.{common_steps}
 use Rattle.am_universe.specs.Text.{same_text}
-use Rattle.am_labels.specs.declared.op.Op.{Op}
-use Rattle.am_labels.specs.declared.op.Op.TheVariants.{Equal, NotEqual, Matches, NotMatches}
 use Rattle.am_labels.specs.Matcher.{Condition, holds, takes_pattern}
 use Rattle.am_labels.specs.Pattern.{finds}
+use Rattle.am_labels.proofs.OperatorLemmas.{holds_same, asks_same}
 use Rattle.am_scan.specs.Automaton.{pattern_of}
 use Rattle.am_classes.specs.declared.questions.Questions.{Questions}
 use Rattle.am_classes.specs.declared.candidate.Candidate.{Candidate}
@@ -32,32 +31,6 @@ record SameAnswers (q : Questions) (x y : List ℕ) : Type 0 where
   texts : (k : ℕ) (named : List ℕ) → slice_get (named_texts q) k ≡ Some named → same_text x named ≡ same_text y named
   patterns : (k : ℕ) (pattern : List ℕ) → slice_get (patterns_of q) k ≡ Some pattern → finds pattern x ≡ finds pattern y
 
-not_same : (a b : Bool) → not a ≡ not b → a ≡ b
-not_same true true e = refl
-not_same false false e = refl
-not_same a b e = absurd cc
-
--- An operator is as true of one text as of another where its question has the same answer.
-holds_same : (op : Op) (value x y : List ℕ)
-    → (takes_pattern op ≡ false → same_text x value ≡ same_text y value)
-    → (takes_pattern op ≡ true → finds value x ≡ finds value y) → holds op value x ≡ holds op value y
-holds_same Equal value x y a b = a refl
-holds_same NotEqual value x y a b = ap not (a refl)
-holds_same Matches value x y a b = b refl
-holds_same NotMatches value x y a b = ap not (b refl)
-
-text_answer : (op : Op) (value x y : List ℕ) → takes_pattern op ≡ false
-    → holds op value x ≡ holds op value y → same_text x value ≡ same_text y value
-text_answer Equal value x y e h = h
-text_answer NotEqual value x y e h = not_same (same_text x value) (same_text y value) h
-text_answer op value x y e h = absurd cc
-
-pattern_answer : (op : Op) (value x y : List ℕ) → takes_pattern op ≡ true
-    → holds op value x ≡ holds op value y → finds value x ≡ finds value y
-pattern_answer Matches value x y e h = h
-pattern_answer NotMatches value x y e h = not_same (finds value x) (finds value y) h
-pattern_answer op value x y e h = absurd cc
-
 -- A text over an alphabet is none that is not.
 foreign_differs : (a : Alphabet) (value x : List ℕ) → is_over a value ≡ false → IsOver a x
     → same_text x value ≡ false
@@ -67,12 +40,33 @@ foreign_differs a value x foreign over = grind (arith, common_steps, false_from_
 alike_from : (ms : List Condition) (q : Questions) → AreAsked ms q → (x y : List ℕ)
     → IsOver q.alphabet x → IsOver q.alphabet y → SameAnswers q x y → AreAlike ms x y
 alike_from ms q asked x y x_over y_over same =
-    grind (arith, common_steps, all_from_places, holds_same, cases_Bool, foreign_differs)
+    all_from_places (λ m. holds m.op m.value x ≡ holds m.op m.value y) ms
+    (λ k m at. holds_same m.op m.value x y (elim (cases_Bool (takes_pattern m.op)) [
+      | inl pattern ↦
+          let place = asked.patterns.each k m at pattern refl in
+          rw pattern (same.patterns place.0 m.value place.1)
+      | inr text ↦ rw text (elim (cases_Bool (is_over q.alphabet m.value)) [
+        | inl over ↦
+            let place = asked.texts.each k m at text over in same.texts place.0 m.value place.1
+        | inr foreign ↦
+            foreign_differs q.alphabet m.value x foreign x_over
+            ∙ sym (foreign_differs q.alphabet m.value y foreign y_over)
+      ])
+    ]))
 
 -- Alike texts have the same answers.
 answers_from : (ms : List Condition) (q : Questions) → AreAsked ms q → (x y : List ℕ)
     → AreAlike ms x y → SameAnswers q x y
-answers_from ms q asked x y alike = grind (arith, common_steps, all_at_place, text_answer, pattern_answer)
+answers_from ms q asked x y alike = record {
+  texts = λ k named at.
+      let from = asked.texts.from k named at in
+      let here = all_at_place (λ m. holds m.op m.value x ≡ holds m.op m.value y) ms from.0 from.1 alike from.2 in
+      subst (λ v. same_text x v ≡ same_text y v) from.4 (rw from.3 at (asks_same from.1.op from.1.value x y here));
+  patterns = λ k pattern at.
+      let from = asked.patterns.from k pattern at in
+      let here = all_at_place (λ m. holds m.op m.value x ≡ holds m.op m.value y) ms from.0 from.1 alike from.2 in
+      subst (λ v. finds v x ≡ finds v y) from.4 (rw from.3 at (asks_same from.1.op from.1.value x y here));
+}
 
 -- What is at a place under a function is of what is at the place.
 get_mapped : {X Y : Type 0} (f : X → Y) (xs : List X) (k : ℕ) (y : Y) → slice_get (map f xs) k ≡ Some y

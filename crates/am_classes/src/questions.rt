@@ -1,6 +1,5 @@
 ghost use Rattle.std.specs.Prelude.{◌≡◌, ◌↔◌, ◌∷◌, [], ℕ, List, Some, false, true, IsTrue, map};
 ghost use Rattle.std.specs.Prelude.{IfOk, IfSome, IfNone, string_bytes, slice_get};
-ghost use Rattle.am_labels.specs.Matcher.{takes_pattern};
 ghost use Rattle.am_classes.specs.Utf8.{text_step};
 ghost use Rattle.am_classes.specs.Rest.{RestFollows};
 ghost use Rattle.am_classes.specs.Automata.{numbers_of, AreClasses, MakeSame, fits, found_by};
@@ -13,7 +12,7 @@ use crate::automata::{automata_of, byte_classes, end_numbers, found_patterns, ne
 use crate::label_state::LabelState;
 use crate::rest::Rest;
 use crate::tail::Tail;
-use am_labels::{Matcher, Op};
+use am_labels::Matcher;
 use am_scan::PatternAutomaton;
 use std::alloc::{AllocError, Global};
 
@@ -203,7 +202,7 @@ fn values(
 {
     let mut values: Vec<String> = Vec::new(alloc);
     for matcher in matchers {
-        if takes_pattern(matcher.op()) != patterns {
+        if matcher.op().takes_pattern() != patterns {
             continue;
         }
         let value = matcher.value();
@@ -223,11 +222,4 @@ fn counts(alphabet: Alphabet, patterns: bool, value: &str) -> bool
     ensures { result ≡ counts alphabet patterns value.now }
 {
     patterns || alphabet.has(value)
-}
-
-/// Whether an operator takes its value as a pattern.
-fn takes_pattern(op: Op) -> bool
-    ensures { result ≡ takes_pattern op }
-{
-    matches!(op, Op::Matches | Op::NotMatches)
 }

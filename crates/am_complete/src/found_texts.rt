@@ -12,7 +12,6 @@ use crate::representatives::put_in_order;
 use crate::truths::Truths;
 use crate::usual_texts::{push_new, texts_over, usual_texts};
 use am_classes::Alphabet;
-use am_labels::Op;
 use am_list_files::Alerts;
 use std::alloc::{AllocError, Global};
 
@@ -67,7 +66,7 @@ fn texts_to_try(
 {
     let mut texts = Vec::new(alloc);
     for matcher in label.matchers() {
-        if matches!(matcher.op(), Op::Equal | Op::NotEqual) {
+        if !matcher.op().takes_pattern() {
             push_new(alloc, &mut texts, matcher.value())?;
         }
     }
@@ -76,7 +75,7 @@ fn texts_to_try(
         push_new(alloc, &mut texts, text.as_str())?;
     }
     for matcher in label.matchers() {
-        if matches!(matcher.op(), Op::Matches | Op::NotMatches) {
+        if matcher.op().takes_pattern() {
             push_words(alloc, &mut texts, matcher.value())?;
         }
     }

@@ -9,18 +9,17 @@ use Rattle.am_universe.specs.declared.kind.Kind.{Kind}
 use Rattle.am_universe.specs.declared.kind.Kind.TheVariants as kinds
 use Rattle.am_universe.specs.LabelSet.{LabelMap}
 use Rattle.am_labels.specs.declared.limits.TheConstants.{MAX_MATCHERS}
-use Rattle.am_labels.specs.declared.op.Op.{Op}
-use Rattle.am_labels.specs.declared.op.Op.TheVariants.{Equal, NotEqual, Matches, NotMatches}
 use Rattle.am_labels.specs.Pattern.{is_pattern}
 use Rattle.am_labels.specs.PatternCut.{in_profile}
-use Rattle.am_labels.specs.Matcher.{Condition, takes_pattern}
+use Rattle.am_labels.specs.Matcher.{Condition, is_equality, takes_pattern}
 use Rattle.am_labels.specs.MatcherText.{WordsSpell}
 use Rattle.am_labels.specs.MatcherRefusals.{has_valid_pattern, have_valid_patterns}
 use Rattle.am_labels.specs.MatcherRefusals.{ValueRefusedFor, PatternsRefusedFor}
 use Rattle.am_labels.specs.MatcherRefusals.{ListRefusedFor, WordsRefusedFor}
-use Rattle.am_labels.specs.ParsedLabelSet.{is_equality, are_equalities, repeats_name}
+use Rattle.am_labels.specs.ParsedLabelSet.{are_equalities, repeats_name}
 use Rattle.am_labels.specs.ParsedLabelSet.{WordsSpellSet, SetRefusedFor, SetWordsRefusedFor}
 use Rattle.am_labels.proofs.MatcherTextWhole.{one_list_of_words}
+use Rattle.am_labels.proofs.OperatorLemmas.{equality_is}
 
 -- ---- Patterns.
 
@@ -104,20 +103,13 @@ words_kind words kind other (inr list) (inr again) h k =
 
 -- ---- Label sets.
 
--- an equality has no pattern
-equality_is_valid : (op : Op) → is_equality op ≡ true → takes_pattern op ≡ false
-equality_is_valid Equal e = refl
-equality_is_valid NotEqual e = absurd (cc)
-equality_is_valid Matches e = absurd (cc)
-equality_is_valid NotMatches e = absurd (cc)
-
 no_patterns : (ms : List Condition) (kind : Kind) → are_equalities ms ≡ true
     → PatternsRefusedFor ms kind → ⊥
 no_patterns ms kind e refused =
-    let none = equality_is_valid refused.refused.op
+    let equal = equality_is refused.refused.op
     (passes_at (λ m. is_equality m.op) refused.before refused.refused refused.after
     (subst (λ (l : List Condition). are_equalities l ≡ true) refused.parts e)) in
-    false≢true (sym none ∙ refused.value.pattern)
+    false≢true (sym (ap takes_pattern equal) ∙ refused.value.pattern)
 
 equalities_refused : (ms : List Condition) (kind : Kind) → length ms ≤ MAX_MATCHERS
     → are_equalities ms ≡ true → ListRefusedFor ms kind → ⊥

@@ -17,4 +17,5 @@ mod ParsedLabelSetLemmas
 pub mod RowLemmas
 pub mod RowLawLemmas
 pub mod Passing
+pub mod OperatorLemmas
 pub mod SpaceLaws

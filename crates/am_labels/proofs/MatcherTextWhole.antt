@@ -38,7 +38,7 @@ operator_ends_name [] Equal rest b = refl
 operator_ends_name [] _ rest b = refl
 operator_ends_name (c ∷ cs) op rest b = space_ends_name c (and_parts (is_space c) (is_blank cs) b).0
 
-name_continues : (name : List ℕ) → is_name name ≡ true → list_all continues_name name ≡ true
+pub name_continues : (name : List ℕ) → is_name name ≡ true → list_all continues_name name ≡ true
 name_continues [] h = absurd (false≢true h)
 name_continues (c ∷ cs) h =
     let parts = and_parts (begins_name c) (list_all continues_name cs) h in

@@ -13,6 +13,11 @@ pub record Condition : Type 0 where
   pub op : Op
   pub value : List ℕ
 
+-- The operator is `=`.
+abbrev pub is_equality : Op → Bool
+is_equality Equal = true
+is_equality other = false
+
 -- The operators whose value is a pattern: `=~` and `!~`.
 abbrev pub takes_pattern : Op → Bool
 takes_pattern Equal = false

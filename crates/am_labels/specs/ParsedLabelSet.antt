@@ -3,24 +3,16 @@ use Rattle.std.specs.Prelude.{◌≡◌, ℕ, ◌≤◌, List, [], ◌∷◌, le
 use Rattle.std.specs.Prelude.{fold, IsTrue, ◌⊎◌}
 use Rattle.std.specs.List.{list_all, list_any}
 use Rattle.std.specs.FinMap as finite
-use Rattle.am_labels.specs.declared.op.Op.{Op}
-use Rattle.am_labels.specs.declared.op.Op.TheVariants.{Equal, NotEqual, Matches, NotMatches}
 use Rattle.am_universe.specs.declared.kind.Kind.{Kind}
 use Rattle.am_universe.specs.declared.kind.Kind.TheVariants as kinds
 use Rattle.am_universe.specs.Text.{same_text}
 use Rattle.am_universe.specs.LabelSet.{LabelMap, with_value}
 use Rattle.am_labels.specs.declared.limits.TheConstants.{MAX_MATCHERS}
-use Rattle.am_labels.specs.Matcher.{Condition}
+use Rattle.am_labels.specs.Matcher.{Condition, is_equality}
 use Rattle.am_labels.specs.MatcherText.{WordsSpell}
 use Rattle.am_labels.specs.MatcherRefusals.{have_valid_patterns, WordsRefusedFor}
 
--- An operator is `=`; and each operator of a list is.
-abbrev pub is_equality : Op → Bool
-is_equality Equal = true
-is_equality NotEqual = false
-is_equality Matches = false
-is_equality NotMatches = false
-
+-- Each operator of a list is `=`.
 abbrev pub are_equalities : List Condition → Bool
 are_equalities ms = list_all (λ m. is_equality m.op) ms
 

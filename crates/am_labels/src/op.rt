@@ -1,6 +1,6 @@
 ghost use Rattle.std.specs.Prelude.{◌≡◌};
-ghost use Rattle.am_labels.specs.Matcher.{takes_pattern, negates};
-ghost use Rattle.am_labels.specs.ParsedLabelSet.{is_equality};
+ghost use Rattle.am_labels.specs.Matcher.{is_equality, takes_pattern, negates};
+ghost use Rattle.am_labels.specs.MatcherText.{operator_text};
 
 /// The operator of a matcher.
 #[derive(Clone, Copy, Debug, PartialEq, Eq)]
@@ -16,9 +16,24 @@ pub enum Op {
 }
 
 impl Op {
+    /// Each operator once.
+    pub const ALL: [Op; 4] = [Op::Equal, Op::NotEqual, Op::Matches, Op::NotMatches];
+
+    /// How the operator is written.
+    pub fn text(self) -> &'static str
+        ensures text { result.now ≡ operator_text self }
+    {
+        match self {
+            Op::Equal => "=",
+            Op::NotEqual => "!=",
+            Op::Matches => "=~",
+            Op::NotMatches => "!~",
+        }
+    }
+
     /// Whether the operator takes its value as a pattern.
-    pub(crate) fn takes_pattern(self) -> bool
-        ensures { result ≡ takes_pattern self }
+    pub fn takes_pattern(self) -> bool
+        ensures takes_pattern { result ≡ takes_pattern self }
     {
         matches!(self, Op::Matches | Op::NotMatches)
     }

@@ -1,5 +1,5 @@
 -- What is so of a matcher that names an unseen value, and of the most similar value.
-use Rattle.std.proofs.Common.{◌≡◌, ◌≢◌, ◌≤◌, ◌<◌, ℕ, List, [], ◌∷◌, refl, ap, ◌∙◌, Bool, true}
+use Rattle.std.proofs.Common.{◌≡◌, ◌≢◌, ◌≤◌, ◌<◌, ℕ, List, [], ◌∷◌, refl, sym, ap, ◌∙◌, Bool, true}
 use Rattle.std.proofs.Common.{false, ◌&&◌, inl, Some, None, Contains, map}
 use Rattle.std.specs.Prelude.{IsTrue, nat_le}
 use Rattle.std.specs.List.{AllByRecursion, list_any}
@@ -10,13 +10,13 @@ use Rattle.am_universe.specs.LabelSet.{LabelMap, value_of}
 use Rattle.am_universe.specs.Text.{same_text}
 use Rattle.am_universe.proofs.ListLemmas.{IsIn, IsIn-map, IsIn-unmap, Contains-from_IsIn}
 use Rattle.am_universe.proofs.ListLemmas.{AllByRecursion-each}
-use Rattle.am_labels.specs.declared.op.Op.{Op}
-use Rattle.am_labels.specs.declared.op.Op.TheVariants.{Equal, NotEqual, Matches, NotMatches}
-use Rattle.am_labels.specs.Matcher.{Condition, condition_holds, holds}
+use Rattle.am_labels.specs.declared.op.Op.TheVariants.{Equal}
+use Rattle.am_labels.specs.Matcher.{Condition, condition_holds, holds, is_equality}
+use Rattle.am_labels.proofs.OperatorLemmas.{equality_is}
 use Rattle.am_labels.proofs.Passing.{any_in, in_any, passes_from_kept, kept_from_passes}
 use Rattle.am_complete.specs.FoundState.{begins, has_label}
 use Rattle.am_unseen.specs.declared.limits.TheConstants.{MOST_EDITS}
-use Rattle.am_unseen.specs.Unseen.{seen_values, is_missing, is_equality, names_unseen_value}
+use Rattle.am_unseen.specs.Unseen.{seen_values, is_missing, names_unseen_value}
 use Rattle.am_unseen.specs.Unseen.{most_similar, edits_between, is_similar, is_nearest}
 use Rattle.am_unseen.proofs.Found.{found_in, all_each}
 use Rattle.am_unseen.proofs.Nearest.{all_too_far}
@@ -72,13 +72,6 @@ parts alerts m h =
     let first = and_parts (is_equality m.op) (begins m.value && missing) h in
     let second = and_parts (begins m.value) missing first.1 in (first.0, second.0, second.1)
 
-equality : (op : Op) (value text : List ℕ) → is_equality op ≡ true → holds op value text ≡ true
-    → text ≡ value
-equality Equal value text e h = (bytes_decides text value).0 h
-equality NotEqual value text e h = absurd (cc)
-equality Matches value text e h = absurd (cc)
-equality NotMatches value text e h = absurd (cc)
-
 pub unseen_matches_none : (alerts : List LabelMap) (m : Condition)
     → IsTrue (names_unseen_value alerts m)
     → list_any (λ a. condition_holds a m) alerts ≡ false
@@ -86,8 +79,8 @@ unseen_matches_none alerts m h =
     let p = parts alerts m h in
     false_from_ne_true (list_any (λ a. condition_holds a m) alerts) (λ some.
     let r = any_in (λ a. condition_holds a m) alerts some in
-    let same : value_of r.0 m.name ≡ m.value =
-    equality m.op m.value (value_of r.0 m.name) p.0 r.2 in
+    let equal = ap (λ op. holds op m.value (value_of r.0 m.name)) (equality_is m.op p.0) in
+    let same = (bytes_decides (value_of r.0 m.name) m.value).0 (sym equal ∙ r.2) in
     missing_not_in m.value (seen_values alerts m.name) p.2
     (rw same at (in_seen alerts m.name r.0 r.1 (ap begins same ∙ p.1))))
 
