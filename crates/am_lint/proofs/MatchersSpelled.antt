@@ -8,12 +8,13 @@ use Rattle.std.proofs.lemmas.Bool.{and_parts, cases_Bool, false≢true}
 use Rattle.std.proofs.lemmas.Bool.Decides.{nat_tests}
 use Rattle.am_universe.specs.Text.{label_value_escape, quoted_text}
 use Rattle.am_labels.specs.declared.op.Op.{Op}
-use Rattle.am_labels.specs.declared.op.Op.TheVariants.{Equal, NotEqual, Matches, NotMatches}
+use Rattle.am_labels.specs.declared.op.Op.TheVariants.{Equal}
 use Rattle.am_labels.specs.Matcher.{Condition}
 use Rattle.am_labels.specs.MatcherText.{is_space, is_blank, begins_name, continues_name, is_name}
 use Rattle.am_labels.specs.MatcherText.{operator_text, without_opening, without_closing}
 use Rattle.am_labels.specs.MatcherText.{matcher_pieces, SpellsOne, Spells}
 use Rattle.am_labels.proofs.MatcherTextPieces.{cuts_all, pieces_left}
+use Rattle.am_labels.proofs.MatcherTextWhole.{name_continues}
 use Rattle.am_complete_texts.specs.UniverseText.{texts_behind}
 use Rattle.am_complete_texts.specs.MatchersText.{matcher_text, matchers_text}
 use Rattle.am_lint.proofs.TextSteps.{cut, left_is_cut}
@@ -42,34 +43,24 @@ passes_byte c h = λ piece rest.
     let quote : (c == 34) ≡ false = grind (arith, nat_tests) in
     rw (comma, backslash, quote) refl
 
-begins_plain : (c : ℕ) → begins_name c ≡ true → is_plain c ≡ true
-begins_plain c h = grind (arith, nat_tests)
-
 continues_plain : (c : ℕ) → continues_name c ≡ true → is_plain c ≡ true
 continues_plain c h = grind (arith, nat_tests)
 
-passes_rest : (cs : List ℕ) → list_all continues_name cs ≡ true → Passes false cs false
-passes_rest [] h = λ piece rest. ap (λ t. cut false false t rest) (sym (append-nil piece))
-passes_rest (c ∷ cs) h =
-    let parts = and_parts (continues_name c) (list_all continues_name cs) h in
-    passes_both false false false (c ∷ []) cs (passes_byte c (continues_plain c parts.0))
-    (passes_rest cs parts.1)
+passes_plain : (test : ℕ → Bool) → ((c : ℕ) → test c ≡ true → is_plain c ≡ true) → (cs : List ℕ)
+    → list_all test cs ≡ true → Passes false cs false
+passes_plain test plain [] h = λ piece rest.
+    ap (λ t. cut false false t rest) (sym (append-nil piece))
+passes_plain test plain (c ∷ cs) h =
+    let parts = and_parts (test c) (list_all test cs) h in
+    passes_both false false false (c ∷ []) cs (passes_byte c (plain c parts.0))
+    (passes_plain test plain cs parts.1)
 
 passes_name : (name : List ℕ) → is_name name ≡ true → Passes false name false
-passes_name [] h = absurd (false≢true h)
-passes_name (c ∷ cs) h =
-    let parts = and_parts (begins_name c) (list_all continues_name cs) h in
-    passes_both false false false (c ∷ []) cs (passes_byte c (begins_plain c parts.0))
-    (passes_rest cs parts.1)
+passes_name name h = passes_plain continues_name continues_plain name (name_continues name h)
 
-passes_operator : (op : Op) → Passes false (operator_text op) false
-passes_operator Equal = passes_byte 61 refl
-passes_operator NotEqual =
-    passes_both false false false (33 ∷ []) (61 ∷ []) (passes_byte 33 refl) (passes_byte 61 refl)
-passes_operator Matches =
-    passes_both false false false (61 ∷ []) (126 ∷ []) (passes_byte 61 refl) (passes_byte 126 refl)
-passes_operator NotMatches =
-    passes_both false false false (33 ∷ []) (126 ∷ []) (passes_byte 33 refl) (passes_byte 126 refl)
+operator_plain : (op : Op) → list_all is_plain (operator_text op) ≡ true
+operator_plain Equal = refl
+operator_plain _ = refl
 
 passes_escape : (c : ℕ) → Passes true (label_value_escape c) true
 passes_escape = by_escape (λ c xs. Passes true xs true)
@@ -97,7 +88,8 @@ passes_matcher m h =
     passes_both false false false m.name (operator_text m.op ++ quoted_text m.value)
     (passes_name m.name h)
     (passes_both false false false (operator_text m.op) (quoted_text m.value)
-    (passes_operator m.op) (passes_quoted m.value))
+    (passes_plain is_plain (λ c h. h) (operator_text m.op) (operator_plain m.op))
+    (passes_quoted m.value))
 
 -- ---- pieces
 
