@@ -1,13 +1,13 @@
 -- Equal matchers of a label, and lists that have the same matchers.
-use Rattle.std.proofs.Common.{◌≡◌, ℕ, true, List, refl, arith}
+use Rattle.std.proofs.Common.{◌≡◌, ℕ, List, sym, arith}
 use Rattle.std.specs.Prelude.{IsTrue}
 use Rattle.std.specs.Cmp.Lexicographic.{bytes_decides}
 use Rattle.std.proofs.lemmas.Bool.{and_parts}
 use Rattle.std.proofs.lemmas.Grind.{common_steps}
+use denote.Enum.Bare.{same_true}
 use Rattle.am_universe.specs.Text.{same_text}
 use Rattle.am_universe.proofs.ListLemmas.{IsIn, AllByRecursion-each, AllByRecursion-at}
-use Rattle.am_labels.specs.declared.op.Op.{Op}
-use Rattle.am_labels.specs.declared.op.Op.TheVariants.{Equal, NotEqual, Matches, NotMatches}
+use Rattle.am_labels.specs.contracts.op.Op.{the_type}
 use Rattle.am_labels.specs.Matcher.{Condition, holds}
 use Rattle.am_labels.specs.Space.{Space}
 use Rattle.am_classes.specs.declared.alphabet.Alphabet.{Alphabet}

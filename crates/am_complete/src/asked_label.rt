@@ -60,8 +60,8 @@ impl<'m> AskedLabel<'m> {
         ensures ok { OnOk result (self.new ≡ with_matcher matcher.now self.old) }
         ensures err { OnErr result (self.new ≡ self.old) }
     {
-        let (op, value) = (matcher.op(), matcher.value());
-        let found = operators_with(&self.operators, value);
+        let op = matcher.op();
+        let found = operators_beside(&self.operators, matcher);
         if found.contains(&op) {
             return Ok(());
         }
@@ -69,7 +69,7 @@ impl<'m> AskedLabel<'m> {
         operators.push(op)?;
         // Room comes first, so that nothing has changed where memory is refused.
         self.matchers.reserve(1)?;
-        self.operators.insert(value, operators)?;
+        self.operators.insert(matcher.value(), operators)?;
         match self.matchers.push(matcher) {
             Ok(()) => Ok(()),
             // There is room: it was reserved.
@@ -99,11 +99,11 @@ impl<'m> AskedLabel<'m> {
     }
 }
 
-/// The operators that a map has for a value.
-fn operators_with<'a>(operators: &'a BTreeMap<&str, Vec<Op>>, value: &str) -> &'a [Op]
-    ensures { result.now ≡ operators_with operators.now value.now }
+/// The operators that a map has for the value of a matcher.
+fn operators_beside<'a>(operators: &'a BTreeMap<&str, Vec<Op>>, matcher: &Matcher) -> &'a [Op]
+    ensures { result.now ≡ operators_with operators.now matcher.now.value }
 {
-    match operators.get(value) {
+    match operators.get(matcher.value()) {
         Some(found) => found.as_slice(),
         None => &[],
     }

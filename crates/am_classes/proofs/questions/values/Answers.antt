@@ -8,12 +8,7 @@ use Rattle.am_classes.proofs.AskedLemmas.{values_skip, values_same, values_push}
 use Rattle.am_classes.proofs.questions.values.Goals as goal
 
 pub loop-matcher-preserved-then-takes_pattern-patterns : goal.loop-matcher-preserved-then-takes_pattern-patterns
-loop-matcher-preserved-then-takes_pattern-patterns c =
-    let longer = map_front (λ m. m.now) c.args.matchers.now c.loop-matcher.matcher-index c.matcher-item.result c.loop-matcher-test.true c.matcher-item.is in
-    let other : takes_pattern c.matcher-item.result.now.op ≡ c.args.patterns → ⊥ = λ takes.
-    (let r : c.takes_pattern.result ≡ c.args.patterns = c.takes_pattern.ensures.takes_pattern ∙ ap takes_pattern c.op.ensures.op ∙ takes in
-    differs c.takes_pattern.result c.args.patterns c.if-takes_pattern-patterns.true r) in
-    subst (λ ms. AreValues c.args.alphabet ms c.args.patterns (map string_bytes c.loop-matcher.values.items)) (sym longer) (values_skip c.args.alphabet _ c.matcher-item.result.now _ _ c.loop-matcher.invariant (λ takes _. other takes))
+loop-matcher-preserved-then-takes_pattern-patterns c = grind (arith, common_steps, map_front, differs, values_skip)
 
 pub loop-matcher-preserved-then-not-counts : goal.loop-matcher-preserved-then-not-counts
 loop-matcher-preserved-then-not-counts c = grind (arith, common_steps, map_front, values_skip)

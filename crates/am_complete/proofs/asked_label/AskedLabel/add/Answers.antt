@@ -12,12 +12,7 @@ returns-then-contains-clause-ok c =
     let m = c.args.matcher.now in
     let asked : list_any (λ op. same_op op m.op) (operators_with c.self.inside.operators m.value)
     ≡ c.contains.result =
-    rw (
-      c.contains.ensures.value,
-      c.operators_with-found.ensures,
-      c.op-op.ensures.op,
-      c.value-value.ensures.value,
-    ) refl in
+    rw (c.contains.ensures.value, c.operators_beside-found.ensures, c.op-op.ensures.op) refl in
     let some : list_any (asks_same m) (map (λ x. x.now) c.self.inside.matchers.items) ≡ true =
     sym (c.self.invariant m) ∙ asked ∙ c.if-contains.true in
     subst (λ (l : AskedLabel). l ≡ with_matcher m l) c.self.view_is (rw some refl)
@@ -33,12 +28,11 @@ invariant_of-self-2 c =
       rw (
         c.in_ok-push.ensures.items,
         c.in_ok-operators.ensures.items,
-        c.operators_with-found.ensures,
+        c.operators_beside-found.ensures,
         c.op-op.ensures.op,
-        c.value-value.ensures.value,
       ) refl,
-      rw (← c.value-value.ensures.value)
-          (btree_map_updates_str c.value-value.result.now operators c.insert.new.self _
+      rw (← c.value.ensures.value)
+          (btree_map_updates_str c.value.result.now operators c.insert.new.self _
           c.in_ok-insert.ensures.updates),
     ) in
     subst (HasOperatorsOf c.insert.new.self) (sym longer)
@@ -49,12 +43,7 @@ returns-clause-ok c =
     let m = c.args.matcher.now in
     let asked : list_any (λ op. same_op op m.op) (operators_with c.self.inside.operators m.value)
     ≡ c.contains.result =
-    rw (
-      c.contains.ensures.value,
-      c.operators_with-found.ensures,
-      c.op-op.ensures.op,
-      c.value-value.ensures.value,
-    ) refl in
+    rw (c.contains.ensures.value, c.operators_beside-found.ensures, c.op-op.ensures.op) refl in
     let none : list_any (asks_same m) (map (λ x. x.now) c.self.inside.matchers.items) ≡ false =
     sym (c.self.invariant m) ∙ asked ∙ c.if-contains.false in
     rw (
