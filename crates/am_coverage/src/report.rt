@@ -31,7 +31,7 @@ pub fn write_routes<W: Sink>(
     for route in routes {
         write_route(universe, route, out)?;
     }
-    write_end(out)
+    write_trailer(out)
 }
 
 fn write_route<W: Sink>(universe: &Universe, route: &RouteFound, out: &mut W) -> Result<(), Kind>
@@ -64,7 +64,7 @@ pub fn write_receivers<W: Sink>(
     for (i, coverage) in receivers.iter().enumerate() {
         write_receiver(universe, config.receiver_name(i), coverage, out)?;
     }
-    write_end(out)
+    write_trailer(out)
 }
 
 fn write_receiver<W: Sink>(
@@ -97,7 +97,7 @@ fn write_live<W: Sink>(universe: &Universe, choice: &Choice, out: &mut W) -> Res
 }
 
 /// Writes the last line of a report.
-fn write_end<W: Sink>(out: &mut W) -> Result<(), Kind>
+fn write_trailer<W: Sink>(out: &mut W) -> Result<(), Kind>
     ensures { Writes W.taken W.failures out.old out.new (codes "# end\n") result }
 {
     put_all(out, b"# end\n")

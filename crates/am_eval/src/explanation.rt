@@ -71,12 +71,12 @@ fn write_ends<W: Sink>(config: &Config, ends: &[Path], out: &mut W) -> Result<()
         (flat_map (end_line (config_view config.now)) ends.now) result }
 {
     for end in ends {
-        write_end(config, end, out)?;
+        write_route_end(config, end, out)?;
     }
     Ok(())
 }
 
-fn write_end<W: Sink>(config: &Config, end: &Path, out: &mut W) -> Result<(), Kind>
+fn write_route_end<W: Sink>(config: &Config, end: &Path, out: &mut W) -> Result<(), Kind>
     ensures { Writes W.taken W.failures out.old out.new
         (end_line (config_view config.now) end.now) result }
 {

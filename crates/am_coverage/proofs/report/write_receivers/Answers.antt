@@ -28,5 +28,5 @@ returns g c = record {
   written = writes_as (lines_end (receiver_line c.args.universe.now)
       (config_view c.args.config.now).receivers c.args.receivers.now c.requires.each c.loop-i.i
       (codes "# end\n") c.loop-i-test.false)
-      (c.loop-i.invariant ⟩ c.write_end.ensures);
+      (c.loop-i.invariant ⟩ c.write_trailer.ensures);
 }
