@@ -4,7 +4,7 @@ mod PatternForms
 mod PatternJoins
 mod PatternUnique
 mod PatternWords
-pub mod MatcherTextPlaces
+pub mod MatcherTextIndices
 pub mod MatcherTextUtf8
 pub mod MatcherTextSteps
 pub mod MatcherTextPieces

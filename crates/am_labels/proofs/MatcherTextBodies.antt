@@ -8,9 +8,9 @@ use Rattle.std.proofs.lemmas.Option.{cond_some}
 use Rattle.am_labels.specs.MatcherText.{is_escaped, is_quote, HasBody}
 use Rattle.am_labels.specs.MatcherReading.{first_quote, read_body}
 use Rattle.am_labels.proofs.MatcherTextLists.{one_byte}
-use Rattle.am_labels.proofs.MatcherTextPlaces.{first_quote_is, first_quote_before, first_quote_found}
+use Rattle.am_labels.proofs.MatcherTextIndices.{first_quote_is, first_quote_before, first_quote_found}
 
--- ---- places of a part
+-- ---- Indices of a part
 
 pub escaped_front : (xs ys : List ℕ) (i : ℕ) → i ≤ length xs → is_escaped (xs ++ ys) i ≡ is_escaped xs i
 escaped_front xs ys i l = rw (take-append-le i xs ys l) refl
@@ -22,7 +22,7 @@ prefix_before : (p : ℕ → Bool) (xs : List ℕ) (y : ℕ) → p y ≡ false �
 prefix_before p [] y e = rw e refl
 prefix_before p (x ∷ xs) y e = rw (prefix_before p xs y e) refl
 
--- behind a quote, a place is escaped as it is without it
+-- behind a quote, an index is escaped as it is without it
 pub escaped_behind : (xs : List ℕ) (i : ℕ) → is_escaped (34 ∷ xs) (i + 1) ≡ is_escaped xs i
 escaped_behind xs i =
     rw (add-one i, reverse-append (34 ∷ []) (take i xs), prefix_before (λ c. c == 92) (reverse (take i xs)) 34 refl) refl

@@ -1,4 +1,4 @@
--- The pieces that are left at a place, and the list that is read so far.
+-- The pieces that are left at an index, and the list that is read so far.
 use Rattle.std.proofs.Common.{◌≡◌, ◌≢◌, refl, sym, ◌∙◌, ap, inl, inr, ℕ, suc, ◌+◌, ◌-◌, ◌<◌, ◌≤◌, List, [], ◌∷◌, ◌++◌, length, get_or, map, drop, true, false, cond, arith, Option, Some, None, Result}
 use Rattle.std.specs.Prelude.{slice_range}
 use Rattle.std.specs.List.{filter, range_with_len}
@@ -14,11 +14,11 @@ abbrev pub after : List Condition → Option (List Condition) → Option (List C
 after front None = None
 after front (Some ms) = Some (front ++ ms)
 
--- the cuts from a place on
+-- the cuts from an index on
 abbrev pub cuts_from : List ℕ → ℕ → List ℕ
 cuts_from text i = filter (is_separator text) (range_with_len i (length text - i))
 
--- the pieces from a place on, where the last cut before i stands before that place
+-- the pieces from an index on, where the last cut before i stands before that index
 abbrev pub pieces_left : List ℕ → ℕ → ℕ → List (List ℕ)
 pieces_left text start i = without_blank_last (pieces_from text start (cuts_from text i))
 

@@ -11,7 +11,7 @@ use Rattle.std.proofs.lemmas.Bool.{cases_lt, cases_Bool, and_parts, eqb-true}
 use Rattle.std.proofs.lemmas.Bool.Decides.{nat_tests}
 use lib.Utf8.{scalars, scalar, encodes, encode}
 use Rattle.am_labels.specs.MatcherReading.{first_quote}
-use Rattle.am_labels.proofs.MatcherTextPlaces.{first_quote_found}
+use Rattle.am_labels.proofs.MatcherTextIndices.{first_quote_found}
 use Rattle.am_labels.specs.MatcherText.{without_opening, without_closing, is_escaped, is_space, continues_name, has_escape, byte_of_escape, unescaped_text}
 
 space_ascii : (c : ℕ) → is_space c ≡ true → c < 128

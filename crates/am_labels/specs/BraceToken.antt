@@ -6,7 +6,7 @@ use Rattle.std.specs.List.{find, range_with_len}
 use Rattle.am_universe.specs.Bytes.{left_brace, right_brace}
 use Rattle.am_labels.specs.MatcherText.{is_quoted}
 
--- A `}` outside quoted parts, and the place of the first one.
+-- A `}` outside quoted parts, and the index of the first one.
 abbrev pub is_closing_brace : List ℕ → ℕ → Bool
 is_closing_brace text i = slice_index text i == right_brace && not (is_quoted text i)
 

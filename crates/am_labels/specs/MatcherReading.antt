@@ -35,7 +35,7 @@ without_leading_blanks text = drop (prefix_len is_space text) text
 abbrev pub without_trailing_blanks : List ℕ → List ℕ
 without_trailing_blanks text = take (length text - suffix_len is_space text) text
 
--- The place of the first quote that is not escaped, or the length.
+-- The index of the first quote that is not escaped, or the length.
 abbrev pub first_quote : List ℕ → ℕ
 first_quote text = position_or_len (is_quote text) (range_with_len 0 (length text))
 

@@ -1,7 +1,7 @@
 -- What a matcher text spells: a list of conditions, each a name, an operator and a value. It is
--- said by places and counts, not by a reader's states: a text is a list of bytes, and a place in it
--- is an index. The syntax is the classic one; where the reference leaves something open, it is this
--- project's reading.
+-- said by indices into the text, which is a list of bytes, and by counts, not by a reader's states.
+-- The syntax is the classic one; where the reference leaves something open, it is this project's
+-- reading.
 use Rattle.std.specs.Prelude.{◌≡◌, ℕ, zero, suc, ◌+◌, ◌-◌, ◌%◌, List, [], ◌∷◌, ◌++◌, length}
 use Rattle.std.specs.Prelude.{take, drop, slice_index, slice_range, EachIndex, Bool, false, not}
 use Rattle.std.specs.Prelude.{◌&&◌, ◌||◌, ◌==◌, if◌then◌else◌, IsTrue, IsFalse, ◌⊎◌, codes}
@@ -45,11 +45,11 @@ operator_text NotMatches = codes "!~"
 
 -- ---- Backslashes and quotes.
 
--- What stands at a place is escaped: an odd number of backslashes stands directly before it.
+-- What stands at an index is escaped: an odd number of backslashes stands directly before it.
 abbrev pub is_escaped : List ℕ → ℕ → Bool
 is_escaped text i = suffix_len (λ c. c == backslash) (take i text) % 2 == 1
 
--- A quote that is not escaped; and how many of them stand before a place.
+-- A quote that is not escaped; and how many of them stand before an index.
 abbrev pub is_quote : List ℕ → ℕ → Bool
 is_quote text i = slice_index text i == double_quote && not (is_escaped text i)
 
@@ -57,7 +57,7 @@ abbrev pub quotes_before : List ℕ → ℕ → ℕ
 quotes_before text zero = 0
 quotes_before text (suc i) = quotes_before text i + (if is_quote text i then 1 else 0)
 
--- Each begins a quoted part or ends one, so a place is in a quoted part where their number is odd.
+-- Each begins a quoted part or ends one, so an index is in a quoted part where their number is odd.
 abbrev pub is_quoted : List ℕ → ℕ → Bool
 is_quoted text i = quotes_before text i % 2 == 1
 
@@ -71,18 +71,18 @@ abbrev pub without_closing : List ℕ → List ℕ
 without_closing text =
     if slice_index text (length text - 1) == right_brace then take (length text - 1) text else text
 
--- A comma outside quoted parts, and the places of all of them.
+-- A comma outside quoted parts, and the indices of all of them.
 abbrev pub is_separator : List ℕ → ℕ → Bool
 is_separator text i = slice_index text i == comma && not (is_quoted text i)
 
 abbrev pub separators : List ℕ → List ℕ
 separators text = filter (is_separator text) (range_with_len 0 (length text))
 
--- What stands from a place on, cut at these places.
+-- What stands from an index on, cut at these indices.
 abbrev pub pieces_from : List ℕ → ℕ → List ℕ → List (List ℕ)
 pieces_from text start [] = drop start text ∷ []
-pieces_from text start (place ∷ places) =
-    slice_range text start place ∷ pieces_from text (place + 1) places
+pieces_from text start (index ∷ indices) =
+    slice_range text start index ∷ pieces_from text (index + 1) indices
 
 -- Pieces without the last one, where that is blank.
 abbrev pub without_blank_last : List (List ℕ) → List (List ℕ)

@@ -18,9 +18,9 @@ pub fn brace_len(text: &str) -> Option<usize>
     Some(last + 1)
 }
 
-/// The place of the first closing brace outside quoted parts.
+/// The index of the first closing brace outside quoted parts.
 fn first_closing(text: &[u8]) -> Option<usize>
-    ensures place { result ≡ first_closing text.now }
+    ensures index { result ≡ first_closing text.now }
     ensures within { IfSome result (λ i. i < length text.now) }
 {
     let mut state = QuoteState::start();

@@ -291,7 +291,7 @@ fn read_body(raw: &[u8]) -> Result<&[u8], Kind>
     }
 }
 
-/// The place of the first quote that is not escaped, or the length.
+/// The index of the first quote that is not escaped, or the length.
 fn first_quote(text: &[u8]) -> usize
     ensures at_most { result ≤ length text.now }
     ensures first { result ≡ first_quote text.now }

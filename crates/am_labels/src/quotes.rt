@@ -4,7 +4,7 @@ ghost use Rattle.std.specs.Prelude.{◌≡◌, ◌+◌, ◌<◌, ℕ, List, leng
 ghost use Rattle.am_labels.specs.MatcherText.{is_quote, is_quoted};
 ghost use Rattle.am_labels.specs.QuoteState.{IsStateAt};
 
-/// What the bytes before a place of a text say of it.
+/// What the bytes before an index of a text say of it.
 #[derive(Clone, Copy)]
 pub(crate) struct QuoteState {
     /// An odd number of backslashes stands directly before it.
@@ -14,7 +14,7 @@ pub(crate) struct QuoteState {
 }
 
 impl QuoteState {
-    /// The state of the first place of a text.
+    /// The state of the first index of a text.
     pub(crate) fn start() -> QuoteState
         ensures { (text : List ℕ) → IsStateAt text 0 result }
     {
@@ -24,7 +24,7 @@ impl QuoteState {
         }
     }
 
-    /// The state of the next place, behind this byte.
+    /// The state of the next index, behind this byte.
     pub(crate) fn next(self, byte: u8) -> QuoteState
         ensures { (text : List ℕ) (i : ℕ) → i < length text → slice_index text i ≡ byte
             → IsStateAt text i self → IsStateAt text (i + 1) result }
@@ -40,7 +40,7 @@ impl QuoteState {
         }
     }
 
-    /// Whether the byte at the place is a quote that is not escaped.
+    /// Whether the byte at the index is a quote that is not escaped.
     pub(crate) fn is_quote(self, byte: u8) -> bool
         ensures { (text : List ℕ) (i : ℕ) → slice_index text i ≡ byte → IsStateAt text i self
             → result ≡ is_quote text i }
@@ -48,7 +48,7 @@ impl QuoteState {
         byte == b'"' && !self.escaped
     }
 
-    /// Whether the place is in a quoted part.
+    /// Whether the index is in a quoted part.
     pub(crate) fn is_quoted(self) -> bool
         ensures { (text : List ℕ) (i : ℕ) → IsStateAt text i self → result ≡ is_quoted text i }
     {

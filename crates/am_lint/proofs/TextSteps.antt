@@ -6,7 +6,7 @@ use Rattle.std.specs.Prelude.{◌==◌, slice_range}
 use Rattle.std.proofs.lemmas.List.{length-drop, drop_more, take_all, take_more, get_or-drop}
 use Rattle.std.proofs.lemmas.Bool.{and_parts, cases_Bool, cases_eq, not-true}
 use Rattle.am_labels.specs.MatcherText.{is_blank, is_escaped, is_quote, is_quoted, is_separator}
-use Rattle.am_labels.proofs.MatcherTextPlaces.{escaped_next, quoted_next}
+use Rattle.am_labels.proofs.MatcherTextIndices.{escaped_next, quoted_next}
 use Rattle.am_labels.proofs.MatcherTextPieces.{pieces_left, left_at_cut, left_past, left_at_end}
 
 first_of_rest : (text : List ℕ) (i c : ℕ) (cs : List ℕ) → drop i text ≡ c ∷ cs → (i < length text)

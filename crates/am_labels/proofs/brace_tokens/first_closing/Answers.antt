@@ -5,8 +5,8 @@ use Rattle.am_labels.proofs.BraceTokenLemmas.{find_at, find_none}
 use Rattle.am_labels.proofs.brace_tokens.first_closing.Goals as goal
 use Rattle.am_labels.proofs.brace_tokens.first_closing.Goals.{else-byte-eq125-via-then-byte-eq125+else-not-is_quoted, else-byte-eq125-via-else-byte-eq125}
 
-pub returns-then-not-is_quoted-clause-place : goal.returns-then-not-is_quoted-clause-place
-returns-then-not-is_quoted-clause-place c =
+pub returns-then-not-is_quoted-clause-index : goal.returns-then-not-is_quoted-clause-index
+returns-then-not-is_quoted-clause-index c =
     let outside = c.is_quoted.ensures c.args.text.now c.loop-i.i c.loop-i.invariant.state in
     let here : is_closing_brace c.args.text.now c.loop-i.i ≡ true = grind (arith, common_steps) in
     sym (find_at (is_closing_brace c.args.text.now) 0 (length c.args.text.now) c.loop-i.i (omega arith) (omega arith) c.loop-i.invariant.none_before here)
@@ -27,5 +27,5 @@ loop-i-preserved c = record {
       below_more _ _ c.loop-i.invariant.none_before whole;
 }
 
-pub returns-clause-place : goal.returns-clause-place
-returns-clause-place c = sym (find_none (is_closing_brace c.args.text.now) 0 (length c.args.text.now) (λ k h. c.loop-i.invariant.none_before k (omega arith)))
+pub returns-clause-index : goal.returns-clause-index
+returns-clause-index c = sym (find_none (is_closing_brace c.args.text.now) 0 (length c.args.text.now) (λ k h. c.loop-i.invariant.none_before k (omega arith)))

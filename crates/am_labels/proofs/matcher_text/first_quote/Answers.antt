@@ -1,6 +1,6 @@
 use Rattle.std.proofs.Common.{◌≡◌, true, false, sym, refl, below_more, arith, length}
 use Rattle.am_labels.specs.MatcherText.{is_quote}
-use Rattle.am_labels.proofs.MatcherTextPlaces.{first_quote_is}
+use Rattle.am_labels.proofs.MatcherTextIndices.{first_quote_is}
 use Rattle.am_labels.proofs.matcher_text.first_quote.Goals as goal
 
 pub returns-then-is_quote-clause-first : goal.returns-then-is_quote-clause-first

@@ -1,8 +1,8 @@
--- One place further.
+-- One index further.
 use Rattle.std.proofs.Common.{◌≡◌, ◌==◌, ◌∙◌, sym, ap, refl, not, true, false, get_or}
 use Rattle.std.proofs.lemmas.Bool.{eq-eqb}
 use Rattle.am_labels.specs.MatcherText.{is_quote}
-use Rattle.am_labels.proofs.MatcherTextPlaces.{escaped_next, quoted_next}
+use Rattle.am_labels.proofs.MatcherTextIndices.{escaped_next, quoted_next}
 use Rattle.am_labels.proofs.quotes.QuoteState.next.Goals as goal
 use Rattle.am_labels.proofs.quotes.QuoteState.next.Goals.{then-is_quote, else-is_quote}
 

@@ -1,4 +1,4 @@
--- Escaped places and quotes of a matcher text, one place on.
+-- Escaped indices and quotes of a matcher text, one index on.
 use Rattle.std.proofs.Common.{◌≡◌, refl, inl, inr, ℕ, ◌+◌, ◌-◌, ◌<◌, ◌≤◌, ◌%◌, List, length, get_or, Bool, true, false, not, ◌&&◌, cond, arith, add-one, add-zero, zero-add, add_comm}
 use Rattle.std.specs.Prelude.{◌==◌}
 use Rattle.std.specs.List.{range_with_len}
