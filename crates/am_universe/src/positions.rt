@@ -4,7 +4,8 @@ ghost use Rattle.std.specs.Prelude.{slice_index, IfSome, IfNone};
 use crate::limits::MAX_POSITIONS;
 use std::marker::Model;
 
-/// A position among the values of a label. Positions count from 0.
+/// A position among the values of a label, or among the children of a route. Positions count from
+/// 0.
 pub type Position = u16;
 
 /// A list of at most [`MAX_POSITIONS`] positions.
