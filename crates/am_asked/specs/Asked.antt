@@ -8,8 +8,7 @@ use Rattle.am_config.specs.ConfigFile.{RouteTree, Routes, route, no_routes, next
 use Rattle.am_eval.specs.World.{World}
 use Rattle.am_eval.specs.Conditions.{same_value}
 use Rattle.am_eval.specs.Tree.{Part, Not, And, Or}
-use Rattle.am_eval.specs.Question.{Question, Simple, Any, Silenced, Inhibited, Receiver, Ends}
-use Rattle.am_eval.specs.Question.{Enters, Braces}
+use Rattle.am_eval.specs.Question.{Question, Simple, Is, Receiver, Route, Braces}
 
 -- The matchers of a route and of all routes below it, in preorder; and those of some children.
 abbrev mutual
@@ -56,12 +55,9 @@ world_conditions w =
 -- Source: own choice.
 -- Example: those of `receiver web-chat and not {env="prod"}` are `env="prod"` alone.
 abbrev pub simple_conditions : Simple → List Condition
-simple_conditions Any = []
-simple_conditions Silenced = []
-simple_conditions Inhibited = []
+simple_conditions (Is property) = []
 simple_conditions (Receiver receiver) = []
-simple_conditions (Ends path) = []
-simple_conditions (Enters path) = []
+simple_conditions (Route reach path) = []
 simple_conditions (Braces matchers) = matchers
 
 abbrev pub question_conditions : Question → List Condition

@@ -195,12 +195,7 @@ fn add_question<'m>(
         (placed_at origin.now (question_conditions (question_view question.now)))) }
 {
     match question {
-        Question::Any
-        | Question::Silenced
-        | Question::Inhibited
-        | Question::Receiver(_)
-        | Question::Ends(_)
-        | Question::Enters(_) => Ok(()),
+        Question::Is(_) | Question::Receiver(_) | Question::Route(_, _) => Ok(()),
         Question::Braces(matchers) => add_matchers(gathering, origin, matchers),
         Question::Not(question) => add_question(gathering, origin, question),
         Question::And(left, right) | Question::Or(left, right) => {
