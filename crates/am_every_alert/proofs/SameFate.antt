@@ -16,10 +16,9 @@ use Rattle.am_eval.specs.Routing.{receiver_at}
 use Rattle.am_eval.specs.Silencing.{is_active, hides, is_silenced}
 use Rattle.am_eval.specs.World.{World}
 use Rattle.am_eval.specs.Tree.{Part, Not, And, Or}
-use Rattle.am_eval.specs.Question.{Question, Simple, Any, Silenced, Inhibited, Receiver, Ends}
-use Rattle.am_eval.specs.Question.{Enters, Braces, holds_of, satisfies}
-use Rattle.am_config.specs.Path.{leads_through}
-use Rattle.am_universe.specs.Text.{same_text}
+use Rattle.am_eval.specs.declared.property.Property.TheVariants.{Any, Silenced, Inhibited}
+use Rattle.am_eval.specs.Question.{Question, Simple, Is, Receiver, Route, Braces, reaches}
+use Rattle.am_eval.specs.Question.{holds_of, satisfies}
 use Rattle.am_asked.specs.Asked.{simple_conditions, question_conditions}
 use Rattle.am_eval.proofs.HidingConditions.{same_values}
 use Rattle.am_every_alert.specs.EveryAlert.{MeetsTheSame, HaveTheSameFate}
@@ -212,13 +211,12 @@ module _ (s t : LabelMap) where
 
   part_alike : (w : World) (simple : Simple) → HaveTheSameFate w s t
       → MeetsTheSame (simple_conditions simple) s t → holds_of w simple s ≡ holds_of w simple t
-  part_alike w Any fate h = refl
-  part_alike w Silenced fate h = fate.same_silenced
-  part_alike w Inhibited fate h = fate.same_inhibited
+  part_alike w (Is Any) fate h = refl
+  part_alike w (Is Silenced) fate h = fate.same_silenced
+  part_alike w (Is Inhibited) fate h = fate.same_inhibited
   part_alike w (Receiver receiver) fate h =
       ap (list_any (λ other. other == receiver)) fate.same_receivers
-  part_alike w (Ends path) fate h = ap (list_any (λ end. same_text end path)) fate.same_ends
-  part_alike w (Enters path) fate h = ap (list_any (leads_through path)) fate.same_ends
+  part_alike w (Route reach path) fate h = ap (list_any (reaches reach path)) fate.same_ends
   part_alike w (Braces matchers) fate h = all_alike matchers h
 
   pub same_truth : (w : World) (q : Question) → HaveTheSameFate w s t

@@ -2,7 +2,7 @@
 
 use crate::matchers::add_question_matchers;
 use crate::notes::Notes;
-use am_eval::{Files, Question};
+use am_eval::{Files, Property, Question};
 use am_universe::Universe;
 use std::alloc::{AllocError, Global};
 
@@ -21,8 +21,8 @@ pub(crate) fn add_question(
     question: &Question,
 ) -> Result<(), AllocError> {
     match question {
-        Question::Silenced => add_unless(alloc, notes, files.silences, NO_SILENCES),
-        Question::Inhibited => add_unless(alloc, notes, files.alerts, NO_ALERTS),
+        Question::Is(Property::Silenced) => add_unless(alloc, notes, files.silences, NO_SILENCES),
+        Question::Is(Property::Inhibited) => add_unless(alloc, notes, files.alerts, NO_ALERTS),
         Question::Braces(list) => add_question_matchers(alloc, notes, list, text, universe),
         Question::Not(question) => add_question(alloc, notes, files, text, universe, question),
         Question::And(left, right) | Question::Or(left, right) => {
@@ -49,7 +49,7 @@ fn add_unless(
 /// Whether a question asks of routes, and so of all that these ask of.
 pub(crate) fn asks_of_routes(question: &Question) -> bool {
     match question {
-        Question::Receiver(_) | Question::Ends(_) | Question::Enters(_) => true,
+        Question::Receiver(_) | Question::Route(_, _) => true,
         Question::Not(question) => asks_of_routes(question),
         Question::And(left, right) | Question::Or(left, right) => {
             asks_of_routes(left) || asks_of_routes(right)
