@@ -11,7 +11,7 @@ pub mod MatcherTextPieces
 pub mod MatcherTextLists
 pub mod MatcherTextBodies
 pub mod MatcherTextWhole
-pub mod BraceTokenLemmas
+pub mod BraceListLemmas
 pub mod MatcherRefusalLemmas
 mod ParsedLabelSetLemmas
 pub mod RowLemmas

@@ -8,6 +8,6 @@ pub mod QuoteState
 pub mod MatcherReading
 pub mod MatcherRefusals
 pub mod ParsedLabelSet
-pub mod BraceToken
+pub mod BraceList
 pub mod Row
 pub mod Space

@@ -49,9 +49,9 @@ pub use label_set_text::{parse_set, parse_set_words};
 pub use matcher_text::parse_matchers;
 
 // Where a text of matchers ends in a question.
-mod brace_tokens;
+mod brace_list;
 
-pub use brace_tokens::brace_len;
+pub use brace_list::brace_len;
 
 // A matcher's truth on each value of its label.
 mod row;

@@ -9,7 +9,7 @@ use Rattle.std.proofs.lemmas.List.Sums.{prefix_len_stops, prefix_len-le-length}
 use Rattle.std.proofs.lemmas.Bool.{and_parts, eqb-true}
 use Rattle.std.proofs.lemmas.Bool.Decides.{nat_tests}
 use Rattle.am_labels.specs.MatcherText.{is_quoted}
-use Rattle.am_labels.specs.BraceToken.{brace_len}
+use Rattle.am_labels.specs.BraceList.{brace_len}
 use Rattle.am_questions.specs.Lexemes.{is_word_character}
 use Rattle.am_questions.specs.LexemeReading.{is_plain}
 use Rattle.am_questions.proofs.BraceLists.{has_length}

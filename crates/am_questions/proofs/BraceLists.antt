@@ -8,8 +8,8 @@ use Rattle.std.proofs.lemmas.List.{take-append-drop, get_or_append_left}
 use Rattle.std.proofs.lemmas.List.{length-append, length-take-le}
 use Rattle.std.proofs.lemmas.Bool.{cases_lt, cases_Bool, eqb-true}
 use Rattle.am_labels.specs.MatcherText.{quotes_before}
-use Rattle.am_labels.specs.BraceToken.{is_closing_brace, first_closing, brace_len}
-use Rattle.am_labels.proofs.BraceTokenLemmas.{find_at, opened}
+use Rattle.am_labels.specs.BraceList.{is_closing_brace, first_closing, brace_len}
+use Rattle.am_labels.proofs.BraceListLemmas.{find_at, opened}
 use Rattle.am_labels.proofs.MatcherTextBodies.{quote_front}
 
 -- ---- a place says the same, whatever stands behind

@@ -13,7 +13,7 @@ use Rattle.std.proofs.lemmas.Bool.{and_parts, cases_Bool, eqb-true}
 use Rattle.std.proofs.lemmas.Bool.Decides.{nat_tests}
 use Rattle.am_labels.specs.MatcherText.{is_space, is_blank}
 use Rattle.am_labels.specs.MatcherReading.{without_leading_blanks}
-use Rattle.am_labels.specs.BraceToken.{brace_len}
+use Rattle.am_labels.specs.BraceList.{brace_len}
 use Rattle.am_labels.proofs.MatcherTextLists.{prefix_all, prefix_whole, drop_prefix, all_of_prefix, all_append}
 use Rattle.am_labels.proofs.MatcherTextLists.{first_after_prefix}
 use Rattle.am_labels.proofs.MatcherTextWhole.{said_again}

@@ -6,7 +6,7 @@ use Rattle.std.specs.List.{prefix_len}
 use Rattle.am_universe.specs.Bytes.{double_quote, left_parenthesis, right_parenthesis, backslash}
 use Rattle.am_universe.specs.Bytes.{left_brace}
 use Rattle.am_labels.specs.MatcherText.{has_escape, byte_of_escape}
-use Rattle.am_labels.specs.BraceToken.{brace_len}
+use Rattle.am_labels.specs.BraceList.{brace_len}
 use Rattle.am_questions.specs.Lexemes.{Lexeme, Open, Close, Word, Quoted, BraceList}
 use Rattle.am_questions.specs.Lexemes.{is_word_character}
 

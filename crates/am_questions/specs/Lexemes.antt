@@ -6,7 +6,7 @@ use Rattle.std.specs.List.{list_all}
 use Rattle.am_universe.specs.Bytes.{line_feed, double_quote, left_parenthesis, right_parenthesis}
 use Rattle.am_universe.specs.Bytes.{backslash, left_brace}
 use Rattle.am_labels.specs.MatcherText.{is_space, is_blank}
-use Rattle.am_labels.specs.BraceToken.{brace_len}
+use Rattle.am_labels.specs.BraceList.{brace_len}
 
 -- A lexeme: a parenthesis, a word, a text in quotes, a list of matchers with its braces.
 pub data Lexeme : Type 0 where

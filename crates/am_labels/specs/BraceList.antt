@@ -1,5 +1,5 @@
--- Brace tokens of a question: from a `{` to the first `}` outside quoted parts, which are those of
--- a matcher text.
+-- Matcher lists in braces, in a question: from a `{` to the first `}` outside quoted parts, which
+-- are those of a matcher text.
 use Rattle.std.specs.Prelude.{ℕ, ◌+◌, List, length, slice_index, Bool}
 use Rattle.std.specs.Prelude.{not, ◌&&◌, ◌==◌, if◌then◌else◌, Option, None, option_map}
 use Rattle.std.specs.List.{find, range_with_len}
@@ -13,11 +13,11 @@ is_closing_brace text i = slice_index text i == right_brace && not (is_quoted te
 abbrev pub first_closing : List ℕ → Option ℕ
 first_closing text = find (is_closing_brace text) (range_with_len 0 (length text))
 
--- The length of the token that a text begins with: from its `{` to the first `}` outside quoted
+-- The length of the list that a text begins with: from its `{` to the first `}` outside quoted
 -- parts. None where it begins
 -- with no `{`, or no such `}` follows.
 -- Source: own choice.
--- Example: the token of `{a="}"} or {b="c"}` is `{a="}"}`, of 7 bytes.
+-- Example: the list of `{a="}"} or {b="c"}` is `{a="}"}`, of 7 bytes.
 abbrev pub brace_len : List ℕ → Option ℕ
 brace_len text =
     if slice_index text 0 == left_brace then option_map (λ i. i + 1) (first_closing text) else None

@@ -1,9 +1,9 @@
 use Rattle.std.proofs.Common.{◌≡◌, true, false, length, sym, refl, below_more, arith}
 use Rattle.std.proofs.lemmas.Grind.{common_steps}
-use Rattle.am_labels.specs.BraceToken.{is_closing_brace}
-use Rattle.am_labels.proofs.BraceTokenLemmas.{find_at, find_none}
-use Rattle.am_labels.proofs.brace_tokens.first_closing.Goals as goal
-use Rattle.am_labels.proofs.brace_tokens.first_closing.Goals.{else-byte-eq125-via-then-byte-eq125+else-not-is_quoted, else-byte-eq125-via-else-byte-eq125}
+use Rattle.am_labels.specs.BraceList.{is_closing_brace}
+use Rattle.am_labels.proofs.BraceListLemmas.{find_at, find_none}
+use Rattle.am_labels.proofs.brace_list.first_closing.Goals as goal
+use Rattle.am_labels.proofs.brace_list.first_closing.Goals.{else-byte-eq125-via-then-byte-eq125+else-not-is_quoted, else-byte-eq125-via-else-byte-eq125}
 
 pub returns-then-not-is_quoted-clause-index : goal.returns-then-not-is_quoted-clause-index
 returns-then-not-is_quoted-clause-index c =
