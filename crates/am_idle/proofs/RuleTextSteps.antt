@@ -6,8 +6,8 @@ use Rattle.std.specs.Result.{OnOk, is_ok}
 use Rattle.std.proofs.lemmas.Bool.{eqb-true}
 use Rattle.am_labels.specs.Matcher.{Condition}
 use Rattle.am_config.specs.ConfigFile.{Rule}
-use Rattle.am_complete_texts.specs.MatchersText.{matcher_text}
-use Rattle.am_complete_texts.proofs.PieceSteps.{last_put}
+use Rattle.am_report_texts.specs.MatchersText.{matcher_text}
+use Rattle.am_report_texts.proofs.PieceSteps.{last_put}
 use Rattle.am_idle.specs.RuleText.{text_if_any, matcher_text_at, matchers_text_at}
 use Rattle.am_idle.specs.RuleText.{contradiction_text}
 

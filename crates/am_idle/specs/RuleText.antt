@@ -3,8 +3,8 @@ use Rattle.std.specs.Prelude.{ℕ, List, [], ◌∷◌, ◌++◌, Option, Some, 
 use Rattle.std.specs.Prelude.{slice_get, ◌==◌, if◌then◌else◌}
 use Rattle.am_labels.specs.Matcher.{Condition}
 use Rattle.am_config.specs.ConfigFile.{Rule}
-use Rattle.am_complete_texts.specs.UniverseText.{texts_behind}
-use Rattle.am_complete_texts.specs.MatchersText.{matcher_text}
+use Rattle.am_report_texts.specs.Separated.{texts_behind}
+use Rattle.am_report_texts.specs.MatchersText.{matcher_text}
 use Rattle.am_idle.specs.declared.rules.IdleReason.{IdleReason}
 use Rattle.am_idle.specs.declared.rules.IdleReason.TheVariants as reason_is
 use Rattle.am_idle.specs.Rules.{AreWithin}
@@ -23,10 +23,6 @@ matcher_text_at ms i = text_if_any (slice_get ms i)
 abbrev pub matchers_text_at : List Condition → List ℕ → List ℕ
 matchers_text_at ms positions =
     codes "{" ++ (texts_behind (codes "") (codes ",") (matcher_text_at ms) positions ++ codes "}")
-
--- What stands before the matcher at a position of such a row.
-abbrev pub gap_before_picked : ℕ → List ℕ
-gap_before_picked i = if i == 0 then codes "" else codes ","
 
 -- The matchers of the two sides that contradict each other. Where none is to blame, no alert occurs
 -- at all.

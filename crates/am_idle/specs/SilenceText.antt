@@ -1,7 +1,7 @@
 -- What is said of a silence, as a line. (This project's own.)
 use Rattle.std.specs.Prelude.{ℕ, List, [], ◌++◌, Option, Some, None, codes, decimal}
 use Rattle.am_list_files.specs.SilencesFile.{Silence}
-use Rattle.am_complete_texts.specs.MatchersText.{matchers_text}
+use Rattle.am_report_texts.specs.MatchersText.{matchers_text}
 use Rattle.am_idle.specs.declared.silences.SilenceFinding.{SilenceFinding}
 use Rattle.am_idle.specs.declared.silences.SilenceFinding.TheVariants as finding_is
 

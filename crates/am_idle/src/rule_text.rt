@@ -3,13 +3,13 @@
 ghost use Rattle.std.specs.Prelude.{◌≡◌, ◌++◌, string_bytes, OnOk};
 ghost use Rattle.am_idle.specs.Rules.{AreWithin};
 ghost use Rattle.am_idle.specs.RuleText.{rule_line, idle_text, contradiction_text};
-ghost use Rattle.am_idle.specs.RuleText.{matchers_text_at, gap_before_picked};
+ghost use Rattle.am_idle.specs.RuleText.{matchers_text_at};
 ghost use Rattle.am_idle.specs.RuleText.{HasPositionsIn, HasPositionsIfAny};
 
 use crate::rules::IdleReason;
-use am_complete_texts::push_matcher;
 use am_config::Rule;
 use am_labels::Matchers;
+use am_report_texts::{gap_before, push_matcher};
 use std::alloc::{AllocError, Global};
 
 /// Adds the line of the rule at a position; nothing where nothing is said of it. An `Err` only
@@ -93,14 +93,8 @@ fn push_matchers_at(
 {
     text.push_str("{")?;
     for i in 0..positions.len() {
-        text.push_str(gap_before_picked(i))?;
+        text.push_str(gap_before(i, "", ","))?;
         push_matcher(text, matchers.get(positions[i]))?;
     }
     text.push_str("}")
-}
-
-fn gap_before_picked(i: usize) -> &'static str
-    ensures { result.now ≡ gap_before_picked i }
-{
-    if i == 0 { "" } else { "," }
 }

@@ -4,8 +4,8 @@ ghost use Rattle.std.specs.Prelude.{◌≡◌, ◌++◌, string_bytes, OnOk};
 ghost use Rattle.am_idle.specs.SilenceText.{silence_line, silence_kind_text};
 
 use crate::silences::SilenceFinding;
-use am_complete_texts::push_matchers;
 use am_list_files::Silence;
+use am_report_texts::push_matchers;
 use std::alloc::{AllocError, Global};
 
 /// Adds the line of the silence at a position; nothing where nothing is said of it. An `Err` only

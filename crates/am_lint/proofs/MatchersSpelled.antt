@@ -15,8 +15,8 @@ use Rattle.am_labels.specs.MatcherText.{operator_text, without_opening, without_
 use Rattle.am_labels.specs.MatcherText.{matcher_pieces, SpellsOne, Spells}
 use Rattle.am_labels.proofs.MatcherTextPieces.{cuts_all, pieces_left}
 use Rattle.am_labels.proofs.MatcherTextWhole.{name_continues}
-use Rattle.am_complete_texts.specs.UniverseText.{texts_behind}
-use Rattle.am_complete_texts.specs.MatchersText.{matcher_text, matchers_text}
+use Rattle.am_report_texts.specs.Separated.{texts_behind}
+use Rattle.am_report_texts.specs.MatchersText.{matcher_text, matchers_text}
 use Rattle.am_lint.proofs.TextSteps.{cut, left_is_cut}
 use Rattle.am_lint.proofs.ValueText.{by_escape, quoted_trimmed, quoted_has_value}
 

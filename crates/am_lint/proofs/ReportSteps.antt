@@ -12,8 +12,8 @@ use Rattle.std.proofs.lemmas.List.Elements.{filter_more}
 use Rattle.std.proofs.lemmas.Option.{slice_get-map}
 use Rattle.am_universe.proofs.CompletionLemmas.{filter_of_map}
 use Rattle.am_config.specs.ConfigFile.{Configuration}
-use Rattle.am_complete_texts.specs.UniverseText.{texts_behind}
-use Rattle.am_complete_texts.proofs.PieceSteps.{last_put, item_here}
+use Rattle.am_report_texts.specs.Separated.{texts_behind}
+use Rattle.am_report_texts.proofs.PieceSteps.{last_put, item_here}
 use Rattle.am_lint.specs.declared.found.FoundRoute.{FoundRoute}
 use Rattle.am_lint.specs.FoundView.{said_of}
 use Rattle.am_lint.specs.ReportText.{Said, having, have_text, said_text}

@@ -7,14 +7,14 @@ use Rattle.am_universe.specs.Text.{quoted_text}
 use Rattle.am_universe.specs.WrittenLabelSet.{set_text}
 use Rattle.am_config.specs.ConfigFile.{Configuration, RouteTree, matchers_of}
 use Rattle.am_config.specs.Path.{path_text, route_at}
-use Rattle.am_complete_texts.specs.Plural.{plural}
-use Rattle.am_complete_texts.specs.UniverseText.{texts_behind}
+use Rattle.am_report_texts.specs.Plural.{plural}
+use Rattle.am_report_texts.specs.Separated.{texts_behind}
 use Rattle.am_lint.specs.declared.standing.Cause.{Cause}
 use Rattle.am_lint.specs.declared.standing.Cause.TheVariants as cause_is
 use Rattle.am_lint.specs.declared.found.ReceiverFinding.{ReceiverFinding}
 use Rattle.am_lint.specs.declared.found.ReceiverFinding.TheVariants as receiver_is
 use Rattle.am_lint.specs.Findings.{Finding, Dead, Unusual, HandsOn}
-use Rattle.am_complete_texts.specs.MatchersText.{matchers_text}
+use Rattle.am_report_texts.specs.MatchersText.{matchers_text}
 
 -- A route with what is said of it.
 pub record Said : Type 0 where
@@ -40,10 +40,6 @@ route_text c path = path_text path ++ (codes " " ++ matchers_at_path c path)
 -- Example: `/0 {team="db"}, /1 {team="web"}`.
 abbrev pub routes_text : Configuration → List (List ℕ) → List ℕ
 routes_text c routes = texts_behind (codes "") (codes ", ") (route_text c) routes
-
--- What stands before the route at a position of a row.
-abbrev pub gap_before : ℕ → List ℕ
-gap_before i = if i == 0 then codes "" else codes ", "
 
 -- Why no alert enters a route: which routes exclude each other, or take all. Where none is to
 -- blame, no alert occurs at all.

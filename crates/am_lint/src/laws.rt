@@ -16,7 +16,7 @@ ghost use Rattle.am_lint.specs.declared.standing.Standing.{Standing};
 ghost use Rattle.am_lint.specs.Reaching.{IsSetOf};
 ghost use Rattle.am_lint.specs.Reasons.{IsExcludedBy, IsTakenBy, IsHandedTo};
 ghost use Rattle.am_lint.specs.Standing.{IsStanding, IsReasonFor};
-ghost use Rattle.am_complete_texts.specs.MatchersText.{matchers_text};
+ghost use Rattle.am_report_texts.specs.MatchersText.{matchers_text};
 
 /// The text of matchers is that of a list that is read back as them, where each name is such as may
 /// stand in a matcher list.

@@ -10,14 +10,14 @@ ghost use Rattle.am_lint.specs.FoundView.{IsShownFinding};
 ghost use Rattle.am_lint.specs.ReportText.{report_lines, route_line, receiver_line, count_text};
 ghost use Rattle.am_lint.specs.ReportText.{count_findings, count_notes, kind_text, why_text};
 ghost use Rattle.am_lint.specs.ReportText.{reason_text, cause_text, routes_text, route_text};
-ghost use Rattle.am_lint.specs.ReportText.{gap_before, receiver_kind, having, have_text, said_text};
+ghost use Rattle.am_lint.specs.ReportText.{receiver_kind, having, have_text, said_text};
 ghost use Rattle.am_lint.specs.ReportText.{matchers_at_path, kind_if_any, is_dead, is_note};
 ghost use Rattle.am_lint.specs.ReportText.{is_unmatched, is_unusual};
 
 use crate::found::{FoundRoute, ReceiverFinding, RouteFinding};
 use crate::standing::{Cause, Reason};
-use am_complete_texts::{plural, push_label_set, push_matchers, push_path, push_quoted};
 use am_config::{Config, Path};
+use am_report_texts::{gap_before, plural, push_label_set, push_matchers, push_path, push_quoted};
 use am_universe::Universe;
 use std::alloc::{AllocError, Global};
 
@@ -195,7 +195,7 @@ fn push_routes(
         ≡ string_bytes text.old ++ routes_text (config_view config.now) routes.now) }
 {
     for (i, path) in routes.iter().enumerate() {
-        text.push_str(gap_before(i))?;
+        text.push_str(gap_before(i, "", ", "))?;
         push_route(alloc, text, config, path)?;
     }
     Ok(())
@@ -213,12 +213,6 @@ fn push_route(
     push_path(alloc, text, path)?;
     text.push_str(" ")?;
     push_matchers_at(text, config, path)
-}
-
-fn gap_before(i: usize) -> &'static str
-    ensures { result.now ≡ gap_before i }
-{
-    if i == 0 { "" } else { ", " }
 }
 
 // ---- Receivers.
@@ -287,7 +281,7 @@ fn push_having(
         return text.push_str("no route names it");
     }
     for (i, route) in routes.iter().enumerate() {
-        text.push_str(gap_before(i))?;
+        text.push_str(gap_before(i, "", ", "))?;
         push_said(alloc, text, config, route)?;
     }
     Ok(())

@@ -1,6 +1,6 @@
 //! The sentences of notes that name a label, a value or a file. Each stands here once.
 
-use am_complete_texts::push_quoted;
+use am_report_texts::push_quoted;
 use std::alloc::{AllocError, Global};
 
 /// How a person sees what a universe leaves out.

@@ -19,8 +19,8 @@ use Rattle.am_config.specs.ConfigFile.{Configuration, IsConfig}
 use Rattle.am_search.proofs.ChoiceOrder.{in_filter}
 use Rattle.am_eval.specs.Routing.{receivers, receiver_at, ends}
 use Rattle.am_eval.proofs.AbsentParts.{receiver_below}
-use Rattle.am_complete_texts.specs.UniverseText.{texts_behind}
-use Rattle.am_complete_texts.proofs.PieceSteps.{item_here}
+use Rattle.am_report_texts.specs.Separated.{texts_behind}
+use Rattle.am_report_texts.proofs.PieceSteps.{item_here}
 use Rattle.am_outcomes.specs.FatesView.{fates_view}
 use Rattle.am_outcomes.specs.Outcomes.{same_fate, with_fate, fate, outcomes_of}
 use Rattle.am_outcomes.specs.OutcomeText.{under, name_of, names_of, same_names, is_change}

@@ -8,8 +8,8 @@ use Rattle.am_universe.specs.Universe.{Label}
 use Rattle.am_universe.specs.Text.{quoted_text, same_text}
 use Rattle.am_universe.specs.WrittenLabelSet.{set_text}
 use Rattle.am_config.specs.ConfigFile.{Configuration}
-use Rattle.am_complete_texts.specs.Plural.{plural}
-use Rattle.am_complete_texts.specs.UniverseText.{texts_behind}
+use Rattle.am_report_texts.specs.Plural.{plural}
+use Rattle.am_report_texts.specs.Separated.{texts_behind}
 
 -- The receivers of an outcome under the configuration at a position, and their names.
 abbrev pub under : ℕ → List (List ℕ) → List ℕ
@@ -26,10 +26,6 @@ names_of c receivers = map (name_of c) receivers
 -- Example: `"db-pager","incident-log"`.
 abbrev pub names_text : List (List ℕ) → List ℕ
 names_text names = texts_behind (codes "") (codes ",") quoted_text names
-
--- What stands before the name at a position of a list.
-abbrev pub gap_before_name : ℕ → List ℕ
-gap_before_name i = if i == 0 then codes "" else codes ","
 
 -- The receivers at these positions are declared.
 abbrev pub AreDeclared : Configuration → List ℕ → Type 0

@@ -7,12 +7,12 @@ ghost use Rattle.am_labels.specs.Space.{Space};
 ghost use Rattle.am_config.specs.ConfigView.{config_view};
 ghost use Rattle.am_outcomes.specs.Outcomes.{outcomes_of};
 ghost use Rattle.am_outcomes.specs.OutcomeText.{outcomes_text, changes_text, changes_of};
-ghost use Rattle.am_outcomes.specs.OutcomeText.{names_text, names_of, gap_before_name, same_names};
+ghost use Rattle.am_outcomes.specs.OutcomeText.{names_text, names_of, same_names};
 ghost use Rattle.am_outcomes.specs.OutcomeText.{change_text, first_text, count_text, AreDeclared};
 
 use crate::found::Outcomes;
-use am_complete_texts::{plural, push_label_set, push_quoted};
 use am_config::Config;
+use am_report_texts::{gap_before, plural, push_label_set, push_quoted};
 use am_universe::{Choice, Universe};
 use std::alloc::{AllocError, Global};
 
@@ -124,16 +124,10 @@ fn push_names(text: &mut String, config: &Config, receivers: &[usize]) -> Result
         ++ names_text (names_of (config_view config.now) receivers.now)) }
 {
     for (i, receiver) in receivers.iter().enumerate() {
-        text.push_str(gap_before_name(i))?;
+        text.push_str(gap_before(i, "", ","))?;
         push_quoted(text, config.receiver_name(*receiver))?;
     }
     Ok(())
-}
-
-fn gap_before_name(i: usize) -> &'static str
-    ensures { result.now ≡ gap_before_name i }
-{
-    if i == 0 { "" } else { "," }
 }
 
 /// Adds the label set of the first choice, which closes a line.

@@ -20,15 +20,12 @@ use Rattle.am_complete.specs.Complete.{about, IsSpaceComplete, IsSpaceCompleteAt
 use Rattle.am_complete.specs.Covering.{HasTextsOver, AddsNeeded}
 use Rattle.am_complete.specs.Room.{HaveNoRoom, AreUnproved}
 use Rattle.am_classes.specs.Alike.{HasPattern}
-use Rattle.am_complete_texts.specs.CheckText.{origin_pointer}
+use Rattle.am_universe_command.specs.CheckText.{origin_pointer}
 use Rattle.am_universe_command.specs.Universes.{HaveRoomBut}
 use Rattle.am_lint.specs.Findings.{alphabet_of}
+use Rattle.am_idle.specs.Lists.{undeclared}
 use Rattle.am_reports.specs.Configurations.{Configurations, One, routing_conditions}
 use Rattle.am_reports.specs.Configurations.{labels_of_routes, first_place}
-
--- The same is impossible as of a space, and no label is declared.
-abbrev pub undeclared : Space → Space
-undeclared s = record { labels = []; impossible = s.impossible }
 
 -- A universe stands for every alert over an alphabet, beside the impossible lists of a space: it is
 -- complete for the routes and these lists, its own texts are over the alphabet, and it has nothing

@@ -31,8 +31,8 @@ use Rattle.am_complete.specs.Covering.{CoversEachBut, KeepsLabels, AddsNeeded, H
 use Rattle.am_complete.specs.Room.{HaveNoRoom, AreUnproved}
 use Rattle.am_complete.specs.LabelState.{IsSoIfNamed, is_settled, reported_names}
 use Rattle.am_complete.specs.FoundState.{is_unseen}
-use Rattle.am_complete_texts.specs.CheckText.{check_text, origin_pointer}
-use Rattle.am_complete_texts.specs.UniverseText.{universe_text}
+use Rattle.am_universe_command.specs.CheckText.{check_text, origin_pointer}
+use Rattle.am_universe_command.specs.UniverseText.{universe_text}
 use Rattle.am_universe_command.specs.declared.universe_form.UniverseForm.{UniverseForm}
 use Rattle.am_universe_command.specs.UniverseInputs.{UniverseInputs, AcceptsUniverseInputs}
 use Rattle.am_universe_command.specs.UniverseInputs.{universe_input_stages, HasListsIfAny}

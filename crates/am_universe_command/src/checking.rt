@@ -7,11 +7,11 @@ ghost use Rattle.am_universe_command.specs.Universes.{IsCheckOf, alerts_if_any, 
 
 use crate::UniverseInputs;
 use crate::asked_labels::labels_asked;
+use crate::check_text::text_of_check;
 use crate::read_inputs::{ReadInputs, read_inputs};
 use am_asked::equal_matchers_of;
 use am_classes::Alphabet;
 use am_complete::label_states;
-use am_complete_texts::text_of_check;
 use am_eval::World;
 use am_first_sets::first_possible;
 use am_list_files::Alerts;

@@ -14,9 +14,19 @@ pub use read_inputs::read_universe_if_any;
 pub use universe_form::UniverseForm;
 pub use universe_inputs::UniverseInputs;
 
+// The text of a universe file, where a matcher stands, and how a universe stands.
+mod check_text;
+mod origin_pointer;
+mod universe_file;
+
+pub use origin_pointer::pointer_to;
+
 // The calls.
 mod checking;
 mod making;
 
 pub use checking::check_universe;
 pub use making::{universe, unproved_fault};
+
+// What holds of the definitions by themselves.
+pub mod laws;

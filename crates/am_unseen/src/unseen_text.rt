@@ -5,7 +5,7 @@ ghost use Rattle.am_unseen.specs.UnseenText.{unseen_lines, unseen_line, place_te
 
 use crate::UnseenValue;
 use am_complete::Origin;
-use am_complete_texts::{push_path, push_quoted};
+use am_report_texts::{push_path, push_quoted};
 use std::alloc::{AllocError, Global};
 
 /// Adds a line for each unseen value, in their order. An `Err` only where memory was refused.

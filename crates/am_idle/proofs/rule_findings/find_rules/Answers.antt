@@ -2,7 +2,7 @@
 use Rattle.std.proofs.Common.{◌∙◌, subst}
 use Rattle.am_labels.specs.Space.{Space}
 use Rattle.am_complete.proofs.Pushed.{one_more_passes}
-use Rattle.am_complete_texts.proofs.PieceSteps.{item_here}
+use Rattle.am_report_texts.proofs.PieceSteps.{item_here}
 use Rattle.am_idle.specs.Lists.{IsRefusalForLists}
 use Rattle.am_idle.specs.Rules.{IsRuleFinding}
 use Rattle.am_idle.specs.RuleFindings.{IsRuleAccepted, sides_of}

@@ -1,7 +1,7 @@
 use Rattle.std.proofs.Common.{ℕ, List, ◌++◌, codes, string_bytes, ap, sym, ◌∙◌}
 use Rattle.std.proofs.lemmas.Result.{on_ok_weaker}
 use Rattle.am_labels.specs.Matcher.{Condition}
-use Rattle.am_complete_texts.proofs.PieceSteps.{one_put}
+use Rattle.am_report_texts.proofs.PieceSteps.{one_put}
 use Rattle.am_idle.specs.RuleText.{matchers_text_at}
 use Rattle.am_idle.proofs.RuleTextSteps.{target_named, both_put}
 use Rattle.am_idle.proofs.rule_text.push_contradiction.Goals as goal

@@ -1,9 +1,8 @@
 use Rattle.std.proofs.Common.{ℕ, List, ◌++◌, codes, string_bytes, ap, refl, ◌∙◌, append_assoc}
 use Rattle.std.specs.Prelude.{slice_index}
 use Rattle.std.proofs.lemmas.Option.{slice_get-get_or}
-use Rattle.am_complete_texts.specs.UniverseText.{texts_behind}
-use Rattle.am_complete_texts.proofs.TextSteps.{one_pushed}
-use Rattle.am_complete_texts.proofs.PieceSteps.{row_closed, last_put}
+use Rattle.am_report_texts.specs.Separated.{texts_behind}
+use Rattle.am_report_texts.proofs.PieceSteps.{one_pushed, row_closed, last_put}
 use Rattle.am_idle.specs.RuleText.{matcher_text_at}
 use Rattle.am_idle.proofs.RuleTextSteps.{matcher_here}
 use Rattle.am_idle.proofs.rule_text.push_matchers_at.Goals as goal
@@ -15,7 +14,7 @@ loop-i-preserved c =
     one_pushed (codes "") (codes ",") (matcher_text_at ms) c.args.positions.now c.loop-i.i position
     (string_bytes c.push_str.new.self) (string_bytes c.loop-i.text) _ _ _
     (slice_get-get_or c.args.positions.now c.loop-i.i 0 c.loop-i-test.true)
-    c.loop-i.invariant c.gap_before_picked.ensures c.in_ok-push_str-2.ensures.bytes
+    c.loop-i.invariant c.gap_before.ensures.gap c.in_ok-push_str-2.ensures.bytes
     (c.in_ok-push_matcher.ensures.text
     ∙ ap (λ t. string_bytes c.push_str-in-loop-i.new.self ++ t)
     (matcher_here ms position c.get.result.now c.get.ensures.matcher))

@@ -1,5 +1,5 @@
 use Rattle.std.proofs.Common.{◌≡◌, ◌++◌, codes, take, string_bytes}
-use Rattle.am_complete_texts.specs.UniverseText.{texts_behind}
+use Rattle.am_report_texts.specs.Separated.{texts_behind}
 use Rattle.am_idle.specs.RuleText.{matcher_text_at}
 use Rattle.am_idle.proofs.rule_text.push_matchers_at.Given as goal
 

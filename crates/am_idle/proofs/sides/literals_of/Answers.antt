@@ -1,6 +1,6 @@
 use Rattle.std.proofs.Common.{refl, sym, subst, true, take, ◌+◌, ◌≡◌}
 use Rattle.am_judged_lists.specs.Cube.{MaskedLabels}
-use Rattle.am_complete_texts.proofs.PieceSteps.{item_here}
+use Rattle.am_report_texts.proofs.PieceSteps.{item_here}
 use Rattle.am_reasons.specs.declared.candidate.Candidate.{Candidate}
 use Rattle.am_idle.specs.RuleChoices.{AreWantedFor, AreAllNamed}
 use Rattle.am_idle.proofs.RuleLiterals.{zip_more, all_pushed}

@@ -7,7 +7,7 @@ use Rattle.std.proofs.lemmas.List.FromFn.{length-enumerate_from}
 use Rattle.am_config.specs.ConfigView.{config_view}
 use Rattle.am_lint.specs.FoundView.{said_of}
 use Rattle.am_lint.specs.ReportText.{Said, route_line, receiver_line}
-use Rattle.am_complete_texts.proofs.PieceSteps.{line_more, lines_closed}
+use Rattle.am_report_texts.proofs.PieceSteps.{line_more, lines_closed}
 use Rattle.am_lint.proofs.ReportSteps.{numbered}
 use Rattle.am_lint.proofs.report_text.lint_lines.Goals as goal
 

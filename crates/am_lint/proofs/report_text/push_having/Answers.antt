@@ -6,8 +6,7 @@ use Rattle.am_config.specs.ConfigView.{config_view}
 use Rattle.am_lint.specs.declared.found.FoundRoute.{FoundRoute}
 use Rattle.am_lint.specs.FoundView.{said_of}
 use Rattle.am_lint.specs.ReportText.{Said, said_text}
-use Rattle.am_complete_texts.proofs.TextSteps.{one_pushed}
-use Rattle.am_complete_texts.proofs.PieceSteps.{row_closed}
+use Rattle.am_report_texts.proofs.PieceSteps.{one_pushed, row_closed}
 use Rattle.am_lint.proofs.ReportSteps.{view_here, have_some}
 use Rattle.am_lint.proofs.report_text.push_having.Goals as goal
 
@@ -20,7 +19,7 @@ loop-i-preserved c =
     (map view c.args.routes.now) c.loop-i.i (view c.index-routes-i.result)
     (string_bytes c.args.text.now) (string_bytes c.loop-i.text) _ _ _
     (view_here view _ _ _ c.loop-i-test.true c.index-routes-i.is) c.loop-i.invariant
-    c.gap_before.ensures c.in_ok-push_str.ensures.bytes c.in_ok-push_said.ensures
+    c.gap_before.ensures.gap c.in_ok-push_str.ensures.bytes c.in_ok-push_said.ensures
 
 pub returns : goal.returns
 returns c =

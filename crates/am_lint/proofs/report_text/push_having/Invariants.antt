@@ -1,6 +1,6 @@
 use Rattle.std.proofs.Common.{◌≡◌, ◌++◌, codes, map, take, string_bytes}
 use Rattle.am_config.specs.ConfigView.{config_view}
-use Rattle.am_complete_texts.specs.UniverseText.{texts_behind}
+use Rattle.am_report_texts.specs.Separated.{texts_behind}
 use Rattle.am_lint.specs.FoundView.{said_of}
 use Rattle.am_lint.specs.ReportText.{said_text}
 use Rattle.am_lint.proofs.report_text.push_having.Given as goal

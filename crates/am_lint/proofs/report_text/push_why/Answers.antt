@@ -4,7 +4,7 @@ use Rattle.std.proofs.lemmas.Result.{on_ok_weaker}
 use Rattle.am_universe.specs.WrittenLabelSet.{set_text}
 use Rattle.am_config.specs.ConfigView.{config_view}
 use Rattle.am_lint.specs.ReportText.{reason_text}
-use Rattle.am_complete_texts.proofs.PieceSteps.{one_put}
+use Rattle.am_report_texts.proofs.PieceSteps.{one_put}
 use Rattle.am_lint.proofs.report_text.push_why.Goals as goal
 
 pub returns-in_ok-push_str-in-Unusual : goal.returns-in_ok-push_str-in-Unusual

@@ -4,7 +4,7 @@ use Rattle.std.proofs.lemmas.Option.{get_or_from_slice_get}
 use Rattle.am_universe.specs.Universe.{Label, sizes}
 use Rattle.am_universe.specs.Choice.{IsWhole}
 use Rattle.am_config.specs.ConfigView.{config_view}
-use Rattle.am_complete_texts.proofs.PieceSteps.{line_more, lines_closed}
+use Rattle.am_report_texts.proofs.PieceSteps.{line_more, lines_closed}
 use Rattle.am_outcomes.specs.FatesView.{fates_view}
 use Rattle.am_outcomes.specs.OutcomeText.{outcome_line, names_text, names_of, first_text}
 use Rattle.am_outcomes.specs.OutcomeText.{AreDeclared, under}

@@ -1,8 +1,7 @@
 use Rattle.std.proofs.Common.{◌++◌, codes, string_bytes, ap, sym, ◌∙◌}
 use Rattle.am_universe.specs.Text.{quoted_text}
 use Rattle.am_config.specs.ConfigView.{config_view}
-use Rattle.am_complete_texts.proofs.TextSteps.{one_pushed}
-use Rattle.am_complete_texts.proofs.PieceSteps.{row_closed}
+use Rattle.am_report_texts.proofs.PieceSteps.{one_pushed, row_closed}
 use Rattle.std.proofs.lemmas.Option.{slice_get-get_or}
 use Rattle.am_outcomes.specs.OutcomeText.{name_of}
 use Rattle.am_outcomes.proofs.TextSteps.{row_of_map, name_is}
@@ -14,7 +13,7 @@ loop-i-preserved c =
     one_pushed (codes "") (codes ",") (λ receiver. quoted_text (name_of config receiver))
     c.args.receivers.now c.loop-i.i _ (string_bytes c.args.text.now) (string_bytes c.loop-i.text)
     _ _ _ (slice_get-get_or c.args.receivers.now c.loop-i.i 0 c.loop-i-test.true)
-    c.loop-i.invariant c.gap_before_name.ensures c.in_ok-push_str.ensures.bytes
+    c.loop-i.invariant c.gap_before.ensures.gap c.in_ok-push_str.ensures.bytes
     (c.in_ok-push_quoted.ensures
     ∙ ap (λ name. string_bytes c.push_str.new.self ++ quoted_text name)
     (sym (name_is config _ c.receiver_name.result.now c.receiver_name.ensures.name)))

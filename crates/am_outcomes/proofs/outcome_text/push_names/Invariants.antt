@@ -1,7 +1,7 @@
 use Rattle.std.proofs.Common.{◌≡◌, ◌++◌, take, codes, string_bytes}
 use Rattle.am_universe.specs.Text.{quoted_text}
 use Rattle.am_config.specs.ConfigView.{config_view}
-use Rattle.am_complete_texts.specs.UniverseText.{texts_behind}
+use Rattle.am_report_texts.specs.Separated.{texts_behind}
 use Rattle.am_outcomes.specs.OutcomeText.{name_of}
 use Rattle.am_outcomes.proofs.outcome_text.push_names.Given as goal
 

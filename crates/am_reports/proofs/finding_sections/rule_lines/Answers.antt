@@ -1,6 +1,6 @@
 -- The line of one rule more.
 use Rattle.std.proofs.Common.{◌<◌, length, string_bytes, sym, subst}
-use Rattle.am_complete_texts.proofs.PieceSteps.{item_here}
+use Rattle.am_report_texts.proofs.PieceSteps.{item_here}
 use Rattle.am_idle.specs.RuleText.{rule_line, HasPositionsIfAny}
 use Rattle.am_reports.proofs.EachLine.{one_said, zip_at}
 use Rattle.am_reports.proofs.finding_sections.rule_lines.Goals as goal

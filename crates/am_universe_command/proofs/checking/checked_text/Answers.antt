@@ -3,7 +3,7 @@ use Rattle.std.proofs.Common.{◌≡◌, ap, map, ◌∙◌}
 use Rattle.am_universe.specs.Universe.{sizes}
 use Rattle.am_eval.specs.QuestionView.{question_view}
 use Rattle.am_complete.specs.AskedLabel.{IsAskedOf}
-use Rattle.am_complete_texts.specs.CheckText.{check_text}
+use Rattle.am_universe_command.specs.CheckText.{check_text}
 use Rattle.am_universe_command.specs.Universes.{deciding_conditions, deciding_labels}
 use Rattle.am_universe_command.proofs.AskedFacts.{lists_decide}
 use Rattle.am_universe_command.proofs.CheckFacts.{none_told}

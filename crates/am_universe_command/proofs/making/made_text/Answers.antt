@@ -6,8 +6,8 @@ use Rattle.am_json.specs.declared.limits.TheConstants.{MAX_FILE_BYTES}
 use Rattle.am_json.specs.Reading.{refusal_of}
 use Rattle.am_list_files.specs.UniverseFile.{FileHasImpossibleTexts}
 use Rattle.am_eval.specs.QuestionView.{question_view}
-use Rattle.am_complete_texts.specs.UniverseText.{universe_text}
-use Rattle.am_complete_texts.proofs.SaidByText.{text_says, texts_kept}
+use Rattle.am_universe_command.specs.UniverseText.{universe_text}
+use Rattle.am_universe_command.proofs.SaidByText.{text_says, texts_kept}
 use Rattle.am_universe_command.specs.Universes.{TooLongFor}
 use Rattle.am_universe_command.proofs.UniverseStages.{refused_here}
 use Rattle.am_universe_command.proofs.making.made_text.Goals as goal

@@ -1,6 +1,6 @@
 use Rattle.std.proofs.Common.{string_bytes, sym}
 use Rattle.am_unseen.specs.UnseenText.{unseen_line}
-use Rattle.am_complete_texts.proofs.PieceSteps.{line_more}
+use Rattle.am_report_texts.proofs.PieceSteps.{line_more}
 use Rattle.am_unseen.proofs.unseen_text.push_unseen.Goals as goal
 
 pub loop-unseen-preserved : goal.loop-unseen-preserved

@@ -1,4 +1,0 @@
-pub mod UniverseText
-pub mod CheckText
-pub mod MatchersText
-pub mod Plural

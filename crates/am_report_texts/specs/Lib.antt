@@ -1,0 +1,3 @@
+pub mod Separated
+pub mod MatchersText
+pub mod Plural

@@ -1,0 +1,18 @@
+-- Matchers in braces, as the text of a list that is read back as them.
+use Rattle.std.specs.Prelude.{ℕ, List, ◌++◌, codes}
+use Rattle.am_universe.specs.Text.{quoted_text}
+use Rattle.am_labels.specs.Matcher.{Condition}
+use Rattle.am_labels.specs.MatcherText.{operator_text}
+use Rattle.am_report_texts.specs.Separated.{texts_behind}
+
+-- A matcher: its name, its operator, and its value in quotes.
+-- Source: Alertmanager configuration reference 0.25, "<matcher>".
+-- Example: `team!~"d.*"`.
+abbrev pub matcher_text : Condition → List ℕ
+matcher_text m = m.name ++ (operator_text m.op ++ quoted_text m.value)
+
+-- The matchers in braces, with a comma between each two.
+-- Source: Alertmanager configuration reference 0.25, "<matcher>".
+-- Example: `{team="db",severity=~"crit.*"}`; without matchers `{}`.
+abbrev pub matchers_text : List Condition → List ℕ
+matchers_text ms = codes "{" ++ (texts_behind (codes "") (codes ",") matcher_text ms ++ codes "}")

@@ -1,0 +1,24 @@
+//! What the texts of reports are made of: texts in quotes, label sets, matchers in braces, paths,
+//! and what stands between things in a row.
+#![tactic(auto)]
+
+// A text in quotes, and the ending of a word.
+mod quoted_text;
+mod word_ending;
+
+pub use quoted_text::push_quoted;
+pub use word_ending::plural;
+
+// Things in a row.
+mod separator;
+
+pub use separator::gap_before;
+
+// The label set of a choice, matchers in braces, and a path.
+mod label_set_text;
+mod matchers_text;
+mod path_text;
+
+pub use label_set_text::push_label_set;
+pub use matchers_text::{push_matcher, push_matchers};
+pub use path_text::push_path;

@@ -1,0 +1,8 @@
+use Rattle.std.proofs.Common.{◌≡◌, ◌++◌, codes, string_bytes, take}
+use Rattle.std.specs.List.{flat_map}
+use Rattle.am_universe_command.specs.CheckText.{child_pointer}
+use Rattle.am_universe_command.proofs.origin_pointer.route_pointer.Given as goal
+
+abbrev pub invariant-loop-position : goal.invariant-loop-position
+invariant-loop-position l =
+    string_bytes l.pointer ≡ codes "/route" ++ flat_map child_pointer (take l.position-index l.position-items)

@@ -1,0 +1,44 @@
+//! The JSON Pointer to what a matcher stands in.
+
+ghost use Rattle.std.specs.Prelude.{◌≡◌, ◌++◌, string_bytes, decimal, codes, IfOk, OnOk};
+ghost use Rattle.std.specs.List.{flat_map};
+ghost use Rattle.am_universe_command.specs.CheckText.{origin_pointer, child_pointer};
+
+use am_complete::Origin;
+use am_config::Path;
+use std::alloc::{AllocError, Global};
+
+/// The pointer to what a matcher stands in, as `/route/routes/0` or `/inhibit_rules/2`, in the file
+/// that has it. An `Err` only where memory was refused.
+pub fn pointer_to(alloc: Global, origin: &Origin) -> Result<String, AllocError>
+    ensures pointer { IfOk result (λ pointer. string_bytes pointer ≡ origin_pointer origin.now) }
+{
+    match origin {
+        Origin::Route(path) => route_pointer(alloc, path),
+        Origin::Rule(position) => format!(in alloc; "/inhibit_rules/{position}"),
+        Origin::Silence(position) | Origin::Question(position) => {
+            format!(in alloc; "/{position}")
+        }
+        Origin::Impossible(position) => format!(in alloc; "/impossible/{position}"),
+    }
+}
+
+fn route_pointer(alloc: Global, path: &Path) -> Result<String, AllocError>
+    ensures { IfOk result (λ pointer. string_bytes pointer
+        ≡ codes "/route" ++ flat_map child_pointer path.now) }
+{
+    let mut pointer = String::from_str(alloc, "/route")?;
+    for position in path.steps() {
+        push_child(alloc, &mut pointer, *position)?;
+    }
+    Ok(pointer)
+}
+
+/// Adds the step to the child at a position.
+fn push_child(alloc: Global, pointer: &mut String, position: u16) -> Result<(), AllocError>
+    ensures { OnOk result (string_bytes pointer.new
+        ≡ string_bytes pointer.old ++ child_pointer position) }
+{
+    let step = format!(in alloc; "/routes/{position}")?;
+    pointer.push_str(step.as_str())
+}
