@@ -1,5 +1,5 @@
--- Matchers that are gathered one after another: those that are left, and what they make of labels.
-use Rattle.std.proofs.Common.{◌≡◌, ℕ, ◌+◌, ◌<◌, List, ◌∷◌, length, get_or, drop}
+-- Matchers that are looked at one after another, and those that are left.
+use Rattle.std.proofs.Common.{◌≡◌, ℕ, ◌+◌, ◌<◌, List, ◌∷◌, ◌++◌, length, get_or, drop}
 use Rattle.std.proofs.Common.{Some, fold, sym, ap, ◌∙◌}
 use Rattle.std.specs.Prelude.{slice_get}
 use Rattle.std.specs.List.{flat_map, enumerate_from}
@@ -9,51 +9,47 @@ use Rattle.am_labels.specs.Matcher.{Condition}
 use Rattle.am_universe.proofs.Members.{left_at}
 use Rattle.am_config.specs.ConfigFile.{RouteTree}
 use Rattle.am_complete.specs.declared.origin.Origin.{Origin}
-use Rattle.am_complete.specs.AskedLabel.{AskedLabel, with_asked}
 use Rattle.am_asked.specs.Placed.{placed_at, placed_by_route}
 
--- the labels so far, with the matchers that are left, are what all of them make of the first
-abbrev pub IsOnTheWay : List AskedLabel → List (Origin × Condition) → List AskedLabel
-    → List (Origin × Condition) → Type 0
-IsOnTheWay before all now left = fold with_asked now left ≡ fold with_asked before all
+-- what there is so far, with the matchers that are left, is what all of them make of the first
+abbrev pub IsOnTheWay : {S : Type 0} → (S → Origin × Condition → S) → S
+    → List (Origin × Condition) → S → List (Origin × Condition) → Type 0
+IsOnTheWay after before all now left = fold after now left ≡ fold after before all
 
--- what is left, with the first item apart
-left : {X Y : Type 0} (F : List X → Y) (xs : List X) (i : ℕ) (x : X) → i < length xs
-    → x ≡ get_or xs i x → F (x ∷ drop (i + 1) xs) ≡ F (drop i xs)
-left F xs i x lt is =
-    ap (λ y. F (y ∷ drop (i + 1) xs)) is ∙ sym (at_drop_more F xs i x lt)
+module _ {S : Type 0} (after : S → Origin × Condition → S) where
+  -- the matchers that stand in front of the others
+  pub passed : (front rest : List (Origin × Condition)) (now next whole : S)
+      → next ≡ fold after now front → fold after now (front ++ rest) ≡ whole
+      → fold after next rest ≡ whole
+  passed front rest now next whole step before =
+      ap (λ s. fold after s rest) step ∙ sym (fold-append after now front rest) ∙ before
 
--- one matcher of a list more
-pub one_more_matcher : (origin : Origin) (ms : List Condition) (i : ℕ) (m : Condition)
-    (now next whole : List AskedLabel) → slice_get ms i ≡ Some m
-    → next ≡ with_asked now (origin, m) → fold with_asked now (placed_at origin (drop i ms)) ≡ whole
-    → fold with_asked next (placed_at origin (drop (i + 1) ms)) ≡ whole
-one_more_matcher origin ms i m now next whole there step before =
-    ap (λ labels. fold with_asked labels (placed_at origin (drop (i + 1) ms))) step
-    ∙ ap (λ left. fold with_asked now (placed_at origin left)) (sym (left_at ms i m there))
-    ∙ before
+  -- one matcher of a list more
+  pub one_more_matcher : (origin : Origin) (ms : List Condition) (i : ℕ) (m : Condition)
+      (now next whole : S) → slice_get ms i ≡ Some m → next ≡ after now (origin, m)
+      → fold after now (placed_at origin (drop i ms)) ≡ whole
+      → fold after next (placed_at origin (drop (i + 1) ms)) ≡ whole
+  one_more_matcher origin ms i m now next whole there step before =
+      ap (λ s. fold after s (placed_at origin (drop (i + 1) ms))) step
+      ∙ ap (λ left. fold after now (placed_at origin left)) (sym (left_at ms i m there)) ∙ before
 
--- the matchers of one thing more, of some that each have matchers
-pub one_more_thing : {X : Type 0} (f : ℕ × X → List (Origin × Condition)) (xs : List X) (i : ℕ)
-    (x : X) (now next whole : List AskedLabel) → i < length xs → x ≡ get_or xs i x
-    → next ≡ fold with_asked now (f (i, x))
-    → fold with_asked now (flat_map f (enumerate_from i (drop i xs))) ≡ whole
-    → fold with_asked next (flat_map f (enumerate_from (i + 1) (drop (i + 1) xs))) ≡ whole
-one_more_thing f xs i x now next whole lt is step before =
-    let rest = flat_map f (enumerate_from (i + 1) (drop (i + 1) xs)) in
-    ap (λ labels. fold with_asked labels rest) step
-    ∙ sym (fold-append with_asked now (f (i, x)) rest)
-    ∙ left (λ ys. fold with_asked now (flat_map f (enumerate_from i ys))) xs i x lt is ∙ before
+  -- the matchers of one thing more, of some that each have matchers
+  pub one_more_thing : {X : Type 0} (f : ℕ × X → List (Origin × Condition)) (xs : List X) (i : ℕ)
+      (x : X) (now next whole : S) → i < length xs → x ≡ get_or xs i x
+      → next ≡ fold after now (f (i, x))
+      → fold after now (flat_map f (enumerate_from i (drop i xs))) ≡ whole
+      → fold after next (flat_map f (enumerate_from (i + 1) (drop (i + 1) xs))) ≡ whole
+  one_more_thing {X} f xs i x now next whole lt is step before =
+      let F : List X → S = λ ys. fold after now (flat_map f (enumerate_from i ys)) in
+      passed (f (i, x)) (flat_map f (enumerate_from (i + 1) (drop (i + 1) xs))) now next whole step
+      (ap (λ y. F (y ∷ drop (i + 1) xs)) is ∙ sym (at_drop_more F xs i x lt) ∙ before)
 
--- the matchers of one route more
-pub one_more_route : (all : List (List ℕ × RouteTree)) (i : ℕ) (r : List ℕ × RouteTree)
-    (now next whole : List AskedLabel) → slice_get all i ≡ Some r
-    → next ≡ fold with_asked now (placed_by_route r)
-    → fold with_asked now (flat_map placed_by_route (drop i all)) ≡ whole
-    → fold with_asked next (flat_map placed_by_route (drop (i + 1) all)) ≡ whole
-one_more_route all i r now next whole there step before =
-    let rest = flat_map placed_by_route (drop (i + 1) all) in
-    ap (λ labels. fold with_asked labels rest) step
-    ∙ sym (fold-append with_asked now (placed_by_route r) rest)
-    ∙ ap (λ left. fold with_asked now (flat_map placed_by_route left)) (sym (left_at all i r there))
-    ∙ before
+  -- the matchers of one route more
+  pub one_more_route : (all : List (List ℕ × RouteTree)) (i : ℕ) (r : List ℕ × RouteTree)
+      (now next whole : S) → slice_get all i ≡ Some r → next ≡ fold after now (placed_by_route r)
+      → fold after now (flat_map placed_by_route (drop i all)) ≡ whole
+      → fold after next (flat_map placed_by_route (drop (i + 1) all)) ≡ whole
+  one_more_route all i r now next whole there step before =
+      passed (placed_by_route r) (flat_map placed_by_route (drop (i + 1) all)) now next whole step
+      (ap (λ left. fold after now (flat_map placed_by_route left)) (sym (left_at all i r there))
+      ∙ before)

@@ -7,14 +7,14 @@ ghost use Rattle.am_asked.specs.Asked.{route_conditions, world_conditions, quest
 ghost use Rattle.am_asked.specs.Asked.{questions_conditions};
 ghost use Rattle.am_complete.specs.Complete.{impossible_conditions};
 ghost use Rattle.am_complete.specs.AskedLabel.{IsAskedOf, asked_labels, with_asked};
-ghost use Rattle.am_asked.specs.Placed.{placed_at, placed_in_routes, placed_in_rules};
-ghost use Rattle.am_asked.specs.Placed.{placed_in_equal, placed_in_silences, placed_in_lists};
-ghost use Rattle.am_asked.specs.Placed.{placed_in_world, placed_in_questions};
+ghost use Rattle.am_asked.specs.Placed.{placed_at, placed_in_routes, placed_in_equal};
+ghost use Rattle.am_asked.specs.Placed.{placed_in_silences, placed_in_lists, placed_in_world};
+ghost use Rattle.am_asked.specs.Placed.{placed_in_questions};
 ghost use Rattle.am_complete.specs.declared.origin.Origin.TheVariants as origin_is;
 
-use crate::EqualMatcher;
+use crate::{EqualMatcher, visit_lists, visit_matchers, visit_routes, visit_rules};
 use am_complete::{AskedLabel, Gathering, Origin};
-use am_config::{Config, Rule};
+use am_config::Config;
 use am_eval::{Question, World};
 use am_labels::Matchers;
 use am_list_files::Silences;
@@ -39,9 +39,9 @@ pub fn asked_by_routes<'m>(
         ++ placed_in_lists impossible.now))) }
 {
     let mut gathering = Gathering::empty(alloc);
-    add_routes(alloc, &mut gathering, config)?;
+    visit_routes(alloc, &mut gathering, config)?;
     add_questions(&mut gathering, questions)?;
-    add_lists(&mut gathering, impossible)?;
+    visit_lists(&mut gathering, impossible)?;
     Ok(gathering.into_labels())
 }
 
@@ -65,9 +65,9 @@ pub fn asked_by_both<'m>(
         ++ placed_in_lists impossible.now))) }
 {
     let mut gathering = Gathering::empty(alloc);
-    add_routes(alloc, &mut gathering, old)?;
-    add_routes(alloc, &mut gathering, new)?;
-    add_lists(&mut gathering, impossible)?;
+    visit_routes(alloc, &mut gathering, old)?;
+    visit_routes(alloc, &mut gathering, new)?;
+    visit_lists(&mut gathering, impossible)?;
     Ok(gathering.into_labels())
 }
 
@@ -93,57 +93,13 @@ pub fn asked_in_world<'m>(
         ++ placed_in_lists impossible.now))) }
 {
     let mut gathering = Gathering::empty(alloc);
-    add_routes(alloc, &mut gathering, world.config())?;
-    add_rules(&mut gathering, world.config().rules())?;
+    visit_routes(alloc, &mut gathering, world.config())?;
+    visit_rules(&mut gathering, world.config().rules())?;
     add_equal_matchers(&mut gathering, equal)?;
     add_silences(&mut gathering, world.silences())?;
     add_questions(&mut gathering, questions)?;
-    add_lists(&mut gathering, impossible)?;
+    visit_lists(&mut gathering, impossible)?;
     Ok(gathering.into_labels())
-}
-
-/// Adds the matchers of a list, which all stand at one place.
-fn add_matchers<'m>(
-    gathering: &mut Gathering<'m>,
-    origin: &Origin,
-    matchers: &'m Matchers,
-) -> Result<(), AllocError>
-    ensures { OnOk result (gathering.new
-        ≡ fold with_asked gathering.old (placed_at origin.now matchers.now)) }
-{
-    for i in 0..matchers.len() {
-        gathering.add(origin, matchers.get(i))?;
-    }
-    Ok(())
-}
-
-/// Adds the matchers of all routes of a configuration.
-fn add_routes<'m>(
-    alloc: Global,
-    gathering: &mut Gathering<'m>,
-    config: &'m Config,
-) -> Result<(), AllocError>
-    ensures { OnOk result (gathering.new
-        ≡ fold with_asked gathering.old (placed_in_routes (config_view config.now))) }
-{
-    let listed = config.routes(alloc)?;
-    for i in 0..listed.paths.len() {
-        let origin = Origin::Route(listed.paths[i]);
-        add_matchers(gathering, &origin, listed.routes[i].matchers())?;
-    }
-    Ok(())
-}
-
-/// Adds the matchers of both sides of inhibition rules.
-fn add_rules<'m>(gathering: &mut Gathering<'m>, rules: &'m [Rule]) -> Result<(), AllocError>
-    ensures { OnOk result (gathering.new
-        ≡ fold with_asked gathering.old (placed_in_rules rules.now)) }
-{
-    for (i, rule) in rules.iter().enumerate() {
-        add_matchers(gathering, &Origin::Rule(i), rule.source())?;
-        add_matchers(gathering, &Origin::Rule(i), rule.target())?;
-    }
-    Ok(())
 }
 
 /// Adds the matchers that `equal` stands for.
@@ -166,7 +122,7 @@ fn add_silences<'m>(gathering: &mut Gathering<'m>, silences: &'m Silences) -> Re
 {
     for i in 0..silences.len() {
         let silence = silences.get(i);
-        add_matchers(gathering, &Origin::Silence(i), silence.matchers())?;
+        visit_matchers(gathering, &Origin::Silence(i), silence.matchers())?;
     }
     Ok(())
 }
@@ -196,22 +152,11 @@ fn add_question<'m>(
 {
     match question {
         Question::Is(_) | Question::Receiver(_) | Question::Route(_, _) => Ok(()),
-        Question::Braces(matchers) => add_matchers(gathering, origin, matchers),
+        Question::Braces(matchers) => visit_matchers(gathering, origin, matchers),
         Question::Not(question) => add_question(gathering, origin, question),
         Question::And(left, right) | Question::Or(left, right) => {
             add_question(gathering, origin, left)?;
             add_question(gathering, origin, right)
         }
     }
-}
-
-/// Adds the matchers of impossible lists.
-fn add_lists<'m>(gathering: &mut Gathering<'m>, lists: &'m [Matchers]) -> Result<(), AllocError>
-    ensures { OnOk result (gathering.new
-        ≡ fold with_asked gathering.old (placed_in_lists lists.now)) }
-{
-    for (i, list) in lists.iter().enumerate() {
-        add_matchers(gathering, &Origin::Impossible(i), list)?;
-    }
-    Ok(())
 }

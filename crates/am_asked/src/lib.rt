@@ -7,6 +7,8 @@
 
 mod asked;
 mod equal_matchers;
+mod visiting;
 
 pub use asked::{asked_by_both, asked_by_routes, asked_in_world};
 pub use equal_matchers::{EqualMatcher, equal_matchers_of};
+pub use visiting::{Visitor, visit_lists, visit_matchers, visit_routes, visit_rules};

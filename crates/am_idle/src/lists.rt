@@ -3,10 +3,10 @@
 ghost use Rattle.std.specs.Prelude.{◌≡◌, ◌≢◌, [], map, IfOk, IfErr, OnOk, fold};
 ghost use Rattle.am_universe.specs.declared.kind.Kind.TheVariants as kinds;
 ghost use Rattle.am_complete.specs.AskedLabel.{IsAskedOf, with_asked};
-ghost use Rattle.am_asked.specs.Placed.{placed_at, placed_in_lists};
 ghost use Rattle.am_idle.specs.Lists.{deciding_conditions, placed_by_lists, labels_of_lists};
 ghost use Rattle.am_idle.specs.Lists.{StandsForLists, IsRefusalForLists};
 
+use am_asked::{visit_lists, visit_matchers};
 use am_classes::Alphabet;
 use am_complete::{AskedLabel, Gathering, Origin, universe_beside};
 use am_labels::{Matchers, Space};
@@ -52,7 +52,7 @@ fn asked_by_lists<'m>(
 {
     let mut gathering = Gathering::empty(alloc);
     add_lists(&mut gathering, lists)?;
-    add_impossible(&mut gathering, space.impossible())?;
+    visit_lists(&mut gathering, space.impossible())?;
     Ok(gathering.into_labels())
 }
 
@@ -62,36 +62,7 @@ fn add_lists<'m>(gathering: &mut Gathering<'m>, lists: &[&'m Matchers]) -> Resul
         (placed_by_lists (map (λ list. list.now) lists.now))) }
 {
     for (i, list) in lists.iter().enumerate() {
-        add_matchers(gathering, &Origin::Rule(i), *list)?;
-    }
-    Ok(())
-}
-
-/// Adds the matchers of impossible lists.
-fn add_impossible<'m>(
-    gathering: &mut Gathering<'m>,
-    lists: &'m [Matchers],
-) -> Result<(), AllocError>
-    ensures { OnOk result (gathering.new
-        ≡ fold with_asked gathering.old (placed_in_lists lists.now)) }
-{
-    for (i, list) in lists.iter().enumerate() {
-        add_matchers(gathering, &Origin::Impossible(i), list)?;
-    }
-    Ok(())
-}
-
-/// Adds the matchers of a list, which all stand at one place.
-fn add_matchers<'m>(
-    gathering: &mut Gathering<'m>,
-    origin: &Origin,
-    matchers: &'m Matchers,
-) -> Result<(), AllocError>
-    ensures { OnOk result (gathering.new
-        ≡ fold with_asked gathering.old (placed_at origin.now matchers.now)) }
-{
-    for i in 0..matchers.len() {
-        gathering.add(origin, matchers.get(i))?;
+        visit_matchers(gathering, &Origin::Rule(i), *list)?;
     }
     Ok(())
 }

@@ -1,73 +1,22 @@
--- Matchers that are looked at one after another: those that are left, and what the search finds.
-use Rattle.std.proofs.Common.{◌≡◌, ℕ, ◌+◌, ◌<◌, List, [], ◌∷◌, ◌++◌, length, get_or, drop}
+-- The matchers of the silences that are left, and what the search finds.
+use Rattle.std.proofs.Common.{◌≡◌, ℕ, ◌+◌, ◌<◌, List, [], ◌∷◌, ◌++◌, length, drop}
 use Rattle.std.proofs.Common.{Some, fold, sym, ap, ◌∙◌, refl, false, true, append_assoc, append-nil}
 use Rattle.std.proofs.Common.{inl, inr, zero, suc, arith}
 use Rattle.std.specs.Prelude.{slice_get}
 use Rattle.std.specs.List.{flat_map, enumerate_from, filter}
 use Rattle.std.proofs.lemmas.Bool.{cases_Bool}
-use Rattle.std.proofs.lemmas.List.{at_drop_more}
-use Rattle.std.proofs.lemmas.List.Sums.{fold-append}
 use Rattle.am_universe.specs.LabelSet.{LabelMap}
 use Rattle.am_universe.proofs.Members.{left_at}
 use Rattle.am_labels.specs.Matcher.{Condition}
 use Rattle.am_list_files.specs.SilencesFile.{Silence}
-use Rattle.am_config.specs.ConfigFile.{RouteTree}
 use Rattle.am_eval.specs.World.{World}
 use Rattle.am_eval.specs.Silencing.{is_over}
 use Rattle.am_complete.specs.declared.origin.Origin.{Origin}
-use Rattle.am_asked.specs.Placed.{placed_at, placed_by_route, placed_in_silence}
+use Rattle.am_asked.specs.Placed.{placed_in_silence}
+use Rattle.am_asked.proofs.PlacedSteps.{passed}
 use Rattle.am_unseen.specs.Unseen.{UnseenValue, names_unseen_value, unseen_value_of, is_left}
 use Rattle.am_unseen.specs.Unseen.{unseen_values_among}
 use Rattle.am_unseen.specs.Search.{Search, after_matcher}
-
--- the search so far, with the matchers that are left, is what all of them make of the first
-abbrev pub IsOnTheWay : Search → List (Origin × Condition) → Search → List (Origin × Condition)
-    → Type 0
-IsOnTheWay before all now left = fold after_matcher now left ≡ fold after_matcher before all
-
--- ---- One more.
-
--- one matcher of a list more
-pub one_more_matcher : (origin : Origin) (ms : List Condition) (i : ℕ) (m : Condition)
-    (now next whole : Search) → slice_get ms i ≡ Some m
-    → next ≡ after_matcher now (origin, m)
-    → fold after_matcher now (placed_at origin (drop i ms)) ≡ whole
-    → fold after_matcher next (placed_at origin (drop (i + 1) ms)) ≡ whole
-one_more_matcher origin ms i m now next whole there step before =
-    ap (λ s. fold after_matcher s (placed_at origin (drop (i + 1) ms))) step
-    ∙ ap (λ left. fold after_matcher now (placed_at origin left)) (sym (left_at ms i m there))
-    ∙ before
-
--- the matchers that stand in front of the others
-passed : (front rest : List (Origin × Condition)) (now next whole : Search)
-    → next ≡ fold after_matcher now front → fold after_matcher now (front ++ rest) ≡ whole
-    → fold after_matcher next rest ≡ whole
-passed front rest now next whole step before =
-    ap (λ s. fold after_matcher s rest) step ∙ sym (fold-append after_matcher now front rest)
-    ∙ before
-
--- the matchers of one thing more, of some that each have matchers
-pub one_more_thing : {X : Type 0} (f : ℕ × X → List (Origin × Condition)) (xs : List X) (i : ℕ)
-    (x : X) (now next whole : Search) → i < length xs → x ≡ get_or xs i x
-    → next ≡ fold after_matcher now (f (i, x))
-    → fold after_matcher now (flat_map f (enumerate_from i (drop i xs))) ≡ whole
-    → fold after_matcher next (flat_map f (enumerate_from (i + 1) (drop (i + 1) xs))) ≡ whole
-one_more_thing {X} f xs i x now next whole lt is step before =
-    let F : List X → Search = λ ys. fold after_matcher now (flat_map f (enumerate_from i ys)) in
-    passed (f (i, x)) (flat_map f (enumerate_from (i + 1) (drop (i + 1) xs))) now next whole step
-    (ap (λ y. F (y ∷ drop (i + 1) xs)) is ∙ sym (at_drop_more F xs i x lt) ∙ before)
-
--- the matchers of one route more
-pub one_more_route : (all : List (List ℕ × RouteTree)) (i : ℕ) (r : List ℕ × RouteTree)
-    (now next whole : Search) → slice_get all i ≡ Some r
-    → next ≡ fold after_matcher now (placed_by_route r)
-    → fold after_matcher now (flat_map placed_by_route (drop i all)) ≡ whole
-    → fold after_matcher next (flat_map placed_by_route (drop (i + 1) all)) ≡ whole
-one_more_route all i r now next whole there step before =
-    passed (placed_by_route r) (flat_map placed_by_route (drop (i + 1) all)) now next whole step
-    (ap (λ left. fold after_matcher now (flat_map placed_by_route left))
-    (sym (left_at all i r there))
-    ∙ before)
 
 -- ---- Silences.
 
@@ -108,7 +57,7 @@ pub one_left : (w : World) (i : ℕ) (silence : Silence) (now next whole : Searc
 one_left w i silence now next whole at left step before =
     let same : left_from w i ≡ placed_in_silence (i, silence) ++ left_from w (i + 1) =
     with_first w i silence at ∙ rw left refl in
-    passed (placed_in_silence (i, silence)) (left_from w (i + 1)) now next whole step
+    passed after_matcher (placed_in_silence (i, silence)) (left_from w (i + 1)) now next whole step
     (ap (fold after_matcher now) (sym same) ∙ before)
 
 -- ---- What is found in the end.

@@ -1,11 +1,12 @@
 //! The search for unseen values, matcher by matcher.
 
-ghost use Rattle.std.specs.Prelude.{◌≡◌, [], Some, None, IfOk, OnOk, if◌then◌else◌};
+ghost use Rattle.std.specs.Prelude.{◌≡◌, [], Some, None, IfOk, if◌then◌else◌};
 ghost use Rattle.am_unseen.specs.Unseen.{seen_values, is_missing, unseen_value_of, most_similar};
 ghost use Rattle.am_unseen.specs.Search.{after_matcher, texts_of, each_once};
 
 use crate::UnseenValue;
 use crate::similar::most_similar;
+use am_asked::Visitor;
 use am_complete::Origin;
 use am_labels::{Matcher, Op};
 use am_list_files::Alerts;
@@ -50,23 +51,6 @@ impl<'w> Search<'w> {
         }
     }
 
-    /// Looks at a matcher, which stands somewhere. An `Err` only where memory was refused.
-    pub(crate) fn look_at(
-        &mut self,
-        origin: &Origin,
-        matcher: &'w Matcher,
-    ) -> Result<(), AllocError>
-        ensures { OnOk result (self.new ≡ after_matcher self.old (origin.now, matcher.now)) }
-    {
-        if matcher.op() != Op::Equal || matcher.value().is_empty() {
-            return Ok(());
-        }
-        if let Some(unseen) = self.unseen_value(origin, matcher)? {
-            self.found.push(unseen)?;
-        }
-        Ok(())
-    }
-
     /// What a matcher with `=` and a value says of a value that no alert has, if it does.
     fn unseen_value(
         &mut self,
@@ -95,6 +79,20 @@ impl<'w> Search<'w> {
         ensures { result.items ≡ self.entry.found }
     {
         self.found
+    }
+}
+
+impl<'w> Visitor<'w> for Search<'w> {
+    ghost after = { after_matcher };
+
+    fn visit(&mut self, origin: &Origin, matcher: &'w Matcher) -> Result<(), AllocError> {
+        if matcher.op() != Op::Equal || matcher.value().is_empty() {
+            return Ok(());
+        }
+        if let Some(unseen) = self.unseen_value(origin, matcher)? {
+            self.found.push(unseen)?;
+        }
+        Ok(())
     }
 }
 

@@ -11,10 +11,10 @@ loop-i-preserved c =
     let silences = c.args.silences.now in
     let silence = c.get-silence.result.now in
     let i = c.loop-i.i in
-    one_more_thing placed_in_silence silences i silence c.loop-i.gathering _ _
+    one_more_thing with_asked placed_in_silence silences i silence c.loop-i.gathering _ _
     (slice_get_within silences i silence c.get-silence.ensures.silence)
     (sym (get_or_from_slice_get silences i silence silence c.get-silence.ensures.silence))
-    (c.in_ok-add_matchers.ensures
+    (c.in_ok-visit_matchers.ensures.visit
     ∙ ap (λ ms. fold with_asked c.loop-i.gathering (placed_at (origin_is.Silence i) ms))
     c.matchers.ensures.matchers)
     c.loop-i.invariant

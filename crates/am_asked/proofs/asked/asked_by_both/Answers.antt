@@ -23,9 +23,9 @@ returns-clause-asked c =
     let is : c.into_labels.result.items ≡ asked_labels placed =
     rw (
       c.into_labels.ensures,
-      c.in_ok-add_lists.ensures,
-      c.in_ok-add_routes-2.ensures,
-      c.in_ok-add_routes.ensures,
+      c.in_ok-visit_lists.ensures.visit,
+      c.in_ok-visit_routes-2.ensures.visit,
+      c.in_ok-visit_routes.ensures.visit,
       c.empty-gathering.ensures,
       fold-append with_asked [] first (second ++ placed_in_lists lists),
       fold-append with_asked (fold with_asked [] first) second (placed_in_lists lists),

@@ -24,9 +24,9 @@ returns-clause-asked c =
     let is : c.into_labels.result.items ≡ asked_labels placed =
     rw (
       c.into_labels.ensures,
-      c.in_ok-add_lists.ensures,
+      c.in_ok-visit_lists.ensures.visit,
       c.in_ok-add_questions.ensures,
-      c.in_ok-add_routes.ensures,
+      c.in_ok-visit_routes.ensures.visit,
       c.empty-gathering.ensures,
       fold-append with_asked [] routes (asked ++ placed_in_lists lists),
       fold-append with_asked (fold with_asked [] routes) asked (placed_in_lists lists),

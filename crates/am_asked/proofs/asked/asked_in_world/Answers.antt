@@ -30,12 +30,12 @@ returns-clause-asked c =
     let is : c.into_labels.result.items ≡ asked_labels placed =
     rw (
       c.into_labels.ensures,
-      c.in_ok-add_lists.ensures,
+      c.in_ok-visit_lists.ensures.visit,
       c.in_ok-add_questions.ensures,
       c.in_ok-add_silences.ensures,
       c.in_ok-add_equal_matchers.ensures,
-      c.in_ok-add_rules.ensures,
-      c.in_ok-add_routes.ensures,
+      c.in_ok-visit_rules.ensures.visit,
+      c.in_ok-visit_routes.ensures.visit,
       c.empty-gathering.ensures,
       ap placed_in_routes c.config.ensures.config,
       sides,

@@ -1,5 +1,6 @@
 use Rattle.std.proofs.Common.{drop, map}
 use Rattle.std.specs.List.{flat_map, enumerate_from}
+use Rattle.am_complete.specs.AskedLabel.{with_asked}
 use Rattle.am_asked.proofs.PlacedSteps.{IsOnTheWay}
 use Rattle.am_idle.specs.Lists.{placed_by_list, placed_by_lists}
 use Rattle.am_idle.proofs.lists.add_lists.Given as goal
@@ -7,5 +8,5 @@ use Rattle.am_idle.proofs.lists.add_lists.Given as goal
 -- the labels so far, with the matchers that are left, are those with all
 abbrev pub invariant-loop-i : goal.invariant-loop-i
 invariant-loop-i l =
-    IsOnTheWay l.fn.gathering (placed_by_lists (map (λ list. list.now) l.lists)) l.gathering
+    IsOnTheWay with_asked l.fn.gathering (placed_by_lists (map (λ list. list.now) l.lists)) l.gathering
     (flat_map placed_by_list (enumerate_from l.i (map (λ list. list.now) (drop l.i l.lists))))

@@ -14,7 +14,7 @@ returns c =
     let is : c.into_labels.result.items ≡ labels_of_lists s lists =
     rw (
       c.into_labels.ensures,
-      c.in_ok-add_impossible.ensures,
+      c.in_ok-visit_lists.ensures.visit,
       c.in_ok-add_lists.ensures,
       c.empty-gathering.ensures,
       c.impossible.ensures.lists,

@@ -7,7 +7,7 @@ use Rattle.am_unseen.specs.Search.{after_matcher}
 use Rattle.am_unseen.proofs.SearchSteps.{one_over, one_left, stands_at, left_from}
 use Rattle.am_unseen.proofs.world_search.look_at_silences.Goals as goal
 use Rattle.am_unseen.proofs.world_search.look_at_silences.Goals.{else-not-over}
-use Rattle.am_unseen.proofs.world_search.look_at_silences.Goals.{then-not-over+in_ok-look_at_matchers}
+use Rattle.am_unseen.proofs.world_search.look_at_silences.Goals.{then-not-over+in_ok-visit_matchers}
 
 pub loop-i-preserved : goal.loop-i-preserved
 loop-i-preserved c =
@@ -15,14 +15,14 @@ loop-i-preserved c =
     let i = c.loop-i.i in
     let now = c.loop-i.search in
     elim c.if-not-over.branch [
-      | then-not-over+in_ok-look_at_matchers w ↦
+      | then-not-over+in_ok-visit_matchers w ↦
           let silence = w.get.result.now in
           let at : slice_get world.silences i ≡ Some silence =
           ap (λ silences. slice_get silences i) (sym c.silences-silences.ensures.silences)
           ∙ w.get.ensures.silence in
           one_left world i silence now c.if-not-over.search _ at
           (sym (c.over.ensures.over silence at) ∙ w.if-not-over.true)
-          (w.search-is ∙ w.in_ok-look_at_matchers.ensures
+          (w.search-is ∙ w.in_ok-visit_matchers.ensures.visit
           ∙ ap (λ ms. fold after_matcher now (placed_at (origin_is.Silence i) ms))
           w.matchers.ensures.matchers)
           c.loop-i.invariant

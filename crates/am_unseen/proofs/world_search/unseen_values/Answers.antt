@@ -20,11 +20,11 @@ returns c =
     ∙ (λ i. record { alerts = c.alerts.ensures.alerts i; found = [] }) in
     let sides : c.rules.result.now ≡ w.config.rules =
     c.rules.ensures.rules ∙ ap (λ (k : Configuration). k.rules) c.config-2.ensures.config in
-    let second : c.look_at_routes.new.search ≡ fold after_matcher first routes =
-    c.in_ok-look_at_routes.ensures
+    let second : c.visit_routes.new.visitor ≡ fold after_matcher first routes =
+    c.in_ok-visit_routes.ensures.visit
     ∙ (λ i. fold after_matcher (start i) (placed_in_routes (c.config.ensures.config i))) in
-    let third : c.look_at_rules.new.search ≡ fold after_matcher first (routes ++ rules) =
-    c.in_ok-look_at_rules.ensures
+    let third : c.visit_rules.new.visitor ≡ fold after_matcher first (routes ++ rules) =
+    c.in_ok-visit_rules.ensures.visit
     ∙ (λ i. fold after_matcher (second i) (placed_in_rules (sides i)))
     ∙ sym (fold-append after_matcher first routes rules) in
     let last : c.look_at_silences.new.search ≡ fold after_matcher first (placed_to_see w) =

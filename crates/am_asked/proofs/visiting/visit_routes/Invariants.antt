@@ -4,10 +4,10 @@ use Rattle.am_config.specs.ConfigView.{config_view}
 use Rattle.am_config.specs.RoutePaths.{all_routes}
 use Rattle.am_asked.specs.Placed.{placed_by_route, placed_in_routes}
 use Rattle.am_asked.proofs.PlacedSteps.{IsOnTheWay}
-use Rattle.am_asked.proofs.asked.add_routes.Given as goal
+use Rattle.am_asked.proofs.visiting.visit_routes.Given as goal
 
--- the labels so far, with the matchers of the routes that are left, are those with all
+-- what there is so far, with the matchers of the routes that are left, are those with all
 abbrev pub invariant-loop-i : goal.invariant-loop-i
-invariant-loop-i l =
-    IsOnTheWay l.fn.gathering (placed_in_routes (config_view l.config)) l.gathering
+invariant-loop-i g l =
+    IsOnTheWay g.V.Visitor.after l.fn.visitor (placed_in_routes (config_view l.config)) l.visitor
     (flat_map placed_by_route (drop l.i (all_routes (config_view l.config))))

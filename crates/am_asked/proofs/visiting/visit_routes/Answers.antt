@@ -3,14 +3,13 @@ use Rattle.am_config.specs.ConfigView.{config_view}
 use Rattle.am_config.specs.RoutePaths.{all_routes}
 use Rattle.am_config.specs.RouteView.{route_view}
 use Rattle.am_config.proofs.RouteLists.{listed_at}
-use Rattle.am_complete.specs.AskedLabel.{with_asked}
 use Rattle.am_asked.specs.Placed.{placed_at}
 use Rattle.am_complete.specs.declared.origin.Origin.TheVariants as origin_is
 use Rattle.am_asked.proofs.PlacedSteps.{one_more_route}
-use Rattle.am_asked.proofs.asked.add_routes.Goals as goal
+use Rattle.am_asked.proofs.visiting.visit_routes.Goals as goal
 
 pub loop-i-preserved : goal.loop-i-preserved
-loop-i-preserved c =
+loop-i-preserved g c =
     let all = all_routes (config_view c.args.config.now) in
     let listed = c.in_ok-listed.listed in
     let i = c.loop-i.i in
@@ -19,8 +18,8 @@ loop-i-preserved c =
     let lt : i < length listed.paths.items = omega (arith, c.len-i-end.ensures, c.loop-i-test.true) in
     let there = listed_at all listed i path route c.in_ok-listed.ensures.routes lt c.index.ensures
     c.index-in-loop-i.ensures in
-    one_more_route all i (path, route_view route.now) c.loop-i.gathering _ _ there
-    (c.in_ok-add_matchers.ensures
-    ∙ ap (λ ms. fold with_asked c.loop-i.gathering (placed_at (origin_is.Route path) ms))
+    one_more_route g.V.Visitor.after all i (path, route_view route.now) c.loop-i.visitor _ _ there
+    (c.in_ok-visit_matchers.ensures.visit
+    ∙ ap (λ ms. fold g.V.Visitor.after c.loop-i.visitor (placed_at (origin_is.Route path) ms))
     c.matchers.ensures.matchers)
     c.loop-i.invariant

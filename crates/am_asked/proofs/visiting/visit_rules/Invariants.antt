@@ -2,10 +2,10 @@ use Rattle.std.proofs.Common.{drop}
 use Rattle.std.specs.List.{flat_map, enumerate_from}
 use Rattle.am_asked.specs.Placed.{placed_in_rule, placed_in_rules}
 use Rattle.am_asked.proofs.PlacedSteps.{IsOnTheWay}
-use Rattle.am_asked.proofs.asked.add_rules.Given as goal
+use Rattle.am_asked.proofs.visiting.visit_rules.Given as goal
 
--- the labels so far, with the matchers that are left, are those with all
+-- what there is so far, with the matchers that are left, are those with all
 abbrev pub invariant-loop-i : goal.invariant-loop-i
-invariant-loop-i l =
-    IsOnTheWay l.fn.gathering (placed_in_rules l.rules) l.gathering
+invariant-loop-i g l =
+    IsOnTheWay g.V.Visitor.after l.fn.visitor (placed_in_rules l.rules) l.visitor
     (flat_map placed_in_rule (enumerate_from l.i (drop l.i l.rules)))

@@ -1,0 +1,92 @@
+//! Going over matchers, each with the place where it stands.
+
+ghost use Rattle.std.specs.Prelude.{◌≡◌, fold, OnOk};
+ghost use Rattle.am_labels.specs.Matcher.{Condition};
+ghost use Rattle.am_config.specs.ConfigView.{config_view};
+ghost use Rattle.am_complete.specs.declared.origin.Origin.{Origin};
+ghost use Rattle.am_complete.specs.AskedLabel.{with_asked};
+ghost use Rattle.am_asked.specs.Placed.{placed_at, placed_in_routes, placed_in_rules};
+ghost use Rattle.am_asked.specs.Placed.{placed_in_lists};
+
+use am_complete::{Gathering, Origin};
+use am_config::{Config, Rule};
+use am_labels::{Matcher, Matchers};
+use std::alloc::{AllocError, Global};
+
+/// What looks at matchers one after another.
+pub trait Visitor<'m> {
+    /// What a matcher makes of it, which stands somewhere.
+    ghost after: { Self → Origin × Condition → Self };
+
+    /// Looks at a matcher. An `Err` only where memory was refused.
+    fn visit(&mut self, origin: &Origin, matcher: &'m Matcher) -> Result<(), AllocError>
+        ensures visit { OnOk result (self.new ≡ after self.old (origin.now, matcher.now)) };
+}
+
+impl<'m> Visitor<'m> for Gathering<'m> {
+    ghost after = { with_asked };
+
+    fn visit(&mut self, origin: &Origin, matcher: &'m Matcher) -> Result<(), AllocError> {
+        self.add(origin, matcher)
+    }
+}
+
+/// Goes over the matchers of a list, which all stand at one place. An `Err` only where memory was
+/// refused.
+pub fn visit_matchers<'m, V: Visitor<'m>>(
+    visitor: &mut V,
+    origin: &Origin,
+    matchers: &'m Matchers,
+) -> Result<(), AllocError>
+    ensures visit { OnOk result (visitor.new
+        ≡ fold V.after visitor.old (placed_at origin.now matchers.now)) }
+{
+    for i in 0..matchers.len() {
+        visitor.visit(origin, matchers.get(i))?;
+    }
+    Ok(())
+}
+
+/// Goes over the matchers of all routes of a configuration. An `Err` only where memory was refused.
+pub fn visit_routes<'m, V: Visitor<'m>>(
+    alloc: Global,
+    visitor: &mut V,
+    config: &'m Config,
+) -> Result<(), AllocError>
+    ensures visit { OnOk result (visitor.new
+        ≡ fold V.after visitor.old (placed_in_routes (config_view config.now))) }
+{
+    let listed = config.routes(alloc)?;
+    for i in 0..listed.paths.len() {
+        let origin = Origin::Route(listed.paths[i]);
+        visit_matchers(visitor, &origin, listed.routes[i].matchers())?;
+    }
+    Ok(())
+}
+
+/// Goes over the matchers of both sides of inhibition rules. An `Err` only where memory was
+/// refused.
+pub fn visit_rules<'m, V: Visitor<'m>>(visitor: &mut V, rules: &'m [Rule]) -> Result<(), AllocError>
+    ensures visit { OnOk result (visitor.new
+        ≡ fold V.after visitor.old (placed_in_rules rules.now)) }
+{
+    for (i, rule) in rules.iter().enumerate() {
+        visit_matchers(visitor, &Origin::Rule(i), rule.source())?;
+        visit_matchers(visitor, &Origin::Rule(i), rule.target())?;
+    }
+    Ok(())
+}
+
+/// Goes over the matchers of impossible lists. An `Err` only where memory was refused.
+pub fn visit_lists<'m, V: Visitor<'m>>(
+    visitor: &mut V,
+    lists: &'m [Matchers],
+) -> Result<(), AllocError>
+    ensures visit { OnOk result (visitor.new
+        ≡ fold V.after visitor.old (placed_in_lists lists.now)) }
+{
+    for (i, list) in lists.iter().enumerate() {
+        visit_matchers(visitor, &Origin::Impossible(i), list)?;
+    }
+    Ok(())
+}
