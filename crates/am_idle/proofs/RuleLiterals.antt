@@ -30,7 +30,7 @@ use Rattle.am_reasons.specs.Meeting.{holds_at, meets}
 use Rattle.am_reasons.specs.Reason.{AreSameLiterals, without}
 use Rattle.am_reasons.specs.Pairs.{are_same_at, IsPair, ArePaired, AreUnpaired, IsPairReason}
 use Rattle.am_idle.specs.RuleChoices.{labels_named, AreMeeting, AreLiteralsOf, AreAllNamed}
-use Rattle.am_idle.specs.RuleChoices.{AreCubesOfMatchers, AreWantedFor, IsFoundOf}
+use Rattle.am_idle.specs.RuleChoices.{AreCubesOfMatchers, AreWantedFor, IsFoundOf, IsLiteralOf}
 use Rattle.am_idle.specs.declared.rules.IdleReason.{IdleReason}
 use Rattle.am_idle.specs.Rules.{SomeMeet, SomeInhibit, Matches, MeetsAt, MeetsAtBut, AreWithin}
 use Rattle.am_idle.specs.Rules.{Contradict, IsWhyNone}
@@ -407,33 +407,27 @@ module _ (s : Space) where
     -- ---- What inhibits.
 
     module _ (rule : Rule) (source target other_target other_source : Candidate)
-        (in_source : IsCubeOf u rule.source source.cube.now) (source_wanted : source.wanted ≡ true)
-        (source_named : source.named ≡ true)
-        (in_target : IsCubeOf u rule.target target.cube.now) (target_wanted : target.wanted ≡ true)
-        (target_named : target.named ≡ true)
-        (out_target : IsCubeOf u rule.target other_target.cube.now)
-        (out_target_wanted : other_target.wanted ≡ false)
-        (out_target_named : other_target.named ≡ true)
-        (out_source : IsCubeOf u rule.source other_source.cube.now)
-        (out_source_wanted : other_source.wanted ≡ false)
-        (out_source_named : other_source.named ≡ true) where
+        (in_source : IsLiteralOf u rule.source true source)
+        (in_target : IsLiteralOf u rule.target true target)
+        (out_target : IsLiteralOf u rule.target false other_target)
+        (out_source : IsLiteralOf u rule.source false other_source) where
       one_met : (k : Candidate) (ms : List Condition) (wanted : Bool) (rest : List Candidate)
-          (c : List ℕ) → k.named ≡ true → k.wanted ≡ wanted → IsCubeOf u ms k.cube.now
-          → IsWhole (sizes u) c → meets c (k ∷ rest) ≡ true
+          (c : List ℕ) → IsLiteralOf u ms wanted k → IsWhole (sizes u) c
+          → meets c (k ∷ rest) ≡ true
           → (all_hold (label_set_of u c) ms ≡ wanted) × (meets c rest ≡ true)
-      one_met k ms wanted rest c is_named wants is whole met =
+      one_met k ms wanted rest c is whole met =
           let parts = and_parts (not k.named || holds_at c k) (meets c rest) met in
-          let holds = sym (ap (λ b. not b || holds_at c k) is_named) ∙ parts.0 in
-          (says_list ms k wanted c wants is whole holds, parts.1)
+          let holds = sym (ap (λ b. not b || holds_at c k) is.named) ∙ parts.0 in
+          (says_list ms k wanted c is.wanted_is is.cube whole holds, parts.1)
 
       met_one : (k : Candidate) (ms : List Condition) (wanted : Bool) (rest : List Candidate)
-          (c : List ℕ) → k.named ≡ true → k.wanted ≡ wanted → IsCubeOf u ms k.cube.now
-          → IsWhole (sizes u) c → all_hold (label_set_of u c) ms ≡ wanted → meets c rest ≡ true
+          (c : List ℕ) → IsLiteralOf u ms wanted k → IsWhole (sizes u) c
+          → all_hold (label_set_of u c) ms ≡ wanted → meets c rest ≡ true
           → meets c (k ∷ rest) ≡ true
-      met_one k ms wanted rest c is_named wants is whole matched later =
+      met_one k ms wanted rest c is whole matched later =
           and_from (not k.named || holds_at c k) (meets c rest)
-          (ap (λ b. not b || holds_at c k) is_named
-          ∙ list_says_so ms k wanted c wants is whole matched)
+          (ap (λ b. not b || holds_at c k) is.named
+          ∙ list_says_so ms k wanted c is.wanted_is is.cube whole matched)
           later
 
       not_left : (b d : Bool) → b ≡ false → (b && d) ≡ false
@@ -445,12 +439,11 @@ module _ (s : Space) where
       first_spared (c, d, pair) =
           let x = label_set_of u c in
           let y = label_set_of u d in
-          let one = one_met source rule.source true (other_target ∷ []) c source_named
-          source_wanted in_source pair.first.0 pair.meets_first in
-          let two = one_met other_target rule.target false [] c out_target_named
-          out_target_wanted out_target pair.first.0 one.1 in
-          let three = one_met target rule.target true [] d target_named target_wanted in_target
-          pair.second.0 pair.meets_second in (
+          let one = one_met source rule.source true (other_target ∷ []) c in_source pair.first.0
+          pair.meets_first in
+          let two = one_met other_target rule.target false [] c out_target pair.first.0 one.1 in
+          let three = one_met target rule.target true [] d in_target pair.second.0
+          pair.meets_second in (
             x,
             y,
             sets_meet (source ∷ other_target ∷ []) (target ∷ []) c d pair,
@@ -465,12 +458,12 @@ module _ (s : Space) where
       second_spared (c, d, pair) =
           let x = label_set_of u c in
           let y = label_set_of u d in
-          let one = one_met source rule.source true [] c source_named source_wanted in_source
-          pair.first.0 pair.meets_first in
-          let two = one_met target rule.target true (other_source ∷ []) d target_named
-          target_wanted in_target pair.second.0 pair.meets_second in
-          let three = one_met other_source rule.source false [] d out_source_named
-          out_source_wanted out_source pair.second.0 two.1 in (
+          let one = one_met source rule.source true [] c in_source pair.first.0
+          pair.meets_first in
+          let two = one_met target rule.target true (other_source ∷ []) d in_target
+          pair.second.0 pair.meets_second in
+          let three = one_met other_source rule.source false [] d out_source pair.second.0
+          two.1 in (
             x,
             y,
             sets_meet (source ∷ []) (target ∷ other_source ∷ []) c d pair,
@@ -502,12 +495,11 @@ module _ (s : Space) where
                     first = first;
                     second = second;
                     same = ap (λ labels. are_same_at labels c d) named ∙ same;
-                    meets_first = met_one source rule.source true [] c source_named source_wanted
-                        in_source first.0 p_fires refl;
+                    meets_first = met_one source rule.source true [] c in_source first.0 p_fires
+                        refl;
                     meets_second = met_one target rule.target true (other_source ∷ []) d
-                        target_named target_wanted in_target second.0 q_muted
-                        (met_one other_source rule.source false [] d out_source_named
-                        out_source_wanted out_source second.0 out refl);
+                        in_target second.0 q_muted
+                        (met_one other_source rule.source false [] d out_source second.0 out refl);
                   },
                 )
             | inr out ↦ no_first (
@@ -517,12 +509,10 @@ module _ (s : Space) where
                 first = first;
                 second = second;
                 same = ap (λ labels. are_same_at labels c d) named ∙ same;
-                meets_first = met_one source rule.source true (other_target ∷ []) c source_named
-                    source_wanted in_source first.0 p_fires
-                    (met_one other_target rule.target false [] c out_target_named
-                    out_target_wanted out_target first.0 out refl);
-                meets_second = met_one target rule.target true [] d target_named target_wanted
-                    in_target second.0 q_muted refl;
+                meets_first = met_one source rule.source true (other_target ∷ []) c in_source
+                    first.0 p_fires
+                    (met_one other_target rule.target false [] c out_target first.0 out refl);
+                meets_second = met_one target rule.target true [] d in_target second.0 q_muted refl;
               },
             )
           ]

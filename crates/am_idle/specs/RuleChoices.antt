@@ -1,5 +1,5 @@
 -- What is found of a rule among the choices of a space. (This project's own.)
-use Rattle.std.specs.Prelude.{◌≡◌, ℕ, List, [], ◌∷◌, true, Option, Some, None}
+use Rattle.std.specs.Prelude.{◌≡◌, ℕ, List, [], ◌∷◌, Bool, true, Option, Some, None}
 use Rattle.std.specs.List.{AllByRecursion, AllZip, filter_map}
 use Rattle.am_universe.specs.Universe.{Label, label_position}
 use Rattle.am_universe.specs.LabelSet.{LabelMap, label_set_of}
@@ -42,6 +42,13 @@ AreCubesOfMatchers u ms cubes = AllZip (λ m cube. IsCubeOf u (m ∷ []) cube) m
 abbrev pub AreLiteralsOf : List Label → List Condition → List Candidate → Type 0
 AreLiteralsOf u ms ks =
     AllZip (λ m k. IsCubeOf u (m ∷ []) k.cube.now × (k.wanted ≡ true)) ms ks
+
+-- A named literal is that a label set has to match a list, or that it has not to.
+pub record IsLiteralOf (u : List Label) (ms : List Condition) (wanted : Bool) (k : Candidate)
+    : Type 0 where
+  pub cube : IsCubeOf u ms k.cube.now
+  pub wanted_is : k.wanted ≡ wanted
+  pub named : k.named ≡ true
 
 -- Each literal is that a label set has to match one of some cubes.
 abbrev pub AreWantedFor : List MaskedLabels → List Candidate → Type 0

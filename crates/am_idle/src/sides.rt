@@ -1,6 +1,8 @@
 //! The two sides of a rule, as literals over the labels of a space.
 
-ghost use Rattle.std.specs.Prelude.{◌≡◌, IfOk, IfSome, IfNone, IsTrue, false};
+ghost use Rattle.std.specs.Prelude.{◌≡◌, List, IfOk, IfSome, IfNone, IsTrue, false};
+ghost use Rattle.am_universe.specs.Universe.{Label};
+ghost use Rattle.am_labels.specs.Matcher.{Condition};
 ghost use Rattle.am_config.specs.RouteView.{names_of};
 ghost use Rattle.am_eval.specs.Silencing.{positions_where};
 ghost use Rattle.am_config.specs.ConfigFile.{Rule};
@@ -8,7 +10,7 @@ ghost use Rattle.am_judged_lists.specs.Cube.{IsCubeOf};
 ghost use Rattle.am_first_sets.specs.PossibleRefuter.{possible_space};
 ghost use Rattle.am_reasons.specs.Pairs.{AreDeclaredIn, ArePaired};
 ghost use Rattle.am_idle.specs.RuleChoices.{labels_named, AreMeeting, AreCubesOfMatchers};
-ghost use Rattle.am_idle.specs.RuleChoices.{AreWantedFor, AreLiteralsOf, AreAllNamed};
+ghost use Rattle.am_idle.specs.RuleChoices.{AreWantedFor, AreLiteralsOf, AreAllNamed, IsLiteralOf};
 ghost use Rattle.am_idle.specs.Rules.{SomeMeet, SomeInhibit, Matches, IsWhyNone};
 
 use crate::rules::IdleReason;
@@ -171,9 +173,8 @@ pub(crate) fn has_inhibiting(
 
 /// The literal that asks for a cube to match, or not to match.
 fn literal_of(cube: &Cube, wanted: bool) -> Candidate<'_>
-    ensures cube { result.cube.now ≡ cube.now }
-    ensures wanted { result.wanted ≡ wanted }
-    ensures named { IsTrue result.named }
+    ensures { (u : List Label) (ms : List Condition)
+        → IsCubeOf u ms cube.now → IsLiteralOf u ms wanted result }
 {
     Candidate {
         cube,

@@ -1,6 +1,5 @@
-use Rattle.std.proofs.Common.{sym, ◌∙◌, subst, ◌∷◌, []}
+use Rattle.std.proofs.Common.{sym, ◌∙◌, ◌∷◌, []}
 use Rattle.am_first_sets.specs.PossibleRefuter.{possible_space}
-use Rattle.am_judged_lists.specs.Cube.{IsCubeOf}
 use Rattle.am_reasons.proofs.PairLemmas.{paired_if, unpaired_if}
 use Rattle.am_idle.proofs.RuleLiterals.{first_spared, second_spared, none_spared}
 use Rattle.am_idle.proofs.sides.has_inhibiting.Goals as goal
@@ -13,15 +12,10 @@ returns-then-is_some-clause-some c = λ rule in_source in_target named is.
     let no_source = c.literal_of-not_in_source in
     let no_target = c.literal_of-not_in_target in
     first_spared s rule.equal c.args.shared.now named rule source.result target.result
-    no_target.result no_source.result
-    (subst (IsCubeOf s.labels rule.source) (sym source.ensures.cube) in_source)
-    source.ensures.wanted source.ensures.named
-    (subst (IsCubeOf s.labels rule.target) (sym target.ensures.cube) in_target)
-    target.ensures.wanted target.ensures.named
-    (subst (IsCubeOf s.labels rule.target) (sym no_target.ensures.cube) in_target)
-    no_target.ensures.wanted no_target.ensures.named
-    (subst (IsCubeOf s.labels rule.source) (sym no_source.ensures.cube) in_source)
-    no_source.ensures.wanted no_source.ensures.named
+    no_target.result no_source.result (source.ensures s.labels rule.source in_source)
+    (target.ensures s.labels rule.target in_target)
+    (no_target.ensures s.labels rule.target in_target)
+    (no_source.ensures s.labels rule.source in_source)
     (paired_if s c.args.shared.now (source.result ∷ no_target.result ∷ []) (target.result ∷ [])
     c.first_pair.result c.first_pair.ensures.some (sym c.is_some.ensures ∙ c.if-is_some.true))
 
@@ -33,15 +27,10 @@ returns-else-is_some-clause-some c = λ rule in_source in_target named is.
     let no_source = c.literal_of-not_in_source in
     let no_target = c.literal_of-not_in_target in
     second_spared s rule.equal c.args.shared.now named rule source.result target.result
-    no_target.result no_source.result
-    (subst (IsCubeOf s.labels rule.source) (sym source.ensures.cube) in_source)
-    source.ensures.wanted source.ensures.named
-    (subst (IsCubeOf s.labels rule.target) (sym target.ensures.cube) in_target)
-    target.ensures.wanted target.ensures.named
-    (subst (IsCubeOf s.labels rule.target) (sym no_target.ensures.cube) in_target)
-    no_target.ensures.wanted no_target.ensures.named
-    (subst (IsCubeOf s.labels rule.source) (sym no_source.ensures.cube) in_source)
-    no_source.ensures.wanted no_source.ensures.named
+    no_target.result no_source.result (source.ensures s.labels rule.source in_source)
+    (target.ensures s.labels rule.target in_target)
+    (no_target.ensures s.labels rule.target in_target)
+    (no_source.ensures s.labels rule.source in_source)
     (paired_if s c.args.shared.now (source.result ∷ []) (target.result ∷ no_source.result ∷ [])
     c.first_pair-else-is_some.result c.first_pair-else-is_some.ensures.some
     (sym c.is_some-else-is_some.ensures ∙ is))
@@ -54,15 +43,10 @@ returns-else-is_some-clause-none c = λ rule in_source in_target named is_not.
     let no_source = c.literal_of-not_in_source in
     let no_target = c.literal_of-not_in_target in
     none_spared s rule.equal c.args.shared.now named rule source.result target.result
-    no_target.result no_source.result
-    (subst (IsCubeOf s.labels rule.source) (sym source.ensures.cube) in_source)
-    source.ensures.wanted source.ensures.named
-    (subst (IsCubeOf s.labels rule.target) (sym target.ensures.cube) in_target)
-    target.ensures.wanted target.ensures.named
-    (subst (IsCubeOf s.labels rule.target) (sym no_target.ensures.cube) in_target)
-    no_target.ensures.wanted no_target.ensures.named
-    (subst (IsCubeOf s.labels rule.source) (sym no_source.ensures.cube) in_source)
-    no_source.ensures.wanted no_source.ensures.named
+    no_target.result no_source.result (source.ensures s.labels rule.source in_source)
+    (target.ensures s.labels rule.target in_target)
+    (no_target.ensures s.labels rule.target in_target)
+    (no_source.ensures s.labels rule.source in_source)
     (unpaired_if s c.args.shared.now (source.result ∷ no_target.result ∷ []) (target.result ∷ [])
     c.first_pair.result c.first_pair.ensures.none (sym c.is_some.ensures ∙ c.if-is_some.false))
     (unpaired_if s c.args.shared.now (source.result ∷ []) (target.result ∷ no_source.result ∷ [])
