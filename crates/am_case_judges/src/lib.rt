@@ -1,5 +1,5 @@
 //! What is judged in cases: judges that are written there, and what a search gives and judges over
-//! them; and cubes, whose verdicts are counted.
+//! them; cubes, whose verdicts are counted; and a plain judge, beside which the plan is held.
 //!
 //! [`Written`] is a judge that says at some prefixes `Yes` or `No`, and keeps which prefixes it was
 //! asked about. [`search_text`] reads such a judge and a start, searches from there on, and says
@@ -7,8 +7,8 @@
 //! compares that with the rule by which a search goes, applied to the list of all prefixes.
 //! [`cube_text`] says what the cube of a list of matchers is known to be at a prefix, and counts it
 //! over the completions. [`compare`] searches over two judges from every start there is, which has
-//! to give the same. Nothing here knows configurations, so it is proved beside the crates that the
-//! program `am_cases` waits for.
+//! to give the same. [`Whole`] judges whole choices alone, by the truths of matchers on values: no
+//! text is looked at, and no memory is taken.
 #![tactic(auto)]
 
 // The positions of choices and prefixes, as a text.
@@ -26,6 +26,10 @@ mod search;
 // What a cube is known to be at a prefix.
 mod cube;
 
+// The plain judge, and the rows of a list of matchers.
+mod rows;
+mod whole;
+
 // Two judges that are to say the same.
 mod alike;
 
@@ -33,4 +37,5 @@ pub use alike::{Alike, check_verdict, compare, counted_verdict, verdict_at};
 pub use cube::{cube_text, verdict_text};
 pub use positions::{add_positions, prefix_of};
 pub use search::search_text;
+pub use whole::Whole;
 pub use written::{Written, begins_with};

@@ -7,7 +7,7 @@ ghost use Rattle.am_universe.specs.Universe.{sizes};
 use crate::counted::CountedPlan;
 use am_case_files::{Problem, read_number, split_at_last, utf8};
 use am_case_judges::{
-    Alike, check_verdict, compare, counted_verdict, prefix_of, verdict_at, verdict_text,
+    Alike, Whole, check_verdict, compare, counted_verdict, prefix_of, verdict_at, verdict_text,
 };
 use am_case_runner::Over;
 use am_case_texts::{
@@ -21,7 +21,6 @@ use am_plans::Plan;
 use am_questions::{AcceptedInputs, read_inputs};
 use am_search::{Answers, Start, State, Verdict, first};
 use am_universe::Choice;
-use am_whole::Whole;
 use std::alloc::Global;
 
 /// The position of a child that no route has.

@@ -4,11 +4,11 @@ use crate::choices::positions_behind;
 use crate::questions::{asked_of_whole, question_of};
 use crate::telling::told;
 use am_case_files::Problem;
+use am_case_judges::Whole;
 use am_plans::Plan;
 use am_questions::AcceptedInputs;
 use am_search::first;
 use am_universe::Choice;
-use am_whole::Whole;
 use std::alloc::Global;
 
 /// The first choice of which a question is true, as its plan finds it and the judge that looks at

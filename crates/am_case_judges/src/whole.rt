@@ -29,7 +29,7 @@ pub struct Whole<'a> {
 
 impl<'a> Whole<'a> {
     ghost use Rattle.am_search.specs.declared.verdict.Verdict.TheVariants as verdicts;
-    ghost use Rattle.am_whole.specs.WholeView.{whole_sizes, whole_truth, whole_verdict};
+    ghost use Rattle.am_case_judges.specs.WholeView.{whole_sizes, whole_truth, whole_verdict};
 
     /// The judge of a question about a world, over the choices of a universe. An `Err` only where
     /// memory was refused.
@@ -55,8 +55,8 @@ impl<'a> Whole<'a> {
 }
 
 impl<'a> Judge for Whole<'a> {
-    ghost use Rattle.am_whole.specs.WholeView.{whole_sizes, whole_truth, whole_verdict};
-    ghost use Rattle.am_whole.specs.WholeView.{whole_is_judge};
+    ghost use Rattle.am_case_judges.specs.WholeView.{whole_sizes, whole_truth, whole_verdict};
+    ghost use Rattle.am_case_judges.specs.WholeView.{whole_is_judge};
 
     ghost sizes = { whole_sizes };
 

@@ -1,5 +1,5 @@
-use Rattle.am_whole.proofs.RowMeaning.{are_rows, verdict_of_rows}
-use Rattle.am_whole.proofs.rows.RowsJudgedList.of_rows.Goals as goal
+use Rattle.am_case_judges.proofs.RowMeaning.{are_rows, verdict_of_rows}
+use Rattle.am_case_judges.proofs.rows.RowsJudgedList.of_rows.Goals as goal
 
 pub kept_rows-requires : goal.kept_rows-requires
 kept_rows-requires c =

@@ -16,7 +16,7 @@ use Rattle.am_labels.proofs.RowLawLemmas.{rows_decide}
 use Rattle.am_search.specs.declared.verdict.Verdict.TheVariants.{Yes, No}
 use Rattle.am_judged_lists.specs.Verdicts.{verdict_of_list}
 use Rattle.am_judged_lists.proofs.VerdictLemmas.{list_says}
-use Rattle.am_whole.specs.RowsView.{IsRow}
+use Rattle.am_case_judges.specs.RowsView.{IsRow}
 
 -- ---- A row that is copied.
 

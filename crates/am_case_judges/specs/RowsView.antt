@@ -6,7 +6,7 @@ use Rattle.am_labels.specs.Matcher.{Condition}
 use Rattle.am_labels.specs.Row.{TruthRow, row_of, row_holds}
 use Rattle.am_search.specs.declared.verdict.Verdict.{Verdict}
 use Rattle.am_search.specs.declared.verdict.Verdict.TheVariants.{Yes, No}
-use Rattle.am_whole.specs.declared.rows.Rows.{Rows}
+use Rattle.am_case_judges.specs.declared.rows.Rows.{Rows}
 
 -- A row is that of some matcher, over the labels of a universe.
 abbrev pub IsRow : List Label → TruthRow → Type 0

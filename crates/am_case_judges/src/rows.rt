@@ -3,7 +3,7 @@
 ghost use Rattle.std.specs.Prelude.{◌≡◌, ℕ, List, map, length, All, IfOk, IfErr};
 ghost use Rattle.am_labels.specs.Row.{row_holds};
 ghost use Rattle.am_judged_lists.specs.Cube.{verdict_at};
-ghost use Rattle.am_whole.specs.RowsView.{IsRow, rows_hold_at, rows_verdict};
+ghost use Rattle.am_case_judges.specs.RowsView.{IsRow, rows_hold_at, rows_verdict};
 
 use am_judged_lists::{Cube, JudgedList};
 use am_labels::Row;

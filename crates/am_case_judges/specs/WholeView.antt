@@ -15,8 +15,8 @@ use Rattle.am_search.specs.declared.verdict.Verdict.{Verdict}
 use Rattle.am_search.specs.declared.verdict.Verdict.TheVariants.{Yes, No, Open}
 use Rattle.am_judged_lists.specs.declared.certainty.Certainty.TheVariants.{Must}
 use Rattle.am_plans.specs.QuestionByLists.{truth_by}
-use Rattle.am_whole.specs.declared.whole.Whole.{Whole}
-use Rattle.am_whole.specs.RowsView.{rows_verdict}
+use Rattle.am_case_judges.specs.declared.whole.Whole.{Whole}
+use Rattle.am_case_judges.specs.RowsView.{rows_verdict}
 
 -- The universe of a judge, and how many values each of its labels has.
 abbrev pub whole_universe : Whole → List Label

@@ -1,6 +1,6 @@
 use Rattle.std.proofs.Common.{sym, subst}
-use Rattle.am_whole.specs.RowsView.{IsRow}
-use Rattle.am_whole.proofs.rows.kept_rows.Goals as goal
+use Rattle.am_case_judges.specs.RowsView.{IsRow}
+use Rattle.am_case_judges.proofs.rows.kept_rows.Goals as goal
 
 pub of-requires : goal.of-requires
 of-requires c =

@@ -3,9 +3,9 @@ use Rattle.am_universe.specs.Universe.{sizes}
 use Rattle.am_search.proofs.TokenTexts.{sizes_of_universe}
 use Rattle.am_eval.specs.QuestionView.{question_view}
 use Rattle.am_judged_lists.specs.declared.certainty.Certainty.TheVariants.{Must}
-use Rattle.am_whole.specs.WholeView.{open_when_short}
+use Rattle.am_case_judges.specs.WholeView.{open_when_short}
 use Rattle.am_plans.proofs.Soundness.{question_says_truth}
-use Rattle.am_whole.proofs.whole.Whole.new.Goals as goal
+use Rattle.am_case_judges.proofs.whole.Whole.new.Goals as goal
 
 pub invariant_of-result : goal.invariant_of-result
 invariant_of-result c =

@@ -1,6 +1,6 @@
 use Rattle.std.proofs.Common.{arith}
-use Rattle.am_whole.proofs.RowMeaning.{one_more, same_row}
-use Rattle.am_whole.proofs.rows.KeptRow.of.Goals as goal
+use Rattle.am_case_judges.proofs.RowMeaning.{one_more, same_row}
+use Rattle.am_case_judges.proofs.rows.KeptRow.of.Goals as goal
 
 pub loop-j-preserved : goal.loop-j-preserved
 loop-j-preserved c =

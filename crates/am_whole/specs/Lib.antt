@@ -1,2 +1,0 @@
-pub mod RowsView
-pub mod WholeView
