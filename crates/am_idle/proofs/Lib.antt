@@ -5,3 +5,4 @@ pub mod SilenceSteps
 pub mod RuleAlerts
 pub mod RuleLiterals
 pub mod RuleTextSteps
+pub mod MadeUniverses

@@ -1,19 +1,15 @@
 -- Behind inputs that are accepted the first fault is that of the later stages. Without a universe
 -- file no label is declared.
-use Rattle.std.proofs.Common.{◌≡◌, ℕ, List, [], ◌++◌, Option, Some, None, Bool, true, false}
-use Rattle.std.proofs.Common.{is_some, refl, sym, ap, subst, inr}
+use Rattle.std.proofs.Common.{◌≡◌, ℕ, List, [], ◌++◌, Option, Some, None, false, is_some, ap, inr}
 use Rattle.am_universe.specs.declared.place.Place.{Place}
 use Rattle.am_labels.specs.Space.{Space}
 use Rattle.am_json.specs.Pointer.{Refusal}
 use Rattle.am_config.specs.ConfigFile.{Configuration}
 use Rattle.am_eval.specs.Faults.{Stage, IsFirstFaultOfCall}
-use Rattle.am_classes.specs.declared.alphabet.Alphabet.{Alphabet}
 use Rattle.am_universe_command.specs.UniverseInputs.{SaysUniverseIfAny}
-use Rattle.am_reports.specs.Configurations.{Configurations}
 use Rattle.am_reports.specs.ReportInputs.{ReportInputs, AcceptsReportInputs, report_input_stages}
 use Rattle.am_reports.specs.CompareInputs.{CompareInputs, AcceptsCompareInputs}
 use Rattle.am_reports.specs.CompareInputs.{compare_input_stages}
-use Rattle.am_reports.specs.Made.{AreDeclaredWhole}
 
 pub first_behind_report_inputs : (inputs : ReportInputs) (s : Space) (c : Configuration)
     (later : List Stage) (place : Place) (r : Refusal) → AcceptsReportInputs inputs s c
@@ -36,11 +32,3 @@ pub no_label : (file : Option (List ℕ)) (s : Space) → is_some file ≡ false
     → SaysUniverseIfAny file s → s.labels ≡ []
 no_label None s none says = ap (λ (t : Space). t.labels) says
 no_label (Some bytes) s none says = cc none
-
--- so nothing is lacking, if that was looked at where there is a file
-pub whole_if_looked_at : (a : Alphabet) (s : Space) (k : Configurations) (file : Option (List ℕ))
-    (there : Bool) → there ≡ is_some file → SaysUniverseIfAny file s
-    → (there ≡ true → AreDeclaredWhole a s k s.labels) → AreDeclaredWhole a s k s.labels
-whole_if_looked_at a s k file true is says whole = whole refl
-whole_if_looked_at a s k file false is says whole =
-    subst (AreDeclaredWhole a s k) (sym (no_label file s (sym is) says)) tt

@@ -9,3 +9,4 @@ pub mod RoutesFound
 pub mod KeptItems
 pub mod OutcomesOver
 pub mod ChangeLemmas
+pub mod WrittenBeside

@@ -17,7 +17,7 @@ use Rattle.am_reports.specs.LaterStages.{declared_stages, made_stages, AcceptsWh
 use Rattle.am_reports.specs.LintSections.{IsRulesRefusal, IsSilencesRefusal}
 use Rattle.am_reports.specs.Linting.{later_stages, finding_stages}
 use Rattle.am_reports.specs.Made.{IsDeclaredRefusal, IsRoutesRefusal, AreDeclaredWhole}
-use Rattle.am_reports.specs.Made.{undeclared}
+use Rattle.am_idle.specs.Lists.{undeclared}
 use Rattle.am_reports.proofs.StageLemmas.{declared_first, made_first, first_behind_declared}
 use Rattle.am_reports.proofs.StageLemmas.{first_behind_made}
 

@@ -23,12 +23,8 @@ use Rattle.am_lint.specs.Findings.{IsReceiverFinding, alphabet_of}
 use Rattle.am_lint.specs.Report.{IsSaid, SaysOfRoutes}
 use Rattle.am_reports.specs.Configurations.{Configurations, One, Pair, routing_conditions}
 use Rattle.am_reports.specs.Configurations.{labels_of_routes}
-use Rattle.am_reports.specs.Made.{undeclared, StandsForAll, UnprovedFor, IsMadeRefusal}
+use Rattle.am_reports.specs.Made.{StandsForAll, UnprovedFor, IsMadeRefusal}
 use Rattle.am_reports.specs.Made.{IsRoutesRefusal}
-
--- a space that declares no label is the same without labels
-pub undeclared_is : (s : Space) → s.labels ≡ [] → s ≡ undeclared s
-undeclared_is s none = λ i. record { labels = none i; impossible = s.impossible }
 
 -- impossible lists are among what decides
 pub lists_decide : (s : Space) (k : Configurations)

@@ -120,20 +120,13 @@ module _ (Accepts : Space → Configurations → Type 0) where
   first_behind_made at_places a later place r =
       behind (made_stages Accepts at_places a) later place r (made_accept at_places a)
 
--- what is refused where one thing is so is refused where another is that follows from it
-pub for_whole : (W V : Type 0) (a : Alphabet) (s : Space) (k : Configurations) (place : Place)
-    (r : Refusal) → (W → V) → IsOutcomesRefusal W a s k place r → IsOutcomesRefusal V a s k place r
-for_whole W V a s k place r so (inl declared) = inl declared
-for_whole W V a s k place r so (inr (whole, later)) = inr (so whole, later)
-
 -- the outcomes are refused
 module _ (Accepts : Space → Configurations → Type 0) (a : Alphabet) where
   abbrev Whole : Space → Configurations → Type 0
   Whole = AcceptsWhole a Accepts
 
   pub outcomes_first : (s : Space) (k : Configurations) (place : Place)
-      (r : Refusal) → Accepts s k
-      → IsOutcomesRefusal (AreDeclaredWhole a s k s.labels) a s k place r
+      (r : Refusal) → Accepts s k → IsOutcomesRefusal a s k place r
       → IsFirstFaultOfCall (outcome_stages Accepts (places_of k) a) place r
   outcomes_first s k place r accepts (inl declared) =
       first_of_more (declared_stages Accepts (places_of k) a)

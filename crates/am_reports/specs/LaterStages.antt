@@ -33,10 +33,10 @@ IsRefusalBehind a s k place r =
 
 -- The outcomes of what is said are refused at a place: for what the universe file declares; or,
 -- where that is whole, for what is made, or what is found over it.
-abbrev pub IsOutcomesRefusal :
-    Type 0 → Alphabet → Space → Configurations → Place → Refusal → Type 0
-IsOutcomesRefusal IsWhole a s k place r =
-    IsDeclaredRefusal a s k place r ⊎ (IsWhole × IsRefusalBehind a s k place r)
+abbrev pub IsOutcomesRefusal : Alphabet → Space → Configurations → Place → Refusal → Type 0
+IsOutcomesRefusal a s k place r =
+    IsDeclaredRefusal a s k place r
+    ⊎ (AreDeclaredWhole a s k s.labels × IsRefusalBehind a s k place r)
 
 -- ---- Stages.
 

@@ -15,7 +15,8 @@ use Rattle.am_reports.specs.ReportInputs.{report_places}
 use Rattle.am_reports.specs.LintInputs.{LintInputs, AcceptsLintInputs, AcceptsLint}
 use Rattle.am_reports.specs.LintInputs.{lint_input_stages}
 use Rattle.am_reports.specs.LaterStages.{declared_stages, made_stages, AcceptsWhole}
-use Rattle.am_reports.specs.Made.{AreDeclaredWhole, undeclared}
+use Rattle.am_idle.specs.Lists.{undeclared}
+use Rattle.am_reports.specs.Made.{AreDeclaredWhole}
 use Rattle.am_reports.specs.Sections.{Section, report_text, all_findings}
 use Rattle.am_reports.specs.LintSections.{SaysOfRules, SaysOfSilences, values_section}
 use Rattle.am_reports.specs.LintSections.{IsRulesRefusal, IsSilencesRefusal}

@@ -1,10 +1,12 @@
 //! What becomes of every alert.
 
-ghost use Rattle.std.specs.Prelude.{◌≡◌, ◌≢◌, true, IfOk, IfErr, is_some};
+ghost use Rattle.std.specs.Prelude.{◌≡◌, ◌≢◌, IfOk, IfErr, option_copied};
 ghost use Rattle.am_universe.specs.declared.kind.Kind.TheVariants as kinds;
 ghost use Rattle.am_universe.specs.declared.place.Place.TheVariants as places;
 ghost use Rattle.am_json.specs.Pointer.{refusal_here};
 ghost use Rattle.am_json.specs.Reading.{refusal_of};
+ghost use Rattle.am_universe_command.specs.UniverseInputs.{SaysUniverseIfAny};
+ghost use Rattle.am_lint.specs.Findings.{alphabet_of};
 ghost use Rattle.am_outcomes.specs.Outcomes.{outcomes_of};
 ghost use Rattle.am_outcomes.specs.States.{HaveManyStates};
 ghost use Rattle.am_reports.specs.Configurations.{each_of};
@@ -13,8 +15,7 @@ ghost use Rattle.am_reports.specs.Made.{StandsForAll, AreDeclaredWhole};
 ghost use Rattle.am_reports.specs.LaterStages.{IsOutcomesRefusal};
 
 use crate::configs::Configs;
-use crate::made::{check_declared, universe_for_routes};
-use am_classes::Alphabet;
+use crate::made::{alphabet_of, check_declared, universe_for_routes};
 use am_labels::Space;
 use am_outcomes::{Outcomes, find_outcomes};
 use am_universe::{Fault, Kind, Place, Universe};
@@ -27,32 +28,34 @@ pub(crate) struct AllOutcomes {
     pub outcomes: Outcomes,
 }
 
-/// The outcomes of every alert over an alphabet, under each of some configurations. Labels that are
-/// declared are looked at first.
+/// The outcomes of every alert that counts, under each of some configurations. The labels that a
+/// universe file declares, which says the space, are looked at first.
 ///
 /// Refused as [`check_declared`] and [`universe_for_routes`] have it, and then with `Limit`, at
 /// `Universe`, where more states have to be told apart than there is room for; `Memory`.
 pub(crate) fn all_outcomes(
     alloc: Global,
-    alphabet: Alphabet,
-    is_declared: bool,
+    ascii: bool,
+    file: Option<&[u8]>,
     space: Space,
     configs: Configs<'_>,
 ) -> Result<AllOutcomes, Fault>
-    ensures whole { IfOk result (λ all. is_declared ≡ true
-        → AreDeclaredWhole alphabet space (configurations_of configs.entry) space.labels) }
-    ensures stands { IfOk result (λ all.
-        StandsForAll alphabet space (configurations_of configs.entry) all.space.labels) }
+    ensures whole { IfOk result (λ all. SaysUniverseIfAny (option_copied file.entry) space
+        → AreDeclaredWhole (alphabet_of ascii) space (configurations_of configs.entry)
+        space.labels) }
+    ensures stands { IfOk result (λ all. StandsForAll (alphabet_of ascii) space
+        (configurations_of configs.entry) all.space.labels) }
     ensures impossible { IfOk result (λ all. all.space.impossible ≡ space.impossible) }
     ensures outcomes { IfOk result (λ all.
         all.outcomes ≡ outcomes_of all.space (each_of (configurations_of configs.entry))) }
     ensures refused { IfErr result (λ fault. fault.kind ≢ kinds.Memory
-        → IsOutcomesRefusal (is_declared ≡ true → AreDeclaredWhole alphabet space
-        (configurations_of configs.entry) space.labels) alphabet space
-        (configurations_of configs.entry) fault.place (refusal_of fault)) }
+        → SaysUniverseIfAny (option_copied file.entry) space
+        → IsOutcomesRefusal (alphabet_of ascii) space (configurations_of configs.entry)
+        fault.place (refusal_of fault)) }
 {
+    let alphabet = alphabet_of(ascii);
     let mut made = space;
-    if is_declared {
+    if file.is_some() {
         check_declared(alloc, alphabet, &made, configs)?;
     }
     made.declare(Universe::empty(alloc));

@@ -16,9 +16,8 @@ use crate::CompareInputs;
 use crate::all_outcomes::all_outcomes;
 use crate::compare_inputs::{Compared, read_compared};
 use crate::configs::Configs;
-use crate::made::alphabet_of;
 use am_outcomes::{Changes, changes_text};
-use am_universe::{Fault, Sink, put_str};
+use am_universe::{Fault, Sink, answer_of_write, put_str};
 use std::alloc::Global;
 
 /// Writes what changes between two configurations, for every alert that is possible: a line for
@@ -44,10 +43,10 @@ pub fn compare<W: Sink>(
 {
     let read = read_compared(alloc, inputs)?;
     let changes = changes_of_inputs(alloc, inputs, read)?;
-    match put_str(out, changes.text.as_str()) {
-        Ok(()) => Ok(changes.count),
-        Err(_) => Err(Fault::write(alloc)),
-    }
+    answer_of_write(
+        alloc,
+        put_str(out, changes.text.as_str()).and(Ok(changes.count)),
+    )
 }
 
 /// The comparison of what inputs say.
@@ -69,10 +68,8 @@ fn changes_of_inputs(
         (alphabet_of inputs.now.ascii)) fault) }
 {
     let (space, old, new) = (read.space, read.old, read.new);
-    let alphabet = alphabet_of(inputs.ascii);
-    let is_declared = inputs.universe.is_some();
     let configs = Configs::Pair(&old, &new);
-    let all = all_outcomes(alloc, alphabet, is_declared, space, configs)?;
+    let all = all_outcomes(alloc, inputs.ascii, inputs.universe, space, configs)?;
     match changes_text(alloc, all.space.universe(), &old, &new, &all.outcomes) {
         Ok(changes) => Ok(changes),
         Err(_) => Err(Fault::memory(alloc)),

@@ -13,7 +13,7 @@ use crate::lint_inputs::{ReadWorld, read_lint_inputs};
 use crate::made::{alphabet_of, check_declared};
 use crate::route_section::route_section;
 use crate::section::{LintReport, report_of};
-use am_universe::{Fault, Sink, Universe, put_str};
+use am_universe::{Fault, Sink, Universe, answer_of_write, put_str};
 use std::alloc::Global;
 
 /// Writes what is wrong with a configuration, for every alert that is possible: a line for each
@@ -40,10 +40,10 @@ pub fn lint<W: Sink>(alloc: Global, inputs: &LintInputs<'_>, out: &mut W) -> Res
 {
     let read = read_lint_inputs(alloc, inputs)?;
     let lint = lint_report(alloc, inputs, read)?;
-    match put_str(out, lint.text.as_str()) {
-        Ok(()) => Ok(lint.findings > 0),
-        Err(_) => Err(Fault::write(alloc)),
-    }
+    answer_of_write(
+        alloc,
+        put_str(out, lint.text.as_str()).and(Ok(lint.findings > 0)),
+    )
 }
 
 /// The report on what inputs say.

@@ -14,7 +14,6 @@ ghost use Rattle.am_reports.specs.OutcomesReport.{outcomes_promise, IsOutcomesRe
 use crate::ReportInputs;
 use crate::all_outcomes::all_outcomes;
 use crate::configs::Configs;
-use crate::made::alphabet_of;
 use crate::report_inputs::{ReadInputs, read_inputs};
 use am_outcomes::outcomes_text;
 use am_universe::{Fault, Sink, answer_of_write, put_str};
@@ -61,10 +60,8 @@ fn outcomes_of_inputs(
         report_places (alphabet_of inputs.now.ascii)) fault) }
 {
     let (space, config) = (read.space, read.config);
-    let alphabet = alphabet_of(inputs.ascii);
-    let is_declared = inputs.universe.is_some();
     let configs = Configs::One(&config);
-    let all = all_outcomes(alloc, alphabet, is_declared, space, configs)?;
+    let all = all_outcomes(alloc, inputs.ascii, inputs.universe, space, configs)?;
     match outcomes_text(alloc, all.space.universe(), &config, &all.outcomes) {
         Ok(text) => Ok(text),
         Err(_) => Err(Fault::memory(alloc)),

@@ -11,18 +11,9 @@ use Rattle.am_complete.specs.Complete.{impossible_conditions}
 use Rattle.am_complete.specs.Covering.{IsLimitOrMemory, CoversEachBut}
 use Rattle.am_complete.specs.Room.{HaveNoRoom, AreUnproved}
 use Rattle.am_complete.proofs.AmongMatchers.{last_among}
-use Rattle.am_idle.specs.Lists.{undeclared, listed_conditions, deciding_conditions}
-use Rattle.am_idle.specs.Lists.{labels_of_lists}
+use Rattle.am_idle.specs.Lists.{listed_conditions, deciding_conditions, labels_of_lists}
+use Rattle.am_idle.proofs.MadeUniverses.{undeclared_is, of_room}
 use Rattle.am_idle.proofs.lists.universe_for_lists.Goals as goal
-
--- a space that declares no label is the same without labels
-undeclared_is : (s : Space) → s.labels ≡ [] → s ≡ undeclared s
-undeclared_is s none = λ i. record { labels = none i; impossible = s.impossible }
-
--- a fault that is not of memory is that there is no room
-of_room : (kind : Kind) → IsLimitOrMemory kind → kind ≢ kinds.Memory → kind ≡ kinds.Limit
-of_room kind (inl limit) other = limit
-of_room kind (inr memory) other = absurd (other memory)
 
 pub universe_beside-requires : goal.universe_beside-requires
 universe_beside-requires c =

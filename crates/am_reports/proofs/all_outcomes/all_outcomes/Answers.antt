@@ -1,76 +1,98 @@
 -- What is looked at, made and found is so of the space that was handed in.
-use Rattle.std.proofs.Common.{◌≡◌, ◌≢◌, true, sym, ◌∙◌, subst, inl, inr}
-use Rattle.std.proofs.lemmas.Bool.{true≢false}
+use Rattle.std.proofs.Common.{◌≡◌, ◌≢◌, false, is_some, option_copied, sym, ◌∙◌, subst, inl, inr}
 use Rattle.am_universe.specs.declared.kind.Kind.TheVariants as kinds
+use Rattle.am_universe.specs.declared.fault.Fault.{Fault}
 use Rattle.am_json.specs.Reading.{refusal_of}
 use Rattle.am_eval.proofs.FirstFaults.{handed_on}
+use Rattle.am_universe_command.specs.UniverseInputs.{SaysUniverseIfAny}
+use Rattle.am_universe_command.proofs.CheckFacts.{is_there}
+use Rattle.am_lint.specs.Findings.{alphabet_of}
 use Rattle.am_reports.specs.ConfigsView.{configurations_of}
 use Rattle.am_reports.specs.LaterStages.{IsOutcomesRefusal}
 use Rattle.am_reports.specs.Made.{StandsForAll, AreDeclaredWhole}
+use Rattle.am_reports.proofs.InputStages.{no_label}
 use Rattle.am_reports.proofs.RoutesAsked.{refused_as, stands_as}
 use Rattle.am_reports.proofs.OutcomesOver.{too_many}
 use Rattle.am_reports.proofs.all_outcomes.all_outcomes.Goals as goal
-use Rattle.am_reports.proofs.all_outcomes.all_outcomes.Goals.{After-declare, else-is_declared}
-use Rattle.am_reports.proofs.all_outcomes.all_outcomes.Goals.{then-is_declared+in_ok-check_declared}
+use Rattle.am_reports.proofs.all_outcomes.all_outcomes.Goals.{After-alphabet_of-alphabet, After-declare}
+use Rattle.am_reports.proofs.all_outcomes.all_outcomes.Goals.{else-is_some}
+use Rattle.am_reports.proofs.all_outcomes.all_outcomes.Goals.{then-is_some+in_ok-check_declared}
+
+-- a fault is as is said
+abbrev IsRefused : (c : After-alphabet_of-alphabet) → Fault → Type 0
+IsRefused c f =
+    f.kind ≢ kinds.Memory → SaysUniverseIfAny (option_copied c.args.file) c.args.space
+    → IsOutcomesRefusal (alphabet_of c.args.ascii) c.args.space (configurations_of c.args.configs)
+    f.place (refusal_of f)
 
 -- where a universe file declares labels, they were looked at
-whole : (c : After-declare) → c.args.is_declared ≡ true
-    → AreDeclaredWhole c.args.alphabet c.args.space (configurations_of c.args.configs)
+whole : (c : After-declare) → SaysUniverseIfAny (option_copied c.args.file) c.args.space
+    → AreDeclaredWhole (alphabet_of c.args.ascii) c.args.space (configurations_of c.args.configs)
     c.args.space.labels
-whole c is = elim c.if-is_declared.branch [
-  | then-is_declared+in_ok-check_declared w ↦ w.in_ok-check_declared.ensures.whole
-  | else-is_declared w ↦ absurd (true≢false (sym is ∙ w.if-is_declared.false))
-]
+whole c says =
+    let s = c.args.space in
+    let k = configurations_of c.args.configs in
+    elim c.if-is_some.branch [
+      | then-is_some+in_ok-check_declared w ↦
+          rw c.alphabet_of-alphabet.ensures at w.in_ok-check_declared.ensures.whole
+      | else-is_some w ↦
+          let none : is_some (option_copied c.args.file) ≡ false =
+          sym (is_there c.args.file) ∙ sym c.is_some.ensures ∙ w.if-is_some.false in
+          subst (AreDeclaredWhole (alphabet_of c.args.ascii) s k)
+          (sym (no_label (option_copied c.args.file) s none says)) tt
+    ]
 
 pub returns-in_err-check_declared-clause-refused : goal.returns-in_err-check_declared-clause-refused
 returns-in_err-check_declared-clause-refused c =
-    let a = c.args.alphabet in
-    let s = c.args.space in
-    let k = configurations_of c.args.configs in
-    let fault = c.in_err-check_declared.field-0.0 in
-    handed_on (λ f. f.kind ≢ kinds.Memory → IsOutcomesRefusal (c.args.is_declared ≡ true → AreDeclaredWhole a s k s.labels) a s k f.place (refusal_of f)) fault
-    c.from_residual.result c.from_residual.ensures.1
-    (λ remembered. inl (c.in_err-check_declared.ensures.refused remembered))
+    let at = (goal.at.returns-in_err-check_declared-clause-refused c).After-alphabet_of-alphabet in
+    handed_on (IsRefused at) c.in_err-check_declared.field-0.0 c.from_residual.result
+    c.from_residual.ensures.1
+    (λ remembered says. inl (rw c.alphabet_of-alphabet.ensures
+    at (c.in_err-check_declared.ensures.refused remembered)))
 
 pub returns-in_err-universe-clause-refused : goal.returns-in_err-universe-clause-refused
 returns-in_err-universe-clause-refused c =
-    let a = c.args.alphabet in
-    let s = c.args.space in
-    let k = configurations_of c.args.configs in
+    let at = (goal.at.returns-in_err-universe-clause-refused c).After-alphabet_of-alphabet in
     let fault = c.in_err-universe.field-0.0 in
-    handed_on (λ f. f.kind ≢ kinds.Memory → IsOutcomesRefusal (c.args.is_declared ≡ true → AreDeclaredWhole a s k s.labels) a s k f.place (refusal_of f)) fault
-    c.from_residual-in_err-universe.result c.from_residual-in_err-universe.ensures.1
-    (λ remembered. inr (
-      whole (goal.at.returns-in_err-universe-clause-refused c).After-declare,
-      inl (refused_as a k c.declare.new.self s fault.place (refusal_of fault)
-          c.declare.ensures.impossible (c.in_err-universe.ensures.refused remembered)),
+    handed_on (IsRefused at) fault c.from_residual-in_err-universe.result
+    c.from_residual-in_err-universe.ensures.1
+    (λ remembered says. inr (
+      whole (goal.at.returns-in_err-universe-clause-refused c).After-declare says,
+      inl (refused_as (alphabet_of c.args.ascii) (configurations_of c.args.configs)
+          c.declare.new.self c.args.space fault.place (refusal_of fault)
+          c.declare.ensures.impossible
+          (rw c.alphabet_of-alphabet.ensures at (c.in_err-universe.ensures.refused remembered))),
     ))
 
 pub returns-in_err-outcomes-clause-refused : goal.returns-in_err-outcomes-clause-refused
 returns-in_err-outcomes-clause-refused c =
-    let a = c.args.alphabet in
-    let s = c.args.space in
-    let k = configurations_of c.args.configs in
+    let at = (goal.at.returns-in_err-outcomes-clause-refused c).After-alphabet_of-alphabet in
     let fault = c.in_err-outcomes.field-0.0 in
-    handed_on (λ f. f.kind ≢ kinds.Memory → IsOutcomesRefusal (c.args.is_declared ≡ true → AreDeclaredWhole a s k s.labels) a s k f.place (refusal_of f)) fault
-    c.from_residual-in_err-outcomes.result c.from_residual-in_err-outcomes.ensures.1
-    (λ remembered.
+    handed_on (IsRefused at) fault c.from_residual-in_err-outcomes.result
+    c.from_residual-in_err-outcomes.ensures.1
+    (λ remembered says.
     let refused = c.in_err-outcomes.ensures.refused remembered in
     inr (
-      whole (goal.at.returns-in_err-outcomes-clause-refused c).After-declare,
+      whole (goal.at.returns-in_err-outcomes-clause-refused c).After-declare says,
       inr (
         refused.0,
-        too_many a k s c.declare.new.self c.declare-2.new.self c.in_ok-universe.universe
+        too_many (alphabet_of c.args.ascii) (configurations_of c.args.configs) c.args.space
+            c.declare.new.self c.declare-2.new.self c.in_ok-universe.universe
             (refusal_of fault) c.declare.ensures.impossible c.declare-2.ensures.impossible
-            c.declare-2.ensures.labels c.in_ok-universe.ensures.stands refused.1 refused.2,
+            c.declare-2.ensures.labels
+            (rw c.alphabet_of-alphabet.ensures at c.in_ok-universe.ensures.stands) refused.1
+            refused.2,
       ),
     ))
 
+pub returns-clause-whole : goal.returns-clause-whole
+returns-clause-whole c says = whole (goal.at.returns-clause-whole c).After-declare says
+
 pub returns-clause-stands : goal.returns-clause-stands
 returns-clause-stands c =
-    let a = c.args.alphabet in
+    let a = alphabet_of c.args.ascii in
     let s = c.args.space in
     let k = configurations_of c.args.configs in
     subst (StandsForAll a s k) (sym c.declare-2.ensures.labels)
     (stands_as a k c.declare.new.self s c.in_ok-universe.universe c.declare.ensures.impossible
-    c.in_ok-universe.ensures.stands)
+    (rw c.alphabet_of-alphabet.ensures at c.in_ok-universe.ensures.stands))

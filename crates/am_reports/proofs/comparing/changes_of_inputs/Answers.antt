@@ -1,29 +1,20 @@
 -- What is found is said of what was read, and what is refused is the first fault behind the inputs.
-use Rattle.std.proofs.Common.{◌≡◌, true, is_some, sym, ap, ◌∙◌, subst}
+use Rattle.std.proofs.Common.{sym, subst}
 use Rattle.am_json.specs.Reading.{refusal_of}
 use Rattle.am_config.specs.ConfigView.{config_view}
 use Rattle.am_eval.specs.Faults.{IsFirstFault}
 use Rattle.am_eval.proofs.FirstFaults.{handed_on}
-use Rattle.am_classes.specs.declared.alphabet.Alphabet.{Alphabet}
-use Rattle.am_universe_command.proofs.CheckFacts.{is_there}
+use Rattle.am_universe_command.specs.UniverseInputs.{SaysUniverseIfAny}
 use Rattle.am_lint.specs.Findings.{alphabet_of}
-use Rattle.am_reports.specs.Configurations.{Configurations, Pair}
+use Rattle.am_reports.specs.Configurations.{Pair}
 use Rattle.am_reports.specs.CompareInputs.{CompareInputs, AcceptsCompareInputs, AcceptsCompare}
 use Rattle.am_reports.specs.CompareInputs.{compare_places}
 use Rattle.am_reports.specs.LaterStages.{outcome_stages, IsOutcomesRefusal}
 use Rattle.am_reports.specs.Made.{AreDeclaredWhole, StandsForAll}
-use Rattle.am_reports.proofs.InputStages.{whole_if_looked_at}
-use Rattle.am_reports.proofs.StageLemmas.{outcomes_first, for_whole}
+use Rattle.am_reports.proofs.StageLemmas.{outcomes_first}
 use Rattle.am_reports.proofs.OutcomesOver.{outcomes_over}
 use Rattle.am_reports.proofs.ChangeLemmas.{compared}
 use Rattle.am_reports.proofs.comparing.changes_of_inputs.Goals as goal
-use Rattle.am_reports.proofs.comparing.changes_of_inputs.Goals.{After-alphabet_of-alphabet}
-
--- the alphabet is that of the alerts that count
-same_alphabet : (c : After-alphabet_of-alphabet)
-    → c.alphabet_of-alphabet.result ≡ alphabet_of c.args.inputs.now.ascii
-same_alphabet c =
-    c.alphabet_of-alphabet.ensures ∙ ap (λ (i : CompareInputs). alphabet_of i.ascii) c.inputs.view_is
 
 pub returns-in_err-all-clause-first : goal.returns-in_err-all-clause-first
 returns-in_err-all-clause-first c =
@@ -34,23 +25,15 @@ returns-in_err-all-clause-first c =
     let says = AcceptsCompare inputs in
     let a = alphabet_of inputs.ascii in
     let fault = c.in_err-all.field-0.0 in
-    let same =
-    same_alphabet (goal.at.returns-in_err-all-clause-first c).After-alphabet_of-alphabet in
     handed_on
     (λ f. AcceptsCompareInputs inputs s old new
     → IsFirstFault (outcome_stages says compare_places a) f)
     fault c.from_residual.result c.from_residual.ensures.1
     (λ accepts remembered.
-    let k : Configurations = Pair old new in
-    let is = c.is_some-is_declared.result in
-    let there = c.is_some-is_declared.ensures ∙ is_there c.inputs.inside.universe
-    ∙ ap (λ (i : CompareInputs). is_some i.universe) c.inputs.view_is in
-    let whole = AreDeclaredWhole a s k s.labels in
-    outcomes_first says a s k fault.place (refusal_of fault) accepts
-    (for_whole (is ≡ true → whole) whole a s k fault.place (refusal_of fault)
-    (whole_if_looked_at a s k inputs.universe is there accepts.says_universe)
-    (subst (λ (b : Alphabet). IsOutcomesRefusal (is ≡ true → AreDeclaredWhole b s k s.labels) b s k
-    fault.place (refusal_of fault)) same (c.in_err-all.ensures.refused remembered))))
+    outcomes_first says a s (Pair old new) fault.place (refusal_of fault) accepts
+    (subst (λ (i : CompareInputs). SaysUniverseIfAny i.universe s
+    → IsOutcomesRefusal (alphabet_of i.ascii) s (Pair old new) fault.place (refusal_of fault))
+    c.inputs.view_is (c.in_err-all.ensures.refused remembered) accepts.says_universe))
 
 pub changes_text-requires : goal.changes_text-requires
 changes_text-requires c =
@@ -58,19 +41,11 @@ changes_text-requires c =
 
 pub returns-in-Ok-clause-whole : goal.returns-in-Ok-clause-whole
 returns-in-Ok-clause-whole c = λ accepts.
-    let inputs = c.args.inputs.now in
     let s = c.args.read.space in
     let k = Pair (config_view c.args.read.old) (config_view c.args.read.new) in
-    let same =
-    same_alphabet (goal.at.returns-in-Ok-clause-whole c).After-alphabet_of-alphabet in
-    let there = c.is_some-is_declared.ensures ∙ is_there c.inputs.inside.universe
-    ∙ ap (λ (i : CompareInputs). is_some i.universe) c.inputs.view_is in
-    whole_if_looked_at (alphabet_of inputs.ascii) s k inputs.universe
-    c.is_some-is_declared.result there
-    accepts.says_universe
-    (subst
-    (λ (a : Alphabet). c.is_some-is_declared.result ≡ true → AreDeclaredWhole a s k s.labels) same
-    c.in_ok-all.ensures.whole)
+    subst (λ (i : CompareInputs). SaysUniverseIfAny i.universe s
+    → AreDeclaredWhole (alphabet_of i.ascii) s k s.labels) c.inputs.view_is
+    c.in_ok-all.ensures.whole accepts.says_universe
 
 pub returns-in-Ok-clause-compares : goal.returns-in-Ok-clause-compares
 returns-in-Ok-clause-compares c =
@@ -78,10 +53,9 @@ returns-in-Ok-clause-compares c =
     let s = c.args.read.space in
     let k = Pair (config_view c.args.read.old) (config_view c.args.read.new) in
     let all = c.in_ok-all.all in
-    let same =
-    same_alphabet (goal.at.returns-in-Ok-clause-compares c).After-alphabet_of-alphabet in
     let are = outcomes_over inputs.ascii k s all.space all.outcomes c.in_ok-all.ensures.impossible
-    (subst (λ (a : Alphabet). StandsForAll a s k all.space.labels) same c.in_ok-all.ensures.stands)
+    (subst (λ (i : CompareInputs). StandsForAll (alphabet_of i.ascii) s k all.space.labels)
+    c.inputs.view_is c.in_ok-all.ensures.stands)
     c.in_ok-all.ensures.outcomes in
     compared inputs.ascii s (config_view c.args.read.old) (config_view c.args.read.new)
     all.space.labels all.outcomes are c.in-Ok.changes.count _ c.in-Ok.ensures.count

@@ -1,5 +1,6 @@
 -- The inputs come before what is made of them, and what is written is the comparison.
-use Rattle.std.proofs.Common.{Ok, Err, refl, string_bytes}
+use Rattle.std.proofs.Common.{Ok, refl, string_bytes}
+use Rattle.std.specs.Result.{result_and}
 use Rattle.am_json.specs.Reading.{refusal_of}
 use Rattle.am_config.specs.ConfigView.{config_view}
 use Rattle.am_eval.proofs.FirstFaults.{first_of_more}
@@ -9,6 +10,7 @@ use Rattle.am_reports.specs.CompareInputs.{compare_input_stages, AcceptsCompare,
 use Rattle.am_reports.specs.LaterStages.{outcome_stages}
 use Rattle.am_reports.specs.Comparing.{compare_promise}
 use Rattle.am_reports.proofs.InputStages.{first_behind_compare_inputs}
+use Rattle.am_reports.proofs.WrittenBeside.{told_beside, writes_beside}
 use Rattle.am_reports.proofs.comparing.compare.Goals as goal
 
 pub returns-in_err-read : goal.returns-in_err-read
@@ -38,37 +40,15 @@ returns-in_err-changes g c =
           (c.in_err-changes.ensures.first accepts remembered));
     }
 
-pub returns-in-Ok : goal.returns-in-Ok
-returns-in-Ok g c =
-    let inputs = c.args.inputs.now in
-    let read = c.in_ok-read.read in
-    let changes = c.in_ok-changes.changes in
-    let accepts = c.in_ok-read.ensures.accepts in
-    let writes = rw c.as_str.ensures.value at c.in-Ok.ensures.written in
-    record {
-      kept = written (compare_promise inputs) changes.count (string_bytes changes.text)
-          (Ok changes.count) (Ok changes.count)
-          (record {
-            space = read.space;
-            old = config_view read.old;
-            new = config_view read.new;
-            accepts = accepts;
-            whole = c.in_ok-changes.ensures.whole accepts;
-            compares = c.in_ok-changes.ensures.compares;
-          })
-          refl (record { ok = writes.ok; err = tt }) refl;
-    }
-
 pub returns : goal.returns
 returns g c =
     let inputs = c.args.inputs.now in
     let read = c.in_ok-read.read in
     let changes = c.in_ok-changes.changes in
     let accepts = c.in_ok-read.ensures.accepts in
-    let writes = rw c.as_str.ensures.value at c.in-Err.ensures.written in
     record {
       kept = written (compare_promise inputs) changes.count (string_bytes changes.text)
-          (Err c.in-Err.field-0) (Err c.write.result)
+          (result_and c.put_str.result (Ok changes.count)) c.answer_of_write.result
           (record {
             space = read.space;
             old = config_view read.old;
@@ -77,5 +57,8 @@ returns g c =
             whole = c.in_ok-changes.ensures.whole accepts;
             compares = c.in_ok-changes.ensures.compares;
           })
-          tt (record { ok = tt; err = writes.err }) c.write.ensures.kind;
+          (told_beside c.put_str.result changes.count)
+          (writes_beside c.put_str.result changes.count
+          (rw c.as_str.ensures.value at c.put_str.ensures.written))
+          (rw c.and.ensures at c.answer_of_write.ensures.answer);
     }

@@ -1,12 +1,14 @@
 -- The inputs come before what is made of them, and what is written is the report.
-use Rattle.std.proofs.Common.{Ok, Err, refl, string_bytes}
+use Rattle.std.proofs.Common.{Ok, refl, string_bytes}
 use Rattle.std.specs.Prelude.{nat_lt}
+use Rattle.std.specs.Result.{result_and}
 use Rattle.am_json.specs.Reading.{refusal_of}
 use Rattle.am_eval.proofs.FirstFaults.{first_of_more}
 use Rattle.am_eval.proofs.Promises.{refused, written}
 use Rattle.am_reports.specs.LintInputs.{lint_input_stages}
 use Rattle.am_reports.specs.Linting.{lint_promise, later_stages}
 use Rattle.am_reports.proofs.LintStages.{first_behind_lint_inputs}
+use Rattle.am_reports.proofs.WrittenBeside.{told_beside, writes_beside}
 use Rattle.am_reports.proofs.linting.lint.Goals as goal
 
 pub returns-in_err-read : goal.returns-in_err-read
@@ -34,27 +36,6 @@ returns-in_err-lint g c =
           (c.in_err-lint.ensures.first accepts remembered));
     }
 
-pub returns-in-Ok : goal.returns-in-Ok
-returns-in-Ok g c =
-    let inputs = c.args.inputs.now in
-    let read = c.in_ok-read.read in
-    let lint = c.in_ok-lint.lint in
-    let accepts = c.in_ok-read.ensures.accepts in
-    let found = nat_lt 0 lint.findings in
-    let writes = rw c.as_str.ensures.value at c.in-Ok.ensures.written in
-    record {
-      kept = written (lint_promise inputs) found (string_bytes lint.text) (Ok found) (Ok found)
-          (record {
-            space = read.space;
-            world = read.world;
-            accepts = accepts;
-            findings = lint.findings;
-            is_found = refl;
-            linted = c.in_ok-lint.ensures.reports accepts;
-          })
-          refl (record { ok = writes.ok; err = tt }) refl;
-    }
-
 pub returns : goal.returns
 returns g c =
     let inputs = c.args.inputs.now in
@@ -62,10 +43,9 @@ returns g c =
     let lint = c.in_ok-lint.lint in
     let accepts = c.in_ok-read.ensures.accepts in
     let found = nat_lt 0 lint.findings in
-    let writes = rw c.as_str.ensures.value at c.in-Err.ensures.written in
     record {
       kept = written (lint_promise inputs) found (string_bytes lint.text)
-          (Err c.in-Err.field-0) (Err c.write.result)
+          (result_and c.put_str.result (Ok found)) c.answer_of_write.result
           (record {
             space = read.space;
             world = read.world;
@@ -74,5 +54,8 @@ returns g c =
             is_found = refl;
             linted = c.in_ok-lint.ensures.reports accepts;
           })
-          tt (record { ok = tt; err = writes.err }) c.write.ensures.kind;
+          (told_beside c.put_str.result found)
+          (writes_beside c.put_str.result found
+          (rw c.as_str.ensures.value at c.put_str.ensures.written))
+          (rw c.and.ensures at c.answer_of_write.ensures.answer);
     }

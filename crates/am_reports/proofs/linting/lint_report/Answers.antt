@@ -1,22 +1,19 @@
 -- What is refused is the first fault behind the inputs; and what is said of the space without labels
 -- is said of the one that was read.
-use Rattle.std.proofs.Common.{◌≡◌, List, [], ◌∷◌, Bool, sym, ap, ◌∙◌, subst, false}
+use Rattle.std.proofs.Common.{◌≡◌, ◌∷◌, [], Bool, sym, ap, ◌∙◌, subst, false}
 use Rattle.std.specs.Prelude.{is_some}
-use Rattle.am_labels.specs.Space.{Space}
+use Rattle.am_universe.specs.declared.fault.Fault.{Fault}
 use Rattle.am_json.specs.Reading.{refusal_of}
-use Rattle.am_config.specs.ConfigFile.{Configuration, Rule}
+use Rattle.am_config.specs.ConfigFile.{Configuration}
 use Rattle.am_eval.specs.Faults.{IsFirstFault}
 use Rattle.am_eval.proofs.FirstFaults.{handed_on}
-use Rattle.am_classes.specs.declared.alphabet.Alphabet.{Alphabet}
 use Rattle.am_lint.specs.Findings.{alphabet_of}
-use Rattle.am_lint.specs.Report.{SaysOfRoutes}
+use Rattle.am_idle.specs.Lists.{undeclared}
 use Rattle.am_reports.specs.Configurations.{One}
 use Rattle.am_reports.specs.LintInputs.{AcceptsLintInputs}
-use Rattle.am_reports.specs.LintSections.{SaysOfRules, SaysOfSilences, values_section}
-use Rattle.am_reports.specs.LintSections.{IsRulesRefusal, IsSilencesRefusal}
 use Rattle.am_reports.specs.Linting.{later_stages}
 use Rattle.am_reports.specs.Sections.{Section, report_text, all_findings}
-use Rattle.am_reports.specs.Made.{IsDeclaredRefusal, IsRoutesRefusal, AreDeclaredWhole, undeclared}
+use Rattle.am_reports.specs.Made.{IsRoutesRefusal, AreDeclaredWhole}
 use Rattle.am_reports.proofs.LintStages.{declared_refused, routes_refused, rules_refused}
 use Rattle.am_reports.proofs.LintStages.{silences_refused}
 use Rattle.am_reports.proofs.InputStages.{no_label}
@@ -30,6 +27,12 @@ use Rattle.am_reports.proofs.linting.lint_report.Goals.{then-has_universe+in_ok-
 counted : (c : After-alphabet_of-alphabet)
     → c.alphabet_of-alphabet.result ≡ alphabet_of c.args.inputs.now.ascii
 counted c = c.alphabet_of-alphabet.ensures ∙ ap alphabet_of c.is_ascii.ensures
+
+-- a fault is the first behind the inputs
+abbrev IsFirst : (c : After-alphabet_of-alphabet) → Fault → Type 0
+IsFirst c f =
+    AcceptsLintInputs c.args.inputs.now c.args.read.space c.args.read.world
+    → IsFirstFault (later_stages c.args.inputs.now) f
 
 -- the space behind the routes, and behind the rules
 routes_cleared : (c : In_ok-routes) → c.route_section.new.space ≡ undeclared c.args.read.space
@@ -47,18 +50,12 @@ rules_cleared c = λ i. record {
 
 pub returns-in_err-check_declared-clause-first : goal.returns-in_err-check_declared-clause-first
 returns-in_err-check_declared-clause-first c =
-    let inputs = c.args.inputs.now in
-    let s = c.args.read.space in
-    let w = c.args.read.world in
+    let at = (goal.at.returns-in_err-check_declared-clause-first c).After-alphabet_of-alphabet in
     let fault = c.in_err-check_declared.field-0.0 in
-    let counts = counted (goal.at.returns-in_err-check_declared-clause-first c).After-alphabet_of-alphabet in
-    handed_on (λ f. AcceptsLintInputs inputs s w → IsFirstFault (later_stages inputs) f) fault
-    c.from_residual.result c.from_residual.ensures.1
-    (λ accepts remembered. declared_refused inputs s w fault.place (refusal_of fault) accepts
-    (subst (λ (x : Alphabet × Configuration).
-    IsDeclaredRefusal x.0 s (One x.1) fault.place (refusal_of fault))
-    (λ i. (counts i, c.config.ensures.config i))
-    (c.in_err-check_declared.ensures.refused remembered)))
+    handed_on (IsFirst at) fault c.from_residual.result c.from_residual.ensures.1
+    (λ accepts remembered. declared_refused c.args.inputs.now c.args.read.space c.args.read.world
+    fault.place (refusal_of fault) accepts
+    (rw (counted at, c.config.ensures.config) at (c.in_err-check_declared.ensures.refused remembered)))
 
 -- at the labels that the universe file declares nothing is lacking
 declared_whole : (c : After-declare)
@@ -68,12 +65,10 @@ declared_whole : (c : After-declare)
 declared_whole c accepts =
     let inputs = c.args.inputs.now in
     let s = c.args.read.space in
-    let counts : c.alphabet_of-alphabet.result ≡ alphabet_of inputs.ascii =
-    c.alphabet_of-alphabet.ensures ∙ ap alphabet_of c.is_ascii.ensures in
     elim c.if-has_universe.branch [
       | then-has_universe+in_ok-check_declared w ↦
-          subst (λ (x : Alphabet × Configuration). AreDeclaredWhole x.0 s (One x.1) s.labels)
-          (λ i. (counts i, w.config.ensures.config i)) w.in_ok-check_declared.ensures.whole
+          rw (c.alphabet_of-alphabet.ensures, c.is_ascii.ensures, w.config.ensures.config)
+          at w.in_ok-check_declared.ensures.whole
       | else-has_universe w ↦
           let none : is_some inputs.universe ≡ false =
           sym c.has_universe.ensures ∙ w.if-has_universe.false in
@@ -83,14 +78,15 @@ declared_whole c accepts =
 
 pub returns-in_err-routes-clause-first : goal.returns-in_err-routes-clause-first
 returns-in_err-routes-clause-first c =
+    let at = goal.at.returns-in_err-routes-clause-first c in
     let inputs = c.args.inputs.now in
     let s = c.args.read.space in
     let w = c.args.read.world in
     let fault = c.in_err-routes.field-0.0 in
-    handed_on (λ f. AcceptsLintInputs inputs s w → IsFirstFault (later_stages inputs) f) fault
-    c.from_residual-in_err-routes.result c.from_residual-in_err-routes.ensures.1
+    handed_on (IsFirst at.After-alphabet_of-alphabet) fault c.from_residual-in_err-routes.result
+    c.from_residual-in_err-routes.ensures.1
     (λ accepts remembered. routes_refused inputs s w fault.place (refusal_of fault) accepts
-    (declared_whole (goal.at.returns-in_err-routes-clause-first c).After-declare accepts)
+    (declared_whole at.After-declare accepts)
     (routes_refused_as inputs.ascii w.config c.declare.new.self s fault.place (refusal_of fault)
     c.declare.ensures.impossible
     (subst (λ (x : Bool × Configuration).
@@ -100,76 +96,53 @@ returns-in_err-routes-clause-first c =
 
 pub returns-in_err-rules-clause-first : goal.returns-in_err-rules-clause-first
 returns-in_err-rules-clause-first c =
-    let inputs = c.args.inputs.now in
-    let s = c.args.read.space in
+    let at = goal.at.returns-in_err-rules-clause-first c in
     let w = c.args.read.world in
     let fault = c.in_err-rules.field-0.0 in
-    let counts = counted (goal.at.returns-in_err-rules-clause-first c).After-alphabet_of-alphabet in
-    let cleared = routes_cleared (goal.at.returns-in_err-rules-clause-first c).In_ok-routes in
     let rules : c.rules.result.now ≡ w.config.rules =
     c.rules.ensures.rules ∙ ap (λ (x : Configuration). x.rules) c.config-3.ensures.config in
-    handed_on (λ f. AcceptsLintInputs inputs s w → IsFirstFault (later_stages inputs) f) fault
-    c.from_residual-in_err-rules.result c.from_residual-in_err-rules.ensures.1
-    (λ accepts remembered. rules_refused inputs s w fault.place (refusal_of fault) accepts
-    (declared_whole (goal.at.returns-in_err-rules-clause-first c).After-declare accepts)
-    (subst (λ (x : List Rule).
-    IsRulesRefusal (alphabet_of inputs.ascii) (undeclared s) x fault.place (refusal_of fault)) rules
-    (subst (λ (x : Alphabet × Space).
-    IsRulesRefusal x.0 x.1 c.rules.result.now fault.place (refusal_of fault))
-    (λ i. (counts i, cleared i)) (c.in_err-rules.ensures.refused remembered))))
+    handed_on (IsFirst at.After-alphabet_of-alphabet) fault c.from_residual-in_err-rules.result
+    c.from_residual-in_err-rules.ensures.1
+    (λ accepts remembered. rules_refused c.args.inputs.now c.args.read.space w fault.place
+    (refusal_of fault) accepts (declared_whole at.After-declare accepts)
+    (rw (counted at.After-alphabet_of-alphabet, routes_cleared at.In_ok-routes, rules)
+    at (c.in_err-rules.ensures.refused remembered)))
 
 pub returns-in_err-silences-clause-first : goal.returns-in_err-silences-clause-first
 returns-in_err-silences-clause-first c =
-    let inputs = c.args.inputs.now in
-    let s = c.args.read.space in
-    let w = c.args.read.world in
+    let at = goal.at.returns-in_err-silences-clause-first c in
     let fault = c.in_err-silences.field-0.0 in
-    let counts = counted (goal.at.returns-in_err-silences-clause-first c).After-alphabet_of-alphabet in
-    let cleared = rules_cleared (goal.at.returns-in_err-silences-clause-first c).In_ok-rules in
-    handed_on (λ f. AcceptsLintInputs inputs s w → IsFirstFault (later_stages inputs) f) fault
-    c.from_residual-in_err-silences.result c.from_residual-in_err-silences.ensures.1
-    (λ accepts remembered. silences_refused inputs s w fault.place (refusal_of fault) accepts
-    (declared_whole (goal.at.returns-in_err-silences-clause-first c).After-declare accepts)
-    (subst (λ (x : Alphabet × Space).
-    IsSilencesRefusal x.0 x.1 w fault.place (refusal_of fault))
-    (λ i. (counts i, cleared i)) (c.in_err-silences.ensures.refused remembered)))
+    handed_on (IsFirst at.After-alphabet_of-alphabet) fault c.from_residual-in_err-silences.result
+    c.from_residual-in_err-silences.ensures.1
+    (λ accepts remembered. silences_refused c.args.inputs.now c.args.read.space c.args.read.world
+    fault.place (refusal_of fault) accepts (declared_whole at.After-declare accepts)
+    (rw (counted at.After-alphabet_of-alphabet, rules_cleared at.In_ok-rules)
+    at (c.in_err-silences.ensures.refused remembered)))
 
 pub returns-in-Ok-report_of-clause-reports : goal.returns-in-Ok-report_of-clause-reports
 returns-in-Ok-report_of-clause-reports c = λ accepts.
-    let inputs = c.args.inputs.now in
-    let s = c.args.read.space in
+    let at = goal.at.returns-in-Ok-report_of-clause-reports c in
     let w = c.args.read.world in
-    let a = alphabet_of inputs.ascii in
-    let given = is_some inputs.files.alerts in
     let routes = c.in_ok-routes.routes in
     let rules = c.in_ok-rules.rules in
     let silences = c.in_ok-silences.silences in
-    let counts = counted (goal.at.returns-in-Ok-report_of-clause-reports c).After-alphabet_of-alphabet in
-    let before = routes_cleared (goal.at.returns-in-Ok-report_of-clause-reports c).In_ok-routes in
-    let cleared = rules_cleared (goal.at.returns-in-Ok-report_of-clause-reports c).In_ok-rules in
-    let values : c.in-Ok.values ≡ values_section given w =
-    c.in-Ok.ensures ∙ ap (λ (g : Bool). values_section g w) c.has_alerts-given.ensures in
+    let counts = counted at.After-alphabet_of-alphabet in
+    let values = rw c.has_alerts-given.ensures at c.in-Ok.ensures in
     let listed : c.rules.result.now ≡ w.config.rules =
     c.rules.ensures.rules ∙ ap (λ (x : Configuration). x.rules) c.config-3.ensures.config in
     record {
-      whole = declared_whole (goal.at.returns-in-Ok-report_of-clause-reports c).After-declare accepts;
+      whole = declared_whole at.After-declare accepts;
       reports = record {
         routes = routes;
-        says_of_routes = said_as inputs.ascii w.config c.declare.new.self s routes.findings
-            routes.notes routes.lines c.declare.ensures.impossible
-            (subst (λ (x : Bool × Configuration). SaysOfRoutes x.0 c.declare.new.self x.1
-            routes.findings routes.notes routes.lines)
-            (λ i. (c.is_ascii-2.ensures i, c.config-2.ensures.config i)) c.in_ok-routes.ensures.says);
+        says_of_routes = said_as c.args.inputs.now.ascii w.config c.declare.new.self
+            c.args.read.space routes.findings routes.notes routes.lines c.declare.ensures.impossible
+            (rw (c.is_ascii-2.ensures, c.config-2.ensures.config) at c.in_ok-routes.ensures.says);
         rules = rules;
-        says_of_rules = subst (λ (x : List Rule). SaysOfRules a (undeclared s) x rules) listed
-            (subst (λ (x : Alphabet × Space). SaysOfRules x.0 x.1 c.rules.result.now rules)
-            (λ i. (counts i, before i)) c.in_ok-rules.ensures.says);
+        says_of_rules = rw (counts, routes_cleared at.In_ok-routes, listed)
+            at c.in_ok-rules.ensures.says;
         silences = silences;
-        says_of_silences = subst (λ (g : Bool). SaysOfSilences a (undeclared s) w g silences)
-            c.has_alerts-given.ensures
-            (subst (λ (x : Alphabet × Space).
-            SaysOfSilences x.0 x.1 w c.has_alerts-given.result silences)
-            (λ i. (counts i, cleared i)) c.in_ok-silences.ensures.says);
+        says_of_silences = rw (counts, rules_cleared at.In_ok-rules, c.has_alerts-given.ensures)
+            at c.in_ok-silences.ensures.says;
         counted = c.in-Ok-report_of.ensures.findings
             ∙ ap (λ (v : Section). all_findings (routes ∷ rules ∷ silences ∷ v ∷ [])) values;
         text = c.in-Ok-report_of.ensures.text

@@ -3,17 +3,17 @@ use Rattle.std.proofs.Common.{◌≡◌, ◌≢◌, ◌<◌, List, [], ◌∷◌
 use Rattle.std.proofs.Common.{refl, sym, ◌∙◌, subst}
 use Rattle.std.specs.List.{AllByRecursion}
 use Rattle.std.proofs.lemmas.Option.{slice_get_read}
-use Rattle.am_universe.specs.declared.kind.Kind.{Kind}
 use Rattle.am_universe.specs.declared.kind.Kind.TheVariants as kinds
 use Rattle.am_labels.specs.Space.{Space}
 use Rattle.am_complete.specs.AskedLabel.{AskedLabel}
-use Rattle.am_complete.specs.Covering.{IsLimitOrMemory, AddsNeeded}
+use Rattle.am_complete.specs.Covering.{AddsNeeded}
 use Rattle.am_complete.specs.Room.{HaveNoRoom, AreUnproved}
 use Rattle.am_universe_command.specs.Universes.{HaveRoomBut}
 use Rattle.am_universe_command.proofs.UniverseStages.{refused_here}
 use Rattle.am_reports.specs.Configurations.{routing_conditions, labels_of_routes}
 use Rattle.am_reports.specs.ConfigsView.{configurations_of}
-use Rattle.am_reports.proofs.RoutesAsked.{undeclared_is, lists_decide}
+use Rattle.am_idle.proofs.MadeUniverses.{undeclared_is, of_room}
+use Rattle.am_reports.proofs.RoutesAsked.{lists_decide}
 use Rattle.am_reports.proofs.made.universe_for_routes.Goals as goal
 
 pub universe_beside-requires : goal.universe_beside-requires
@@ -24,11 +24,6 @@ universe_beside-requires c =
       rw (c.as_slice.ensures.value) c.in-Ok.ensures.asked,
       lists_decide s k,
     )
-
--- a fault that is not of memory is that there is no room
-of_room : (kind : Kind) → IsLimitOrMemory kind → kind ≢ kinds.Memory → kind ≡ kinds.Limit
-of_room kind (inl limit) other = limit
-of_room kind (inr memory) other = absurd (other memory)
 
 pub returns-in-Err-clause-refused : goal.returns-in-Err-clause-refused
 returns-in-Err-clause-refused c = λ remembered.
