@@ -1,5 +1,5 @@
 -- The values of matchers, with one matcher more.
-use Rattle.std.proofs.Common.{◌≡◌, ◌+◌, ◌<◌, ◌≤◌, ℕ, List, [], ◌∷◌, ◌++◌, Bool, Some, slice_get, length, inl, inr, refl, ap, sym, ◌∙◌, ◌⊎◌, arith, IsTrue}
+use Rattle.std.proofs.Common.{◌≡◌, ◌+◌, ◌<◌, ◌≤◌, ℕ, List, [], ◌∷◌, ◌++◌, Some, slice_get, length, inl, inr, refl, ap, sym, ◌∙◌, ◌⊎◌, arith, IsTrue}
 use Rattle.std.specs.List.{list_any}
 use Rattle.std.specs.Str.{bytes_eq}
 use Rattle.std.proofs.Common.{true, zero, suc}
@@ -7,29 +7,31 @@ use Rattle.std.proofs.lemmas.Bool.{or_cases, or_left, or_right, cases_Bool}
 use Rattle.std.proofs.lemmas.Slice.Eq.{bytes_eq-Decides}
 use Rattle.std.proofs.lemmas.Option.{same_Some}
 use Rattle.std.proofs.lemmas.Grind.{common_steps}
-use Rattle.am_labels.specs.Matcher.{Condition, takes_pattern}
+use Rattle.am_labels.specs.declared.op.Comparison.{Comparison}
+use Rattle.am_labels.specs.declared.op.Comparison.TheVariants.{Text}
+use Rattle.am_labels.specs.Matcher.{Condition, comparison}
 use Rattle.am_classes.specs.Alike.{HasPattern}
 use Rattle.am_classes.specs.declared.alphabet.Alphabet.{Alphabet}
 use Rattle.am_classes.specs.Values.{AreValues, counts}
 use Rattle.am_scan.proofs.Places.{get_pushed, get_kept, get_last, contains_from_get}
 
 -- What one matcher more is from stays what it is from.
-from_kept : (a : Alphabet) (ms : List Condition) (m : Condition) (t : Bool) (vs : List (List ℕ))
+from_kept : (a : Alphabet) (ms : List Condition) (m : Condition) (t : Comparison) (vs : List (List ℕ))
     → AreValues a ms t vs
     → (j : ℕ) (value : List ℕ) → slice_get vs j ≡ Some value
-    → (k : ℕ) × (n : Condition) × (slice_get (ms ++ m ∷ []) k ≡ Some n) × (takes_pattern n.op ≡ t)
+    → (k : ℕ) × (n : Condition) × (slice_get (ms ++ m ∷ []) k ≡ Some n) × (comparison n.op ≡ t)
     × (n.value ≡ value)
 from_kept a ms m t vs h j value e =
     let f = h.from j value e in (f.0, f.1, get_kept ms (m ∷ []) f.1 f.0 f.2, f.3, f.4)
 
 -- A matcher of the other kind of operator adds no value.
-pub values_skip : (a : Alphabet) (ms : List Condition) (m : Condition) (t : Bool)
+pub values_skip : (a : Alphabet) (ms : List Condition) (m : Condition) (t : Comparison)
     (vs : List (List ℕ)) → AreValues a ms t vs
-    → (takes_pattern m.op ≡ t → IsTrue (counts a t m.value) → ⊥) → AreValues a (ms ++ m ∷ []) t vs
+    → (comparison m.op ≡ t → IsTrue (counts a t m.value) → ⊥) → AreValues a (ms ++ m ∷ []) t vs
 values_skip a ms m t vs h other = record {
   each = λ k n e takes counted. elim (get_pushed ms m n k e) [
     | inl before ↦ h.each k n before takes counted
-    | inr b ↦ absurd (other (ap (λ x. takes_pattern x.op) b.1 ∙ takes)
+    | inr b ↦ absurd (other (ap (λ x. comparison x.op) b.1 ∙ takes)
         (ap (λ x. counts a t x.value) b.1 ∙ counted))
   ];
   from = from_kept a ms m t vs h;
@@ -38,7 +40,7 @@ values_skip a ms m t vs h other = record {
 }
 
 -- Nor does one whose value is there already.
-pub values_same : (a : Alphabet) (ms : List Condition) (m : Condition) (t : Bool)
+pub values_same : (a : Alphabet) (ms : List Condition) (m : Condition) (t : Comparison)
     (vs : List (List ℕ)) → AreValues a ms t vs → (j : ℕ) → slice_get vs j ≡ Some m.value
     → AreValues a (ms ++ m ∷ []) t vs
 values_same a ms m t vs h j there = record {
@@ -52,8 +54,8 @@ values_same a ms m t vs h j there = record {
 }
 
 -- A new value is added.
-pub values_push : (a : Alphabet) (ms : List Condition) (m : Condition) (t : Bool)
-    (vs : List (List ℕ)) → AreValues a ms t vs → takes_pattern m.op ≡ t
+pub values_push : (a : Alphabet) (ms : List Condition) (m : Condition) (t : Comparison)
+    (vs : List (List ℕ)) → AreValues a ms t vs → comparison m.op ≡ t
     → IsTrue (counts a t m.value) → ((j : ℕ) → slice_get vs j ≡ Some m.value → ⊥)
     → AreValues a (ms ++ m ∷ []) t (vs ++ m.value ∷ [])
 values_push a ms m t vs h takes counted new = record {
@@ -117,9 +119,10 @@ one_of_all [] text k e = absurd cc
 one_of_all (x ∷ xs) text zero e = grind (arith, common_steps, same_Some)
 one_of_all (x ∷ xs) text (suc k) e = grind (arith, common_steps, one_of_all xs text k e)
 
--- Where a pattern is asked for, a matcher takes it.
-pub has_pattern : (a : Alphabet) (ms : List Condition) (values : List (List ℕ))
-    → AreValues a ms true values → 0 < length values → HasPattern ms
-has_pattern a ms [] h some = absurd (omega (arith, some))
-has_pattern a ms (value ∷ values) h some =
-    let from = h.from 0 value refl in (from.1, contains_from_get ms from.1 from.0 from.2, from.3)
+-- Where something else than a text is asked for, a matcher asks for it.
+pub has_pattern : (a : Alphabet) (ms : List Condition) (so : Comparison) (values : List (List ℕ))
+    → AreValues a ms so values → (so ≡ Text → ⊥) → 0 < length values → HasPattern ms
+has_pattern a ms so [] h other some = absurd (omega (arith, some))
+has_pattern a ms so (value ∷ values) h other some =
+    let from = h.from 0 value refl in
+    (from.1, contains_from_get ms from.1 from.0 from.2, λ text. other (sym from.3 ∙ text))

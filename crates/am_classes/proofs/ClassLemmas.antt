@@ -7,9 +7,9 @@ use Rattle.std.proofs.lemmas.Slice.Eq.{bytes_eq-Decides}
 use Rattle.std.proofs.lemmas.Option.{same_Some}
 use Rattle.std.proofs.lemmas.Grind.{common_steps}
 use Rattle.am_universe.specs.Text.{same_text}
-use Rattle.am_labels.specs.Matcher.{Condition, holds, takes_pattern}
+use Rattle.am_labels.specs.Matcher.{Condition, holds}
 use Rattle.am_labels.specs.Pattern.{finds}
-use Rattle.am_labels.proofs.OperatorLemmas.{holds_same, asks_same}
+use Rattle.am_labels.proofs.OperatorLemmas.{holds_same, asks_same, asks_text, asks_pattern}
 use Rattle.am_scan.specs.Automaton.{pattern_of}
 use Rattle.am_classes.specs.declared.questions.Questions.{Questions}
 use Rattle.am_classes.specs.declared.candidate.Candidate.{Candidate}
@@ -41,17 +41,21 @@ alike_from : (ms : List Condition) (q : Questions) → AreAsked ms q → (x y : 
     → IsOver q.alphabet x → IsOver q.alphabet y → SameAnswers q x y → AreAlike ms x y
 alike_from ms q asked x y x_over y_over same =
     all_from_places (λ m. holds m.op m.value x ≡ holds m.op m.value y) ms
-    (λ k m at. holds_same m.op m.value x y (elim (cases_Bool (takes_pattern m.op)) [
-      | inl pattern ↦
+    (λ k m at. holds_same m.op m.value x y (elim (all_at_place _ ms k m asked.only at) [
+      | inl text ↦
+          asks_text m.op m.value x text
+          ∙ elim (cases_Bool (is_over q.alphabet m.value)) [
+            | inl over ↦
+                let place = asked.texts.each k m at text over in same.texts place.0 m.value place.1
+            | inr foreign ↦
+                foreign_differs q.alphabet m.value x foreign x_over
+                ∙ sym (foreign_differs q.alphabet m.value y foreign y_over)
+          ]
+          ∙ sym (asks_text m.op m.value y text)
+      | inr pattern ↦
           let place = asked.patterns.each k m at pattern refl in
-          rw pattern (same.patterns place.0 m.value place.1)
-      | inr text ↦ rw text (elim (cases_Bool (is_over q.alphabet m.value)) [
-        | inl over ↦
-            let place = asked.texts.each k m at text over in same.texts place.0 m.value place.1
-        | inr foreign ↦
-            foreign_differs q.alphabet m.value x foreign x_over
-            ∙ sym (foreign_differs q.alphabet m.value y foreign y_over)
-      ])
+          asks_pattern m.op m.value x pattern ∙ same.patterns place.0 m.value place.1
+          ∙ sym (asks_pattern m.op m.value y pattern)
     ]))
 
 -- Alike texts have the same answers.
@@ -60,12 +64,18 @@ answers_from : (ms : List Condition) (q : Questions) → AreAsked ms q → (x y 
 answers_from ms q asked x y alike = record {
   texts = λ k named at.
       let from = asked.texts.from k named at in
-      let here = all_at_place (λ m. holds m.op m.value x ≡ holds m.op m.value y) ms from.0 from.1 alike from.2 in
-      subst (λ v. same_text x v ≡ same_text y v) from.4 (rw from.3 at (asks_same from.1.op from.1.value x y here));
+      let m = from.1 in
+      let here = all_at_place (λ m. holds m.op m.value x ≡ holds m.op m.value y) ms from.0 m alike from.2 in
+      subst (λ v. same_text x v ≡ same_text y v) from.4
+      (sym (asks_text m.op m.value x from.3) ∙ asks_same m.op m.value x y here
+      ∙ asks_text m.op m.value y from.3);
   patterns = λ k pattern at.
       let from = asked.patterns.from k pattern at in
-      let here = all_at_place (λ m. holds m.op m.value x ≡ holds m.op m.value y) ms from.0 from.1 alike from.2 in
-      subst (λ v. finds v x ≡ finds v y) from.4 (rw from.3 at (asks_same from.1.op from.1.value x y here));
+      let m = from.1 in
+      let here = all_at_place (λ m. holds m.op m.value x ≡ holds m.op m.value y) ms from.0 m alike from.2 in
+      subst (λ v. finds v x ≡ finds v y) from.4
+      (sym (asks_pattern m.op m.value x from.3) ∙ asks_same m.op m.value x y here
+      ∙ asks_pattern m.op m.value y from.3);
 }
 
 -- What is at a place under a function is of what is at the place.

@@ -1,4 +1,5 @@
 pub mod BoolLemmas
+pub mod ComparisonLemmas
 pub mod TailLemmas
 pub mod OverLemmas
 pub mod Utf8Lemmas

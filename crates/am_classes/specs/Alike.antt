@@ -1,8 +1,9 @@
 -- Texts that some matchers cannot tell apart. Here the matchers are those of one label, and each is
 -- asked of a text whatever its name is.
-use Rattle.std.specs.Prelude.{◌≡◌, ℕ, List, Some, slice_get, Contains, IsTrue}
+use Rattle.std.specs.Prelude.{◌≡◌, ◌≢◌, ℕ, List, Some, slice_get, Contains}
 use Rattle.std.specs.List.{AllByRecursion}
-use Rattle.am_labels.specs.Matcher.{Condition, holds, takes_pattern}
+use Rattle.am_labels.specs.declared.op.Comparison.TheVariants.{Text}
+use Rattle.am_labels.specs.Matcher.{Condition, holds, comparison}
 use Rattle.am_classes.specs.declared.alphabet.Alphabet.{Alphabet}
 use Rattle.am_classes.specs.Alphabet.{IsOver}
 
@@ -36,8 +37,9 @@ AreApart ms texts =
     (i j : ℕ) (x y : List ℕ) → slice_get texts i ≡ Some x → slice_get texts j ≡ Some y
     → AreAlike ms x y → i ≡ j
 
--- One of some matchers takes a pattern. Where none does, their classes can always be computed.
+-- One of some matchers takes a pattern: it compares with no text. Where none does, their classes
+-- can always be computed.
 -- Source: Alertmanager configuration reference 0.25, "<matcher>": `=~` and `!~` take patterns.
 -- Example: one of `team="db"` and `team=~"w.*"` does, and `team="db"` alone does not.
 abbrev pub HasPattern : List Condition → Type 0
-HasPattern ms = (m : Condition) × Contains ms m × IsTrue (takes_pattern m.op)
+HasPattern ms = (m : Condition) × Contains ms m × (comparison m.op ≢ Text)

@@ -6,7 +6,7 @@ ghost use Rattle.am_classes.specs.Alphabet.{has_byte, is_over};
 pub enum Alphabet {
     /// All texts in UTF-8.
     Unicode,
-    /// Texts of printable ASCII alone: the blank, `~`, and what stands between the two.
+    /// Texts of printable ASCII alone: the characters from the blank (0x20) to `~` (0x7E).
     Ascii,
 }
 

@@ -1,4 +1,4 @@
-//! Many patterns at once.
+//! The automata of many patterns at once.
 ghost use Rattle.std.specs.Prelude.{◌≡◌, ℕ, ◌∷◌, [], List, map, ◌<◌, true, IfOk, IfSome, IfNone};
 ghost use Rattle.std.specs.Prelude.{IsTrue, length, string_bytes};
 ghost use Rattle.std.specs.List.{list_all};

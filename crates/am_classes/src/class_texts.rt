@@ -1,3 +1,12 @@
+//! One text for each class of texts that the matchers of a label cannot tell apart.
+//!
+//! If no matcher takes a pattern, each named text is a class, and all other texts together are one.
+//! If some do, the states of the label are explored. At a state where a character may begin, the
+//! truth of each matcher follows from the state. So one text is kept for each different row of
+//! truths.
+//!
+//! The search stops once there are more classes than a label may have values. A text that each
+//! pattern finds is tried first, because with many patterns that may show it at once.
 ghost use Rattle.std.specs.Prelude.{◌≡◌, ◌++◌, ◌<◌, false, map, IfOk, IfSome, IfNone, IsTrue};
 ghost use Rattle.std.specs.Prelude.{string_bytes, vec_len};
 ghost use Rattle.am_universe.specs.declared.limits.TheConstants.{MAX_VALUES};
@@ -12,20 +21,21 @@ use am_labels::Matcher;
 use am_universe::limits::MAX_VALUES;
 use std::alloc::{AllocError, Global};
 
-/// Texts of a label of which no two are alike to its matchers.
+/// Texts of a label, no two of which are alike to its matchers.
 #[derive(Debug, Drop)]
 pub struct ClassTexts {
+    /// The texts, those that a matcher names first.
     pub texts: Vec<String>,
-    /// Whether each text that the label may have is alike to one of these. If not, these are more
-    /// than a label may have values.
+    /// Whether each text that the label may have is alike to one of these. If not, there are more
+    /// of these than a label may have values.
     pub all: bool,
 }
 
-/// One text for each class of texts over an alphabet that matchers cannot tell apart, whatever
-/// their names are. `None` where this cannot be computed: a pattern cannot be followed, or there
-/// are too many states. Where no matcher takes a pattern, it always can, and all classes are there.
-/// Texts that a matcher names come first, in the order of the matchers. An `Err` only where memory
-/// was refused.
+/// Finds one text for each class of texts over an alphabet that matchers cannot tell apart. The
+/// names of the matchers are ignored. Texts that a matcher names come first, in the order of the
+/// matchers. Returns `None` if the classes cannot be computed: a pattern cannot be followed, or
+/// there are too many states. If no matcher takes a pattern, all classes are always found. Fails
+/// only if memory runs out.
 pub fn classes(
     alloc: Global,
     alphabet: Alphabet,

@@ -1,4 +1,4 @@
-//! Which of some texts end with what was read, by their places.
+//! The texts that end with what was read, by their places.
 ghost use Rattle.std.specs.Prelude.{◌≡◌, ◌∷◌, [], ℕ, List, Some, false};
 ghost use Rattle.std.specs.Prelude.{IfOk, IsTrue, length, map, slice_get, string_bytes};
 ghost use Rattle.am_classes.specs.Ends.{HasEndsAt, HasByteBefore, IsAtOne};

@@ -1,3 +1,15 @@
+//! The states that the texts of a label lead to.
+//!
+//! All matchers of a label are explored together. A state of the label has three parts: how many
+//! bytes of an unfinished character are at its front, since only UTF-8 counts; what has been read,
+//! as long as a named text ends with it; and the number that each pattern gives it. Over ASCII no
+//! character is unfinished, and only bytes of printable ASCII lead to a state.
+//!
+//! The search begins with the state of the empty text. It lists each state to which a listed one
+//! and a byte lead, with a text that leads there, unless the same state is listed. Bytes that all
+//! patterns treat alike take one step together, except those with which a named text goes on. When
+//! no new state comes, every text leads to a listed one, by induction over its bytes. With more
+//! than `MAX_STATES` states there is no answer.
 ghost use Rattle.std.specs.Prelude.{◌≡◌, ◌≢◌, ◌<◌, ◌+◌, ◌∷◌, ◌++◌, ℕ, List, [], Some, false};
 ghost use Rattle.std.specs.Prelude.{IfOk, IfSome, IsTrue, slice_get, vec_len};
 ghost use Rattle.am_classes.specs.declared.questions.Questions.{Questions};

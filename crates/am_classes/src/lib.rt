@@ -1,7 +1,7 @@
-//! Texts that stand for all: one of each class of texts that a label's matchers cannot tell apart.
+//! Texts that stand for all: one for each class of texts that a label's matchers cannot tell apart.
 //!
-//! [`classes`] gives them. Where a matcher takes a pattern, all texts are explored from their ends:
-//! what matters of an end is one of finitely many states, and each byte in front of it leads from
+//! [`classes`] gives them. If a matcher takes a pattern, all texts are explored from their ends:
+//! all that matters of an end is one of finitely many states, and each byte before it leads from
 //! one state to another.
 #![tactic(auto)]
 

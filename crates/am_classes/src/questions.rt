@@ -12,7 +12,7 @@ use crate::automata::{automata_of, byte_classes, end_numbers, found_patterns, ne
 use crate::label_state::LabelState;
 use crate::rest::Rest;
 use crate::tail::Tail;
-use am_labels::Matcher;
+use am_labels::{Comparison, Matcher};
 use am_scan::PatternAutomaton;
 use std::alloc::{AllocError, Global};
 
@@ -47,8 +47,8 @@ impl Questions {
         ensures none { IfOk result (λ found. IfNone found
             (HasPattern (map (λ m. m.now) matchers.now))) }
     {
-        let texts = values(alloc, alphabet, matchers, false)?;
-        let patterns = values(alloc, alphabet, matchers, true)?;
+        let texts = values(alloc, alphabet, matchers, Comparison::Text)?;
+        let patterns = values(alloc, alphabet, matchers, Comparison::Pattern)?;
         let Some(automata) = automata_of(alloc, alphabet, patterns.as_slice())? else {
             return Ok(None);
         };
@@ -189,24 +189,23 @@ fn is_among(texts: &[String], text: &[u8]) -> bool
     texts.iter().any(|other| other.as_bytes() == text)
 }
 
-/// The values that count of the matchers whose operator takes a pattern, or of those whose operator
-/// takes none, each once.
+/// The values that count of the matchers that compare so, each once.
 fn values(
     alloc: Global,
     alphabet: Alphabet,
     matchers: &[&Matcher],
-    patterns: bool,
+    comparison: Comparison,
 ) -> Result<Vec<String>, AllocError>
-    ensures { IfOk result (λ values. AreValues alphabet (map (λ m. m.now) matchers.now) patterns
+    ensures { IfOk result (λ values. AreValues alphabet (map (λ m. m.now) matchers.now) comparison
         (map string_bytes values.items)) }
 {
     let mut values: Vec<String> = Vec::new(alloc);
     for matcher in matchers {
-        if matcher.op().takes_pattern() != patterns {
+        if matcher.op().comparison() != comparison {
             continue;
         }
         let value = matcher.value();
-        if !counts(alphabet, patterns, value) {
+        if !counts(alphabet, comparison, value) {
             continue;
         }
         if is_among(values.as_slice(), value.as_bytes()) {
@@ -217,9 +216,9 @@ fn values(
     Ok(values)
 }
 
-/// Whether the value of a matcher counts: it is a pattern, or a text over the alphabet.
-fn counts(alphabet: Alphabet, patterns: bool, value: &str) -> bool
-    ensures { result ≡ counts alphabet patterns value.now }
+/// Whether the value of a matcher counts: it is no text, or a text over the alphabet.
+fn counts(alphabet: Alphabet, comparison: Comparison, value: &str) -> bool
+    ensures { result ≡ counts alphabet comparison value.now }
 {
-    patterns || alphabet.has(value)
+    comparison != Comparison::Text || alphabet.has(value)
 }

@@ -1,4 +1,4 @@
-//! Texts that patterns find, by which it is soon seen that there are too many classes.
+//! Texts that patterns find. They soon show that there are too many classes, if there are.
 ghost use Rattle.std.specs.Prelude.{IfOk, IfSome};
 ghost use Rattle.am_classes.specs.State.{FollowsLabel};
 ghost use Rattle.am_classes.specs.Candidates.{AreApartCandidates};

@@ -9,7 +9,7 @@ use std::alloc::{AllocError, Global};
 use std::collections::BTreeMap;
 use std::marker::Model;
 
-/// A label that matchers ask of, with those matchers, equal ones once.
+/// A label that matchers ask about, with these matchers, equal ones once.
 #[derive(Drop)]
 pub struct AskedLabel<'m> {
     name: &'m str,
@@ -36,7 +36,7 @@ impl<'m> Model for AskedLabel<'m> {
 }
 
 impl<'m> AskedLabel<'m> {
-    /// The label of a matcher that stands somewhere, with that matcher alone.
+    /// Makes the label of a matcher with this origin, with that matcher alone.
     pub(crate) fn of(
         alloc: Global,
         origin: &Origin,
@@ -54,8 +54,8 @@ impl<'m> AskedLabel<'m> {
         Ok(label)
     }
 
-    /// Adds a matcher on this label, unless it has an equal one. An `Err` comes only where memory
-    /// was refused; then nothing has changed.
+    /// Adds a matcher on this label, unless it has an equal one. Fails only if memory runs out;
+    /// then nothing has changed.
     pub(crate) fn add(&mut self, alloc: Global, matcher: &'m Matcher) -> Result<(), AllocError>
         ensures ok { OnOk result (self.new ≡ with_matcher matcher.now self.old) }
         ensures err { OnErr result (self.new ≡ self.old) }
@@ -77,21 +77,21 @@ impl<'m> AskedLabel<'m> {
         }
     }
 
-    /// The name of the label. Matchers may ask of a name that no universe can declare.
+    /// Returns the name of the label. It may be a name that no universe can declare.
     pub fn name(&self) -> &'m str
         ensures name { result.now ≡ self.now.name }
     {
         self.name
     }
 
-    /// The matchers that ask of it, in the order in which they are first asked.
+    /// Returns the matchers that ask about the label, in the order in which they were added.
     pub fn matchers(&self) -> &[&'m Matcher]
         ensures matchers { map (λ m. m.now) result.now ≡ self.now.matchers }
     {
         self.matchers.as_slice()
     }
 
-    /// Where the first of them stands.
+    /// Returns the origin of the first matcher.
     pub fn first(&self) -> Origin
         ensures first { result ≡ self.now.first }
     {

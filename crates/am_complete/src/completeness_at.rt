@@ -1,4 +1,4 @@
-//! How a space stands at one label that matchers ask of.
+//! What a space lacks at one label that matchers ask about.
 
 ghost use Rattle.std.specs.Prelude.{◌≡◌, ◌≢◌, ◌≤◌, [], IfOk, IfSome, IfNone, IsTrue, Contains};
 ghost use Rattle.std.specs.Prelude.{false, length, map, string_bytes};
@@ -22,8 +22,8 @@ use am_universe::Universe;
 use am_universe::limits::MAX_VALUES;
 use std::alloc::{AllocError, Global};
 
-/// How a space stands at a label that is asked of. A label that is not declared has absence alone.
-/// Of texts that are missing the first is told, as a made universe has them.
+/// How a space stands at a label that is asked about. A label that is not declared has absence
+/// alone. Of texts that are missing the first is told, as a made universe has them.
 pub(crate) fn completeness_at(
     alloc: Global,
     alphabet: Alphabet,

@@ -1,4 +1,7 @@
-//! Gathering matchers by the label that they ask of.
+//! Gathering matchers by the label that they ask about.
+//!
+//! `equal` of a rule asks about the values of each alert, and many alerts have the same. So a label
+//! keeps which operators come with each value, and takes equal matchers once.
 
 ghost use Rattle.std.specs.Prelude.{◌≡◌, [], ◌∷◌, ◌++◌, false, OnOk, OnErr};
 ghost use Rattle.std.specs.List.{list_any};
@@ -11,7 +14,8 @@ use std::alloc::{AllocError, Global};
 use std::collections::BTreeMap;
 use std::marker::Model;
 
-/// The labels that matchers ask of so far, in the order in which they were first asked of.
+/// The labels that the matchers so far ask about, in the order in which they were first asked
+/// about.
 #[derive(Drop)]
 pub struct Gathering<'m> {
     alloc: Global,
@@ -33,7 +37,7 @@ impl<'m> Model for Gathering<'m> {
 }
 
 impl<'m> Gathering<'m> {
-    /// No labels yet. It keeps the allocator.
+    /// Makes a gathering without labels, which keeps the allocator.
     pub fn empty(alloc: Global) -> Gathering<'m>
         ensures { result ≡ [] }
     {
@@ -44,8 +48,8 @@ impl<'m> Gathering<'m> {
         }
     }
 
-    /// Adds a matcher, which stands somewhere, to those of its label. An `Err` comes only where
-    /// memory was refused; then nothing has changed.
+    /// Adds a matcher, which has this origin, to those of its label. Fails only if memory runs out;
+    /// then nothing has changed.
     pub fn add(&mut self, origin: &Origin, matcher: &'m Matcher) -> Result<(), AllocError>
         ensures ok { OnOk result (self.new ≡ with_asked self.old (origin.now, matcher.now)) }
         ensures err { OnErr result (self.new ≡ self.old) }
@@ -56,7 +60,7 @@ impl<'m> Gathering<'m> {
         }
     }
 
-    /// Adds a matcher on a label that was not asked of before.
+    /// Adds a matcher on a label that was not asked about before.
     fn add_label(&mut self, origin: &Origin, matcher: &'m Matcher) -> Result<(), AllocError>
         requires { list_any (λ l. same_text l.name matcher.now.name) self.old ≡ false }
         ensures ok { OnOk result (self.new ≡ self.old ++ label_of (origin.now, matcher.now) ∷ []) }
@@ -73,7 +77,7 @@ impl<'m> Gathering<'m> {
         }
     }
 
-    /// The labels that were gathered.
+    /// Returns the labels that were gathered.
     pub fn into_labels(self) -> Vec<AskedLabel<'m>>
         ensures { result.items ≡ self.entry }
     {

@@ -1,25 +1,26 @@
 use crate::Origin;
 
-/// How a space stands at a label, for the matchers that ask of it.
+/// What a space lacks at a label, for the matchers that ask about it.
 #[derive(Debug, Drop)]
 pub enum Completeness {
-    /// Whatever text the label may have, one of the universe is alike to it. There are so many
-    /// classes of such texts that are alike.
+    /// Nothing: to each text that the label may have, a text of the universe is alike. This is the
+    /// number of classes of alike texts.
     Complete(usize),
-    /// The label may have this text, and no text of the universe is alike to it. The empty text is
+    /// The label may have this text, but no text of the universe is alike to it. The empty text is
     /// absence.
     Lacks(String),
-    /// The label is declared, and no matcher asks of it.
+    /// Nothing: the label is declared, but no matcher asks about it.
     Unasked,
-    /// The label may have texts that are not alike to absence, and no universe can declare it: its
-    /// name is no label name.
+    /// The label may have texts that are not alike to absence, but no universe can declare it,
+    /// since its name is no label name.
     Undeclarable,
-    /// The classes of its texts could not be computed. The first matcher on it stands here.
+    /// The classes of the label's texts could not be computed. This is the origin of the first
+    /// matcher on it.
     Unproved(Origin),
 }
 
-/// How a space stands at the label of a name, and whether no alert has that label, where there
-/// are alerts.
+/// What a space lacks at the label of this name, and whether alerts are given of which none has the
+/// label.
 #[derive(Debug, Drop)]
 pub struct LabelState {
     pub name: String,

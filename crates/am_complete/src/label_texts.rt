@@ -1,4 +1,4 @@
-//! The texts that a label has in a universe, and those that stand for it in a space.
+//! The texts that a label has in a universe, and those that count for it in a space.
 
 ghost use Rattle.std.specs.Prelude.{◌≡◌, ◌<◌, ◌∷◌, [], IfOk, length, map, string_bytes, unwrap_or};
 ghost use Rattle.am_universe.specs.Universe.{values_at};

@@ -1,11 +1,11 @@
 //! Which universes stand for every alert, and how one is made from the matchers that decide.
 //!
-//! A [`Gathering`] has the labels that some matchers ask of. [`universe_beside`] makes a universe
-//! that is complete for these, and keeps the labels of a space; [`label_states`] says what a space
-//! lacks.
+//! A [`Gathering`] collects the labels that some matchers ask about. [`universe_beside`] makes a
+//! universe that is complete for these and keeps the labels of a space. [`label_states`] says what
+//! a space lacks.
 #![tactic(auto)]
 
-// Labels with the matchers that ask of them, and where in the files they are first asked of.
+// Labels with the matchers that ask about them, and where in the files they are first asked about.
 mod asked_label;
 mod gathering;
 mod origin;

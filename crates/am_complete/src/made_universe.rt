@@ -1,4 +1,9 @@
-//! A universe that is made of what matchers ask, beside the labels and values of a space.
+//! A universe that is made from matchers, beside the labels and values of a space.
+//!
+//! `classes` gives the texts of each label. A text that no `=` or `!=` names is replaced by one of
+//! its class that operators know: one that the alerts have, or `other`. The truths of the matchers
+//! on two texts show whether these are alike. So the universe is complete, whichever text stands
+//! for a class.
 
 ghost use Rattle.std.specs.Prelude.{◌≡◌, ◌≢◌, ◌++◌, ◌<◌, [], List, length, map, Contains, false};
 ghost use Rattle.std.specs.Prelude.{IfOk, IfErr, OnOk, IsTrue, string_bytes, unwrap_or, option_map};
@@ -26,29 +31,34 @@ use am_list_files::Alerts;
 use am_universe::{Kind, Universe};
 use std::alloc::{AllocError, Global};
 
-/// A universe that is made of what matchers ask.
+/// A universe that is made from matchers.
 #[derive(Drop)]
 pub struct MadeUniverse {
-    /// The labels of a space, and then those of which matchers tell texts apart that may be there.
+    /// The labels of the space, and then those that had to be declared.
     pub universe: Universe,
-    /// The positions, among the labels that are asked of, of those that the universe need not
-    /// cover, in their order. The classes of such a label could not be computed, and it has values
-    /// that were found; or it needs a value, and no universe can declare it, since its name is no
-    /// label name.
+    /// The positions, among the labels that were asked about and in their order, of those that the
+    /// universe need not cover. Either the classes of such a label could not be computed, and it
+    /// has values that were found; or it needs a value, and no universe can declare it, since its
+    /// name is no label name.
     pub unproved: Vec<usize>,
 }
 
-/// The smallest universe beside a space in which each label that is asked of has, whatever text
-/// over the alphabet it may have in an alert of the space, a value that its matchers cannot tell
-/// from that. The labels of the space come first, each with its values in front; then come those
-/// that have to be declared, in the order in which they are asked of.
+/// Makes the smallest universe that keeps the labels of a space and, but for labels that are
+/// unproved, is complete for those that are asked about. For each text over the alphabet that such
+/// a label may have in an alert of the space, it has a value that the matchers of the label cannot
+/// tell from the text. The matchers of the space's impossible lists must be among those that ask.
 ///
-/// A label that the space does not declare has absence first, where that is possible; then come the
-/// values that matchers name, in their order; then those of other classes, each that which most of
-/// the alerts have, or else `other`, or else a short one; and last values with a line feed. To a
-/// label of the space what it lacks of these is added. A label whose classes could not be computed
-/// gets values that were found, and may lack some. A name that is no label name is not declared.
-/// `Limit` where there is no room for a label or its values; `Memory`.
+/// The labels of the space come first, each with its own values first. Then come the labels that
+/// have to be declared, in the order in which they are asked about. Such a label has absence first,
+/// if that is possible; then the values that matchers name, in their order; then a value for each
+/// other class: the one that most of the alerts have, or else `other`, or else a short one; and
+/// last values with a line feed. A label of the space gets those of these that it lacks.
+///
+/// A label whose classes could not be computed gets values that were found, and may lack some. A
+/// label that needs a value, and whose name is no label name, is not declared. Both are listed as
+/// unproved.
+///
+/// Fails with `Limit` if there is no room for a label or its values, and with `Memory`.
 pub fn universe_beside(
     alloc: Global,
     alphabet: Alphabet,
@@ -98,7 +108,7 @@ fn names_of(alloc: Global, universe: &Universe) -> Result<Vec<&str>, AllocError>
     Ok(names)
 }
 
-/// What each label that is asked of lacks in a space.
+/// What each label that is asked about lacks in a space.
 fn missing_of_each<'m>(
     alloc: Global,
     alphabet: Alphabet,
@@ -189,7 +199,7 @@ fn whole_texts(
     Ok(texts)
 }
 
-/// What the label of a name lacks, if it is asked of.
+/// What the label of a name lacks, if it is asked about.
 fn missing_for<'a, 'm>(missing: &'a [Missing<'m>], name: &str) -> Option<&'a Missing<'m>>
     ensures { option_map (λ m. m.now) result ≡ missing_for missing.now name.now }
 {
@@ -220,7 +230,7 @@ fn open_positions(alloc: Global, missing: &[Missing<'_>]) -> Result<Vec<usize>, 
     Ok(positions)
 }
 
-/// Whether the text is a label name.
+/// Whether a text is a label name, of the form `[a-zA-Z_][a-zA-Z0-9_]*`.
 pub fn is_label_name(alloc: Global, name: &str) -> bool
     ensures named { result ≡ is_label_name name.now }
 {

@@ -73,7 +73,7 @@ impl<'m> Missing<'m> {
     }
 }
 
-/// What a label that is asked of lacks in a space: of one text for each class that it may have
+/// What a label that is asked about lacks in a space: of one text for each class that it may have
 /// those that are alike to none that stands there. `Limit` where there are more than a label may
 /// have values.
 pub(crate) fn missing_at<'m>(

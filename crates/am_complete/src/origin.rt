@@ -1,6 +1,6 @@
 use am_config::Path;
 
-/// Where a matcher stands.
+/// The part of an input in which a matcher stands. Positions count from 0.
 #[derive(Clone, Copy, Debug)]
 pub enum Origin {
     /// At the route of this path.

@@ -1,4 +1,4 @@
-//! Which texts a label may have, as impossible lists say that ask of this label alone.
+//! Which texts a label may have, by the impossible lists that ask about this label alone.
 
 ghost use Rattle.std.specs.Prelude.{◌≡◌, IfOk, map, string_bytes};
 ghost use Rattle.std.specs.List.{filter};

@@ -1,4 +1,8 @@
-//! How a space stands at each label.
+//! What a space lacks at each label.
+//!
+//! The texts of a label's classes are compared with its values, without those texts that an
+//! impossible list of that label alone takes away. The matchers of such a list are among those of
+//! the label, so with one text it takes away the whole class.
 
 ghost use Rattle.std.specs.Prelude.{◌≡◌, ◌≢◌, ◌++◌, [], List, IfOk, OnOk, IsTrue, map, not};
 ghost use Rattle.std.specs.Prelude.{string_bytes, option_map, slice_get, Some, IfSome, IfNone};
@@ -21,11 +25,11 @@ use am_list_files::Alerts;
 use am_universe::LabelSet;
 use std::alloc::{AllocError, Global};
 
-/// How a space stands, for alerts whose texts are over the alphabet, at each of its labels, in
-/// declared order, and then at each label that is
-/// asked of and not declared, in the order in which they are first asked of. With alerts, each
-/// state says too whether none of them has the label. The matchers of the space's impossible lists
-/// are asked too. An `Err` only where memory was refused.
+/// Finds what a space lacks at each label to stand for every alert whose texts are over an
+/// alphabet. The labels are those of the space, in declared order, and then the others that are
+/// asked about, in the order of `asked`. With alerts, each state also says whether none of them has
+/// the label. The matchers of the space's impossible lists must be among those that ask. Fails only
+/// if memory runs out.
 pub fn label_states(
     alloc: Global,
     alphabet: Alphabet,
@@ -104,7 +108,7 @@ fn declared_state(
     }
 }
 
-/// The position of a label of this name among those that are asked of, if there is one.
+/// The position of a label of this name among those that are asked about, if there is one.
 fn position_of(asked: &[AskedLabel<'_>], name: &str) -> Option<usize>
     ensures found { IfSome result (λ i.
         slice_get (asked_names asked.now) i ≡ Some name.now) }
@@ -118,7 +122,7 @@ fn position_of(asked: &[AskedLabel<'_>], name: &str) -> Option<usize>
     None
 }
 
-/// Adds how a space stands at each label that is asked of and not declared.
+/// Adds how a space stands at each label that is asked about and not declared.
 fn add_undeclared(
     alloc: Global,
     alphabet: Alphabet,
@@ -146,7 +150,7 @@ fn add_undeclared(
     Ok(())
 }
 
-/// Adds how a space stands at a label that is asked of, where that is not declared.
+/// Adds how a space stands at a label that is asked about, where that is not declared.
 fn add_if_undeclared(
     alloc: Global,
     alphabet: Alphabet,
@@ -169,7 +173,7 @@ fn add_if_undeclared(
     }
 }
 
-/// How a space stands at a label that is asked of.
+/// How a space stands at a label that is asked about.
 fn asked_state(
     alloc: Global,
     alphabet: Alphabet,

@@ -1,4 +1,4 @@
-//! The truths of matchers on texts, by which texts are held against each other.
+//! The truths of matchers on texts, by which texts are compared.
 
 ghost use Rattle.std.specs.Prelude.{◌≡◌, ◌≢◌, ◌<◌, ◌≤◌, ◌↔◌, ℕ, List, [], Some, length, map, false};
 ghost use Rattle.std.specs.Prelude.{slice_get, IfOk, IfSome, IfNone, IsTrue, string_bytes};
@@ -11,7 +11,7 @@ ghost use Rattle.am_classes.specs.Alike.{AreAlike, HasAlikeIn};
 ghost use Rattle.am_complete.specs.Truths.{IsAlikeAt};
 
 use crate::made_universe::declare;
-use am_labels::{Matcher, Op, Row};
+use am_labels::{Comparison, Matcher, Row};
 use am_universe::{Kind, Universe};
 use std::alloc::{AllocError, Global};
 use std::marker::Model;
@@ -142,7 +142,7 @@ impl<'m> Truths<'m> {
     /// Whether a matcher names a text: it asks for this text alone, or for all others.
     pub(crate) fn names(&self, text: &str) -> bool {
         for matcher in self.matchers {
-            if matches!(matcher.op(), Op::Equal | Op::NotEqual) && matcher.value() == text {
+            if matcher.op().comparison() == Comparison::Text && matcher.value() == text {
                 return true;
             }
         }

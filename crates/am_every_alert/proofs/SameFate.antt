@@ -16,10 +16,10 @@ use Rattle.am_eval.specs.Routing.{receiver_at}
 use Rattle.am_eval.specs.Silencing.{is_active, hides, is_silenced}
 use Rattle.am_eval.specs.World.{World}
 use Rattle.am_eval.specs.Tree.{Part, Not, And, Or}
-use Rattle.am_eval.specs.declared.property.Property.TheVariants.{Any, Silenced, Inhibited}
 use Rattle.am_eval.specs.Question.{Question, Simple, Is, Receiver, Route, Braces, reaches}
 use Rattle.am_eval.specs.Question.{holds_of, satisfies}
 use Rattle.am_asked.specs.Asked.{simple_conditions, question_conditions}
+use Rattle.am_eval.proofs.ConditionLaws.{same_property}
 use Rattle.am_eval.proofs.HidingConditions.{same_values}
 use Rattle.am_every_alert.specs.EveryAlert.{MeetsTheSame, HaveTheSameFate}
 use Rattle.am_complete.specs.Complete.{AreAmong, impossible_conditions}
@@ -211,9 +211,8 @@ module _ (s t : LabelMap) where
 
   part_alike : (w : World) (simple : Simple) → HaveTheSameFate w s t
       → MeetsTheSame (simple_conditions simple) s t → holds_of w simple s ≡ holds_of w simple t
-  part_alike w (Is Any) fate h = refl
-  part_alike w (Is Silenced) fate h = fate.same_silenced
-  part_alike w (Is Inhibited) fate h = fate.same_inhibited
+  part_alike w (Is property) fate h =
+      same_property w w s t property fate.same_silenced fate.same_inhibited
   part_alike w (Receiver receiver) fate h =
       ap (list_any (λ other. other == receiver)) fate.same_receivers
   part_alike w (Route reach path) fate h = ap (list_any (reaches reach path)) fate.same_ends

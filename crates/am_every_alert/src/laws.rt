@@ -1,4 +1,8 @@
 //! Facts about the definitions alone: each is the contract of a function with an empty body.
+//!
+//! A complete universe stands for every alert. For each label a value is chosen that is alike to
+//! the alert's text, so each matcher has the same truth on both. All else follows by induction over
+//! lists, routes, silences and pairs.
 ghost use Rattle.std.specs.Prelude.{◌≡◌, ◌≢◌, ◌↔◌, ℕ, List, [], ◌∷◌, ◌++◌, ℤ, Contains, IsTrue};
 ghost use Rattle.std.specs.Prelude.{IsFalse};
 ghost use Rattle.std.specs.List.{AllByRecursion};
@@ -38,8 +42,8 @@ ghost use Rattle.am_every_alert.specs.CompleteExample.{team_universe, db_or_abse
 ghost use Rattle.am_every_alert.specs.CompleteExample.{team_not_db, db_alone_possible};
 ghost use Rattle.am_every_alert.specs.CompleteExample.{absent_alone, any_line};
 
-/// Where each text that a label set has for a label of some matchers has one alike in a universe,
-/// some choice of the universe meets the same of them.
+/// Some choice of a universe meets the same of some matchers as a label set, if for each label of
+/// the matchers the universe has a text that is alike to that of the label set.
 pub fn each_label_set_has_a_choice()
     ensures stands { (u : List Label) (ms : List Condition) (s : LabelMap) → IsUniverse u
         → AllByRecursion (λ m. HasAlike u ms m.name (value_of s m.name)) ms
@@ -47,18 +51,18 @@ pub fn each_label_set_has_a_choice()
 {}
 
 /// A universe that is complete for some matchers, over an alphabet, stands for every alert over
-/// this alphabet: whatever labels such an alert has, some choice meets the same of the matchers.
-/// Over Unicode these are all alerts; over ASCII they are those whose values are printable ASCII.
+/// this alphabet: whatever labels the alert has, some choice meets the same of the matchers. Over
+/// Unicode these are all alerts. Over ASCII they are those whose values are printable ASCII.
 pub fn a_complete_universe_stands_for_every_alert()
     ensures stands { (a : Alphabet) (u : List Label) (ms : List Condition) (s : LabelMap)
         → IsUniverse u → IsComplete a u ms → IsAlert a s
         → (c : List ℕ) × IsWhole (sizes u) c × MeetsTheSame ms (label_set_of u c) s }
 {}
 
-/// Label sets that meet the same of the matchers of the routes end at the same routes and go to the
-/// same receivers; both or neither are silenced, inhibited or possible, where they meet the same of
-/// the matchers that decide it. What meets the same of matchers meets the same of each part of
-/// them.
+/// Label sets that meet the same of a world's matchers have the same fate. If they meet the same of
+/// the matchers of the routes, they end at the same routes and go to the same receivers. Both or
+/// neither are silenced, inhibited or possible, if they meet the same of the matchers that decide
+/// it. Label sets that meet the same of some matchers meet the same of each part of them.
 pub fn what_meets_the_same_has_the_same_fate()
     ensures ends { (c : Configuration) (s t : LabelMap)
         → MeetsTheSame (route_conditions c.root) s t → ends s c ≡ ends t c }
@@ -80,8 +84,9 @@ pub fn what_meets_the_same_has_the_same_fate()
 {}
 
 /// In a universe that is complete for a world, over an alphabet, every alert over this alphabet has
-/// the fate of some choice: it ends at the same routes, goes to the same receivers, and is
-/// silenced, and inhibited, as that is. What is complete for a world is so at every instant.
+/// the fate of some choice. It ends at the same routes, goes to the same receivers, and is
+/// silenced, or inhibited, exactly if the choice is. A universe that is complete for a world is so
+/// at every instant.
 pub fn every_alert_has_the_fate_of_a_choice()
     ensures fate { (a : Alphabet) (u : List Label) (w : World) (s : LabelMap) → IsUniverse u
         → IsComplete a u (world_conditions w) → IsAlert a s
@@ -90,9 +95,9 @@ pub fn every_alert_has_the_fate_of_a_choice()
         → world_conditions (at_instant w instant) ≡ world_conditions w }
 {}
 
-/// A space that is complete for some matchers, over an alphabet, stands for every alert of it over
-/// this alphabet: whatever labels such an alert has, some choice of its labels meets the same of
-/// the matchers.
+/// A space that is complete for some matchers, over an alphabet, stands for every alert of the
+/// space over this alphabet: whatever labels the alert has, some choice of the space's labels meets
+/// the same of the matchers.
 pub fn a_complete_space_stands_for_every_alert_of_it()
     ensures stands { (a : Alphabet) (s : Space) (ms : List Condition) (alert : LabelMap)
         → IsUniverse s.labels → IsSpaceComplete a s ms → IsAlertOf a s alert
@@ -100,9 +105,9 @@ pub fn a_complete_space_stands_for_every_alert_of_it()
         × MeetsTheSame ms (label_set_of s.labels c) alert }
 {}
 
-/// In a space that is complete, over an alphabet, for the matchers of the routes and of what is
-/// impossible, every alert of the space over this alphabet ends at the routes at which some choice
-/// of it ends, and goes to the same receivers.
+/// Every alert of a complete space ends at the routes at which some choice of the space ends, and
+/// goes to the same receivers. The space is complete, over the alphabet of the alert, for the
+/// matchers of the routes and the impossible lists.
 pub fn every_alert_of_a_space_ends_as_a_choice_does()
     ensures ends { (a : Alphabet) (s : Space) (c : Configuration) (alert : LabelMap)
         → IsUniverse s.labels → IsSpaceComplete a s (coverage_conditions s c) → IsAlertOf a s alert
@@ -111,9 +116,9 @@ pub fn every_alert_of_a_space_ends_as_a_choice_does()
         × (receivers (label_set_of s.labels choice) c ≡ receivers alert c) }
 {}
 
-/// In a space that is complete, over an alphabet, for the matchers of the routes and of what is
-/// impossible, no alert of the space over this alphabet ends at a route that is dead, none ends at
-/// or below one that is never entered, and none goes to a receiver that is unmatched.
+/// No alert of a complete space ends at a dead route, none ends at or below a route that is never
+/// entered, and none goes to an unmatched receiver. The space is complete, over the alphabet of the
+/// alert, for the matchers of the routes and the impossible lists.
 pub fn a_dead_route_of_a_complete_universe_has_no_alert()
     ensures dead { (a : Alphabet) (s : Space) (c : Configuration) (path : List ℕ)
         → IsUniverse s.labels → IsSpaceComplete a s (coverage_conditions s c)
@@ -126,9 +131,9 @@ pub fn a_dead_route_of_a_complete_universe_has_no_alert()
         → IsUnmatched s c receiver → NoAlertGoesTo a s c receiver }
 {}
 
-/// In any universe whose texts are over an alphabet, complete or not, some alert over this alphabet
-/// ends at each route that is told as live, some ends below each that is told as entered, and some
-/// goes to each receiver that is told as live.
+/// Some alert ends at each route that is reported as live, some ends below each that is reported as
+/// entered, and some goes to each receiver that is reported as live, also if the universe is not
+/// complete. The alert is over each alphabet that the universe's texts are over.
 pub fn a_route_is_live_in_any_universe()
     ensures live { (a : Alphabet) (s : Space) (c : Configuration) (path choice : List ℕ)
         → IsUniverse s.labels → HasTextsOver a s.labels
@@ -145,13 +150,12 @@ pub fn a_route_is_live_in_any_universe()
         → (alert : LabelMap) × IsAlertOf a s alert × Contains (receivers alert c) receiver }
 {}
 
-/// So in a universe file that is complete over Unicode a route is dead exactly where no possible
-/// alert ends there, it is never entered exactly where none ends there or below it, and a receiver
-/// is unmatched exactly where none goes to it. Whatever labels an alert has, and whatever their
-/// names are, it is possible unless an impossible list matches it. The same holds over each
-/// alphabet that the texts of a universe are over: in one that is complete over ASCII, and has
-/// texts of printable ASCII alone, a route is dead exactly where no possible alert with such values
-/// ends there.
+/// In a universe file that is complete over Unicode, a route is dead exactly if no possible alert
+/// ends there. It is never entered exactly if none ends there or below it, and a receiver is
+/// unmatched exactly if none goes to it. An alert may have any labels with any names; it is
+/// possible unless an impossible list matches it. The same holds over each alphabet that the texts
+/// of a universe are over. So in a universe with texts of printable ASCII alone, which is complete
+/// over ASCII, a route is dead exactly if no possible alert with such values ends there.
 pub fn over_a_complete_universe_dead_is_exact()
     ensures dead { (universe_file path : List ℕ) (s : Space) (c : Configuration)
         → FileSaysUniverse universe_file s → IsSpaceComplete Unicode s (coverage_conditions s c)
@@ -176,9 +180,9 @@ pub fn over_a_complete_universe_dead_is_exact()
         → (IsUnmatched s c receiver ↔ NoAlertGoesTo a s c receiver) }
 {}
 
-/// A question that is true of an alert of the space over an alphabet has an answer with the same
-/// fate, if the space is complete, over this alphabet, for all matchers that decide it. So a
-/// question without answers is true of no such alert.
+/// A question that is true of an alert of a complete space has an answer with the same fate. So a
+/// question without answers is true of no such alert. The space is complete, over the alphabet of
+/// the alert, for all matchers that decide the question.
 pub fn a_question_without_answers_is_true_of_no_alert()
     ensures answered { (a : Alphabet) (s : Space) (w : World) (q : Question) (alert : LabelMap)
         → IsUniverse s.labels → IsSpaceComplete a s (asked_conditions s w q)
@@ -190,14 +194,14 @@ pub fn a_question_without_answers_is_true_of_no_alert()
         → IsAlertOf a s alert → answers s w q ≡ [] → IsFalse (satisfies w q alert) }
 {}
 
-/// The label sets of a universe are such as an alert may have, complete or not, over each alphabet
-/// that the texts of the universe are over.
+/// Each label set of a universe, complete or not, is one that an alert may have. It is over each
+/// alphabet that the texts of the universe are over.
 pub fn label_sets_of_a_universe_are_alerts()
     ensures alert { (a : Alphabet) (u : List Label) (c : List ℕ) → IsUniverse u
         → HasTextsOver a u → IsAlert a (label_set_of u c) }
 {}
 
-/// To be alike to some matchers is an equivalence of texts.
+/// Being alike to some matchers is an equivalence of texts.
 pub fn alike_texts_are_equivalent()
     ensures itself { (ms : List Condition) (x : List ℕ) → AreAlike ms x x }
     ensures turned { (ms : List Condition) (x y : List ℕ) → AreAlike ms x y → AreAlike ms y x }
@@ -205,8 +209,9 @@ pub fn alike_texts_are_equivalent()
         → AreAlike ms x y → AreAlike ms y z → AreAlike ms x z }
 {}
 
-/// A universe is complete at a label, over an alphabet, where some texts cover all that are over
-/// it, and each of them has one alike in the universe; and at each label that no matcher is on.
+/// A universe is complete at a label, over an alphabet, if some texts cover all that are over it,
+/// and the universe has a text alike to each of them. It is also complete at each label that no
+/// matcher is on.
 pub fn a_universe_is_complete_where_its_texts_cover_all()
     ensures covered { (a : Alphabet) (u : List Label) (ms : List Condition) (name : List ℕ)
         (texts : List (List ℕ)) → Covers a (about name ms) texts
@@ -215,8 +220,8 @@ pub fn a_universe_is_complete_where_its_texts_cover_all()
         → IsUniverse u → about name ms ≡ [] → IsCompleteAt a u ms name }
 {}
 
-/// A universe is complete for some matchers, over an alphabet, where it is at the label of each,
-/// whatever the names are. What is complete for matchers is complete for each part of them.
+/// A universe is complete for some matchers, over an alphabet, if it is complete at the label of
+/// each, whatever the names are. It is then complete for each part of them.
 pub fn a_universe_is_complete_by_its_matchers()
     ensures by_labels { (a : Alphabet) (u : List Label) (ms : List Condition) → IsUniverse u
         → AllByRecursion (λ m. m.name ≢ [] → IsCompleteAt a u ms m.name) ms
@@ -227,8 +232,9 @@ pub fn a_universe_is_complete_by_its_matchers()
         → AreAmong ns ms → IsCompleteAt a u ms name → IsCompleteAt a u ns name }
 {}
 
-/// A space is complete for some matchers, over an alphabet, where its universe is; where nothing is
-/// impossible, only there. What is complete for matchers is complete for each part of them.
+/// A space is complete for some matchers, over an alphabet, if its universe is. If nothing is
+/// impossible, it is complete only then. A space that is complete for some matchers is complete for
+/// each part of them.
 pub fn a_space_is_complete_where_its_universe_is()
     ensures universe { (a : Alphabet) (s : Space) (ms : List Condition)
         → IsComplete a s.labels ms → IsSpaceComplete a s ms }
@@ -238,8 +244,8 @@ pub fn a_space_is_complete_where_its_universe_is()
         → AreAmong ns ms → IsSpaceComplete a s ms → IsSpaceComplete a s ns }
 {}
 
-/// Of matchers in a row, those in front and those behind are among all; what is among matchers that
-/// are among others is among these too.
+/// Both parts of a list of matchers are among the whole list. To be among others is transitive, and
+/// two lists that are among a third are so together.
 pub fn parts_of_matchers_are_among_them()
     ensures front { (ms ns : List Condition) → AreAmong ms (ms ++ ns) }
     ensures behind { (ms ns : List Condition) → AreAmong ns (ms ++ ns) }
@@ -249,10 +255,11 @@ pub fn parts_of_matchers_are_among_them()
         → AreAmong ks ns → AreAmong ns ms → AreAmong ks ms }
 {}
 
-/// What is complete for a world, or for routes, for questions and for what is impossible is
-/// complete, over the same alphabet, for the routes and for what is impossible; and, if for a
-/// world, for each of the questions. Where nothing is impossible, it is enough to be complete for
-/// matchers with those of the routes among them.
+/// A space that is complete for a world, for questions and for the impossible lists is complete,
+/// over the same alphabet, for the routes and the impossible lists, and for each of the questions.
+/// For the routes it is enough if it is complete for the routes, the questions and the impossible
+/// lists. If nothing is impossible, it is enough if it is complete for matchers among which those
+/// of the routes are.
 pub fn what_is_complete_for_a_world_is_so_for_its_routes()
     ensures routes { (a : Alphabet) (s : Space) (w : World) (questions : List Question)
         → IsSpaceComplete a s (world_conditions w
@@ -271,9 +278,9 @@ pub fn what_is_complete_for_a_world_is_so_for_its_routes()
         → IsComplete a u (coverage_conditions (record { labels = u; impossible = [] }) c) }
 {}
 
-/// What is complete over Unicode is complete over ASCII, since a text of printable ASCII is UTF-8:
-/// a universe, at a label and for all matchers, and a space. An alert over ASCII is one over
-/// Unicode, also one of a space, and a universe whose texts are over ASCII has texts over Unicode.
+/// A universe or space that is complete over Unicode is complete over ASCII, since a text of
+/// printable ASCII is UTF-8. An alert over ASCII is one over Unicode, also of a space, and a
+/// universe whose texts are over ASCII has texts over Unicode.
 pub fn what_is_complete_over_unicode_is_complete_over_ascii()
     ensures at_label { (u : List Label) (ms : List Condition) (name : List ℕ)
         → IsCompleteAt Unicode u ms name → IsCompleteAt Ascii u ms name }
@@ -287,17 +294,18 @@ pub fn what_is_complete_over_unicode_is_complete_over_ascii()
     ensures texts { (u : List Label) → HasTextsOver Ascii u → HasTextsOver Unicode u }
 {}
 
-/// The texts of a universe that a file says are UTF-8, since JSON text is.
+/// The texts of a universe file are UTF-8, since JSON text is.
 pub fn texts_of_universe_files_are_utf8()
     ensures utf8 { (bytes : List ℕ) (s : Space) → FileSaysUniverse bytes s
         → HasTextsOver Unicode s.labels }
 {}
 
-/// An example: where `team` may be `db` or absent, the universe is complete for `team="db"`, over
-/// each alphabet; where it is always `db` it is not, since no choice stands for the alerts of
-/// another team. The space in which there is no other team is complete. And where `team` is always
-/// absent, the universe is complete for `team=~".*"` over ASCII, and not over Unicode, since the
-/// pattern does not match a line feed.
+/// An example of universes and a space that are complete, and of others that are not. If `team` may
+/// be `db` or absent, the universe is complete for `team="db"`, over each alphabet. If `team` is
+/// always `db`, it is not, since no choice stands for the alerts of another team; but the space in
+/// which no other team is possible is complete. If `team` is always absent, the universe is
+/// complete for `team=~".*"` over ASCII, but not over Unicode, since the pattern does not match a
+/// line feed.
 pub fn an_example_of_completeness()
     ensures complete { (a : Alphabet) → IsComplete a (team_universe db_or_absent) (team_db ∷ []) }
     ensures incomplete { (a : Alphabet)
@@ -308,9 +316,9 @@ pub fn an_example_of_completeness()
     ensures not_over_unicode { ¬ IsComplete Unicode (team_universe absent_alone) (any_line ∷ []) }
 {}
 
-/// Where there is no room beside a space for the labels that matchers ask of, and those of its
-/// impossible lists are among these matchers, no universe that keeps the labels of the space is
-/// complete for them over the alphabet, where the same lists are impossible.
+/// If there is no room beside a space for the labels that matchers ask about, no universe that
+/// keeps the labels of the space is complete for these matchers, over the alphabet and with the
+/// same impossible lists. The matchers of these lists must be among them.
 pub fn what_has_no_room_has_no_complete_universe()
     ensures none { (a : Alphabet) (s : Space) (asked : List AskedLabel) (ms : List Condition)
         (v : List Label) → IsUniverse v → KeepsLabels s.labels v → IsAskedOf asked ms

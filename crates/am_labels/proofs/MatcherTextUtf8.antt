@@ -10,6 +10,9 @@ use Rattle.std.proofs.lemmas.List.Sums.{prefix_len_passes, prefix_len-le-length}
 use Rattle.std.proofs.lemmas.Bool.{cases_lt, cases_Bool, and_parts, eqb-true}
 use Rattle.std.proofs.lemmas.Bool.Decides.{nat_tests}
 use lib.Utf8.{scalars, scalar, encodes, encode}
+use Rattle.am_labels.specs.declared.op.Op.{Op}
+use Rattle.am_labels.specs.declared.op.Op.TheVariants.{Equal}
+use Rattle.am_labels.specs.Matcher.{operator_text}
 use Rattle.am_labels.specs.MatcherReading.{first_quote}
 use Rattle.am_labels.proofs.MatcherTextIndices.{first_quote_found}
 use Rattle.am_labels.specs.MatcherText.{without_opening, without_closing, is_escaped, is_space, continues_name, has_escape, byte_of_escape, unescaped_text}
@@ -55,8 +58,11 @@ utf8_after_name text u =
 pub utf8_after_one : (text : List ℕ) → 1 ≤ length text → get_or text 0 0 < 128 → IsUtf8 text → IsUtf8 (take (length text - 1) (drop 1 text))
 utf8_after_one text l h u = rw (take_rest text 1) (utf8_drop text 1 l (λ k e. let z : k ≡ 0 = omega arith in rw z h) u)
 
-pub utf8_after_two : (text : List ℕ) → 2 ≤ length text → get_or text 1 0 < 128 → IsUtf8 text → IsUtf8 (take (length text - 2) (drop 2 text))
-utf8_after_two text l h u = rw (take_rest text 2) (utf8_drop text 2 l (λ k e. let z : k ≡ 1 = omega arith in rw z h) u)
+pub utf8_after_operator : (op : Op) (text rest : List ℕ) → text ≡ operator_text op ++ rest → IsUtf8 text → IsUtf8 rest
+utf8_after_operator Equal text rest e u =
+    utf8_drop (61 ∷ rest) 1 (omega arith) (λ k l. let z : k ≡ 0 = omega arith in rw z (omega arith)) (subst IsUtf8 e u)
+utf8_after_operator op text rest e u =
+    utf8_drop (operator_text op ++ rest) 2 (omega arith) (λ k l. let z : k ≡ 1 = omega arith in rw z (omega arith)) (subst IsUtf8 e u)
 
 -- ---- without escapes
 

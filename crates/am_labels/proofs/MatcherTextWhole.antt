@@ -1,5 +1,5 @@
 -- What is read from a piece is what it spells, and so for a whole text.
-use Rattle.std.proofs.Common.{◌≡◌, refl, sym, ◌∙◌, ap, subst, inl, inr, ℕ, suc, ◌+◌, ◌-◌, ◌<◌, ◌≤◌, List, [], ◌∷◌, ◌++◌, length, take, drop, get_or, true, false, not, ◌&&◌, arith, Option, Some, Result, Ok, Err, ◌≢◌, IfOk, IfErr, Vec, Global}
+use Rattle.std.proofs.Common.{◌≡◌, refl, sym, ◌∙◌, ap, subst, inl, inr, ℕ, suc, ◌+◌, ◌-◌, ◌≤◌, List, [], ◌∷◌, ◌++◌, length, take, drop, get_or, true, false, not, ◌&&◌, arith, Option, Some, Result, Ok, Err, ◌≢◌, IfOk, IfErr, Vec, Global}
 use Rattle.std.specs.Prelude.{◌==◌}
 use Rattle.std.specs.List.{prefix_len, suffix_len, list_all, AllZip, All, AllByRecursion}
 use Rattle.std.proofs.lemmas.List.Elements.{All-from_recursion}
@@ -10,12 +10,14 @@ use Rattle.std.proofs.lemmas.Option.{same_Some, cond_some, option_and_then_some,
 use Rattle.am_universe.specs.declared.kind.Kind.{Kind}
 use Rattle.am_universe.specs.declared.kind.Kind.TheVariants.{Memory, BadMatcher}
 use Rattle.am_labels.specs.declared.op.Op.{Op}
-use Rattle.am_labels.specs.declared.op.Op.TheVariants.{Equal, NotEqual, Matches, NotMatches}
-use Rattle.am_labels.specs.Matcher.{Condition}
-use Rattle.am_labels.specs.MatcherText.{is_space, is_blank, begins_name, continues_name, is_name, operator_text, unescaped_text, is_trimmed, SpellsOne, Spells, matcher_pieces, without_opening, without_closing, pieces_of_words, WordsSpell}
+use Rattle.am_labels.specs.declared.op.Op.TheVariants.{Equal, Matches}
+use Rattle.am_labels.specs.declared.op.TheConstants.Op.{ALL}
+use Rattle.am_labels.specs.Matcher.{Condition, operator_text}
+use Rattle.am_labels.specs.MatcherText.{is_space, is_blank, begins_name, continues_name, is_name, unescaped_text, is_trimmed, IsLongest, SpellsOne, Spells, matcher_pieces, without_opening, without_closing, pieces_of_words, WordsSpell}
 use Rattle.am_labels.specs.MatcherReading.{ReturnsReading, read_body, read_operator, read_name, read_piece, read_each_piece, read_list, read_words, without_leading_blanks, without_trailing_blanks, ◌>>=◌}
+use Rattle.am_labels.proofs.OperatorLemmas.{is_short, stands_first}
 use Rattle.am_labels.proofs.MatcherTextSteps.{whole_piece}
-use Rattle.am_labels.proofs.MatcherTextLists.{one_byte, drop_prefix, take_prefix, all_of_prefix, first_after_prefix, all_append, all_of_suffix, last_before_suffix, take_before_suffix}
+use Rattle.am_labels.proofs.MatcherTextLists.{drop_prefix, take_prefix, all_of_prefix, first_after_prefix, all_append, all_of_suffix, last_before_suffix, take_before_suffix}
 use Rattle.am_labels.proofs.MatcherTextBodies.{body_is_read, read_is_body}
 
 -- ---- bytes
@@ -55,9 +57,15 @@ unfolding read_name
 name_is_read name rest h e =
     rw (name_begins name rest h, take_prefix continues_name name rest (name_continues name h) e, drop_prefix continues_name name rest (name_continues name h) e) refl
 
-operator_is_read : (op : Op) (rest : List ℕ) → (op ≡ Equal → (get_or rest 0 0 == 126) ≡ false) → read_operator (operator_text op ++ rest) ≡ Some (op, rest)
+operator_is_read : (op : Op) (rest : List ℕ) → IsLongest op (operator_text op ++ rest) → read_operator (operator_text op ++ rest) ≡ Some (op, rest)
 unfolding read_operator
-operator_is_read Equal rest h = rw (h refl) refl
+operator_is_read Equal [] h = refl
+operator_is_read Equal (c ∷ rest) h = elim (cases_Bool (c == 126)) [
+  | inl tilde ↦
+      let at : c ≡ 126 = eqb-true c 126 tilde in
+      absurd (omega (arith, h Matches rest (ap (λ d. 61 ∷ d ∷ rest) at)))
+  | inr other ↦ rw other refl
+]
 operator_is_read _ rest h = refl
 
 raw_is_cut : (after raw behind : List ℕ) → is_blank after ≡ true → is_blank behind ≡ true → is_trimmed raw ≡ true → without_trailing_blanks (without_leading_blanks (after ++ (raw ++ behind))) ≡ raw
@@ -105,49 +113,29 @@ name_parts text name rest e =
     let r : drop (prefix_len continues_name text) text ≡ rest = ap (λ (p : List ℕ × List ℕ). p.1) f.1 in
     (rw (← n, ← r) (sym (take-append-drop (prefix_len continues_name text) text)), rw (← n) (named text f.0))
 
-two_bytes : (b c : ℕ) (text : List ℕ) → 0 < b → 0 < c → (get_or text 0 0 == b) ≡ true → (get_or text 1 0 == c) ≡ true → text ≡ b ∷ c ∷ drop 2 text
-two_bytes b c [] l k e f = absurd (omega (arith, eqb-true 0 b e))
-two_bytes b c (d ∷ text) l k e f = rw (eqb-true d b e) (ap (λ r. b ∷ r) (one_byte c text k f))
-
--- an operator and what follows it, as they stand in a text
-abbrev Stand : List ℕ → Op → List ℕ → Type 0
-Stand text op rest = (text ≡ operator_text op ++ rest) × (op ≡ Equal → (get_or rest 0 0 == 126) ≡ false)
-
 -- what is said of what is read is said of the same again
 pub said_again : {A B : Type 0} (P : A → B → Type 0) (a x : A) (b y : B)
     → ◌≡◌ {A = Option (A × B)} (Some (a, b)) (Some (x, y)) → P a b → P x y
 said_again P a x b y e said = let same = some_pair_parts a x b y e in rw (← same.0, ← same.1) said
 
-get_or-drop_one : (text : List ℕ) → get_or (drop 1 text) 0 0 ≡ get_or text 1 0
-get_or-drop_one [] = refl
-get_or-drop_one (c ∷ text) = refl
+-- an operator and what follows it, as they stand in a text
+abbrev Stand : List ℕ → Op → List ℕ → Type 0
+Stand text op rest = (text ≡ operator_text op ++ rest) × IsLongest op (operator_text op ++ rest)
 
 operator_parts : (text : List ℕ) (op : Op) (rest : List ℕ) → read_operator text ≡ Some (op, rest) → Stand text op rest
 unfolding read_operator
-operator_parts text op rest e = elim (cases_Bool (get_or text 0 0 == 61)) [
-  | inl equals ↦
-      let f = rw equals at e in
-      elim (cases_Bool (get_or text 1 0 == 126)) [
-        | inl tilde ↦ said_again (Stand text) Matches op (drop 2 text) rest (rw tilde at f) (two_bytes 61 126 text (omega arith) (omega arith) equals tilde, λ q. cc)
-        | inr other ↦ said_again (Stand text) Equal op (drop 1 text) rest (rw other at f) (one_byte 61 text (omega arith) equals, λ _. rw (get_or-drop_one text) other)
-      ]
-  | inr not_equals ↦
-      let f = rw not_equals at e in
-      elim (cases_Bool (get_or text 0 0 == 33)) [
-        | inl bang ↦
-            let g = rw bang at f in
-            elim (cases_Bool (get_or text 1 0 == 61)) [
-              | inl equals ↦ said_again (Stand text) NotEqual op (drop 2 text) rest (rw equals at g) (two_bytes 33 61 text (omega arith) (omega arith) bang equals, λ q. cc)
-              | inr other ↦
-                  let h = rw other at g in
-                  elim (cases_Bool (get_or text 1 0 == 126)) [
-                    | inl tilde ↦ said_again (Stand text) NotMatches op (drop 2 text) rest (rw tilde at h) (two_bytes 33 126 text (omega arith) (omega arith) bang tilde, λ q. cc)
-                    | inr none ↦ absurd (none-some (op, rest) (rw none at h))
-                  ]
-            ]
-        | inr none ↦ absurd (none-some (op, rest) (rw none at f))
-      ]
-]
+operator_parts text op rest e =
+    let stands : text ≡ operator_text op ++ rest = stands_first ALL text op rest e in (
+      stands,
+      λ other more there. elim (cases_lt (length (operator_text op)) (length (operator_text other))) [
+        | inl longer ↦
+            let longest : IsLongest other (operator_text other ++ more) = λ third _ _. omega (arith, longer, (is_short op).0, (is_short third).1) in
+            let also = operator_is_read other more longest in
+            let same = some_pair_parts op other rest more (sym e ∙ ap read_operator (stands ∙ there) ∙ also) in
+            absurd (omega (arith, longer, ap (λ o. length (operator_text o)) same.0))
+        | inr most ↦ most
+      ],
+    )
 
 raw_trimmed : (text : List ℕ) → is_space (get_or text 0 0) ≡ false → is_trimmed (without_trailing_blanks text) ≡ true
 raw_trimmed text first =
@@ -195,7 +183,7 @@ spelled_by piece name op body n o b =
           (all_of_prefix is_space op.1))
           (all_of_suffix is_space v);
       name = named.1;
-      operator = λ q. rw tail (stands.1 q);
+      operator = rw tail stands.1;
       trimmed = raw_trimmed v (first_after_prefix is_space op.1 refl);
       value = record { body = body; has_body = body_is.0; no_quote = body_is.1; value_is = refl };
     }

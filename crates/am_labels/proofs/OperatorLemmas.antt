@@ -1,39 +1,111 @@
 -- What is so of an operator by what it is, whichever it is.
-use Rattle.std.proofs.Common.{◌≡◌, ℕ, List, Bool, true, false, not, cond, refl, ap, sym, ◌∙◌}
+use Rattle.std.proofs.Common.{◌≡◌, ℕ, ◌+◌, ◌<◌, ◌≤◌, List, ◌∷◌, ◌++◌, Bool, true, false, not, cond}
+use Rattle.std.proofs.Common.{refl, ap, sym, ◌∙◌, arith, length, get_or, [], take, drop, Some}
+use Rattle.std.proofs.Common.{inl, inr, add-one}
+use Rattle.std.proofs.Math.Seq.{drop-cons}
+use Rattle.std.proofs.lemmas.Bool.{cases_Bool}
+use Rattle.std.proofs.lemmas.List.{take-append-drop}
+use Rattle.std.proofs.lemmas.Slice.Eq.{bytes_eq-Decides}
+use Rattle.std.proofs.lemmas.Option.{some_pair_parts, none-some}
 use Rattle.am_labels.specs.declared.op.Op.{Op}
-use Rattle.am_labels.specs.declared.op.Op.TheVariants.{Equal}
+use Rattle.am_labels.specs.declared.op.Op.TheVariants.{Equal, NotEqual, Matches, NotMatches}
+use Rattle.am_labels.specs.declared.op.Comparison.TheVariants.{Text, Pattern}
 use Rattle.am_universe.specs.Text.{same_text}
 use Rattle.am_labels.specs.Pattern.{finds}
-use Rattle.am_labels.specs.Matcher.{is_equality, takes_pattern, negates, holds}
+use Rattle.am_labels.specs.Matcher.{operator_text, comparison, is_equality, negates, holds}
+use Rattle.am_labels.specs.MatcherText.{IsLongest}
+use Rattle.am_labels.specs.MatcherReading.{first_operator}
 
 pub equality_is : (op : Op) → is_equality op ≡ true → op ≡ Equal
 equality_is Equal e = refl
 equality_is _ e = absurd (cc)
 
--- what an operator asks of a text, whose answer it may negate
+-- ---- How it is written.
+
+pub is_short : (op : Op) → (1 ≤ length (operator_text op)) × (length (operator_text op) ≤ 2)
+is_short Equal = (omega arith, omega arith)
+is_short _ = (omega arith, omega arith)
+
+sign_alone : (op : Op) (c : ℕ) (more rest : List ℕ) → (c ≡ 126 → ⊥)
+    → 61 ∷ c ∷ more ≡ operator_text op ++ rest → length (operator_text op) ≤ 1
+sign_alone Equal c more rest other e = omega arith
+sign_alone Matches c more rest other e = absurd (other (ap (λ t. get_or t 1 0) e))
+sign_alone _ c more rest other e = absurd (omega (arith, ap (λ t. get_or t 0 0) e))
+
+pub is_longest : (op : Op) (c : ℕ) (more : List ℕ) → (c ≡ 126 → ⊥)
+    → IsLongest op (operator_text op ++ c ∷ more)
+is_longest Equal c more other = λ longer rest e. sign_alone longer c more rest other e
+is_longest _ c more other = λ longer rest e. (is_short longer).1
+
+-- ---- How it is read.
+
+-- where it is read it stands
+pub stands_first : (ops : List Op) (text : List ℕ) (op : Op) (rest : List ℕ)
+    → first_operator ops text ≡ Some (op, rest) → text ≡ operator_text op ++ rest
+stands_first [] text op rest e = absurd (none-some (op, rest) e)
+stands_first (o ∷ ops) text op rest e =
+    let n = length (operator_text o) in
+    elim (cases_Bool (same_text (take n text) (operator_text o))) [
+      | inl there ↦
+          let front = (bytes_eq-Decides (take n text) (operator_text o)).0 there in
+          let same = some_pair_parts o op (drop n text) rest (rw there at e) in
+          rw (← same.0, ← same.1)
+          (sym (ap (λ f. f ++ drop n text) (sym front) ∙ take-append-drop n text))
+      | inr missing ↦ stands_first ops text op rest (rw missing at e)
+    ]
+
+-- of the operators from an index on the first stands there, or it is one behind it
+pub first_here : (ops : List Op) (k : ℕ) (text written : List ℕ) → k < length ops
+    → written ≡ operator_text (get_or ops k Equal)
+    → same_text (take (length written) text) written ≡ true
+    → first_operator (drop k ops) text ≡ Some (get_or ops k Equal, drop (length written) text)
+first_here ops k text written within is there =
+    let there' = rw is at there in
+    rw (drop-cons ops k Equal, is, there') refl
+
+pub first_behind : (ops : List Op) (k : ℕ) (text written : List ℕ) → k < length ops
+    → written ≡ operator_text (get_or ops k Equal)
+    → same_text (take (length written) text) written ≡ false
+    → first_operator (drop (k + 1) ops) text ≡ first_operator (drop k ops) text
+first_behind ops k text written within is missing =
+    let missing' = rw is at missing in
+    rw (drop-cons ops k Equal, missing', add-one) refl
+
+-- ---- What it asks of a text.
+
+-- the answer, which the operator may negate
 abbrev pub asks : Op → List ℕ → List ℕ → Bool
-asks op value text = cond (takes_pattern op) (finds value text) (same_text text value)
+asks op value text = cond (negates op) (not (holds op value text)) (holds op value text)
 
-abbrev truth : Op → Bool → Bool
-truth op answer = cond (negates op) (not answer) answer
+not_twice : (b : Bool) → not (not b) ≡ b
+not_twice true = refl
+not_twice false = refl
 
-holds_is : (op : Op) (value text : List ℕ) → holds op value text ≡ truth op (asks op value text)
-holds_is Equal value text = refl
-holds_is _ value text = refl
+pub asks_text : (op : Op) (value text : List ℕ) → comparison op ≡ Text
+    → asks op value text ≡ same_text text value
+asks_text Equal value text e = refl
+asks_text NotEqual value text e = not_twice (same_text text value)
+asks_text _ value text e = absurd (cc)
 
-one_answer : (op : Op) (a b : Bool) → truth op a ≡ truth op b → a ≡ b
-one_answer op true true e = refl
-one_answer op false false e = refl
-one_answer Equal a b e = absurd (cc)
-one_answer _ a b e = absurd (cc)
+pub asks_pattern : (op : Op) (value text : List ℕ) → comparison op ≡ Pattern
+    → asks op value text ≡ finds value text
+asks_pattern Matches value text e = refl
+asks_pattern NotMatches value text e = not_twice (finds value text)
+asks_pattern _ value text e = absurd (cc)
+
+negated : (negates a b : Bool)
+    → cond negates (not a) a ≡ cond negates (not b) b → a ≡ b
+negated false a b e = e
+negated true true true e = refl
+negated true false false e = refl
+negated true true false e = absurd (cc)
+negated true false true e = absurd (cc)
 
 -- the truth on two texts is one where the answers are, and the answers where the truth is
 pub holds_same : (op : Op) (value x y : List ℕ) → asks op value x ≡ asks op value y
     → holds op value x ≡ holds op value y
-holds_same op value x y e = holds_is op value x ∙ ap (truth op) e ∙ sym (holds_is op value y)
+holds_same op value x y e = negated (negates op) (holds op value x) (holds op value y) e
 
 pub asks_same : (op : Op) (value x y : List ℕ) → holds op value x ≡ holds op value y
     → asks op value x ≡ asks op value y
-asks_same op value x y e =
-    one_answer op (asks op value x) (asks op value y)
-    (sym (holds_is op value x) ∙ e ∙ holds_is op value y)
+asks_same op value x y e = ap (λ truth. cond (negates op) (not truth) truth) e

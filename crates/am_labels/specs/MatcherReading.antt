@@ -4,12 +4,13 @@ use Rattle.std.specs.Prelude.{◌≡◌, ℕ, ◌+◌, ◌-◌, List, [], ◌∷
 use Rattle.std.specs.Prelude.{◌==◌, if◌then◌else◌, Option, Some, None, ◌⊎◌, Result, Ok, Err}
 use Rattle.std.specs.Option.{option_and_then}
 use Rattle.std.specs.List.{range_with_len, prefix_len, suffix_len, position_or_len}
-use Rattle.am_universe.specs.Bytes.{double_quote, equals_sign, exclamation_mark, tilde}
+use Rattle.am_universe.specs.Bytes.{double_quote}
+use Rattle.am_universe.specs.Text.{same_text}
 use Rattle.am_universe.specs.declared.kind.Kind.{Kind}
 use Rattle.am_universe.specs.declared.kind.Kind.TheVariants.{Memory, BadMatcher}
 use Rattle.am_labels.specs.declared.op.Op.{Op}
-use Rattle.am_labels.specs.declared.op.Op.TheVariants.{Equal, NotEqual, Matches, NotMatches}
-use Rattle.am_labels.specs.Matcher.{Condition}
+use Rattle.am_labels.specs.declared.op.TheConstants.Op.{ALL}
+use Rattle.am_labels.specs.Matcher.{Condition, operator_text}
 use Rattle.am_labels.specs.MatcherText.{is_space, begins_name, continues_name, is_quote}
 use Rattle.am_labels.specs.MatcherText.{unescaped_text, matcher_pieces}
 use Rattle.am_labels.specs.MatcherText.{without_opening, without_closing, pieces_of_words}
@@ -48,16 +49,16 @@ read_body raw =
     else None)
     else (if first_quote raw == length raw then Some raw else None)
 
--- An operator, and what follows it.
+-- An operator, and what follows it: the first of all that stands there.
+abbrev pub first_operator : List Op → List ℕ → Option (Op × List ℕ)
+first_operator [] text = None
+first_operator (op ∷ more) text =
+    if same_text (take (length (operator_text op)) text) (operator_text op)
+    then Some (op, drop (length (operator_text op)) text)
+    else first_operator more text
+
 unfoldable pub read_operator : List ℕ → Option (Op × List ℕ)
-read_operator text =
-    if slice_index text 0 == equals_sign then
-    (if slice_index text 1 == tilde then Some (Matches, drop 2 text)
-    else Some (Equal, drop 1 text))
-    else (if slice_index text 0 == exclamation_mark then
-    (if slice_index text 1 == equals_sign then Some (NotEqual, drop 2 text)
-    else (if slice_index text 1 == tilde then Some (NotMatches, drop 2 text) else None))
-    else None)
+read_operator = first_operator ALL
 
 -- A name, and what follows it.
 unfoldable pub read_name : List ℕ → Option (List ℕ × List ℕ)

@@ -11,8 +11,8 @@ use Rattle.am_labels.specs.declared.limits.TheConstants.{MAX_MATCHERS}
 use Rattle.am_labels.specs.Matcher.{Condition, takes_pattern}
 use Rattle.am_labels.specs.MatcherText.{WordsSpell}
 
--- The value of a matcher, if it is a pattern, is of the profile, and the grammar reads it; and so
--- that of each matcher of a list.
+-- A matcher has a valid pattern, if its operator takes one: the value is in the profile, and the
+-- grammar reads it. `have_valid_patterns` says so of each matcher of a list.
 abbrev pub has_valid_pattern : Condition → Bool
 has_valid_pattern m = not (takes_pattern m.op) || in_profile m.value && is_pattern m.value
 

@@ -2,17 +2,16 @@
 -- said by indices into the text, which is a list of bytes, and by counts, not by a reader's states.
 -- The syntax is the classic one; where the reference leaves something open, it is this project's
 -- reading.
-use Rattle.std.specs.Prelude.{◌≡◌, ℕ, zero, suc, ◌+◌, ◌-◌, ◌%◌, List, [], ◌∷◌, ◌++◌, length}
-use Rattle.std.specs.Prelude.{take, drop, slice_index, slice_range, EachIndex, Bool, false, not}
-use Rattle.std.specs.Prelude.{◌&&◌, ◌||◌, ◌==◌, if◌then◌else◌, IsTrue, IsFalse, ◌⊎◌, codes}
+use Rattle.std.specs.Prelude.{◌≡◌, ℕ, zero, suc, ◌+◌, ◌-◌, ◌%◌, ◌≤◌, List, [], ◌∷◌, ◌++◌}
+use Rattle.std.specs.Prelude.{length, take, drop, slice_index, slice_range, EachIndex, Bool, false}
+use Rattle.std.specs.Prelude.{not, ◌&&◌, ◌||◌, ◌==◌, if◌then◌else◌, IsTrue, IsFalse, ◌⊎◌}
 use Rattle.std.specs.List.{filter, list_all, range_with_len, suffix_len, AllZip}
 use Rattle.std.specs.Char.{is_ascii_whitespace}
 use Rattle.am_labels.specs.declared.op.Op.{Op}
-use Rattle.am_labels.specs.declared.op.Op.TheVariants.{Equal, NotEqual, Matches, NotMatches}
 use Rattle.am_universe.specs.Bytes.{line_feed, double_quote, comma, colon, backslash, letter_n}
-use Rattle.am_universe.specs.Bytes.{left_brace, right_brace, tilde}
+use Rattle.am_universe.specs.Bytes.{left_brace, right_brace}
 use Rattle.am_universe.specs.Universe.{begins_label_name, continues_label_name}
-use Rattle.am_labels.specs.Matcher.{Condition}
+use Rattle.am_labels.specs.Matcher.{Condition, operator_text}
 
 -- ---- Bytes.
 
@@ -33,15 +32,6 @@ continues_name c = continues_label_name c || c == colon
 abbrev pub is_name : List ℕ → Bool
 is_name [] = false
 is_name (c ∷ cs) = begins_name c && list_all continues_name cs
-
--- How an operator is written.
--- Source: Alertmanager configuration reference 0.25, "<matcher>".
--- Example: `team!~"d.*"` has the operator `!~`.
-abbrev pub operator_text : Op → List ℕ
-operator_text Equal = codes "="
-operator_text NotEqual = codes "!="
-operator_text Matches = codes "=~"
-operator_text NotMatches = codes "!~"
 
 -- ---- Backslashes and quotes.
 
@@ -140,8 +130,15 @@ abbrev pub is_trimmed : List ℕ → Bool
 is_trimmed raw =
     not (is_space (slice_index raw 0)) && not (is_space (slice_index raw (length raw - 1)))
 
+-- No operator that stands at the beginning of a text is longer than this one. So `=~` is never `=`
+-- before a `~`.
+abbrev pub IsLongest : Op → List ℕ → Type 0
+IsLongest op text =
+    (other : Op) (rest : List ℕ) → text ≡ operator_text other ++ rest
+    → length (operator_text other) ≤ length (operator_text op)
+
 -- A piece spells a condition: whitespace, a name, whitespace, an operator, whitespace, a raw value,
--- whitespace. `~` does not follow the operator `=` directly.
+-- whitespace. The operator is the longest that stands there.
 -- Source: Alertmanager configuration reference 0.25, "<matcher>".
 -- Example: ` team = db ` spells the name `team`, the operator `=` and the value `db`.
 pub record SpellsOne (piece : List ℕ) (m : Condition) : Type 0 where
@@ -154,7 +151,7 @@ pub record SpellsOne (piece : List ℕ) (m : Condition) : Type 0 where
       ≡ before ++ (m.name ++ (between ++ (operator_text m.op ++ (after ++ (raw ++ behind)))))
   pub blanks : IsTrue (((is_blank before && is_blank between) && is_blank after) && is_blank behind)
   pub name : IsTrue (is_name m.name)
-  pub operator : m.op ≡ Equal → IsFalse (slice_index (after ++ (raw ++ behind)) 0 == tilde)
+  pub operator : IsLongest m.op (operator_text m.op ++ (after ++ (raw ++ behind)))
   pub trimmed : IsTrue (is_trimmed raw)
   pub value : HasValue raw m.value
 

@@ -1,13 +1,14 @@
-//! Where the braces of a question end.
+//! Where a list of matchers in braces ends in a question.
 
 ghost use Rattle.std.specs.Prelude.{◌≡◌, ◌<◌, length, IfSome};
 ghost use Rattle.am_labels.specs.BraceList.{first_closing, brace_len};
 
 use crate::quotes::QuoteState;
 
-/// The length in bytes of the matcher list in braces that a text begins with: from its `{` to the
-/// first `}` outside quoted parts, which are those of a matcher text. `None` where it begins with
-/// no `{`, or no such `}` follows.
+/// The length in bytes of the matcher list in braces with which a text begins.
+///
+/// The list goes from the `{` to the first `}` outside quoted parts, which are those of a matcher
+/// text. `None` if the text does not begin with `{`, or has no such `}`.
 pub fn brace_len(text: &str) -> Option<usize>
     ensures len { result ≡ brace_len text.now }
 {

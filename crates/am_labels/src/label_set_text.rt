@@ -12,12 +12,11 @@ use crate::matcher_text::parse_words;
 use am_universe::{Kind, LabelSet};
 use std::alloc::{AllocError, Global};
 
-/// Reads a label set from the text of a list of matchers, each with `=`, as
-/// `team="db",severity="warning"`. An empty value leaves the label out.
+/// Reads a label set from the text of a list of matchers, as `team="db",severity="warning"`.
 ///
-/// The first of: the refusals of `parse_matchers`; `BadMatcher`, an operator is not `=`;
-/// `Duplicate`, a name stands twice, also where a value is empty. `Memory` comes wherever memory
-/// ran out.
+/// An empty value leaves the label out. Fails with the first of: the refusals of `parse_matchers`;
+/// `BadMatcher`, an operator is not `=`; `Duplicate`, a name occurs twice, even if a value is
+/// empty. `Memory` comes whenever memory runs out.
 pub fn parse_set(alloc: Global, text: &str) -> Result<LabelSet, Kind>
     ensures spelled { IfOk result (λ set. WordsSpellSet (text.now ∷ []) set) }
     ensures refused { IfErr result (λ kind. kind ≢ kinds.Memory
@@ -26,12 +25,13 @@ pub fn parse_set(alloc: Global, text: &str) -> Result<LabelSet, Kind>
     parse_set_words(alloc, &[text])
 }
 
-/// Reads a label set from words, each with `=`. One word is read as `parse_set` reads it, and each
-/// of several is one matcher, whose value may have commas, as `note=a,b`.
+/// Reads a label set from words, each with `=`, as `team=db` and `severity=warning`.
 ///
-/// The first of: `BadMatcher`, one of several words is no matcher; `Limit`, they are more than
-/// `MAX_MATCHERS`; the refusals of their patterns, as `parse_matchers` has them; and then those of
-/// `parse_set`. `Memory` comes wherever memory ran out.
+/// A single word is read as `parse_set` reads it. Each of several words is one matcher, whose value
+/// may have commas, as `note=a,b`. Fails with the first of: `BadMatcher`, one of several words is
+/// not a matcher; `Limit`, there are more than `MAX_MATCHERS` matchers; the refusals of their
+/// patterns, as in `parse_matchers`; and then `BadMatcher` and `Duplicate`, as in `parse_set`.
+/// `Memory` comes whenever memory runs out.
 pub fn parse_set_words(alloc: Global, words: &[&str]) -> Result<LabelSet, Kind>
     ensures spelled { IfOk result (λ set.
         WordsSpellSet (map (λ word. word.now) words.now) set) }
@@ -54,7 +54,7 @@ fn are_equalities(matchers: &[Matcher]) -> bool
     matchers.iter().all(|matcher| matcher.op().is_equality())
 }
 
-/// Whether a name stands twice.
+/// Whether a name occurs twice.
 fn repeats_name(matchers: &[Matcher]) -> bool
     ensures { result ≡ repeats_name matchers.now }
 {

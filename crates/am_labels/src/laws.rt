@@ -21,7 +21,7 @@ pub use am_universe::laws::{
     declared_value, limits_of_universes, one_choice_a_line, same_text_decides, undeclared_value,
 };
 
-/// How many matchers a list may have, and how many lists of a space may be impossible.
+/// The limits of the matchers of a list, and of the impossible lists of a space.
 pub fn limit_of_matchers()
     ensures matchers { MAX_MATCHERS ≡ 64 }
     ensures impossible { MAX_IMPOSSIBLE ≡ 64 }
@@ -33,14 +33,14 @@ pub fn each_pattern_is_a_join()
     ensures joined { (pattern : List ℕ) → (pieces : List Piece) × IsJoinOf pattern pieces }
 {}
 
-/// It is the join of no other pieces.
+/// A pattern is the join of one list of pieces only.
 #[tactic(auto, using(crate::proofs::PatternUnique::one_join))]
 pub fn one_join_a_pattern()
     ensures same_pieces { (pattern : List ℕ) (a b : List Piece)
         → IsJoinOf pattern a → IsJoinOf pattern b → a ≡ b }
 {}
 
-/// A pattern is of the profile exactly where the test passes that cuts it step by step.
+/// A pattern is in the profile exactly if `in_profile` is true of it, which cuts it step by step.
 pub fn the_profile_is_decided()
     ensures decided { (pattern : List ℕ) → IsInProfile pattern ↔ IsTrue (in_profile pattern) }
 {}
@@ -60,13 +60,13 @@ pub fn one_list_of_words()
         → WordsSpell (text ∷ []) ms ↔ Spells text ms }
 {}
 
-/// A text spells a list exactly where reading it step by step gives that list.
+/// A text spells a list exactly if reading it step by step gives that list.
 pub fn texts_are_read()
     ensures exactly { (text : List ℕ) (ms : List Condition)
         → Spells text ms ↔ (read_list text ≡ Some ms) }
 {}
 
-/// In the set of a list that repeats no name, each name of the list has its value.
+/// If a list repeats no name, each of its names has its value in the label set of the list.
 #[tactic(auto, using(crate::proofs::ParsedLabelSetLemmas::value_of_listed))]
 pub fn listed_value()
     ensures value { (ms : List Condition) (m : Condition)
@@ -74,7 +74,7 @@ pub fn listed_value()
         → value_of (set_of_list ms) m.name ≡ m.value }
 {}
 
-/// In the set of a list a name that is not in the list has the empty text.
+/// In the label set of a list, a name that is not in the list has the empty text.
 #[tactic(auto, using(crate::proofs::ParsedLabelSetLemmas::value_of_unlisted))]
 pub fn unlisted_value()
     ensures value { (ms : List Condition) (name : List ℕ)
@@ -90,8 +90,8 @@ pub fn a_row_decides_a_matcher()
         → condition_holds (label_set_of u c) m ≡ row_holds (row_of u m) c }
 {}
 
-/// The truth of a list of matchers on the label set of a whole choice: each one's row is true at
-/// that choice.
+/// A list of matchers is true on the label set of a whole choice exactly if the row of each matcher
+/// is true at that choice.
 #[tactic(auto, using(crate::proofs::RowLawLemmas::rows_decide))]
 pub fn rows_decide_a_list()
     ensures same_truth { (u : List Label) (c : List ℕ) (ms : List Condition)
@@ -99,13 +99,14 @@ pub fn rows_decide_a_list()
         → all_hold (label_set_of u c) ms ≡ rows_hold u ms c }
 {}
 
-/// The choices of a space are the whole choices that are possible, in declared order.
+/// The choices of a space are exactly the whole choices that are possible, in declared order.
 pub fn choices_of_a_space_are_the_possible_ones()
     ensures exactly { (s : Space) (c : List ℕ) → Contains (all_choices s) c ↔ IsChoiceOf s c }
     ensures ascending { (s : Space) → IsStrictlySortedBy (slice_cmp nat_cmp) (all_choices s) }
 {}
 
-/// Where nothing is impossible, they are all whole choices; where the empty list is, there is none.
+/// If no list is impossible, a space has all whole choices; if the empty list is impossible, it has
+/// none.
 #[tactic(auto, using(crate::proofs::SpaceLaws::all_without_lists, crate::proofs::SpaceLaws::none_of_empty_list))]
 pub fn an_impossible_list_takes_away_what_it_matches()
     ensures all { (labels : List Label) → all_choices (record { labels = labels; impossible = [] })

@@ -1,13 +1,13 @@
 //! Matchers: their patterns, their texts, and which label sets they match.
 //!
-//! A [`Matcher`] asks something of the value of a label, and [`Matchers`] are a list of them, as
-//! Alertmanager has them. [`PreparedMatchers`] decide a list on one label set after another.
-//! [`parse_matchers`] reads a list from a text, and [`parse_set`] a label set. [`brace_len`] says
-//! where the text of a list ends in a question. A [`Row`] is a matcher's truth on each value of its
-//! label in a [`Universe`]. A [`Space`] is a universe without its impossible label sets.
+//! A [`Matcher`] tests the value of a label, and [`Matchers`] are a list of them, as Alertmanager
+//! has them. [`PreparedMatchers`] test one label set after another. [`parse_matchers`] reads a list
+//! from its text, and [`parse_set`] a label set. [`brace_len`] says where the text of a list ends
+//! in a question. A [`Row`] is a matcher's truth on each value of its label in a [`Universe`]. A
+//! [`Space`] is a universe without its impossible label sets.
 //!
-//! Universes and their label sets, refusals and sinks are those of the crate `am_universe`. The
-//! names of it that callers of this crate need are given again here.
+//! Universes, label sets, refusals and sinks come from the crate `am_universe`. This crate exports
+//! those of its names that callers need.
 #![tactic(auto)]
 
 // How much there may be.
@@ -24,7 +24,7 @@ mod op;
 mod pattern;
 mod pattern_profile;
 
-pub use op::Op;
+pub use op::{Comparison, Op};
 
 // A matcher, a list of them, and what decides one label set after another.
 mod matcher;

@@ -11,9 +11,9 @@ use am_universe::Kind;
 use std::alloc::{AllocError, Global};
 use std::marker::Model;
 
-/// A matcher: what it asks of the value of a label.
+/// A matcher on the value of a label (Alertmanager configuration reference 0.25, `<matcher>`).
 ///
-/// The value of `=~` and `!~` is a pattern, which has to match the label's whole value.
+/// The value of `=~` and `!~` is a pattern, which is compared with the whole value of the label.
 #[derive(Drop)]
 pub struct Matcher {
     name: String,
@@ -37,12 +37,12 @@ impl Model for Matcher {
 }
 
 impl Matcher {
-    /// A matcher on the label of this name.
+    /// Makes a matcher on the label of this name.
     ///
-    /// `Empty` for the empty name; then, for `=~` and `!~`, `PatternProfile` exactly where the
-    /// value is outside the profile of patterns, and `Pattern` for one of the profile that the
-    /// engine refuses, as it does wherever its grammar does not read the pattern between `^(?:` and
-    /// `)$`. `Memory` comes only where a pattern of the profile was to be built.
+    /// Fails with `Empty` for the empty name. Then, for `=~` and `!~`, it fails with
+    /// `PatternProfile` exactly if the value is outside the profile of patterns, and with `Pattern`
+    /// if the engine refuses a pattern of the profile. The engine refuses each that its grammar
+    /// does not read between `^(?:` and `)$`. `Memory` comes only for a pattern of the profile.
     pub fn new(alloc: Global, name: String, op: Op, value: String) -> Result<Matcher, Kind>
         ensures ok { IfOk result (λ m.
             m ≡ record { name = string_bytes name; op = op; value = string_bytes value }) }
@@ -95,7 +95,7 @@ impl Matcher {
         self.value.as_str()
     }
 
-    /// What decides this matcher on one text after another.
+    /// Prepares this matcher to test one text after another.
     pub(crate) fn prepare(&self, alloc: Global) -> Result<PreparedMatcher<'_>, AllocError>
         ensures { IfOk result (λ prepared. prepared ≡ self.now) }
     {
@@ -110,8 +110,8 @@ impl Matcher {
     }
 }
 
-/// Decides a matcher on one text after another. One search of the engine serves them all; it keeps
-/// its caches from one to the next, and deciding a text cannot fail.
+/// Tests one text after another by a matcher. The engine keeps its caches from one text to the
+/// next, and a test cannot fail.
 #[derive(Drop)]
 pub(crate) struct PreparedMatcher<'m> {
     matcher: &'m Matcher,

@@ -23,7 +23,7 @@ use am_universe::{Kind, begins_label_name, continues_label_name};
 use std::alloc::{AllocError, Global};
 use std::marker::Model;
 
-/// A matcher as a text spells it: its pattern, if it has one, is neither checked nor built.
+/// A matcher as a text spells it. Its pattern, if it has one, is neither checked nor built.
 #[derive(Debug, Drop)]
 struct Condition {
     name: String,
@@ -41,13 +41,14 @@ impl Model for Condition {
         record { name = string_bytes m.name; op = m.op; value = string_bytes m.value } };
 }
 
-/// Reads a list of matchers in the classic syntax, as `team="db",severity=~"crit.*"`, with or
-/// without braces.
+/// Reads a list of matchers in the classic syntax, as `team="db",severity=~"crit.*"`.
 ///
-/// The first of: `BadMatcher`, the text spells no list; `Limit`, it spells one of more than
-/// [`MAX_MATCHERS`]; and then, matcher by matcher, `PatternProfile` for a pattern outside the
-/// profile and `Pattern` for one of the profile that the engine refuses, as it does wherever its
-/// grammar does not read it. `Memory` comes wherever memory ran out.
+/// The syntax is that of the Alertmanager configuration reference 0.25, `<matcher>`. The list may
+/// have braces around it. Fails with the first of: `BadMatcher`, the text does not spell a list;
+/// `Limit`, the list has more than [`MAX_MATCHERS`] matchers; and then, matcher by matcher,
+/// `PatternProfile`, the pattern is outside the profile, or `Pattern`, the engine refuses a pattern
+/// of the profile. The engine refuses each that its grammar does not read. `Memory` comes whenever
+/// memory runs out.
 pub fn parse_matchers(alloc: Global, text: &str) -> Result<Matchers, Kind>
     ensures spelled { IfOk result (λ ms. Spells text.now ms) }
     ensures at_most { IfOk result (λ ms. length ms ≤ MAX_MATCHERS) }
@@ -58,7 +59,7 @@ pub fn parse_matchers(alloc: Global, text: &str) -> Result<Matchers, Kind>
 }
 
 /// Reads a list of matchers from words: one word is the text of a list, and each of several is one
-/// matcher. They are refused as texts are, for `BadMatcher` where they spell no list.
+/// matcher. Fails as `parse_matchers` does, with `BadMatcher` if the words do not spell a list.
 pub(crate) fn parse_words(alloc: Global, words: &[&str]) -> Result<Matchers, Kind>
     ensures spelled { IfOk result (λ ms. WordsSpell (map (λ word. word.now) words.now) ms) }
     ensures at_most { IfOk result (λ ms. length ms ≤ MAX_MATCHERS) }
@@ -89,8 +90,8 @@ fn matchers_of(alloc: Global, list: Vec<Condition>) -> Result<Matchers, Kind>
     Ok(matchers)
 }
 
-/// The list of matchers that words spell, however long. `BadMatcher` where they spell none;
-/// `Memory`.
+/// Reads the list of matchers that words spell, however long. Fails with `BadMatcher` if they spell
+/// none, and with `Memory` if memory runs out.
 fn read_list(alloc: Global, words: &[&str]) -> Result<Vec<Condition>, Kind>
     ensures spelled { IfOk result (λ list.
         WordsSpell (map (λ word. word.now) words.now) list.items) }
@@ -252,18 +253,16 @@ fn name_len(text: &[u8]) -> usize
 }
 
 /// The operator that the text begins with, and what follows it.
-#[tactic(auto, unfolding(crate::specs::MatcherReading::read_operator))]
 fn read_operator(text: &[u8]) -> Result<(Op, &[u8]), Kind>
     ensures value { ReturnsReading (λ x. (x.0, x.1.now)) result (read_operator text.now) }
     ensures utf8 { IfOk result (λ x. IsUtf8 text.now → IsUtf8 x.1.now) }
 {
-    match text {
-        [b'=', b'~', rest @ ..] => Ok((Op::Matches, rest)),
-        [b'=', rest @ ..] => Ok((Op::Equal, rest)),
-        [b'!', b'=', rest @ ..] => Ok((Op::NotEqual, rest)),
-        [b'!', b'~', rest @ ..] => Ok((Op::NotMatches, rest)),
-        _ => Err(Kind::BadMatcher),
+    for op in &Op::ALL {
+        if let Some(rest) = text.strip_prefix(op.text().as_bytes()) {
+            return Ok((*op, rest));
+        }
     }
+    Err(Kind::BadMatcher)
 }
 
 /// What a raw value says: what stands between its quotes, or all of it where it begins with none.

@@ -37,7 +37,7 @@ impl Matchers {
         }
     }
 
-    /// These matchers, in their order.
+    /// The list of these matchers, in their order. There must be at most [`MAX_MATCHERS`].
     pub fn of(matchers: Vec<Matcher>) -> Matchers
         requires few { length matchers.items ≤ MAX_MATCHERS }
         ensures matchers { result ≡ matchers.items }
@@ -45,8 +45,10 @@ impl Matchers {
         Matchers { matchers }
     }
 
-    /// Adds a matcher at the end. `Limit` for one more than [`MAX_MATCHERS`]; `Memory`. After an
-    /// `Err` nothing has changed.
+    /// Adds a matcher at the end.
+    ///
+    /// Fails with `Limit` if there are [`MAX_MATCHERS`] already, and with `Memory` if memory runs
+    /// out; then nothing has changed.
     pub fn push(&mut self, matcher: Matcher) -> Result<(), Kind>
         ensures ok { OnOk result (self.new ≡ self.old ++ matcher ∷ []) }
         ensures room { OnOk result (length self.old < MAX_MATCHERS) }
@@ -64,9 +66,10 @@ impl Matchers {
         }
     }
 
-    /// Adds the matchers of another list at the end, in their order. `Limit` exactly where there
-    /// would be more than [`MAX_MATCHERS`] together, or else `Memory`. After an `Err` nothing has
-    /// changed, and the other list is dropped.
+    /// Adds the matchers of another list at the end, in their order.
+    ///
+    /// Fails with `Limit` exactly if there would be more than [`MAX_MATCHERS`], and with `Memory`
+    /// if memory runs out. Then nothing has changed, and the other list is dropped.
     pub fn append(&mut self, other: Matchers) -> Result<(), Kind>
         ensures ok { OnOk result (self.new ≡ self.old ++ other) }
         ensures room { OnOk result (length self.old + length other ≤ MAX_MATCHERS) }
@@ -116,7 +119,9 @@ impl Matchers {
         self.matchers.as_slice()
     }
 
-    /// Whether every matcher matches the label set. A label that is missing has the empty text.
+    /// Whether a label set matches every matcher. A label that is missing has the empty text.
+    ///
+    /// Fails only if memory runs out.
     pub fn matches(&self, alloc: Global, set: &LabelSet) -> Result<bool, AllocError>
         ensures matched { IfOk result (λ matched. matched ≡ all_hold set.now self.now) }
     {

@@ -1,8 +1,8 @@
 ghost use Rattle.std.specs.Prelude.{◌≡◌};
-ghost use Rattle.am_labels.specs.Matcher.{is_equality, takes_pattern, negates};
-ghost use Rattle.am_labels.specs.MatcherText.{operator_text};
+ghost use Rattle.am_labels.specs.Matcher.{operator_text, comparison, is_equality};
+ghost use Rattle.am_labels.specs.Matcher.{takes_pattern, negates};
 
-/// The operator of a matcher.
+/// The operator of a matcher (Alertmanager configuration reference 0.25, `<matcher>`).
 #[derive(Clone, Copy, Debug, PartialEq, Eq)]
 pub enum Op {
     /// `=`: the label has the value.
@@ -15,9 +15,19 @@ pub enum Op {
     NotMatches,
 }
 
+/// How an operator compares the value of a label.
+#[derive(Clone, Copy, Debug, PartialEq, Eq)]
+pub enum Comparison {
+    /// With a text: whether they are equal.
+    Text,
+    /// With a pattern: whether it matches the whole value.
+    Pattern,
+}
+
 impl Op {
-    /// Each operator once.
-    pub const ALL: [Op; 4] = [Op::Equal, Op::NotEqual, Op::Matches, Op::NotMatches];
+    /// All operators, those with longer texts first. So the first one with which a text begins is
+    /// the longest.
+    pub const ALL: [Op; 4] = [Op::NotEqual, Op::Matches, Op::NotMatches, Op::Equal];
 
     /// How the operator is written.
     pub fn text(self) -> &'static str
@@ -31,11 +41,21 @@ impl Op {
         }
     }
 
+    /// How the operator compares the value of a label.
+    pub fn comparison(self) -> Comparison
+        ensures comparison { result ≡ comparison self }
+    {
+        match self {
+            Op::Equal | Op::NotEqual => Comparison::Text,
+            Op::Matches | Op::NotMatches => Comparison::Pattern,
+        }
+    }
+
     /// Whether the operator takes its value as a pattern.
     pub fn takes_pattern(self) -> bool
         ensures takes_pattern { result ≡ takes_pattern self }
     {
-        matches!(self, Op::Matches | Op::NotMatches)
+        matches!(self.comparison(), Comparison::Pattern)
     }
 
     /// Whether the operator is `=`.
@@ -45,7 +65,7 @@ impl Op {
         matches!(self, Op::Equal)
     }
 
-    /// Whether the operator asks for the contrary of what its value says.
+    /// Whether the operator is `!=` or `!~`, which negate a comparison.
     pub(crate) fn negates(self) -> bool
         ensures { result ≡ negates self }
     {

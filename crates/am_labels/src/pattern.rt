@@ -28,9 +28,9 @@ impl Model for Pattern {
 }
 
 impl Pattern {
-    /// Compiles a pattern. `PatternProfile` exactly where it is outside the profile; otherwise
-    /// `Pattern` where the engine refuses it, and always where its grammar does not read the
-    /// anchored text; `Memory`.
+    /// Compiles a pattern. Fails with `PatternProfile` exactly if it is outside the profile; with
+    /// `Pattern` if the engine refuses it, as it always does if its grammar does not read the
+    /// anchored text; and with `Memory` if memory runs out.
     pub(crate) fn new(alloc: Global, value: &str) -> Result<Pattern, Kind>
         ensures value { IfOk result (λ p. p ≡ value.now) }
         ensures profile { OnOk result (in_profile value.now ≡ true) }

@@ -7,10 +7,10 @@ use am_universe::LabelSet;
 use std::alloc::{AllocError, Global};
 use std::marker::Model;
 
-/// Decides a list of matchers on one label set after another.
+/// Tests one label set after another by a list of matchers.
 ///
-/// A pattern's search is made at the first text that reaches it, and serves every text after that.
-/// So none is made that is not needed, even where only one label set is decided.
+/// The search for a pattern is made when the first text reaches it, and serves all later texts. So
+/// no search is made that is not needed, even for a single label set.
 #[derive(Drop)]
 pub struct PreparedMatchers<'m> {
     matchers: &'m [Matcher],
@@ -30,7 +30,7 @@ impl<'m> Model for PreparedMatchers<'m> {
 }
 
 impl Matchers {
-    /// What decides this list on one label set after another. It takes no memory yet.
+    /// Prepares this list to test one label set after another. Takes no memory yet.
     pub fn prepare(&self, alloc: Global) -> PreparedMatchers<'_>
         ensures matchers { result ≡ self.now }
     {
@@ -42,8 +42,9 @@ impl Matchers {
 }
 
 impl<'m> PreparedMatchers<'m> {
-    /// Whether every matcher matches the label set. A label that is missing has the empty text. An
-    /// `Err` comes only where memory was refused; the next label set is then decided as before.
+    /// Whether a label set matches every matcher. A label that is missing has the empty text.
+    ///
+    /// Fails only if memory runs out; the next label set is then tested as usual.
     pub fn matches(&mut self, alloc: Global, set: &LabelSet) -> Result<bool, AllocError>
         ensures matched { IfOk result (λ matched. matched ≡ all_hold set.now self.old) }
         ensures same { self.new ≡ self.old }

@@ -28,15 +28,17 @@ impl Model for Row {
 }
 
 impl Row {
-    /// The position of the matcher's label; `None` where the label is not declared.
+    /// The position of the matcher's label; `None` if the label is not declared.
     pub fn label(&self) -> Option<usize>
         ensures label { result ≡ self.now.label }
     {
         self.label
     }
 
-    /// Whether the matcher is true on the label's value at `j`. Where the label is not declared,
-    /// the answer is the same for every `j`: whether the matcher is true on the empty text.
+    /// Whether the matcher is true on the label's value at `j`.
+    ///
+    /// If the label is not declared, the answer is the same for every `j`: whether the matcher is
+    /// true on the empty text.
     pub fn holds(&self, j: usize) -> bool
         requires { IfSome self.now.label (λ _. j < length self.now.truths) }
         ensures truth { result ≡ truth_at self.now j }
@@ -47,7 +49,9 @@ impl Row {
         }
     }
 
-    /// The row of the matcher `name="value"`, for any name and any value. No matcher is made.
+    /// The row of the matcher `name="value"`, for any name and any value.
+    ///
+    /// No matcher is made. Fails only if memory runs out.
     pub fn of_value(
         alloc: Global,
         universe: &Universe,
@@ -67,9 +71,12 @@ impl Row {
 }
 
 impl Matcher {
-    /// The matcher's truth on each value of its label in the universe, absence being the empty
-    /// text, and on the empty text alone where the label is not declared. One search serves all
-    /// values: none is made anew, and the memory of the row itself is taken at once.
+    /// The matcher's truth on each value of its label in the universe, where absence is the empty
+    /// text.
+    ///
+    /// If the label is not declared, the row has the truth on the empty text alone. One search
+    /// serves all values, and the memory of the row is taken at once. Fails only if memory runs
+    /// out.
     pub fn row(&self, alloc: Global, universe: &Universe) -> Result<Row, AllocError>
         ensures row { IfOk result (λ row. row ≡ row_of universe.now self.now) }
         ensures sized { IfOk result (λ row. IfSome row.label (λ i.

@@ -26,7 +26,8 @@ impl Model for Space {
 }
 
 impl Space {
-    /// A universe of which no label set is impossible. It keeps the allocator, and takes no memory.
+    /// The space of a universe in which nothing is impossible. It keeps the allocator, and takes no
+    /// memory.
     pub fn of(alloc: Global, universe: Universe) -> Space
         ensures labels { result.labels ≡ universe }
         ensures impossible { result.impossible ≡ [] }
@@ -37,8 +38,9 @@ impl Space {
         }
     }
 
-    /// A universe without the label sets that match one of these lists; the empty list leaves out
-    /// all.
+    /// The space of a universe without the label sets that match one of these lists.
+    ///
+    /// There must be at most `MAX_IMPOSSIBLE` lists. The empty list matches every label set.
     pub fn without(universe: Universe, impossible: Vec<Matchers>) -> Space
         requires few { length impossible.items ≤ MAX_IMPOSSIBLE }
         ensures labels { result.labels ≡ universe }
@@ -50,7 +52,7 @@ impl Space {
         }
     }
 
-    /// Declares other labels in the place of those that there are. What is impossible stays so.
+    /// Replaces the labels and their values. The impossible lists stay.
     pub fn declare(&mut self, universe: Universe)
         ensures labels { self.new.labels ≡ universe }
         ensures impossible { self.new.impossible ≡ self.old.impossible }

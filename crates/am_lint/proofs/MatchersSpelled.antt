@@ -9,12 +9,13 @@ use Rattle.std.proofs.lemmas.Bool.Decides.{nat_tests}
 use Rattle.am_universe.specs.Text.{label_value_escape, quoted_text}
 use Rattle.am_labels.specs.declared.op.Op.{Op}
 use Rattle.am_labels.specs.declared.op.Op.TheVariants.{Equal}
-use Rattle.am_labels.specs.Matcher.{Condition}
+use Rattle.am_labels.specs.Matcher.{Condition, operator_text}
 use Rattle.am_labels.specs.MatcherText.{is_space, is_blank, begins_name, continues_name, is_name}
-use Rattle.am_labels.specs.MatcherText.{operator_text, without_opening, without_closing}
-use Rattle.am_labels.specs.MatcherText.{matcher_pieces, SpellsOne, Spells}
+use Rattle.am_labels.specs.MatcherText.{without_opening, without_closing, matcher_pieces}
+use Rattle.am_labels.specs.MatcherText.{SpellsOne, Spells}
 use Rattle.am_labels.proofs.MatcherTextPieces.{cuts_all, pieces_left}
 use Rattle.am_labels.proofs.MatcherTextWhole.{name_continues}
+use Rattle.am_labels.proofs.OperatorLemmas.{is_longest}
 use Rattle.am_report_texts.specs.Separated.{texts_behind}
 use Rattle.am_report_texts.specs.MatchersText.{matcher_text, matchers_text}
 use Rattle.am_lint.proofs.TextSteps.{cut, left_is_cut}
@@ -144,7 +145,7 @@ spells_one m h = record {
   parts = rw (append-nil (quoted_text m.value)) refl;
   blanks = refl;
   name = h;
-  operator = λ _. refl;
+  operator = is_longest m.op 34 _ (λ quote. absurd (omega (arith, quote)));
   trimmed = quoted_trimmed m.value;
   value = quoted_has_value m.value;
 }

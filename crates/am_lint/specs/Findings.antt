@@ -23,6 +23,9 @@ pub data Finding : Type 0 where
 
 -- The alerts that count: those of a space, which no impossible list matches, whatever labels they
 -- have; with `--ascii` those of them whose values are printable ASCII, the ordinary ones, alone.
+-- Source: own choice.
+-- Example: with `--ascii` an alert whose team is a line feed does not count. Without it the alert
+-- counts, unless an impossible list matches it.
 abbrev pub alphabet_of : Bool → Alphabet
 alphabet_of ascii = if ascii then Ascii else Unicode
 

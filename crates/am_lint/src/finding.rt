@@ -1,4 +1,10 @@
 //! What is found of all routes and receivers.
+//!
+//! `lint` calls `found_routes` over a space for ordinary alerts, whose values are printable ASCII.
+//! For the routes at which no ordinary alert ends it calls `look_further`, over a space for all
+//! alerts. Both spaces are complete for the routes and for the impossible lists. So for each alert
+//! some choice meets exactly the same literals, and each choice is an alert. By the laws of this
+//! crate, what is found over the spaces is so of all alerts.
 
 ghost use Rattle.std.specs.Prelude.{◌≡◌, IfOk, OnOk, map, length, None};
 ghost use Rattle.std.specs.List.{AllByRecursion, AllZip, range_with_len};
@@ -14,8 +20,8 @@ use am_config::Config;
 use am_labels::Space;
 use std::alloc::{AllocError, Global};
 
-/// How each route of a configuration stands over a space, in preorder. An `Err` only where memory
-/// was refused.
+/// Finds how each route of a configuration stands over a space, in preorder. `every` is `None` in
+/// each. Fails only if memory runs out.
 pub fn found_routes(
     alloc: Global,
     space: &Space,
@@ -40,8 +46,8 @@ pub fn found_routes(
     Ok(found)
 }
 
-/// Adds how each of these routes stands over another space, where no label set of the first ends at
-/// it. An `Err` only where memory was refused; then some of them may have been looked at.
+/// Finds how routes at which no label set of the first space ends stand over another space, and
+/// sets their `every`. Fails only if memory runs out; then some of them may be set.
 pub fn look_further(
     alloc: Global,
     space: &Space,
@@ -78,8 +84,9 @@ fn look_further_at(
     Ok(())
 }
 
-/// What is to be said of each receiver of a configuration, by what is found of all routes. An `Err`
-/// only where memory was refused.
+/// Finds what is wrong with each receiver of a configuration, in declared order, by what was found
+/// of its routes. It is `None` if an ordinary alert goes to the receiver. Fails only if memory runs
+/// out.
 pub fn found_receivers(
     alloc: Global,
     config: &Config,

@@ -8,39 +8,41 @@ use crate::standing::{Reason, Standing};
 use am_config::Path;
 use am_universe::Choice;
 
-/// A route with how it stands over ordinary alerts; and, where none of these ends there, over every
-/// alert, if others count.
+/// A route, and how it stands over ordinary alerts and over every alert.
 #[derive(Drop)]
 pub struct FoundRoute {
+    /// The path of the route.
     pub path: Path,
     /// The position of its receiver.
     pub receiver: usize,
+    /// How the route stands over ordinary alerts, whose values are printable ASCII.
     pub ordinary: Standing,
+    /// How the route stands over every alert, if no ordinary alert ends there and others count.
     pub every: Option<Standing>,
 }
 
-/// What is to be said of a route.
+/// What is wrong with a route.
 #[derive(Clone, Copy)]
 pub enum RouteFinding<'a> {
-    /// No alert enters it.
+    /// No alert enters it, for this reason.
     Dead(&'a Reason),
-    /// No ordinary alert enters it, for this reason, and the label set of this choice does.
+    /// No ordinary alert enters it, for this reason, but the label set of this choice does.
     Unusual(&'a Reason, Choice),
-    /// Ordinary alerts enter it, and none ends there: these children take all.
+    /// Ordinary alerts enter it, but these children take them all.
     HandsOn(&'a Vec<Path>),
 }
 
-/// What is to be said of a receiver.
+/// What is wrong with a receiver.
 #[derive(Clone, Copy)]
 pub enum ReceiverFinding {
     /// No alert goes to it.
     Unmatched,
-    /// Some alert goes to it, and no ordinary one.
+    /// An alert goes to it, but no ordinary one.
     Unusual,
 }
 
 impl FoundRoute {
-    /// What is to be said of the route; nothing where some ordinary alert ends there.
+    /// Returns what is wrong with the route, or `None` if an ordinary alert ends there.
     pub fn finding(&self) -> Option<RouteFinding<'_>>
         ensures finding { option_map finding_view result ≡ finding_of self.now }
     {
@@ -51,7 +53,7 @@ impl FoundRoute {
         }
     }
 
-    /// What is to be said of the route where no ordinary alert enters it.
+    /// What is wrong with the route if no ordinary alert enters it.
     fn finding_of_unentered<'a>(&'a self, reason: &'a Reason) -> RouteFinding<'a>
         ensures { finding_view result ≡ unentered reason.now self.now.every }
     {
@@ -63,14 +65,14 @@ impl FoundRoute {
         }
     }
 
-    /// Whether some ordinary alert ends there.
+    /// Whether an ordinary alert ends there.
     pub(crate) fn has_ordinary_end(&self) -> bool
         ensures { result ≡ is_end self.now.ordinary }
     {
         matches!(self.ordinary, Standing::Ends(_))
     }
 
-    /// Whether an alert that is not ordinary was found to end there.
+    /// Whether another alert was found to end there.
     fn has_other_end(&self) -> bool
         ensures { result ≡ is_end_if_any self.now.every }
     {
@@ -78,8 +80,8 @@ impl FoundRoute {
     }
 }
 
-/// What is to be said of the receiver at a position, by what is found of all routes; nothing where
-/// some ordinary alert goes to it.
+/// What is wrong with the receiver at a position, by what was found of routes, or `None` if an
+/// ordinary alert goes to it.
 pub(crate) fn receiver_finding(routes: &[FoundRoute], receiver: usize) -> Option<ReceiverFinding>
     ensures finding { result ≡ receiver_finding routes.now receiver }
 {

@@ -18,17 +18,16 @@ ghost use Rattle.am_lint.specs.Reasons.{IsExcludedBy, IsTakenBy, IsHandedTo};
 ghost use Rattle.am_lint.specs.Standing.{IsStanding, IsReasonFor};
 ghost use Rattle.am_report_texts.specs.MatchersText.{matchers_text};
 
-/// The text of matchers is that of a list that is read back as them, where each name is such as may
-/// stand in a matcher list.
+/// The text of matchers is read back as these matchers, if each name may stand in a matcher list.
 #[tactic(auto, using(crate::proofs::MatchersSpelled::matchers_spelled))]
 pub fn the_text_of_matchers_spells_them()
     ensures spells { (ms : List Condition) → AllByRecursion (λ m. IsTrue (is_name m.name)) ms
         → Spells (matchers_text ms) ms }
 {}
 
-/// The routes that are to blame keep the alerts of a space out: where routes on the way exclude
-/// each other, or siblings take each alert first that matches the way, none enters the route; and
-/// where its children take all, none ends there.
+/// The routes that are to blame keep the alerts of a space out. If routes on the way exclude each
+/// other, or siblings take each alert first that matches the way, no alert enters the route. If its
+/// children take all, no alert ends there.
 pub fn a_reason_keeps_alerts_out()
     ensures excluded { (a : Alphabet) (s : Space) (c : Configuration) (path : List ℕ)
         (routes : List (List ℕ)) → IsExcludedBy (IsAlertOf a s) c path routes
@@ -41,9 +40,10 @@ pub fn a_reason_keeps_alerts_out()
         → NoAlertEndsAt a s c path }
 {}
 
-/// In a space that is complete, over an alphabet, for the matchers of the routes and of what is
-/// impossible, and whose texts are over it, a route stands over all alerts of the space over this
-/// alphabet as it does over the label sets of the space, and for the same reasons.
+/// A route stands over all alerts as it does over the label sets of a complete space, for the same
+/// reasons. The space is complete, over an alphabet, for the matchers of the routes and the
+/// impossible lists, and has only texts over this alphabet. The alerts are those of the space over
+/// this alphabet.
 pub fn a_route_stands_over_all_alerts_as_over_a_complete_space()
     ensures standing { (a : Alphabet) (s : Space) (c : Configuration) (path : List ℕ)
         (standing : Standing) → IsUniverse s.labels → HasTextsOver a s.labels

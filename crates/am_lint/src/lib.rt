@@ -1,9 +1,11 @@
 //! What is wrong with the routes and receivers of a configuration, and why.
 //!
 //! [`found_routes`] says how each route stands over a space: whether label sets end there or enter
-//! it, and which routes are to blame where none do. [`look_further`] looks at the same routes over
-//! another space. [`lint_lines`] says of both in lines what is to be said. Where the spaces stand
-//! for all ordinary alerts, and for all alerts, so does what is found; [`laws`] say that.
+//! it, and which routes are to blame if none do. [`look_further`] looks at the same routes over
+//! another space. [`found_receivers`] says which receivers no label set reaches, and [`lint_lines`]
+//! writes a line for each finding and note. If one space stands for all ordinary alerts, whose
+//! values are printable ASCII, and the other for all alerts, the findings hold of all alerts.
+//! [`laws`] say that.
 #![tactic(auto)]
 
 // Where routes stand to each other, and what they ask of an alert.

@@ -1,4 +1,4 @@
-//! What a route asks of an alert, as literals that name other routes.
+//! What an alert has to meet to enter a route or to end there, as literals that name other routes.
 
 ghost use Rattle.std.specs.Prelude.{◌≡◌, OnOk};
 ghost use Rattle.am_lint.specs.Literals.{stands_in, is_wanted, AddsPart};
@@ -9,20 +9,20 @@ use am_config::Path;
 use am_reasons::Candidate;
 use std::alloc::AllocError;
 
-/// Which routes some literals about a route are about.
+/// A part of the literals about a route, by the routes that they name.
 #[derive(Clone, Copy)]
 pub(crate) enum Part {
-    /// Those on the way to it, itself among them. An alert has to match each.
+    /// Those on the way to it, itself among them. An alert must match each.
     Way,
-    /// Those that stand before it or before one on the way, and lack `continue`. An alert must not
-    /// match any of them, to be tried at the route.
+    /// Those that stand before it, or before one on the way, and lack `continue`. An alert that is
+    /// tried at the route must not match any of them.
     Before,
-    /// Its children. An alert must not match any of them, to end at the route.
+    /// Its children. An alert that ends at the route must not match any of them.
     Children,
 }
 
 impl Part {
-    /// Whether an alert has to match these routes, and not: it must not.
+    /// Whether an alert must match these routes. Else it must not.
     fn is_wanted(self) -> bool
         ensures { result ≡ is_wanted self }
     {
@@ -42,7 +42,7 @@ impl Part {
 }
 
 /// Adds the literals of a part, for the route at a path, all of them named. Each has the position
-/// of its route in the table as its tag. An `Err` only where memory was refused.
+/// of its route in the table as its tag. Fails only if memory runs out.
 pub(crate) fn add_part<'t>(
     table: &'t Table<'_>,
     part: Part,

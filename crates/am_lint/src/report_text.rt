@@ -1,4 +1,4 @@
-//! What is found of routes and receivers, in lines, and the last line of a report.
+//! The lines of findings and notes on routes and receivers, and the last line of a report.
 
 ghost use Rattle.std.specs.Prelude.{◌≡◌, ◌<◌, ◌++◌, length, map, codes, string_bytes, IfOk, OnOk};
 ghost use Rattle.std.specs.Prelude.{Some};
@@ -21,8 +21,9 @@ use am_report_texts::{gap_before, plural, push_label_set, push_matchers, push_pa
 use am_universe::Universe;
 use std::alloc::{AllocError, Global};
 
-/// What is to be said of routes and receivers: a line for each of which something is. `universe`
-/// has the labels of the label sets that are shown. An `Err` only where memory was refused.
+/// Returns the lines of the findings and notes on routes, and then of those on receivers.
+/// `universe` has the labels of the label sets that are shown. `receivers` has an item for each
+/// receiver of the configuration. Fails only if memory runs out.
 pub fn lint_lines(
     alloc: Global,
     universe: &Universe,
@@ -46,7 +47,7 @@ pub fn lint_lines(
     Ok(text)
 }
 
-/// How many findings these lines tell.
+/// Returns the number of findings in the lines of [`lint_lines`].
 pub fn count_findings(routes: &[FoundRoute], receivers: &[Option<ReceiverFinding>]) -> usize
     ensures count { result ≡ count_findings (map said_of routes.now) receivers.now }
 {
@@ -58,7 +59,7 @@ pub fn count_findings(routes: &[FoundRoute], receivers: &[Option<ReceiverFinding
     dead + unmatched
 }
 
-/// How many notes these lines tell.
+/// Returns the number of notes in the lines of [`lint_lines`].
 pub fn count_notes(routes: &[FoundRoute], receivers: &[Option<ReceiverFinding>]) -> usize
     ensures count { result ≡ count_notes (map said_of routes.now) receivers.now }
 {
@@ -122,7 +123,7 @@ fn push_route_line(
     text.push_str("\n")
 }
 
-/// The word for what is to be said of a route.
+/// The word for a finding or note on a route.
 fn kind_text(finding: &RouteFinding<'_>) -> &'static str
     ensures { result.now ≡ kind_text (finding_view finding.now) }
 {
@@ -133,7 +134,7 @@ fn kind_text(finding: &RouteFinding<'_>) -> &'static str
     }
 }
 
-/// Adds why it is said of a route.
+/// Adds the reason of a finding or note on a route.
 fn push_why(
     alloc: Global,
     text: &mut String,
@@ -249,7 +250,7 @@ fn receiver_kind(finding: ReceiverFinding) -> &'static str
     }
 }
 
-/// Those of some routes that have a receiver.
+/// The routes that have a receiver, of some routes.
 fn having(
     alloc: Global,
     routes: &[FoundRoute],
@@ -267,7 +268,7 @@ fn having(
     Ok(found)
 }
 
-/// Adds the routes that have a receiver, each with the word for what is to be said of it.
+/// Adds the routes that have a receiver, each with the word for its finding or note.
 fn push_having(
     alloc: Global,
     text: &mut String,
@@ -308,8 +309,8 @@ fn push_said(
 
 // ---- The last line.
 
-/// Adds the last line of a report: how many findings and notes there are. An `Err` only where
-/// memory was refused.
+/// Adds the last line of a report, with the numbers of findings and notes. Fails only if memory
+/// runs out.
 pub fn push_count(
     alloc: Global,
     text: &mut String,

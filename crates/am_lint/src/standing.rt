@@ -1,4 +1,15 @@
-//! How a route stands over a space: whether label sets end there, or enter it, and why none do.
+//! How a route stands over a space: whether label sets end there or enter it, and why none do.
+//!
+//! What an alert has to meet to enter a route, or to end there, is a list of *literals*. A literal
+//! is a route that the alert must match, or must not match. There are three parts of them (`Part`):
+//! the routes on the way; the siblings before these that lack `continue`; and the children. An
+//! alert enters the route exactly if it meets the first two parts, and ends there exactly if it
+//! meets all three. `first_meeting` finds the first label set of the space that meets some
+//! literals.
+//!
+//! If label sets enter the route and none ends there, its children are to blame. If none enters it,
+//! the siblings are, or the way itself if no label set matches that. `find_reason` names which of
+//! them.
 
 ghost use Rattle.std.specs.Prelude.{◌≡◌, ◌≤◌, ◌∷◌, ◌++◌, [], List, length, drop, IfOk, IfSome};
 ghost use Rattle.std.specs.Prelude.{IfNone};
@@ -21,35 +32,38 @@ use am_reasons::{Candidate, find_reason, first_meeting};
 use am_universe::Choice;
 use std::alloc::{AllocError, Global};
 
-/// How routes keep label sets from entering another.
+/// How routes keep label sets from entering another route.
 #[derive(Clone, Copy)]
 pub enum Cause {
-    /// Routes on the way exclude each other.
+    /// No label set matches all of these routes, which are on the way.
     Excluded,
-    /// Siblings take each label set first.
+    /// Each label set that matches the way is taken by one of these siblings first.
     Taken,
 }
 
-/// Why no label set enters a route: the routes that are to blame, by their paths in preorder. They
-/// are enough, and each is needed.
+/// Why no label set enters a route: the routes that are to blame, by their paths in preorder.
+/// Together they are enough, and each of them is needed.
 #[derive(Drop)]
 pub struct Reason {
+    /// Whether the routes exclude each other or take each label set first.
     pub cause: Cause,
+    /// The routes that are to blame, in preorder.
     pub routes: Vec<Path>,
 }
 
 /// How a route stands over a space.
 #[derive(Drop)]
 pub enum Standing {
-    /// The label set of this choice ends there.
+    /// The label set of this choice ends at the route.
     Ends(Choice),
-    /// The label set of this choice enters the route, and none ends there: these children take all.
+    /// The label set of the choice `entry` enters the route, but none ends there: these children
+    /// take all.
     HandsOn { entry: Choice, children: Vec<Path> },
-    /// No label set enters it.
+    /// No label set enters the route, for this reason.
     NeverEntered(Reason),
 }
 
-/// How the route at a path stands. An `Err` only where memory was refused.
+/// Finds how the route at a path stands. Fails only if memory runs out.
 pub(crate) fn standing_of(
     alloc: Global,
     table: &Table<'_>,
@@ -178,8 +192,8 @@ fn why_excluded(alloc: Global, table: &Table<'_>, path: &Path) -> Result<Vec<Pat
     reason_of(alloc, table, path, Vec::new(alloc), Part::Way)
 }
 
-/// Which routes of a part are to blame that no label set meets these literals and those of the
-/// part, in preorder.
+/// The routes of a part that are to blame, in preorder: no label set meets these literals and those
+/// of the part.
 fn reason_of<'t>(
     alloc: Global,
     table: &'t Table<'_>,
@@ -203,8 +217,8 @@ fn reason_of<'t>(
     named_by_reason(alloc, table, &mut literals, fixed)
 }
 
-/// The paths of the routes that are to blame, beside the first so many literals, that no label set
-/// meets all literals.
+/// The routes that are to blame that no label set meets all literals, by their paths. The first
+/// `fixed` literals count as given.
 fn named_by_reason(
     alloc: Global,
     table: &Table<'_>,

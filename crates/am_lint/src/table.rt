@@ -27,7 +27,7 @@ pub(crate) struct Table<'a> {
 }
 
 impl<'a> Table<'a> {
-    /// That of a configuration over a space. An `Err` only where memory was refused.
+    /// That of a configuration over a space. Fails only if memory runs out.
     pub(crate) fn of(
         alloc: Global,
         space: &'a Space,

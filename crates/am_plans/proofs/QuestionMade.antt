@@ -5,7 +5,7 @@ use Rattle.std.specs.List.{list_any}
 use Rattle.am_universe.specs.Universe.{Label}
 use Rattle.am_config.specs.ConfigFile.{matchers_of}
 use Rattle.am_eval.specs.declared.property.Property.{Property}
-use Rattle.am_eval.specs.declared.property.Property.TheVariants.{Any, Silenced, Inhibited}
+use Rattle.am_eval.specs.declared.property.Property.TheVariants.{Silenced, Inhibited}
 use Rattle.am_eval.specs.declared.reach.Reach.{Reach}
 use Rattle.am_eval.specs.declared.reach.Reach.TheVariants.{Ends}
 use Rattle.am_eval.specs.Tree.{Part}
@@ -20,7 +20,7 @@ use Rattle.am_plans.specs.declared.world_lists.Need.TheVariants as needs
 use Rattle.am_plans.specs.Target.{Receiver, Route}
 use Rattle.am_plans.specs.RouteSeen.{route_seen}
 use Rattle.am_plans.specs.Verdicts.{verdict_of_literal, verdict_of_simple}
-use Rattle.am_plans.specs.WorldByLists.{WorldSeen, comes_from, Serves}
+use Rattle.am_plans.specs.WorldByLists.{WorldSeen, has_seen, comes_from, Serves}
 use Rattle.am_plans.proofs.Kleene.{passes_simple}
 use Rattle.am_plans.proofs.ListTests.{any_and}
 
@@ -54,7 +54,7 @@ module _ (u : List Label) (w : World) (prefix : List ℕ) (m : Certainty) where
   -- the property that a question asks of
   pub has_served : (seen : WorldSeen) (property : Property)
       → Serves u w prefix seen (Part (questions.Is property))
-      → seen.has m property ≡ passes m (verdict_of_simple u w (questions.Is property) prefix)
-  has_served seen Any serves = serves.0 m
-  has_served seen Silenced serves = serves.1 needs.Silences refl m
-  has_served seen Inhibited serves = serves.1 needs.Pairs refl m
+      → has_seen seen m property ≡ passes m (verdict_of_simple u w (questions.Is property) prefix)
+  has_served seen Silenced serves = serves needs.Silences refl m
+  has_served seen Inhibited serves = serves needs.Pairs refl m
+  has_served seen other serves = sym (passes_simple m u w (questions.Is other) prefix)

@@ -19,7 +19,7 @@ use Rattle.am_plans.specs.declared.question_lists.QuestionLists.TheVariants as l
 use Rattle.am_plans.specs.declared.target.Target as targets
 use Rattle.am_judged_lists.specs.Certainty.{other}
 use Rattle.am_plans.specs.Target.{target_view}
-use Rattle.am_plans.specs.WorldByLists.{WorldSeen}
+use Rattle.am_plans.specs.WorldByLists.{WorldSeen, has_seen}
 use Rattle.am_plans.specs.QuestionByLists.{question_step, question_by}
 
 pub not_seen : (q : Box kept.Question Global)
@@ -45,7 +45,7 @@ module _ {L : Type 0} (verdict : L → List ℕ → Verdict) (prefix : List ℕ)
   abbrev truth : QuestionLists L → Bool
   truth q = question_by verdict prefix seen q m
 
-  pub by_is : (property : Property) → truth (lists.Is property) ≡ seen.has m property
+  pub by_is : (property : Property) → truth (lists.Is property) ≡ has_seen seen m property
   by_is property =
       ap truth (sym (lists.rolls-Is property))
       ∙ ap (λ f. f m) (fold-roll-QuestionLists L (Certainty → Bool)

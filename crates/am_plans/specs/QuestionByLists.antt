@@ -8,12 +8,12 @@ use Rattle.am_plans.specs.declared.question_lists.QuestionLists.{QuestionLists, 
 use Rattle.am_plans.specs.declared.question_lists.QuestionLists.TheOpen.{QuestionLists-F}
 use Rattle.am_judged_lists.specs.Certainty.{passes, other}
 use Rattle.am_plans.specs.Target.{target_view}
-use Rattle.am_plans.specs.WorldByLists.{WorldSeen, world_seen}
+use Rattle.am_plans.specs.WorldByLists.{WorldSeen, has_seen, world_seen}
 
 -- One level of a question, with the truth of its parts already known; and the whole question.
 abbrev pub question_step : {L : Type 0} → (L → List ℕ → Verdict) → List ℕ → WorldSeen
     → QuestionLists-F L (Certainty → Bool) → Certainty → Bool
-question_step verdict prefix seen (QuestionLists-F.Is property) m = seen.has m property
+question_step verdict prefix seen (QuestionLists-F.Is property) m = has_seen seen m property
 question_step verdict prefix seen (QuestionLists-F.Comes target) m =
     seen.comes m (target_view target)
 question_step verdict prefix seen (QuestionLists-F.Braces list) m = passes m (verdict list prefix)

@@ -22,11 +22,18 @@ use Rattle.am_plans.specs.RoutesByLists.{seen_by}
 use Rattle.am_plans.specs.Target.{Target}
 use Rattle.am_plans.specs.Verdicts.{verdict_of_simple}
 
--- Whether a label set comes to a target, and whether it has a property: for each, whether that is
+-- Whether a label set comes to a target, is silenced, and is inhibited: for each, whether that is
 -- not excluded, and whether it is certain.
 pub record WorldSeen : Type 0 where
   pub comes : Certainty → Target → Bool
-  pub has : Certainty → Property → Bool
+  pub silenced : Certainty → Bool
+  pub inhibited : Certainty → Bool
+
+-- The same of each property.
+abbrev pub has_seen : WorldSeen → Certainty → Property → Bool
+has_seen seen m Any = true
+has_seen seen m Silenced = seen.silenced m
+has_seen seen m Inhibited = seen.inhibited m
 
 -- By the lists. Where they are not there nothing is so.
 abbrev pub if_there : {A : Type 0} → (A → Bool) → Option A → Bool
@@ -36,18 +43,12 @@ if_there test (Some lists) = test lists
 abbrev pub comes_from : RouteSeen → Certainty → Target → Bool
 comes_from seen m target = passes m seen.verdict && seen.comes m target
 
-abbrev pub has_by_lists : {L : Type 0} → (L → List ℕ → Verdict) → List ℕ → WorldLists L → Certainty
-    → Property → Bool
-has_by_lists verdict prefix lists m Any = true
-has_by_lists verdict prefix lists m Silenced =
-    if_there (λ group. list_any (passes m) (verdicts_in verdict prefix group)) lists.silences
-has_by_lists verdict prefix lists m Inhibited =
-    if_there (λ pairs. inhibited_by verdict prefix pairs m) lists.pairs
-
 abbrev pub world_seen : {L : Type 0} → (L → List ℕ → Verdict) → List ℕ → WorldLists L → WorldSeen
 world_seen verdict prefix lists = record {
   comes = λ m target. if_there (λ r. comes_from (seen_by verdict prefix r) m target) lists.routes;
-  has = has_by_lists verdict prefix lists;
+  silenced = λ m.
+      if_there (λ group. list_any (passes m) (verdicts_in verdict prefix group)) lists.silences;
+  inhibited = λ m. if_there (λ pairs. inhibited_by verdict prefix pairs m) lists.pairs;
 }
 
 -- A simple part asks of the routes, of the silences, or of the pairs. And a question does, where
@@ -79,10 +80,9 @@ IsProperty u w prefix property has =
 -- So is what serves a need; and so is all that a question asks of.
 abbrev pub IsServed : List Label → World → List ℕ → WorldSeen → Need → Type 0
 IsServed u w prefix seen needs.Routes = AreRoutes u w prefix seen.comes
-IsServed u w prefix seen needs.Silences = IsProperty u w prefix Silenced (λ m. seen.has m Silenced)
-IsServed u w prefix seen needs.Pairs = IsProperty u w prefix Inhibited (λ m. seen.has m Inhibited)
+IsServed u w prefix seen needs.Silences = IsProperty u w prefix Silenced seen.silenced
+IsServed u w prefix seen needs.Pairs = IsProperty u w prefix Inhibited seen.inhibited
 
 abbrev pub Serves : List Label → World → List ℕ → WorldSeen → Question → Type 0
 Serves u w prefix seen q =
-    IsProperty u w prefix Any (λ m. seen.has m Any)
-    × ((need : Need) → IsTrue (needs_of need q) → IsServed u w prefix seen need)
+    (need : Need) → IsTrue (needs_of need q) → IsServed u w prefix seen need

@@ -1,4 +1,8 @@
 //! A question, ready to be judged.
+//!
+//! The code that joins the verdicts of lists works for any type of list (`JudgedList`). In a plan
+//! the lists are cubes. In the plain judge of the cases they are rows: there each matcher is looked
+//! up by itself, at whole choices alone, and without a table.
 
 ghost use Rattle.std.specs.Prelude.{◌≡◌, ℕ, List, IfOk};
 ghost use Rattle.am_universe.specs.Universe.{sizes};
@@ -15,9 +19,10 @@ use am_judged_lists::{Certainty, JudgedList};
 use am_universe::{Choice, Universe};
 use std::alloc::{AllocError, Global};
 
-/// A question about a world, with a list for each list of matchers that it asks of: its own, and,
-/// where it asks of them, those of the routes, the active silences, and the pairs of an inhibition
-/// rule and a firing alert.
+/// A question about a world, with a judged list for each list of matchers that it asks about.
+///
+/// These are its own and, if it asks about them, those of the routes, the active silences, and the
+/// pairs of an inhibition rule and a firing alert.
 #[derive(Drop)]
 pub struct JudgedQuestion<'a, L> {
     world: WorldLists<L>,
@@ -25,7 +30,7 @@ pub struct JudgedQuestion<'a, L> {
 }
 
 impl<'a, L: JudgedList> JudgedQuestion<'a, L> {
-    /// A question about a world, over a universe. An `Err` only where memory was refused.
+    /// Makes the lists of a question about a world, over a universe. Fails only if memory runs out.
     pub fn of(
         alloc: Global,
         universe: &Universe,
@@ -43,8 +48,8 @@ impl<'a, L: JudgedList> JudgedQuestion<'a, L> {
         })
     }
 
-    /// Whether the question is true of a label set: whether at a prefix that is not excluded, or
-    /// certain. No memory is taken.
+    /// Whether at a prefix the question is not excluded (`May`), or is certain (`Must`). Takes no
+    /// memory.
     pub fn holds(&self, certainty: Certainty, prefix: &Choice) -> bool
         ensures truth { result ≡ truth_by L.verdict prefix.now self.now certainty }
     {

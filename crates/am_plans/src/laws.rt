@@ -22,8 +22,9 @@ ghost use Rattle.am_plans.specs.PlanWords.{plan_space, plan_sizes, plan_verdict}
 ghost use Rattle.am_plans.specs.SpaceExample.{without_web_critical};
 ghost use Rattle.am_plans.specs.Verdicts.{verdict_of};
 
-/// Where the verdict is `Yes`, every completion of the prefix is an answer; where it is `No`, none
-/// is. That of a whole choice is never `Open`: it says whether the choice is an answer.
+/// If the verdict at a prefix is `Yes`, every completion is an answer; if it is `No`, none is.
+///
+/// At a whole choice it is never `Open`: it says whether the choice is an answer.
 pub fn a_verdict_says_what_holds_of_all_completions()
     ensures yes { (s : Space) (w : World) (q : Question) (prefix : List ℕ)
         → IsUniverse s.labels → IsTrue (admits (sizes s.labels) prefix)
@@ -40,9 +41,10 @@ pub fn a_verdict_says_what_holds_of_all_completions()
         → IsUniverse s.labels → IsWhole (sizes s.labels) c → verdict_of s w q c ≢ Open }
 {}
 
-/// An example, where no critical alert of the team `web` occurs: the verdict of `any` where no
-/// label is chosen; where the team is `db`, `web` or absent; and where it is `web` and the severity
-/// is `critical` or `warning`.
+/// An example: verdicts of `any` in a space where no critical alert of the team `web` occurs.
+///
+/// The prefixes are the empty one; those where the team is `db`, `web` or absent; and those where
+/// it is `web` and the severity is `critical` or `warning`.
 pub fn an_example_of_verdicts_in_a_space()
     ensures nothing_chosen { (w : World)
         → verdict_of without_web_critical w (Part (Is Any)) [] ≡ Open }
@@ -56,9 +58,10 @@ pub fn an_example_of_verdicts_in_a_space()
         → verdict_of without_web_critical w (Part (Is Any)) (1 ∷ 1 ∷ []) ≡ Yes }
 {}
 
-/// Where no list is impossible, the judge of a question that is one list of matchers is exact: its
-/// verdict is `Open` only where the label set of some completion matches the list, and that of some
-/// completion does not.
+/// If no list is impossible, the judge of a question that is one list of matchers is exact.
+///
+/// Its verdict is `Open` only if the label sets of some completions match the list and those of
+/// others do not.
 pub fn one_list_has_an_exact_judge()
     ensures exact { (s : Space) (w : World) (ms : List Condition) → IsUniverse s.labels
         → s.impossible ≡ []
@@ -66,11 +69,12 @@ pub fn one_list_has_an_exact_judge()
         (verdict_of s w (Part (Braces ms))) }
 {}
 
-/// With the plan of one list of matchers, over a space in which no list is impossible, few prefixes
-/// are judged. Let `n` be the number of answers from the start on, and `z` the number of values
-/// that all labels have together: then at most `1 + (n + 1) * z` prefixes are judged. From the
-/// first choice on it is at most `1 + n * z`, so no more than one where no label set matches the
-/// list.
+/// With the plan of one list of matchers, and no impossible lists, at most `1 + (n + 1) * z`
+/// prefixes are judged.
+///
+/// `n` is the number of answers from the start on, and `z` the number of values of all labels
+/// together. From the first choice on, at most `1 + n * z` are judged, so at most one if no label
+/// set matches the list.
 pub fn the_plan_of_one_list_judges_few_prefixes()
     ensures at_most { (plan : Plan) (w : World) (ms : List Condition) (start : Start)
         → (plan_space plan).impossible ≡ []

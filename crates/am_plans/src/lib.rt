@@ -1,10 +1,10 @@
-//! Plans: what a question is answered by while it is searched.
+//! Plans: the judge that a search asks about a question.
 //!
 //! A [`Plan`] is a judge of prefixes. It has a cube for each list of matchers that its question
-//! asks of: those of the question itself, and, where it asks of them, those of the routes, of the
-//! active silences, and of the pairs of an inhibition rule and a firing alert. It has one for each
-//! impossible list of its space too. Its verdict joins theirs in the logic of three values. Judging
-//! takes no memory.
+//! asks about: those of the question itself and, if it asks about them, those of the routes, of the
+//! active silences, and of the pairs of an inhibition rule and a firing alert. It also has a cube
+//! for each impossible list of its space. Its verdict joins theirs in the logic of three values.
+//! Judging takes no memory.
 #![tactic(auto)]
 
 // What is looked for among routes.

@@ -24,7 +24,7 @@ use am_labels::Row;
 use am_universe::{Choice, LabelSet, Universe};
 use std::alloc::{AllocError, Global};
 
-/// What a pair of a rule and a firing alert asks of the rule's source side.
+/// What a pair of a rule and a firing alert requires of the rule's source side.
 #[derive(Clone, Copy, Drop)]
 struct PairSide {
     /// The rule, by its position.
@@ -53,7 +53,7 @@ pub(crate) struct PairLists<L> {
 }
 
 impl<L: JudgedList> PairLists<L> {
-    /// Those of a world. An `Err` only where memory was refused.
+    /// Those of a world. Fails only if memory runs out.
     pub(crate) fn of(
         alloc: Global,
         universe: &Universe,
@@ -75,8 +75,8 @@ impl<L: JudgedList> PairLists<L> {
         })
     }
 
-    /// Whether a firing alert inhibits a label set: whether at a prefix that is not excluded, or
-    /// certain.
+    /// Whether at a prefix it is not excluded, or is certain, that a firing alert inhibits a label
+    /// set.
     pub(crate) fn inhibit(&self, certainty: Certainty, prefix: &Choice) -> bool
         ensures inhibited { result ≡ inhibited_by L.verdict prefix.now self.now certainty }
     {
@@ -277,7 +277,7 @@ fn list_of_pair<L: JudgedList>(
 }
 
 /// The rows of the matchers that want an alert's values of these labels, in the order of their
-/// names. An `Err` only where memory was refused.
+/// names. Fails only if memory runs out.
 fn rows_of_values(
     alloc: Global,
     universe: &Universe,

@@ -1,4 +1,26 @@
 //! The judge of prefixes.
+//!
+//! A search asks its judge about prefixes of choices: the first labels have a value, and the others
+//! are open. A plan answers `Yes` only if each completion is an answer, `No` only if none is, and
+//! otherwise `Open`.
+//!
+//! A cube judges its list of matchers exactly. The verdicts of the question's lists are joined in
+//! the logic of three values. Each simple part has a *condition*: the ways in which it can be true
+//! of an alert. A way says which lists the alert has to match and which it must not match. So a way
+//! is the `and` of its lists, a part is the `or` of its ways, and the question joins its parts. The
+//! result is not always as sharp as it could be: `{team="db"} or not {team="db"}` is `Open` as long
+//! as the team is open.
+//!
+//! The verdict of each impossible list is joined to that of the question by `and` and `not`. So
+//! `any` is `Open` until it is known whether the label set is possible.
+//!
+//! Only definitions have conditions. The code walks the tree of routes, child by child, and a lemma
+//! says that it comes to the same. The walk never computes a verdict of three values. It answers
+//! one of two questions about it: `May`, whether it is not `No`, and `Must`, whether it is `Yes`.
+//! `judge` asks both.
+//!
+//! What the commands promise rests on the clause `truth` of `new`; which prefixes are judged rests
+//! on `verdict`. A law says what a verdict means (`a_verdict_says_what_holds_of_all_completions`).
 
 ghost use Rattle.std.specs.Prelude.{◌≡◌, ℕ, List, map, IfOk, IsTrue};
 ghost use Rattle.std.proofs.Props.{props};
@@ -21,10 +43,11 @@ use am_universe::Choice;
 use am_universe::limits::MAX_LABELS;
 use std::alloc::{AllocError, Global};
 
-/// The judge of a question about a world, over the choices of a space. At each prefix its verdict
-/// is that the question is true and the label set possible, in the logic of three values: `Yes`,
-/// each completion is an answer; `No`, none is; `Open`, nothing is known, or some are and some are
-/// not. It looks at positions alone, and judging takes no memory.
+/// The judge of a question about a world, over the choices of a space.
+///
+/// At a prefix its verdict is that the question is true and the label set possible, in the logic of
+/// three values: `Yes`, each completion is an answer; `No`, none is; `Open`, neither is known.
+/// Judging looks at positions alone, and takes no memory.
 #[derive(Drop)]
 pub struct Plan<'a> {
     space: &'a Space,
@@ -36,10 +59,11 @@ pub struct Plan<'a> {
 impl<'a> Plan<'a> {
     ghost use Rattle.am_plans.specs.PlanWords.{plan_space, plan_truth, plan_verdict};
 
-    /// The judge of a question about a world, over the choices of a space. It has a cube for each
-    /// impossible list of the space, and for each list of matchers that the question asks of: where
-    /// it asks of no route, those of the routes are not made, and the same holds for silences and
-    /// inhibition rules. An `Err` only where memory was refused.
+    /// Makes the judge of a question about a world, over the choices of a space.
+    ///
+    /// It has a cube for each impossible list of the space, and for each list of matchers that the
+    /// question asks about. If it asks about no route, no cubes of routes are made; the same holds
+    /// for silences and for inhibition rules. Fails only if memory runs out.
     pub fn new(
         alloc: Global,
         space: &'a Space,
@@ -66,7 +90,7 @@ impl<'a> Plan<'a> {
         })
     }
 
-    /// Whether a choice is an answer: whether at a prefix that is not excluded, or certain.
+    /// Whether at a prefix it is not excluded, or is certain, that the choice is an answer.
     fn is_answer(&self, certainty: Certainty, prefix: &Choice) -> bool
         ensures { result ≡ is_answer_by self.now.judged self.now.impossible prefix.now certainty }
     {
@@ -105,7 +129,7 @@ impl<'a> Judge for Plan<'a> {
     }
 }
 
-/// A group of the cubes of a space's impossible lists. An `Err` only where memory was refused.
+/// A group of the cubes of a space's impossible lists. Fails only if memory runs out.
 fn impossible_group(alloc: Global, space: &Space) -> Result<Group<Cube>, AllocError>
     ensures verdicts { IfOk result (λ group. (prefix : List ℕ)
         → IsTrue (admits (sizes space.now.labels) prefix) → verdicts_in verdict_at prefix group

@@ -35,7 +35,7 @@ pub(crate) enum QuestionLists<'q, L> {
 }
 
 impl<'q, L: JudgedList> QuestionLists<'q, L> {
-    /// A question with the lists of its matchers. An `Err` only where memory was refused.
+    /// A question with the lists of its matchers. Fails only if memory runs out.
     pub(crate) fn of(
         alloc: Global,
         universe: &Universe,
@@ -75,8 +75,7 @@ impl<'q, L: JudgedList> QuestionLists<'q, L> {
         }
     }
 
-    /// Whether the question is true of a label set: whether at a prefix that is not excluded, or
-    /// certain.
+    /// Whether at a prefix the question is not excluded, or is certain.
     pub(crate) fn holds(&self, world: &WorldLists<L>, certainty: Certainty, prefix: &Choice) -> bool
         ensures truth { result ≡ question_by L.verdict prefix.now
             (world_seen L.verdict prefix.now world.now) self.now certainty }

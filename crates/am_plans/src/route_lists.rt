@@ -24,7 +24,7 @@ pub(crate) struct RouteLists<L> {
 }
 
 impl<L: JudgedList> RouteLists<L> {
-    /// A route with its list, and all routes below it. An `Err` only where memory was refused.
+    /// A route with its list, and all routes below it. Fails only if memory runs out.
     #[cycle(lists)]
     pub(crate) fn of(
         alloc: Global,
@@ -46,8 +46,8 @@ impl<L: JudgedList> RouteLists<L> {
         })
     }
 
-    /// Whether a label set matches the route and comes to a target from there: whether at a prefix
-    /// that is not excluded, or certain.
+    /// Whether at a prefix it is not excluded, or is certain, that a label set matches the route
+    /// and comes to a target from there.
     pub(crate) fn comes(&self, certainty: Certainty, target: Target<'_>, prefix: &Choice) -> bool
         ensures comes { result ≡ (passes certainty (seen_by L.verdict prefix.now self.now).verdict
             && (seen_by L.verdict prefix.now self.now).comes certainty (target_view target.entry)) }

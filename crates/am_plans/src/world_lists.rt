@@ -13,8 +13,8 @@ ghost use Rattle.am_plans.specs.PairsByLists.{inhibited_by};
 ghost use Rattle.am_plans.specs.RoutesByLists.{seen_by};
 ghost use Rattle.am_plans.specs.Target.{target_view};
 ghost use Rattle.am_plans.specs.Verdicts.{verdict_of_simple};
-ghost use Rattle.am_plans.specs.WorldByLists.{world_seen, needs_of, AreRoutes, IsProperty, Serves};
-ghost use Rattle.am_plans.specs.WorldByLists.{comes_from, if_there};
+ghost use Rattle.am_plans.specs.WorldByLists.{world_seen, has_seen, needs_of, AreRoutes};
+ghost use Rattle.am_plans.specs.WorldByLists.{IsProperty, Serves, comes_from, if_there};
 
 use crate::pair_lists::PairLists;
 use crate::route_lists::RouteLists;
@@ -35,7 +35,7 @@ enum Need {
     Pairs,
 }
 
-/// Whether a question asks of something.
+/// Whether a question asks about something.
 fn needs(question: &Question, need: Need) -> bool
     ensures { result ≡ needs_of need (question_view question.now) }
 {
@@ -61,7 +61,7 @@ pub(crate) struct WorldLists<L> {
 }
 
 impl<L: JudgedList> WorldLists<L> {
-    /// The lists of a world that a question asks of. An `Err` only where memory was refused.
+    /// The lists of a world that a question asks of. Fails only if memory runs out.
     pub(crate) fn of(
         alloc: Global,
         universe: &Universe,
@@ -79,7 +79,7 @@ impl<L: JudgedList> WorldLists<L> {
         })
     }
 
-    /// Whether a label set comes to a target: whether at a prefix that is not excluded, or certain.
+    /// Whether at a prefix it is not excluded, or is certain, that a label set comes to a target.
     pub(crate) fn comes(&self, certainty: Certainty, target: Target<'_>, prefix: &Choice) -> bool
         ensures comes { result ≡ (world_seen L.verdict prefix.now self.now).comes certainty
             (target_view target.entry) }
@@ -93,7 +93,7 @@ impl<L: JudgedList> WorldLists<L> {
     /// Whether a label set has a property, in the same way.
     pub(crate) fn has(&self, certainty: Certainty, property: Property, prefix: &Choice) -> bool
         ensures has { result
-            ≡ (world_seen L.verdict prefix.now self.now).has certainty property }
+            ≡ has_seen (world_seen L.verdict prefix.now self.now) certainty property }
     {
         match property {
             Property::Any => true,
@@ -164,8 +164,8 @@ fn pairs_if<L: JudgedList>(
     Ok(Some(PairLists::of(alloc, universe, world)?))
 }
 
-/// The list of each active silence. One that is never matched is left out: an or does not change by
-/// it.
+/// The list of each active silence. One that is never matched is left out, because it does not
+/// change an `or`.
 fn lists_of_silences<L: JudgedList>(
     alloc: Global,
     universe: &Universe,

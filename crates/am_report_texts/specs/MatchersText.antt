@@ -1,8 +1,7 @@
 -- Matchers in braces, as the text of a list that is read back as them.
 use Rattle.std.specs.Prelude.{ℕ, List, ◌++◌, codes}
 use Rattle.am_universe.specs.Text.{quoted_text}
-use Rattle.am_labels.specs.Matcher.{Condition}
-use Rattle.am_labels.specs.MatcherText.{operator_text}
+use Rattle.am_labels.specs.Matcher.{Condition, operator_text}
 use Rattle.am_report_texts.specs.Separated.{texts_behind}
 
 -- A matcher: its name, its operator, and its value in quotes.

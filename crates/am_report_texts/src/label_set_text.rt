@@ -1,4 +1,4 @@
-//! The label set of a choice, as a part of a longer text.
+//! The text of a label set.
 
 ghost use Rattle.std.specs.Prelude.{◌≡◌, ◌++◌, string_bytes, OnOk};
 ghost use Rattle.am_universe.specs.Universe.{sizes};
@@ -9,8 +9,8 @@ use crate::push_quoted;
 use am_universe::{Choice, Universe};
 use std::alloc::AllocError;
 
-/// Adds the label set of a whole choice, as it stands in a page of answers. An `Err` only where
-/// memory was refused.
+/// Adds the label set of a whole choice, such as `{team="db",severity="warning"}`, with its labels
+/// in declared order. Fails only if memory runs out.
 pub fn push_label_set(
     text: &mut String,
     universe: &Universe,

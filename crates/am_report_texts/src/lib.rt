@@ -1,5 +1,5 @@
-//! What the texts of reports are made of: texts in quotes, label sets, matchers in braces, paths,
-//! and what stands between things in a row.
+//! The parts of the texts of reports: texts in quotes, label sets, matchers in braces, paths, and
+//! the separators of lists.
 #![tactic(auto)]
 
 // A text in quotes, and the ending of a word.

@@ -1,15 +1,14 @@
-//! Matchers in braces, as a part of a longer text.
+//! The text of matchers.
 
 ghost use Rattle.std.specs.Prelude.{◌≡◌, ◌++◌, string_bytes, OnOk};
-ghost use Rattle.am_labels.specs.MatcherText.{operator_text};
 ghost use Rattle.am_report_texts.specs.MatchersText.{matcher_text, matchers_text};
 
 use crate::{gap_before, push_quoted};
-use am_labels::{Matcher, Matchers, Op};
+use am_labels::{Matcher, Matchers};
 use std::alloc::AllocError;
 
-/// Adds matchers in braces, as the text of a list that is read back as them. An `Err` only where
-/// memory was refused.
+/// Adds matchers in braces, such as `{team="db",env!="prod"}`. The text is read back as these
+/// matchers if each name may stand in a matcher list. Fails only if memory runs out.
 pub fn push_matchers(text: &mut String, matchers: &Matchers) -> Result<(), AllocError>
     ensures text { OnOk result (string_bytes text.new
         ≡ string_bytes text.old ++ matchers_text matchers.now) }
@@ -22,23 +21,12 @@ pub fn push_matchers(text: &mut String, matchers: &Matchers) -> Result<(), Alloc
     text.push_str("}")
 }
 
-/// Adds a matcher. An `Err` only where memory was refused.
+/// Adds a matcher, such as `team="db"`. Fails only if memory runs out.
 pub fn push_matcher(text: &mut String, matcher: &Matcher) -> Result<(), AllocError>
     ensures text { OnOk result (string_bytes text.new
         ≡ string_bytes text.old ++ matcher_text matcher.now) }
 {
     text.push_str(matcher.name())?;
-    text.push_str(operator_text(matcher.op()))?;
+    text.push_str(matcher.op().text())?;
     push_quoted(text, matcher.value())
-}
-
-fn operator_text(op: Op) -> &'static str
-    ensures { result.now ≡ operator_text op }
-{
-    match op {
-        Op::Equal => "=",
-        Op::NotEqual => "!=",
-        Op::Matches => "=~",
-        Op::NotMatches => "!~",
-    }
 }

@@ -1,4 +1,4 @@
-//! The path of a route, as a part of a longer text.
+//! The text of the path of a route.
 
 ghost use Rattle.std.specs.Prelude.{◌≡◌, ◌++◌, string_bytes, OnOk};
 ghost use Rattle.am_config.specs.Path.{path_text, step_text};
@@ -6,7 +6,8 @@ ghost use Rattle.am_config.specs.Path.{path_text, step_text};
 use am_config::Path;
 use std::alloc::{AllocError, Global};
 
-/// Adds the text of a path. An `Err` only where memory was refused.
+/// Adds the path of a route, such as `/3/2`, or `/` for the top-level route. Fails only if memory
+/// runs out.
 pub fn push_path(alloc: Global, text: &mut String, path: &Path) -> Result<(), AllocError>
     ensures path { OnOk result
         (string_bytes text.new ≡ string_bytes text.old ++ path_text path.now) }

@@ -1,4 +1,4 @@
-//! A text between quotes, as a part of a longer text.
+//! The text of a text in quotes.
 
 ghost use Rattle.std.specs.Prelude.{◌≡◌, ◌++◌, string_bytes, encode_utf8, OnOk};
 ghost use Rattle.std.specs.List.{flat_map};
@@ -6,7 +6,8 @@ ghost use Rattle.am_universe.specs.Text.{quoted_text, label_value_escape};
 
 use std::alloc::AllocError;
 
-/// Adds a text between quotes, with `\` as `\\`, `"` as `\"` and a line feed as `\n`.
+/// Adds a text in quotes, with `\` as `\\`, `"` as `\"` and a line feed as `\n`. Fails only if
+/// memory runs out.
 pub fn push_quoted(text: &mut String, quoted: &str) -> Result<(), AllocError>
     ensures { OnOk result (string_bytes text.new
         ≡ string_bytes text.old ++ quoted_text quoted.now) }

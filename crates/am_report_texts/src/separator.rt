@@ -1,10 +1,10 @@
-//! What stands between things in a row.
+//! The separators of a list.
 
 ghost use Rattle.std.specs.Prelude.{◌≡◌};
 ghost use Rattle.am_report_texts.specs.Separated.{gap_before};
 
-/// What stands before the thing at a position: one text before the first, and another before each
-/// other one.
+/// Returns the separator before the item at a position: `first` before the first, and `gap` before
+/// each other one.
 pub fn gap_before(i: usize, first: &'static str, gap: &'static str) -> &'static str
     ensures gap { result.now ≡ gap_before i first.now gap.now }
 {

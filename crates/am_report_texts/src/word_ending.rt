@@ -1,7 +1,7 @@
 ghost use Rattle.std.specs.Prelude.{◌≡◌};
 ghost use Rattle.am_report_texts.specs.Plural.{plural};
 
-/// What stands behind the word for so many things: an `s`, but for one.
+/// Returns the ending of a word for `n` things: empty for one, and else `s`.
 pub fn plural(n: u128) -> &'static str
     ensures ending { result.now ≡ plural n }
 {

@@ -4,6 +4,7 @@ use Rattle.am_universe.specs.declared.limits.TheConstants.{MAX_VALUES}
 use Rattle.std.proofs.lemmas.List.{length-map}
 use Rattle.std.proofs.lemmas.Grind.{common_steps}
 use Rattle.am_scan.specs.Automaton.{pattern_of}
+use Rattle.am_labels.specs.declared.op.Comparison.TheVariants.{Pattern}
 use Rattle.am_labels.specs.Matcher.{Condition}
 use Rattle.am_classes.specs.State.{patterns_of}
 use Rattle.am_classes.proofs.AskedLemmas.{has_pattern}
@@ -34,7 +35,7 @@ returns-clause-many c = λ some_missing.
     let more : MAX_VALUES < vec_len texts =
     omega (arith, many.0, count, texts.ok.0, questions.texts.ok.0, items.ok.0, c.saturating_sub-room.ensures, c.len.ensures) in (
       more,
-      has_pattern questions.alphabet ms (patterns_of questions) asked.patterns
+      has_pattern questions.alphabet ms Pattern (patterns_of questions) asked.patterns (λ e. cc)
           (omega (arith, many.1, length-map questions.automata.items pattern_of)),
     )
 

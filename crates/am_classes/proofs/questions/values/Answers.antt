@@ -1,14 +1,14 @@
 use Rattle.std.proofs.Common.{◌≡◌, ℕ, Some, true, map, slice_get, string_bytes, sym, ap, ◌∙◌, subst, arith}
 use Rattle.std.proofs.lemmas.Grind.{common_steps}
-use Rattle.am_labels.specs.Matcher.{takes_pattern}
+use Rattle.am_labels.specs.Matcher.{comparison}
 use Rattle.am_classes.specs.Values.{AreValues, counts}
-use Rattle.am_classes.proofs.BoolLemmas.{differs, agrees}
+use Rattle.am_classes.proofs.ComparisonLemmas.{differs, agrees}
 use Rattle.am_scan.proofs.Places.{map_front, map_pushed}
 use Rattle.am_classes.proofs.AskedLemmas.{values_skip, values_same, values_push}
 use Rattle.am_classes.proofs.questions.values.Goals as goal
 
-pub loop-matcher-preserved-then-takes_pattern-patterns : goal.loop-matcher-preserved-then-takes_pattern-patterns
-loop-matcher-preserved-then-takes_pattern-patterns c = grind (arith, common_steps, map_front, differs, values_skip)
+pub loop-matcher-preserved-then-ne : goal.loop-matcher-preserved-then-ne
+loop-matcher-preserved-then-ne c = grind (arith, common_steps, map_front, differs, values_skip)
 
 pub loop-matcher-preserved-then-not-counts : goal.loop-matcher-preserved-then-not-counts
 loop-matcher-preserved-then-not-counts c = grind (arith, common_steps, map_front, values_skip)
@@ -20,13 +20,13 @@ pub loop-matcher-preserved : goal.loop-matcher-preserved
 loop-matcher-preserved c =
     let longer = map_front (λ m. m.now) c.args.matchers.now c.loop-matcher.matcher-index c.matcher-item.result c.loop-matcher-test.true c.matcher-item.is in
     let more = map_pushed string_bytes c.loop-matcher.values.items c.push.new.self.items c.in_ok-from_str.field-0 c.matcher-item.result.now.value c.in_ok-push.ensures.items (c.in_ok-from_str.ensures.ok ∙ c.value-value.ensures.value) in
-    let takes : takes_pattern c.matcher-item.result.now.op ≡ c.args.patterns =
-    sym (c.takes_pattern.ensures.takes_pattern ∙ ap takes_pattern c.op.ensures.op) ∙ agrees c.takes_pattern.result c.args.patterns c.if-takes_pattern-patterns.false in
-    let counted : counts c.args.alphabet c.args.patterns c.matcher-item.result.now.value ≡ true =
-    sym (c.counts.ensures ∙ ap (counts c.args.alphabet c.args.patterns) c.value-value.ensures.value) ∙ c.if-not-counts.false in
+    let takes : comparison c.matcher-item.result.now.op ≡ c.args.comparison =
+    sym (c.comparison.ensures.comparison ∙ ap comparison c.op.ensures.op) ∙ agrees c.comparison.result c.args.comparison (sym c.ne.ensures ∙ c.if-ne.false) in
+    let counted : counts c.args.alphabet c.args.comparison c.matcher-item.result.now.value ≡ true =
+    sym (c.counts.ensures ∙ ap (counts c.args.alphabet c.args.comparison) c.value-value.ensures.value) ∙ c.if-not-counts.false in
     let new : (j : ℕ) → slice_get (map string_bytes c.loop-matcher.values.items) j ≡ Some c.matcher-item.result.now.value → ⊥ = λ j at.
     (let found = c.is_among.ensures.1 (j, subst (λ xs. slice_get (map string_bytes xs) j ≡ Some c.as_bytes.result.now) (sym c.as_slice.ensures.value) (at ∙ ap Some (sym (c.as_bytes.ensures.value ∙ c.value-value.ensures.value)))) in
     let missed = c.if-is_among.false in
     absurd cc) in
-    subst (λ ms. AreValues c.args.alphabet ms c.args.patterns (map string_bytes c.push.new.self.items)) (sym longer)
-    (subst (AreValues c.args.alphabet _ c.args.patterns) (sym more) (values_push c.args.alphabet _ c.matcher-item.result.now _ _ c.loop-matcher.invariant takes counted new))
+    subst (λ ms. AreValues c.args.alphabet ms c.args.comparison (map string_bytes c.push.new.self.items)) (sym longer)
+    (subst (AreValues c.args.alphabet _ c.args.comparison) (sym more) (values_push c.args.alphabet _ c.matcher-item.result.now _ _ c.loop-matcher.invariant takes counted new))

@@ -4,4 +4,4 @@ use Rattle.am_classes.proofs.questions.values.Given as goal
 
 abbrev pub invariant-loop-matcher : goal.invariant-loop-matcher
 invariant-loop-matcher l =
-    AreValues l.alphabet (map (λ m. m.now) (take l.matcher-index l.matchers)) l.patterns (map string_bytes l.values.items)
+    AreValues l.alphabet (map (λ m. m.now) (take l.matcher-index l.matchers)) l.comparison (map string_bytes l.values.items)

@@ -33,7 +33,7 @@ returns-in-Receiver g t c = record {
       let seen_as = ap question_view c.in-Receiver.is ∙ receiver_seen receiver in
       let served = rw seen_as at serves in
       rw (seen_as, by_comes g.L.JudgedList.verdict prefix seen m _)
-      (served.1 needs.Routes refl m (targets.Receiver receiver)
+      (served needs.Routes refl m (targets.Receiver receiver)
       ∙ comes_to_receiver u w prefix m receiver);
 }
 
@@ -45,7 +45,7 @@ returns-in-Route g t c = record {
       let seen_as = ap question_view c.in-Route.is ∙ route_seen reach c.in-Route.path in
       let served = rw seen_as at serves in
       rw (seen_as, by_comes g.L.JudgedList.verdict prefix seen m _, c.steps.ensures.steps)
-      (served.1 needs.Routes refl m (targets.Route reach c.in-Route.path)
+      (served needs.Routes refl m (targets.Route reach c.in-Route.path)
       ∙ comes_to_route u w prefix m reach c.in-Route.path);
 }
 
@@ -76,9 +76,9 @@ returns-in_ok-new-in-And-2 g t c = record {
       (question_view (c.deref-in-And-2.ensures i))) in
       let served = subst (Serves u w prefix seen) seen_as serves in
       let left = c.in_ok-left-in-And.ensures.exact w prefix seen m knows
-      (served.0, λ need e. served.1 need (or_left (needs_of need q) (needs_of need r) e)) in
+      (λ need e. served need (or_left (needs_of need q) (needs_of need r) e)) in
       let right = c.in_ok-right-in-And.ensures.exact w prefix seen m knows
-      (served.0, λ need e. served.1 need (or_right (needs_of need q) (needs_of need r) e)) in
+      (λ need e. served need (or_right (needs_of need q) (needs_of need r) e)) in
       rw (
         seen_as,
         by_and V prefix seen m c.in_ok-new-in-And.field-0 c.in_ok-new-in-And-2.field-0,
@@ -103,9 +103,9 @@ returns-in_ok-new-in-Or-2 g t c = record {
       (question_view (c.deref-in-Or-2.ensures i))) in
       let served = subst (Serves u w prefix seen) seen_as serves in
       let left = c.in_ok-left-in-Or.ensures.exact w prefix seen m knows
-      (served.0, λ need e. served.1 need (or_left (needs_of need q) (needs_of need r) e)) in
+      (λ need e. served need (or_left (needs_of need q) (needs_of need r) e)) in
       let right = c.in_ok-right-in-Or.ensures.exact w prefix seen m knows
-      (served.0, λ need e. served.1 need (or_right (needs_of need q) (needs_of need r) e)) in
+      (λ need e. served need (or_right (needs_of need q) (needs_of need r) e)) in
       rw (
         seen_as,
         by_or V prefix seen m c.in_ok-new-in-Or.field-0 c.in_ok-new-in-Or-2.field-0,

@@ -1,18 +1,10 @@
-use Rattle.std.proofs.Common.{◌≡◌, true, refl, ◌∙◌}
+use Rattle.std.proofs.Common.{◌∙◌}
 use Rattle.std.specs.Prelude.{IsTrue}
-use Rattle.am_search.specs.declared.verdict.Verdict.TheVariants.{Yes}
 use Rattle.am_eval.specs.QuestionView.{question_view}
-use Rattle.am_judged_lists.specs.declared.certainty.Certainty.{Certainty}
-use Rattle.am_judged_lists.specs.declared.certainty.Certainty.TheVariants.{May, Must}
-use Rattle.am_judged_lists.specs.Certainty.{passes}
 use Rattle.am_plans.specs.declared.world_lists.Need.{Need}
 use Rattle.am_plans.specs.declared.world_lists.Need.TheVariants.{Routes, Silences, Pairs}
 use Rattle.am_plans.specs.WorldByLists.{needs_of, IsServed, world_seen}
 use Rattle.am_plans.proofs.world_lists.WorldLists.of.Goals as goal
-
-any_passes : (m : Certainty) → true ≡ passes m Yes
-any_passes May = refl
-any_passes Must = refl
 
 each_need : (P : Need → Type 0) → P Routes → P Silences → P Pairs → (need : Need) → P need
 each_need P routes silences pairs Routes = routes
@@ -27,12 +19,10 @@ returns g c = record {
         routes = c.in_ok-routes_if.field-0;
         silences = c.in_ok-silences_if.field-0;
         pairs = c.in_ok-pairs_if.field-0;
-      }) in (
-        any_passes,
-        each_need (λ need. IsTrue (needs_of need q)
-            → IsServed c.args.universe.now c.args.world.now prefix seen need)
-            (λ asks. c.in_ok-routes_if.ensures.routes (c.needs.ensures ∙ asks) prefix knows)
-            (λ asks. c.in_ok-silences_if.ensures.silences (c.needs-2.ensures ∙ asks) prefix knows)
-            (λ asks. c.in_ok-pairs_if.ensures.pairs (c.needs-3.ensures ∙ asks) prefix knows),
-      );
+      }) in
+      each_need (λ need. IsTrue (needs_of need q)
+      → IsServed c.args.universe.now c.args.world.now prefix seen need)
+      (λ asks. c.in_ok-routes_if.ensures.routes (c.needs.ensures ∙ asks) prefix knows)
+      (λ asks. c.in_ok-silences_if.ensures.silences (c.needs-2.ensures ∙ asks) prefix knows)
+      (λ asks. c.in_ok-pairs_if.ensures.pairs (c.needs-3.ensures ∙ asks) prefix knows);
 }
